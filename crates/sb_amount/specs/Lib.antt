@@ -1,0 +1,3 @@
+pub mod Limit
+pub mod Money
+pub mod Reading
