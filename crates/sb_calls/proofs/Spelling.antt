@@ -1,0 +1,122 @@
+-- What is read is spelled so, and what is spelled so is read.
+use Rattle.std.proofs.Common.{◌≡◌, ℕ, ℤ, Bool, true, false, not, cond, ◌&&◌, ◌⊎◌, inl, inr, List, [], ◌∷◌, ◌++◌, length, Result, Ok, Err, codes, refl, sym, ap, subst, ◌∙◌, arith}
+use Rattle.std.specs.Prelude.{IfOk, nat_le}
+use Rattle.std.specs.List.{All, list_all, join_with_byte, slice_split}
+use Rattle.std.specs.Str.{bytes_eq}
+use Rattle.std.proofs.lemmas.Bool.{and_parts, not-true}
+use Rattle.std.proofs.lemmas.Bool.Decides.{nat_tests}
+use Rattle.std.proofs.lemmas.List.Elements.{All-nil, All-cons}
+use Rattle.std.proofs.lemmas.List.Splits.{slice_split_at, slice_split_none, join_with_byte-slice_split}
+use Rattle.std.proofs.lemmas.Slice.Eq.{bytes_eq-Decides}
+use Rattle.sb_amount.proofs.Money.{read_money-money, money_from_read, money_keeps_clear}
+use Rattle.sb_amount.specs.Limit.{IsWithinLimit}
+use Rattle.sb_amount.specs.Money.{money}
+use Rattle.sb_amount.specs.Reading.{read_money}
+use Rattle.sb_amount.specs.declared.fault.MoneyFault.{MoneyFault}
+use Rattle.sb_rows.specs.Name.{is_name, is_name_byte, IsName}
+use Rattle.sb_rows.specs.Text.{is_space, words}
+use Rattle.sb_calls.specs.Call.{IsCall, call_line, call_of, call_of_words, of_name, of_name_and_amount, with_amount}
+use Rattle.sb_calls.specs.declared.call.Call.{Call}
+use Rattle.sb_calls.specs.declared.call.Call.TheVariants.{Balance, DepositChecking}
+use Rattle.sb_calls.specs.declared.fault.CallFault.{CallFault}
+use Rattle.sb_calls.specs.declared.fault.CallFault.TheVariants.{UnknownVerb, BadName}
+
+-- ---- what is read is spelled so
+
+-- of two calls to choose from, the one that was read
+chosen : (test : Bool) (first second : Result Call CallFault) (made : Call) → cond test first second ≡ Ok made → ((test ≡ true) × (first ≡ Ok made)) ⊎ ((test ≡ false) × (second ≡ Ok made))
+chosen true first second made e = inl (refl, e)
+chosen false first second made e = inr (refl, e)
+
+-- a call that was read behind a test of its name passed it
+tested : (test : Bool) (call : Result Call CallFault) (made : Call) → cond test call (Err BadName) ≡ Ok made → (test ≡ true) × (call ≡ Ok made)
+tested true call made e = (refl, e)
+tested false call made e = absurd cc
+
+-- a call that was read with an amount has it
+amount_made : (call : ℤ → Call) (read : Result ℤ MoneyFault) (made : Call) → with_amount call read ≡ Ok made → (amount : ℤ) × (read ≡ Ok amount) × (made ≡ call amount)
+amount_made call (Ok amount) made e = (amount, refl, cc)
+amount_made call (Err fault) made e = absurd cc
+
+-- a verb that takes a name, where its calls are spelled by it and the name
+spells_name : (verb : List ℕ) (call : List ℕ → Call) → ((name : List ℕ) → IsName name → IsCall (call name) × (verb ++ (32 ∷ name) ≡ call_line (call name)))
+    → (rest : List (List ℕ)) (made : Call) → of_name call rest ≡ Ok made → IsCall made × (join_with_byte 32 (verb ∷ rest) ≡ call_line made)
+spells_name verb call spelled [] made e = absurd cc
+spells_name verb call spelled (name ∷ []) made e =
+    let passed = tested (is_name name) (Ok (call name)) made e in
+    let is : made ≡ call name = cc in
+    rw is (spelled name passed.0)
+spells_name verb call spelled (a ∷ b ∷ more) made e = absurd cc
+
+-- a verb that takes a name and an amount, likewise
+spells_name_and_amount : (verb : List ℕ) (call : List ℕ → ℤ → Call) → ((name : List ℕ) (amount : ℤ) → IsName name → IsWithinLimit amount → IsCall (call name amount) × (verb ++ (32 ∷ (name ++ (32 ∷ money amount))) ≡ call_line (call name amount)))
+    → (rest : List (List ℕ)) (made : Call) → of_name_and_amount call rest ≡ Ok made → IsCall made × (join_with_byte 32 (verb ∷ rest) ≡ call_line made)
+spells_name_and_amount verb call spelled [] made e = absurd cc
+spells_name_and_amount verb call spelled (a ∷ []) made e = absurd cc
+spells_name_and_amount verb call spelled (name ∷ text ∷ []) made e =
+    let passed = tested (is_name name) (with_amount (call name) (read_money text)) made e in
+    let amount = amount_made (call name) (read_money text) made passed.1 in
+    let money_is = money_from_read text amount.0 amount.1 in
+    let is = spelled name amount.0 passed.0 money_is.1 in
+    (subst IsCall (sym amount.2) is.0, ap (λ (word : List ℕ). verb ++ (32 ∷ (name ++ (32 ∷ word)))) money_is.0 ∙ is.1 ∙ ap call_line (sym amount.2))
+spells_name_and_amount verb call spelled (a ∷ b ∷ c ∷ more) made e = absurd cc
+
+-- the words of a call, joined by spaces, spell it
+words_spell : (ws : List (List ℕ)) (made : Call) → call_of_words ws ≡ Ok made → IsCall made × (join_with_byte 32 ws ≡ call_line made)
+words_spell [] made e = absurd cc
+words_spell (verb ∷ rest) made e =
+    elim (chosen (bytes_eq verb (codes "balance")) (of_name Balance rest) (cond (bytes_eq verb (codes "deposit")) (of_name_and_amount DepositChecking rest) (Err UnknownVerb)) made e) [
+      | inl is ↦
+          let balance = (bytes_eq-Decides verb (codes "balance")).0 is.0 in
+          spells_name verb Balance (λ name valid. (valid, ap (λ (v : List ℕ). v ++ (32 ∷ name)) balance)) rest made is.1
+      | inr other ↦
+          elim (chosen (bytes_eq verb (codes "deposit")) (of_name_and_amount DepositChecking rest) (Err UnknownVerb) made other.1) [
+            | inl is ↦
+                let deposit = (bytes_eq-Decides verb (codes "deposit")).0 is.0 in
+                spells_name_and_amount verb DepositChecking (λ name amount valid within. ((valid, within), ap (λ (v : List ℕ). v ++ (32 ∷ (name ++ (32 ∷ money amount)))) deposit)) rest made is.1
+            | inr unknown ↦ absurd cc
+          ]
+    ]
+
+-- a call that is read off a line is valid, and the line is its spelling
+line_spells : (line : List ℕ) (made : Call) → call_of line ≡ Ok made → IsCall made × (line ≡ call_line made)
+unfolding call_of words
+line_spells line made e =
+    let spelled = words_spell (words line) made e in
+    (spelled.0, sym (join_with_byte-slice_split 32 line) ∙ spelled.1)
+
+-- the same of a result
+pub read_is_spelled : (line : List ℕ) (result : Result Call CallFault) → result ≡ call_of line → IfOk result (λ call. IsCall call × (line ≡ call_line call))
+read_is_spelled line (Ok call) e = line_spells line call (sym e)
+read_is_spelled line (Err fault) e = tt
+
+-- ---- what is spelled so is read
+
+-- a text that keeps clear of spaces, by a test that each of its bytes passes
+without_spaces : (test : ℕ → Bool) (text : List ℕ) → ((c : ℕ) → test c ≡ true → is_space c ≡ false) → list_all test text ≡ true → All (λ c. is_space c ≡ false) text
+without_spaces test [] clear h = All-nil (λ c. is_space c ≡ false)
+without_spaces test (c ∷ text) clear h =
+    let both = and_parts (test c) (list_all test text) h in
+    All-cons (λ c. is_space c ≡ false) c text (clear c both.0) (without_spaces test text clear both.1)
+
+name_byte_clear : (c : ℕ) → is_name_byte c ≡ true → is_space c ≡ false
+name_byte_clear c h = grind (arith, nat_tests)
+
+-- a name has no space
+name_clear : (name : List ℕ) → IsName name → All (λ c. is_space c ≡ false) name
+name_clear name h = without_spaces is_name_byte name name_byte_clear (and_parts (nat_le 1 (length name) && nat_le (length name) 20) (list_all is_name_byte name) h).1
+
+-- nor does money text
+money_clear : (amount : ℤ) → IsWithinLimit amount → All (λ c. is_space c ≡ false) (money amount)
+money_clear amount h = without_spaces (λ c. not (is_space c)) (money amount) (λ c. not-true (is_space c)) (money_keeps_clear amount h)
+
+-- the spelling of a call is read as that call
+pub spelled_is_read : (call : Call) → IsCall call → call_of (call_line call) ≡ Ok call
+unfolding call_of words
+spelled_is_read (Balance name) h =
+    let one : slice_split is_space name ≡ name ∷ [] = slice_split_none is_space name (name_clear name h) in
+    rw (one, h) refl
+spelled_is_read (DepositChecking name amount) h =
+    let first : slice_split is_space (name ++ 32 ∷ money amount) ≡ name ∷ slice_split is_space (money amount) = slice_split_at is_space name 32 (money amount) (name_clear name h.0) refl in
+    let second : slice_split is_space (money amount) ≡ money amount ∷ [] = slice_split_none is_space (money amount) (money_clear amount h.1) in
+    rw (first, second, h.0, read_money-money amount h.1) refl

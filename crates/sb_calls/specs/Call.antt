@@ -1,0 +1,55 @@
+-- How calls are spelled, and what a line is read as.
+use Rattle.std.specs.Prelude.{ℕ, ℤ, if◌then◌else◌, Result, Ok, Err, List, [], ◌∷◌, ◌++◌, codes}
+use Rattle.std.specs.Str.{bytes_eq}
+use Rattle.sb_amount.specs.Limit.{IsWithinLimit}
+use Rattle.sb_amount.specs.Money.{money}
+use Rattle.sb_amount.specs.Reading.{read_money}
+use Rattle.sb_amount.specs.declared.fault.MoneyFault.{MoneyFault}
+use Rattle.sb_rows.specs.Name.{is_name, IsName}
+use Rattle.sb_rows.specs.Text.{words}
+use Rattle.sb_calls.specs.declared.call.Call.{Call}
+use Rattle.sb_calls.specs.declared.call.Call.TheVariants.{Balance, DepositChecking}
+use Rattle.sb_calls.specs.declared.fault.CallFault.{CallFault}
+use Rattle.sb_calls.specs.declared.fault.CallFault.TheVariants.{UnknownVerb, WrongWords, BadName, BadMoney}
+
+-- ---- how it is spelled
+
+abbrev pub call_line : Call → List ℕ
+call_line (Balance name) = codes "balance " ++ name
+call_line (DepositChecking name amount) = codes "deposit " ++ (name ++ (32 ∷ money amount))
+
+-- its names are valid, its amount is within the limit
+abbrev pub IsCall : Call → Type 0
+IsCall (Balance name) = IsName name
+IsCall (DepositChecking name amount) = IsName name × IsWithinLimit amount
+
+-- ---- what it is read as
+
+-- the call with this amount
+abbrev pub with_amount : (ℤ → Call) → Result ℤ MoneyFault → Result Call CallFault
+with_amount call (Ok amount) = Ok (call amount)
+with_amount call (Err fault) = Err BadMoney
+
+-- the words after a verb that takes a name
+abbrev pub of_name : (List ℕ → Call) → List (List ℕ) → Result Call CallFault
+of_name call (name ∷ []) = if is_name name then Ok (call name) else Err BadName
+of_name call [] = Err WrongWords
+of_name call (a ∷ b ∷ more) = Err WrongWords
+
+-- the words after a verb that takes a name and an amount
+abbrev pub of_name_and_amount : (List ℕ → ℤ → Call) → List (List ℕ) → Result Call CallFault
+of_name_and_amount call (name ∷ amount ∷ []) = if is_name name then with_amount (call name) (read_money amount) else Err BadName
+of_name_and_amount call [] = Err WrongWords
+of_name_and_amount call (a ∷ []) = Err WrongWords
+of_name_and_amount call (a ∷ b ∷ c ∷ more) = Err WrongWords
+
+abbrev pub call_of_words : List (List ℕ) → Result Call CallFault
+call_of_words [] = Err UnknownVerb
+call_of_words (verb ∷ rest) =
+    if bytes_eq verb (codes "balance") then of_name Balance rest
+    else if bytes_eq verb (codes "deposit") then of_name_and_amount DepositChecking rest
+    else Err UnknownVerb
+
+-- the call that a line spells, or its first fault
+unfoldable pub call_of : List ℕ → Result Call CallFault
+call_of line = call_of_words (words line)

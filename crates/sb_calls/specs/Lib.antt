@@ -1,0 +1,6 @@
+pub mod Call
+pub mod Log
+pub mod Op
+pub mod Performs
+pub mod Procedures
+pub mod Reply

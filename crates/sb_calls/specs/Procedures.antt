@@ -1,0 +1,66 @@
+-- What each procedure does to the rows, and what it replies (SmallBank, ICDE 2008; the exact effects are this project's).
+-- The cases stand in their order: the first that holds counts. A refusal leaves the rows.
+use Rattle.std.specs.Prelude.{ℕ, ℤ, pos, neg_ℤ, ◌+ℤ◌, ◌-ℤ◌, int_lt, ◌||◌, if◌then◌else◌, Option, Some, None, List}
+use Rattle.std.specs.FinMap.{get, insert}
+use Rattle.std.specs.Str.{bytes_eq}
+use Rattle.sb_amount.specs.declared.cents.TheConstants.{LIMIT}
+use Rattle.sb_rows.specs.Rows.{Rows}
+use Rattle.sb_calls.specs.declared.call.Call.{Call}
+use Rattle.sb_calls.specs.declared.call.Call.TheVariants.{Balance, DepositChecking}
+use Rattle.sb_calls.specs.declared.reply.Reply.{Reply}
+use Rattle.sb_calls.specs.declared.reply.Reply.TheVariants.{Shown, Done, Penalised, NoCustomer, SameCustomer, Negative, WouldOverdraw, OverLimit}
+
+-- the rows after a call, and the reply to it
+pub record Outcome : Type 0 where
+  pub rows : Rows
+  pub reply : Reply
+
+-- what happens where the customer has these balances, and NoCustomer where there is none
+abbrev pub with_balances : Rows → (ℤ → ℤ → Outcome) → Option (ℤ × ℤ) → Outcome
+with_balances rows outcome None = record { rows = rows; reply = NoCustomer }
+with_balances rows outcome (Some balances) = outcome balances.0 balances.1
+
+-- shows savings and checking added up
+abbrev pub balance : List ℕ → Rows → Outcome
+balance name rows = with_balances rows (λ savings checking.
+    record { rows = rows; reply = Shown (savings +ℤ checking) }) (get rows name)
+
+-- checking grows by the amount
+abbrev pub deposit_checking : List ℕ → ℤ → Rows → Outcome
+deposit_checking name amount rows = with_balances rows (λ savings checking.
+    if int_lt amount (pos 0) then record { rows = rows; reply = Negative }
+    else if int_lt LIMIT (checking +ℤ amount) then record { rows = rows; reply = OverLimit }
+    else record { rows = insert rows name (savings, checking +ℤ amount); reply = Done }) (get rows name)
+
+-- savings grow by the amount, which may be negative
+abbrev pub transact_savings : List ℕ → ℤ → Rows → Outcome
+transact_savings name amount rows = with_balances rows (λ savings checking.
+    if int_lt (savings +ℤ amount) (pos 0) then record { rows = rows; reply = WouldOverdraw }
+    else if int_lt LIMIT (savings +ℤ amount) then record { rows = rows; reply = OverLimit }
+    else record { rows = insert rows name (savings +ℤ amount, checking); reply = Done }) (get rows name)
+
+-- both balances of the first customer go to the checking of the second
+abbrev pub amalgamate : List ℕ → List ℕ → Rows → Outcome
+amalgamate from to rows = with_balances rows (λ savings checking. with_balances rows (λ savings_to checking_to.
+    if bytes_eq from to then record { rows = rows; reply = SameCustomer }
+    else if int_lt LIMIT ((checking_to +ℤ savings) +ℤ checking) || int_lt ((checking_to +ℤ savings) +ℤ checking) (neg_ℤ LIMIT) then record { rows = rows; reply = OverLimit }
+    else record { rows = insert (insert rows from (pos 0, pos 0)) to (savings_to, (checking_to +ℤ savings) +ℤ checking); reply = Done }) (get rows to)) (get rows from)
+
+-- what a check takes from checking: its amount, and a penalty of 100 cents where savings and checking together are below it
+abbrev pub check_cost : ℤ → ℤ → ℤ → ℤ
+check_cost savings checking amount = if int_lt (savings +ℤ checking) amount then amount +ℤ pos 100 else amount
+
+-- checking falls by what the check costs
+abbrev pub write_check : List ℕ → ℤ → Rows → Outcome
+write_check name amount rows = with_balances rows (λ savings checking.
+    if int_lt amount (pos 0) then record { rows = rows; reply = Negative }
+    else if int_lt (checking -ℤ check_cost savings checking amount) (neg_ℤ LIMIT) then record { rows = rows; reply = OverLimit }
+    else record {
+      rows = insert rows name (savings, checking -ℤ check_cost savings checking amount);
+      reply = if int_lt (savings +ℤ checking) amount then Penalised else Done;
+    }) (get rows name)
+
+-- the procedure that a call names
+abbrev pub procedure : Call → Rows → Outcome
+procedure (Balance name) rows = balance name rows
+procedure (DepositChecking name amount) rows = deposit_checking name amount rows

@@ -1,0 +1,13 @@
+//! A call as a client asks it.
+
+use sb_amount::Cents;
+use sb_rows::Name;
+
+/// A call of one of the bank's procedures (SmallBank, ICDE 2008), on customers by name.
+#[derive(Clone, Copy, Debug, PartialEq, Eq)]
+pub enum Call {
+    /// Shows a customer's savings and checking balances added up.
+    Balance(Name),
+    /// Adds an amount, which may not be negative, to a customer's checking balance.
+    DepositChecking(Name, Cents),
+}

@@ -1,0 +1,11 @@
+//! What ties a log's replies to its calls.
+ghost use Rattle.std.specs.Prelude.{◌≡◌, ℕ, suc, List, slice_get};
+ghost use Rattle.sb_calls.specs.declared.call.Call.{Call};
+ghost use Rattle.sb_calls.specs.Log.{replies_to, reply_to};
+ghost use Rattle.sb_rows.specs.Rows.{Rows};
+
+/// The replies to a log in order are, number by number, the replies to its calls on the rows after
+/// the calls before.
+pub fn replies_one_by_one()
+    ensures { (opening : Rows) (log : List Call) (k : ℕ) → slice_get (replies_to opening log) k ≡ reply_to opening log (suc k) }
+{}
