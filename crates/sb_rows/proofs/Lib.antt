@@ -1,0 +1,11 @@
+pub mod CustomerLines
+pub mod Customers
+pub mod Names
+pub mod OpeningLaws
+pub mod OpeningSteps
+pub mod Parting
+pub mod Places
+pub mod Pushes
+pub mod RowsLemmas
+pub mod Spelling
+pub mod TextPlaces

@@ -1,0 +1,22 @@
+-- The balances of a bank's customers, by place.
+use Rattle.std.specs.Prelude.{◌≡◌, ◌≤◌, ℤ, pos, ◌≤ℤ◌, List, length}
+use Rattle.std.specs.List.{All}
+use Rattle.sb_amount.specs.Limit.{IsWithinLimit}
+use Rattle.sb_rows.specs.declared.columns.TheConstants.{CUSTOMERS}
+
+-- one savings and one checking balance a customer, in cents
+pub record Balances : Type 0 where
+  pub savings : List ℤ
+  pub checking : List ℤ
+
+-- not negative, and within the limit
+pub record IsSavings (v : ℤ) : Type 0 where
+  pub not_negative : pos 0 ≤ℤ v
+  pub within : IsWithinLimit v
+
+-- as many of one as of the other, and each in its range
+pub record IsBalances (b : Balances) : Type 0 where
+  pub same : length b.savings ≡ length b.checking
+  pub few : length b.savings ≤ CUSTOMERS
+  pub savings : All IsSavings b.savings
+  pub checking : All IsWithinLimit b.checking

@@ -1,0 +1,45 @@
+-- The lines of a text and the words of a line.
+use Rattle.std.specs.Prelude.{ℕ, zero, suc, ◌-◌, ◌==◌, Bool, if◌then◌else◌, Option, Some, None, List, [], ◌∷◌, ◌++◌, length}
+use Rattle.std.specs.List.{slice_split, after_first, flat_map}
+
+abbrev pub is_line_feed : ℕ → Bool
+is_line_feed c = c == 10
+
+abbrev pub is_space : ℕ → Bool
+is_space c = c == 32
+
+-- the pieces without a last one that is empty
+abbrev pub without_empty_last : List (List ℕ) → List (List ℕ)
+without_empty_last [] = []
+without_empty_last (piece ∷ []) = if length piece == 0 then [] else piece ∷ []
+without_empty_last (piece ∷ next ∷ pieces) = piece ∷ without_empty_last (next ∷ pieces)
+
+-- a text is parted at each line feed; a last piece without one is a line unless it is empty
+unfoldable pub lines : List ℕ → List (List ℕ)
+lines text = without_empty_last (slice_split is_line_feed text)
+
+-- a line is parted at each single space
+unfoldable pub words : List ℕ → List (List ℕ)
+words line = slice_split is_space line
+
+-- the words of what follows a word, if something does
+abbrev pub words_left : Option (List ℕ) → List (List ℕ)
+words_left None = []
+words_left (Some rest) = words rest
+
+-- a text in which these are the lines, each ended by a line feed
+abbrev pub unlines : List (List ℕ) → List ℕ
+unlines ls = flat_map (λ line. line ++ 10 ∷ []) ls
+
+-- a text without its first line
+abbrev pub after_line : List ℕ → List ℕ
+after_line text = after_first is_line_feed text
+
+-- a text without its first n lines
+abbrev pub after_lines : ℕ → List ℕ → List ℕ
+after_lines zero text = text
+after_lines (suc n) text = after_lines n (after_line text)
+
+-- how many bytes the first n lines of a text take
+abbrev pub place_after : ℕ → List ℕ → ℕ
+place_after n text = length text - length (after_lines n text)

@@ -1,0 +1,23 @@
+//! Customers' names and balances: the opening text, the directory and the columns.
+#![tactic(auto)]
+
+mod columns;
+mod customer;
+mod directory;
+mod fault;
+mod laws;
+mod name;
+mod opening;
+mod reading;
+#[cfg(test)]
+mod tests;
+mod text;
+
+pub use columns::{CUSTOMERS, Columns};
+pub use directory::Directory;
+pub use fault::{LineFault, OpeningFault};
+pub use laws::rows_by_place;
+pub use name::{NAME_BYTES, Name};
+pub use opening::Opening;
+pub use reading::read_opening;
+pub use text::{next_line, next_word};

@@ -1,0 +1,111 @@
+//! Names of customers.
+ghost use Rattle.std.specs.Prelude.{◌≡◌, [], ◌∷◌, SomeIff};
+ghost use Rattle.std.specs.Cmp.{partial_equiv_from_equiv};
+ghost use Rattle.std.specs.Cmp.Lexicographic.{nat_list_eq_equiv};
+ghost use Rattle.std.specs.List.{list_all};
+ghost use Rattle.std.specs.Str.{bytes_eq};
+ghost use Rattle.sb_rows.specs.Name as spec;
+ghost use Rattle.sb_rows.specs.Name.{IsName};
+
+use std::hash::{Hash, Hasher};
+use std::marker::Model;
+
+/// The greatest length of a name, in bytes.
+pub const NAME_BYTES: usize = 20;
+
+/// The name of a customer: 1 to 20 bytes of `a` to `z`, `0` to `9` and `_`.
+#[derive(Clone, Copy, Debug)]
+pub struct Name {
+    // The text, and zeros after it.
+    bytes: [u8; 20],
+    len: u8,
+}
+
+impl Model for Name {
+    ghost use Rattle.std.specs.Prelude.{ℕ, ◌-◌, List, ◌++◌, take, length, replicate};
+    ghost use Rattle.sb_rows.specs.Name.{IsStored, stored_back};
+
+    ghost Value = { List ℕ };
+
+    ghost view = { λ n. take n.len n.bytes };
+
+    ghost invariant = { λ n. IsStored n.bytes n.len };
+
+    ghost inverse = { λ text. record { bytes = text ++ replicate (20 - length text) 0; len = length text } };
+
+    ghost inverse_ok = { λ n h i. record { bytes = (stored_back n.bytes n.len h).0 i; len = (stored_back n.bytes n.len h).1 i } };
+}
+
+// Whether a byte may stand in a name.
+#[inline(always)]
+fn is_name_byte(byte: u8) -> bool
+    ensures { result ≡ spec.is_name_byte byte }
+{
+    matches!(byte, b'a'..=b'z' | b'0'..=b'9' | b'_')
+}
+
+// Whether each byte of a text may.
+fn are_name_bytes(text: &[u8]) -> bool
+    ensures { result ≡ list_all spec.is_name_byte text.now }
+{
+    text.iter().all(|byte| is_name_byte(*byte))
+}
+
+// Whether a text is a name.
+fn is_name(text: &[u8]) -> bool
+    ensures { result ≡ spec.is_name text.now }
+{
+    1 <= text.len() && text.len() <= NAME_BYTES && are_name_bytes(text)
+}
+
+impl Name {
+    /// The name with this text, or `None` where the text is no name.
+    pub fn new(text: &[u8]) -> Option<Name>
+        ensures { SomeIff result (IsName text.now) text.now }
+    {
+        if !is_name(text) {
+            return None;
+        }
+        let mut bytes = [0; NAME_BYTES];
+        bytes[..text.len()].copy_from_slice(text);
+        Some(Name {
+            bytes,
+            len: text.len() as u8,
+        })
+    }
+
+    /// The text of the name.
+    #[inline]
+    pub fn text(&self) -> &[u8]
+        ensures value { result.now ≡ self.now }
+        ensures valid { IsName self.now }
+    {
+        &self.bytes[..self.len as usize]
+    }
+}
+
+impl PartialEq for Name {
+    ghost eq = { bytes_eq };
+
+    ghost laws = { partial_equiv_from_equiv nat_list_eq_equiv };
+
+    fn eq(&self, other: &Name) -> bool {
+        self.text() == other.text()
+    }
+}
+
+impl Eq for Name {
+    ghost laws = { nat_list_eq_equiv };
+}
+
+impl Hash for Name {
+    ghost use Rattle.sb_rows.specs.Name.{same_hash_input};
+
+    ghost hash_input = { λ name. name ∷ [] };
+
+    ghost respects_eq = { same_hash_input };
+
+    fn hash<H: Hasher>(&self, state: &mut H) {
+        state.write(self.text());
+    }
+}

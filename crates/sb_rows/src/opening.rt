@@ -1,0 +1,17 @@
+//! What an opening text says.
+ghost use Rattle.sb_rows.specs.Rows.{SameCustomers};
+
+use crate::columns::Columns;
+use crate::directory::Directory;
+
+/// What an opening text says.
+#[derive(Drop)]
+pub struct Opening {
+    /// The customers' names.
+    pub directory: Directory,
+    /// Their balances.
+    pub columns: Columns,
+    /// How many bytes the opening takes: what follows the line `begin` begins there.
+    pub place: usize,
+    ghost same_customers: { SameCustomers directory columns },
+}

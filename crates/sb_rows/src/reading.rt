@@ -1,0 +1,84 @@
+//! The opening text: a line `NAME SAVINGS CHECKING` a customer, then the line `begin`.
+ghost use Rattle.std.specs.Prelude.{◌≡◌, ℕ, ◌≤◌, List, ◌++◌, length, drop, IfOk, MatchResult};
+ghost use Rattle.sb_rows.specs.Customer.{Customer, IsBank, names_of, balances_of, customers_of};
+ghost use Rattle.sb_rows.specs.Opening.{opening_lines, opening_of};
+ghost use Rattle.sb_rows.specs.Reads.{Adds, Reads};
+ghost use Rattle.sb_rows.specs.Rows.{SameCustomers};
+ghost use Rattle.sb_rows.specs.Text.{lines};
+
+use crate::columns::Columns;
+use crate::customer::read_customer;
+use crate::directory::Directory;
+use crate::fault::{LineFault, OpeningFault};
+use crate::opening::Opening;
+use crate::text::next_line;
+use std::alloc::Global;
+
+// Puts the customer of a line behind those of the lines before it.
+fn add_customer(
+    directory: &mut Directory,
+    columns: &mut Columns,
+    line: &[u8],
+) -> Result<(), OpeningFault>
+    requires { SameCustomers directory.old columns.old }
+    ensures same { IfOk result (λ _. SameCustomers directory.new columns.new) }
+    ensures adds { Adds (customers_of directory.old columns.old) line.now (customers_of directory.new columns.new) result }
+{
+    let number = directory.len() + 1;
+    let customer = match read_customer(directory, line) {
+        Ok(customer) => customer,
+        Err(fault) => {
+            return Err(OpeningFault::Line {
+                line: number,
+                fault,
+            });
+        }
+    };
+    directory.push(customer.name)?;
+    columns.push(customer.savings, customer.checking)?;
+    Ok(())
+}
+
+// What the text opens with, or the first line at fault.
+fn read_lines(alloc: Global, text: &[u8]) -> Result<Opening, OpeningFault>
+    ensures exact { Reads result (opening_of text.now) }
+    ensures within { IfOk result (λ o. o.place ≤ length text.now) }
+{
+    let mut directory = Directory::new(alloc);
+    let mut columns = Columns::new(alloc);
+    let mut rest = text;
+    while let Some((line, after)) = next_line(rest) {
+        rest = after;
+        if line == b"begin".as_slice() {
+            return Ok(Opening {
+                directory,
+                columns,
+                place: text.len() - rest.len(),
+            });
+        }
+        add_customer(&mut directory, &mut columns, line)?;
+    }
+    Err(OpeningFault::Line {
+        line: directory.len() + 1,
+        fault: LineFault::NoBegin,
+    })
+}
+
+/// Reads the opening at the front of a text.
+///
+/// Fails with the first line at fault and its first fault, in the order of [`crate::LineFault`]'s
+/// variants; a text without the line `begin` is at fault at the line after its last.
+pub fn read_opening(alloc: Global, text: &[u8]) -> Result<Opening, OpeningFault>
+    // What is read is spelled so, and the text goes on at the place.
+    ensures spelled { IfOk result (λ o.
+        IsBank (customers_of o.directory o.columns)
+        × (lines text.now ≡ opening_lines (customers_of o.directory o.columns) ++ lines (drop o.place text.now))) }
+    // What is spelled so is read, unless memory runs out.
+    ensures taken { (customers : List Customer) (rest : List (List ℕ)) → IsBank customers → lines text.now ≡ opening_lines customers ++ rest
+        → MatchResult result (λ o. (o.directory ≡ names_of customers) × (o.columns ≡ balances_of customers)) (λ fault. fault ≡ OpeningFault.OutOfMemory) }
+    // The names, the balances and the place, or the first fault with its line.
+    ensures exact { Reads result (opening_of text.now) }
+    ensures within { IfOk result (λ o. o.place ≤ length text.now) }
+{
+    read_lines(alloc, text)
+}

@@ -1,0 +1,35 @@
+//! The lines of a text and the words of a line.
+ghost use Rattle.std.specs.Prelude.{◌≡◌, ◌<◌, [], ◌∷◌, length, MatchOption, IfSome};
+ghost use Rattle.std.specs.Option.{option_map};
+ghost use Rattle.sb_rows.specs.Text.{lines, words, words_left, after_line};
+
+use memchr::memchr;
+
+/// The first line of a text and the text after it, or `None` at the end of the text.
+///
+/// A text is parted into lines at each line feed; a last piece without one is a line unless it is empty.
+#[inline]
+pub fn next_line(text: &[u8]) -> Option<(&[u8], &[u8])>
+    ensures line { MatchOption result (lines text.now ≡ []) (λ next. lines text.now ≡ next.0.now ∷ lines next.1.now) }
+    ensures after { IfSome result (λ next. next.1.now ≡ after_line text.now) }
+    ensures shorter { IfSome result (λ next. length next.1.now < length text.now) }
+{
+    match memchr(b'\n', text) {
+        Some(end) => Some((&text[..end], &text[end + 1..])),
+        None if text.is_empty() => None,
+        None => Some((text, &[])),
+    }
+}
+
+/// The first word of a line, and what follows the space after it, if there is one.
+///
+/// A line is parted into words at each single space, so two spaces make an empty word.
+#[inline]
+pub fn next_word(line: &[u8]) -> (&[u8], Option<&[u8]>)
+    ensures { words line.now ≡ result.0.now ∷ words_left (option_map (λ rest. rest.now) result.1) }
+{
+    match memchr(b' ', line) {
+        Some(end) => (&line[..end], Some(&line[end + 1..])),
+        None => (line, None),
+    }
+}

@@ -1,0 +1,40 @@
+-- What a fault of a run says.
+use Rattle.std.specs.Prelude.{◌≡◌, ℕ, Option, Result, Ok, Err, List}
+use Rattle.std.specs.Io.KnownBytes.{Appends, Keeps}
+use Rattle.smallbank.specs.declared.fault.InputFault.{InputFault}
+use Rattle.smallbank.specs.declared.fault.RunFault.{RunFault}
+use Rattle.smallbank.specs.declared.fault.RunFault.TheVariants.{Input, Device, OutOfMemory}
+
+-- the output was written, which an input at fault has none of
+abbrev pub Writes : Result (List ℕ) (ℕ × InputFault) → Option (List ℕ) → Option (List ℕ) → Type 0
+Writes (Ok output) old new = Appends old new output
+Writes (Err fault) old new = ⊥
+
+-- an input fault is the first of the input
+abbrev pub Blames : {A : Type 0} → RunFault → Result A (ℕ × InputFault) → Type 0
+Blames (Input line fault) read = read ≡ Err (line, fault)
+Blames Device read = Unit {0}
+Blames OutOfMemory read = Unit {0}
+
+-- after an input fault nothing was written
+abbrev pub WritesNothing : RunFault → Option (List ℕ) → Option (List ℕ) → Type 0
+WritesNothing (Input line fault) old new = Keeps old new
+WritesNothing Device old new = Unit {0}
+WritesNothing OutOfMemory old new = Unit {0}
+
+-- a fault of the outside: no line's
+abbrev pub IsOutside : RunFault → Type 0
+IsOutside (Input line fault) = ⊥
+IsOutside Device = Unit {0}
+IsOutside OutOfMemory = Unit {0}
+
+abbrev pub fault_number : RunFault → ℕ
+fault_number (Input line fault) = 1
+fault_number Device = 4
+fault_number OutOfMemory = 5
+
+-- 1 for an input that is refused, 3 for a device's fault or want of memory
+abbrev pub exit_status : RunFault → ℕ
+exit_status (Input line fault) = 1
+exit_status Device = 3
+exit_status OutOfMemory = 3

@@ -1,0 +1,87 @@
+//! The rows in opening order and their total.
+ghost use Rattle.std.specs.Prelude.{◌≡◌, ℕ, List, [], ◌∷◌, ◌++◌, map, codes, OnOk};
+ghost use Rattle.sb_amount.specs.Money.{money};
+ghost use Rattle.sb_rows.specs.Customer.{customers_of};
+ghost use Rattle.sb_rows.specs.Listing.{total_of};
+ghost use Rattle.sb_rows.specs.Opening.{customer_line};
+ghost use Rattle.sb_rows.specs.Rows.{SameCustomers, rows_of};
+ghost use Rattle.sb_rows.specs.Text.{unlines};
+ghost use Rattle.smallbank.specs.Output.{row_lines};
+
+use sb_amount::{Cents, print, print_total};
+use sb_rows::{Columns, Directory, Name};
+use std::alloc::AllocError;
+
+/// Writes a line `NAME SAVINGS CHECKING` a customer, in opening order, and the line `total TOTAL`.
+pub fn list_rows(
+    directory: &Directory,
+    columns: &Columns,
+    out: &mut Vec<u8>,
+) -> Result<(), AllocError>
+    requires { SameCustomers directory.now columns.now }
+    ensures { OnOk result (out.new.items ≡ out.old.items ++ unlines (row_lines directory.now (rows_of directory.now columns.now))) }
+{
+    list_customers(directory, columns, out)?;
+    push_total(out, total(columns))?;
+    Ok(())
+}
+
+// Writes a line a customer.
+fn list_customers(
+    directory: &Directory,
+    columns: &Columns,
+    out: &mut Vec<u8>,
+) -> Result<(), AllocError>
+    requires { SameCustomers directory.now columns.now }
+    ensures { OnOk result (out.new.items ≡ out.old.items ++ unlines (map customer_line (customers_of directory.now columns.now))) }
+{
+    for place in 0..directory.len() as u32 {
+        let name = directory.name(place).unwrap();
+        push_customer(
+            out,
+            &name,
+            columns.savings_of(place),
+            columns.checking_of(place),
+        )?;
+    }
+    Ok(())
+}
+
+// Writes a customer's line.
+fn push_customer(
+    out: &mut Vec<u8>,
+    name: &Name,
+    savings: Cents,
+    checking: Cents,
+) -> Result<(), AllocError>
+    ensures { OnOk result (out.new.items ≡ out.old.items ++ customer_line (record { name = name.now; savings = savings; checking = checking }) ++ 10 ∷ []) }
+{
+    out.extend_from_slice(name.text())?;
+    out.push(b' ')?;
+    out.extend_from_slice(print(savings).as_str().as_bytes())?;
+    out.push(b' ')?;
+    out.extend_from_slice(print(checking).as_str().as_bytes())?;
+    out.push(b'\n')?;
+    Ok(())
+}
+
+// All balances added up, in cents.
+fn total(columns: &Columns) -> i64
+    ensures { (directory : List (List ℕ)) → SameCustomers directory columns.now → result ≡ total_of (customers_of directory columns.now) }
+{
+    let mut total = 0;
+    for place in 0..columns.customers() as u32 {
+        total += columns.savings_of(place).value() + columns.checking_of(place).value();
+    }
+    total
+}
+
+// Writes the line of the total.
+fn push_total(out: &mut Vec<u8>, total: i64) -> Result<(), AllocError>
+    ensures { OnOk result (out.new.items ≡ out.old.items ++ (codes "total " ++ money total) ++ 10 ∷ []) }
+{
+    out.extend_from_slice(b"total ")?;
+    out.extend_from_slice(print_total(total).as_str().as_bytes())?;
+    out.push(b'\n')?;
+    Ok(())
+}

@@ -1,0 +1,53 @@
+//! `smallbank`: a bank store whose output is a stated function of its input.
+#![tactic(auto)]
+
+use fault::RunFault;
+use run::run_text;
+use std::env;
+use std::process::ExitCode;
+use told::told;
+use words::{Words, read_words};
+
+pub mod asked;
+pub mod execution;
+pub mod fault;
+pub mod input;
+pub mod listing;
+#[cfg(test)]
+mod plain;
+pub mod run;
+#[cfg(test)]
+mod tests;
+pub mod told;
+pub mod words;
+
+fn main(rt: HostRuntime) -> ExitCode {
+    let status = match start(&rt) {
+        Ok(status) => status,
+        Err(fault) => {
+            let report = told(fault);
+            // Where standard error fails too, the status still tells.
+            let _ = eprintln!(rt; "{report}");
+            report.status
+        }
+    };
+    ExitCode::from(status)
+}
+
+// Does what the program's words say, and gives the exit status.
+fn start(rt: &HostRuntime) -> Result<u8, RunFault> {
+    let words: Vec<String> = match env::args(rt) {
+        Ok(words) => words.collect(rt.alloc())?,
+        Err(_) => return Err(RunFault::OutOfMemory),
+    };
+    match read_words(rt.alloc(), &words) {
+        Ok(Words::Run) => {
+            run_text(rt.alloc(), &mut rt.stdin(), &mut rt.stdout())?;
+            Ok(0)
+        }
+        Err(error) => match error.print(rt) {
+            Ok(()) => Ok(error.exit_code() as u8),
+            Err(_) => Err(RunFault::Device),
+        },
+    }
+}

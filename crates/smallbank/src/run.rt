@@ -1,0 +1,74 @@
+//! A whole run: what is written is a stated function of what is read.
+ghost use Rattle.std.specs.Prelude.{◌≡◌, Ok, IfSome, IfErr, OnOk, MatchResult};
+ghost use Rattle.std.specs.Io.KnownBytes.{Appends};
+ghost use Rattle.smallbank.specs.Faults.{Writes, Blames, WritesNothing};
+ghost use Rattle.smallbank.specs.Output.{output_of};
+
+use crate::asked::read_calls;
+use crate::execution::answer_calls;
+use crate::fault::{InputFault, RunFault};
+use crate::input::read_all;
+use crate::listing::list_rows;
+use sb_rows::{OpeningFault, read_opening};
+use std::alloc::Global;
+use std::io;
+use std::io::{Read, Write};
+
+/// Reads an opening text and call lines, and writes the answers, the rows and the total.
+///
+/// The whole input is read and checked before anything is written. Fails with
+/// - [`RunFault::Input`] at the first line at fault; nothing was written then,
+/// - [`RunFault::Device`] where a read or a write fails, or the input takes more than
+///   [`crate::input::READS`] reads; a part of the output may be written,
+/// - [`RunFault::OutOfMemory`] where memory is refused.
+pub fn run_text<R: Read, W: Write>(
+    alloc: Global,
+    reader: &mut R,
+    writer: &mut W,
+) -> Result<(), RunFault>
+    // No line was at fault, and the output of all that was read is written.
+    ensures done { OnOk result (IfSome (R.remaining reader.old) (λ input.
+        Writes (output_of input) (W.contents writer.old) (W.contents writer.new))) }
+    // An input fault is the first of what was read.
+    ensures first { IfErr result (λ fault. IfSome (R.remaining reader.old) (λ input. Blames fault (output_of input))) }
+    // After it nothing was written.
+    ensures unwritten { IfErr result (λ fault. WritesNothing fault (W.contents writer.old) (W.contents writer.new)) }
+{
+    let input = read_all(alloc, reader)?;
+    let output = output_text(alloc, &input)?;
+    match write_whole(writer, &output) {
+        Ok(()) => Ok(()),
+        Err(_) => Err(RunFault::Device),
+    }
+}
+
+// Writes a whole text.
+fn write_whole<W: Write>(writer: &mut W, text: &[u8]) -> io::Result<()>
+    ensures { OnOk result (Appends (W.contents writer.old) (W.contents writer.new) text.now) }
+{
+    writer.write_all(text)?;
+    writer.flush()
+}
+
+// The output of an input.
+fn output_text(alloc: Global, input: &[u8]) -> Result<Vec<u8>, RunFault>
+    ensures { MatchResult result (λ output. output_of input.now ≡ Ok output.items) (λ fault. Blames fault (output_of input.now)) }
+{
+    let opening = match read_opening(alloc, input) {
+        Ok(opening) => opening,
+        Err(OpeningFault::OutOfMemory) => return Err(RunFault::OutOfMemory),
+        Err(OpeningFault::Line { line, fault }) => {
+            return Err(RunFault::Input {
+                line,
+                fault: InputFault::Opening(fault),
+            });
+        }
+    };
+    let first_line = opening.directory.len() + 2;
+    let calls = read_calls(alloc, &input[opening.place..], first_line)?;
+    let mut columns = opening.columns;
+    let mut output = Vec::new(alloc);
+    answer_calls(&calls, &opening.directory, &mut columns, &mut output)?;
+    list_rows(&opening.directory, &columns, &mut output)?;
+    Ok(output)
+}

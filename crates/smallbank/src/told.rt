@@ -1,0 +1,34 @@
+//! How a fault is told.
+ghost use Rattle.std.specs.Prelude.{◌≡◌};
+ghost use Rattle.smallbank.specs.Faults.{exit_status};
+
+use crate::fault::RunFault;
+use std::fmt;
+
+/// How a fault ends the program: its exit status, and its text by `Display`.
+#[derive(Clone, Copy, Debug, PartialEq, Eq)]
+pub struct Report {
+    /// 1 for an input that is refused, 3 for a device's fault or want of memory.
+    pub status: u8,
+    /// What is told.
+    pub fault: RunFault,
+}
+
+/// The status and the text of a fault.
+pub fn told(fault: RunFault) -> Report
+    ensures status { result.status ≡ exit_status fault }
+    ensures fault { result.fault ≡ fault }
+{
+    let status = match fault {
+        RunFault::Input { .. } => 1,
+        RunFault::Device | RunFault::OutOfMemory => 3,
+    };
+    Report { status, fault }
+}
+
+impl fmt::Display for Report {
+    fn fmt<W: fmt::Write>(&self, f: &mut fmt::Formatter<W>) -> fmt::Result {
+        let fault = self.fault;
+        write!(f, "smallbank: {fault}")
+    }
+}
