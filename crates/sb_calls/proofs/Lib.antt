@@ -1,6 +1,11 @@
+pub mod Amalgamation
+pub mod Asking
 pub mod Log
+pub mod Nets
 pub mod Ops
 pub mod Places
 pub mod Procedures
+pub mod Refusals
 pub mod Spelling
+pub mod Totals
 pub mod Words

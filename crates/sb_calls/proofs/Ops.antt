@@ -1,41 +1,63 @@
 -- Which call an op comes from.
-use Rattle.std.proofs.Common.{◌≡◌, ℕ, ℤ, List, Option, Some, None, refl, sym, ap, ◌∙◌}
-use Rattle.std.specs.Prelude.{◌≢◌}
+use Rattle.std.proofs.Common.{◌≡◌, ℕ, Bool, true, false, cond, ◌==◌, ◌⊎◌, inl, inr, List, Option, Some, None, refl, sym, ap, subst}
+use Rattle.std.proofs.lemmas.Bool.{eqb-true}
 use Rattle.sb_rows.specs.Directory.{place_of}
-use Rattle.sb_calls.specs.Op.{at_place, resolved}
+use Rattle.sb_calls.specs.Op.{at_place, at_two_places, resolved}
 use Rattle.sb_calls.specs.declared.call.Call.{Call}
 use Rattle.sb_calls.specs.declared.call.Call.TheVariants as calls
 use Rattle.sb_calls.specs.declared.op.Op.{Op}
-use Rattle.sb_calls.specs.declared.op.Op.TheVariants.{Balance, DepositChecking, NoCustomer}
+use Rattle.sb_calls.specs.declared.op.Op.TheVariants.{Balance, DepositChecking, TransactSavings, Amalgamate, WriteCheck, NoCustomer, SameCustomer}
 
--- an op that is not NoCustomer was made at a place
-made_at : (kind : ℕ → Op) (place : Option ℕ) (op : Op) → op ≡ at_place kind place → op ≢ NoCustomer → (p : ℕ) × (place ≡ Some p) × (op ≡ kind p)
-made_at kind None op e named = absurd (named e)
-made_at kind (Some p) op e named = (p, refl, e)
+-- a name of the call has no place
+abbrev pub HasMissingName : List (List ℕ) → Call → Type 0
+HasMissingName directory (calls.Balance name) = place_of directory name ≡ None
+HasMissingName directory (calls.DepositChecking name amount) = place_of directory name ≡ None
+HasMissingName directory (calls.TransactSavings name amount) = place_of directory name ≡ None
+HasMissingName directory (calls.Amalgamate from to) = (place_of directory from ≡ None) ⊎ (place_of directory to ≡ None)
+HasMissingName directory (calls.WriteCheck name amount) = place_of directory name ≡ None
 
--- NoCustomer was made where there is no place
-pub made_nowhere : (kind : ℕ → Op) (place : Option ℕ) → NoCustomer ≡ at_place kind place → ((p : ℕ) → kind p ≢ NoCustomer) → place ≡ None
-made_nowhere kind None e named = refl
-made_nowhere kind (Some p) e named = absurd (named p (sym e))
+-- the call is of the op's kind, and its names stand at the op's places
+abbrev pub ComesFrom : List (List ℕ) → Op → Call → Type 0
+ComesFrom directory (Balance place) call = (name : List ℕ) × (call ≡ calls.Balance name) × (place_of directory name ≡ Some place)
+ComesFrom directory (DepositChecking place amount) call = (name : List ℕ) × (call ≡ calls.DepositChecking name amount) × (place_of directory name ≡ Some place)
+ComesFrom directory (TransactSavings place amount) call = (name : List ℕ) × (call ≡ calls.TransactSavings name amount) × (place_of directory name ≡ Some place)
+ComesFrom directory (Amalgamate places) call =
+    (from : List ℕ) × (to : List ℕ) × (call ≡ calls.Amalgamate from to) × (place_of directory from ≡ Some places.0) × (place_of directory to ≡ Some places.1)
+ComesFrom directory (WriteCheck place amount) call = (name : List ℕ) × (call ≡ calls.WriteCheck name amount) × (place_of directory name ≡ Some place)
+ComesFrom directory NoCustomer call = HasMissingName directory call
+ComesFrom directory SameCustomer call =
+    (from : List ℕ) × (to : List ℕ) × (place : ℕ) × (call ≡ calls.Amalgamate from to) × (place_of directory from ≡ Some place) × (place_of directory to ≡ Some place)
 
--- the call that resolves to a Balance, and its name's place
-pub from_balance : (directory : List (List ℕ)) (call : Call) (place : ℕ) → Balance place ≡ resolved directory call → (name : List ℕ) × (call ≡ calls.Balance name) × (place_of directory name ≡ Some place)
-from_balance directory (calls.Balance name) place e =
-    let made = made_at Balance (place_of directory name) (Balance place) e (λ h. cc) in
-    let same : made.0 ≡ place = cc in
-    (name, refl, made.1 ∙ ap Some same)
-from_balance directory (calls.DepositChecking name amount) place e =
-    let made = made_at (λ p. DepositChecking p amount) (place_of directory name) (Balance place) e (λ h. cc) in
-    absurd cc
+-- an op made at one place, where a place gives a fact of its own and no place another
+made_at_place : (P : Op → Type 0) (op : ℕ → Op) (place : Option ℕ) → ((p : ℕ) → place ≡ Some p → P (op p)) → (place ≡ None → P NoCustomer) → P (at_place op place)
+made_at_place P op None there nowhere = nowhere refl
+made_at_place P op (Some p) there nowhere = there p refl
 
--- the call that resolves to a DepositChecking, and its name's place
-pub from_deposit : (directory : List (List ℕ)) (call : Call) (place : ℕ) (amount : ℤ) → DepositChecking place amount ≡ resolved directory call
-    → (name : List ℕ) × (call ≡ calls.DepositChecking name amount) × (place_of directory name ≡ Some place)
-from_deposit directory (calls.DepositChecking name paid) place amount e =
-    let made = made_at (λ p. DepositChecking p paid) (place_of directory name) (DepositChecking place amount) e (λ h. cc) in
-    let same : made.0 ≡ place = cc in
-    let paid_amount : paid ≡ amount = cc in
-    (name, ap (calls.DepositChecking name) paid_amount, made.1 ∙ ap Some same)
-from_deposit directory (calls.Balance name) place amount e =
-    let made = made_at Balance (place_of directory name) (DepositChecking place amount) e (λ h. cc) in
-    absurd cc
+-- an op made at two places, likewise
+made_at_two_places : (P : Op → Type 0) (from to : Option ℕ) → ((p q : ℕ) → from ≡ Some p → to ≡ Some q → P (Amalgamate (p, q))) → ((p : ℕ) → from ≡ Some p → to ≡ Some p → P SameCustomer)
+    → ((from ≡ None) ⊎ (to ≡ None) → P NoCustomer) → P (at_two_places from to)
+made_at_two_places P None to there one nowhere = nowhere (inl refl)
+made_at_two_places P (Some p) None there one nowhere = nowhere (inr refl)
+made_at_two_places P (Some p) (Some q) there one nowhere = by (p == q) refl
+  where
+    by : (same : Bool) → (p == q) ≡ same → P (cond same SameCustomer (Amalgamate (p, q)))
+    by true e = one p refl (ap Some (sym (eqb-true p q e)))
+    by false e = there p q refl refl
+
+-- each call is one that its op comes from
+resolved_from : (directory : List (List ℕ)) (call : Call) → ComesFrom directory (resolved directory call) call
+resolved_from directory (calls.Balance name) =
+    made_at_place (λ op. ComesFrom directory op (calls.Balance name)) Balance (place_of directory name) (λ place found. (name, refl, found)) (λ missing. missing)
+resolved_from directory (calls.DepositChecking name amount) =
+    made_at_place (λ op. ComesFrom directory op (calls.DepositChecking name amount)) (λ place. DepositChecking place amount) (place_of directory name) (λ place found. (name, refl, found)) (λ missing. missing)
+resolved_from directory (calls.TransactSavings name amount) =
+    made_at_place (λ op. ComesFrom directory op (calls.TransactSavings name amount)) (λ place. TransactSavings place amount) (place_of directory name) (λ place found. (name, refl, found)) (λ missing. missing)
+resolved_from directory (calls.Amalgamate from to) =
+    made_at_two_places (λ op. ComesFrom directory op (calls.Amalgamate from to)) (place_of directory from) (place_of directory to)
+    (λ p q found_from found_to. (from, to, refl, found_from, found_to)) (λ p found_from found_to. (from, to, p, refl, found_from, found_to)) (λ missing. missing)
+resolved_from directory (calls.WriteCheck name amount) =
+    made_at_place (λ op. ComesFrom directory op (calls.WriteCheck name amount)) (λ place. WriteCheck place amount) (place_of directory name) (λ place found. (name, refl, found)) (λ missing. missing)
+
+-- what an op says of the call that resolves to it
+pub comes_from : (directory : List (List ℕ)) (call : Call) (op : Op) → op ≡ resolved directory call → ComesFrom directory op call
+comes_from directory call op e = subst (λ o. ComesFrom directory o call) (sym e) (resolved_from directory call)

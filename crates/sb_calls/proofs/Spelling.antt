@@ -15,18 +15,18 @@ use Rattle.sb_amount.specs.Reading.{read_money}
 use Rattle.sb_amount.specs.declared.fault.MoneyFault.{MoneyFault}
 use Rattle.sb_rows.specs.Name.{is_name, is_name_byte, IsName}
 use Rattle.sb_rows.specs.Text.{is_space, words}
-use Rattle.sb_calls.specs.Call.{IsCall, call_line, call_of, call_of_words, of_name, of_name_and_amount, with_amount}
+use Rattle.sb_calls.specs.Call.{IsCall, call_line, call_of, call_of_words, of_name, of_name_and_amount, of_two_names, with_amount}
 use Rattle.sb_calls.specs.declared.call.Call.{Call}
-use Rattle.sb_calls.specs.declared.call.Call.TheVariants.{Balance, DepositChecking}
+use Rattle.sb_calls.specs.declared.call.Call.TheVariants.{Balance, DepositChecking, TransactSavings, Amalgamate, WriteCheck}
 use Rattle.sb_calls.specs.declared.fault.CallFault.{CallFault}
 use Rattle.sb_calls.specs.declared.fault.CallFault.TheVariants.{UnknownVerb, BadName}
 
 -- ---- what is read is spelled so
 
--- of two calls to choose from, the one that was read
-chosen : (test : Bool) (first second : Result Call CallFault) (made : Call) → cond test first second ≡ Ok made → ((test ≡ true) × (first ≡ Ok made)) ⊎ ((test ≡ false) × (second ≡ Ok made))
-chosen true first second made e = inl (refl, e)
-chosen false first second made e = inr (refl, e)
+-- of two results to choose from, the one that is read
+pub chosen : {T : Type 0} (test : Bool) (first second read : T) → cond test first second ≡ read → ((test ≡ true) × (first ≡ read)) ⊎ ((test ≡ false) × (second ≡ read))
+chosen true first second read e = inl (refl, e)
+chosen false first second read e = inr (refl, e)
 
 -- a call that was read behind a test of its name passed it
 tested : (test : Bool) (call : Result Call CallFault) (made : Call) → cond test call (Err BadName) ≡ Ok made → (test ≡ true) × (call ≡ Ok made)
@@ -61,22 +61,73 @@ spells_name_and_amount verb call spelled (name ∷ text ∷ []) made e =
     (subst IsCall (sym amount.2) is.0, ap (λ (word : List ℕ). verb ++ (32 ∷ (name ++ (32 ∷ word)))) money_is.0 ∙ is.1 ∙ ap call_line (sym amount.2))
 spells_name_and_amount verb call spelled (a ∷ b ∷ c ∷ more) made e = absurd cc
 
+-- a verb that takes two names, likewise
+spells_two_names : (verb : List ℕ) (call : List ℕ → List ℕ → Call) → ((from to : List ℕ) → IsName from → IsName to → IsCall (call from to) × (verb ++ (32 ∷ (from ++ (32 ∷ to))) ≡ call_line (call from to)))
+    → (rest : List (List ℕ)) (made : Call) → of_two_names call rest ≡ Ok made → IsCall made × (join_with_byte 32 (verb ∷ rest) ≡ call_line made)
+spells_two_names verb call spelled [] made e = absurd cc
+spells_two_names verb call spelled (a ∷ []) made e = absurd cc
+spells_two_names verb call spelled (from ∷ to ∷ []) made e =
+    let passed = tested (is_name from && is_name to) (Ok (call from to)) made e in
+    let both = and_parts (is_name from) (is_name to) passed.0 in
+    let is : made ≡ call from to = cc in
+    rw is (spelled from to both.0 both.1)
+spells_two_names verb call spelled (a ∷ b ∷ c ∷ more) made e = absurd cc
+
+-- ---- the verbs, from the last
+
+-- what words are read as, if the verb is this one or one after it
+abbrev if_amalgamate : List ℕ → List (List ℕ) → Result Call CallFault
+if_amalgamate verb rest = cond (bytes_eq verb (codes "amalgamate")) (of_two_names Amalgamate rest) (Err UnknownVerb)
+
+abbrev if_check : List ℕ → List (List ℕ) → Result Call CallFault
+if_check verb rest = cond (bytes_eq verb (codes "check")) (of_name_and_amount WriteCheck rest) (if_amalgamate verb rest)
+
+abbrev if_savings : List ℕ → List (List ℕ) → Result Call CallFault
+if_savings verb rest = cond (bytes_eq verb (codes "savings")) (of_name_and_amount TransactSavings rest) (if_check verb rest)
+
+abbrev if_deposit : List ℕ → List (List ℕ) → Result Call CallFault
+if_deposit verb rest = cond (bytes_eq verb (codes "deposit")) (of_name_and_amount DepositChecking rest) (if_savings verb rest)
+
+-- what is read as a call behind one verb or behind the others spells it, where each of the two does
+spells_either : (verb word : List ℕ) (rest : List (List ℕ)) (first others : Result Call CallFault) (made : Call) → cond (bytes_eq verb word) first others ≡ Ok made
+    → (first ≡ Ok made → IsCall made × (join_with_byte 32 (word ∷ rest) ≡ call_line made)) → (others ≡ Ok made → IsCall made × (join_with_byte 32 (verb ∷ rest) ≡ call_line made))
+    → IsCall made × (join_with_byte 32 (verb ∷ rest) ≡ call_line made)
+spells_either verb word rest first others made e here there =
+    elim (chosen (bytes_eq verb word) first others (Ok made) e) [
+      | inl is ↦ subst (λ (v : List ℕ). IsCall made × (join_with_byte 32 (v ∷ rest) ≡ call_line made)) (sym ((bytes_eq-Decides verb word).0 is.0)) (here is.1)
+      | inr other ↦ there other.1
+    ]
+
+-- the words of a call of the last verb, joined by spaces, spell it
+amalgamate_spells : (verb : List ℕ) (rest : List (List ℕ)) (made : Call) → if_amalgamate verb rest ≡ Ok made → IsCall made × (join_with_byte 32 (verb ∷ rest) ≡ call_line made)
+amalgamate_spells verb rest made e =
+    spells_either verb (codes "amalgamate") rest (of_two_names Amalgamate rest) (Err UnknownVerb) made e
+    (spells_two_names (codes "amalgamate") Amalgamate (λ from to giver taker. ((giver, taker), refl)) rest made) (λ unknown. absurd cc)
+
+-- the words of a call of the verbs from `check` on, joined by spaces, spell it
+check_spells : (verb : List ℕ) (rest : List (List ℕ)) (made : Call) → if_check verb rest ≡ Ok made → IsCall made × (join_with_byte 32 (verb ∷ rest) ≡ call_line made)
+check_spells verb rest made e =
+    spells_either verb (codes "check") rest (of_name_and_amount WriteCheck rest) (if_amalgamate verb rest) made e
+    (spells_name_and_amount (codes "check") WriteCheck (λ name amount valid within. ((valid, within), refl)) rest made) (amalgamate_spells verb rest made)
+
+-- the words of a call of the verbs from `savings` on, joined by spaces, spell it
+savings_spells : (verb : List ℕ) (rest : List (List ℕ)) (made : Call) → if_savings verb rest ≡ Ok made → IsCall made × (join_with_byte 32 (verb ∷ rest) ≡ call_line made)
+savings_spells verb rest made e =
+    spells_either verb (codes "savings") rest (of_name_and_amount TransactSavings rest) (if_check verb rest) made e
+    (spells_name_and_amount (codes "savings") TransactSavings (λ name amount valid within. ((valid, within), refl)) rest made) (check_spells verb rest made)
+
+-- the words of a call of the verbs from `deposit` on, joined by spaces, spell it
+deposit_spells : (verb : List ℕ) (rest : List (List ℕ)) (made : Call) → if_deposit verb rest ≡ Ok made → IsCall made × (join_with_byte 32 (verb ∷ rest) ≡ call_line made)
+deposit_spells verb rest made e =
+    spells_either verb (codes "deposit") rest (of_name_and_amount DepositChecking rest) (if_savings verb rest) made e
+    (spells_name_and_amount (codes "deposit") DepositChecking (λ name amount valid within. ((valid, within), refl)) rest made) (savings_spells verb rest made)
+
 -- the words of a call, joined by spaces, spell it
-words_spell : (ws : List (List ℕ)) (made : Call) → call_of_words ws ≡ Ok made → IsCall made × (join_with_byte 32 ws ≡ call_line made)
+pub words_spell : (ws : List (List ℕ)) (made : Call) → call_of_words ws ≡ Ok made → IsCall made × (join_with_byte 32 ws ≡ call_line made)
 words_spell [] made e = absurd cc
 words_spell (verb ∷ rest) made e =
-    elim (chosen (bytes_eq verb (codes "balance")) (of_name Balance rest) (cond (bytes_eq verb (codes "deposit")) (of_name_and_amount DepositChecking rest) (Err UnknownVerb)) made e) [
-      | inl is ↦
-          let balance = (bytes_eq-Decides verb (codes "balance")).0 is.0 in
-          spells_name verb Balance (λ name valid. (valid, ap (λ (v : List ℕ). v ++ (32 ∷ name)) balance)) rest made is.1
-      | inr other ↦
-          elim (chosen (bytes_eq verb (codes "deposit")) (of_name_and_amount DepositChecking rest) (Err UnknownVerb) made other.1) [
-            | inl is ↦
-                let deposit = (bytes_eq-Decides verb (codes "deposit")).0 is.0 in
-                spells_name_and_amount verb DepositChecking (λ name amount valid within. ((valid, within), ap (λ (v : List ℕ). v ++ (32 ∷ (name ++ (32 ∷ money amount)))) deposit)) rest made is.1
-            | inr unknown ↦ absurd cc
-          ]
-    ]
+    spells_either verb (codes "balance") rest (of_name Balance rest) (if_deposit verb rest) made e
+    (spells_name (codes "balance") Balance (λ name valid. (valid, refl)) rest made) (deposit_spells verb rest made)
 
 -- a call that is read off a line is valid, and the line is its spelling
 line_spells : (line : List ℕ) (made : Call) → call_of line ≡ Ok made → IsCall made × (line ≡ call_line made)
@@ -93,7 +144,7 @@ read_is_spelled line (Err fault) e = tt
 -- ---- what is spelled so is read
 
 -- a text that keeps clear of spaces, by a test that each of its bytes passes
-without_spaces : (test : ℕ → Bool) (text : List ℕ) → ((c : ℕ) → test c ≡ true → is_space c ≡ false) → list_all test text ≡ true → All (λ c. is_space c ≡ false) text
+pub without_spaces : (test : ℕ → Bool) (text : List ℕ) → ((c : ℕ) → test c ≡ true → is_space c ≡ false) → list_all test text ≡ true → All (λ c. is_space c ≡ false) text
 without_spaces test [] clear h = All-nil (λ c. is_space c ≡ false)
 without_spaces test (c ∷ text) clear h =
     let both = and_parts (test c) (list_all test text) h in
@@ -110,6 +161,15 @@ name_clear name h = without_spaces is_name_byte name name_byte_clear (and_parts 
 money_clear : (amount : ℤ) → IsWithinLimit amount → All (λ c. is_space c ≡ false) (money amount)
 money_clear amount h = without_spaces (λ c. not (is_space c)) (money amount) (λ c. not-true (is_space c)) (money_keeps_clear amount h)
 
+-- the words of a name and an amount, or of two names
+words-name_and_amount : (name : List ℕ) (amount : ℤ) → IsName name → IsWithinLimit amount → slice_split is_space (name ++ 32 ∷ money amount) ≡ name ∷ money amount ∷ []
+words-name_and_amount name amount valid within =
+    slice_split_at is_space name 32 (money amount) (name_clear name valid) refl ∙ ap (λ ws. name ∷ ws) (slice_split_none is_space (money amount) (money_clear amount within))
+
+words-two_names : (from to : List ℕ) → IsName from → IsName to → slice_split is_space (from ++ 32 ∷ to) ≡ from ∷ to ∷ []
+words-two_names from to giver taker =
+    slice_split_at is_space from 32 to (name_clear from giver) refl ∙ ap (λ ws. from ∷ ws) (slice_split_none is_space to (name_clear to taker))
+
 -- the spelling of a call is read as that call
 pub spelled_is_read : (call : Call) → IsCall call → call_of (call_line call) ≡ Ok call
 unfolding call_of words
@@ -117,6 +177,14 @@ spelled_is_read (Balance name) h =
     let one : slice_split is_space name ≡ name ∷ [] = slice_split_none is_space name (name_clear name h) in
     rw (one, h) refl
 spelled_is_read (DepositChecking name amount) h =
-    let first : slice_split is_space (name ++ 32 ∷ money amount) ≡ name ∷ slice_split is_space (money amount) = slice_split_at is_space name 32 (money amount) (name_clear name h.0) refl in
-    let second : slice_split is_space (money amount) ≡ money amount ∷ [] = slice_split_none is_space (money amount) (money_clear amount h.1) in
-    rw (first, second, h.0, read_money-money amount h.1) refl
+    let two = words-name_and_amount name amount h.0 h.1 in
+    rw (two, h.0, read_money-money amount h.1) refl
+spelled_is_read (TransactSavings name amount) h =
+    let two = words-name_and_amount name amount h.0 h.1 in
+    rw (two, h.0, read_money-money amount h.1) refl
+spelled_is_read (Amalgamate from to) h =
+    let two = words-two_names from to h.0 h.1 in
+    rw (two, h.0, h.1) refl
+spelled_is_read (WriteCheck name amount) h =
+    let two = words-name_and_amount name amount h.0 h.1 in
+    rw (two, h.0, read_money-money amount h.1) refl

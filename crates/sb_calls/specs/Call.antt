@@ -1,5 +1,5 @@
 -- How calls are spelled, and what a line is read as.
-use Rattle.std.specs.Prelude.{ℕ, ℤ, if◌then◌else◌, Result, Ok, Err, List, [], ◌∷◌, ◌++◌, codes}
+use Rattle.std.specs.Prelude.{ℕ, ℤ, ◌&&◌, if◌then◌else◌, Result, Ok, Err, List, [], ◌∷◌, ◌++◌, codes}
 use Rattle.std.specs.Str.{bytes_eq}
 use Rattle.sb_amount.specs.Limit.{IsWithinLimit}
 use Rattle.sb_amount.specs.Money.{money}
@@ -8,7 +8,7 @@ use Rattle.sb_amount.specs.declared.fault.MoneyFault.{MoneyFault}
 use Rattle.sb_rows.specs.Name.{is_name, IsName}
 use Rattle.sb_rows.specs.Text.{words}
 use Rattle.sb_calls.specs.declared.call.Call.{Call}
-use Rattle.sb_calls.specs.declared.call.Call.TheVariants.{Balance, DepositChecking}
+use Rattle.sb_calls.specs.declared.call.Call.TheVariants.{Balance, DepositChecking, TransactSavings, Amalgamate, WriteCheck}
 use Rattle.sb_calls.specs.declared.fault.CallFault.{CallFault}
 use Rattle.sb_calls.specs.declared.fault.CallFault.TheVariants.{UnknownVerb, WrongWords, BadName, BadMoney}
 
@@ -17,11 +17,17 @@ use Rattle.sb_calls.specs.declared.fault.CallFault.TheVariants.{UnknownVerb, Wro
 abbrev pub call_line : Call → List ℕ
 call_line (Balance name) = codes "balance " ++ name
 call_line (DepositChecking name amount) = codes "deposit " ++ (name ++ (32 ∷ money amount))
+call_line (TransactSavings name amount) = codes "savings " ++ (name ++ (32 ∷ money amount))
+call_line (Amalgamate from to) = codes "amalgamate " ++ (from ++ (32 ∷ to))
+call_line (WriteCheck name amount) = codes "check " ++ (name ++ (32 ∷ money amount))
 
 -- its names are valid, its amount is within the limit
 abbrev pub IsCall : Call → Type 0
 IsCall (Balance name) = IsName name
 IsCall (DepositChecking name amount) = IsName name × IsWithinLimit amount
+IsCall (TransactSavings name amount) = IsName name × IsWithinLimit amount
+IsCall (Amalgamate from to) = IsName from × IsName to
+IsCall (WriteCheck name amount) = IsName name × IsWithinLimit amount
 
 -- ---- what it is read as
 
@@ -43,11 +49,21 @@ of_name_and_amount call [] = Err WrongWords
 of_name_and_amount call (a ∷ []) = Err WrongWords
 of_name_and_amount call (a ∷ b ∷ c ∷ more) = Err WrongWords
 
+-- the words after a verb that takes two names
+abbrev pub of_two_names : (List ℕ → List ℕ → Call) → List (List ℕ) → Result Call CallFault
+of_two_names call (from ∷ to ∷ []) = if is_name from && is_name to then Ok (call from to) else Err BadName
+of_two_names call [] = Err WrongWords
+of_two_names call (a ∷ []) = Err WrongWords
+of_two_names call (a ∷ b ∷ c ∷ more) = Err WrongWords
+
 abbrev pub call_of_words : List (List ℕ) → Result Call CallFault
 call_of_words [] = Err UnknownVerb
 call_of_words (verb ∷ rest) =
     if bytes_eq verb (codes "balance") then of_name Balance rest
     else if bytes_eq verb (codes "deposit") then of_name_and_amount DepositChecking rest
+    else if bytes_eq verb (codes "savings") then of_name_and_amount TransactSavings rest
+    else if bytes_eq verb (codes "check") then of_name_and_amount WriteCheck rest
+    else if bytes_eq verb (codes "amalgamate") then of_two_names Amalgamate rest
     else Err UnknownVerb
 
 -- the call that a line spells, or its first fault

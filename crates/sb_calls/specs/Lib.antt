@@ -1,5 +1,7 @@
+pub mod Ask
 pub mod Call
 pub mod Log
+pub mod Net
 pub mod Op
 pub mod Performs
 pub mod Procedures

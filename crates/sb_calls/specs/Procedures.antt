@@ -6,7 +6,7 @@ use Rattle.std.specs.Str.{bytes_eq}
 use Rattle.sb_amount.specs.declared.cents.TheConstants.{LIMIT}
 use Rattle.sb_rows.specs.Rows.{Rows}
 use Rattle.sb_calls.specs.declared.call.Call.{Call}
-use Rattle.sb_calls.specs.declared.call.Call.TheVariants.{Balance, DepositChecking}
+use Rattle.sb_calls.specs.declared.call.Call.TheVariants.{Balance, DepositChecking, TransactSavings, Amalgamate, WriteCheck}
 use Rattle.sb_calls.specs.declared.reply.Reply.{Reply}
 use Rattle.sb_calls.specs.declared.reply.Reply.TheVariants.{Shown, Done, Penalised, NoCustomer, SameCustomer, Negative, WouldOverdraw, OverLimit}
 
@@ -64,3 +64,6 @@ write_check name amount rows = with_balances rows (λ savings checking.
 abbrev pub procedure : Call → Rows → Outcome
 procedure (Balance name) rows = balance name rows
 procedure (DepositChecking name amount) rows = deposit_checking name amount rows
+procedure (TransactSavings name amount) rows = transact_savings name amount rows
+procedure (Amalgamate from to) rows = amalgamate from to rows
+procedure (WriteCheck name amount) rows = write_check name amount rows

@@ -17,4 +17,7 @@ pub enum CallFault {
     /// A word in an amount's place is no money text.
     #[error("bad money")]
     BadMoney = 4,
+    /// A word in a client's or a request's place is no such number.
+    #[error("bad number")]
+    BadNumber = 5,
 }

@@ -1,11 +1,17 @@
-//! What ties a log's replies to its calls.
+//! What ties a log's replies to its calls, and its rows to their total.
 ghost use Rattle.std.specs.Prelude.{◌≡◌, ℕ, suc, List, slice_get};
 ghost use Rattle.sb_calls.specs.declared.call.Call.{Call};
 ghost use Rattle.sb_calls.specs.Log.{replies_to, reply_to};
+ghost use Rattle.sb_calls.specs.Net.{TotalByNet};
 ghost use Rattle.sb_rows.specs.Rows.{Rows};
 
 /// The replies to a log in order are, number by number, the replies to its calls on the rows after
 /// the calls before.
 pub fn replies_one_by_one()
     ensures { (opening : Rows) (log : List Call) (k : ℕ) → slice_get (replies_to opening log) k ≡ reply_to opening log (suc k) }
+{}
+
+/// The bank's total after the first calls of a log is the opening's, and the net changes of these calls.
+pub fn total_by_net()
+    ensures { TotalByNet }
 {}

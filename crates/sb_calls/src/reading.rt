@@ -1,4 +1,4 @@
-//! The text of a call: `balance NAME` or `deposit NAME AMOUNT`.
+//! The text of a call: `balance N`, `deposit N V`, `savings N V`, `check N V` or `amalgamate N N2`.
 ghost use Rattle.std.specs.Prelude.{◌≡◌, ◌≢◌, ℕ, ℤ, List, [], ◌∷◌, Ok, IfOk, MatchResult, if◌then◌else◌};
 ghost use Rattle.std.specs.Option.{option_map};
 ghost use Rattle.std.specs.Result.{result_map_both};
@@ -6,7 +6,7 @@ ghost use Rattle.sb_amount.specs.Reading.{read_money};
 ghost use Rattle.sb_rows.specs.Name.{is_name};
 ghost use Rattle.sb_rows.specs.Text.{words_left};
 ghost use Rattle.sb_calls.specs.declared.call.Call.{Call as AnyCall};
-ghost use Rattle.sb_calls.specs.Call.{IsCall, call_line, call_of, call_of_words, of_name, of_name_and_amount, with_amount};
+ghost use Rattle.sb_calls.specs.Call.{IsCall, call_line, call_of, call_of_words, of_name, of_name_and_amount, of_two_names, with_amount};
 
 use crate::call::Call;
 use crate::fault::CallFault;
@@ -29,16 +29,25 @@ pub fn read_call(line: &[u8]) -> Result<Call, CallFault>
 }
 
 // The call with a verb, and what follows the verb.
-fn call_with(verb: &[u8], rest: Option<&[u8]>) -> Result<Call, CallFault>
+pub(crate) fn call_with(verb: &[u8], rest: Option<&[u8]>) -> Result<Call, CallFault>
     ensures { result ≡ call_of_words (verb.now ∷ words_left (option_map (λ text. text.now) rest.entry)) }
 {
-    match verb {
-        b"balance" => one_name(rest).map(Call::Balance),
-        b"deposit" => {
-            let (name, amount) = name_and_amount(rest)?;
-            Ok(Call::DepositChecking(name, amount))
-        }
-        _ => Err(CallFault::UnknownVerb),
+    if verb == b"balance".as_slice() {
+        one_name(rest).map(Call::Balance)
+    } else if verb == b"deposit".as_slice() {
+        let (name, amount) = name_and_amount(rest)?;
+        Ok(Call::DepositChecking(name, amount))
+    } else if verb == b"savings".as_slice() {
+        let (name, amount) = name_and_amount(rest)?;
+        Ok(Call::TransactSavings(name, amount))
+    } else if verb == b"check".as_slice() {
+        let (name, amount) = name_and_amount(rest)?;
+        Ok(Call::WriteCheck(name, amount))
+    } else if verb == b"amalgamate".as_slice() {
+        let (from, to) = two_names(rest)?;
+        Ok(Call::Amalgamate(from, to))
+    } else {
+        Err(CallFault::UnknownVerb)
     }
 }
 
@@ -55,6 +64,14 @@ fn name_and_amount(rest: Option<&[u8]>) -> Result<(Name, Cents), CallFault>
 {
     let (name, amount) = two_words(rest)?;
     Ok((name_of(name)?, amount_of(amount)?))
+}
+
+// The two names that are left, whatever call they are for.
+fn two_names(rest: Option<&[u8]>) -> Result<(Name, Name), CallFault>
+    ensures { (call : List ℕ → List ℕ → AnyCall) → result_map_both (λ both. call both.0 both.1) (λ fault. fault) result ≡ of_two_names call (words_left (option_map (λ text. text.now) rest.entry)) }
+{
+    let (from, to) = two_words(rest)?;
+    Ok((name_of(from)?, name_of(to)?))
 }
 
 // The one word that is left.

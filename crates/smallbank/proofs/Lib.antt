@@ -1,3 +1,7 @@
-pub mod Asking
+pub mod Answered
+pub mod AskedLines
 pub mod ByPlace
 pub mod Carrying
+pub mod Keyed
+pub mod Outcomes
+pub mod Whole

@@ -1,34 +1,32 @@
 -- What is written for an input.
-use Rattle.std.specs.Prelude.{ℕ, ◌+◌, ◌-◌, Result, Ok, List, [], ◌∷◌, ◌++◌, map, length, take, replicate, decimal, codes}
-use Rattle.std.specs.List.{enumerate_from}
+use Rattle.std.specs.Prelude.{ℕ, Result, Ok, List, [], ◌∷◌, ◌++◌, map, codes}
 use Rattle.sb_amount.specs.Money.{money}
 use Rattle.sb_rows.specs.Listing.{listed, total_of}
-use Rattle.sb_rows.specs.Opening.{OpeningText, customer_line, ◌>>=◌}
+use Rattle.sb_rows.specs.Opening.{customer_line, ◌>>=◌}
 use Rattle.sb_rows.specs.Rows.{Rows, rows_of}
 use Rattle.sb_rows.specs.Text.{unlines}
 use Rattle.sb_calls.specs.Log.{rows_after, replies_to}
-use Rattle.sb_calls.specs.Reply.{reply_text}
+use Rattle.sb_calls.specs.declared.ask.Asked.{Asked}
+use Rattle.sb_calls.specs.declared.ask.Key.{Key}
 use Rattle.sb_calls.specs.declared.call.Call.{Call}
-use Rattle.sb_calls.specs.declared.reply.Reply.{Reply}
+use Rattle.sb_sequencer.specs.Numbering.{first_asks}
+use Rattle.smallbank.specs.Asks.{keyed}
 use Rattle.smallbank.specs.Input.{InputText, input_of}
+use Rattle.smallbank.specs.Outcome.{outcome_of, outcome_line}
 use Rattle.smallbank.specs.declared.fault.InputFault.{InputFault}
-use Rattle.smallbank.specs.declared.execution.TheConstants.{LOG_CALLS}
 
--- the calls that the log takes: the first 1,000,000
-unfoldable pub log_of : List Call → List Call
-log_of calls = take LOG_CALLS calls
+-- the log: the first asks of each key, at most 1,000,000
+abbrev pub log_of : List Asked → List (Key × Call)
+log_of asks = first_asks (keyed asks)
 
--- N REPLY
-abbrev pub numbered_reply : ℕ × Reply → List ℕ
-numbered_reply e = decimal e.0 ++ (32 ∷ reply_text e.1)
+-- the calls of a log
+abbrev pub calls_of : List (Key × Call) → List Call
+calls_of log = map (λ entry. entry.1) log
 
--- a line a call of the log, with its number
-abbrev pub reply_lines : Rows → List Call → List (List ℕ)
-reply_lines opening log = map numbered_reply (enumerate_from 1 (replies_to opening log))
-
--- a line a call: the numbered reply, or `log full` for a call that the log has no room for
-unfoldable pub answer_lines : Rows → List Call → List (List ℕ)
-answer_lines opening calls = reply_lines opening (log_of calls) ++ replicate (length calls - LOG_CALLS) (codes "log full")
+-- a line an asking line, by its number in the log and the replies to the log
+unfoldable pub answer_lines : Rows → List Asked → List (List ℕ)
+answer_lines opening asks =
+    map (λ ask. outcome_line (replies_to opening (calls_of (log_of asks))) (outcome_of (log_of asks) ask)) (keyed asks)
 
 -- NAME SAVINGS CHECKING of each customer in opening order, then the total
 abbrev pub row_lines : List (List ℕ) → Rows → List (List ℕ)
@@ -38,7 +36,7 @@ row_lines names rows = map customer_line (listed names rows) ++ (codes "total " 
 abbrev pub output_lines : InputText → List (List ℕ)
 output_lines input =
     let opening = rows_of input.opening.names input.opening.balances in
-    answer_lines opening input.calls ++ row_lines input.opening.names (rows_after (log_of input.calls) opening)
+    answer_lines opening input.asks ++ row_lines input.opening.names (rows_after (calls_of (log_of input.asks)) opening)
 
 -- what is written for an input, or its first line at fault with its fault
 abbrev pub output_of : List ℕ → Result (List ℕ) (ℕ × InputFault)

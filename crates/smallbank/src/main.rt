@@ -1,6 +1,7 @@
 //! `smallbank`: a bank store whose output is a stated function of its input.
 #![tactic(auto)]
 
+use clap::error::ErrorKind;
 use fault::RunFault;
 use run::run_text;
 use std::env;
@@ -8,7 +9,8 @@ use std::process::ExitCode;
 use told::told;
 use words::{Words, read_words};
 
-pub mod asked;
+pub mod answers;
+pub mod asking;
 pub mod execution;
 pub mod fault;
 pub mod input;
@@ -45,9 +47,14 @@ fn start(rt: &HostRuntime) -> Result<u8, RunFault> {
             run_text(rt.alloc(), &mut rt.stdin(), &mut rt.stdout())?;
             Ok(0)
         }
-        Err(error) => match error.print(rt) {
-            Ok(()) => Ok(error.exit_code() as u8),
-            Err(_) => Err(RunFault::Device),
-        },
+        Err(error) => {
+            if error.kind() == ErrorKind::OutOfMemory {
+                return Err(RunFault::OutOfMemory);
+            }
+            match error.print(rt) {
+                Ok(()) => Ok(error.exit_code() as u8),
+                Err(_) => Err(RunFault::Device),
+            }
+        }
     }
 }

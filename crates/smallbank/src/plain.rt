@@ -1,6 +1,8 @@
-//! The output of an input without faults, computed plainly: what runs are compared with on small inputs.
+//! The output of an input without faults or keys, computed plainly: what runs are compared with on small inputs.
 use std::alloc::Global;
 use std::test::Fail;
+
+const LIMIT: i64 = 1_000_000_000_000;
 
 #[derive(Drop)]
 struct Account<'a> {
@@ -9,7 +11,7 @@ struct Account<'a> {
     checking: i64,
 }
 
-// What is written for an input without faults.
+// What is written for an input without faults or keys.
 pub fn plain_output(alloc: Global, input: &str) -> Result<String, Fail> {
     let mut accounts: Vec<Account> = Vec::new(alloc);
     let mut output = String::new(alloc);
@@ -50,28 +52,95 @@ pub fn plain_output(alloc: Global, input: &str) -> Result<String, Fail> {
 
 // Carries out one call, and gives its reply in words.
 fn plain_reply(alloc: Global, accounts: &mut Vec<Account>, words: &[&str]) -> Result<String, Fail> {
-    for account in accounts.iter_mut() {
-        match words {
-            ["balance", name] if *name == account.name => {
+    let reply = match words {
+        ["balance", name] => match accounts.iter().find(|account| account.name == *name) {
+            Some(account) => {
                 let total = money(alloc, account.savings.saturating_add(account.checking))?;
                 return Ok(format!(in alloc; "shown {total}")?);
             }
-            ["deposit", name, amount] if *name == account.name => {
-                let amount = cents(amount);
-                let sum = account.checking.saturating_add(amount);
-                if amount < 0 {
-                    return Ok(String::from_str(alloc, "negative")?);
-                }
-                if sum > 1_000_000_000_000 {
-                    return Ok(String::from_str(alloc, "over limit")?);
-                }
-                account.checking = sum;
-                return Ok(String::from_str(alloc, "done")?);
+            None => "no customer",
+        },
+        ["amalgamate", from, to] => amalgamate(accounts, from, to),
+        [verb, name, amount] => {
+            let amount = cents(amount);
+            match accounts.iter_mut().find(|account| account.name == *name) {
+                Some(account) if *verb == "deposit" => deposit(account, amount),
+                Some(account) if *verb == "savings" => transact(account, amount),
+                Some(account) => check(account, amount),
+                None => "no customer",
             }
-            _ => {}
+        }
+        _ => "no such call",
+    };
+    Ok(String::from_str(alloc, reply)?)
+}
+
+fn deposit(account: &mut Account, amount: i64) -> &'static str {
+    let sum = account.checking.saturating_add(amount);
+    if amount < 0 {
+        return "negative";
+    }
+    if sum > LIMIT {
+        return "over limit";
+    }
+    account.checking = sum;
+    "done"
+}
+
+fn transact(account: &mut Account, amount: i64) -> &'static str {
+    let sum = account.savings.saturating_add(amount);
+    if sum < 0 {
+        return "would overdraw";
+    }
+    if sum > LIMIT {
+        return "over limit";
+    }
+    account.savings = sum;
+    "done"
+}
+
+fn check(account: &mut Account, amount: i64) -> &'static str {
+    if amount < 0 {
+        return "negative";
+    }
+    let is_short = account.savings.saturating_add(account.checking) < amount;
+    let penalty = if is_short { 100 } else { 0 };
+    let left = account
+        .checking
+        .saturating_sub(amount)
+        .saturating_sub(penalty);
+    if left < -LIMIT {
+        return "over limit";
+    }
+    account.checking = left;
+    if is_short { "penalised" } else { "done" }
+}
+
+fn amalgamate(accounts: &mut Vec<Account>, from: &str, to: &str) -> &'static str {
+    let Some(giver) = accounts.iter().find(|account| account.name == from) else {
+        return "no customer";
+    };
+    let moved = giver.savings.saturating_add(giver.checking);
+    let Some(taker) = accounts.iter().find(|account| account.name == to) else {
+        return "no customer";
+    };
+    let sum = taker.checking.saturating_add(moved);
+    if from == to {
+        return "same customer";
+    }
+    if sum > LIMIT || sum < -LIMIT {
+        return "over limit";
+    }
+    for account in accounts.iter_mut() {
+        if account.name == from {
+            account.savings = 0;
+            account.checking = 0;
+        }
+        if account.name == to {
+            account.checking = sum;
         }
     }
-    Ok(String::from_str(alloc, "no customer")?)
+    "done"
 }
 
 // The cents of a money text.

@@ -4,8 +4,9 @@ ghost use Rattle.std.specs.Io.KnownBytes.{Appends};
 ghost use Rattle.smallbank.specs.Faults.{Writes, Blames, WritesNothing};
 ghost use Rattle.smallbank.specs.Output.{output_of};
 
-use crate::asked::read_calls;
-use crate::execution::answer_calls;
+use crate::answers::push_answers;
+use crate::asking::ask_lines;
+use crate::execution::carry_out;
 use crate::fault::{InputFault, RunFault};
 use crate::input::read_all;
 use crate::listing::list_rows;
@@ -65,10 +66,11 @@ fn output_text(alloc: Global, input: &[u8]) -> Result<Vec<u8>, RunFault>
         }
     };
     let first_line = opening.directory.len() + 2;
-    let calls = read_calls(alloc, &input[opening.place..], first_line)?;
+    let asking = ask_lines(alloc, &input[opening.place..], first_line)?;
     let mut columns = opening.columns;
+    let replies = carry_out(alloc, &asking.sequencer, &opening.directory, &mut columns)?;
     let mut output = Vec::new(alloc);
-    answer_calls(&calls, &opening.directory, &mut columns, &mut output)?;
+    push_answers(&asking.outcomes, &replies, &mut output)?;
     list_rows(&opening.directory, &columns, &mut output)?;
     Ok(output)
 }

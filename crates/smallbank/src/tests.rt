@@ -105,12 +105,17 @@ fn as_a_plain_program(rt: HostRuntime) -> Result<(), Fail> {
             .wrapping_mul(6_364_136_223_846_793_005)
             .wrapping_add(1_442_695_040_888_963_407);
         let customer = (seed >> 33) % 10;
-        let whole = (seed >> 40) % 5_000_000_000;
-        let call = match (seed >> 20) % 4 {
+        let other = (seed >> 37) % 10;
+        let whole = (seed >> 24) % 5_000_000_000;
+        let call = match (seed >> 20) % 8 {
             0 => format!(in alloc; "balance c{customer}\n")?,
             1 => format!(in alloc; "deposit c{customer} -{whole}.07\n")?,
-            2 => format!(in alloc; "deposit c{customer} {customer}.99\n")?,
-            _ => format!(in alloc; "deposit c{customer} {whole}.00\n")?,
+            2 => format!(in alloc; "deposit c{customer} {whole}.00\n")?,
+            3 => format!(in alloc; "savings c{customer} {whole}.50\n")?,
+            4 => format!(in alloc; "savings c{customer} -{whole}.50\n")?,
+            5 => format!(in alloc; "check c{customer} {whole}.25\n")?,
+            6 => format!(in alloc; "check c{customer} {other}.00\n")?,
+            _ => format!(in alloc; "amalgamate c{customer} c{other}\n")?,
         };
         input.push_str(call.as_str())?;
     }
@@ -121,6 +126,58 @@ fn as_a_plain_program(rt: HostRuntime) -> Result<(), Fail> {
         input.as_str().as_bytes(),
         output.as_str().as_bytes(),
     )
+}
+
+#[test]
+fn five_calls_one_by_one(rt: HostRuntime) -> Result<(), Fail> {
+    let calls =
+        b"balance alice\ndeposit bob 5.00\nsavings carol -10.00\ncheck alice 150.00\namalgamate alice bob\n";
+    let output =
+        b"1 shown 150.00\n2 done\n3 done\n4 done\n5 done\nalice 0.00 0.00\nbob 0.00 25.00\ncarol 0.00 0.00\ntotal 25.00\n";
+    expect_after_opening(&rt, rt.alloc(), calls, output)
+}
+
+#[test]
+fn a_check_one_cent_above_the_sum(rt: HostRuntime) -> Result<(), Fail> {
+    let output =
+        b"1 penalised\nalice 100.00 50.00\nbob 0.00 -1.01\ncarol 10.00 0.00\ntotal 158.99\n";
+    expect_after_opening(&rt, rt.alloc(), b"check bob 20.01\n", output)
+}
+
+#[test]
+fn an_overdraw_of_savings(rt: HostRuntime) -> Result<(), Fail> {
+    let output =
+        b"1 would overdraw\nalice 100.00 50.00\nbob 0.00 20.00\ncarol 10.00 0.00\ntotal 180.00\n";
+    expect_after_opening(&rt, rt.alloc(), b"savings carol -10.01\n", output)
+}
+
+#[test]
+fn unknown_and_equal_names(rt: HostRuntime) -> Result<(), Fail> {
+    let output =
+        b"1 no customer\n2 same customer\nalice 100.00 50.00\nbob 0.00 20.00\ncarol 10.00 0.00\ntotal 180.00\n";
+    expect_after_opening(
+        &rt,
+        rt.alloc(),
+        b"amalgamate zed zed\namalgamate bob bob\n",
+        output,
+    )
+}
+
+#[test]
+fn repeats_and_a_mismatch(rt: HostRuntime) -> Result<(), Fail> {
+    let calls = b"ask 1 1 balance alice\nask 1 1 balance alice\nask 1 1 deposit alice 1.00\n";
+    let output =
+        b"1 shown 150.00\n1 shown 150.00\nmismatch 1\nalice 100.00 50.00\nbob 0.00 20.00\ncarol 10.00 0.00\ntotal 180.00\n";
+    expect_after_opening(&rt, rt.alloc(), calls, output)
+}
+
+#[test]
+fn keys_beside_lines_without_one(rt: HostRuntime) -> Result<(), Fail> {
+    let calls =
+        b"deposit alice 1.00\nask 7 1 deposit alice 2.00\ndeposit alice 1.00\nask 7 1 deposit alice 2.00\nask 7 2 balance alice\nask 8 1 balance alice\n";
+    let output =
+        b"1 done\n2 done\n3 done\n2 done\n4 shown 154.00\n5 shown 154.00\nalice 100.00 54.00\nbob 0.00 20.00\ncarol 10.00 0.00\ntotal 184.00\n";
+    expect_after_opening(&rt, rt.alloc(), calls, output)
 }
 
 #[test]
@@ -190,7 +247,7 @@ fn calls_at_fault(rt: HostRuntime) -> Result<(), Fail> {
     expect_fault(
         &rt,
         alloc,
-        b"begin\nsavings bob 1.00\n",
+        b"begin\npay bob 1.00\n",
         2,
         InputFault::Call(CallFault::UnknownVerb),
         "smallbank: line 2: unknown verb",
@@ -218,6 +275,14 @@ fn calls_at_fault(rt: HostRuntime) -> Result<(), Fail> {
         2,
         InputFault::Call(CallFault::BadMoney),
         "smallbank: line 2: bad money",
+    )?;
+    expect_fault(
+        &rt,
+        alloc,
+        b"begin\nask 0 1 balance a\n",
+        2,
+        InputFault::Call(CallFault::BadNumber),
+        "smallbank: line 2: bad number",
     )
 }
 
@@ -242,14 +307,19 @@ fn too_many_customers(rt: HostRuntime) -> Result<(), Fail> {
 #[test]
 fn calls_past_a_full_log(rt: HostRuntime) -> Result<(), Fail> {
     let alloc = rt.alloc();
-    let mut input = Vec::from_slice(alloc, b"a 0.00 0.00\nbegin\n")?;
-    let mut output: Vec<u8> = Vec::new(alloc);
-    for i in 1..1_000_001u32 {
+    let mut input = Vec::from_slice(alloc, b"a 0.00 0.00\nbegin\nask 9 9 deposit a 0.01\n")?;
+    let mut output = Vec::from_slice(alloc, b"1 done\n")?;
+    for i in 2..1_000_001u32 {
         input.extend_from_slice(b"deposit a 0.01\n")?;
         writeln!(output, "{i} done")?;
     }
-    input.extend_from_slice(b"deposit a 0.01\nbalance a\n")?;
-    output.extend_from_slice(b"log full\nlog full\na 0.00 10000.00\ntotal 10000.00\n")?;
+    // New keys find no room; the first key keeps its number.
+    input.extend_from_slice(
+        b"deposit a 0.01\nask 9 8 balance a\nask 9 9 deposit a 0.01\nask 9 9 balance a\n",
+    )?;
+    output.extend_from_slice(
+        b"log full\nlog full\n1 done\nmismatch 1\na 0.00 10000.00\ntotal 10000.00\n",
+    )?;
     expect_output(&rt, alloc, &input, &output)
 }
 

@@ -1,4 +1,4 @@
-use Rattle.std.proofs.Common.{◌≡◌, ◌<◌, ◌++◌, ◌+◌, Some, [], ap, map, drop, sym, ◌∙◌, length, arith, append-nil}
+use Rattle.std.proofs.Common.{◌++◌, ◌+◌, ap, map, drop, sym, ◌∙◌, arith, append-nil}
 use Rattle.sb_rows.specs.Customer.{customers_of}
 use Rattle.sb_rows.specs.Opening.{customer_line}
 use Rattle.sb_rows.specs.Text.{unlines}

@@ -1,4 +1,4 @@
-use Rattle.std.proofs.Common.{◌≡◌, ◌<◌, ◌≤◌, ℤ, pos, ◌+ℤ◌, [], Some, slice_get, get_or, drop, length, ap, arith}
+use Rattle.std.proofs.Common.{◌≡◌, ◌<◌, pos, [], get_or, drop, length, ap, arith}
 use Rattle.std.proofs.lemmas.Int.{ints}
 use Rattle.std.proofs.lemmas.Option.{slice_get-get_or}
 use Rattle.sb_rows.specs.Customer.{customers_of}

@@ -1,0 +1,4 @@
+pub mod Answer
+pub mod Fault
+pub mod Log
+pub mod Numbering

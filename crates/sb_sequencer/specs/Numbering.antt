@@ -1,0 +1,38 @@
+-- The numbering: the first ask of each key, in order.
+use Rattle.std.specs.Prelude.{◌≢◌, ℕ, zero, suc, ◌≤◌, ◌==◌, Bool, ◌&&◌, if◌then◌else◌, Option, None, List, [], ◌∷◌, ◌++◌, length, take, slice_get, position}
+use Rattle.std.specs.List.{list_any, AllPairs}
+use Rattle.std.specs.Option.{option_map}
+use Rattle.sb_calls.specs.declared.ask.Key.{Key}
+use Rattle.sb_calls.specs.declared.call.Call.{Call}
+use Rattle.sb_sequencer.specs.declared.sequencer.TheConstants.{LOG_CALLS}
+
+abbrev pub same_key : Key → Key → Bool
+same_key a b = (a.client == b.client) && (a.request == b.request)
+
+-- whether one of these asks has the key
+abbrev pub has_key : List (Key × Call) → Key → Bool
+has_key asks key = list_any (λ ask. same_key key ask.0) asks
+
+-- of these asks, those whose key stands nowhere earlier; before are the asks before these
+abbrev pub firsts_after : List (Key × Call) → List (Key × Call) → List (Key × Call)
+firsts_after before [] = []
+firsts_after before (ask ∷ asks) =
+    if has_key before ask.0 then firsts_after (before ++ ask ∷ []) asks else ask ∷ firsts_after (before ++ ask ∷ []) asks
+
+-- the log: the first asks of each key, in order, at most 1,000,000
+unfoldable pub first_asks : List (Key × Call) → List (Key × Call)
+first_asks asks = take LOG_CALLS (firsts_after [] asks)
+
+-- the place of a key in a log, from 0
+abbrev pub place_of_key : List (Key × Call) → Key → Option ℕ
+place_of_key log key = position (λ entry. same_key key entry.0) log
+
+-- the call with a number, counted from 1
+abbrev pub call_at : List (Key × Call) → ℕ → Option Call
+call_at log zero = None
+call_at log (suc k) = option_map (λ entry. entry.1) (slice_get log k)
+
+-- keys are all different, and no more calls than a log takes
+pub record IsLog (log : List (Key × Call)) : Type 0 where
+  pub few : length log ≤ LOG_CALLS
+  pub different : AllPairs (λ a b. a.0 ≢ b.0) log

@@ -1,0 +1,12 @@
+//! What the log is after many asks.
+ghost use Rattle.std.specs.Prelude.{◌≡◌, List, []};
+ghost use Rattle.sb_calls.specs.declared.ask.Key.{Key as AnyKey};
+ghost use Rattle.sb_calls.specs.declared.call.Call.{Call as AnyCall};
+ghost use Rattle.sb_sequencer.specs.Log.{log_after};
+ghost use Rattle.sb_sequencer.specs.Numbering.{first_asks};
+
+/// Asked one by one from an empty log, a list of asks leaves the first ask of each key, in order, as
+/// many as a log takes.
+pub fn numbering()
+    ensures { (asks : List (AnyKey × AnyCall)) → log_after [] asks ≡ first_asks asks }
+{}

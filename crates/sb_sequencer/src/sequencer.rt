@@ -1,0 +1,123 @@
+//! The log of numbered requests.
+ghost use Rattle.std.specs.Prelude.{◌≡◌, ◌≢◌, ◌<◌, ◌≤◌, ◌↔◌, [], ◌∷◌, ◌++◌, length, List, IsTrue, OnOk, OnErr};
+ghost use Rattle.sb_calls.specs.declared.ask.Key.{Key as AnyKey};
+ghost use Rattle.sb_calls.specs.declared.call.Call.{Call as AnyCall};
+ghost use Rattle.sb_sequencer.specs.Answer.{IsAnswered, LogAfter, Numbers};
+ghost use Rattle.sb_sequencer.specs.Log.{log_with};
+ghost use Rattle.sb_sequencer.specs.Numbering.{IsLog, call_at, place_of_key};
+
+use crate::answer::{AskFault, Numbered};
+use indexmap::IndexMap;
+use sb_calls::{Call, Key};
+use std::alloc::{AllocError, Global};
+use std::marker::Model;
+
+/// How many calls a log takes.
+pub const LOG_CALLS: usize = 1_000_000;
+
+/// Numbers clients' requests into one log: each key once, in the order of first asks.
+#[derive(Drop)]
+pub struct Sequencer {
+    log: IndexMap<Key, Call>,
+}
+
+impl Model for Sequencer {
+    ghost use Rattle.std.specs.Prelude.{List};
+    ghost use Rattle.sb_calls.specs.declared.ask.Key.{Key as AnyKey};
+    ghost use Rattle.sb_calls.specs.declared.call.Call.{Call as AnyCall};
+    ghost use Rattle.sb_sequencer.specs.Numbering.{IsLog};
+
+    ghost Value = { List (AnyKey × AnyCall) };
+
+    ghost view = { λ s. s.log.entries };
+
+    ghost invariant = { λ s. IsLog s.log.entries };
+}
+
+// Whether two calls are the same call.
+fn same_call(a: &Call, b: &Call) -> bool
+    ensures { IsTrue result ↔ (a.now ≡ b.now) }
+{
+    a == b
+}
+
+impl Sequencer {
+    /// A sequencer with an empty log.
+    pub fn open(alloc: Global) -> Sequencer
+        ensures { result ≡ [] }
+    {
+        Sequencer {
+            log: IndexMap::new(alloc),
+        }
+    }
+
+    /// How many calls have a number.
+    pub fn length(&self) -> u64
+        ensures value { result ≡ length self.now }
+        ensures valid { IsLog self.now }
+    {
+        self.log.len() as u64
+    }
+
+    /// The call with this number, counted from 1, or `None` where there is none.
+    pub fn call(&self, number: u64) -> Option<Call>
+        ensures { result ≡ call_at self.now number }
+    {
+        let place = number.checked_sub(1)?;
+        let (_, call) = self.log.get_index(place as usize)?;
+        Some(*call)
+    }
+
+    // Whether the log takes no more calls.
+    fn is_full(&self) -> bool
+        ensures { IsTrue result ↔ (LOG_CALLS ≤ length self.now) }
+    {
+        self.log.len() >= LOG_CALLS
+    }
+
+    // Puts the call of a new key last. Where memory is refused nothing changes.
+    fn push(&mut self, key: Key, call: Call) -> Result<(), AllocError>
+        requires new { place_of_key self.old key ≡ None }
+        requires room { length self.old < LOG_CALLS }
+        ensures ok { OnOk result (self.new ≡ self.old ++ (key, call) ∷ []) }
+        ensures err { OnErr result (self.new ≡ self.old) }
+    {
+        self.log.insert(key, call)?;
+        Ok(())
+    }
+
+    /// Numbers a request, or tells the number that it has already.
+    ///
+    /// Fails with
+    /// - [`AskFault::Mismatch`] where the key has a number with another call,
+    /// - [`AskFault::LogFull`] where the key is new and the log has [`LOG_CALLS`] calls,
+    /// - [`AskFault::OutOfMemory`] where the key is new and memory is refused.
+    ///
+    /// The log is as before after a repeat and after each fault.
+    pub fn ask(&mut self, client: u32, request: u32, call: &Call) -> Result<Numbered, AskFault>
+        // By the log as it was.
+        ensures answer { IsAnswered self.old (record { client = client; request = request }, call.now) result }
+        // Only a new number changes the log.
+        ensures log { LogAfter self.old (record { client = client; request = request }, call.now) result self.new }
+        // Unless memory is refused, the log is the one that this ask makes of it.
+        ensures step { result ≢ Err AskFault.OutOfMemory → self.new ≡ log_with self.old (record { client = client; request = request }, call.now) }
+        // Whatever was asked before, the log is the first asks of each key.
+        ensures numbering { (asks : List (AnyKey × AnyCall)) → Numbers asks self.old (record { client = client; request = request }, call.now) result self.new }
+    {
+        let key = Key { client, request };
+        if let Some((place, _, numbered)) = self.log.get_full(&key) {
+            let number = place as u64 + 1;
+            if !same_call(numbered, call) {
+                return Err(AskFault::Mismatch(number));
+            }
+            return Ok(Numbered::Repeat(number));
+        }
+        if self.is_full() {
+            return Err(AskFault::LogFull);
+        }
+        match self.push(key, *call) {
+            Ok(()) => Ok(Numbered::New(self.length())),
+            Err(_) => Err(AskFault::OutOfMemory),
+        }
+    }
+}
