@@ -52,6 +52,7 @@ pub(crate) fn call_with(verb: &[u8], rest: Option<&[u8]>) -> Result<Call, CallFa
 }
 
 // The one name that is left, whatever call it is for.
+#[inline]
 fn one_name(rest: Option<&[u8]>) -> Result<Name, CallFault>
     ensures { (call : List ℕ → AnyCall) → result_map_both call (λ fault. fault) result ≡ of_name call (words_left (option_map (λ text. text.now) rest.entry)) }
 {
@@ -59,6 +60,7 @@ fn one_name(rest: Option<&[u8]>) -> Result<Name, CallFault>
 }
 
 // The name and the amount that are left, whatever call they are for.
+#[inline]
 fn name_and_amount(rest: Option<&[u8]>) -> Result<(Name, Cents), CallFault>
     ensures { (call : List ℕ → ℤ → AnyCall) → result_map_both (λ both. call both.0 both.1) (λ fault. fault) result ≡ of_name_and_amount call (words_left (option_map (λ text. text.now) rest.entry)) }
 {
@@ -67,6 +69,7 @@ fn name_and_amount(rest: Option<&[u8]>) -> Result<(Name, Cents), CallFault>
 }
 
 // The two names that are left, whatever call they are for.
+#[inline]
 fn two_names(rest: Option<&[u8]>) -> Result<(Name, Name), CallFault>
     ensures { (call : List ℕ → List ℕ → AnyCall) → result_map_both (λ both. call both.0 both.1) (λ fault. fault) result ≡ of_two_names call (words_left (option_map (λ text. text.now) rest.entry)) }
 {
@@ -75,6 +78,7 @@ fn two_names(rest: Option<&[u8]>) -> Result<(Name, Name), CallFault>
 }
 
 // The one word that is left.
+#[inline]
 fn one_word(rest: Option<&[u8]>) -> Result<&[u8], CallFault>
     ensures { let left = words_left (option_map (λ text. text.now) rest.entry) in MatchResult result
         (λ word. left ≡ word.now ∷ [])
@@ -88,6 +92,7 @@ fn one_word(rest: Option<&[u8]>) -> Result<&[u8], CallFault>
 }
 
 // The two words that are left.
+#[inline]
 fn two_words(rest: Option<&[u8]>) -> Result<(&[u8], &[u8]), CallFault>
     ensures { let left = words_left (option_map (λ text. text.now) rest.entry) in MatchResult result
         (λ two. left ≡ two.0.now ∷ two.1.now ∷ [])
@@ -98,6 +103,7 @@ fn two_words(rest: Option<&[u8]>) -> Result<(&[u8], &[u8]), CallFault>
 }
 
 // The name that a word is.
+#[inline]
 fn name_of(word: &[u8]) -> Result<Name, CallFault>
     ensures { result ≡ if is_name word.now then Ok word.now else Err CallFault.BadName }
 {
@@ -105,6 +111,7 @@ fn name_of(word: &[u8]) -> Result<Name, CallFault>
 }
 
 // The amount that a word is.
+#[inline]
 fn amount_of(word: &[u8]) -> Result<Cents, CallFault>
     ensures { (call : ℤ → AnyCall) → result_map_both call (λ fault. fault) result ≡ with_amount call (read_money word.now) }
 {

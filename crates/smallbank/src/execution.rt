@@ -21,7 +21,7 @@ pub fn carry_out(
     ensures rows { IfOk result (λ replies. rows_of directory.now columns.new ≡ rows_after (calls_of log.now) (rows_of directory.now columns.old)) }
     ensures customers { IfOk result (λ replies. SameCustomers directory.now columns.new) }
 {
-    let mut replies = Vec::new(alloc);
+    let mut replies = Vec::with_capacity(alloc, log.length() as usize)?;
     for place in 0..log.length() {
         let call = log.call(place + 1).unwrap();
         replies.push(apply(columns, resolve(directory, &call)))?;

@@ -14,7 +14,7 @@ pub enum InputFault {
     /// The line belongs to the opening.
     #[error(transparent)]
     Opening(LineFault),
-    /// The line is asked as a call.
+    /// The line is an asking line.
     #[error(transparent)]
     Call(CallFault),
 }

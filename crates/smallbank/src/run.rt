@@ -15,7 +15,7 @@ use std::alloc::Global;
 use std::io;
 use std::io::{Read, Write};
 
-/// Reads an opening text and call lines, and writes the answers, the rows and the total.
+/// Reads an opening text and asking lines, and writes the answers, the rows and the total.
 ///
 /// The whole input is read and checked before anything is written. Fails with
 /// - [`RunFault::Input`] at the first line at fault; nothing was written then,
@@ -36,7 +36,7 @@ pub fn run_text<R: Read, W: Write>(
     ensures unwritten { IfErr result (λ fault. WritesNothing fault (W.contents writer.old) (W.contents writer.new)) }
 {
     let input = read_all(alloc, reader)?;
-    let output = output_text(alloc, &input)?;
+    let output = output_text(alloc, input)?;
     match write_whole(writer, &output) {
         Ok(()) => Ok(()),
         Err(_) => Err(RunFault::Device),
@@ -52,10 +52,10 @@ fn write_whole<W: Write>(writer: &mut W, text: &[u8]) -> io::Result<()>
 }
 
 // The output of an input.
-fn output_text(alloc: Global, input: &[u8]) -> Result<Vec<u8>, RunFault>
-    ensures { MatchResult result (λ output. output_of input.now ≡ Ok output.items) (λ fault. Blames fault (output_of input.now)) }
+fn output_text(alloc: Global, input: Vec<u8>) -> Result<Vec<u8>, RunFault>
+    ensures { MatchResult result (λ output. output_of input.items ≡ Ok output.items) (λ fault. Blames fault (output_of input.items)) }
 {
-    let opening = match read_opening(alloc, input) {
+    let opening = match read_opening(alloc, &input) {
         Ok(opening) => opening,
         Err(OpeningFault::OutOfMemory) => return Err(RunFault::OutOfMemory),
         Err(OpeningFault::Line { line, fault }) => {
@@ -67,6 +67,8 @@ fn output_text(alloc: Global, input: &[u8]) -> Result<Vec<u8>, RunFault>
     };
     let first_line = opening.directory.len() + 2;
     let asking = ask_lines(alloc, &input[opening.place..], first_line)?;
+    // The output may take the input's place in memory.
+    drop(input);
     let mut columns = opening.columns;
     let replies = carry_out(alloc, &asking.sequencer, &opening.directory, &mut columns)?;
     let mut output = Vec::new(alloc);

@@ -1,6 +1,6 @@
 use Rattle.std.proofs.Common.{◌≡◌, ℕ, ◌+◌, ◌-◌, Ok, List, [], ◌++◌, length, map, take, drop, sym, ap, subst, ◌∙◌, arith, length-drop}
 use Rattle.std.proofs.lemmas.List.{take_all}
-use Rattle.sb_rows.specs.Opening.{OpeningText}
+use Rattle.sb_rows.specs.Opening.{OpeningText, opening_of}
 use Rattle.sb_rows.specs.Text.{lines, unlines}
 use Rattle.sb_calls.specs.declared.reply.Reply.{Reply}
 use Rattle.smallbank.specs.Asking.{IsAsking}
@@ -12,7 +12,7 @@ use Rattle.smallbank.proofs.run.output_text.Goals as goal
 
 pub returns : goal.returns
 returns c =
-    let input = c.args.input.now in
+    let input = c.args.input.items in
     let opening : OpeningText = record { names = c.in-Ok.opening.directory; balances = c.in-Ok.opening.columns; place = c.in-Ok.opening.place } in
     let log = c.in_ok-asking.asking.sequencer in
     let outcomes = c.in_ok-asking.asking.outcomes.items in
@@ -20,10 +20,12 @@ returns c =
     take_all (length input - opening.place) (drop opening.place input) (omega (arith, length-drop opening.place input)) in
     let asked : IsAsking (asks_from (length opening.names + 2) [] (lines (drop opening.place input))) log outcomes =
     subst (λ (n : ℕ). IsAsking (asks_from (n + 2) [] (lines (drop opening.place input))) log outcomes) c.len-first_line.ensures.value
-    (subst (λ (text : List ℕ). IsAsking (asks_from (c.len-first_line.result + 2) [] (lines text)) log outcomes) rest c.in_ok-asking.ensures) in
+    (subst (λ (text : List ℕ). IsAsking (asks_from (c.len-first_line.result + 2) [] (lines text)) log outcomes) rest
+    (subst (λ (text : List ℕ). IsAsking (asks_from (c.len-first_line.result + 2) [] (lines (take (length text - opening.place) (drop opening.place text)))) log outcomes)
+    c.deref-2.ensures.value c.in_ok-asking.ensures)) in
     let lines_of : List Reply → List ℕ = λ replies. unlines (map (outcome_line replies) outcomes) in
     let told : c.push_answers.new.out.items ≡ lines_of c.in_ok-replies.replies.items =
-    c.in_ok-push_answers.ensures ∙ (λ j. c.new-output.ensures.items j ++ unlines (map (outcome_line (c.deref-2.ensures.value j)) (c.deref.ensures.value j))) in
-    output_is input opening log outcomes c.in-Ok.ensures.exact asked
+    c.in_ok-push_answers.ensures ∙ (λ j. c.new-output.ensures.items j ++ unlines (map (outcome_line (c.deref-4.ensures.value j)) (c.deref-3.ensures.value j))) in
+    output_is input opening log outcomes (sym (ap opening_of c.deref.ensures.value) ∙ c.in-Ok.ensures.exact) asked
     ∙ ap Ok (sym (c.in_ok-list_rows.ensures
     ∙ λ j. (told ∙ ap lines_of c.in_ok-replies.ensures.replies) j ++ unlines (row_lines opening.names (c.in_ok-replies.ensures.rows j))))

@@ -1,0 +1,168 @@
+//! Runs the product and the plain program on the same inputs: both must write the same bytes, and one
+//! table tells the time and the memory of each.
+//!
+//! `beside PRODUCT PLAIN FOLDER`; inputs and outputs are kept in the folder.
+//! `beside workload SEED CUSTOMERS LINES` writes a workload to standard output.
+
+mod faulty;
+mod measure;
+mod random;
+mod workload;
+
+use measure::{Measure, run};
+use std::error::Error;
+use std::fs::File;
+use std::io::{self, BufRead, BufReader, BufWriter, Write};
+use std::path::{Path, PathBuf};
+use std::process::{Command, Output, Stdio};
+use std::{env, fs};
+use workload::Workload;
+
+const RUNS: usize = 5;
+const SEED: u64 = 20;
+const FAULTY_INPUTS: u64 = 500;
+
+// Customers and lines of each row of the table.
+const ROWS: [(u32, u32); 4] = [
+    (20_000, 1_000),
+    (20_000, 100_000),
+    (20_000, 900_000),
+    (65_536, 1_000),
+];
+
+type Answer<T> = Result<T, Box<dyn Error>>;
+
+/// Where the programs are, and where their inputs and outputs go.
+struct Bench {
+    product: PathBuf,
+    plain: PathBuf,
+    folder: PathBuf,
+}
+
+impl Bench {
+    /// Compares all that both do on small inputs, most of them at fault.
+    fn compare_small(&self) -> Answer<()> {
+        let mut refused = 0;
+        for seed in 0..FAULTY_INPUTS {
+            let input = faulty::input(seed);
+            let path = self.folder.join("small.txt");
+            fs::write(&path, &input)?;
+            let product = output(&self.product, &path)?;
+            let plain = output(&self.plain, &path)?;
+            if product != plain {
+                return Err(format!(
+                    "they differ on {}: {product:?} and {plain:?}",
+                    path.display()
+                )
+                .into());
+            }
+            if !product.status.success() {
+                refused += 1;
+            }
+        }
+        println!(
+            "{FAULTY_INPUTS} small inputs, {refused} of them refused: the same status, output and error text\n"
+        );
+        Ok(())
+    }
+
+    /// Measures both on one workload, in turn, and prints a row of the table.
+    fn compare_large(&self, workload: &Workload) -> Answer<()> {
+        let input = self.folder.join("input.txt");
+        let mut file = BufWriter::new(File::create(&input)?);
+        workload.write(&mut file)?;
+        file.flush()?;
+        let outputs = (
+            self.folder.join("product.txt"),
+            self.folder.join("plain.txt"),
+        );
+        let mut product = Vec::new();
+        let mut plain = Vec::new();
+        for _ in 0..RUNS {
+            product.push(run(&self.product, &input, &outputs.0)?);
+            plain.push(run(&self.plain, &input, &outputs.1)?);
+        }
+        if !same_bytes(&outputs.0, &outputs.1)? {
+            return Err(format!("their outputs differ on {}", input.display()).into());
+        }
+        print_row(workload, Measure::median(&product), Measure::median(&plain));
+        Ok(())
+    }
+}
+
+fn output(program: &Path, input: &Path) -> io::Result<Output> {
+    Command::new(program)
+        .stdin(Stdio::from(File::open(input)?))
+        .output()
+}
+
+// By pieces: what this process holds in memory would count as the measured program's.
+fn same_bytes(first: &Path, second: &Path) -> io::Result<bool> {
+    let mut first = BufReader::new(File::open(first)?);
+    let mut second = BufReader::new(File::open(second)?);
+    loop {
+        let (a, b) = (first.fill_buf()?, second.fill_buf()?);
+        let count = a.len().min(b.len());
+        if count == 0 {
+            return Ok(a.len() == b.len());
+        }
+        if a[..count] != b[..count] {
+            return Ok(false);
+        }
+        first.consume(count);
+        second.consume(count);
+    }
+}
+
+fn print_row(workload: &Workload, product: Measure, plain: Measure) {
+    let milliseconds = |measure: &Measure| measure.time.as_secs_f64() * 1e3;
+    let megabytes = |measure: &Measure| measure.peak_kib as f64 / 1024.0;
+    println!(
+        "| {} | {} | {:.1} | {:.1} | {:.2} | {:.0} | {:.1} | {:.1} | {:.2} |",
+        workload.customers,
+        workload.lines,
+        milliseconds(&product),
+        milliseconds(&plain),
+        milliseconds(&product) / milliseconds(&plain),
+        f64::from(workload.lines) / product.time.as_secs_f64(),
+        megabytes(&product),
+        megabytes(&plain),
+        megabytes(&product) / megabytes(&plain),
+    );
+}
+
+fn print_head() {
+    println!(
+        "| customers | lines | ms | ms, plain | ratio | lines a second | MiB | MiB, plain | ratio |"
+    );
+    println!("|---|---|---|---|---|---|---|---|---|");
+}
+
+fn main() -> Answer<()> {
+    let words: Vec<String> = env::args().skip(1).collect();
+    match words.iter().map(String::as_str).collect::<Vec<_>>()[..] {
+        ["workload", seed, customers, lines] => {
+            let workload = Workload::new(seed.parse()?, customers.parse()?, lines.parse()?);
+            workload.write(&mut BufWriter::new(io::stdout().lock()))?;
+        }
+        [product, plain, folder] => {
+            let bench = Bench {
+                product: product.into(),
+                plain: plain.into(),
+                folder: folder.into(),
+            };
+            bench.compare_small()?;
+            print_head();
+            for (customers, lines) in ROWS {
+                bench.compare_large(&Workload::new(SEED, customers, lines))?;
+            }
+        }
+        _ => {
+            return Err(
+                "usage: beside PRODUCT PLAIN FOLDER, or beside workload SEED CUSTOMERS LINES"
+                    .into(),
+            );
+        }
+    }
+    Ok(())
+}
