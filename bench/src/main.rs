@@ -10,6 +10,7 @@ mod random;
 mod workload;
 
 use measure::{Measure, run};
+use std::collections::BTreeMap;
 use std::error::Error;
 use std::fs::File;
 use std::io::{self, BufRead, BufReader, BufWriter, Write};
@@ -40,29 +41,33 @@ struct Bench {
 }
 
 impl Bench {
-    /// Compares all that both do on small inputs, most of them at fault.
+    /// Compares all that both do on small inputs, most of them at fault, and tells how often each fault came.
     fn compare_small(&self) -> Answer<()> {
-        let mut refused = 0;
+        let mut faults: BTreeMap<String, u32> = BTreeMap::new();
+        let path = self.folder.join("small.txt");
         for seed in 0..FAULTY_INPUTS {
-            let input = faulty::input(seed);
-            let path = self.folder.join("small.txt");
-            fs::write(&path, &input)?;
+            fs::write(&path, faulty::input(seed))?;
             let product = output(&self.product, &path)?;
             let plain = output(&self.plain, &path)?;
             if product != plain {
-                return Err(format!(
-                    "they differ on {}: {product:?} and {plain:?}",
-                    path.display()
-                )
-                .into());
+                let path = path.display();
+                return Err(format!("they differ on {path}: {product:?} and {plain:?}").into());
             }
             if !product.status.success() {
-                refused += 1;
+                let told = String::from_utf8(product.stderr)?;
+                let fault = told.trim_end().rsplit(": ").next().unwrap_or_default();
+                *faults.entry(fault.to_owned()).or_default() += 1;
             }
         }
+        let refused: u32 = faults.values().sum();
         println!(
-            "{FAULTY_INPUTS} small inputs, {refused} of them refused: the same status, output and error text\n"
+            "The same status, output and error text on {FAULTY_INPUTS} small inputs, of which {refused} are refused:"
         );
+        let counts: Vec<String> = faults
+            .iter()
+            .map(|(fault, count)| format!("{fault} {count}"))
+            .collect();
+        println!("{}.\n", counts.join(", "));
         Ok(())
     }
 
