@@ -16,17 +16,17 @@ use Rattle.sb_calls.specs.declared.call.Call.TheVariants.{Amalgamate}
 use Rattle.sb_calls.specs.declared.reply.Reply.TheVariants.{Done, OverLimit}
 
 -- a number that is not within the limit is past it on one side
-past_limit_either : (v : ℤ) → ¬ IsWithinLimit v → (int_lt LIMIT v || int_lt v (neg_ℤ LIMIT)) ≡ true
+pub past_limit_either : (v : ℤ) → ¬ IsWithinLimit v → (int_lt LIMIT v || int_lt v (neg_ℤ LIMIT)) ≡ true
 past_limit_either v past =
     by_lt_z LIMIT v (λ above. or_left (int_lt LIMIT v) (int_lt v (neg_ℤ LIMIT)) (grind (arith, ints, above)))
     (λ most. by_lt_z v (neg_ℤ LIMIT) (λ below. or_right (int_lt LIMIT v) (int_lt v (neg_ℤ LIMIT)) (grind (arith, ints, below))) (λ least. absurd (past (record { at_least = least; at_most = most }))))
 
 -- and one that is within it is not
-within_limit : (v : ℤ) → IsWithinLimit v → (int_lt LIMIT v || int_lt v (neg_ℤ LIMIT)) ≡ false
+pub within_limit : (v : ℤ) → IsWithinLimit v → (int_lt LIMIT v || int_lt v (neg_ℤ LIMIT)) ≡ false
 within_limit v fits = or_from (int_lt LIMIT v) (int_lt v (neg_ℤ LIMIT)) (grind (arith, ints, fits.at_most)) (grind (arith, ints, fits.at_least))
 
 -- names at different places are different
-different_names : (directory : List (List ℕ)) (from to : List ℕ) (p q : ℕ) → place_of directory from ≡ Some p → place_of directory to ≡ Some q → p ≢ q → bytes_eq from to ≡ false
+pub different_names : (directory : List (List ℕ)) (from to : List ℕ) (p q : ℕ) → place_of directory from ≡ Some p → place_of directory to ≡ Some q → p ≢ q → bytes_eq from to ≡ false
 different_names directory from to p q found_from found_to differs = false_from_ne_true (bytes_eq from to) (λ same.
     let names : from ≡ to = (bytes_eq-Decides from to).0 same in
     let places : ◌≡◌ {A = Option ℕ} (Some p) (Some q) = sym found_from ∙ ap (place_of directory) names ∙ found_to in

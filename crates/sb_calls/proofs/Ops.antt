@@ -1,6 +1,6 @@
 -- Which call an op comes from.
-use Rattle.std.proofs.Common.{◌≡◌, ℕ, Bool, true, false, cond, ◌==◌, ◌⊎◌, inl, inr, List, Option, Some, None, refl, sym, ap, subst}
-use Rattle.std.proofs.lemmas.Bool.{eqb-true}
+use Rattle.std.proofs.Common.{◌≡◌, ◌≢◌, ℕ, Bool, true, false, cond, ◌==◌, ◌⊎◌, inl, inr, List, Option, Some, None, refl, sym, ap, subst}
+use Rattle.std.proofs.lemmas.Bool.{both_ways, eq-eqb, eqb-true}
 use Rattle.sb_rows.specs.Directory.{place_of}
 use Rattle.sb_calls.specs.Op.{at_place, at_two_places, resolved}
 use Rattle.sb_calls.specs.declared.call.Call.{Call}
@@ -22,7 +22,7 @@ ComesFrom directory (Balance place) call = (name : List ℕ) × (call ≡ calls.
 ComesFrom directory (DepositChecking place amount) call = (name : List ℕ) × (call ≡ calls.DepositChecking name amount) × (place_of directory name ≡ Some place)
 ComesFrom directory (TransactSavings place amount) call = (name : List ℕ) × (call ≡ calls.TransactSavings name amount) × (place_of directory name ≡ Some place)
 ComesFrom directory (Amalgamate places) call =
-    (from : List ℕ) × (to : List ℕ) × (call ≡ calls.Amalgamate from to) × (place_of directory from ≡ Some places.0) × (place_of directory to ≡ Some places.1)
+    (from : List ℕ) × (to : List ℕ) × (call ≡ calls.Amalgamate from to) × (place_of directory from ≡ Some places.0) × (place_of directory to ≡ Some places.1) × (places.0 ≢ places.1)
 ComesFrom directory (WriteCheck place amount) call = (name : List ℕ) × (call ≡ calls.WriteCheck name amount) × (place_of directory name ≡ Some place)
 ComesFrom directory NoCustomer call = HasMissingName directory call
 ComesFrom directory SameCustomer call =
@@ -34,7 +34,7 @@ made_at_place P op None there nowhere = nowhere refl
 made_at_place P op (Some p) there nowhere = there p refl
 
 -- an op made at two places, likewise
-made_at_two_places : (P : Op → Type 0) (from to : Option ℕ) → ((p q : ℕ) → from ≡ Some p → to ≡ Some q → P (Amalgamate (p, q))) → ((p : ℕ) → from ≡ Some p → to ≡ Some p → P SameCustomer)
+made_at_two_places : (P : Op → Type 0) (from to : Option ℕ) → ((p q : ℕ) → from ≡ Some p → to ≡ Some q → p ≢ q → P (Amalgamate (p, q))) → ((p : ℕ) → from ≡ Some p → to ≡ Some p → P SameCustomer)
     → ((from ≡ None) ⊎ (to ≡ None) → P NoCustomer) → P (at_two_places from to)
 made_at_two_places P None to there one nowhere = nowhere (inl refl)
 made_at_two_places P (Some p) None there one nowhere = nowhere (inr refl)
@@ -42,7 +42,7 @@ made_at_two_places P (Some p) (Some q) there one nowhere = by (p == q) refl
   where
     by : (same : Bool) → (p == q) ≡ same → P (cond same SameCustomer (Amalgamate (p, q)))
     by true e = one p refl (ap Some (sym (eqb-true p q e)))
-    by false e = there p q refl refl
+    by false e = there p q refl refl (λ one. both_ways (p == q) e (eq-eqb p q one))
 
 -- each call is one that its op comes from
 resolved_from : (directory : List (List ℕ)) (call : Call) → ComesFrom directory (resolved directory call) call
@@ -54,7 +54,7 @@ resolved_from directory (calls.TransactSavings name amount) =
     made_at_place (λ op. ComesFrom directory op (calls.TransactSavings name amount)) (λ place. TransactSavings place amount) (place_of directory name) (λ place found. (name, refl, found)) (λ missing. missing)
 resolved_from directory (calls.Amalgamate from to) =
     made_at_two_places (λ op. ComesFrom directory op (calls.Amalgamate from to)) (place_of directory from) (place_of directory to)
-    (λ p q found_from found_to. (from, to, refl, found_from, found_to)) (λ p found_from found_to. (from, to, p, refl, found_from, found_to)) (λ missing. missing)
+    (λ p q found_from found_to differs. (from, to, refl, found_from, found_to, differs)) (λ p found_from found_to. (from, to, p, refl, found_from, found_to)) (λ missing. missing)
 resolved_from directory (calls.WriteCheck name amount) =
     made_at_place (λ op. ComesFrom directory op (calls.WriteCheck name amount)) (λ place. WriteCheck place amount) (place_of directory name) (λ place found. (name, refl, found)) (λ missing. missing)
 

@@ -29,7 +29,7 @@ cost_of_amount s c amount = by (int_lt (s +ℤ c) amount)
     by false = omega (arith, ints)
 
 -- so a balance within the limit passes it only downwards by a check
-past_limit_downwards : (s c amount : ℤ) → IsWithinLimit c → int_lt amount (pos 0) ≡ false → ¬ IsWithinLimit (c -ℤ check_cost s c amount) → int_lt (c -ℤ check_cost s c amount) (neg_ℤ LIMIT) ≡ true
+pub past_limit_downwards : (s c amount : ℤ) → IsWithinLimit c → int_lt amount (pos 0) ≡ false → ¬ IsWithinLimit (c -ℤ check_cost s c amount) → int_lt (c -ℤ check_cost s c amount) (neg_ℤ LIMIT) ≡ true
 past_limit_downwards s c amount fits ge past = from (check_cost s c amount) (cost_of_amount s c amount) past
   where
     from : (cost : ℤ) → amount ≤ℤ cost → ¬ IsWithinLimit (c -ℤ cost) → int_lt (c -ℤ cost) (neg_ℤ LIMIT) ≡ true

@@ -1,8 +1,15 @@
 pub mod Ask
+pub mod Behaviour
+pub mod BehaviourLaws
+pub mod Bounds
+pub mod ByCowns
 pub mod Call
+pub mod Cowns
 pub mod Log
 pub mod Net
+pub mod OneByOne
 pub mod Op
 pub mod Performs
 pub mod Procedures
 pub mod Reply
+pub mod Touches

@@ -132,7 +132,7 @@ fn write_check(columns: &mut Columns, place: u32, amount: Cents) -> Reply
 }
 
 // What a check takes from checking, and what is replied where it is paid.
-fn cost_of_check(savings: Cents, checking: Cents, amount: Cents) -> (i64, Reply)
+pub(crate) fn cost_of_check(savings: Cents, checking: Cents, amount: Cents) -> (i64, Reply)
     ensures cost { result.0 ≡ check_cost savings checking amount }
     ensures reply { result.1 ≡ if int_lt (savings +ℤ checking) amount then Reply.Penalised else Reply.Done }
 {

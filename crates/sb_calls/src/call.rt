@@ -3,6 +3,9 @@
 use sb_amount::Cents;
 use sb_rows::Name;
 
+/// How many calls a log takes.
+pub const LOG_CALLS: usize = 1_000_000;
+
 /// A call of one of the bank's procedures (SmallBank, ICDE 2008), on customers by name.
 #[derive(Clone, Copy, Debug, PartialEq, Eq)]
 pub enum Call {

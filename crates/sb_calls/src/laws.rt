@@ -3,6 +3,8 @@ ghost use Rattle.std.specs.Prelude.{◌≡◌, ℕ, suc, List, slice_get};
 ghost use Rattle.sb_calls.specs.declared.call.Call.{Call};
 ghost use Rattle.sb_calls.specs.Log.{replies_to, reply_to};
 ghost use Rattle.sb_calls.specs.Net.{TotalByNet};
+ghost use Rattle.sb_calls.specs.ByCowns.{LogsByCowns};
+ghost use Rattle.sb_calls.specs.Touches.{Locality};
 ghost use Rattle.sb_rows.specs.Rows.{Rows};
 
 /// The replies to a log in order are, number by number, the replies to its calls on the rows after
@@ -14,4 +16,16 @@ pub fn replies_one_by_one()
 /// The bank's total after the first calls of a log is the opening's, and the net changes of these calls.
 pub fn total_by_net()
     ensures { TotalByNet }
+{}
+
+/// What a call replies, and the new balances of those that it touches, depend on these balances alone.
+/// It leaves all others.
+pub fn calls_are_local()
+    ensures { Locality }
+{}
+
+/// A log of calls, looked up and run one by one over their cowns, gives the replies and the rows of the
+/// calls one by one.
+pub fn logs_by_cowns()
+    ensures { LogsByCowns }
 {}

@@ -5,8 +5,10 @@ use std::process::Abort;
 
 mod answers;
 mod asks;
+mod cowns;
 mod limits;
 mod nets;
+mod performs;
 mod plain_bank;
 mod reads;
 

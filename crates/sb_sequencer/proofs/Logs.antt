@@ -11,7 +11,7 @@ use Rattle.sb_sequencer.specs.Numbering.{same_key, has_key, firsts_after, first_
 use Rattle.sb_sequencer.specs.declared.answer.AskFault.{AskFault}
 use Rattle.sb_sequencer.specs.declared.answer.AskFault.TheVariants.{Mismatch, LogFull, OutOfMemory}
 use Rattle.sb_sequencer.specs.declared.answer.Numbered.{Numbered}
-use Rattle.sb_sequencer.specs.declared.sequencer.TheConstants.{LOG_CALLS}
+use Rattle.sb_calls.specs.declared.call.TheConstants.{LOG_CALLS}
 use Rattle.sb_sequencer.proofs.Firsts.{firsts_after-push, has_key-firsts_after}
 use Rattle.sb_sequencer.proofs.Keys.{same_key_itself, absent_from_place, has_key-place}
 

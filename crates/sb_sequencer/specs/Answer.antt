@@ -7,7 +7,7 @@ use Rattle.sb_sequencer.specs.declared.answer.AskFault.{AskFault}
 use Rattle.sb_sequencer.specs.declared.answer.AskFault.TheVariants.{Mismatch, LogFull, OutOfMemory}
 use Rattle.sb_sequencer.specs.declared.answer.Numbered.{Numbered}
 use Rattle.sb_sequencer.specs.declared.answer.Numbered.TheVariants.{New, Repeat}
-use Rattle.sb_sequencer.specs.declared.sequencer.TheConstants.{LOG_CALLS}
+use Rattle.sb_calls.specs.declared.call.TheConstants.{LOG_CALLS}
 
 -- the answer to an ask, by the log
 abbrev pub IsAnswered : List (Key × Call) → Key × Call → Result Numbered AskFault → Type 0

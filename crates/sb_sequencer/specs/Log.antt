@@ -3,7 +3,7 @@ use Rattle.std.specs.Prelude.{nat_le, ◌||◌, if◌then◌else◌, List, [], �
 use Rattle.sb_calls.specs.declared.ask.Key.{Key}
 use Rattle.sb_calls.specs.declared.call.Call.{Call}
 use Rattle.sb_sequencer.specs.Numbering.{has_key}
-use Rattle.sb_sequencer.specs.declared.sequencer.TheConstants.{LOG_CALLS}
+use Rattle.sb_calls.specs.declared.call.TheConstants.{LOG_CALLS}
 
 -- a new key goes last while there is room, and else the log stays
 unfoldable pub log_with : List (Key × Call) → Key × Call → List (Key × Call)

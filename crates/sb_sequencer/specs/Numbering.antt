@@ -4,7 +4,7 @@ use Rattle.std.specs.List.{list_any, AllPairs}
 use Rattle.std.specs.Option.{option_map}
 use Rattle.sb_calls.specs.declared.ask.Key.{Key}
 use Rattle.sb_calls.specs.declared.call.Call.{Call}
-use Rattle.sb_sequencer.specs.declared.sequencer.TheConstants.{LOG_CALLS}
+use Rattle.sb_calls.specs.declared.call.TheConstants.{LOG_CALLS}
 
 abbrev pub same_key : Key → Key → Bool
 same_key a b = (a.client == b.client) && (a.request == b.request)

@@ -9,4 +9,4 @@ mod tests;
 
 pub use answer::{AskFault, Numbered};
 pub use laws::numbering;
-pub use sequencer::{LOG_CALLS, Sequencer};
+pub use sequencer::Sequencer;

@@ -8,12 +8,9 @@ ghost use Rattle.sb_sequencer.specs.Numbering.{IsLog, call_at, place_of_key};
 
 use crate::answer::{AskFault, Numbered};
 use indexmap::IndexMap;
-use sb_calls::{Call, Key};
+use sb_calls::{Call, Key, LOG_CALLS};
 use std::alloc::{AllocError, Global};
 use std::marker::Model;
-
-/// How many calls a log takes.
-pub const LOG_CALLS: usize = 1_000_000;
 
 /// Numbers clients' requests into one log: each key once, in the order of first asks.
 #[derive(Drop)]

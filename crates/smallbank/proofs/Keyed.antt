@@ -10,7 +10,7 @@ use Rattle.sb_calls.specs.declared.ask.Key.{Key}
 use Rattle.sb_calls.specs.declared.call.Call.{Call}
 use Rattle.sb_sequencer.proofs.Firsts.{has_key-firsts_after}
 use Rattle.sb_sequencer.specs.Numbering.{same_key, has_key, firsts_after, first_asks}
-use Rattle.sb_sequencer.specs.declared.sequencer.TheConstants.{LOG_CALLS}
+use Rattle.sb_calls.specs.declared.call.TheConstants.{LOG_CALLS}
 use Rattle.smallbank.specs.Asks.{key_of_line, running_after, running_from, keyed_from, keyed}
 use Rattle.smallbank.specs.Output.{log_of}
 

@@ -24,7 +24,7 @@ use Rattle.sb_sequencer.specs.Log.{log_with}
 use Rattle.sb_sequencer.specs.Numbering.{same_key, has_key, firsts_after, first_asks, place_of_key}
 use Rattle.sb_sequencer.specs.declared.answer.AskFault.TheVariants as faults
 use Rattle.sb_sequencer.specs.declared.answer.Numbered.TheVariants as numbers
-use Rattle.sb_sequencer.specs.declared.sequencer.TheConstants.{LOG_CALLS}
+use Rattle.sb_calls.specs.declared.call.TheConstants.{LOG_CALLS}
 use Rattle.smallbank.specs.Outcome.{same_call, numbered_outcome, outcome_at, outcome_of}
 use Rattle.smallbank.specs.declared.asking.Outcome.TheVariants.{Number, Mismatch, LogFull}
 

@@ -1,0 +1,58 @@
+-- How many are unfinished.
+use Rattle.std.proofs.Common.{◌≡◌, ℕ, zero, suc, ◌+◌, ◌≤◌, Bool, true, false, cond, Option, Some, None, List, [], ◌∷◌, ◌++◌, length, refl, sym, ap, ◌∙◌, arith}
+use Rattle.std.specs.Prelude.{slice_get, slice_set, count_by}
+use Rattle.std.proofs.lemmas.Bool.{false_from_ne_true}
+use Rattle.std.proofs.lemmas.List.Sums.{sum_by-cons}
+use Rattle.cown_board.proofs.LogLaws.{injective, no_some}
+use Rattle.cown_board.specs.State.{is_open, state_is}
+use Rattle.cown_board.specs.declared.state.State.{State}
+use Rattle.cown_board.specs.declared.state.State.TheVariants.{Waiting, Out, Finished}
+use Rattle.sb_calls.specs.declared.reply.Reply.{Reply}
+
+-- one, if it is unfinished
+abbrev pub one_if_open : State → ℕ
+one_if_open s = cond (is_open s) 1 0
+
+count_cons : (s : State) (states : List State) → count_by is_open (s ∷ states) ≡ one_if_open s + count_by is_open states
+count_cons s states = sum_by-cons one_if_open s states
+
+pub count-append : (states : List State) (s : State) → count_by is_open (states ++ s ∷ []) ≡ count_by is_open states + one_if_open s
+count-append [] s = count_cons s [] ∙ omega arith
+count-append (t ∷ states) s =
+    count_cons t (states ++ s ∷ []) ∙ ap (λ n. one_if_open t + n) (count-append states s)
+    ∙ (let e = count_cons t states in omega (arith, e))
+
+-- a changed state counts in place of the one before
+pub count-set : (states : List State) (k : ℕ) (old new : State) → slice_get states k ≡ Some old
+    → count_by is_open (slice_set states k new) + one_if_open old ≡ count_by is_open states + one_if_open new
+count-set [] k old new h = absurd (no_some h)
+count-set (t ∷ states) zero old new h =
+    let same : one_if_open t ≡ one_if_open old = ap one_if_open (injective h) in
+    let a = count_cons new states in
+    let b = count_cons t states in
+    omega (arith, same, a, b)
+count-set (t ∷ states) (suc k) old new h =
+    let a = count_cons t (slice_set states k new) in
+    let b = count_cons t states in
+    let rest = count-set states k old new h in
+    omega (arith, a, b, rest)
+
+-- an unfinished one counts
+pub count_some : (states : List State) (k : ℕ) (s : State) → slice_get states k ≡ Some s → is_open s ≡ true → 1 ≤ count_by is_open states
+count_some [] k s h unfinished = absurd (no_some h)
+count_some (t ∷ states) zero s h unfinished =
+    let one : one_if_open t ≡ 1 = ap (λ x. one_if_open x) (injective h) ∙ ap (λ b. cond b 1 0) unfinished in
+    let a = count_cons t states in
+    omega (arith, one, a)
+count_some (t ∷ states) (suc k) s h unfinished =
+    let a = count_cons t states in
+    let rest = count_some states k s h unfinished in
+    omega (arith, a, rest)
+
+counts_none : (states : List State) (k : ℕ) (o : Option State) → count_by is_open states ≡ 0 → slice_get states k ≡ o → state_is is_open o ≡ false
+counts_none states k None none here = refl
+counts_none states k (Some s) none here = false_from_ne_true (is_open s) (λ unfinished. omega (arith, none, count_some states k s here unfinished))
+
+-- where none counts all are finished
+pub all_finished : (states : List State) (k : ℕ) → count_by is_open states ≡ 0 → state_is is_open (slice_get states k) ≡ false
+all_finished states k none = counts_none states k (slice_get states k) none refl

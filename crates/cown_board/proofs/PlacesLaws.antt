@@ -1,0 +1,175 @@
+-- Laws of the places at which something is so.
+use Rattle.std.proofs.Common.{◌≡◌, ◌≢◌, ◌⊎◌, inl, inr, ℕ, zero, suc, ◌+◌, ◌-◌, ◌<◌, ◌≤◌, Bool, true, false, cond, not, ◌&&◌, Option, Some, None, List, [], ◌∷◌, ◌++◌, length, length-append, refl, sym, ap, subst, ◌∙◌, arith}
+use Rattle.std.specs.Prelude.{◌==◌, slice_get, filter, remove, if◌then◌else◌}
+use Rattle.std.proofs.lemmas.Bool.{cases_Bool, cases_lt, cases_order, and_parts, and_from, and_left, and_right, not-true, not_from_false, not_from_true, ne_eqb, eq-eqb, eqb-true, cond-true, cond-false, both_ways, true≢false}
+use Rattle.std.proofs.lemmas.List.Elements.{filter-append}
+use Rattle.std.proofs.lemmas.List.Edits.{remove-append_left, remove-append_right}
+use Rattle.std.proofs.lemmas.Option.{slice_get_within, slice_get_past}
+use Rattle.cown_board.specs.Places.{places, none_below}
+
+pub slice_get-left : {X : Type 0} (xs ys : List X) (i : ℕ) → i < length xs → slice_get (xs ++ ys) i ≡ slice_get xs i
+slice_get-left [] ys i lt = absurd (omega (arith, lt))
+slice_get-left (x ∷ xs) ys zero lt = refl
+slice_get-left (x ∷ xs) ys (suc i) lt = slice_get-left xs ys i (omega (arith, lt))
+
+pub slice_get-right : {X : Type 0} (xs ys : List X) (i j : ℕ) → i ≡ length xs + j → slice_get (xs ++ ys) i ≡ slice_get ys j
+slice_get-right [] ys i j e = ap (slice_get ys) (omega (arith, e))
+slice_get-right (x ∷ xs) ys zero j e = absurd (omega (arith, e))
+slice_get-right (x ∷ xs) ys (suc i) j e = slice_get-right xs ys i j (omega (arith, e))
+
+injective : {A : Type 0} {x y : A} → ◌≡◌ {A = Option A} (Some x) (Some y) → x ≡ y
+injective h = cc
+
+-- the place m, where it is so there
+abbrev pub last_place : Bool → ℕ → List ℕ
+last_place b m = if b then m ∷ [] else []
+
+-- it is the only one
+last_is : (b : Bool) (m p k : ℕ) → slice_get (last_place b m) p ≡ Some k → (k ≡ m) × (b ≡ true) × (p ≡ 0)
+last_is true m zero k h = (sym (injective h), refl, refl)
+last_is true m (suc p) k h = absurd (omega (arith, slice_get_within (m ∷ []) (suc p) k h))
+last_is false m p k h = absurd (omega (arith, slice_get_within [] p k h))
+
+pub places-true : (f : ℕ → Bool) (m : ℕ) → f m ≡ true → places f (suc m) ≡ places f m ++ m ∷ []
+places-true f m e = ap (λ b. places f m ++ (if b then m ∷ [] else [])) e
+
+pub append_nothing : {X : Type 0} (xs : List X) → xs ++ [] ≡ xs
+append_nothing [] = refl
+append_nothing (x ∷ xs) = ap (λ t. x ∷ t) (append_nothing xs)
+
+pub places-false : (f : ℕ → Bool) (m : ℕ) → f m ≡ false → places f (suc m) ≡ places f m
+places-false f m e = ap (λ b. places f m ++ (if b then m ∷ [] else [])) e ∙ append_nothing (places f m)
+
+-- where two agree they have the same places
+pub places-agree : (f g : ℕ → Bool) (m : ℕ) → ((j : ℕ) → j < m → f j ≡ g j) → places f m ≡ places g m
+places-agree f g zero h = refl
+places-agree f g (suc m) h =
+    ap (λ b. places f m ++ (if b then m ∷ [] else [])) (h m (omega arith)) ∙ ap (λ t. t ++ (if g m then m ∷ [] else [])) (places-agree f g m (λ j lt. h j (omega (arith, lt))))
+
+pub none_below-agree : (f g : ℕ → Bool) (m : ℕ) → ((j : ℕ) → j < m → f j ≡ g j) → none_below f m ≡ none_below g m
+none_below-agree f g zero h = refl
+none_below-agree f g (suc m) h =
+    ap (λ b. none_below f m && not b) (h m (omega arith)) ∙ ap (λ t. t && not (g m)) (none_below-agree f g m (λ j lt. h j (omega (arith, lt))))
+
+no_length : (xs : List ℕ) → length xs ≡ 0 → xs ≡ []
+no_length [] h = refl
+no_length (x ∷ xs) h = absurd (omega (arith, h))
+
+filter-last : (g : ℕ → Bool) (b : Bool) (m : ℕ) → filter g (last_place b m) ≡ last_place (b && g m) m
+filter-last g true m = elim (g m) as (λ t. cond t (m ∷ []) [] ≡ last_place t m) [ true ↦ refl | false ↦ refl ]
+filter-last g false m = refl
+
+-- what none below says of each
+pub none_below_at : (f : ℕ → Bool) (m j : ℕ) → none_below f m ≡ true → j < m → f j ≡ false
+none_below_at f zero j h lt = absurd (omega (arith, lt))
+none_below_at f (suc m) j h lt =
+    let parts = and_parts (none_below f m) (not (f m)) h in
+    elim (cases_order j m) [
+      | inl same ↦ ap f same ∙ not-true (f m) parts.1
+      | inr either ↦ elim either [ inl below ↦ none_below_at f m j parts.0 below | inr above ↦ absurd (omega (arith, above, lt)) ]
+    ]
+
+pub none_below_from : (f : ℕ → Bool) (m : ℕ) → ((j : ℕ) → j < m → f j ≡ false) → none_below f m ≡ true
+none_below_from f zero h = refl
+none_below_from f (suc m) h =
+    and_from (none_below f m) (not (f m)) (none_below_from f m (λ j lt. h j (omega (arith, lt)))) (not_from_false (f m) (h m (omega arith)))
+
+-- where a place among them stands: among those below m, or m last
+found_where : (f : ℕ → Bool) (m p k : ℕ) → slice_get (places f (suc m)) p ≡ Some k
+    → ((p < length (places f m)) × (slice_get (places f m) p ≡ Some k)) ⊎ ((p ≡ length (places f m)) × (k ≡ m) × (f m ≡ true))
+found_where f m p k h = elim (cases_lt p (length (places f m))) [
+    | inl within ↦ inl (within, sym (slice_get-left (places f m) (last_place (f m) m) p within) ∙ h)
+    | inr past ↦
+      let last = last_is (f m) m (p - length (places f m)) k
+        (sym (slice_get-right (places f m) (last_place (f m) m) p (p - length (places f m)) (omega (arith, past))) ∙ h) in
+      inr (omega (arith, past, last.2), last.0, last.1)
+  ]
+
+-- a place among them is below m, and it is so there
+pub place_is : (f : ℕ → Bool) (m p k : ℕ) → slice_get (places f m) p ≡ Some k → (k < m) × (f k ≡ true)
+place_is f zero p k h = absurd (omega (arith, slice_get_within [] p k h))
+place_is f (suc m) p k h = elim (found_where f m p k h) [
+    | inl within ↦ let found = place_is f m p k within.1 in (omega (arith, found.0), found.1)
+    | inr last ↦ (omega (arith, last.1), ap f last.1 ∙ last.2)
+  ]
+
+-- all but one place
+abbrev pub but : (ℕ → Bool) → ℕ → ℕ → Bool
+but f k j = f j && not (j == k)
+
+pub but_other : (f : ℕ → Bool) (k j : ℕ) → j ≢ k → but f k j ≡ f j
+but_other f k j differs = elim (cases_Bool (f j)) [
+    | inl so ↦ and_from (f j) (not (j == k)) so (not_from_false (j == k) (ne_eqb j k differs)) ∙ sym so
+    | inr not_so ↦ and_left (f j) (not (j == k)) not_so ∙ sym not_so
+  ]
+
+pub but_same : (f : ℕ → Bool) (k j : ℕ) → j ≡ k → but f k j ≡ false
+but_same f k j same = and_right (f j) (not (j == k)) (not_from_true (j == k) (eq-eqb j k same))
+
+remove_last : (xs : List ℕ) (x p : ℕ) → p ≡ length xs → remove (xs ++ x ∷ []) p ≡ xs
+remove_last xs x p e =
+    let no_more : p - length xs ≡ 0 = omega (arith, e) in
+    remove-append_right xs (x ∷ []) (length xs) p refl (omega (arith, e))
+    ∙ ap (λ i. xs ++ remove (x ∷ []) i) no_more ∙ append_nothing xs
+
+-- without the p-th one
+pub places-remove : (f : ℕ → Bool) (m p k : ℕ) → slice_get (places f m) p ≡ Some k → places (but f k) m ≡ remove (places f m) p
+places-remove f zero p k h = absurd (omega (arith, slice_get_within [] p k h))
+places-remove f (suc m) p k h = elim (found_where f m p k h) [
+    | inl within ↦
+      let found = place_is f m p k within.1 in
+      ap (λ b. places (but f k) m ++ last_place b m) (but_other f k m (λ same. omega (arith, same, found.0)))
+      ∙ ap (λ t. t ++ last_place (f m) m) (places-remove f m p k within.1)
+      ∙ sym (remove-append_left (places f m) (last_place (f m) m) p within.0)
+    | inr last ↦
+      ap (λ b. places (but f k) m ++ last_place b m) (but_same f k m (sym last.1)) ∙ append_nothing (places (but f k) m)
+      ∙ places-agree (but f k) f m (λ j lt. but_other f k j (λ same. omega (arith, same, last.1, lt)))
+      ∙ sym (ap (λ b. remove (places f m ++ last_place b m) p) last.2 ∙ remove_last (places f m) m p last.0)
+  ]
+
+-- where there is none below m there is no place
+pub places-none : (f : ℕ → Bool) (m : ℕ) → none_below f m ≡ true → places f m ≡ []
+places-none f zero h = refl
+places-none f (suc m) h =
+    let parts = and_parts (none_below f m) (not (f m)) h in
+    places-false f m (not-true (f m) parts.1) ∙ places-none f m parts.0
+
+pub none_from_places : (f : ℕ → Bool) (m : ℕ) → places f m ≡ [] → none_below f m ≡ true
+none_from_places f zero h = refl
+none_from_places f (suc m) h =
+    let empty : length (places f m ++ last_place (f m) m) ≡ 0 = ap length h in
+    let first : places f m ≡ [] = no_length (places f m) (omega (arith, empty, length-append (places f m) (last_place (f m) m))) in
+    and_from (none_below f m) (not (f m)) (none_from_places f m first) (not_from_false (f m) (elim (cases_Bool (f m)) [
+      | inl so ↦ absurd (omega (arith, ap (λ b. length (places f m ++ last_place b m)) so, empty, length-append (places f m) (m ∷ [])))
+      | inr not_so ↦ not_so
+    ]))
+
+-- the first place
+pub place_first : (f : ℕ → Bool) (m k : ℕ) → k < m → f k ≡ true → none_below f k ≡ true → slice_get (places f m) 0 ≡ Some k
+place_first f zero k lt so none = absurd (omega (arith, lt))
+place_first f (suc m) k lt so none = elim (cases_order k m) [
+    | inl same ↦
+      ap (λ t. slice_get (t ++ last_place (f m) m) 0) (places-none f m (ap (none_below f) (sym same) ∙ none))
+      ∙ ap (λ b. slice_get (last_place b m) 0) (ap f (sym same) ∙ so) ∙ ap (λ n. Some n) (sym same)
+    | inr either ↦ elim either [
+      | inl below ↦
+        let first = place_first f m k below so none in
+        slice_get-left (places f m) (last_place (f m) m) 0 (slice_get_within (places f m) 0 k first) ∙ first
+      | inr above ↦ absurd (omega (arith, above, lt))
+    ]
+  ]
+
+pub none_before_first : (f : ℕ → Bool) (m k : ℕ) → slice_get (places f m) 0 ≡ Some k → none_below f k ≡ true
+none_before_first f zero k h = absurd (omega (arith, slice_get_within [] 0 k h))
+none_before_first f (suc m) k h = elim (found_where f m 0 k h) [
+    | inl within ↦ none_before_first f m k within.1
+    | inr last ↦ ap (none_below f) last.1 ∙ none_from_places f m (no_length (places f m) (sym last.0))
+  ]
+
+-- those of these places at which g is so too
+pub places-filter : (f g : ℕ → Bool) (m : ℕ) → filter g (places f m) ≡ places (λ j. f j && g j) m
+places-filter f g zero = refl
+places-filter f g (suc m) =
+    filter-append g (places f m) (last_place (f m) m)
+    ∙ ap (λ t. t ++ filter g (last_place (f m) m)) (places-filter f g m)
+    ∙ ap (λ t. places (λ j. f j && g j) m ++ t) (filter-last g (f m) m)

@@ -1,0 +1,51 @@
+-- The states of a log's behaviours after one of them changed, or one more came.
+use Rattle.std.proofs.Common.{◌≡◌, ◌≢◌, ℕ, zero, suc, ◌<◌, ◌≤◌, Bool, true, false, Option, Some, None, List, [], ◌∷◌, ◌++◌, length, refl, sym, ap, ◌∙◌, arith}
+use Rattle.std.specs.Prelude.{slice_get, slice_set}
+use Rattle.std.proofs.lemmas.Bool.{true≢false}
+use Rattle.std.proofs.lemmas.Option.{slice_get_past}
+use Rattle.cown_board.proofs.PlacesLaws.{slice_get-left, slice_get-right}
+use Rattle.cown_board.specs.Invariant.{open_at, waiting_at}
+use Rattle.cown_board.specs.State.{is_waiting, is_open, state_is}
+use Rattle.cown_board.specs.declared.state.State.{State}
+use Rattle.cown_board.specs.declared.state.State.TheVariants.{Waiting, Out, Finished}
+
+pub slice_get-set_same : {A : Type 0} (xs : List A) (k : ℕ) (x : A) → k < length xs → slice_get (slice_set xs k x) k ≡ Some x
+slice_get-set_same [] k x lt = absurd (omega (arith, lt))
+slice_get-set_same (y ∷ xs) zero x lt = refl
+slice_get-set_same (y ∷ xs) (suc k) x lt = slice_get-set_same xs k x (omega (arith, lt))
+
+pub slice_get-set_other : {A : Type 0} (xs : List A) (k j : ℕ) (x : A) → j ≢ k → slice_get (slice_set xs k x) j ≡ slice_get xs j
+slice_get-set_other [] k j x differs = refl
+slice_get-set_other (y ∷ xs) zero zero x differs = absurd (differs refl)
+slice_get-set_other (y ∷ xs) zero (suc j) x differs = refl
+slice_get-set_other (y ∷ xs) (suc k) zero x differs = refl
+slice_get-set_other (y ∷ xs) (suc k) (suc j) x differs = slice_get-set_other xs k j x (λ same. differs (ap suc same))
+
+-- whoever waits is unfinished
+waits_open : (o : Option State) → state_is is_waiting o ≡ true → state_is is_open o ≡ true
+waits_open None h = h
+waits_open (Some Waiting) h = refl
+waits_open (Some Out) h = absurd (true≢false (sym h))
+waits_open (Some (Finished reply)) h = absurd (true≢false (sym h))
+
+pub waiting_is_open : (states : List State) (k : ℕ) → waiting_at states k ≡ true → open_at states k ≡ true
+waiting_is_open states k h = waits_open (slice_get states k) h
+
+-- what is so of no state is so at no place past the end
+pub state_past : (test : State → Bool) (states : List State) (k : ℕ) → length states ≤ k → state_is test (slice_get states k) ≡ false
+state_past test states k past = ap (state_is test) (slice_get_past states k past)
+
+pub state_here : (test : State → Bool) (states : List State) (k : ℕ) (s : State) → slice_get states k ≡ Some s → state_is test (slice_get states k) ≡ test s
+state_here test states k s h = ap (state_is test) h
+
+pub state-set_same : (test : State → Bool) (states : List State) (k : ℕ) (s : State) → k < length states → state_is test (slice_get (slice_set states k s) k) ≡ test s
+state-set_same test states k s lt = ap (state_is test) (slice_get-set_same states k s lt)
+
+pub state-set_other : (test : State → Bool) (states : List State) (k j : ℕ) (s : State) → j ≢ k → state_is test (slice_get (slice_set states k s) j) ≡ state_is test (slice_get states j)
+state-set_other test states k j s differs = ap (state_is test) (slice_get-set_other states k j s differs)
+
+pub state-append : (test : State → Bool) (states : List State) (s : State) (j : ℕ) → j < length states → state_is test (slice_get (states ++ s ∷ []) j) ≡ state_is test (slice_get states j)
+state-append test states s j lt = ap (state_is test) (slice_get-left states (s ∷ []) j lt)
+
+pub state-last : (test : State → Bool) (states : List State) (s : State) (j : ℕ) → j ≡ length states → state_is test (slice_get (states ++ s ∷ []) j) ≡ test s
+state-last test states s j e = ap (state_is test) (slice_get-right states (s ∷ []) j 0 (omega (arith, e)))

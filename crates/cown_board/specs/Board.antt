@@ -1,0 +1,72 @@
+-- A board as its callers see it.
+use Rattle.std.specs.Prelude.{◌≡◌, ℕ, suc, ◌+◌, ◌-◌, ℤ, ◌==◌, nat_le, if◌then◌else◌, Bool, Option, Some, None, List, length, count_by, option_and_then, slice_get, slice_set}
+use Rattle.sb_rows.specs.Balances.{Balances}
+use Rattle.sb_calls.specs.Cowns.{held_of}
+use Rattle.sb_calls.specs.OneByOne.{inputs_of, held_after, held_after_first, reply_by_log}
+use Rattle.sb_calls.specs.declared.reply.Reply.{Reply}
+use Rattle.cown_board.specs.Job.{JobOf, DoneOf}
+use Rattle.cown_board.specs.Readiness.{ready_places}
+use Rattle.cown_board.specs.State.{is_open, finished_reply}
+use Rattle.cown_board.specs.declared.state.State.{State}
+use Rattle.cown_board.specs.declared.state.State.TheVariants.{Out, Finished}
+
+-- the columns at the opening; the replies to the numbers before it; the behaviours submitted since, and where each is
+pub record BoardOf (B : Type 0) : Type 0 where
+  pub opening : Balances
+  pub earlier : List Reply
+  pub log : List B
+  pub states : List State
+
+-- the greatest number so far
+abbrev pub length_of : {B : Type 0} → BoardOf B → ℕ
+length_of board = length board.earlier + length board.log
+
+-- the number at a place of the log
+abbrev pub number_at : {B : Type 0} → BoardOf B → ℕ → ℕ
+number_at board place = suc (length board.earlier + place)
+
+-- how many are unfinished
+abbrev pub open_of : {B : Type 0} → BoardOf B → ℕ
+open_of board = count_by is_open board.states
+
+-- the reply to a number: one that was handed in, or that of a finished behaviour
+unfoldable pub reply_in : {B : Type 0} → BoardOf B → ℕ → Option Reply
+reply_in board number =
+    if number == 0 then None
+    else if nat_le number (length board.earlier) then slice_get board.earlier (number - 1)
+    else option_and_then finished_reply (slice_get board.states (number - 1 - length board.earlier))
+
+module _ {B : Type 0} (touches : B → List ℕ) (effect : B → List ℤ → Reply × List ℤ) where
+  -- what the behaviour at a place is given: what its cowns hold after those before it
+  abbrev pub inputs_at : BoardOf B → ℕ → B → List ℤ
+  inputs_at board place behaviour = inputs_of touches effect (held_after_first touches effect (held_of board.opening) board.log place) behaviour
+
+  -- it is that of the behaviour at a place, which is out, on its inputs
+  pub record IsOutAt (board : BoardOf B) (done : DoneOf B) (place : ℕ) : Type 0 where
+    pub number : done.number ≡ number_at board place
+    pub out : slice_get board.states place ≡ Some Out
+    pub behaviour : slice_get board.log place ≡ Some done.behaviour
+    pub inputs : done.inputs ≡ inputs_at board place done.behaviour
+
+  abbrev pub IsOutHere : BoardOf B → DoneOf B → Type 0
+  IsOutHere board done = (place : ℕ) × IsOutAt board done place
+
+  -- the behaviour at a ready place is handed out, with what its cowns hold, and is out from then on
+  pub record Takes (old : BoardOf B) (index : ℕ) (job : JobOf B) (new : BoardOf B) : Type 0 where
+    pub place : ℕ
+    pub ready : slice_get (ready_places touches old.log old.states) index ≡ Some place
+    pub number : job.number ≡ number_at old place
+    pub behaviour : slice_get old.log place ≡ Some job.behaviour
+    pub inputs : job.inputs ≡ inputs_at old place job.behaviour
+    pub out : new ≡ record old { states = slice_set old.states place Out }
+
+  -- the behaviour is finished, with the reply that the log run one by one gives its number
+  pub record Finishes (old : BoardOf B) (done : DoneOf B) (reply : Reply) (new : BoardOf B) : Type 0 where
+    pub place : ℕ
+    pub here : IsOutAt old done place
+    pub by_log : reply_by_log touches effect (held_of old.opening) old.log (suc place) ≡ Some reply
+    pub finished : new ≡ record old { states = slice_set old.states place (Finished reply) }
+
+  -- columns that hold what the whole log leaves
+  abbrev pub IsAfterAll : BoardOf B → Balances → Type 0
+  IsAfterAll board columns = held_of columns ≡ held_after touches effect (held_of board.opening) board.log

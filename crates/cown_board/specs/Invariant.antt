@@ -1,0 +1,67 @@
+-- What a board keeps, whatever is submitted, taken and finished.
+use Rattle.std.specs.Prelude.{◌≡◌, ℕ, ◌<◌, ◌≤◌, ◌+◌, ℤ, pos, Bool, true, false, ◌&&◌, Option, Some, None, List, length, get_or, slice_get, option_map, count_by}
+use Rattle.sb_rows.specs.Balances.{Balances}
+use Rattle.sb_calls.specs.Cowns.{IsHeld, held_of}
+use Rattle.sb_calls.specs.OneByOne.{is_among, held_after_first, reply_of}
+use Rattle.sb_calls.specs.declared.reply.Reply.{Reply}
+use Rattle.sb_calls.specs.declared.call.TheConstants.{LOG_CALLS}
+use Rattle.cown_queue.specs.Queues.{list_of}
+use Rattle.cown_board.specs.Places.{places}
+use Rattle.cown_board.specs.Readiness.{touched_by, conflict_at}
+use Rattle.cown_board.specs.State.{is_waiting, is_open, state_is}
+use Rattle.cown_board.specs.declared.board.TheConstants.{OPEN_BEHAVIOURS}
+use Rattle.cown_board.specs.declared.state.State.{State}
+use Rattle.cown_board.specs.declared.state.State.TheVariants.{Finished}
+
+abbrev pub open_at : List State → ℕ → Bool
+open_at states k = state_is is_open (slice_get states k)
+
+abbrev pub waiting_at : List State → ℕ → Bool
+waiting_at states k = state_is is_waiting (slice_get states k)
+
+-- each value is one that its cown may hold
+abbrev pub AllHeld : List ℤ → Type 0
+AllHeld held = (cown : ℕ) → cown < length held → IsHeld cown (get_or held cown (pos 0))
+
+module _ {B : Type 0} (touches : B → List ℕ) (effect : B → List ℤ → Reply × List ℤ) where
+  -- whether the behaviour at a place declares a cown
+  abbrev pub touches_at : List B → ℕ → ℕ → Bool
+  touches_at log cown k = is_among cown (touched_by touches (slice_get log k))
+
+  -- of those that declare a cown the ones before k are finished, and the others aren't
+  pub record IsSettled (log : List B) (states : List State) (cown k : ℕ) : Type 0 where
+    pub before : (j : ℕ) → j < k → touches_at log cown j ≡ true → open_at states j ≡ false
+    pub after : (j : ℕ) → k ≤ j → touches_at log cown j ≡ true → open_at states j ≡ true
+
+  -- what the cowns hold, against the log run one by one
+  pub record Keeps (opening : List ℤ) (log : List B) (states : List State) (held : List ℤ) : Type 0 where
+    pub beside : length log ≡ length states
+    pub cowns_stay : length held ≡ length opening
+    pub opened : AllHeld opening
+    pub in_range : (k cown : ℕ) → touches_at log cown k ≡ true → cown < length opening
+    -- of two that share a cown the later one waits until the earlier one is finished
+    pub ordered : (j k : ℕ) → j < k → k < length log → open_at states j ≡ true → conflict_at touches log j k ≡ true → waiting_at states k ≡ true
+    -- where a cown is settled up to k it holds what the first k leave
+    pub settled : (cown k : ℕ) → k ≤ length log → IsSettled log states cown k
+        → get_or held cown (pos 0) ≡ get_or (held_after_first touches effect opening log k) cown (pos 0)
+    pub replies : (k : ℕ) (reply : Reply) → slice_get states k ≡ Some (Finished reply)
+        → option_map (reply_of touches effect (held_after_first touches effect opening log k)) (slice_get log k) ≡ Some reply
+
+  -- whether the behaviour at a place is unfinished and declares a cown
+  abbrev pub is_queued : List B → List State → ℕ → ℕ → Bool
+  is_queued log states cown k = open_at states k && touches_at log cown k
+
+  -- each cown's queue has the places of the unfinished behaviours that declare it
+  pub record QueuesAre (log : List B) (states : List State) (lists : List (List ℕ)) (cowns : ℕ) : Type 0 where
+    pub one_each : length lists ≡ cowns
+    pub each : (cown : ℕ) → cown < cowns → list_of lists cown ≡ places (is_queued log states cown) (length log)
+
+  -- all that a board keeps
+  pub record IsBoard (opening now : Balances) (base : ℕ) (earlier : List Reply) (log : List B) (states : List State) (lists : List (List ℕ)) (waiting : List ℕ) (open_count : ℕ) : Type 0 where
+    pub based : length earlier ≡ base
+    pub keeps : Keeps (held_of opening) log states (held_of now)
+    pub queues : QueuesAre log states lists (length (held_of opening))
+    pub rest : waiting ≡ places (waiting_at states) (length log)
+    pub unfinished : open_count ≡ count_by is_open states
+    pub few_open : open_count ≤ OPEN_BEHAVIOURS
+    pub few_numbers : length earlier + length log ≤ LOG_CALLS

@@ -1,0 +1,17 @@
+-- What a board hands out, and what comes back.
+use Rattle.std.specs.Prelude.{ℕ, ℤ, List}
+use Rattle.sb_calls.specs.declared.reply.Reply.{Reply}
+
+-- a behaviour's number, and what its cowns held
+pub record JobOf (B : Type 0) : Type 0 where
+  pub number : ℕ
+  pub behaviour : B
+  pub inputs : List ℤ
+
+-- and what it replied, and left in its cowns
+pub record DoneOf (B : Type 0) : Type 0 where
+  pub number : ℕ
+  pub behaviour : B
+  pub inputs : List ℤ
+  pub reply : Reply
+  pub outputs : List ℤ

@@ -1,0 +1,7 @@
+pub mod Board
+pub mod Fronts
+pub mod Invariant
+pub mod Job
+pub mod Places
+pub mod Readiness
+pub mod State

@@ -1,0 +1,12 @@
+-- Places in a list, counted from 0, at which something is so.
+use Rattle.std.specs.Prelude.{ℕ, zero, suc, Bool, true, not, ◌&&◌, if◌then◌else◌, List, [], ◌∷◌, ◌++◌}
+
+-- the places below m at which f is so, in rising order
+abbrev pub places : (ℕ → Bool) → ℕ → List ℕ
+places f zero = []
+places f (suc m) = places f m ++ (if f m then m ∷ [] else [])
+
+-- f is so at no place below m
+abbrev pub none_below : (ℕ → Bool) → ℕ → Bool
+none_below f zero = true
+none_below f (suc m) = none_below f m && not (f m)

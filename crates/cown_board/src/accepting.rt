@@ -1,0 +1,68 @@
+//! Whether what comes back is that of a behaviour that is out.
+ghost use Rattle.std.specs.Prelude.{◌≡◌, ◌≢◌, ◌<◌, ◌+◌, ◌↔◌, ℕ, Some, suc, length, slice_get, IsTrue, MatchOption};
+ghost use Rattle.sb_calls.specs.Cowns.{AreBelow, held_of, read_cowns};
+ghost use Rattle.cown_board.specs.State as spec;
+
+use crate::held::read_all;
+use crate::job::Done;
+use crate::state::State;
+use sb_calls::Behaviour;
+use sb_rows::Columns;
+
+// The place in the log of a number, if it has one.
+pub(crate) fn place_of(base: u64, numbers: usize, number: u64) -> Option<u64>
+    ensures { MatchOption result ((place : ℕ) → place < numbers → number ≢ suc (base + place)) (λ place. (place < numbers) × (number ≡ suc (base + place))) }
+{
+    if number <= base {
+        return None;
+    }
+    let place = number - base - 1;
+    if place < numbers as u64 {
+        Some(place)
+    } else {
+        None
+    }
+}
+
+// Whether a state is that of a behaviour that was handed out.
+fn is_out(state: State) -> bool
+    ensures { result ≡ spec.is_out state }
+{
+    matches!(state, State::Out)
+}
+
+// Whether two behaviours are one.
+fn same_behaviour<B: Behaviour>(a: B, b: B) -> bool
+    ensures { IsTrue result ↔ (a ≡ b) }
+{
+    a == b
+}
+
+// Whether these are the same values.
+fn same_values(a: &[i64], b: &[i64]) -> bool
+    ensures { IsTrue result ↔ (a.now ≡ b.now) }
+{
+    a == b
+}
+
+// Whether the behaviour at a place is out, and what comes back is of this behaviour, on what its cowns hold.
+pub(crate) fn is_out_at<B: Behaviour>(
+    columns: &Columns,
+    log: &Vec<B>,
+    states: &Vec<State>,
+    place: u64,
+    done: &Done<B>,
+) -> bool
+    requires place { place < length log.now.items }
+    requires beside { length log.now.items ≡ length states.now.items }
+    requires cowns { (k : ℕ) (behaviour : B) → slice_get log.now.items k ≡ Some behaviour → AreBelow (length (held_of columns.now)) (B.touches behaviour) }
+    ensures { IsTrue result ↔ ((slice_get states.now.items place ≡ Some State.Out) × (slice_get log.now.items place ≡ Some done.now.behaviour)
+        × (done.now.inputs ≡ read_cowns (held_of columns.now) (B.touches done.now.behaviour))) }
+{
+    let behaviour = log[place as usize];
+    if !is_out(states[place as usize]) || !same_behaviour(behaviour, done.behaviour()) {
+        return false;
+    }
+    let inputs = read_all(columns, behaviour.cowns().as_slice());
+    same_values(done.inputs(), inputs.as_slice())
+}

@@ -1,0 +1,242 @@
+//! The board.
+ghost use Rattle.std.specs.Prelude.{◌≡◌, ◌≢◌, ◌↔◌, ◌<◌, ◌≤◌, ◌-◌, ◌++◌, [], ◌∷◌, suc, length, slice_get, IsTrue, IfOk, IfSome, OnOk, OnErr, IsErrOf, IsOk, Some, MatchOption, MatchResult, vec_len, vec_capacity};
+ghost use Rattle.std.specs.VecDeque.{deque_len, deque_capacity};
+ghost use Rattle.sb_calls.specs.Cowns.{AreBelow, IsRising, held_of};
+ghost use Rattle.sb_calls.specs.OneByOne.{reply_by_log};
+ghost use Rattle.cown_board.specs.Board.{BoardOf, length_of, open_of, reply_in, Takes, Finishes, IsOutHere, IsAfterAll};
+ghost use Rattle.cown_board.specs.Readiness.{ready_places};
+
+use crate::accepting::{is_out_at, place_of};
+use crate::fronts::nth_front;
+use crate::held::{read_all, write_all};
+use crate::job::{Done, Job};
+use crate::state::State;
+use arrayvec::ArrayVec;
+use cown_queue::Queues;
+use sb_calls::{Behaviour, Cown, LOG_CALLS, Reply};
+use sb_rows::Columns;
+use std::alloc::{AllocError, Global};
+use std::collections::VecDeque;
+use std::marker::Model;
+use thiserror::Error;
+
+/// How many behaviours may be unfinished at once.
+pub const OPEN_BEHAVIOURS: usize = 1_024;
+
+/// Why a behaviour wasn't submitted. The board is as it was.
+#[derive(Clone, Copy, Debug, PartialEq, Eq, Error, Drop)]
+pub enum SubmitFault {
+    /// As many behaviours are unfinished as may be.
+    #[error("busy")]
+    Busy,
+    /// The log has as many numbers as it takes.
+    #[error("log full")]
+    LogFull,
+    /// Memory was refused.
+    #[error("out of memory")]
+    OutOfMemory,
+}
+
+/// A log of behaviours, of which those are handed out whose cowns are free.
+///
+/// It can't carry out a behaviour itself: what a behaviour replies, and leaves in its cowns, it knows from
+/// what comes back alone.
+#[derive(Drop)]
+pub struct Board<B: Behaviour> {
+    opening: Columns,
+    columns: Columns,
+    base: u64,
+    earlier: Vec<Reply>,
+    log: Vec<B>,
+    states: Vec<State>,
+    // For each cown the places in the log of the unfinished behaviours that declare it.
+    queues: Queues,
+    // The places of the waiting ones.
+    waiting: VecDeque<u64>,
+    unfinished: usize,
+}
+
+impl<B: Behaviour> Model for Board<B> {
+    ghost use Rattle.std.specs.Prelude.{◌≡◌, length};
+    ghost use Rattle.cown_board.specs.Board.{BoardOf};
+    ghost use Rattle.cown_board.specs.Invariant.{IsBoard};
+
+    ghost Value = { BoardOf B };
+
+    ghost view = { λ b. record { opening = b.opening; earlier = b.earlier.items; log = b.log.items; states = b.states.items } };
+
+    ghost invariant = { λ b. IsBoard B.touches B.effect b.opening b.columns b.base b.earlier.items b.log.items b.states.items b.queues.lists b.waiting.items b.unfinished };
+}
+
+impl<B: Behaviour> Board<B> {
+    /// A board over these columns, with the replies to the numbers before it.
+    pub fn open(
+        alloc: Global,
+        columns: Columns,
+        base: u64,
+        replies: Vec<Reply>,
+    ) -> Result<Board<B>, AllocError>
+        requires replies { length replies.items ≡ base }
+        requires few { base ≤ LOG_CALLS }
+        ensures { IfOk result (λ board. board ≡ record { opening = columns; earlier = replies.items; log = []; states = [] }) }
+    {
+        let opening = columns.copy()?;
+        let queues = Queues::open(alloc, 2 * columns.customers())?;
+        Ok(Board {
+            opening,
+            columns,
+            base,
+            earlier: replies,
+            log: Vec::new(alloc),
+            states: Vec::new(alloc),
+            queues,
+            waiting: VecDeque::new(alloc),
+            unfinished: 0,
+        })
+    }
+
+    /// The greatest number so far.
+    pub fn length(&self) -> u64
+        ensures { result ≡ length_of self.now }
+    {
+        self.base + self.log.len() as u64
+    }
+
+    /// Whether nothing is unfinished.
+    pub fn idle(&self) -> bool
+        ensures { IsTrue result ↔ (open_of self.now ≡ 0) }
+    {
+        self.unfinished == 0
+    }
+
+    /// Puts a behaviour last in the log, and answers its number.
+    ///
+    /// Fails with the first fault that holds, in the order of [`SubmitFault`]'s variants; the board is as it
+    /// was then. All room that handing out and finishing it take is made here.
+    pub fn submit(&mut self, behaviour: B) -> Result<u64, SubmitFault>
+        requires { AreBelow (length (held_of self.old.opening)) (B.touches behaviour) }
+        ensures number { IfOk result (λ number. number ≡ suc (length_of self.old)) }
+        ensures ok { OnOk result (self.new ≡ record self.old { log = self.old.log ++ behaviour ∷ []; states = self.old.states ++ State.Waiting ∷ [] }) }
+        ensures err { OnErr result (self.new ≡ self.old) }
+        ensures busy { IsErrOf result SubmitFault.Busy ↔ (open_of self.old ≡ OPEN_BEHAVIOURS) }
+        ensures full { IsErrOf result SubmitFault.LogFull ↔ ((open_of self.old ≢ OPEN_BEHAVIOURS) × (length_of self.old ≡ LOG_CALLS)) }
+    {
+        if self.unfinished == OPEN_BEHAVIOURS {
+            return Err(SubmitFault::Busy);
+        }
+        if self.base as usize + self.log.len() == LOG_CALLS {
+            return Err(SubmitFault::LogFull);
+        }
+        let cowns = behaviour.cowns();
+        if make_room(
+            &mut self.queues,
+            cowns.as_slice(),
+            &mut self.log,
+            &mut self.states,
+            &mut self.waiting,
+        )
+        .is_err()
+        {
+            return Err(SubmitFault::OutOfMemory);
+        }
+        let place = self.log.len() as u64;
+        self.queues.append(place, cowns.as_slice());
+        self.log.push_reserved(behaviour);
+        self.states.push_reserved(State::Waiting);
+        self.waiting.push_back_reserved(place);
+        self.unfinished += 1;
+        Ok(self.base + place + 1)
+    }
+
+    /// Hands out the ready behaviour that has this many ready ones before it: it is out from then on. `None`,
+    /// and nothing changed, where there is none.
+    ///
+    /// A behaviour is ready while it waits and no unfinished one before it shares a cown with it.
+    pub fn take_at(&mut self, index: usize) -> Option<Job<B>>
+        ensures { MatchOption result
+            ((length (ready_places B.touches self.old.log self.old.states) ≤ index) × (self.new ≡ self.old))
+            (λ job. Takes B.touches B.effect self.old index job self.new) }
+    {
+        let (position, place) = nth_front(&self.log, &self.queues, &self.waiting, index)?;
+        self.waiting.remove(position);
+        let behaviour = self.log[place as usize];
+        self.states[place as usize] = State::Out;
+        let inputs = read_all(&self.columns, behaviour.cowns().as_slice());
+        Some(Job::new(self.base + place + 1, behaviour, inputs))
+    }
+
+    /// Takes back what a behaviour did that was handed out: it is finished, its cowns hold what it left, and
+    /// its reply is answered. What isn't that of a behaviour that is out, on the inputs that it was handed out
+    /// with, comes back, and nothing changes.
+    pub fn finish(&mut self, done: Done<B>) -> Result<Reply, Done<B>>
+        ensures accepted { IsOk result ↔ IsOutHere B.touches B.effect self.old done }
+        ensures outcome { MatchResult result (λ reply. Finishes B.touches B.effect self.old done reply self.new) (λ back. (back ≡ done) × (self.new ≡ self.old)) }
+    {
+        let Some(place) = place_of(self.base, self.log.len(), done.number()) else {
+            return Err(done);
+        };
+        if !is_out_at(&self.columns, &self.log, &self.states, place, &done) {
+            return Err(done);
+        }
+        let cowns = self.log[place as usize].cowns();
+        let (reply, outputs) = done.into_effect();
+        self.queues.release(place, cowns.as_slice());
+        write_all(&mut self.columns, cowns.as_slice(), outputs.as_slice());
+        self.states[place as usize] = State::Finished(reply);
+        self.unfinished -= 1;
+        Ok(reply)
+    }
+
+    /// The reply to a number: the one that was handed in for a number before the board's, and else that of a
+    /// finished behaviour.
+    pub fn reply(&self, number: u64) -> Option<Reply>
+        ensures value { result ≡ reply_in self.now number }
+        // It is that of the log run one by one.
+        ensures by_log { IfSome result (λ reply. length self.now.earlier < number
+            → reply_by_log B.touches B.effect (held_of self.now.opening) self.now.log (number - length self.now.earlier) ≡ Some reply) }
+    {
+        if number <= self.base {
+            let place = number.checked_sub(1)?;
+            return Some(self.earlier[place as usize]);
+        }
+        let place = place_of(self.base, self.log.len(), number)?;
+        self.states[place as usize].reply()
+    }
+
+    /// The columns after the whole log, or `None` while something is unfinished. Fails where memory is refused.
+    pub fn columns(&self) -> Result<Option<Columns>, AllocError>
+        ensures value { IfOk result (λ columns. MatchOption columns (open_of self.now ≢ 0) (λ all. (open_of self.now ≡ 0) × IsAfterAll B.touches B.effect self.now all)) }
+        ensures err { OnErr result (open_of self.now ≡ 0) }
+    {
+        if !self.idle() {
+            return Ok(None);
+        }
+        Ok(Some(self.columns.copy()?))
+    }
+}
+
+// Makes room for one behaviour more. Where memory is refused nothing is lost.
+fn make_room<B: Behaviour>(
+    queues: &mut Queues,
+    cowns: &[Cown],
+    log: &mut Vec<B>,
+    states: &mut Vec<State>,
+    waiting: &mut VecDeque<u64>,
+) -> Result<(), AllocError>
+    requires few { length cowns.now ≤ 3 }
+    requires rising { IsRising cowns.now }
+    requires cowns { AreBelow (length queues.old.lists) cowns.now }
+    ensures lists { queues.new.lists ≡ queues.old.lists }
+    ensures reserved { OnOk result (queues.new.reserved ≡ cowns.now) }
+    ensures log { (log.new.items ≡ log.old.items) × (vec_len log.new ≡ vec_len log.old) }
+    ensures log_room { OnOk result (vec_len log.new < vec_capacity log.new) }
+    ensures states { (states.new.items ≡ states.old.items) × (vec_len states.new ≡ vec_len states.old) }
+    ensures states_room { OnOk result (vec_len states.new < vec_capacity states.new) }
+    ensures waiting { (waiting.new.items ≡ waiting.old.items) × (deque_len waiting.new ≡ deque_len waiting.old) }
+    ensures waiting_room { OnOk result (deque_len waiting.new < deque_capacity waiting.new) }
+{
+    log.reserve(1)?;
+    states.reserve(1)?;
+    waiting.reserve(1)?;
+    queues.reserve(cowns)
+}

@@ -1,0 +1,15 @@
+//! A board that hands out behaviours as their cowns become free, and takes back what they did.
+#![tactic(auto)]
+
+mod accepting;
+mod board;
+mod fronts;
+mod held;
+mod job;
+mod runs;
+mod state;
+
+pub use board::{Board, OPEN_BEHAVIOURS, SubmitFault};
+pub use job::{Done, Job};
+pub use runs::Runs;
+pub use state::State;

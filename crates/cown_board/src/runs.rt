@@ -1,0 +1,47 @@
+//! What runs behaviours: a board, or what owns one.
+ghost use Rattle.std.specs.Prelude.{◌≡◌, ◌≤◌, ◌↔◌, length, IsTrue, IsOk, MatchOption, MatchResult};
+ghost use Rattle.sb_calls.specs.Behaviour.{declared_cowns, effect_of};
+ghost use Rattle.sb_calls.specs.declared.op.Op.{Op as AnyOp};
+ghost use Rattle.cown_board.specs.Board.{BoardOf, open_of, Takes, Finishes, IsOutHere};
+ghost use Rattle.cown_board.specs.Readiness.{ready_places};
+
+use crate::board::Board;
+use crate::job::{Done, Job};
+use sb_calls::{Op, Reply};
+
+/// Hands out ops that are ready, and takes back what they did.
+pub trait Runs {
+    /// The board that it owns.
+    ghost board: { Self → BoardOf AnyOp };
+
+    /// Hands out the ready op that has this many ready ones before it, as [`Board::take_at`].
+    fn take_at(&mut self, index: usize) -> Option<Job<Op>>
+        ensures { MatchOption result
+            ((length (ready_places declared_cowns (board self.old).log (board self.old).states) ≤ index) × (board self.new ≡ board self.old))
+            (λ job. Takes declared_cowns effect_of (board self.old) index job (board self.new)) };
+
+    /// Takes back what an op did, as [`Board::finish`].
+    fn finish(&mut self, done: Done<Op>) -> Result<Reply, Done<Op>>
+        ensures accepted { IsOk result ↔ IsOutHere declared_cowns effect_of (board self.old) done }
+        ensures outcome { MatchResult result (λ reply. Finishes declared_cowns effect_of (board self.old) done reply (board self.new)) (λ back. (back ≡ done) × (board self.new ≡ board self.old)) };
+
+    /// Whether nothing is unfinished.
+    fn idle(&self) -> bool
+        ensures { IsTrue result ↔ (open_of (board self.now) ≡ 0) };
+}
+
+impl Runs for Board<Op> {
+    ghost board = { λ board. board };
+
+    fn take_at(&mut self, index: usize) -> Option<Job<Op>> {
+        self.take_at(index)
+    }
+
+    fn finish(&mut self, done: Done<Op>) -> Result<Reply, Done<Op>> {
+        self.finish(done)
+    }
+
+    fn idle(&self) -> bool {
+        self.idle()
+    }
+}

@@ -1,0 +1,31 @@
+-- The numbers that wait at each cown.
+use Rattle.std.specs.Prelude.{◌≡◌, ℕ, ◌+◌, ◌<◌, if◌then◌else◌, List, [], ◌∷◌, ◌++◌, length, get_or, drop, slice_get, filter_map}
+use Rattle.sb_calls.specs.OneByOne.{is_among}
+
+-- a list of numbers for each cown, the first one first, and the cowns at which there is room for one more
+pub record CownQueues : Type 0 where
+  pub lists : List (List ℕ)
+  pub reserved : List ℕ
+
+-- the list of a cown
+abbrev pub list_of : List (List ℕ) → ℕ → List ℕ
+list_of lists cown = get_or lists cown []
+
+-- the lists of these cowns have the number last; all others are as they were
+pub record Appends (number : ℕ) (cowns : List ℕ) (old new : List (List ℕ)) : Type 0 where
+  pub cowns_stay : length new ≡ length old
+  pub each : (cown : ℕ) → cown < length old → list_of new cown ≡ (if is_among cown cowns then list_of old cown ++ number ∷ [] else list_of old cown)
+
+-- the lists of these cowns begin with the number
+abbrev pub IsInFront : ℕ → List ℕ → List (List ℕ) → Type 0
+IsInFront number [] lists = Unit {0}
+IsInFront number (cown ∷ cowns) lists = ((rest : List ℕ) × (list_of lists cown ≡ number ∷ rest)) × IsInFront number cowns lists
+
+-- the lists of these cowns are without their first number; all others are as they were
+pub record Releases (cowns : List ℕ) (old new : List (List ℕ)) : Type 0 where
+  pub cowns_stay : length new ≡ length old
+  pub each : (cown : ℕ) → cown < length old → list_of new cown ≡ (if is_among cown cowns then drop 1 (list_of old cown) else list_of old cown)
+
+-- the first number of each of these cowns that has one, in the order of the cowns
+abbrev pub fronts_of : List (List ℕ) → List ℕ → List ℕ
+fronts_of lists cowns = filter_map (λ cown. slice_get (list_of lists cown) 0) cowns

@@ -1,0 +1,100 @@
+//! A queue for each cown.
+ghost use Rattle.std.specs.Prelude.{◌≡◌, ◌≤◌, ◌<◌, ℕ, [], length, replicate, slice_get, IfOk, OnOk, OnErr};
+ghost use Rattle.sb_calls.specs.Cowns.{AreBelow, IsRising};
+ghost use Rattle.cown_queue.specs.Queues.{CownQueues, list_of, fronts_of, Appends, IsInFront, Releases};
+
+use crate::lists::{empty_lists, front_at, fronts_at, pop_each, push_each, reserve_each, copy_of};
+use arrayvec::ArrayVec;
+use sb_calls::Cown;
+use std::alloc::{AllocError, Global};
+use std::collections::VecDeque;
+use std::marker::Model;
+
+/// For each cown the numbers of the behaviours that declare it, the one that was spawned first in front.
+#[derive(Drop)]
+pub struct Queues {
+    lists: Vec<VecDeque<u64>>,
+    // The cowns whose lists have room for one number more.
+    reserved: ArrayVec<Cown, 3>,
+}
+
+impl Model for Queues {
+    ghost use Rattle.std.specs.Prelude.{map};
+    ghost use Rattle.cown_queue.specs.Queues.{CownQueues};
+    ghost use Rattle.cown_queue.specs.Rooms.{rooms_of, HaveRoom};
+
+    ghost Value = { CownQueues };
+
+    ghost view = { λ q. record { lists = map (λ d. d.items) q.lists.items; reserved = q.reserved.items } };
+
+    ghost invariant = { λ q. HaveRoom (rooms_of q.lists.items) q.reserved.items };
+}
+
+impl Queues {
+    /// An empty queue for each of this many cowns, numbered from 0.
+    pub fn open(alloc: Global, cowns: usize) -> Result<Queues, AllocError>
+        ensures { IfOk result (λ queues. queues ≡ record { lists = replicate cowns []; reserved = [] }) }
+    {
+        Ok(Queues {
+            lists: empty_lists(alloc, cowns)?,
+            reserved: ArrayVec::new(),
+        })
+    }
+
+    /// How many cowns there are.
+    pub fn cowns(&self) -> usize
+        ensures { result ≡ length self.now.lists }
+    {
+        self.lists.len()
+    }
+
+    /// Makes room for one number more at these cowns; before, other cowns may have had it. Where memory is
+    /// refused nothing changes.
+    pub fn reserve(&mut self, cowns: &[Cown]) -> Result<(), AllocError>
+        requires few { length cowns.now ≤ 3 }
+        requires rising { IsRising cowns.now }
+        requires cowns { AreBelow (length self.old.lists) cowns.now }
+        ensures ok { OnOk result (self.new ≡ record self.old { reserved = cowns.now }) }
+        ensures err { OnErr result (self.new ≡ self.old) }
+    {
+        reserve_each(&mut self.lists, cowns)?;
+        self.reserved = copy_of(cowns);
+        Ok(())
+    }
+
+    /// Puts a number last at the cowns for which room was made. It takes no memory, and no cown has room
+    /// made any more.
+    pub fn append(&mut self, number: u64, cowns: &[Cown])
+        requires reserved { cowns.now ≡ self.old.reserved }
+        requires rising { IsRising cowns.now }
+        requires cowns { AreBelow (length self.old.lists) cowns.now }
+        ensures lists { Appends number cowns.now self.old.lists self.new.lists }
+        ensures reserved { self.new.reserved ≡ [] }
+    {
+        push_each(&mut self.lists, number, cowns);
+        self.reserved.clear();
+    }
+
+    /// Takes a number from the front of these cowns, and answers the new fronts of those that still hold
+    /// one, in order.
+    pub fn release(&mut self, number: u64, cowns: &[Cown]) -> ArrayVec<u64, 3>
+        requires few { length cowns.now ≤ 3 }
+        requires rising { IsRising cowns.now }
+        requires cowns { AreBelow (length self.old.lists) cowns.now }
+        requires front { IsInFront number cowns.now self.old.lists }
+        ensures lists { Releases cowns.now self.old.lists self.new.lists }
+        ensures reserved { self.new.reserved ≡ self.old.reserved }
+        ensures fronts { result.items ≡ fronts_of self.new.lists cowns.now }
+    {
+        pop_each(&mut self.lists, cowns);
+        fronts_at(&self.lists, cowns)
+    }
+
+    /// The number in front at a cown, if it holds one.
+    pub fn front(&self, cown: Cown) -> Option<u64>
+        requires { cown < length self.now.lists }
+        ensures { result ≡ slice_get (list_of self.now.lists cown) 0 }
+    {
+        front_at(&self.lists, cown)
+    }
+}

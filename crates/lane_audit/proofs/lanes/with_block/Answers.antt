@@ -1,0 +1,5 @@
+use Rattle.lane_audit.proofs.LaneLemmas.{added_lanes}
+use Rattle.lane_audit.proofs.lanes.with_block.Goals as goal
+
+pub returns : goal.returns
+returns c = added_lanes c.args.sums c.args.block.now

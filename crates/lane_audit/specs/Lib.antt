@@ -1,0 +1,3 @@
+pub mod Audit
+pub mod Columns
+pub mod LeastPlaces

@@ -1,0 +1,75 @@
+//! The audit: what a bank has, against what its calls and replies say.
+ghost use Rattle.std.specs.Prelude.{◌≡◌, ◌≤◌, ◌+ℤ◌, pos, length};
+ghost use Rattle.sb_calls.specs.Net.{net_of, net_sum};
+ghost use Rattle.lane_audit.specs.Audit.{HasAmountWithin, IsBankTotal, IsNetOf};
+ghost use Rattle.lane_audit.specs.Columns.{count_below, total};
+
+use crate::counting::count_below;
+use crate::report::Audit;
+use crate::summing::sum;
+use sb_calls::{Call, LOG_CALLS, Reply, net};
+use sb_rows::Columns;
+
+/// All savings and checking balances of a bank added up, in cents.
+pub fn bank_total(columns: &Columns) -> i64
+    ensures value { result ≡ total columns.now.savings +ℤ total columns.now.checking }
+    ensures bank { IsBankTotal result }
+{
+    // Its contract says that all balances are in their ranges, as `sum` asks.
+    let _customers = columns.customers();
+    sum(columns.savings()) + sum(columns.checking())
+}
+
+/// Adds up all balances and the net changes of all calls, and counts the overdrawn. Each call stands
+/// beside its reply; `opening_total` is what `bank_total` was before the first of them, in cents.
+pub fn audit(columns: &Columns, opening_total: i64, calls: &[Call], replies: &[Reply]) -> Audit
+    requires replies { length calls.now ≡ length replies.now }
+    requires few { length calls.now ≤ LOG_CALLS }
+    requires opening { IsBankTotal opening_total }
+    ensures total { result.total ≡ total columns.now.savings +ℤ total columns.now.checking }
+    ensures expected { result.expected ≡ opening_total +ℤ net_sum calls.now replies.now }
+    ensures overdrawn { result.overdrawn ≡ count_below columns.now.checking (pos 0) }
+{
+    Audit {
+        total: bank_total(columns),
+        expected: opening_total + net_of_all(calls, replies),
+        overdrawn: count_below(columns.checking(), 0),
+    }
+}
+
+// What all calls with their replies add to a bank's total.
+fn net_of_all(calls: &[Call], replies: &[Reply]) -> i64
+    requires replies { length calls.now ≡ length replies.now }
+    requires few { length calls.now ≤ LOG_CALLS }
+    ensures value { result ≡ net_sum calls.now replies.now }
+    ensures within { IsNetOf (length calls.now) result }
+{
+    let mut added = 0;
+    for (place, call) in calls.iter().enumerate() {
+        added += net_of_one(call, replies[place]);
+    }
+    added
+}
+
+// What a call with its reply adds, which is no more than the limit and the penalty.
+fn net_of_one(call: &Call, reply: Reply) -> i64
+    ensures value { result ≡ net_of call.now reply }
+    ensures within { IsNetOf 1 result }
+{
+    amount_within(call);
+    net(call, reply)
+}
+
+// The amount of a call is in its range: the checker knows that once it is read.
+fn amount_within(call: &Call)
+    ensures { HasAmountWithin call.now }
+{
+    match call {
+        Call::DepositChecking(_, amount)
+        | Call::TransactSavings(_, amount)
+        | Call::WriteCheck(_, amount) => {
+            let _cents = amount.value();
+        }
+        Call::Balance(_) | Call::Amalgamate(_, _) => {}
+    }
+}

@@ -1,0 +1,21 @@
+//! Columns of whole numbers read eight at a time, and the audit of a bank by its columns.
+#![tactic(auto)]
+
+mod auditing;
+mod counting;
+mod differences;
+mod lanes;
+mod laws;
+mod ranges;
+mod report;
+mod summing;
+#[cfg(test)]
+mod tests;
+
+pub use auditing::{audit, bank_total};
+pub use counting::count_below;
+pub use differences::first_difference;
+pub use laws::least_difference;
+pub use ranges::first_outside;
+pub use report::Audit;
+pub use summing::sum;

@@ -1,0 +1,38 @@
+//! The sum of a column.
+ghost use Rattle.std.specs.Prelude.{◌≡◌, ◌≤◌, length, FitsSigned};
+ghost use Rattle.std.specs.Int.{w64, int_wrap};
+ghost use Rattle.std.specs.List.{All, flat_map};
+ghost use Rattle.sb_amount.specs.Limit.{IsWithinLimit};
+ghost use Rattle.lane_audit.specs.Columns.{total};
+
+use crate::lanes::{LANES, each_fits, with_block};
+use sb_rows::CUSTOMERS;
+use std::simd::prelude::*;
+
+/// The values of a column added up, which may be no more than a bank has customers and each in the
+/// range of a balance, so that the sum fits.
+pub fn sum(values: &[i64]) -> i64
+    requires few { length values.now ≤ CUSTOMERS }
+    requires within { All IsWithinLimit values.now }
+    ensures { result ≡ total values.now }
+{
+    each_fits(values);
+    let (blocks, rest) = values.as_chunks::<LANES>();
+    let mut sum = sum_of_blocks(blocks);
+    for value in rest {
+        sum += *value;
+    }
+    sum
+}
+
+// The sum of all blocks, which wraps. A lane that wrapped on the way does no harm to a sum that fits.
+fn sum_of_blocks(blocks: &[[i64; LANES]]) -> i64
+    requires { All (All (FitsSigned w64)) blocks.now }
+    ensures { result ≡ int_wrap w64 (total (flat_map (λ block. block) blocks.now)) }
+{
+    let mut sums = i64x8::splat(0);
+    for block in blocks {
+        sums = with_block(sums, block);
+    }
+    sums.reduce_sum()
+}

@@ -1,0 +1,85 @@
+-- The effect of an op where its case is known.
+use Rattle.std.proofs.Common.{◌≡◌, ℕ, ◌<◌, ℤ, pos, neg_ℤ, ◌+ℤ◌, ◌-ℤ◌, ◌≤ℤ◌, Bool, true, false, cond, ◌==◌, List, [], ◌∷◌, get_or, refl, arith, to_z, of_z, w64}
+use Rattle.std.specs.Prelude.{int_lt, nat_lt}
+use Rattle.std.proofs.lemmas.Bool.Decides.{nat_tests}
+use Rattle.std.proofs.lemmas.Int.{ints}
+use Rattle.sb_amount.specs.Limit.{IsWithinLimit}
+use Rattle.sb_amount.specs.declared.cents.TheConstants.{LIMIT}
+use Rattle.sb_calls.proofs.Amalgamation.{past_limit_either, within_limit}
+use Rattle.sb_calls.proofs.Procedures.{past_limit_downwards}
+use Rattle.sb_calls.specs.Behaviour.{cowns_of_two, check_effect, giver_first_effect, taker_first_effect, of_three, effect_of_two}
+use Rattle.sb_calls.specs.Cowns.{savings_cown, checking_cown, AreHeld}
+use Rattle.sb_calls.specs.Procedures.{check_cost}
+use Rattle.sb_calls.specs.declared.reply.Reply.{Reply}
+use Rattle.sb_calls.specs.declared.reply.Reply.TheVariants.{Done, Penalised, OverLimit}
+
+-- an amalgamation that is carried out, and one that would pass the limit
+pub giver_first_done : (s c r : ℤ) → IsWithinLimit ((r +ℤ s) +ℤ c) → giver_first_effect s c r ≡ (Done, pos 0 ∷ pos 0 ∷ ((r +ℤ s) +ℤ c) ∷ [])
+giver_first_done s c r fits = rw (within_limit ((r +ℤ s) +ℤ c) fits) refl
+
+pub giver_first_over_limit : (s c r : ℤ) → ¬ IsWithinLimit ((r +ℤ s) +ℤ c) → giver_first_effect s c r ≡ (OverLimit, s ∷ c ∷ r ∷ [])
+giver_first_over_limit s c r past = rw (past_limit_either ((r +ℤ s) +ℤ c) past) refl
+
+pub taker_first_done : (r s c : ℤ) → IsWithinLimit ((r +ℤ s) +ℤ c) → taker_first_effect r s c ≡ (Done, ((r +ℤ s) +ℤ c) ∷ pos 0 ∷ pos 0 ∷ [])
+taker_first_done r s c fits = rw (within_limit ((r +ℤ s) +ℤ c) fits) refl
+
+pub taker_first_over_limit : (r s c : ℤ) → ¬ IsWithinLimit ((r +ℤ s) +ℤ c) → taker_first_effect r s c ≡ (OverLimit, r ∷ s ∷ c ∷ [])
+taker_first_over_limit r s c past = rw (past_limit_either ((r +ℤ s) +ℤ c) past) refl
+
+-- a check costs its amount, or 100 cents more
+pub cost_bounds : (s c amount : ℤ) → (amount ≤ℤ check_cost s c amount) × (check_cost s c amount ≤ℤ (amount +ℤ pos 100))
+cost_bounds s c amount = by (int_lt (s +ℤ c) amount)
+  where
+    by : (overdrawn : Bool) → (amount ≤ℤ cond overdrawn (amount +ℤ pos 100) amount) × (cond overdrawn (amount +ℤ pos 100) amount ≤ℤ (amount +ℤ pos 100))
+    by true = (omega (arith, ints), omega (arith, ints))
+    by false = (omega (arith, ints), omega (arith, ints))
+
+-- a check that is paid, and one that would pass the limit
+pub check_paid : (amount s c : ℤ) → int_lt amount (pos 0) ≡ false → IsWithinLimit (c -ℤ check_cost s c amount)
+    → check_effect amount s c ≡ (cond (int_lt (s +ℤ c) amount) Penalised Done, s ∷ (c -ℤ check_cost s c amount) ∷ [])
+check_paid amount s c ge fits =
+    let le : int_lt (c -ℤ check_cost s c amount) (neg_ℤ LIMIT) ≡ false = grind (arith, ints, fits.at_least) in
+    rw (ge, le) refl
+
+pub check_over_limit : (amount s c : ℤ) → IsWithinLimit c → int_lt amount (pos 0) ≡ false → ¬ IsWithinLimit (c -ℤ check_cost s c amount) → check_effect amount s c ≡ (OverLimit, s ∷ c ∷ [])
+check_over_limit amount s c within ge past = let lt = past_limit_downwards s c amount within ge past in rw (ge, lt) refl
+
+-- ---- on what the cowns hold
+
+-- what a cown holds comes back whole from 64 bits
+comes_back : (v : ℤ) → IsWithinLimit v → to_z w64 (of_z w64 v) ≡ v
+comes_back v within = omega (arith, ints, within.at_least, within.at_most)
+
+-- an effect on three values is on what was read of them
+pub on_three : (a b c : ℕ) (effect : ℤ → ℤ → ℤ → Reply × List ℤ) (inputs : List ℤ) (x y z : ℤ) → AreHeld (a ∷ b ∷ c ∷ []) inputs
+    → x ≡ to_z w64 (of_z w64 (get_or inputs 0 (pos 0))) → y ≡ to_z w64 (of_z w64 (get_or inputs 1 (pos 0))) → z ≡ to_z w64 (of_z w64 (get_or inputs 2 (pos 0))) → of_three effect inputs ≡ effect x y z
+on_three a b c effect [] x y z held first second third = absurd held
+on_three a b c effect (v ∷ []) x y z held first second third = absurd held.1
+on_three a b c effect (v ∷ w ∷ []) x y z held first second third = absurd held.1.1
+on_three a b c effect (v ∷ w ∷ u ∷ []) x y z held first second third = rw (first, second, third, comes_back v held.0.within, comes_back w held.1.0.within, comes_back u held.1.1.0.within) refl
+on_three a b c effect (v ∷ w ∷ u ∷ t ∷ more) x y z held first second third = absurd held.1.1.1
+
+-- an amalgamation where the one that gives stands first, and where the other does
+pub cowns_giver_first : (from to : ℕ) → from < to → cowns_of_two from to ≡ savings_cown from ∷ checking_cown from ∷ checking_cown to ∷ []
+cowns_giver_first from to lt =
+    let different : (from == to) ≡ false = grind (arith, nat_tests) in
+    let before : nat_lt from to ≡ true = grind (arith, nat_tests) in
+    rw (different, before) refl
+
+pub cowns_taker_first : (from to : ℕ) → to < from → cowns_of_two from to ≡ checking_cown to ∷ savings_cown from ∷ checking_cown from ∷ []
+cowns_taker_first from to lt =
+    let different : (from == to) ≡ false = grind (arith, nat_tests) in
+    let after : nat_lt from to ≡ false = grind (arith, nat_tests) in
+    rw (different, after) refl
+
+pub effect_giver_first : (from to : ℕ) (inputs : List ℤ) → from < to → effect_of_two from to inputs ≡ of_three giver_first_effect inputs
+effect_giver_first from to inputs lt =
+    let different : (from == to) ≡ false = grind (arith, nat_tests) in
+    let before : nat_lt from to ≡ true = grind (arith, nat_tests) in
+    rw (different, before) refl
+
+pub effect_taker_first : (from to : ℕ) (inputs : List ℤ) → to < from → effect_of_two from to inputs ≡ of_three taker_first_effect inputs
+effect_taker_first from to inputs lt =
+    let different : (from == to) ≡ false = grind (arith, nat_tests) in
+    let after : nat_lt from to ≡ false = grind (arith, nat_tests) in
+    rw (different, after) refl

@@ -1,0 +1,80 @@
+-- Reading and writing a cown is reading and writing a column.
+use Rattle.std.proofs.Common.{◌≡◌, ◌*◌, ℕ, zero, suc, ℤ, pos, List, [], ◌∷◌, length, get_or, refl, ap, arith}
+use Rattle.std.specs.Prelude.{slice_set}
+use Rattle.std.proofs.lemmas.List.{set-get_or}
+use Rattle.sb_rows.specs.Balances.{Balances}
+use Rattle.sb_calls.proofs.Places.{with_savings, with_checking}
+use Rattle.sb_calls.specs.Cowns.{savings_cown, checking_cown, by_cown, held_of, read_cowns, write_cowns}
+
+-- the next customer's savings stand two further
+two_further : (place : ℕ) → savings_cown (suc place) ≡ suc (suc (savings_cown place))
+two_further place = omega arith
+
+-- the checking balance stands one further
+one_further : (place : ℕ) → checking_cown place ≡ suc (savings_cown place)
+one_further place = omega arith
+
+-- ---- reading
+
+get_or-by_cown_savings : (savings checking : List ℤ) (place : ℕ) → length savings ≡ length checking → get_or (by_cown savings checking) (savings_cown place) (pos 0) ≡ get_or savings place (pos 0)
+get_or-by_cown_savings [] checking place e = refl
+get_or-by_cown_savings (s ∷ savings) [] place e = absurd (omega arith)
+get_or-by_cown_savings (s ∷ savings) (c ∷ checking) zero e = refl
+get_or-by_cown_savings (s ∷ savings) (c ∷ checking) (suc place) e = rw two_further (get_or-by_cown_savings savings checking place (omega arith))
+
+get_or-by_cown_checking : (savings checking : List ℤ) (place : ℕ) → length savings ≡ length checking → get_or (by_cown savings checking) (suc (savings_cown place)) (pos 0) ≡ get_or checking place (pos 0)
+get_or-by_cown_checking [] [] place e = refl
+get_or-by_cown_checking [] (c ∷ checking) place e = absurd (omega arith)
+get_or-by_cown_checking (s ∷ savings) [] place e = absurd (omega arith)
+get_or-by_cown_checking (s ∷ savings) (c ∷ checking) zero e = refl
+get_or-by_cown_checking (s ∷ savings) (c ∷ checking) (suc place) e = rw two_further (get_or-by_cown_checking savings checking place (omega arith))
+
+-- what a savings cown holds
+pub held_savings : (b : Balances) (place : ℕ) → length b.savings ≡ length b.checking → get_or (held_of b) (savings_cown place) (pos 0) ≡ get_or b.savings place (pos 0)
+unfolding held_of
+held_savings b place e = get_or-by_cown_savings b.savings b.checking place e
+
+-- and what a checking cown holds
+pub held_checking : (b : Balances) (place : ℕ) → length b.savings ≡ length b.checking → get_or (held_of b) (checking_cown place) (pos 0) ≡ get_or b.checking place (pos 0)
+unfolding held_of
+held_checking b place e = rw one_further (get_or-by_cown_checking b.savings b.checking place e)
+
+-- ---- writing
+
+set-by_cown_savings : (savings checking : List ℤ) (place : ℕ) (v : ℤ) → by_cown (slice_set savings place v) checking ≡ slice_set (by_cown savings checking) (savings_cown place) v
+set-by_cown_savings [] checking place v = refl
+set-by_cown_savings (s ∷ savings) [] zero v = refl
+set-by_cown_savings (s ∷ savings) [] (suc place) v = refl
+set-by_cown_savings (s ∷ savings) (c ∷ checking) zero v = refl
+set-by_cown_savings (s ∷ savings) (c ∷ checking) (suc place) v = rw two_further (ap (λ (rest : List ℤ). s ∷ c ∷ rest) (set-by_cown_savings savings checking place v))
+
+set-by_cown_checking : (savings checking : List ℤ) (place : ℕ) (v : ℤ) → by_cown savings (slice_set checking place v) ≡ slice_set (by_cown savings checking) (suc (savings_cown place)) v
+set-by_cown_checking [] checking place v = refl
+set-by_cown_checking (s ∷ savings) [] place v = refl
+set-by_cown_checking (s ∷ savings) (c ∷ checking) zero v = refl
+set-by_cown_checking (s ∷ savings) (c ∷ checking) (suc place) v = rw two_further (ap (λ (rest : List ℤ). s ∷ c ∷ rest) (set-by_cown_checking savings checking place v))
+
+-- savings written at a place are written to their cown
+pub held_of-with_savings : (b : Balances) (place : ℕ) (v : ℤ) → held_of (with_savings b place v) ≡ slice_set (held_of b) (savings_cown place) v
+unfolding held_of
+held_of-with_savings b place v = set-by_cown_savings b.savings b.checking place v
+
+-- and so is a checking balance
+pub held_of-with_checking : (b : Balances) (place : ℕ) (v : ℤ) → held_of (with_checking b place v) ≡ slice_set (held_of b) (checking_cown place) v
+unfolding held_of
+held_of-with_checking b place v = rw one_further (set-by_cown_checking b.savings b.checking place v)
+
+-- what was read and is written back changes nothing
+pub write-read : (held : List ℤ) (cowns : List ℕ) → write_cowns held cowns (read_cowns held cowns) ≡ held
+write-read held [] = refl
+write-read held (cown ∷ cowns) = rw (set-get_or held cown (pos 0)) (write-read held cowns)
+
+length-by_cown : (savings checking : List ℤ) → length savings ≡ length checking → length (by_cown savings checking) ≡ 2 * length savings
+length-by_cown [] checking e = refl
+length-by_cown (s ∷ savings) [] e = absurd (omega arith)
+length-by_cown (s ∷ savings) (c ∷ checking) e = let rest = length-by_cown savings checking (omega (arith, e)) in omega (arith, rest)
+
+-- two cowns a customer
+pub length-held_of : (b : Balances) → length b.savings ≡ length b.checking → length (held_of b) ≡ 2 * length b.savings
+unfolding held_of
+length-held_of b e = length-by_cown b.savings b.checking e

@@ -1,0 +1,5 @@
+use Rattle.sb_calls.proofs.OneByOneRuns.{log_by_cowns}
+use Rattle.sb_calls.proofs.laws.logs_by_cowns.Goals as goal
+
+pub returns : goal.returns
+returns c = log_by_cowns

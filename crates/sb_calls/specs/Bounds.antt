@@ -1,0 +1,88 @@
+-- Sums, differences and cowns against a bound. The laws of an impl stand on specs/ alone, so this is shown step by step.
+use Rattle.std.specs.Prelude.{◌≡◌, ◌≢◌, ℕ, zero, suc, ◌<◌, ◌+◌, ◌%◌, ◌==◌, nat_lt, ℤ, pos, negsuc, neg_ℤ, ◌+ℤ◌, ◌-ℤ◌, ◌≤ℤ◌, int_lt, Bool, true, false, not, T, ◌⊎◌, refl}
+use Rattle.std.specs.Int.Signed.{le_z_yes, lt_z_no}
+use Rattle.std.proofs.Common.{ap, sym, subst, ◌∙◌, inl, inr}
+use Rattle.std.proofs.Math.Dec.{leb→le, le→leb, lit≤}
+use Rattle.std.proofs.Math.IntN.{suc_ℤ, pred_ℤ, +ℤ_idr, +ℤ-suc_ℤ, +ℤ-pred_ℤ, neg_ℤ-suc_ℤ}
+use Rattle.std.proofs.Math.Nat.{le_of_lt, le_trans, le-suc, not-suc-le-zero, mul_comm, mul-lt-mul_of_pos_left, add-lt-add_iff_right}
+use Rattle.std.proofs.Math.Numerals.{lt-add-one}
+use Rattle.std.proofs.lemmas.Bool.{both_ways, cases_order, eq-eqb, false_from_ne_true, lt-ltb, ltb-true}
+use Rattle.std.proofs.lemmas.Nat.{mul-add-lt, mod-mul-add}
+use Rattle.sb_calls.specs.Cowns.{savings_cown, checking_cown}
+
+-- ---- whole numbers
+
+-- a test that failed
+pub at_least : (a b : ℤ) → int_lt b a ≡ false → a ≤ℤ b
+at_least a b e = lt_z_no (subst (λ (t : Bool). T (not t)) (sym e) tt)
+
+-- a bound holds for what is one above
+below_next : (a b : ℤ) → a ≤ℤ b → a ≤ℤ suc_ℤ b
+below_next (pos a) (pos b) h = le_z_yes (le→leb a (suc b) (le_trans (leb→le a b h.le) (le-suc b)))
+below_next (pos a) (negsuc b) h = absurd h.le
+below_next (negsuc a) (pos b) h = le_z_yes tt
+below_next (negsuc a) (negsuc zero) h = le_z_yes tt
+below_next (negsuc a) (negsuc (suc b)) h = le_z_yes (le→leb b a (le_of_lt (leb→le (suc b) a h.le)))
+
+-- and for what is one below
+above_last : (a b : ℤ) → b ≤ℤ a → pred_ℤ b ≤ℤ a
+above_last (pos a) (pos zero) h = le_z_yes tt
+above_last (pos a) (pos (suc b)) h = le_z_yes (le→leb b a (le_of_lt (leb→le (suc b) a h.le)))
+above_last (pos a) (negsuc b) h = le_z_yes tt
+above_last (negsuc a) (pos b) h = absurd h.le
+above_last (negsuc a) (negsuc b) h = le_z_yes (le→leb a (suc b) (le_trans (leb→le a b h.le) (le-suc b)))
+
+-- what grows stays above a bound
+grown : (a v : ℤ) (n : ℕ) → a ≤ℤ v → a ≤ℤ (v +ℤ pos n)
+grown a v zero h = subst (λ (x : ℤ). a ≤ℤ x) (sym (+ℤ_idr v)) h
+grown a v (suc n) h = subst (λ (x : ℤ). a ≤ℤ x) (sym (+ℤ-suc_ℤ v (pos n))) (below_next a (v +ℤ pos n) (grown a v n h))
+
+-- what falls stays below it
+fallen : (a v : ℤ) (n : ℕ) → v ≤ℤ a → (v -ℤ pos n) ≤ℤ a
+fallen a v zero h = subst (λ (x : ℤ). x ≤ℤ a) (sym (+ℤ_idr v)) h
+fallen a v (suc n) h =
+    subst (λ (x : ℤ). x ≤ℤ a) (sym (ap (λ (x : ℤ). v +ℤ x) (neg_ℤ-suc_ℤ (pos n)) ∙ +ℤ-pred_ℤ v (neg_ℤ (pos n)))) (above_last a (v -ℤ pos n) (fallen a v n h))
+
+-- by an amount that isn't negative
+pub grown_by : (a v amount : ℤ) → int_lt amount (pos 0) ≡ false → a ≤ℤ v → a ≤ℤ (v +ℤ amount)
+grown_by a v (pos n) ge h = grown a v n h
+grown_by a v (negsuc n) ge h = absurd (both_ways true ge refl)
+
+pub fallen_by : (a v amount : ℤ) → int_lt amount (pos 0) ≡ false → v ≤ℤ a → (v -ℤ amount) ≤ℤ a
+fallen_by a v (pos n) ge h = fallen a v n h
+fallen_by a v (negsuc n) ge h = absurd (both_ways true ge refl)
+
+-- an amount that isn't negative is not so with something more
+pub more_not_negative : (amount : ℤ) (n : ℕ) → int_lt amount (pos 0) ≡ false → int_lt (amount +ℤ pos n) (pos 0) ≡ false
+more_not_negative (pos m) n ge = false_from_ne_true (nat_lt (m + n) 0) (λ e. not-suc-le-zero (ltb-true (m + n) 0 e))
+more_not_negative (negsuc m) n ge = absurd (both_ways true ge refl)
+
+-- and is above what is negative
+pub not_negative_above : (v : ℤ) (n : ℕ) → int_lt v (pos 0) ≡ false → negsuc n ≤ℤ v
+not_negative_above (pos m) n ge = le_z_yes tt
+not_negative_above (negsuc m) n ge = absurd (both_ways true ge refl)
+
+-- ---- cowns
+
+-- the cown after savings is above it
+pub next_above : (n : ℕ) → n < n + 1
+next_above n = lt-add-one n
+
+-- a later customer's checking is above an earlier one's
+pub taker_above : (from to : ℕ) → nat_lt from to ≡ true → checking_cown from < checking_cown to
+taker_above from to before = (add-lt-add_iff_right 1).1 (mul-lt-mul_of_pos_left (ltb-true from to before) (lit≤ tt))
+
+-- and its savings too
+pub giver_above : (from to : ℕ) → (from == to) ≡ false → nat_lt from to ≡ false → checking_cown to < savings_cown from
+giver_above from to different after = by (cases_order from to)
+  where
+    by : (from ≡ to) ⊎ ((from < to) ⊎ (to < from)) → checking_cown to < savings_cown from
+    by (inl e) = absurd (both_ways (from == to) different (eq-eqb from to e))
+    by (inr (inl lt)) = absurd (both_ways (nat_lt from to) after (lt-ltb from to lt))
+    by (inr (inr lt)) = subst (λ (x : ℕ). x + 1 < savings_cown from) (mul_comm to 2) (mul-add-lt to 2 1 from lt (lit≤ tt))
+
+-- a checking cown is odd
+pub odd : (place : ℕ) → checking_cown place % 2 ≢ 0
+odd place even =
+    let one : 1 ≡ 0 = sym (mod-mul-add place 2 1 (lit≤ tt)) ∙ ap (λ (x : ℕ). (x + 1) % 2) (mul_comm place 2) ∙ even in
+    both_ways false refl (eq-eqb 1 0 one)
