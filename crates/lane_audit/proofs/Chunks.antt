@@ -1,5 +1,5 @@
 -- A column as whole blocks and a rest.
-use Rattle.std.proofs.Common.{◌≡◌, ℕ, zero, suc, ◌+◌, ◌*◌, ◌<◌, ℤ, List, [], ◌++◌, length, get_or, take, drop, sym, ap, ◌∙◌, arith, w64, FitsSigned}
+use Rattle.std.proofs.Common.{◌≡◌, ℕ, zero, suc, ◌+◌, ◌*◌, ◌<◌, ℤ, List, [], ◌++◌, length, get_or, take, drop, refl, sym, ap, ◌∙◌, arith, w64, FitsSigned}
 use Rattle.std.proofs.Math.Seq.{take-add}
 use Rattle.std.proofs.lemmas.List.{flat_map_more, take_more}
 use Rattle.std.proofs.lemmas.List.Elements.{All-take, All-drop}
@@ -23,10 +23,14 @@ pub joined_more : (blocks : List (List ℤ)) (i : ℕ) → i < length blocks →
 joined_more blocks i inside =
     flat_map_more (λ block. block) [] (take i blocks) (get_or blocks i []) ∙ ap joined (sym (take_more blocks i [] inside))
 
--- the values of each block fit where those of the column do
-fits_chunks : (n k : ℕ) (xs : List ℤ) → All (FitsSigned w64) xs → Each1 (All (FitsSigned w64)) (first_chunks n k xs)
-fits_chunks n zero xs fits = tt
-fits_chunks n (suc k) xs fits = (All-take (FitsSigned w64) n xs fits, fits_chunks n k (drop n xs) (All-drop (FitsSigned w64) n xs fits))
+-- what is so of each value of a column is so of those of its blocks
+fits_chunks : (P : ℤ → Type 0) (n k : ℕ) (xs : List ℤ) → All P xs → Each1 (All P) (first_chunks n k xs)
+fits_chunks P n zero xs fits = tt
+fits_chunks P n (suc k) xs fits = (All-take P n xs fits, fits_chunks P n k (drop n xs) (All-drop P n xs fits))
 
-pub blocks_fit : (n k : ℕ) (xs : List ℤ) → All (FitsSigned w64) xs → All (All (FitsSigned w64)) (first_chunks n k xs)
-blocks_fit n k xs fits i d inside = Each1-get_or (All (FitsSigned w64)) (first_chunks n k xs) i d inside (fits_chunks n k xs fits)
+pub blocks_fit : (P : ℤ → Type 0) (n k : ℕ) (xs : List ℤ) → All P xs → All (All P) (first_chunks n k xs)
+blocks_fit P n k xs fits i d inside = Each1-get_or (All P) (first_chunks n k xs) i d inside (fits_chunks P n k xs fits)
+
+pub length-first_chunks : (n k : ℕ) (xs : List ℤ) → length (first_chunks n k xs) ≡ k
+length-first_chunks n zero xs = refl
+length-first_chunks n (suc k) xs = ap suc (length-first_chunks n k (drop n xs))

@@ -1,5 +1,5 @@
 -- Totals of columns, and of lanes that wrap.
-use Rattle.std.proofs.Common.{◌≡◌, ℕ, ◌+◌, ◌*◌, ◌/◌, ◌^◌, ◌%◌, ◌<◌, ◌≤◌, ℤ, pos, neg_ℤ, ◌+ℤ◌, ◌≤ℤ◌, List, [], ◌∷◌, ◌++◌, map, take, drop, get_or, length, replicate, refl, sym, ap, ap₂, ◌∙◌, subst, arith, w64, FitsSigned, to_z, of_z}
+use Rattle.std.proofs.Common.{◌≡◌, ℕ, zero, suc, ◌+◌, ◌*◌, ◌/◌, ◌^◌, ◌%◌, ◌<◌, ◌≤◌, ℤ, pos, neg_ℤ, ◌+ℤ◌, ◌≤ℤ◌, List, [], ◌∷◌, ◌++◌, map, take, drop, get_or, length, replicate, refl, sym, ap, ap₂, ◌∙◌, subst, arith, w64, FitsSigned, to_z, of_z}
 use Rattle.std.proofs.lemmas.Int.{ints, to_z-of_z, int_wrap_fits, int_wrap-add_left, int_wrap-add_right, int_wrap-add_same, wrapping_add_is, wrapping_add_onto, SFits-int_wrap}
 use Rattle.std.proofs.Math.Facts.{sfits_to_z}
 use Rattle.std.proofs.lemmas.List.{get_or-drop, length-drop, length-take, take_more}
@@ -13,7 +13,7 @@ use Rattle.sb_amount.specs.Limit.{IsWithinLimit}
 use Rattle.lane_audit.specs.Columns.{total}
 use Rattle.lane_audit.proofs.Chunks.{joined, joined-first_chunks}
 use Rattle.lane_audit.proofs.LaneLemmas.{fits_each}
-use lib.Lanes.{Each1, zip2, fold_l}
+use lib.Lanes.{Each1, Each2, zip2, fold_l}
 
 pub total-append : (xs ys : List ℤ) → total (xs ++ ys) ≡ total xs +ℤ total ys
 total-append [] ys = omega (arith, ints)
@@ -38,39 +38,79 @@ bounded_fits n z few h = omega (arith, ints, h.at_least, h.at_most)
 
 -- ---- lanes
 
--- the total of two vectors added lane by lane, as it wraps
-wrapped-added : (xs ys : List ℤ) → length xs ≡ length ys → Each1 (FitsSigned w64) xs → Each1 (FitsSigned w64) ys
-    → int_wrap w64 (total (zip2 (int_wrapping_add w64) xs ys)) ≡ int_wrap w64 (total xs +ℤ total ys)
-wrapped-added [] [] long f g = refl
-wrapped-added [] (y ∷ ys) long f g = absurd (omega (arith, long))
-wrapped-added (x ∷ xs) [] long f g = absurd (omega (arith, long))
-wrapped-added (x ∷ xs) (y ∷ ys) long f g =
-    let rest = total (zip2 (int_wrapping_add w64) xs ys) in
-    ap (λ z. int_wrap w64 (z +ℤ rest)) (wrapping_add_is w64 x y f.0 g.0)
-    ∙ int_wrap-add_left w64 (x +ℤ y) rest ∙ sym (int_wrap-add_right w64 (x +ℤ y) rest)
-    ∙ ap (λ z. int_wrap w64 ((x +ℤ y) +ℤ z)) (wrapped-added xs ys (omega (arith, long)) f.1 g.1)
-    ∙ int_wrap-add_right w64 (x +ℤ y) (total xs +ℤ total ys) ∙ ap (int_wrap w64) (omega (arith, ints))
+-- the total of two vectors added lane by lane
+total-added : (xs ys : List ℤ) → length xs ≡ length ys → total (zip2 (λ x y. x +ℤ y) xs ys) ≡ total xs +ℤ total ys
+total-added [] [] long = omega (arith, ints)
+total-added [] (y ∷ ys) long = absurd (omega (arith, long))
+total-added (x ∷ xs) [] long = absurd (omega (arith, long))
+total-added (x ∷ xs) (y ∷ ys) long = let rest = total-added xs ys (omega (arith, long)) in omega (arith, ints, rest)
 
-added_fits : (xs ys : List ℤ) → Each1 (FitsSigned w64) xs → Each1 (FitsSigned w64) ys → Each1 (FitsSigned w64) (zip2 (int_wrapping_add w64) xs ys)
-added_fits [] ys f g = tt
-added_fits (x ∷ xs) [] f g = tt
-added_fits (x ∷ xs) (y ∷ ys) f g =
-    (subst (FitsSigned w64) (sym (wrapping_add_is w64 x y f.0 g.0)) (SFits-int_wrap w64 (x +ℤ y)), added_fits xs ys f.1 g.1)
+bounded_more : (n : ℕ) (x y : ℤ) → IsBounded n x → IsWithinLimit y → IsBounded (suc n) (x +ℤ y)
+bounded_more n x y h within = record { at_least = omega (arith, ints, h.at_least, within.at_least); at_most = omega (arith, ints, h.at_most, within.at_most) }
 
--- the lanes' sums after some blocks: their total is the blocks', as it wraps
-pub record SumsAre (sums front : List ℤ) : Type 0 where
+-- each of two vectors' sums fits, where the lanes are bounded
+pub lanes_fit : (n : ℕ) (xs ys : List ℤ) → suc n ≤ 65536 → Each1 (IsBounded n) xs → Each1 IsWithinLimit ys
+    → Each2 (λ x y. (FitsSigned w64 x) × (FitsSigned w64 y) × (FitsSigned w64 (x +ℤ y))) xs ys
+lanes_fit n [] ys few f g = tt
+lanes_fit n (x ∷ xs) [] few f g = tt
+lanes_fit n (x ∷ xs) (y ∷ ys) few f g = (
+  (bounded_fits n x (omega (arith, few)) f.0, omega (arith, ints, g.0.at_least, g.0.at_most), bounded_fits (suc n) (x +ℤ y) few (bounded_more n x y f.0 g.0)),
+  lanes_fit n xs ys few f.1 g.1,
+)
+
+added_bounded : (n : ℕ) (xs ys : List ℤ) → Each1 (IsBounded n) xs → Each1 IsWithinLimit ys → Each1 (IsBounded (suc n)) (zip2 (λ x y. x +ℤ y) xs ys)
+added_bounded n [] ys f g = tt
+added_bounded n (x ∷ xs) [] f g = tt
+added_bounded n (x ∷ xs) (y ∷ ys) f g = (bounded_more n x y f.0 g.0, added_bounded n xs ys f.1 g.1)
+
+-- where no lane overflows, adding is exact
+pub added_exactly : (xs ys : List ℤ) → Each2 (λ x y. (FitsSigned w64 x) × (FitsSigned w64 y) × (FitsSigned w64 (x +ℤ y))) xs ys
+    → zip2 (int_wrapping_add w64) xs ys ≡ zip2 (λ x y. x +ℤ y) xs ys
+added_exactly [] ys fits = refl
+added_exactly (x ∷ xs) [] fits = refl
+added_exactly (x ∷ xs) (y ∷ ys) fits =
+    ap₂ (λ z (zs : List ℤ). z ∷ zs) (wrapping_add_is w64 x y fits.0.0 fits.0.1 ∙ int_wrap_fits w64 (x +ℤ y) fits.0.2) (added_exactly xs ys fits.1)
+
+-- the lanes' sums after n blocks: none is past n times the limit, and their total is the blocks'
+pub record SumsAre (n : ℕ) (sums front : List ℤ) : Type 0 where
   pub lanes : length sums ≡ 8
-  pub fits : Each1 (FitsSigned w64) sums
-  pub same : int_wrap w64 (total sums) ≡ int_wrap w64 (total front)
+  pub bounded : Each1 (IsBounded n) sums
+  pub same : total sums ≡ total front
 
-SumsAre_more : (sums front block : List ℤ) → length block ≡ 8 → Each1 (FitsSigned w64) block → SumsAre sums front → SumsAre (zip2 (int_wrapping_add w64) sums block) (front ++ block)
-SumsAre_more sums front block long fits h =
+SumsAre_more : (n : ℕ) (sums front block : List ℤ) → length block ≡ 8 → Each1 IsWithinLimit block → SumsAre n sums front → SumsAre (suc n) (zip2 (λ x y. x +ℤ y) sums block) (front ++ block)
+SumsAre_more n sums front block long within h =
     let level : length sums ≡ length block = h.lanes ∙ sym long in
+    let added = total-added sums block level in
+    let appended = total-append front block in
     record {
-      lanes = length-zip2 (int_wrapping_add w64) sums block level ∙ h.lanes;
-      fits = added_fits sums block h.fits fits;
-      same = wrapped-added sums block level h.fits fits ∙ int_wrap-add_same w64 (total sums) (total front) (total block) h.same ∙ ap (int_wrap w64) (sym (total-append front block));
+      lanes = length-zip2 (λ x y. x +ℤ y) sums block level ∙ h.lanes;
+      bounded = added_bounded n sums block h.bounded within;
+      same = omega (arith, ints, added, appended, h.same);
     }
+
+fits_from_bounded : (n : ℕ) (xs : List ℤ) → n ≤ 65536 → Each1 (IsBounded n) xs → Each1 (FitsSigned w64) xs
+fits_from_bounded n [] few h = tt
+fits_from_bounded n (x ∷ xs) few h = (bounded_fits n x few h.0, fits_from_bounded n xs few h.1)
+
+within_each : (xs : List ℤ) → All IsWithinLimit xs → Each1 IsWithinLimit xs
+within_each xs within = Each1-from_get_or IsWithinLimit xs (pos 0) (λ k h. within k (pos 0) h)
+
+-- n for each of these lanes
+bound_of : ℕ → List ℤ → ℕ
+bound_of n [] = 0
+bound_of n (x ∷ xs) = n + bound_of n xs
+
+bound_small : (n : ℕ) (xs : List ℤ) → n ≤ 8192 → bound_of n xs ≤ length xs * 8192
+unfolding bound_of
+bound_small n [] few = omega arith
+bound_small n (x ∷ xs) few = let rest = bound_small n xs few in omega (arith, rest, few)
+
+sums_bounded : (n : ℕ) (xs : List ℤ) → Each1 (IsBounded n) xs → IsBounded (bound_of n xs) (total xs)
+unfolding bound_of
+sums_bounded n [] h = record { at_least = omega (arith, ints); at_most = omega (arith, ints) }
+sums_bounded n (x ∷ xs) h =
+    let rest = sums_bounded n xs h.1 in
+    record { at_least = omega (arith, ints, h.0.at_least, rest.at_least); at_most = omega (arith, ints, h.0.at_most, rest.at_most) }
 
 -- lanes are themselves when they are read back from their bits
 read_back : (xs : List ℤ) → Each1 (FitsSigned w64) xs → map (to_z w64) (map (of_z w64) xs) ≡ xs
@@ -86,21 +126,31 @@ reduced m (x ∷ xs) small fits =
     ∙ ap (λ z. int_wrap w64 (z +ℤ total xs)) (wrapping_add_onto w64 m x small fits.0)
     ∙ int_wrap-add_left w64 (to_z w64 m +ℤ x) (total xs) ∙ ap (int_wrap w64) (omega (arith, ints))
 
-pub reduce_sum_is : (sums front : List ℤ) → SumsAre sums front → to_z w64 (fold_l (λ a b. (a + b) % 2 ^ 64) 0 (map (of_z w64) sums)) ≡ int_wrap w64 (total front)
-reduce_sum_is sums front h = reduced 0 sums (omega arith) h.fits ∙ ap (int_wrap w64) (omega (arith, ints)) ∙ h.same
+pub reduce_sum_is : (n : ℕ) (sums front : List ℤ) → n ≤ 8192 → SumsAre n sums front → to_z w64 (fold_l (λ a b. (a + b) % 2 ^ 64) 0 (map (of_z w64) sums)) ≡ total front
+reduce_sum_is n sums front few h =
+    let all = sums_bounded n sums h.bounded in
+    reduced 0 sums (omega arith) (fits_from_bounded n sums (omega (arith, few)) h.bounded) ∙ ap (int_wrap w64) (omega (arith, ints))
+    ∙ int_wrap_fits w64 (total sums) (bounded_fits (bound_of n sums) (total sums) (let small = bound_small n sums few in omega (arith, small, h.lanes)) all) ∙ h.same
 
 -- the bits of such lanes
-abbrev pub BitsAre : List ℕ → List ℤ → Type 0
-BitsAre bits front = (sums : List ℤ) × (bits ≡ map (of_z w64) sums) × SumsAre sums front
+abbrev pub BitsAre : ℕ → List ℕ → List ℤ → Type 0
+BitsAre n bits front = (sums : List ℤ) × (bits ≡ map (of_z w64) sums) × SumsAre n sums front
 
-pub BitsAre_none : BitsAre (replicate 8 0) []
-BitsAre_none = (replicate 8 (pos 0), refl, record { lanes = refl; fits = Each1-replicate (FitsSigned w64) 8 (pos 0) (omega (arith, ints)); same = refl })
+pub BitsAre_none : BitsAre 0 (replicate 8 0) []
+BitsAre_none = (replicate 8 (pos 0), refl, record { lanes = refl; bounded = Each1-replicate (IsBounded 0) 8 (pos 0) (record { at_least = omega (arith, ints); at_most = omega (arith, ints) }); same = refl })
 
-pub BitsAre_more : (bits : List ℕ) (front block result : List ℤ) → length block ≡ 8 → All (FitsSigned w64) block → BitsAre bits front
-    → result ≡ zip2 (int_wrapping_add w64) (map (to_z w64) bits) block → BitsAre (map (of_z w64) result) (front ++ block)
-BitsAre_more bits front block result long fits h is =
-    let read = ap (λ ns. zip2 (int_wrapping_add w64) (map (to_z w64) ns) block) h.1 ∙ ap (λ xs. zip2 (int_wrapping_add w64) xs block) (read_back h.0 h.2.fits) in
-    (result, refl, subst (λ sums. SumsAre sums (front ++ block)) (sym (is ∙ read)) (SumsAre_more h.0 front block long (fits_each block fits) h.2))
+pub bits_fit : (n : ℕ) (bits : List ℕ) (front block : List ℤ) → suc n ≤ 65536 → All IsWithinLimit block → BitsAre n bits front
+    → Each2 (λ x y. (FitsSigned w64 x) × (FitsSigned w64 y) × (FitsSigned w64 (x +ℤ y))) (map (to_z w64) bits) block
+bits_fit n bits front block few within h =
+    let read : map (to_z w64) bits ≡ h.0 = ap (map (to_z w64)) h.1 ∙ read_back h.0 (fits_from_bounded n h.0 (omega (arith, few)) h.2.bounded) in
+    subst (λ xs. Each2 (λ x y. (FitsSigned w64 x) × (FitsSigned w64 y) × (FitsSigned w64 (x +ℤ y))) xs block) (sym read) (lanes_fit n h.0 block few h.2.bounded (within_each block within))
+
+pub BitsAre_more : (n : ℕ) (bits : List ℕ) (front block result : List ℤ) → suc n ≤ 65536 → length block ≡ 8 → All IsWithinLimit block → BitsAre n bits front
+    → result ≡ zip2 (λ x y. x +ℤ y) (map (to_z w64) bits) block → BitsAre (n + 1) (map (of_z w64) result) (front ++ block)
+BitsAre_more n bits front block result few long within h is =
+    let read : map (to_z w64) bits ≡ h.0 = ap (map (to_z w64)) h.1 ∙ read_back h.0 (fits_from_bounded n h.0 (omega (arith, few)) h.2.bounded) in
+    let more : suc n ≡ n + 1 = omega arith in
+    subst (λ m. BitsAre m (map (of_z w64) result) (front ++ block)) more (result, refl, subst (λ sums. SumsAre (suc n) sums (front ++ block)) (sym (is ∙ ap (λ xs. zip2 (λ x y. x +ℤ y) xs block) read)) (SumsAre_more n h.0 front block long (within_each block within) h.2))
 
 -- ---- a column's front and the values after it, one by one
 
@@ -109,11 +159,10 @@ module _ (values : List ℤ) (few : length values ≤ 65536) (within : All IsWit
   part_fits n = bounded_fits (length (take n values)) _ (omega (arith, length-take n values)) (total-within (take n values) (All-take IsWithinLimit n values within))
 
   -- the whole blocks
-  pub front_total : (blocks : List (List ℤ)) (sum : ℤ) → blocks ≡ first_chunks 8 (length values / 8) values → sum ≡ int_wrap w64 (total (joined blocks))
+  pub front_total : (blocks : List (List ℤ)) (sum : ℤ) → blocks ≡ first_chunks 8 (length values / 8) values → sum ≡ total (joined blocks)
       → sum ≡ total (take (length values / 8 * 8 + 0) values)
   front_total blocks sum are is =
-      is ∙ ap (λ bs. int_wrap w64 (total (joined bs))) are ∙ ap (λ xs. int_wrap w64 (total xs)) (joined-first_chunks 8 (length values / 8) values)
-      ∙ int_wrap_fits w64 (total (take (length values / 8 * 8) values)) (part_fits (length values / 8 * 8)) ∙ ap (λ n. total (take n values)) (omega arith)
+      is ∙ ap (λ bs. total (joined bs)) are ∙ ap total (joined-first_chunks 8 (length values / 8) values) ∙ ap (λ n. total (take n values)) (omega arith)
 
 -- one value of the rest
 pub rest_total : (values rest : List ℤ) (n i : ℕ) → rest ≡ drop n values → i < length rest → total (take (n + i) values) +ℤ get_or rest i (pos 0) ≡ total (take (n + (i + 1)) values)

@@ -1,8 +1,8 @@
 //! One block of eight values, which is one vector.
-ghost use Rattle.std.specs.Prelude.{◌≡◌, ◌+◌, ◌%◌, ◌^◌, ◌≤◌, ◌↔◌, int_lt, if◌then◌else◌, length, take, drop, All, IsTrue, FitsSigned};
-ghost use Rattle.std.specs.Int.{w64, int_wrapping_add};
+ghost use Rattle.std.specs.Prelude.{◌≡◌, ◌+◌, ◌%◌, ◌^◌, ◌≤◌, ◌↔◌, ◌+ℤ◌, int_lt, if◌then◌else◌, length, take, drop, All, IsTrue, FitsSigned};
+ghost use Rattle.std.specs.Int.{w64};
 ghost use Rattle.std.specs.List.{list_any};
-ghost use Rattle.std.specs.Simd.Lanes.{zip2};
+ghost use Rattle.std.specs.Simd.Lanes.{Each2, zip2};
 ghost use Rattle.lane_audit.specs.Columns.{is_outside};
 
 use std::simd::prelude::*;
@@ -10,10 +10,11 @@ use std::simd::prelude::*;
 /// How many values a block has.
 pub(crate) const LANES: usize = 8;
 
-// Each lane with the block's value added, which wraps.
+// Each lane with the block's value added. No lane overflows.
 #[inline(always)]
 pub(crate) fn with_block(sums: i64x8, block: &[i64; LANES]) -> i64x8
-    ensures { result ≡ zip2 (int_wrapping_add w64) sums block.now }
+    requires { Each2 (λ sum value. (FitsSigned w64 sum) × (FitsSigned w64 value) × (FitsSigned w64 (sum +ℤ value))) sums block.now }
+    ensures { result ≡ zip2 (λ sum value. sum +ℤ value) sums block.now }
 {
     sums + i64x8::from_array(*block)
 }

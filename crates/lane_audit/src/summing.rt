@@ -1,6 +1,5 @@
 //! The sum of a column.
-ghost use Rattle.std.specs.Prelude.{◌≡◌, ◌≤◌, length, FitsSigned};
-ghost use Rattle.std.specs.Int.{w64, int_wrap};
+ghost use Rattle.std.specs.Prelude.{◌≡◌, ◌≤◌, ◌*◌, length};
 ghost use Rattle.std.specs.List.{All, flat_map};
 ghost use Rattle.sb_amount.specs.Limit.{IsWithinLimit};
 ghost use Rattle.lane_audit.specs.Columns.{total};
@@ -25,10 +24,11 @@ pub fn sum(values: &[i64]) -> i64
     sum
 }
 
-// The sum of all blocks, which wraps. A lane that wrapped on the way does no harm to a sum that fits.
+// The sum of all blocks. No lane overflows on the way.
 fn sum_of_blocks(blocks: &[[i64; LANES]]) -> i64
-    requires { All (All (FitsSigned w64)) blocks.now }
-    ensures { result ≡ int_wrap w64 (total (flat_map (λ block. block) blocks.now)) }
+    requires few { length blocks.now * LANES ≤ CUSTOMERS }
+    requires within { All (All IsWithinLimit) blocks.now }
+    ensures { result ≡ total (flat_map (λ block. block) blocks.now) }
 {
     let mut sums = i64x8::splat(0);
     for block in blocks {

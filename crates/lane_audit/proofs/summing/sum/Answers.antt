@@ -1,14 +1,19 @@
-use Rattle.std.proofs.Common.{◌≡◌, ◌+◌, ◌*◌, ◌/◌, pos, ◌+ℤ◌, get_or, take, length, rules, sym, ap, ◌∙◌, subst, w64, FitsSigned, to_z, of_z}
+use Rattle.std.proofs.Common.{◌≡◌, ◌+◌, ◌*◌, ◌/◌, pos, ◌+ℤ◌, get_or, take, length, rules, sym, ap, ◌∙◌, subst, arith, w64, FitsSigned, to_z, of_z}
 use Rattle.std.proofs.lemmas.Int.{to_z-of_z}
 use Rattle.std.specs.List.{All}
+use Rattle.sb_amount.specs.Limit.{IsWithinLimit}
 use Rattle.lane_audit.specs.Columns.{total}
-use Rattle.lane_audit.proofs.Chunks.{blocks_fit}
+use Rattle.lane_audit.proofs.Chunks.{blocks_fit, length-first_chunks}
 use Rattle.lane_audit.proofs.Totals.{front_total, part_fits, rest_total}
 use Rattle.lane_audit.proofs.summing.sum.Goals as goal
 
 pub sum_of_blocks-sum-requires : goal.sum_of_blocks-sum-requires
 sum_of_blocks-sum-requires c =
-    subst (All (All (FitsSigned w64))) (sym c.as_chunks.ensures.front) (blocks_fit 8 (length c.args.values.now / 8) c.args.values.now c.each_fits.ensures)
+    let blocks = length (c.as_chunks.result.0.now) in
+    record {
+      few = omega (arith, c.requires.few, ap length c.as_chunks.ensures.front, length-first_chunks 8 (length c.args.values.now / 8) c.args.values.now);
+      within = subst (All (All IsWithinLimit)) (sym c.as_chunks.ensures.front) (blocks_fit IsWithinLimit 8 (length c.args.values.now / 8) c.args.values.now c.requires.within);
+    }
 
 pub loop-value-init : goal.loop-value-init
 loop-value-init c =

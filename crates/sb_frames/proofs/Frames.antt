@@ -1,0 +1,145 @@
+-- What is decoded is spelled so, and what is spelled so is decoded, whatever follows it.
+use Rattle.std.proofs.Common.{◌≡◌, ℕ, ◌+◌, ◌<◌, ◌≤◌, Bool, true, false, cond, eqb, ltb, ◌||◌, List, ◌++◌, length, take, drop, Result, Ok, Err, refl, sym, ap, subst, ◌∙◌, append_assoc, arith}
+use Rattle.std.specs.Int.{w16, to_be_bytes, from_be_bytes}
+use Rattle.std.specs.Prelude.{IfOk}
+use Rattle.std.proofs.Math.Seq.{take-add}
+use Rattle.std.proofs.lemmas.Bool.{ltb-false, le-ltb}
+use Rattle.std.proofs.lemmas.Bool.Decides.{nat_tests}
+use Rattle.std.proofs.lemmas.List.{take_at, take-append-drop, take-append-le, drop-append-le, length-append, length-take-le, length-drop}
+use Rattle.std.proofs.lemmas.List.Elements.{All-take, All-drop}
+use Rattle.std.proofs.lemmas.Nat.{be_bytes_2, from_be_bytes-to_be_bytes_2}
+use Rattle.sb_frames.specs.Decoding.{frame_of, stated_length, with_length, decoded}
+use Rattle.sb_frames.specs.Grammar.{IsFrame, body, spelling, Spells}
+use Rattle.sb_frames.specs.Reading.{◌>>=◌}
+use Rattle.sb_frames.specs.Streaming.{AreBytes}
+use Rattle.sb_frames.specs.declared.fault.FrameFault.{FrameFault}
+use Rattle.sb_frames.specs.declared.fault.FrameFault.TheVariants.{Short, BadLength}
+use Rattle.sb_frames.specs.declared.frame.Frame.{Frame}
+use Rattle.sb_frames.specs.declared.frame.TheConstants.{MAX_BODY}
+use Rattle.sb_frames.proofs.Bodies.{frame_takes, frame_again}
+use Rattle.sb_frames.proofs.Numbers.{each_byte}
+use Rattle.sb_frames.proofs.Sizes.{body_size}
+use Rattle.sb_frames.proofs.Steps.{first_step, refused_not, same_value}
+
+-- the two bytes that state a length spell it
+front_spells : (bytes : List ℕ) → AreBytes bytes → 2 ≤ length bytes → to_be_bytes w16 (stated_length bytes) ≡ take 2 bytes
+unfolding stated_length
+front_spells bytes are long =
+    be_bytes_2 (take 2 bytes) _ (length-take-le 2 bytes long) (each_byte (take 2 bytes) (All-take (λ byte. byte < 256) 2 bytes are)) refl
+
+-- a frame whose body has a stated length
+with_length_takes : (size : ℕ) (bytes : List ℕ) (frame : Frame) (k : ℕ) → AreBytes bytes → with_length size bytes ≡ Ok (frame, k)
+    → (k ≡ 2 + size) × (2 + size ≤ length bytes) × IsFrame frame × (take size (drop 2 bytes) ≡ body frame)
+unfolding with_length
+with_length_takes size bytes frame k are e =
+    let rest : Result (Frame × ℕ) FrameFault = frame_of (take size (drop 2 bytes)) >>= λ f. Ok (f, 2 + size) in
+    let sized = refused_not (eqb size 0 || ltb MAX_BODY size) BadLength (cond (ltb (length bytes) (2 + size)) (Err Short) rest) (frame, k) e in
+    let long = refused_not (ltb (length bytes) (2 + size)) Short rest (frame, k) sized.1 in
+    let step = first_step (frame_of (take size (drop 2 bytes))) (λ f. Ok (f, 2 + size)) (frame, k) long.1 in
+    let same = same_value (step.0, 2 + size) (frame, k) step.2 in
+    let read = frame_takes (take size (drop 2 bytes)) step.0 (All-take (λ byte. byte < 256) size (drop 2 bytes) (All-drop (λ byte. byte < 256) 2 bytes are)) step.1 in
+    (ap (λ (p : Frame × ℕ). p.1) (sym same), ltb-false (length bytes) (2 + size) long.0, subst IsFrame (ap (λ (p : Frame × ℕ). p.0) same) read.0, read.1 ∙ ap (λ (p : Frame × ℕ). body p.0) same)
+
+pub decoded_takes : (bytes : List ℕ) (frame : Frame) (k : ℕ) → AreBytes bytes → decoded bytes ≡ Ok (frame, k) → (k ≤ length bytes) × Spells frame (take k bytes)
+unfolding decoded
+decoded_takes bytes frame k are e =
+    let two = refused_not (ltb (length bytes) 2) Short (with_length (stated_length bytes) bytes) (frame, k) e in
+    let size = stated_length bytes in
+    let read = with_length_takes size bytes frame k are two.1 in
+    let two_long : 2 ≤ length bytes = ltb-false (length bytes) 2 two.0 in
+    let behind : size ≤ length (drop 2 bytes) = omega (arith, read.1, length-drop 2 bytes) in
+    let size_is : size ≡ length (body frame) = sym (length-take-le size (drop 2 bytes) behind) ∙ ap length read.3 in
+    let front : take 2 bytes ≡ to_be_bytes w16 (length (body frame)) = sym (front_spells bytes are two_long) ∙ ap (to_be_bytes w16) size_is in
+    let whole : take k bytes ≡ to_be_bytes w16 (length (body frame)) ++ body frame =
+    ap (λ n. take n bytes) read.0 ∙ take-add 2 size bytes ∙ ap (λ (xs : List ℕ). xs ++ take size (drop 2 bytes)) front ∙ ap (λ (xs : List ℕ). to_be_bytes w16 (length (body frame)) ++ xs) read.3 in
+    let short : k ≤ length bytes = omega (arith, read.0, read.1) in
+    (short, record { valid = read.2; spelled = whole })
+
+-- the length of a spelling
+pub spelling_size : (frame : Frame) → length (spelling frame) ≡ 2 + length (body frame)
+unfolding spelling
+spelling_size frame = omega arith
+
+pub decoded_again : (frame : Frame) (rest : List ℕ) → IsFrame frame → decoded (spelling frame ++ rest) ≡ Ok (frame, length (spelling frame))
+unfolding decoded with_length stated_length spelling
+decoded_again frame rest valid =
+    let size = length (body frame) in
+    let sizes = body_size frame valid in
+    let front = to_be_bytes w16 size in
+    let bytes = (front ++ body frame) ++ rest in
+    let parted : bytes ≡ front ++ (body frame ++ rest) = append_assoc front (body frame) rest in
+    let two : ltb (length bytes) 2 ≡ false = le-ltb _ _ (omega arith) in
+    let stated : from_be_bytes w16 (take 2 bytes) ≡ size =
+    ap (λ (xs : List ℕ). from_be_bytes w16 (take 2 xs)) parted ∙ ap (from_be_bytes w16) (take_at front (body frame ++ rest) 2 refl) ∙ from_be_bytes-to_be_bytes_2 size (omega (arith, sizes.1)) in
+    let sized : (eqb size 0 || ltb MAX_BODY size) ≡ false = grind (arith, nat_tests, sizes.0, sizes.1) in
+    let long : ltb (length bytes) (2 + size) ≡ false = le-ltb _ _ (omega (arith, length-append (body frame) rest)) in
+    let behind : take size (drop 2 bytes) ≡ body frame = take_at (body frame) rest size refl in
+    let found : ℕ → Result (Frame × ℕ) FrameFault = λ n. Ok (frame, n) in
+    rw (two, stated, sized, long, behind, frame_again frame valid) (ap found (sym (spelling_size frame)))
+
+-- ---- spellings
+
+pub spelling_is : (frame : Frame) (bytes : List ℕ) → Spells frame bytes → bytes ≡ spelling frame
+unfolding spelling
+spelling_is frame bytes h = h.spelled
+
+-- bytes that begin with a spelling are decoded as its frame
+pub begins_so : (frame : Frame) (front rest : List ℕ) → Spells frame front → decoded (front ++ rest) ≡ Ok (frame, length front)
+begins_so frame front rest h =
+    let is = spelling_is frame front h in
+    subst (λ (xs : List ℕ). decoded (xs ++ rest) ≡ Ok (frame, length xs)) (sym is) (decoded_again frame rest h.valid)
+
+pub one_frame : (f g : Frame) (a b x y : List ℕ) → Spells f a → Spells g b → a ++ x ≡ b ++ y → (f ≡ g) × (a ≡ b)
+one_frame f g a b x y h k e =
+    let same = same_value (f, length a) (g, length b) (sym (begins_so f a x h) ∙ ap decoded e ∙ begins_so g b y k) in
+    let frames : f ≡ g = ap (λ (p : Frame × ℕ). p.0) same in
+    (frames, spelling_is f a h ∙ ap spelling frames ∙ sym (spelling_is g b k))
+
+-- ---- what decode answers
+
+pub found_is_spelled : (bytes : List ℕ) (result : Result (Frame × ℕ) FrameFault) → AreBytes bytes → result ≡ decoded bytes → IfOk result (λ found. (found.1 ≤ length bytes) × Spells found.0 (take found.1 bytes))
+found_is_spelled bytes (Ok found) are e = decoded_takes bytes found.0 found.1 are (sym e)
+found_is_spelled bytes (Err fault) are e = tt
+
+pub spelled_is_found : (bytes : List ℕ) (frame : Frame) (k : ℕ) → k ≤ length bytes → Spells frame (take k bytes) → decoded bytes ≡ Ok (frame, k)
+spelled_is_found bytes frame k long h =
+    ap decoded (sym (take-append-drop k bytes)) ∙ begins_so frame (take k bytes) (drop k bytes) h ∙ ap (λ n. Ok (frame, n)) (length-take-le k bytes long)
+
+-- ---- more bytes
+
+-- a test for too few bytes, and what is read where there are enough, before and after more of them
+settled : {A : Type 0} (test after : Bool) (read more : Result A FrameFault) → (cond test (Err Short) read ≡ Err Short → ⊥) → (test ≡ false → after ≡ false)
+    → (test ≡ false → (read ≡ Err Short → ⊥) → more ≡ read) → cond after (Err Short) more ≡ cond test (Err Short) read
+settled true after read more whole h k = absurd (whole refl)
+settled false after read more whole h k = rw (h refl) (k refl whole)
+
+-- enough bytes stay enough
+still_enough : (bytes more : List ℕ) (n : ℕ) → ltb (length bytes) n ≡ false → ltb (length (bytes ++ more)) n ≡ false
+still_enough bytes more n h = let long = ltb-false (length bytes) n h in le-ltb _ _ (omega (arith, length-append bytes more))
+
+unless_bad : {A : Type 0} (bad : Bool) (read more : Result A FrameFault) → (cond bad (Err BadLength) read ≡ Err Short → ⊥) → ((read ≡ Err Short → ⊥) → more ≡ read)
+    → cond bad (Err BadLength) more ≡ cond bad (Err BadLength) read
+unless_bad true read more whole k = refl
+unless_bad false read more whole k = k whole
+
+with_length_settled : (size : ℕ) (bytes more : List ℕ) → 2 ≤ length bytes → (with_length size bytes ≡ Err Short → ⊥) → with_length size (bytes ++ more) ≡ with_length size bytes
+unfolding with_length
+with_length_settled size bytes more two whole =
+    let out : Frame → Result (Frame × ℕ) FrameFault = λ frame. Ok (frame, 2 + size) in
+    let found : List ℕ → Result (Frame × ℕ) FrameFault = λ xs. frame_of (take size (drop 2 xs)) >>= out in
+    let same : ltb (length bytes) (2 + size) ≡ false → take size (drop 2 (bytes ++ more)) ≡ take size (drop 2 bytes) = λ h.
+    let long : size ≤ length (drop 2 bytes) = omega (arith, ltb-false (length bytes) (2 + size) h, length-drop 2 bytes) in
+    ap (take size) (drop-append-le 2 bytes more two) ∙ take-append-le size (drop 2 bytes) more long in
+    unless_bad (eqb size 0 || ltb MAX_BODY size) (cond (ltb (length bytes) (2 + size)) (Err Short) (found bytes)) (cond (ltb (length (bytes ++ more)) (2 + size)) (Err Short) (found (bytes ++ more))) whole
+    (λ enough. settled (ltb (length bytes) (2 + size)) (ltb (length (bytes ++ more)) (2 + size)) (found bytes) (found (bytes ++ more)) enough (still_enough bytes more (2 + size))
+    (λ h read. ap (λ (xs : List ℕ). frame_of xs >>= out) (same h)))
+
+-- what bytes are decoded as stays so when more come, unless they are short
+pub decoded_settled : (bytes more : List ℕ) → (decoded bytes ≡ Err Short → ⊥) → decoded (bytes ++ more) ≡ decoded bytes
+unfolding decoded stated_length
+decoded_settled bytes more whole =
+    settled (ltb (length bytes) 2) (ltb (length (bytes ++ more)) 2) (with_length (stated_length bytes) bytes) (with_length (stated_length (bytes ++ more)) (bytes ++ more)) whole (still_enough bytes more 2)
+    (λ h read.
+    let two = ltb-false (length bytes) 2 h in
+    let stated : stated_length (bytes ++ more) ≡ stated_length bytes = ap (from_be_bytes w16) (take-append-le 2 bytes more two) in
+    ap (λ n. with_length n (bytes ++ more)) stated ∙ with_length_settled (stated_length bytes) bytes more two read)

@@ -1,0 +1,10 @@
+pub mod Bodies
+pub mod Calls
+pub mod Frames
+pub mod Names
+pub mod Numbers
+pub mod Outcomes
+pub mod Rows
+pub mod Sizes
+pub mod Steps
+pub mod Streams

@@ -1,0 +1,85 @@
+-- What bytes are decoded as: the first frame and how many bytes it takes, or the fault.
+use Rattle.std.specs.Prelude.{ℕ, ◌+◌, nat_lt, ◌==◌, ◌||◌, if◌then◌else◌, Result, Ok, Err, List, length, take, drop}
+use Rattle.std.specs.Int.{w16, w32, w64, from_be_bytes}
+use Rattle.sb_frames.specs.Calls.{call_at}
+use Rattle.sb_frames.specs.Outcomes.{reply_at, outcome_at}
+use Rattle.sb_frames.specs.Reading.{◌>>=◌, byte_at, number_at}
+use Rattle.sb_frames.specs.declared.fault.FrameFault.{FrameFault}
+use Rattle.sb_frames.specs.declared.fault.FrameFault.TheVariants.{Short, BadLength, UnknownTag}
+use Rattle.sb_frames.specs.declared.frame.Frame.{Frame}
+use Rattle.sb_frames.specs.declared.frame.Frame.TheVariants.{Ask, Entry, Ack, Answer, Outcome, Flush}
+use Rattle.sb_frames.specs.declared.frame.TheConstants.{MAX_BODY}
+
+-- ---- the fields of each frame
+
+unfoldable pub ask_at : List ℕ → Result (Frame × List ℕ) FrameFault
+ask_at bytes = do
+  client ← number_at w32 bytes
+  request ← number_at w32 client.1
+  call ← call_at request.1
+  Ok (Ask client.0 request.0 call.0, call.1)
+
+unfoldable pub entry_at : List ℕ → Result (Frame × List ℕ) FrameFault
+entry_at bytes = do
+  number ← number_at w64 bytes
+  call ← call_at number.1
+  Ok (Entry number.0 call.0, call.1)
+
+unfoldable pub ack_at : List ℕ → Result (Frame × List ℕ) FrameFault
+ack_at bytes = do
+  replica ← byte_at bytes
+  size ← number_at w64 replica.1
+  Ok (Ack replica.0 size.0, size.1)
+
+unfoldable pub answer_at : List ℕ → Result (Frame × List ℕ) FrameFault
+answer_at bytes = do
+  number ← number_at w64 bytes
+  reply ← reply_at number.1
+  Ok (Answer number.0 reply.0, reply.1)
+
+unfoldable pub outcome_frame_at : List ℕ → Result (Frame × List ℕ) FrameFault
+outcome_frame_at bytes = do
+  client ← number_at w32 bytes
+  request ← number_at w32 client.1
+  outcome ← outcome_at request.1
+  Ok (Outcome client.0 request.0 outcome.0, outcome.1)
+
+-- ---- the body, and what stands before it
+
+-- what stands behind a tag
+abbrev pub of_tag : ℕ → List ℕ → Result (Frame × List ℕ) FrameFault
+of_tag tag bytes =
+    if tag == 1 then ask_at bytes
+    else if tag == 2 then entry_at bytes
+    else if tag == 3 then ack_at bytes
+    else if tag == 4 then answer_at bytes
+    else if tag == 5 then outcome_frame_at bytes
+    else if tag == 6 then Ok (Flush, bytes)
+    else Err UnknownTag
+
+-- a tag, and its fields
+unfoldable pub tagged_at : List ℕ → Result (Frame × List ℕ) FrameFault
+tagged_at bytes = do
+  tag ← byte_at bytes
+  of_tag tag.0 tag.1
+
+-- all of a body: nothing stands after the fields
+unfoldable pub frame_of : List ℕ → Result Frame FrameFault
+frame_of bytes = do
+  frame ← tagged_at bytes
+  if length frame.1 == 0 then Ok frame.0 else Err BadLength
+
+-- the length that the first two bytes state
+unfoldable pub stated_length : List ℕ → ℕ
+stated_length bytes = from_be_bytes w16 (take 2 bytes)
+
+-- the frame whose body has this length
+unfoldable pub with_length : ℕ → List ℕ → Result (Frame × ℕ) FrameFault
+with_length size bytes =
+    if (size == 0) || nat_lt MAX_BODY size then Err BadLength
+    else if nat_lt (length bytes) (2 + size) then Err Short
+    else frame_of (take size (drop 2 bytes)) >>= λ frame. Ok (frame, 2 + size)
+
+-- the frame that bytes begin with, and how many bytes it takes
+unfoldable pub decoded : List ℕ → Result (Frame × ℕ) FrameFault
+decoded bytes = if nat_lt (length bytes) 2 then Err Short else with_length (stated_length bytes) bytes

@@ -1,0 +1,43 @@
+-- What a frame is, and how it is spelled.
+use Rattle.std.specs.Prelude.{◌≡◌, ℕ, ◌<◌, ◌^◌, List, [], ◌∷◌, ◌++◌, length}
+use Rattle.std.specs.Int.{w16, w32, w64, to_be_bytes}
+use Rattle.sb_calls.specs.Call.{IsCall}
+use Rattle.sb_frames.specs.Fields.{number_field, call_field, reply_field, outcome_field}
+use Rattle.sb_frames.specs.Replies.{IsReply}
+use Rattle.sb_frames.specs.declared.frame.AskOutcome.{AskOutcome}
+use Rattle.sb_frames.specs.declared.frame.AskOutcome.TheVariants.{Replied, Mismatch, LogFull}
+use Rattle.sb_frames.specs.declared.frame.Frame.{Frame}
+use Rattle.sb_frames.specs.declared.frame.Frame.TheVariants.{Ask, Entry, Ack, Answer, Outcome, Flush}
+
+-- its reply, if it has one, is a reply
+abbrev pub IsOutcome : AskOutcome → Type 0
+IsOutcome (Replied reply) = IsReply reply
+IsOutcome Mismatch = Unit {0}
+IsOutcome LogFull = Unit {0}
+
+-- its numbers fit their widths, its call is a call, its reply is a reply
+abbrev pub IsFrame : Frame → Type 0
+IsFrame (Ask client request call) = (client < 2 ^ 32) × (request < 2 ^ 32) × IsCall call
+IsFrame (Entry number call) = (number < 2 ^ 64) × IsCall call
+IsFrame (Ack replica size) = (replica < 2 ^ 8) × (size < 2 ^ 64)
+IsFrame (Answer number reply) = (number < 2 ^ 64) × IsReply reply
+IsFrame (Outcome client request outcome) = (client < 2 ^ 32) × (request < 2 ^ 32) × IsOutcome outcome
+IsFrame Flush = Unit {0}
+
+-- the tag, and the fields in order
+abbrev pub body : Frame → List ℕ
+body (Ask client request call) = 1 ∷ (number_field w32 client ++ (number_field w32 request ++ call_field call))
+body (Entry number call) = 2 ∷ (number_field w64 number ++ call_field call)
+body (Ack replica size) = 3 ∷ replica ∷ number_field w64 size
+body (Answer number reply) = 4 ∷ (number_field w64 number ++ reply_field reply)
+body (Outcome client request outcome) = 5 ∷ (number_field w32 client ++ (number_field w32 request ++ outcome_field outcome))
+body Flush = 6 ∷ []
+
+-- the length of the body in two bytes, and the body
+unfoldable pub spelling : Frame → List ℕ
+spelling frame = to_be_bytes w16 (length (body frame)) ++ body frame
+
+-- the bytes are the one spelling of a frame
+pub record Spells (frame : Frame) (bytes : List ℕ) : Type 0 where
+  pub valid : IsFrame frame
+  pub spelled : bytes ≡ to_be_bytes w16 (length (body frame)) ++ body frame

@@ -1,0 +1,64 @@
+-- Replies, and how an ask ended, read from the left.
+use Rattle.std.specs.Prelude.{ℕ, ℤ, pos, ◌==◌, ◌&&◌, if◌then◌else◌, Result, Ok, Err, List}
+use Rattle.std.specs.Ordering.{int_eq}
+use Rattle.sb_calls.specs.declared.reply.Reply.{Reply}
+use Rattle.sb_calls.specs.declared.reply.Reply.TheVariants.{Shown, Done, Penalised, NoCustomer, SameCustomer, Negative, WouldOverdraw, OverLimit}
+use Rattle.sb_frames.specs.Reading.{◌>>=◌, byte_at, signed_at, is_within}
+use Rattle.sb_frames.specs.declared.fault.FrameFault.{FrameFault}
+use Rattle.sb_frames.specs.declared.fault.FrameFault.TheVariants.{BadReply, BadStatus}
+use Rattle.sb_frames.specs.declared.frame.AskOutcome.{AskOutcome}
+use Rattle.sb_frames.specs.declared.frame.AskOutcome.TheVariants.{Replied, Mismatch, LogFull}
+use Rattle.sb_frames.specs.declared.reply.TheConstants.{TOTAL_LIMIT}
+
+-- the replies that show no total, by their codes
+abbrev pub plain_reply : ℕ → Result Reply FrameFault
+plain_reply code =
+    if code == 1 then Ok Done
+    else if code == 2 then Ok Penalised
+    else if code == 3 then Ok NoCustomer
+    else if code == 4 then Ok SameCustomer
+    else if code == 5 then Ok Negative
+    else if code == 6 then Ok WouldOverdraw
+    else if code == 7 then Ok OverLimit
+    else Err BadReply
+
+-- code 0 shows a total in its range, every other code has zero there
+unfoldable pub of_code : ℕ → ℤ → Result Reply FrameFault
+of_code code total =
+    if code == 0 then (if is_within TOTAL_LIMIT total then Ok (Shown total) else Err BadReply)
+    else if int_eq total (pos 0) then plain_reply code
+    else Err BadReply
+
+-- a reply is one field of nine bytes, and none of it is looked at before they are all there
+unfoldable pub reply_at : List ℕ → Result (Reply × List ℕ) FrameFault
+reply_at bytes = do
+  code ← byte_at bytes
+  total ← signed_at code.1
+  reply ← of_code code.0 total.0
+  Ok (reply, total.1)
+
+-- nine zeros in place of a reply
+unfoldable pub no_reply_at : AskOutcome → List ℕ → Result (AskOutcome × List ℕ) FrameFault
+no_reply_at outcome bytes = do
+  code ← byte_at bytes
+  total ← signed_at code.1
+  if (code.0 == 0) && int_eq total.0 (pos 0) then Ok (outcome, total.1) else Err BadReply
+
+abbrev pub replied_at : List ℕ → Result (AskOutcome × List ℕ) FrameFault
+replied_at bytes = do
+  reply ← reply_at bytes
+  Ok (Replied reply.0, reply.1)
+
+-- what stands behind a status
+abbrev pub of_status : ℕ → List ℕ → Result (AskOutcome × List ℕ) FrameFault
+of_status status bytes =
+    if status == 0 then replied_at bytes
+    else if status == 1 then no_reply_at Mismatch bytes
+    else if status == 2 then no_reply_at LogFull bytes
+    else Err BadStatus
+
+-- how an ask ended: its status, and the reply
+unfoldable pub outcome_at : List ℕ → Result (AskOutcome × List ℕ) FrameFault
+outcome_at bytes = do
+  status ← byte_at bytes
+  of_status status.0 status.1

@@ -1,0 +1,91 @@
+-- A stream of frames: what each call does to it, and what many calls do.
+use Rattle.std.specs.Prelude.{◌≡◌, ℕ, ◌<◌, Bool, true, false, if◌then◌else◌, Option, Some, None, Result, Ok, Err, List, [], ◌∷◌, ◌++◌, drop}
+use Rattle.std.specs.List.{All, AllByRecursion, flat_map}
+use Rattle.sb_frames.specs.Decoding.{decoded}
+use Rattle.sb_frames.specs.Grammar.{IsFrame, spelling}
+use Rattle.sb_frames.specs.declared.fault.FrameFault.{FrameFault}
+use Rattle.sb_frames.specs.declared.fault.FrameFault.TheVariants.{Short}
+use Rattle.sb_frames.specs.declared.fault.StreamFault.{StreamFault}
+use Rattle.sb_frames.specs.declared.fault.StreamFault.TheVariants.{Bad, Failed, OutOfMemory}
+use Rattle.sb_frames.specs.declared.frame.Frame.{Frame}
+
+-- the bytes that were fed and not yet read as frames, and whether a frame was at fault
+pub record StreamState : Type 0 where
+  pub unread : List ℕ
+  pub failed : Bool
+
+-- before any call
+abbrev pub opened : StreamState
+opened = record { unread = []; failed = false }
+
+-- a call of a stream, with its answer
+pub data StreamCall : Type 0 where
+  Fed : (bytes : List ℕ) (answer : Result (Unit {0}) StreamFault) → StreamCall
+  Next : (answer : Result (Option Frame) StreamFault) → StreamCall
+
+-- numbers from 0 to 255
+abbrev pub AreBytes : List ℕ → Type 0
+AreBytes bytes = All (λ byte. byte < 256) bytes
+
+-- ---- what a call does
+
+-- what feeding bytes may be answered, and what it leaves
+abbrev pub Feeds : StreamState → List ℕ → Result (Unit {0}) StreamFault → StreamState → Type 0
+-- the bytes go to the end
+Feeds old bytes (Ok done) new = (old.failed ≡ false) × (new ≡ record { unread = old.unread ++ bytes; failed = false })
+-- a stream that failed takes none
+Feeds old bytes (Err Failed) new = (old.failed ≡ true) × (new ≡ old)
+-- memory may be refused
+Feeds old bytes (Err OutOfMemory) new = (old.failed ≡ false) × (new ≡ old)
+Feeds old bytes (Err (Bad fault)) new = ⊥
+
+-- the next frame by what decoding the unread bytes gives, and what is left of them
+abbrev pub next_by : Result (Frame × ℕ) FrameFault → List ℕ → Result (Option Frame) StreamFault × StreamState
+next_by (Ok found) unread = (Ok (Some found.0), record { unread = drop found.1 unread; failed = false })
+-- less than a whole frame so far
+next_by (Err Short) unread = (Ok None, record { unread = unread; failed = false })
+-- no frame begins so: the stream fails from then on
+next_by (Err fault) unread = (Err (Bad fault), record { unread = unread; failed = true })
+
+-- what asking for the next frame is answered, and what it leaves
+abbrev pub next_of : StreamState → Result (Option Frame) StreamFault × StreamState
+next_of old = if old.failed then (Err Failed, old) else next_by (decoded old.unread) old.unread
+
+-- one call; what is fed are bytes
+abbrev pub Step : StreamState → StreamCall → StreamState → Type 0
+Step old (Fed bytes answer) new = AreBytes bytes × Feeds old bytes answer new
+Step old (Next answer) new = (answer, new) ≡ next_of old
+
+-- ---- what many calls do
+
+-- these calls one after another
+abbrev pub Runs : StreamState → List StreamCall → StreamState → Type 0
+Runs old [] new = new ≡ old
+Runs old (call ∷ calls) new = (mid : StreamState) × Step old call mid × Runs mid calls new
+
+-- the bytes that one call, or many calls, put into the stream
+abbrev pub bytes_taken : StreamCall → List ℕ
+bytes_taken (Fed bytes (Ok done)) = bytes
+bytes_taken (Fed bytes (Err fault)) = []
+bytes_taken (Next answer) = []
+
+abbrev pub all_taken : List StreamCall → List ℕ
+all_taken [] = []
+all_taken (call ∷ calls) = bytes_taken call ++ all_taken calls
+
+-- the frames that one call, or many calls, handed out
+abbrev pub frames_given : StreamCall → List Frame
+frames_given (Fed bytes answer) = []
+frames_given (Next (Ok (Some frame))) = frame ∷ []
+frames_given (Next (Ok None)) = []
+frames_given (Next (Err fault)) = []
+
+abbrev pub all_given : List StreamCall → List Frame
+all_given [] = []
+all_given (call ∷ calls) = frames_given call ++ all_given calls
+
+-- whatever calls there were, however the bytes were cut: the bytes that went in are the spellings of the
+-- frames that came out, in order, and then the unread bytes
+abbrev pub FramesOfBytes : Type 0
+FramesOfBytes = (calls : List StreamCall) (end : StreamState) → Runs opened calls end
+    → AllByRecursion IsFrame (all_given calls) × (all_taken calls ≡ flat_map spelling (all_given calls) ++ end.unread)

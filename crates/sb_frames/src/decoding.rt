@@ -1,0 +1,163 @@
+//! Bytes as frames.
+ghost use Rattle.std.specs.Prelude.{◌≡◌, ◌≢◌, ℕ, ◌≤◌, List, ◌++◌, Ok, Err, IfOk, length, take};
+ghost use Rattle.sb_frames.specs.Decoding as spec;
+ghost use Rattle.sb_frames.specs.Decoding.{decoded};
+ghost use Rattle.sb_frames.specs.Grammar.{Spells};
+ghost use Rattle.sb_frames.specs.Reading.{Reads};
+ghost use Rattle.sb_frames.specs.declared.frame.Frame.{Frame as AnyFrame};
+
+use crate::call::read_call;
+use crate::fault::FrameFault;
+use crate::fields::Fields;
+use crate::frame::{Frame, MAX_BODY};
+use crate::outcome::{read_outcome, read_reply};
+use byteorder::{BigEndian, ByteOrder};
+
+// The tags.
+pub(crate) const ASK: u8 = 1;
+
+pub(crate) const ENTRY: u8 = 2;
+
+pub(crate) const ACK: u8 = 3;
+
+pub(crate) const ANSWER: u8 = 4;
+
+pub(crate) const OUTCOME: u8 = 5;
+
+pub(crate) const FLUSH: u8 = 6;
+
+#[tactic(auto, unfolding(crate::specs::Decoding::ask_at))]
+fn read_ask(fields: &mut Fields) -> Result<Frame, FrameFault>
+    ensures { Reads result fields.new (spec.ask_at fields.old) }
+{
+    Ok(Frame::Ask {
+        client: fields.u32()?,
+        request: fields.u32()?,
+        call: read_call(fields)?,
+    })
+}
+
+#[tactic(auto, unfolding(crate::specs::Decoding::entry_at))]
+fn read_entry(fields: &mut Fields) -> Result<Frame, FrameFault>
+    ensures { Reads result fields.new (spec.entry_at fields.old) }
+{
+    Ok(Frame::Entry {
+        number: fields.u64()?,
+        call: read_call(fields)?,
+    })
+}
+
+#[tactic(auto, unfolding(crate::specs::Decoding::ack_at))]
+fn read_ack(fields: &mut Fields) -> Result<Frame, FrameFault>
+    ensures { Reads result fields.new (spec.ack_at fields.old) }
+{
+    Ok(Frame::Ack {
+        replica: fields.byte()?,
+        length: fields.u64()?,
+    })
+}
+
+#[tactic(auto, unfolding(crate::specs::Decoding::answer_at))]
+fn read_answer(fields: &mut Fields) -> Result<Frame, FrameFault>
+    ensures { Reads result fields.new (spec.answer_at fields.old) }
+{
+    Ok(Frame::Answer {
+        number: fields.u64()?,
+        reply: read_reply(fields)?,
+    })
+}
+
+#[tactic(auto, unfolding(crate::specs::Decoding::outcome_frame_at))]
+fn read_outcome_frame(fields: &mut Fields) -> Result<Frame, FrameFault>
+    ensures { Reads result fields.new (spec.outcome_frame_at fields.old) }
+{
+    Ok(Frame::Outcome {
+        client: fields.u32()?,
+        request: fields.u32()?,
+        outcome: read_outcome(fields)?,
+    })
+}
+
+// The frame, by its tag.
+#[tactic(auto, unfolding(crate::specs::Decoding::tagged_at))]
+fn read_tagged(fields: &mut Fields) -> Result<Frame, FrameFault>
+    ensures { Reads result fields.new (spec.tagged_at fields.old) }
+{
+    match fields.byte()? {
+        ASK => read_ask(fields),
+        ENTRY => read_entry(fields),
+        ACK => read_ack(fields),
+        ANSWER => read_answer(fields),
+        OUTCOME => read_outcome_frame(fields),
+        FLUSH => Ok(Frame::Flush),
+        _ => Err(FrameFault::UnknownTag),
+    }
+}
+
+// The frame that a body is, with nothing after its fields.
+#[tactic(auto, unfolding(crate::specs::Decoding::frame_of))]
+fn frame_of(body: &[u8]) -> Result<Frame, FrameFault>
+    ensures { result ≡ spec.frame_of body.now }
+{
+    let mut fields = Fields::of(body);
+    let frame = read_tagged(&mut fields)?;
+    if fields.is_empty() {
+        Ok(frame)
+    } else {
+        Err(FrameFault::BadLength)
+    }
+}
+
+// The length of the body that the first two bytes state.
+fn stated_length(bytes: &[u8]) -> usize
+    requires { 2 ≤ length bytes.now }
+    ensures { result ≡ spec.stated_length bytes.now }
+{
+    usize::from(BigEndian::read_u16(bytes))
+}
+
+// The frame whose body has this length, behind the two bytes that state it.
+#[tactic(auto, unfolding(crate::specs::Decoding::with_length))]
+fn with_length(size: usize, bytes: &[u8]) -> Result<(Frame, usize), FrameFault>
+    requires { 2 ≤ length bytes.now }
+    ensures { result ≡ spec.with_length size bytes.now }
+{
+    if size == 0 || MAX_BODY < size {
+        return Err(FrameFault::BadLength);
+    }
+    let end = 2 + size;
+    if bytes.len() < end {
+        return Err(FrameFault::Short);
+    }
+    let frame = frame_of(&bytes[2..end])?;
+    Ok((frame, end))
+}
+
+// The frame, by the order of the faults.
+#[tactic(auto, unfolding(crate::specs::Decoding::decoded))]
+fn first_frame(bytes: &[u8]) -> Result<(Frame, usize), FrameFault>
+    ensures { result ≡ decoded bytes.now }
+{
+    if bytes.len() < 2 {
+        return Err(FrameFault::Short);
+    }
+    with_length(stated_length(bytes), bytes)
+}
+
+/// The frame that bytes begin with, and how many bytes it takes. Bytes after it aren't looked at, and no
+/// memory is taken.
+///
+/// Fails with the first fault of the bytes from the left. With [`FrameFault::Short`] the bytes may be the
+/// beginning of a frame; with any other fault they are no frame's, whatever bytes follow.
+pub fn decode(bytes: &[u8]) -> Result<(Frame, usize), FrameFault>
+    // What is decoded is spelled so.
+    ensures spelled { IfOk result (λ found. (found.1 ≤ length bytes.now) × Spells found.0 (take found.1 bytes.now)) }
+    // What is spelled so is decoded, whatever follows it.
+    ensures taken { (frame : AnyFrame) (k : ℕ) → k ≤ length bytes.now → Spells frame (take k bytes.now) → result ≡ Ok (frame, k) }
+    // Which fault it is.
+    ensures exact { result ≡ decoded bytes.now }
+    // More bytes change nothing, unless these were too few.
+    ensures settled { (more : List ℕ) → result ≢ Err FrameFault.Short → decoded (bytes.now ++ more) ≡ result }
+{
+    first_frame(bytes)
+}

@@ -1,0 +1,109 @@
+//! Fields read from the left.
+ghost use Rattle.std.specs.Prelude.{◌≡◌, ◌==◌, IfOk, length, Ok, Err};
+ghost use Rattle.std.specs.Int.{w32, w64};
+ghost use Rattle.sb_frames.specs.Reading as spec;
+ghost use Rattle.sb_frames.specs.Reading.{Reads, ReadsBytes};
+
+use crate::fault::FrameFault;
+use sb_amount::Cents;
+use sb_rows::{NAME_BYTES, Name};
+use std::marker::Model;
+
+/// The fields of a body that aren't read yet. Each reader takes its field from the front, or fails; a
+/// reader that failed isn't read on.
+#[derive(Drop)]
+pub(crate) struct Fields<'a> {
+    bytes: &'a [u8],
+}
+
+impl<'a> Model for Fields<'a> {
+    ghost use Rattle.std.specs.Prelude.{ℕ, List};
+
+    ghost Value = { List ℕ };
+
+    ghost view = { λ f. f.bytes.now };
+}
+
+impl<'a> Fields<'a> {
+    pub(crate) fn of(body: &'a [u8]) -> Fields<'a>
+        ensures { result ≡ body.entry.now }
+    {
+        Fields { bytes: body }
+    }
+
+    /// Whether all is read.
+    pub(crate) fn is_empty(&self) -> bool
+        ensures { result ≡ (length self.now == 0) }
+    {
+        self.bytes.is_empty()
+    }
+
+    pub(crate) fn byte(&mut self) -> Result<u8, FrameFault>
+        ensures { Reads result self.new (spec.byte_at self.old) }
+    {
+        match self.bytes {
+            [] => Err(FrameFault::BadLength),
+            [byte, rest @ ..] => {
+                self.bytes = rest;
+                Ok(*byte)
+            }
+        }
+    }
+
+    // This many bytes.
+    #[tactic(auto, unfolding(crate::specs::Reading::bytes_at))]
+    fn bytes(&mut self, count: usize) -> Result<&'a [u8], FrameFault>
+        ensures read { ReadsBytes result self.new (spec.bytes_at count self.old) }
+        ensures size { IfOk result (λ front. length front.now ≡ count) }
+    {
+        if self.bytes.len() < count {
+            return Err(FrameFault::BadLength);
+        }
+        let (front, rest) = self.bytes.split_at(count);
+        self.bytes = rest;
+        Ok(front)
+    }
+
+    #[tactic(auto, unfolding(crate::specs::Reading::number_at))]
+    pub(crate) fn u32(&mut self) -> Result<u32, FrameFault>
+        ensures { Reads result self.new (spec.number_at w32 self.old) }
+    {
+        let cells = self.bytes(4)?;
+        Ok(u32::from_be_bytes([cells[0], cells[1], cells[2], cells[3]]))
+    }
+
+    #[tactic(auto, unfolding(crate::specs::Reading::number_at))]
+    pub(crate) fn u64(&mut self) -> Result<u64, FrameFault>
+        ensures { Reads result self.new (spec.number_at w64 self.old) }
+    {
+        let cells = self.bytes(8)?;
+        Ok(u64::from_be_bytes([
+            cells[0], cells[1], cells[2], cells[3], cells[4], cells[5], cells[6], cells[7],
+        ]))
+    }
+
+    #[tactic(auto, unfolding(crate::specs::Reading::signed_at))]
+    pub(crate) fn i64(&mut self) -> Result<i64, FrameFault>
+        ensures { Reads result self.new (spec.signed_at self.old) }
+    {
+        Ok(self.u64()?.cast_signed())
+    }
+
+    #[tactic(auto, unfolding(crate::specs::Reading::amount_at))]
+    pub(crate) fn amount(&mut self) -> Result<Cents, FrameFault>
+        ensures { Reads result self.new (spec.amount_at self.old) }
+    {
+        Cents::new(self.i64()?).ok_or(FrameFault::BadAmount)
+    }
+
+    #[tactic(auto, unfolding(crate::specs::Reading::name_at))]
+    pub(crate) fn name(&mut self) -> Result<Name, FrameFault>
+        ensures { Reads result self.new (spec.name_at self.old) }
+    {
+        let size = usize::from(self.byte()?);
+        if size == 0 || NAME_BYTES < size {
+            return Err(FrameFault::BadName);
+        }
+        Name::new(self.bytes(size)?).ok_or(FrameFault::BadName)
+    }
+}

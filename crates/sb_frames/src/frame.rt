@@ -1,0 +1,64 @@
+//! The frames of the wire.
+
+use crate::reply::WireReply;
+use sb_calls::Call;
+
+/// The greatest length that a frame may state for its body, in bytes.
+pub const MAX_BODY: usize = 64;
+
+/// A message between a client, the sequencer and a replica.
+#[derive(Clone, Copy, Debug, PartialEq, Eq)]
+pub enum Frame {
+    /// A client asks for a call under a number of its own.
+    Ask {
+        /// The client's number.
+        client: u32,
+        /// The client's number of the request.
+        request: u32,
+        /// What is asked.
+        call: Call,
+    },
+    /// A call of the log, under its number.
+    Entry {
+        /// The number of the call in the log.
+        number: u64,
+        /// The call.
+        call: Call,
+    },
+    /// A replica has the log up to a length.
+    Ack {
+        /// The replica's number.
+        replica: u8,
+        /// How many calls of the log it has.
+        length: u64,
+    },
+    /// What a call of the log is replied.
+    Answer {
+        /// The number of the call in the log.
+        number: u64,
+        /// The reply.
+        reply: WireReply,
+    },
+    /// How a client's ask ended.
+    Outcome {
+        /// The client's number.
+        client: u32,
+        /// The client's number of the request.
+        request: u32,
+        /// What the client is told.
+        outcome: AskOutcome,
+    },
+    /// What was sent before is to be handled now. It has no fields.
+    Flush,
+}
+
+/// How a client's ask ended.
+#[derive(Clone, Copy, Debug, PartialEq, Eq)]
+pub enum AskOutcome {
+    /// The call was run, with this reply.
+    Replied(WireReply),
+    /// The request's number stands for another call.
+    Mismatch,
+    /// The log takes no more calls.
+    LogFull,
+}

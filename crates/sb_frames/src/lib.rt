@@ -1,0 +1,24 @@
+//! Frames of the wire: how they are spelled, and how a stream of bytes is read as frames.
+#![tactic(auto)]
+
+mod call;
+mod decoding;
+mod encoding;
+mod fault;
+mod fields;
+mod frame;
+mod laws;
+mod outcome;
+mod reply;
+mod stream;
+#[cfg(test)]
+mod tests;
+mod writing;
+
+pub use decoding::decode;
+pub use encoding::encode;
+pub use fault::{FrameFault, StreamFault};
+pub use frame::{AskOutcome, Frame, MAX_BODY};
+pub use laws::{frames_of_bytes, one_spelling, spelled_is_decoded};
+pub use reply::{TOTAL_LIMIT, WireReply};
+pub use stream::Stream;

@@ -1,0 +1,122 @@
+//! Fields written at the end of a body.
+ghost use Rattle.std.specs.Prelude.{◌≡◌, ◌+◌, ◌≤◌, ◌∷◌, ◌++◌, length};
+ghost use Rattle.sb_amount.specs.Limit.{IsWithinLimit};
+ghost use Rattle.sb_calls.specs.Call.{IsCall};
+ghost use Rattle.sb_rows.specs.Name.{IsName};
+ghost use Rattle.sb_frames.specs.Fields.{name_field, amount_field, call_field, reply_field, no_reply_field, outcome_field};
+ghost use Rattle.sb_frames.specs.Grammar.{IsOutcome};
+ghost use Rattle.sb_frames.specs.Replies.{IsReply};
+
+use crate::call::{AMALGAMATE, BALANCE, DEPOSIT_CHECKING, TRANSACT_SAVINGS, WRITE_CHECK};
+use crate::frame::{AskOutcome, MAX_BODY};
+use crate::outcome::{LOG_FULL, MISMATCH, REPLIED, code_and_total};
+use crate::reply::WireReply;
+use arrayvec::ArrayVec;
+use sb_amount::Cents;
+use sb_calls::Call;
+use sb_rows::Name;
+
+/// A frame's tag and fields.
+pub(crate) type Body = ArrayVec<u8, MAX_BODY>;
+
+/// Puts bytes last.
+pub(crate) fn put(body: &mut Body, bytes: &[u8])
+    requires { length body.old.items + length bytes.now ≤ MAX_BODY }
+    ensures { body.new.items ≡ body.old.items ++ bytes.now }
+{
+    body.try_extend_from_slice(bytes).unwrap();
+}
+
+// At most 21 bytes.
+fn put_name(body: &mut Body, name: &Name)
+    requires { length body.old.items + 21 ≤ MAX_BODY }
+    ensures spelled { body.new.items ≡ body.old.items ++ name_field name.now }
+    ensures room { length body.new.items ≤ length body.old.items + 21 }
+    ensures valid { IsName name.now }
+{
+    let text = name.text();
+    put(body, &[text.len() as u8]);
+    put(body, text);
+}
+
+// Eight bytes.
+#[tactic(auto, unfolding(crate::specs::Fields::number_field))]
+fn put_cents(body: &mut Body, cents: i64)
+    requires { length body.old.items + 8 ≤ MAX_BODY }
+    ensures { body.new.items ≡ body.old.items ++ amount_field cents }
+{
+    put(body, &cents.to_be_bytes());
+}
+
+// A call of a kind that takes a name and an amount: at most 30 bytes.
+fn put_name_and_amount(body: &mut Body, kind: u8, name: &Name, amount: Cents)
+    requires { length body.old.items + 30 ≤ MAX_BODY }
+    ensures spelled { body.new.items ≡ body.old.items ++ (kind ∷ (name_field name.now ++ amount_field amount)) }
+    ensures valid { IsName name.now × IsWithinLimit amount }
+{
+    put(body, &[kind]);
+    put_name(body, name);
+    put_cents(body, amount.value());
+}
+
+/// At most 43 bytes: a kind and two names.
+pub(crate) fn put_call(body: &mut Body, call: &Call)
+    requires { length body.old.items + 43 ≤ MAX_BODY }
+    ensures spelled { body.new.items ≡ body.old.items ++ call_field call.now }
+    ensures valid { IsCall call.now }
+{
+    match call {
+        Call::Balance(name) => {
+            put(body, &[BALANCE]);
+            put_name(body, name);
+        }
+        Call::DepositChecking(name, amount) => {
+            put_name_and_amount(body, DEPOSIT_CHECKING, name, *amount);
+        }
+        Call::TransactSavings(name, amount) => {
+            put_name_and_amount(body, TRANSACT_SAVINGS, name, *amount);
+        }
+        Call::Amalgamate(from, to) => {
+            put(body, &[AMALGAMATE]);
+            put_name(body, from);
+            put_name(body, to);
+        }
+        Call::WriteCheck(name, amount) => put_name_and_amount(body, WRITE_CHECK, name, *amount),
+    }
+}
+
+/// Nine bytes.
+pub(crate) fn put_reply(body: &mut Body, reply: WireReply)
+    requires { length body.old.items + 9 ≤ MAX_BODY }
+    ensures spelled { body.new.items ≡ body.old.items ++ reply_field reply }
+    ensures valid { IsReply reply }
+{
+    let (code, total) = code_and_total(reply.reply());
+    put(body, &[code]);
+    put_cents(body, total);
+}
+
+// A status, and nine zeros in place of a reply.
+fn put_no_reply(body: &mut Body, status: u8)
+    requires { length body.old.items + 10 ≤ MAX_BODY }
+    ensures { body.new.items ≡ body.old.items ++ (status ∷ no_reply_field) }
+{
+    put(body, &[status, 0]);
+    put_cents(body, 0);
+}
+
+/// Ten bytes.
+pub(crate) fn put_outcome(body: &mut Body, outcome: AskOutcome)
+    requires { length body.old.items + 10 ≤ MAX_BODY }
+    ensures spelled { body.new.items ≡ body.old.items ++ outcome_field outcome }
+    ensures valid { IsOutcome outcome }
+{
+    match outcome {
+        AskOutcome::Replied(reply) => {
+            put(body, &[REPLIED]);
+            put_reply(body, reply);
+        }
+        AskOutcome::Mismatch => put_no_reply(body, MISMATCH),
+        AskOutcome::LogFull => put_no_reply(body, LOG_FULL),
+    }
+}
