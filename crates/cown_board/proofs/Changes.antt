@@ -1,24 +1,23 @@
 -- What a board keeps, at each change of it.
-use Rattle.std.proofs.Common.{◌≡◌, ◌≢◌, ◌⊎◌, inl, inr, ℕ, zero, suc, ◌+◌, ◌-◌, ◌<◌, ◌≤◌, ℤ, pos, Bool, true, false, ◌&&◌, not, cond, Option, Some, None, List, [], ◌∷◌, ◌++◌, length, length-append, get_or, refl, sym, ap, subst, ◌∙◌, arith}
-use Rattle.std.specs.Prelude.{◌==◌, if◌then◌else◌, slice_get, slice_set, remove, count_by}
-use Rattle.std.proofs.lemmas.Bool.{cases_eq, cases_Bool, true≢false, false_from_ne_true, and_from}
-use Rattle.std.proofs.lemmas.List.{length-set}
+use Rattle.std.proofs.Common.{◌≡◌, inl, inr, ℕ, suc, ◌+◌, ◌-◌, ◌<◌, ◌≤◌, ℤ, true, false, Some, List, [], ◌∷◌, ◌++◌, length, length-append, refl, sym, ap, subst, ◌∙◌, arith}
+use Rattle.std.specs.Prelude.{if◌then◌else◌, slice_get, slice_set, remove}
+use Rattle.std.proofs.lemmas.Bool.{cases_eq}
 use Rattle.std.proofs.lemmas.Option.{slice_get_within}
 use Rattle.sb_rows.specs.Balances.{Balances}
 use Rattle.sb_calls.specs.Cowns.{AreBelow, held_of, write_cowns}
-use Rattle.sb_calls.specs.OneByOne.{is_among, inputs_of, held_after_first, reply_of}
+use Rattle.sb_calls.specs.OneByOne.{inputs_of, held_after_first, reply_of}
 use Rattle.sb_calls.specs.declared.call.TheConstants.{LOG_CALLS}
 use Rattle.sb_calls.specs.declared.reply.Reply.{Reply}
 use Rattle.cown_queue.specs.Queues.{Appends, Releases}
 use Rattle.cown_board.proofs.CownLists.{below_among}
-use Rattle.cown_board.proofs.Counts.{count-append, count-set, count_some, one_if_open}
+use Rattle.cown_board.proofs.Counts.{count-append, count-set, count_some}
 use Rattle.cown_board.proofs.Finishing.{keeps_finished, clear_of_out}
-use Rattle.cown_board.proofs.PlacesLaws.{append_nothing, places-agree, places-remove, but, but_other, but_same}
+use Rattle.cown_board.proofs.PlacesLaws.{places-agree, places-remove, but, but_other, but_same}
 use Rattle.cown_board.proofs.Queued.{queues_submitted, queues_taken, queues_finished}
 use Rattle.cown_board.proofs.States.{state-append, state-last, state-set_same, state-set_other, state_here}
 use Rattle.cown_board.proofs.Submitting.{keeps_submitted}
 use Rattle.cown_board.proofs.Taking.{keeps_taken}
-use Rattle.cown_board.specs.Invariant.{IsBoard, Keeps, QueuesAre, open_at, waiting_at}
+use Rattle.cown_board.specs.Invariant.{IsBoard, open_at, waiting_at}
 use Rattle.cown_board.specs.Places.{places}
 use Rattle.cown_board.specs.Readiness.{conflict_at}
 use Rattle.cown_board.specs.State.{is_open, is_waiting}
@@ -30,7 +29,7 @@ use Rattle.cown_board.specs.declared.state.State.TheVariants.{Waiting, Out, Fini
 waiting_submitted : (states : List State) → places (waiting_at (states ++ Waiting ∷ [])) (suc (length states)) ≡ places (waiting_at states) (length states) ++ length states ∷ []
 waiting_submitted states =
     ap (λ t. t ++ (if waiting_at (states ++ Waiting ∷ []) (length states) then length states ∷ [] else []))
-      (places-agree (waiting_at (states ++ Waiting ∷ [])) (waiting_at states) (length states) (λ j lt. state-append is_waiting states Waiting j lt))
+    (places-agree (waiting_at (states ++ Waiting ∷ [])) (waiting_at states) (length states) (λ j lt. state-append is_waiting states Waiting j lt))
     ∙ ap (λ b. places (waiting_at states) (length states) ++ (if b then length states ∷ [] else [])) (state-last is_waiting states Waiting (length states) refl)
 
 -- where one of them is handed out
@@ -49,8 +48,8 @@ waiting_finished : (states : List State) (m k : ℕ) (reply : Reply) → slice_g
 waiting_finished states m k reply out =
     places-agree (waiting_at (slice_set states k (Finished reply))) (waiting_at states) m (λ j _. elim (cases_eq j k) [
       | inl same ↦
-        ap (waiting_at (slice_set states k (Finished reply))) same ∙ state-set_same is_waiting states k (Finished reply) (slice_get_within states k Out out)
-        ∙ sym (ap (waiting_at states) same ∙ state_here is_waiting states k Out out)
+          ap (waiting_at (slice_set states k (Finished reply))) same ∙ state-set_same is_waiting states k (Finished reply) (slice_get_within states k Out out)
+          ∙ sym (ap (waiting_at states) same ∙ state_here is_waiting states k Out out)
       | inr differs ↦ state-set_other is_waiting states k j (Finished reply) differs
     ])
 
@@ -68,7 +67,7 @@ module _ {B : Type 0} (touches : B → List ℕ) (effect : B → List ℤ → Re
         keeps = keeps_submitted touches effect board.keeps b (λ cown among. below_among (length (held_of opening)) (touches b) cown below among);
         queues = queues_submitted touches effect log states b lists new (length (held_of opening)) same board.queues appended;
         rest = ap (λ w. w ++ length log ∷ []) (board.rest ∙ ap (places (waiting_at states)) same) ∙ ap (λ n. places (waiting_at states) (length states) ++ n ∷ []) same
-          ∙ sym (ap (places (waiting_at (states ++ Waiting ∷ []))) (longer ∙ ap suc same) ∙ waiting_submitted states);
+            ∙ sym (ap (places (waiting_at (states ++ Waiting ∷ []))) (longer ∙ ap suc same) ∙ waiting_submitted states);
         unfinished = let count = count-append states Waiting in omega (arith, count, board.unfinished);
         few_open = omega (arith, few);
         few_numbers = omega (arith, room, longer, board.based);
@@ -78,15 +77,15 @@ module _ {B : Type 0} (touches : B → List ℕ) (effect : B → List ℤ → Re
       → ((j : ℕ) → j < k → conflict_at touches log j k ≡ true → open_at states j ≡ false)
       → IsBoard touches effect opening now base earlier log (slice_set states k Out) lists (remove waiting p) unfinished
   IsBoard-taken p k at here clear = record {
-      based = board.based;
-      keeps = keeps_taken touches effect board.keeps k here clear;
-      queues = queues_taken touches effect log states lists (length (held_of opening)) k here board.queues;
-      rest = ap (λ w. remove w p) board.rest
+    based = board.based;
+    keeps = keeps_taken touches effect board.keeps k here clear;
+    queues = queues_taken touches effect log states lists (length (held_of opening)) k here board.queues;
+    rest = ap (λ w. remove w p) board.rest
         ∙ sym (waiting_taken states (length log) p k (omega (arith, board.keeps.beside)) (ap (λ w. slice_get w p) (sym board.rest) ∙ at) (slice_get_within states k Waiting here));
-      unfinished = let count = count-set states k Waiting Out here in omega (arith, count, board.unfinished);
-      few_open = board.few_open;
-      few_numbers = board.few_numbers;
-    }
+    unfinished = let count = count-set states k Waiting Out here in omega (arith, count, board.unfinished);
+    few_open = board.few_open;
+    few_numbers = board.few_numbers;
+  }
 
   pub IsBoard-finished : (k : ℕ) (b : B) (reply : Reply) (outputs : List ℤ) (after : Balances) (new : List (List ℕ)) → slice_get log k ≡ Some b → slice_get states k ≡ Some Out
       → length outputs ≡ length (touches b)
@@ -96,18 +95,18 @@ module _ {B : Type 0} (touches : B → List ℕ) (effect : B → List ℤ → Re
       → Releases (touches b) lists new
       → IsBoard touches effect opening after base earlier log (slice_set states k (Finished reply)) new waiting (unfinished - 1)
   IsBoard-finished k b reply outputs after new here out long replied left written released = record {
-      based = board.based;
-      keeps = rw written (keeps_finished touches effect board.keeps k b here out reply outputs long replied left);
-      queues = queues_finished touches effect log states b lists new (length (held_of opening)) k reply board.keeps.beside here (state_here is_open states k Out out)
+    based = board.based;
+    keeps = rw written (keeps_finished touches effect board.keeps k b here out reply outputs long replied left);
+    queues = queues_finished touches effect log states b lists new (length (held_of opening)) k reply board.keeps.beside here (state_here is_open states k Out out)
         (clear_of_out touches effect board.keeps k b here out) board.queues released;
-      rest = board.rest ∙ sym (waiting_finished states (length log) k reply out);
-      unfinished =
+    rest = board.rest ∙ sym (waiting_finished states (length log) k reply out);
+    unfinished =
         let count = count-set states k Out (Finished reply) out in
         let some = count_some states k Out out refl in
         omega (arith, count, some, board.unfinished);
-      few_open = omega (arith, board.few_open);
-      few_numbers = board.few_numbers;
-    }
+    few_open = omega (arith, board.few_open);
+    few_numbers = board.few_numbers;
+  }
 
   -- the same, of lists that were changed in place
   pub IsBoard-pushed : (b : B) (place : ℕ) (log' : List B) (states' : List State) (new : List (List ℕ)) (waiting' : List ℕ) → AreBelow (length (held_of opening)) (touches b)
@@ -117,4 +116,4 @@ module _ {B : Type 0} (touches : B → List ℕ) (effect : B → List ℤ → Re
       → IsBoard touches effect opening now base earlier log' states' new waiting' (unfinished + 1)
   IsBoard-pushed b place log' states' new waiting' below here appended is_log is_states is_waiting few room =
       rw (is_log, is_states, is_waiting, here) (IsBoard-submitted b new below (subst (λ n. Appends n (touches b) lists new) here appended)
-        (omega (arith, few, board.few_open)) (omega (arith, room, board.based, board.few_numbers)))
+      (omega (arith, few, board.few_open)) (omega (arith, room, board.based, board.few_numbers)))

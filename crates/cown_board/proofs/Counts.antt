@@ -1,13 +1,11 @@
 -- How many are unfinished.
-use Rattle.std.proofs.Common.{◌≡◌, ℕ, zero, suc, ◌+◌, ◌≤◌, Bool, true, false, cond, Option, Some, None, List, [], ◌∷◌, ◌++◌, length, refl, sym, ap, ◌∙◌, arith}
+use Rattle.std.proofs.Common.{◌≡◌, ℕ, zero, suc, ◌+◌, ◌≤◌, true, false, cond, Option, Some, None, List, [], ◌∷◌, ◌++◌, refl, ap, ◌∙◌, arith}
 use Rattle.std.specs.Prelude.{slice_get, slice_set, count_by}
 use Rattle.std.proofs.lemmas.Bool.{false_from_ne_true}
 use Rattle.std.proofs.lemmas.List.Sums.{sum_by-cons}
 use Rattle.cown_board.proofs.LogLaws.{injective, no_some}
 use Rattle.cown_board.specs.State.{is_open, state_is}
 use Rattle.cown_board.specs.declared.state.State.{State}
-use Rattle.cown_board.specs.declared.state.State.TheVariants.{Waiting, Out, Finished}
-use Rattle.sb_calls.specs.declared.reply.Reply.{Reply}
 
 -- one, if it is unfinished
 abbrev pub one_if_open : State → ℕ

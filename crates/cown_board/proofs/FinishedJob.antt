@@ -1,12 +1,12 @@
 -- What comes back and is accepted.
-use Rattle.std.proofs.Common.{◌≡◌, ◌≢◌, ◌⊎◌, inl, inr, ℕ, zero, suc, ◌+◌, ◌-◌, ◌<◌, ◌≤◌, ℤ, pos, Bool, true, false, Option, Some, None, List, [], ◌∷◌, length, get_or, take, refl, sym, ap, subst, ◌∙◌, arith}
-use Rattle.std.specs.Prelude.{slice_get, slice_set, option_map, option_and_then}
+use Rattle.std.proofs.Common.{◌≡◌, ◌≢◌, ℕ, suc, ◌+◌, ◌-◌, ◌<◌, ◌≤◌, ℤ, pos, true, false, Some, List, length, get_or, refl, sym, ap, subst, ◌∙◌, arith}
+use Rattle.std.specs.Prelude.{slice_get, slice_set, option_map}
 use Rattle.std.proofs.lemmas.Bool.{false≢true}
 use Rattle.std.proofs.lemmas.List.{ext_get_or, take_all}
 use Rattle.std.proofs.lemmas.Option.{slice_get_within}
 use Rattle.sb_rows.specs.Balances.{Balances}
-use Rattle.sb_calls.specs.Cowns.{AreBelow, AreHeld, held_of, read_cowns, write_cowns}
-use Rattle.sb_calls.specs.OneByOne.{is_among, inputs_of, held_after, held_after_first, reply_of, reply_by_log}
+use Rattle.sb_calls.specs.Cowns.{AreHeld, held_of, read_cowns, write_cowns}
+use Rattle.sb_calls.specs.OneByOne.{is_among, inputs_of, held_after, held_after_first, reply_of}
 use Rattle.sb_calls.specs.declared.reply.Reply.{Reply}
 use Rattle.cown_queue.specs.Queues.{IsInFront, Releases}
 use Rattle.cown_board.proofs.Changes.{IsBoard-finished}
@@ -14,17 +14,17 @@ use Rattle.cown_board.proofs.Counts.{count_some, all_finished}
 use Rattle.cown_board.proofs.Finishing.{clear_of_out}
 use Rattle.cown_board.proofs.HeldLaws.{length-AreHeld}
 use Rattle.cown_board.proofs.Inputs.{holds_inputs, touched_within}
-use Rattle.cown_board.proofs.LogLaws.{injective, no_some, length-after}
+use Rattle.cown_board.proofs.LogLaws.{length-after}
 use Rattle.cown_board.proofs.Queued.{fronts_from_clear, in_front_from}
 use Rattle.cown_board.proofs.States.{state_here}
 use Rattle.cown_board.proofs.TakenJob.{inputs_held}
-use Rattle.cown_board.specs.Board.{BoardOf, IsOutAt, IsOutHere, Finishes, IsAfterAll}
+use Rattle.cown_board.specs.Board.{BoardOf, IsOutAt, IsOutHere, Finishes}
 use Rattle.cown_board.specs.Invariant.{IsBoard, open_at}
 use Rattle.cown_board.specs.Job.{DoneOf}
 use Rattle.cown_board.specs.Readiness.{touched_by}
-use Rattle.cown_board.specs.State.{is_open, finished_reply}
+use Rattle.cown_board.specs.State.{is_open}
 use Rattle.cown_board.specs.declared.state.State.{State}
-use Rattle.cown_board.specs.declared.state.State.TheVariants.{Waiting, Out, Finished}
+use Rattle.cown_board.specs.declared.state.State.TheVariants.{Out, Finished}
 
 module _ {B : Type 0} (touches : B → List ℕ) (effect : B → List ℤ → Reply × List ℤ)
     {opening now : Balances} {base : ℕ} {earlier : List Reply} {log : List B} {states : List State} {lists : List (List ℕ)} {waiting : List ℕ} {unfinished : ℕ}
@@ -38,7 +38,7 @@ module _ {B : Type 0} (touches : B → List ℕ) (effect : B → List ℤ → Re
       → read_cowns (held_of now) (touches b) ≡ inputs_of touches effect (held_after_first touches effect (held_of opening) log k) b
   out_inputs k b here out =
       holds_inputs touches effect board.keeps k (state_here is_open states k Out out) (clear_of_out touches effect board.keeps k b here out) b here
-        (let lt = slice_get_within log k b here in omega (arith, lt))
+      (let lt = slice_get_within log k b here in omega (arith, lt))
 
   -- what was tested, as what callers see
   abbrev IsOutInside : ℕ → DoneOf B → Type 0
@@ -46,17 +46,18 @@ module _ {B : Type 0} (touches : B → List ℕ) (effect : B → List ℤ → Re
 
   pub out_from : (k : ℕ) (done : DoneOf B) → done.number ≡ suc (base + k) → IsOutInside k done → IsOutAt touches effect seen done k
   out_from k done numbered inside = record {
-      number = omega (arith, numbered, board.based);
-      out = inside.0;
-      behaviour = inside.1;
-      inputs = inside.2 ∙ out_inputs k done.behaviour inside.1 inside.0;
-    }
+    number = omega (arith, numbered, board.based);
+    out = inside.0;
+    behaviour = inside.1;
+    inputs = inside.2 ∙ out_inputs k done.behaviour inside.1 inside.0;
+  }
 
   pub out_to : (k : ℕ) (done : DoneOf B) → IsOutAt touches effect seen done k → (done.number ≡ suc (base + k)) × (k < length log) × IsOutInside k done
-  out_to k done out =
-      ( omega (arith, out.number, board.based)
-      , slice_get_within log k done.behaviour out.behaviour
-      , (out.out, out.behaviour, out.inputs ∙ sym (out_inputs k done.behaviour out.behaviour out.out)))
+  out_to k done out = (
+    omega (arith, out.number, board.based),
+    slice_get_within log k done.behaviour out.behaviour,
+    (out.out, out.behaviour, out.inputs ∙ sym (out_inputs k done.behaviour out.behaviour out.out)),
+  )
 
   -- a number that is none of the log's, or isn't out, is refused
   pub not_numbered : (done : DoneOf B) → ((k : ℕ) → k < length log → done.number ≢ suc (base + k)) → ¬ IsOutHere touches effect seen done
@@ -73,9 +74,9 @@ module _ {B : Type 0} (touches : B → List ℕ) (effect : B → List ℤ → Re
     released_in_front =
         let cowns = length (held_of opening) in
         in_front_from touches effect log states lists cowns board.queues k done.behaviour inside.1 (touches done.behaviour)
-          (fronts_from_clear touches effect log states lists cowns board.queues k done.behaviour inside.1 (state_here is_open states k Out inside.0)
-            (clear_of_out touches effect board.keeps k done.behaviour inside.1 inside.0) (touches done.behaviour)
-            (λ cown among. (among, board.keeps.in_range k cown (ap (λ o. is_among cown (touched_by touches o)) inside.1 ∙ among))))
+        (fronts_from_clear touches effect log states lists cowns board.queues k done.behaviour inside.1 (state_here is_open states k Out inside.0)
+        (clear_of_out touches effect board.keeps k done.behaviour inside.1 inside.0) (touches done.behaviour)
+        (λ cown among. (among, board.keeps.in_range k cown (ap (λ o. is_among cown (touched_by touches o)) inside.1 ∙ among))))
 
     pub some_unfinished : 1 ≤ unfinished
     some_unfinished = let some = count_some states k Out inside.0 refl in omega (arith, some, board.unfinished)
@@ -87,7 +88,7 @@ module _ {B : Type 0} (touches : B → List ℕ) (effect : B → List ℤ → Re
         → (outputs : List ℤ) → outputs ≡ (effect done.behaviour done.inputs).1 → AreHeld (touches done.behaviour) outputs
     outputs_held keeps outputs left =
         subst (AreHeld (touches done.behaviour)) (sym left)
-          (keeps done.behaviour done.inputs (subst (AreHeld (touches done.behaviour)) (sym inputs_are) (inputs_held touches effect board keeps k k done.behaviour inside.1)))
+        (keeps done.behaviour done.inputs (subst (AreHeld (touches done.behaviour)) (sym inputs_are) (inputs_held touches effect board keeps k k done.behaviour inside.1)))
 
     pub board_finished : ((b : B) (inputs : List ℤ) → AreHeld (touches b) inputs → AreHeld (touches b) (effect b inputs).1)
         → (reply : Reply) (outputs : List ℤ) (after : Balances) (new : List (List ℕ)) → reply ≡ (effect done.behaviour done.inputs).0 → outputs ≡ (effect done.behaviour done.inputs).1
@@ -95,30 +96,30 @@ module _ {B : Type 0} (touches : B → List ℕ) (effect : B → List ℤ → Re
         → IsBoard touches effect opening after base earlier log (slice_set states k (Finished reply)) new waiting (unfinished - 1)
     board_finished keeps reply outputs after new replied left written released =
         IsBoard-finished touches effect board k done.behaviour reply outputs after new inside.1 inside.0
-          (length-AreHeld (touches done.behaviour) outputs (outputs_held keeps outputs left))
-          (replied ∙ ap (λ i. (effect done.behaviour i).0) inputs_are)
-          (left ∙ ap (λ i. (effect done.behaviour i).1) inputs_are) written released
+        (length-AreHeld (touches done.behaviour) outputs (outputs_held keeps outputs left))
+        (replied ∙ ap (λ i. (effect done.behaviour i).0) inputs_are)
+        (left ∙ ap (λ i. (effect done.behaviour i).1) inputs_are) written released
 
     pub finishes_from : (reply : Reply) → reply ≡ (effect done.behaviour done.inputs).0
         → Finishes touches effect seen done reply (record { opening = opening; earlier = earlier; log = log; states = slice_set states k (Finished reply) })
     finishes_from reply replied = record {
-        place = k;
-        here = out_from k done numbered inside;
-        by_log = ap (option_map (reply_of touches effect (held_after_first touches effect (held_of opening) log k))) inside.1
+      place = k;
+      here = out_from k done numbered inside;
+      by_log = ap (option_map (reply_of touches effect (held_after_first touches effect (held_of opening) log k))) inside.1
           ∙ ap (λ r. Some r) (ap (λ i. (effect done.behaviour i).0) (sym inputs_are) ∙ sym replied);
-        finished = refl;
-      }
+      finished = refl;
+    }
 
   -- the columns after all of the log
   pub after_all : unfinished ≡ 0 → held_of now ≡ held_after touches effect (held_of opening) log
   after_all idle =
       let none : (j : ℕ) → open_at states j ≡ false = λ j. all_finished states j (sym board.unfinished ∙ idle) in
       ext_get_or (pos 0) (held_of now) (held_after touches effect (held_of opening) log)
-        (board.keeps.cowns_stay ∙ sym (length-after touches effect (held_of opening) log))
-        (λ cown lt. board.keeps.settled cown (length log) (omega arith) (record {
-          before = λ j _ _. none j;
-          after = λ j ge among. absurd (let within = touched_within touches effect log cown j among in omega (arith, within, ge));
-        }) ∙ ap (λ l. get_or (held_after touches effect (held_of opening) l) cown (pos 0)) (take_all (length log) log (omega arith)))
+      (board.keeps.cowns_stay ∙ sym (length-after touches effect (held_of opening) log))
+      (λ cown lt. board.keeps.settled cown (length log) (omega arith) (record {
+        before = λ j _ _. none j;
+        after = λ j ge among. absurd (let within = touched_within touches effect log cown j among in omega (arith, within, ge));
+      }) ∙ ap (λ l. get_or (held_after touches effect (held_of opening) l) cown (pos 0)) (take_all (length log) log (omega arith)))
 
   pub refused_done : (done : DoneOf B) → ¬ IsOutHere touches effect seen done → (false ≡ true → IsOutHere touches effect seen done) × (IsOutHere touches effect seen done → false ≡ true)
   refused_done done not = (λ h. absurd (false≢true h), λ out. absurd (not out))

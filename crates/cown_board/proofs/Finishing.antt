@@ -1,10 +1,10 @@
 -- A behaviour that is out is finished: what is kept.
-use Rattle.std.proofs.Common.{◌≡◌, ◌≢◌, ◌⊎◌, inl, inr, ℕ, suc, ◌+◌, ◌-◌, ◌<◌, ◌≤◌, ℤ, pos, Bool, true, false, Option, Some, None, List, length, get_or, take, refl, sym, ap, ◌∙◌, arith}
+use Rattle.std.proofs.Common.{◌≡◌, ◌≢◌, inl, inr, ℕ, suc, ◌-◌, ◌<◌, ◌≤◌, ℤ, pos, true, false, Option, Some, List, length, get_or, take, sym, ap, ◌∙◌, arith}
 use Rattle.std.specs.Prelude.{slice_get, slice_set, option_map, option_and_then}
-use Rattle.std.proofs.lemmas.Bool.{cases_Bool, cases_eq, cases_lt, cases_order, true≢false, false_from_ne_true}
+use Rattle.std.proofs.lemmas.Bool.{cases_Bool, cases_eq, cases_lt, true≢false, false_from_ne_true}
 use Rattle.std.proofs.lemmas.List.{length-set}
 use Rattle.std.proofs.lemmas.Option.{slice_get_within}
-use Rattle.sb_calls.specs.Cowns.{AreHeld, write_cowns}
+use Rattle.sb_calls.specs.Cowns.{write_cowns}
 use Rattle.sb_calls.specs.OneByOne.{is_among, inputs_of, held_after_first, reply_of}
 use Rattle.sb_calls.specs.declared.reply.Reply.{Reply}
 use Rattle.cown_board.proofs.HeldLaws.{length-write, get-write_other, get-write_same}
@@ -17,7 +17,7 @@ use Rattle.cown_board.specs.State.{is_waiting, is_open, finished_reply}
 use Rattle.cown_board.specs.declared.state.State.{State}
 use Rattle.cown_board.specs.declared.state.State.TheVariants.{Out, Finished}
 
-same_reply : {a b : Reply} → ◌≡◌ {A = Option State} (Some (Finished a)) (Some (Finished b)) → a ≡ b
+pub same_reply : {a b : Reply} → ◌≡◌ {A = Option State} (Some (Finished a)) (Some (Finished b)) → a ≡ b
 same_reply h = injective (ap (λ o. option_and_then finished_reply o) h)
 
 module _ {B : Type 0} (touches : B → List ℕ) (effect : B → List ℤ → Reply × List ℤ)
@@ -65,7 +65,7 @@ module _ {B : Type 0} (touches : B → List ℕ) (effect : B → List ℤ → Re
       settled_finished : (cown i : ℕ) → i ≤ length log → IsSettled touches effect log (slice_set states k (Finished reply)) cown i
           → get_or (write_cowns held (touches b) outputs) cown (pos 0) ≡ get_or (held_after_first touches effect opening log i) cown (pos 0)
       settled_finished cown i le settled = elim (cases_Bool (is_among cown (touches b))) [
-          | inl among ↦
+        | inl among ↦
             let at_k : touches_at touches effect log cown k ≡ true = touches_k cown ∙ among in
             let after_k : k < i = (elim (cases_lt k i) [
               | inl lt ↦ lt
@@ -77,16 +77,16 @@ module _ {B : Type 0} (touches : B → List ℕ) (effect : B → List ℤ → Re
             ∙ ap (λ vs. get_or (write_cowns before (touches b) vs) cown (pos 0)) left
             ∙ ap (λ h. get_or h cown (pos 0)) (sym (after_one_more touches effect opening log k b here))
             ∙ sym (after_untouched touches effect opening log cown (suc k) (i - suc k) i (omega (arith, after_k)) (λ j ge lt. false_from_ne_true (touches_at touches effect log cown j) (λ at_j.
-              let waits : waiting_at states j ≡ true = kept.ordered k j (omega (arith, ge)) (touched_within touches effect log cown j at_j) is_unfinished (conflict_from touches effect log cown k j at_k at_j) in
-              let differs : j ≢ k = λ same. omega (arith, same, ge) in
-              true≢false (sym (open-finished_other j differs ∙ waiting_is_open states j waits) ∙ settled.before j lt at_j))))
-          | inr apart ↦
+            let waits : waiting_at states j ≡ true = kept.ordered k j (omega (arith, ge)) (touched_within touches effect log cown j at_j) is_unfinished (conflict_from touches effect log cown k j at_k at_j) in
+            let differs : j ≢ k = λ same. omega (arith, same, ge) in
+            true≢false (sym (open-finished_other j differs ∙ waiting_is_open states j waits) ∙ settled.before j lt at_j))))
+        | inr apart ↦
             get-write_other held (touches b) outputs cown apart
             ∙ kept.settled cown i le (record {
               before = λ j lt at_j. sym (open-finished_other j (is_other cown apart j at_j)) ∙ settled.before j lt at_j;
               after = λ j ge at_j. sym (open-finished_other j (is_other cown apart j at_j)) ∙ settled.after j ge at_j;
             })
-        ]
+      ]
 
       pub keeps_finished : Keeps touches effect opening log (slice_set states k (Finished reply)) (write_cowns held (touches b) outputs)
       keeps_finished = record {
@@ -95,16 +95,16 @@ module _ {B : Type 0} (touches : B → List ℕ) (effect : B → List ℤ → Re
         opened = kept.opened;
         in_range = kept.in_range;
         ordered = λ j i before within unfinished conflict.
-          let was = still_open j unfinished in
-          let waits : waiting_at states i ≡ true = kept.ordered j i before within was.1 conflict in
-          state-set_other is_waiting states k i (Finished reply) (λ same. true≢false (sym waits ∙ ap (waiting_at states) same ∙ isnt_waiting)) ∙ waits;
+            let was = still_open j unfinished in
+            let waits : waiting_at states i ≡ true = kept.ordered j i before within was.1 conflict in
+            state-set_other is_waiting states k i (Finished reply) (λ same. true≢false (sym waits ∙ ap (waiting_at states) same ∙ isnt_waiting)) ∙ waits;
         settled = settled_finished;
         replies = λ i r finished. elim (cases_eq i k) [
           | inl same ↦
-            let is_reply : reply ≡ r = same_reply (sym (slice_get-set_same states k (Finished reply) lt_states) ∙ ap (slice_get (slice_set states k (Finished reply))) (sym same) ∙ finished) in
-            ap (λ n. option_map (reply_of touches effect (held_after_first touches effect opening log n)) (slice_get log n)) same
-            ∙ ap (option_map (reply_of touches effect (held_after_first touches effect opening log k))) here
-            ∙ ap (λ x. Some x) (sym replied ∙ is_reply)
+              let is_reply : reply ≡ r = same_reply (sym (slice_get-set_same states k (Finished reply) lt_states) ∙ ap (slice_get (slice_set states k (Finished reply))) (sym same) ∙ finished) in
+              ap (λ n. option_map (reply_of touches effect (held_after_first touches effect opening log n)) (slice_get log n)) same
+              ∙ ap (option_map (reply_of touches effect (held_after_first touches effect opening log k))) here
+              ∙ ap (λ x. Some x) (sym replied ∙ is_reply)
           | inr differs ↦ kept.replies i r (sym (slice_get-set_other states k i (Finished reply) differs) ∙ finished)
         ];
       }

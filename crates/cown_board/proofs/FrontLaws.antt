@@ -1,11 +1,9 @@
 -- Being in front of queues, as a fact and as a test.
-use Rattle.std.proofs.Common.{◌≡◌, ◌⊎◌, inl, inr, ℕ, zero, suc, ◌+◌, ◌<◌, ◌≤◌, ◌&&◌, Bool, true, false, cond, Option, Some, None, List, [], ◌∷◌, ◌++◌, length, length-append, get_or, take, drop, refl, sym, ap, ◌∙◌, arith}
-use Rattle.std.specs.Prelude.{◌==◌, slice_get, filter}
-use Rattle.std.proofs.lemmas.Bool.{cases_Bool, and_parts, and_from, eqb-true, eq-eqb, true≢false, true_from_ne_false, false_from_ne_true, both_ways}
-use Rattle.std.proofs.lemmas.List.Elements.{filter-append}
+use Rattle.std.proofs.Common.{◌≡◌, ℕ, zero, suc, ◌+◌, Bool, true, false, cond, Some, List, [], ◌∷◌, length, take, refl, sym, ap, ◌∙◌, arith}
+use Rattle.std.specs.Prelude.{slice_get, filter}
+use Rattle.std.proofs.lemmas.Bool.{and_parts, and_from, eqb-true, eq-eqb, true≢false}
 use Rattle.cown_queue.specs.Queues.{list_of}
 use Rattle.cown_board.proofs.LogLaws.{injective, no_some}
-use Rattle.cown_board.proofs.PlacesLaws.{slice_get-left, slice_get-right}
 use Rattle.cown_board.specs.Fronts.{AreFronts, are_fronts, is_first, is_front_at}
 use Rattle.cown_board.specs.Readiness.{touched_by}
 
@@ -40,7 +38,7 @@ count_more f (y ∷ xs) zero x here passes =
 count_more f (y ∷ xs) (suc p) x here passes =
     let rest = count_more f xs p x here passes in
     elim (f y) as (λ b. length (cond b (y ∷ filter f (take (suc p) xs)) (filter f (take (suc p) xs))) ≡ length (cond b (y ∷ filter f (take p xs)) (filter f (take p xs))) + 1)
-      [ true ↦ omega (arith, rest) | false ↦ rest ]
+    [ true ↦ omega (arith, rest) | false ↦ rest ]
 
 pub count_same : {A : Type 0} (f : A → Bool) (xs : List A) (p : ℕ) (x : A) → slice_get xs p ≡ Some x → f x ≡ false
     → length (filter f (take (suc p) xs)) ≡ length (filter f (take p xs))
@@ -50,7 +48,7 @@ count_same f (y ∷ xs) zero x here fails =
 count_same f (y ∷ xs) (suc p) x here fails =
     let rest = count_same f xs p x here fails in
     elim (f y) as (λ b. length (cond b (y ∷ filter f (take (suc p) xs)) (filter f (take (suc p) xs))) ≡ length (cond b (y ∷ filter f (take p xs)) (filter f (take p xs))))
-      [ true ↦ omega (arith, rest) | false ↦ rest ]
+    [ true ↦ omega (arith, rest) | false ↦ rest ]
 
 -- one that passes stands behind those before it that do
 pub passing_at : {A : Type 0} (f : A → Bool) (xs : List A) (p : ℕ) (x : A) → slice_get xs p ≡ Some x → f x ≡ true
@@ -61,7 +59,7 @@ passing_at f (y ∷ xs) zero x here passes =
 passing_at f (y ∷ xs) (suc p) x here passes =
     let rest = passing_at f xs p x here passes in
     elim (f y) as (λ b. slice_get (cond b (y ∷ filter f xs) (filter f xs)) (length (cond b (y ∷ filter f (take p xs)) (filter f (take p xs)))) ≡ Some x)
-      [ true ↦ rest | false ↦ rest ]
+    [ true ↦ rest | false ↦ rest ]
 
 -- two tests that say the same are one
 pub same_tests : (a b : Bool) → (a ≡ true → b ≡ true) → (b ≡ true → a ≡ true) → a ≡ b
@@ -75,5 +73,5 @@ pub front_at_place : {B : Type 0} (touches : B → List ℕ) (log : List B) (lis
 front_at_place touches log lists place b cowns answer here declared to from =
     let at : touched_by touches (slice_get log place) ≡ cowns = ap (touched_by touches) here ∙ sym declared in
     same_tests answer (is_front_at touches log lists place)
-      (λ yes. ap (are_fronts place lists) at ∙ fronts_test place lists cowns (to yes))
-      (λ yes. from (fronts_fact place lists cowns (sym (ap (are_fronts place lists) at) ∙ yes)))
+    (λ yes. ap (are_fronts place lists) at ∙ fronts_test place lists cowns (to yes))
+    (λ yes. from (fronts_fact place lists cowns (sym (ap (are_fronts place lists) at) ∙ yes)))

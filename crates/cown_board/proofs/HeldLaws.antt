@@ -1,7 +1,7 @@
 -- Reading and writing what cowns hold.
-use Rattle.std.proofs.Common.{◌≡◌, ◌≢◌, ◌⊎◌, inl, inr, ℕ, zero, suc, ◌+◌, ◌<◌, ◌≤◌, ℤ, pos, Bool, true, false, ◌||◌, List, [], ◌∷◌, length, get_or, set, refl, sym, ap, subst, ◌∙◌, arith}
+use Rattle.std.proofs.Common.{◌≡◌, inl, inr, ℕ, suc, ◌<◌, ℤ, pos, true, false, List, [], ◌∷◌, length, get_or, refl, sym, ap, subst, ◌∙◌, arith}
 use Rattle.std.specs.Prelude.{◌==◌, slice_set}
-use Rattle.std.proofs.lemmas.Bool.{cases_Bool, or_cases, or_parts, or_left, or_right, eqb-true, ne_eqb, eq-eqb, both_ways, true≢false, cases_eq}
+use Rattle.std.proofs.lemmas.Bool.{cases_Bool, or_cases, or_parts, or_left, or_right, eqb-true, eq-eqb, both_ways, true≢false, cases_eq}
 use Rattle.std.proofs.lemmas.List.{get_or-set_same, get_or-set_other, length-set}
 use Rattle.sb_calls.specs.Cowns.{AreHeld, IsHeld, read_cowns, write_cowns}
 use Rattle.sb_calls.specs.OneByOne.{is_among, share_cown}
@@ -14,18 +14,18 @@ eqb-refl n = eq-eqb n n refl
 pub share_from : (cown : ℕ) (xs ys : List ℕ) → is_among cown xs ≡ true → is_among cown ys ≡ true → share_cown xs ys ≡ true
 share_from cown [] ys in_a in_b = absurd (true≢false (sym in_a))
 share_from cown (x ∷ xs) ys in_a in_b = elim (or_cases (cown == x) (is_among cown xs) in_a) [
-    | inl same ↦ or_left (is_among x ys) (share_cown xs ys) (ap (λ c. is_among c ys) (sym (eqb-true cown x same)) ∙ in_b)
-    | inr later ↦ or_right (is_among x ys) (share_cown xs ys) (share_from cown xs ys later in_b)
-  ]
+  | inl same ↦ or_left (is_among x ys) (share_cown xs ys) (ap (λ c. is_among c ys) (sym (eqb-true cown x same)) ∙ in_b)
+  | inr later ↦ or_right (is_among x ys) (share_cown xs ys) (share_from cown xs ys later in_b)
+]
 
 pub shared_cown : (xs ys : List ℕ) → share_cown xs ys ≡ true → (cown : ℕ) × (is_among cown xs ≡ true) × (is_among cown ys ≡ true)
 shared_cown [] ys h = absurd (true≢false (sym h))
 shared_cown (x ∷ xs) ys h = elim (or_cases (is_among x ys) (share_cown xs ys) h) [
-    | inl here ↦ (x, or_left (x == x) (is_among x xs) (eqb-refl x), here)
-    | inr later ↦
+  | inl here ↦ (x, or_left (x == x) (is_among x xs) (eqb-refl x), here)
+  | inr later ↦
       let found = shared_cown xs ys later in
       (found.0, or_right (found.0 == x) (is_among found.0 xs) found.1, found.2)
-  ]
+]
 
 pub length-write : (held : List ℤ) (cowns : List ℕ) (values : List ℤ) → length (write_cowns held cowns values) ≡ length held
 length-write held [] values = refl
@@ -55,10 +55,10 @@ get-write_same a b (c ∷ cowns) (v ∷ values) cown among long lt_a lt_b =
       | inl later ↦ get-write_same (slice_set a c v) (slice_set b c v) cowns values cown later (omega (arith, long)) in_a in_b
       | inr not_later ↦ elim (or_cases (cown == c) (is_among cown cowns) among) [
         | inl same ↦
-          let here : cown ≡ c = eqb-true cown c same in
-          get-write_other (slice_set a c v) cowns values cown not_later
-          ∙ ap (λ k. get_or (slice_set a c v) k (pos 0)) here ∙ get_or-set_same a c v (pos 0) (omega (arith, here, lt_a))
-          ∙ sym (get-write_other (slice_set b c v) cowns values cown not_later
+            let here : cown ≡ c = eqb-true cown c same in
+            get-write_other (slice_set a c v) cowns values cown not_later
+            ∙ ap (λ k. get_or (slice_set a c v) k (pos 0)) here ∙ get_or-set_same a c v (pos 0) (omega (arith, here, lt_a))
+            ∙ sym (get-write_other (slice_set b c v) cowns values cown not_later
             ∙ ap (λ k. get_or (slice_set b c v) k (pos 0)) here ∙ get_or-set_same b c v (pos 0) (omega (arith, here, lt_b)))
         | inr later ↦ absurd (both_ways (is_among cown cowns) not_later later)
       ]
@@ -75,16 +75,17 @@ read-agree a b (c ∷ cowns) h =
 -- where all cowns hold what they may, so do these
 pub AreHeld-read : (held : List ℤ) (cowns : List ℕ) → AllHeld held → ((cown : ℕ) → is_among cown cowns ≡ true → cown < length held) → AreHeld cowns (read_cowns held cowns)
 AreHeld-read held [] all in_range = tt
-AreHeld-read held (c ∷ cowns) all in_range =
-    (all c (in_range c (or_left (c == c) (is_among c cowns) (eqb-refl c)))
-    , AreHeld-read held cowns all (λ cown among. in_range cown (or_right (cown == c) (is_among cown cowns) among)))
+AreHeld-read held (c ∷ cowns) all in_range = (
+  all c (in_range c (or_left (c == c) (is_among c cowns) (eqb-refl c))),
+  AreHeld-read held cowns all (λ cown among. in_range cown (or_right (cown == c) (is_among cown cowns) among)),
+)
 
 AllHeld-set : (held : List ℤ) (c : ℕ) (v : ℤ) → AllHeld held → IsHeld c v → AllHeld (slice_set held c v)
 AllHeld-set held c v all here cown lt =
     let lt_held : cown < length held = omega (arith, lt, length-set held c v) in
     elim (cases_eq cown c) [
       | inl same ↦ subst (λ k. IsHeld k (get_or (slice_set held c v) k (pos 0))) (sym same)
-        (subst (IsHeld c) (sym (get_or-set_same held c v (pos 0) (omega (arith, same, lt_held)))) here)
+          (subst (IsHeld c) (sym (get_or-set_same held c v (pos 0) (omega (arith, same, lt_held)))) here)
       | inr differs ↦ subst (IsHeld cown) (sym (get_or-set_other held c cown v (pos 0) differs)) (all cown lt_held)
     ]
 

@@ -1,10 +1,10 @@
 -- What the cowns of a behaviour hold once no unfinished one before it shares a cown with it.
-use Rattle.std.proofs.Common.{◌≡◌, ◌⊎◌, inl, inr, ℕ, suc, ◌<◌, ◌≤◌, ℤ, pos, Bool, true, false, Option, Some, None, List, [], length, get_or, refl, sym, ap, ◌∙◌, arith}
+use Rattle.std.proofs.Common.{◌≡◌, inl, inr, ℕ, ◌<◌, ◌≤◌, ℤ, true, false, Some, List, length, sym, ap, ◌∙◌, arith}
 use Rattle.std.specs.Prelude.{slice_get}
 use Rattle.std.proofs.lemmas.Bool.{cases_order, cases_lt, true≢false}
 use Rattle.std.proofs.lemmas.Option.{slice_get_past}
 use Rattle.sb_calls.specs.Cowns.{read_cowns}
-use Rattle.sb_calls.specs.OneByOne.{is_among, share_cown, inputs_of, held_after_first}
+use Rattle.sb_calls.specs.OneByOne.{is_among, inputs_of, held_after_first}
 use Rattle.sb_calls.specs.declared.reply.Reply.{Reply}
 use Rattle.cown_board.proofs.HeldLaws.{share_from, read-agree}
 use Rattle.cown_board.proofs.States.{waiting_is_open}
@@ -16,9 +16,9 @@ module _ {B : Type 0} (touches : B → List ℕ) (effect : B → List ℤ → Re
   -- a place at which a cown is declared is one of the log
   pub touched_within : (log : List B) (cown k : ℕ) → touches_at touches effect log cown k ≡ true → k < length log
   touched_within log cown k among = elim (cases_lt k (length log)) [
-      | inl within ↦ within
-      | inr past ↦ absurd (true≢false (sym among ∙ ap (λ o. is_among cown (touched_by touches o)) (slice_get_past log k past)))
-    ]
+    | inl within ↦ within
+    | inr past ↦ absurd (true≢false (sym among ∙ ap (λ o. is_among cown (touched_by touches o)) (slice_get_past log k past)))
+  ]
 
   -- two that declare a cown share it
   pub conflict_from : (log : List B) (cown j k : ℕ) → touches_at touches effect log cown j ≡ true → touches_at touches effect log cown k ≡ true → conflict_at touches log j k ≡ true

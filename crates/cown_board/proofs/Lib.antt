@@ -9,6 +9,7 @@ mod Inputs
 mod LogLaws
 mod Opening
 mod PlacesLaws
+mod PlayedLaws
 mod Queued
 mod ReadingCowns
 mod Replies

@@ -1,7 +1,7 @@
 -- A log run one by one.
-use Rattle.std.proofs.Common.{◌≡◌, ◌≢◌, ◌⊎◌, inl, inr, ℕ, zero, suc, ◌+◌, ◌<◌, ◌≤◌, ℤ, pos, Bool, true, false, Option, Some, None, List, [], ◌∷◌, ◌++◌, length, get_or, take, refl, sym, ap, subst, ◌∙◌, arith}
+use Rattle.std.proofs.Common.{◌≡◌, ℕ, zero, suc, ◌+◌, ◌<◌, ◌≤◌, ℤ, pos, true, false, Option, Some, None, List, [], ◌∷◌, ◌++◌, length, get_or, take, refl, sym, ap, ◌∙◌, arith}
 use Rattle.std.specs.Prelude.{slice_get}
-use Rattle.std.proofs.lemmas.Bool.{cases_Bool, cases_lt, cases_eq, both_ways, true≢false}
+use Rattle.std.proofs.lemmas.Bool.{true≢false}
 use Rattle.sb_calls.specs.Cowns.{AreHeld, write_cowns}
 use Rattle.sb_calls.specs.OneByOne.{is_among, inputs_of, held_after, held_after_one, held_after_first}
 use Rattle.sb_calls.specs.declared.reply.Reply.{Reply}
@@ -76,8 +76,8 @@ module _ {B : Type 0} (touches : B → List ℕ) (effect : B → List ℤ → Re
       let outputs = (effect b (inputs_of touches effect opening b)).1 in
       let long : length (write_cowns opening (touches b) outputs) ≡ length opening = length-write opening (touches b) outputs in
       AllHeld-after keeps (held_after_one touches effect opening b) log
-        (AllHeld-write opening (touches b) outputs all (keeps b (inputs_of touches effect opening b) (AreHeld-read opening (touches b) all (λ cown among. in_range 0 cown among))))
-        (λ k cown among. let lt = in_range (suc k) cown among in omega (arith, lt, long))
+      (AllHeld-write opening (touches b) outputs all (keeps b (inputs_of touches effect opening b) (AreHeld-read opening (touches b) all (λ cown among. in_range 0 cown among))))
+      (λ k cown among. let lt = in_range (suc k) cown among in omega (arith, lt, long))
 
   in_range_take : (log : List B) (n bound : ℕ) → ((k cown : ℕ) → touches_at touches effect log cown k ≡ true → cown < bound)
       → (k cown : ℕ) → touches_at touches effect (take n log) cown k ≡ true → cown < bound

@@ -1,10 +1,10 @@
 -- Laws of the places at which something is so.
-use Rattle.std.proofs.Common.{◌≡◌, ◌≢◌, ◌⊎◌, inl, inr, ℕ, zero, suc, ◌+◌, ◌-◌, ◌<◌, ◌≤◌, Bool, true, false, cond, not, ◌&&◌, Option, Some, None, List, [], ◌∷◌, ◌++◌, length, length-append, refl, sym, ap, subst, ◌∙◌, arith}
+use Rattle.std.proofs.Common.{◌≡◌, ◌≢◌, ◌⊎◌, inl, inr, ℕ, zero, suc, ◌+◌, ◌-◌, ◌<◌, Bool, true, false, cond, not, ◌&&◌, Option, Some, List, [], ◌∷◌, ◌++◌, length, length-append, refl, sym, ap, ◌∙◌, arith}
 use Rattle.std.specs.Prelude.{◌==◌, slice_get, filter, remove, if◌then◌else◌}
-use Rattle.std.proofs.lemmas.Bool.{cases_Bool, cases_lt, cases_order, and_parts, and_from, and_left, and_right, not-true, not_from_false, not_from_true, ne_eqb, eq-eqb, eqb-true, cond-true, cond-false, both_ways, true≢false}
+use Rattle.std.proofs.lemmas.Bool.{cases_Bool, cases_lt, cases_order, and_parts, and_from, and_left, and_right, not-true, not_from_false, not_from_true, ne_eqb, eq-eqb}
 use Rattle.std.proofs.lemmas.List.Elements.{filter-append}
 use Rattle.std.proofs.lemmas.List.Edits.{remove-append_left, remove-append_right}
-use Rattle.std.proofs.lemmas.Option.{slice_get_within, slice_get_past}
+use Rattle.std.proofs.lemmas.Option.{slice_get_within}
 use Rattle.cown_board.specs.Places.{places, none_below}
 
 pub slice_get-left : {X : Type 0} (xs ys : List X) (i : ℕ) → i < length xs → slice_get (xs ++ ys) i ≡ slice_get xs i
@@ -78,20 +78,20 @@ none_below_from f (suc m) h =
 found_where : (f : ℕ → Bool) (m p k : ℕ) → slice_get (places f (suc m)) p ≡ Some k
     → ((p < length (places f m)) × (slice_get (places f m) p ≡ Some k)) ⊎ ((p ≡ length (places f m)) × (k ≡ m) × (f m ≡ true))
 found_where f m p k h = elim (cases_lt p (length (places f m))) [
-    | inl within ↦ inl (within, sym (slice_get-left (places f m) (last_place (f m) m) p within) ∙ h)
-    | inr past ↦
+  | inl within ↦ inl (within, sym (slice_get-left (places f m) (last_place (f m) m) p within) ∙ h)
+  | inr past ↦
       let last = last_is (f m) m (p - length (places f m)) k
-        (sym (slice_get-right (places f m) (last_place (f m) m) p (p - length (places f m)) (omega (arith, past))) ∙ h) in
+      (sym (slice_get-right (places f m) (last_place (f m) m) p (p - length (places f m)) (omega (arith, past))) ∙ h) in
       inr (omega (arith, past, last.2), last.0, last.1)
-  ]
+]
 
 -- a place among them is below m, and it is so there
 pub place_is : (f : ℕ → Bool) (m p k : ℕ) → slice_get (places f m) p ≡ Some k → (k < m) × (f k ≡ true)
 place_is f zero p k h = absurd (omega (arith, slice_get_within [] p k h))
 place_is f (suc m) p k h = elim (found_where f m p k h) [
-    | inl within ↦ let found = place_is f m p k within.1 in (omega (arith, found.0), found.1)
-    | inr last ↦ (omega (arith, last.1), ap f last.1 ∙ last.2)
-  ]
+  | inl within ↦ let found = place_is f m p k within.1 in (omega (arith, found.0), found.1)
+  | inr last ↦ (omega (arith, last.1), ap f last.1 ∙ last.2)
+]
 
 -- all but one place
 abbrev pub but : (ℕ → Bool) → ℕ → ℕ → Bool
@@ -99,9 +99,9 @@ but f k j = f j && not (j == k)
 
 pub but_other : (f : ℕ → Bool) (k j : ℕ) → j ≢ k → but f k j ≡ f j
 but_other f k j differs = elim (cases_Bool (f j)) [
-    | inl so ↦ and_from (f j) (not (j == k)) so (not_from_false (j == k) (ne_eqb j k differs)) ∙ sym so
-    | inr not_so ↦ and_left (f j) (not (j == k)) not_so ∙ sym not_so
-  ]
+  | inl so ↦ and_from (f j) (not (j == k)) so (not_from_false (j == k) (ne_eqb j k differs)) ∙ sym so
+  | inr not_so ↦ and_left (f j) (not (j == k)) not_so ∙ sym not_so
+]
 
 pub but_same : (f : ℕ → Bool) (k j : ℕ) → j ≡ k → but f k j ≡ false
 but_same f k j same = and_right (f j) (not (j == k)) (not_from_true (j == k) (eq-eqb j k same))
@@ -116,16 +116,16 @@ remove_last xs x p e =
 pub places-remove : (f : ℕ → Bool) (m p k : ℕ) → slice_get (places f m) p ≡ Some k → places (but f k) m ≡ remove (places f m) p
 places-remove f zero p k h = absurd (omega (arith, slice_get_within [] p k h))
 places-remove f (suc m) p k h = elim (found_where f m p k h) [
-    | inl within ↦
+  | inl within ↦
       let found = place_is f m p k within.1 in
       ap (λ b. places (but f k) m ++ last_place b m) (but_other f k m (λ same. omega (arith, same, found.0)))
       ∙ ap (λ t. t ++ last_place (f m) m) (places-remove f m p k within.1)
       ∙ sym (remove-append_left (places f m) (last_place (f m) m) p within.0)
-    | inr last ↦
+  | inr last ↦
       ap (λ b. places (but f k) m ++ last_place b m) (but_same f k m (sym last.1)) ∙ append_nothing (places (but f k) m)
       ∙ places-agree (but f k) f m (λ j lt. but_other f k j (λ same. omega (arith, same, last.1, lt)))
       ∙ sym (ap (λ b. remove (places f m ++ last_place b m) p) last.2 ∙ remove_last (places f m) m p last.0)
-  ]
+]
 
 -- where there is none below m there is no place
 pub places-none : (f : ℕ → Bool) (m : ℕ) → none_below f m ≡ true → places f m ≡ []
@@ -148,23 +148,23 @@ none_from_places f (suc m) h =
 pub place_first : (f : ℕ → Bool) (m k : ℕ) → k < m → f k ≡ true → none_below f k ≡ true → slice_get (places f m) 0 ≡ Some k
 place_first f zero k lt so none = absurd (omega (arith, lt))
 place_first f (suc m) k lt so none = elim (cases_order k m) [
-    | inl same ↦
+  | inl same ↦
       ap (λ t. slice_get (t ++ last_place (f m) m) 0) (places-none f m (ap (none_below f) (sym same) ∙ none))
       ∙ ap (λ b. slice_get (last_place b m) 0) (ap f (sym same) ∙ so) ∙ ap (λ n. Some n) (sym same)
-    | inr either ↦ elim either [
-      | inl below ↦
+  | inr either ↦ elim either [
+    | inl below ↦
         let first = place_first f m k below so none in
         slice_get-left (places f m) (last_place (f m) m) 0 (slice_get_within (places f m) 0 k first) ∙ first
-      | inr above ↦ absurd (omega (arith, above, lt))
-    ]
+    | inr above ↦ absurd (omega (arith, above, lt))
   ]
+]
 
 pub none_before_first : (f : ℕ → Bool) (m k : ℕ) → slice_get (places f m) 0 ≡ Some k → none_below f k ≡ true
 none_before_first f zero k h = absurd (omega (arith, slice_get_within [] 0 k h))
 none_before_first f (suc m) k h = elim (found_where f m 0 k h) [
-    | inl within ↦ none_before_first f m k within.1
-    | inr last ↦ ap (none_below f) last.1 ∙ none_from_places f m (no_length (places f m) (sym last.0))
-  ]
+  | inl within ↦ none_before_first f m k within.1
+  | inr last ↦ ap (none_below f) last.1 ∙ none_from_places f m (no_length (places f m) (sym last.0))
+]
 
 -- those of these places at which g is so too
 pub places-filter : (f g : ℕ → Bool) (m : ℕ) → filter g (places f m) ≡ places (λ j. f j && g j) m

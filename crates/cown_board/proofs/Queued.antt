@@ -1,21 +1,21 @@
 -- The queues of the cowns, after each change.
-use Rattle.std.proofs.Common.{◌≡◌, ◌≢◌, ◌⊎◌, inl, inr, ℕ, zero, suc, ◌+◌, ◌<◌, ◌≤◌, ℤ, Bool, true, false, ◌&&◌, not, Option, Some, None, List, [], ◌∷◌, ◌++◌, length, length-append, get_or, drop, refl, sym, ap, ◌∙◌, arith}
+use Rattle.std.proofs.Common.{◌≡◌, inl, inr, ℕ, suc, ◌<◌, ℤ, Bool, true, false, ◌&&◌, Some, List, [], ◌∷◌, ◌++◌, length, length-append, drop, refl, sym, ap, ◌∙◌, arith}
 use Rattle.std.specs.Prelude.{◌==◌, if◌then◌else◌, slice_get, slice_set, remove}
 use Rattle.std.proofs.lemmas.Bool.{cases_Bool, cases_eq, and_parts, and_from, and_left, and_right, true≢false, false_from_ne_true, both_ways, or_cases, or_left, or_right, eqb-true}
 use Rattle.std.proofs.lemmas.Option.{slice_get_within}
-use Rattle.sb_calls.specs.OneByOne.{is_among, share_cown}
+use Rattle.sb_calls.specs.OneByOne.{is_among}
 use Rattle.sb_calls.specs.declared.reply.Reply.{Reply}
 use Rattle.cown_queue.specs.Queues.{list_of, Appends, Releases, IsInFront}
 use Rattle.cown_board.proofs.HeldLaws.{shared_cown, eqb-refl}
 use Rattle.cown_board.proofs.LogLaws.{injective, no_some}
 use Rattle.cown_board.proofs.Inputs.{conflict_from}
-use Rattle.cown_board.proofs.PlacesLaws.{append_nothing, places-agree, places-true, places-false, places-remove, place_first, place_is, none_before_first, none_below_at, none_below_from, but, but_other, but_same, slice_get-left, slice_get-right}
-use Rattle.cown_board.proofs.States.{state-append, state-last, state-set_same, state-set_other, state_here, waiting_is_open}
+use Rattle.cown_board.proofs.PlacesLaws.{append_nothing, places-agree, places-remove, place_first, none_before_first, none_below_at, none_below_from, but, but_other, but_same, slice_get-left, slice_get-right}
+use Rattle.cown_board.proofs.States.{state-append, state-last, state-set_same, state-set_other}
 use Rattle.cown_board.proofs.Taking.{open-taken}
 use Rattle.cown_board.specs.Fronts.{AreFronts}
-use Rattle.cown_board.specs.Invariant.{Keeps, QueuesAre, is_queued, open_at, waiting_at, touches_at}
-use Rattle.cown_board.specs.Places.{places, none_below}
-use Rattle.cown_board.specs.Readiness.{touched_by, conflict_at, is_clear_at}
+use Rattle.cown_board.specs.Invariant.{QueuesAre, is_queued, open_at, touches_at}
+use Rattle.cown_board.specs.Places.{places}
+use Rattle.cown_board.specs.Readiness.{touched_by, conflict_at}
 use Rattle.cown_board.specs.State.{is_open}
 use Rattle.cown_board.specs.declared.state.State.{State}
 use Rattle.cown_board.specs.declared.state.State.TheVariants.{Waiting, Out, Finished}
@@ -45,27 +45,27 @@ module _ {B : Type 0} (touches : B → List ℕ) (effect : B → List ℤ → Re
       → QueuesAre touches effect log states old cowns → Appends (length log) (touches b) old new
       → QueuesAre touches effect (log ++ b ∷ []) (states ++ Waiting ∷ []) new cowns
   queues_submitted log states b old new cowns same queued appended = record {
-      one_each = appended.cowns_stay ∙ queued.one_each;
-      each = λ cown lt.
+    one_each = appended.cowns_stay ∙ queued.one_each;
+    each = λ cown lt.
         let f = is_queued touches effect (log ++ b ∷ []) (states ++ Waiting ∷ []) cown in
         let before : places f (length log) ≡ list_of old cown =
-          places-agree f (is_queued touches effect log states cown) (length log) (λ j lt. queued_before log states b cown j same lt) ∙ sym (queued.each cown lt) in
+        places-agree f (is_queued touches effect log states cown) (length log) (λ j lt. queued_before log states b cown j same lt) ∙ sym (queued.each cown lt) in
         let longer : length (log ++ b ∷ []) ≡ suc (length log) = length-append log (b ∷ []) ∙ omega arith in
         let changed = appended.each cown (omega (arith, lt, queued.one_each)) in
         sym (ap (places f) longer ∙ ap (λ t. t ++ (if f (length log) then length log ∷ [] else [])) before
-          ∙ ap (λ x. list_of old cown ++ (if x then length log ∷ [] else [])) (queued_last log states b cown same)
-          ∙ chosen (is_among cown (touches b)) (list_of old cown) (length log)
-          ∙ sym changed);
-    }
+        ∙ ap (λ x. list_of old cown ++ (if x then length log ∷ [] else [])) (queued_last log states b cown same)
+        ∙ chosen (is_among cown (touches b)) (list_of old cown) (length log)
+        ∙ sym changed);
+  }
 
   pub queues_taken : (log : List B) (states : List State) (lists : List (List ℕ)) (cowns k : ℕ) → slice_get states k ≡ Some Waiting
       → QueuesAre touches effect log states lists cowns → QueuesAre touches effect log (slice_set states k Out) lists cowns
   queues_taken log states lists cowns k here queued = record {
-      one_each = queued.one_each;
-      each = λ cown lt. queued.each cown lt
+    one_each = queued.one_each;
+    each = λ cown lt. queued.each cown lt
         ∙ places-agree (is_queued touches effect log states cown) (is_queued touches effect log (slice_set states k Out) cown) (length log)
-          (λ j lt. ap (λ x. x && touches_at touches effect log cown j) (sym (open-taken states k j here)));
-    }
+        (λ j lt. ap (λ x. x && touches_at touches effect log cown j) (sym (open-taken states k j here)));
+  }
 
   -- an unfinished behaviour that no unfinished one before it shares a cown with is in front at each of its cowns
   pub first_queued : (log : List B) (states : List State) (cown k : ℕ) → k < length log → open_at states k ≡ true → touches_at touches effect log cown k ≡ true
@@ -73,9 +73,9 @@ module _ {B : Type 0} (touches : B → List ℕ) (effect : B → List ℤ → Re
       → slice_get (places (is_queued touches effect log states cown) (length log)) 0 ≡ Some k
   first_queued log states cown k lt unfinished among clear =
       place_first (is_queued touches effect log states cown) (length log) k lt (and_from (open_at states k) (touches_at touches effect log cown k) unfinished among)
-        (none_below_from (is_queued touches effect log states cown) k (λ j below. false_from_ne_true (is_queued touches effect log states cown j) (λ queued.
-          let parts = and_parts (open_at states j) (touches_at touches effect log cown j) queued in
-          true≢false (sym parts.0 ∙ clear j below (conflict_from touches effect log cown j k parts.1 among)))))
+      (none_below_from (is_queued touches effect log states cown) k (λ j below. false_from_ne_true (is_queued touches effect log states cown j) (λ queued.
+      let parts = and_parts (open_at states j) (touches_at touches effect log cown j) queued in
+      true≢false (sym parts.0 ∙ clear j below (conflict_from touches effect log cown j k parts.1 among)))))
 
   -- the cowns of one behaviour, one after the other
   module _ (log : List B) (states : List State) (lists : List (List ℕ)) (cowns : ℕ) (queued : QueuesAre touches effect log states lists cowns)
@@ -91,16 +91,17 @@ module _ {B : Type 0} (touches : B → List ℕ) (effect : B → List ℤ → Re
         → (part : List ℕ) → ((cown : ℕ) → is_among cown part ≡ true → (is_among cown (touches b) ≡ true) × (cown < cowns)) → AreFronts k lists part
     fronts_from_clear unfinished clear [] known = tt
     fronts_from_clear unfinished clear (c ∷ part) known =
-        let this = known c (or_left (c == c) (is_among c part) (eqb-refl c)) in
-        (list_first c this.1 ∙ first_queued log states c k (slice_get_within log k b here) unfinished (touches_b c ∙ this.0) clear
-        , fronts_from_clear unfinished clear part (λ cown among. known cown (or_right (cown == c) (is_among cown part) among)))
+        let this = known c (or_left (c == c) (is_among c part) (eqb-refl c)) in (
+          list_first c this.1 ∙ first_queued log states c k (slice_get_within log k b here) unfinished (touches_b c ∙ this.0) clear,
+          fronts_from_clear unfinished clear part (λ cown among. known cown (or_right (cown == c) (is_among cown part) among)),
+        )
 
     front_at : (part : List ℕ) (cown : ℕ) → AreFronts k lists part → is_among cown part ≡ true → slice_get (list_of lists cown) 0 ≡ Some k
     front_at [] cown fronts among = absurd (true≢false (sym among))
     front_at (c ∷ part) cown fronts among = elim (or_cases (cown == c) (is_among cown part) among) [
-        | inl same ↦ ap (λ x. slice_get (list_of lists x) 0) (eqb-true cown c same) ∙ fronts.0
-        | inr later ↦ front_at part cown fronts.1 later
-      ]
+      | inl same ↦ ap (λ x. slice_get (list_of lists x) 0) (eqb-true cown c same) ∙ fronts.0
+      | inr later ↦ front_at part cown fronts.1 later
+    ]
 
     -- if it is, no unfinished one before it shares a cown with it
     pub clear_from_fronts : AreFronts k lists (touches b) → ((cown : ℕ) → is_among cown (touches b) ≡ true → cown < cowns)
@@ -111,9 +112,9 @@ module _ {B : Type 0} (touches : B → List ℕ) (effect : B → List ℤ → Re
         let first = sym (list_first shared.0 (in_range shared.0 among)) ∙ front_at (touches b) shared.0 fronts among in
         let none = none_before_first (is_queued touches effect log states shared.0) (length log) k first in
         false_from_ne_true (open_at states j) (λ unfinished.
-          both_ways (is_queued touches effect log states shared.0 j)
-            (none_below_at (is_queued touches effect log states shared.0) k j none lt)
-            (and_from (open_at states j) (touches_at touches effect log shared.0 j) unfinished shared.1))
+        both_ways (is_queued touches effect log states shared.0 j)
+        (none_below_at (is_queued touches effect log states shared.0) k j none lt)
+        (and_from (open_at states j) (touches_at touches effect log shared.0 j) unfinished shared.1))
 
     first_rest : (xs : List ℕ) (n : ℕ) → slice_get xs 0 ≡ Some n → (rest : List ℕ) × (xs ≡ n ∷ rest)
     first_rest [] n h = absurd (no_some h)
@@ -126,23 +127,23 @@ module _ {B : Type 0} (touches : B → List ℕ) (effect : B → List ℤ → Re
   queued_finished : (log : List B) (states : List State) (cown k j : ℕ) (b : B) (reply : Reply) → k < length states → slice_get log k ≡ Some b → is_among cown (touches b) ≡ false
       → is_queued touches effect log (slice_set states k (Finished reply)) cown j ≡ is_queued touches effect log states cown j
   queued_finished log states cown k j b reply lt here apart = elim (cases_eq j k) [
-      | inl same ↦
+    | inl same ↦
         let out : touches_at touches effect log cown j ≡ false = ap (touches_at touches effect log cown) same ∙ ap (λ o. is_among cown (touched_by touches o)) here ∙ apart in
         and_right (open_at (slice_set states k (Finished reply)) j) (touches_at touches effect log cown j) out ∙ sym (and_right (open_at states j) (touches_at touches effect log cown j) out)
-      | inr differs ↦ ap (λ x. x && touches_at touches effect log cown j) (state-set_other is_open states k j (Finished reply) differs)
-    ]
+    | inr differs ↦ ap (λ x. x && touches_at touches effect log cown j) (state-set_other is_open states k j (Finished reply) differs)
+  ]
 
   queued_but : (log : List B) (states : List State) (cown k j : ℕ) (reply : Reply) → k < length states
       → is_queued touches effect log (slice_set states k (Finished reply)) cown j ≡ but (is_queued touches effect log states cown) k j
   queued_but log states cown k j reply lt = elim (cases_eq j k) [
-      | inl same ↦
+    | inl same ↦
         and_left (open_at (slice_set states k (Finished reply)) j) (touches_at touches effect log cown j)
-          (ap (open_at (slice_set states k (Finished reply))) same ∙ state-set_same is_open states k (Finished reply) lt)
+        (ap (open_at (slice_set states k (Finished reply))) same ∙ state-set_same is_open states k (Finished reply) lt)
         ∙ sym (but_same (is_queued touches effect log states cown) k j same)
-      | inr differs ↦
+    | inr differs ↦
         ap (λ x. x && touches_at touches effect log cown j) (state-set_other is_open states k j (Finished reply) differs)
         ∙ sym (but_other (is_queued touches effect log states cown) k j differs)
-    ]
+  ]
 
   remove_first : (xs : List ℕ) → remove xs 0 ≡ drop 1 xs
   remove_first [] = refl
@@ -158,20 +159,20 @@ module _ {B : Type 0} (touches : B → List ℕ) (effect : B → List ℤ → Re
       record {
         one_each = released.cowns_stay ∙ queued.one_each;
         each = λ cown in_range.
-          let f = is_queued touches effect log states cown in
-          let g = is_queued touches effect log (slice_set states k (Finished reply)) cown in
-          let changed = released.each cown (omega (arith, in_range, queued.one_each)) in
-          elim (cases_Bool (is_among cown (touches b))) [
-            | inl among ↦
-              let at_k : touches_at touches effect log cown k ≡ true = ap (λ o. is_among cown (touched_by touches o)) here ∙ among in
-              changed ∙ ap (λ x. if x then drop 1 (list_of old cown) else list_of old cown) among
-              ∙ ap (drop 1) (queued.each cown in_range)
-              ∙ sym (places-agree g (but f k) (length log) (λ j _. queued_but log states cown k j reply lt)
-                ∙ places-remove f (length log) 0 k (first_queued log states cown k lt_log unfinished at_k clear)
-                ∙ remove_first (places f (length log)))
-            | inr apart ↦
-              changed ∙ ap (λ x. if x then drop 1 (list_of old cown) else list_of old cown) apart
-              ∙ queued.each cown in_range
-              ∙ sym (places-agree g f (length log) (λ j _. queued_finished log states cown k j b reply lt here apart))
-          ];
+            let f = is_queued touches effect log states cown in
+            let g = is_queued touches effect log (slice_set states k (Finished reply)) cown in
+            let changed = released.each cown (omega (arith, in_range, queued.one_each)) in
+            elim (cases_Bool (is_among cown (touches b))) [
+              | inl among ↦
+                  let at_k : touches_at touches effect log cown k ≡ true = ap (λ o. is_among cown (touched_by touches o)) here ∙ among in
+                  changed ∙ ap (λ x. if x then drop 1 (list_of old cown) else list_of old cown) among
+                  ∙ ap (drop 1) (queued.each cown in_range)
+                  ∙ sym (places-agree g (but f k) (length log) (λ j _. queued_but log states cown k j reply lt)
+                  ∙ places-remove f (length log) 0 k (first_queued log states cown k lt_log unfinished at_k clear)
+                  ∙ remove_first (places f (length log)))
+              | inr apart ↦
+                  changed ∙ ap (λ x. if x then drop 1 (list_of old cown) else list_of old cown) apart
+                  ∙ queued.each cown in_range
+                  ∙ sym (places-agree g f (length log) (λ j _. queued_finished log states cown k j b reply lt here apart))
+            ];
       }

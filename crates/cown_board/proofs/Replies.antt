@@ -1,13 +1,12 @@
 -- The reply to a number.
-use Rattle.std.proofs.Common.{◌≡◌, ◌≢◌, ◌⊎◌, inl, inr, ℕ, zero, suc, ◌+◌, ◌-◌, ◌<◌, ◌≤◌, ℤ, Bool, true, false, cond, Option, Some, None, List, length, refl, sym, ap, subst, ◌∙◌, arith}
-use Rattle.std.specs.Prelude.{◌==◌, nat_le, if◌then◌else◌, slice_get, option_map, option_and_then, IfSome}
+use Rattle.std.proofs.Common.{◌≡◌, ◌≢◌, inl, inr, ℕ, suc, ◌+◌, ◌-◌, ◌<◌, ◌≤◌, ℤ, false, Option, Some, None, List, length, sym, ap, ◌∙◌, arith}
+use Rattle.std.specs.Prelude.{◌==◌, nat_le, if◌then◌else◌, slice_get, option_and_then, IfSome}
 use Rattle.std.proofs.lemmas.Bool.{eq-eqb, ne_eqb, le-leb, lt-leb, cases_lt}
 use Rattle.std.proofs.lemmas.Option.{slice_get_past}
 use Rattle.sb_rows.specs.Balances.{Balances}
 use Rattle.sb_calls.specs.Cowns.{held_of}
-use Rattle.sb_calls.specs.OneByOne.{held_after_first, reply_of, reply_by_log}
+use Rattle.sb_calls.specs.OneByOne.{reply_by_log}
 use Rattle.sb_calls.specs.declared.reply.Reply.{Reply}
-use Rattle.cown_board.proofs.FinishedJob.{seen}
 use Rattle.cown_board.proofs.LogLaws.{injective, no_some}
 use Rattle.cown_board.specs.Board.{BoardOf, reply_in}
 use Rattle.cown_board.specs.Invariant.{IsBoard}
@@ -32,7 +31,7 @@ module _ {B : Type 0} (board : BoardOf B) where
   number_before number some before =
       let differs : (number == 0) ≡ false = ne_eqb number 0 (λ same. omega (arith, same, some)) in
       sym (ap (λ b. if b then None else (if nat_le number (length board.earlier) then slice_get board.earlier (number - 1)
-        else option_and_then finished_reply (slice_get board.states (number - 1 - length board.earlier)))) differs
+      else option_and_then finished_reply (slice_get board.states (number - 1 - length board.earlier)))) differs
       ∙ ap (λ b. if b then slice_get board.earlier (number - 1) else option_and_then finished_reply (slice_get board.states (number - 1 - length board.earlier))) (le-leb number (length board.earlier) before))
 
   number_after : (number place : ℕ) → number ≡ suc (length board.earlier + place) → option_and_then finished_reply (slice_get board.states place) ≡ reply_in board number
@@ -41,7 +40,7 @@ module _ {B : Type 0} (board : BoardOf B) where
       let differs : (number == 0) ≡ false = ne_eqb number 0 (λ same. omega (arith, same, here)) in
       let at : number - 1 - length board.earlier ≡ place = omega (arith, here) in
       sym (ap (λ b. if b then None else (if nat_le number (length board.earlier) then slice_get board.earlier (number - 1)
-        else option_and_then finished_reply (slice_get board.states (number - 1 - length board.earlier)))) differs
+      else option_and_then finished_reply (slice_get board.states (number - 1 - length board.earlier)))) differs
       ∙ ap (λ b. if b then slice_get board.earlier (number - 1) else option_and_then finished_reply (slice_get board.states (number - 1 - length board.earlier))) (lt-leb number (length board.earlier) (omega (arith, here)))
       ∙ ap (λ k. option_and_then finished_reply (slice_get board.states k)) at)
 

@@ -1,19 +1,19 @@
 -- One more behaviour is submitted: what is kept.
-use Rattle.std.proofs.Common.{◌≡◌, ◌≢◌, ◌⊎◌, inl, inr, ℕ, suc, ◌+◌, ◌<◌, ◌≤◌, ℤ, pos, Bool, true, false, Option, Some, None, List, [], ◌∷◌, ◌++◌, length, length-append, get_or, refl, sym, ap, subst, ◌∙◌, arith}
+use Rattle.std.proofs.Common.{◌≡◌, inl, inr, ℕ, ◌+◌, ◌<◌, ◌≤◌, ℤ, pos, true, Some, List, [], ◌∷◌, ◌++◌, length, length-append, get_or, sym, ap, ◌∙◌, arith}
 use Rattle.std.specs.Prelude.{slice_get, option_map}
-use Rattle.std.proofs.lemmas.Bool.{cases_eq, cases_lt, both_ways, true≢false, false_from_ne_true}
+use Rattle.std.proofs.lemmas.Bool.{cases_lt, true≢false, false_from_ne_true}
 use Rattle.std.proofs.lemmas.Option.{slice_get_within}
 use Rattle.sb_calls.specs.OneByOne.{is_among, share_cown, held_after_first, reply_of}
 use Rattle.sb_calls.specs.declared.reply.Reply.{Reply}
 use Rattle.cown_board.proofs.Inputs.{touched_within}
 use Rattle.cown_board.proofs.LogLaws.{injective, after-append, after_untouched}
 use Rattle.cown_board.proofs.PlacesLaws.{slice_get-left, slice_get-right}
-use Rattle.cown_board.proofs.States.{state-append, state-last, state_past}
-use Rattle.cown_board.specs.Invariant.{Keeps, IsSettled, open_at, waiting_at, touches_at}
+use Rattle.cown_board.proofs.States.{state-append, state-last}
+use Rattle.cown_board.specs.Invariant.{Keeps, IsSettled, touches_at}
 use Rattle.cown_board.specs.Readiness.{touched_by, conflict_at}
 use Rattle.cown_board.specs.State.{is_waiting, is_open}
 use Rattle.cown_board.specs.declared.state.State.{State}
-use Rattle.cown_board.specs.declared.state.State.TheVariants.{Waiting, Out, Finished}
+use Rattle.cown_board.specs.declared.state.State.TheVariants.{Waiting, Finished}
 
 -- one that waits isn't finished
 pub not_waiting : {reply : Reply} → ◌≡◌ {A = State} Waiting (Finished reply) → ⊥
@@ -33,13 +33,13 @@ module _ {B : Type 0} (touches : B → List ℕ) (effect : B → List ℤ → Re
   settled_old : {opening : List ℤ} {log : List B} {states : List State} {held : List ℤ} → Keeps touches effect opening log states held
       → (b : B) (cown i : ℕ) → IsSettled touches effect (log ++ b ∷ []) (states ++ Waiting ∷ []) cown i → IsSettled touches effect log states cown i
   settled_old {log = log} {states = states} kept b cown i settled = record {
-      before = λ j lt among.
+    before = λ j lt among.
         let within = touched_within touches effect log cown j among in
         sym (state-append is_open states Waiting j (omega (arith, within, kept.beside))) ∙ settled.before j lt (touches-append log b cown j within ∙ among);
-      after = λ j ge among.
+    after = λ j ge among.
         let within = touched_within touches effect log cown j among in
         sym (state-append is_open states Waiting j (omega (arith, within, kept.beside))) ∙ settled.after j ge (touches-append log b cown j within ∙ among);
-    }
+  }
 
   settled_submitted : {opening : List ℤ} {log : List B} {states : List State} {held : List ℤ} → Keeps touches effect opening log states held
       → (b : B) (cown i : ℕ) → i ≤ length (log ++ b ∷ []) → IsSettled touches effect (log ++ b ∷ []) (states ++ Waiting ∷ []) cown i
@@ -48,19 +48,19 @@ module _ {B : Type 0} (touches : B → List ℕ) (effect : B → List ℤ → Re
       let longer : length (log ++ b ∷ []) ≡ length log + 1 = length-append log (b ∷ []) in
       elim (cases_lt (length log) i) [
         | inl new ↦
-          let all : i ≡ length log + 1 = omega (arith, new, le, longer) in
-          let before : IsSettled touches effect log states cown (length log) = record {
-            before = λ j lt among. (settled_old kept b cown i settled).before j (omega (arith, lt, new)) among;
-            after = λ j ge among. absurd (let within = touched_within touches effect log cown j among in omega (arith, within, ge));
-          } in
-          kept.settled cown (length log) (omega arith) before
-          ∙ ap (λ h. get_or h cown (pos 0)) (sym (after-append touches effect opening log (b ∷ []) (length log) (omega arith)))
-          ∙ sym (after_untouched touches effect opening (log ++ b ∷ []) cown (length log) 1 i all (λ j ge lt. false_from_ne_true (touches_at touches effect (log ++ b ∷ []) cown j) (λ among.
+            let all : i ≡ length log + 1 = omega (arith, new, le, longer) in
+            let before : IsSettled touches effect log states cown (length log) = record {
+              before = λ j lt among. (settled_old kept b cown i settled).before j (omega (arith, lt, new)) among;
+              after = λ j ge among. absurd (let within = touched_within touches effect log cown j among in omega (arith, within, ge));
+            } in
+            kept.settled cown (length log) (omega arith) before
+            ∙ ap (λ h. get_or h cown (pos 0)) (sym (after-append touches effect opening log (b ∷ []) (length log) (omega arith)))
+            ∙ sym (after_untouched touches effect opening (log ++ b ∷ []) cown (length log) 1 i all (λ j ge lt. false_from_ne_true (touches_at touches effect (log ++ b ∷ []) cown j) (λ among.
             let here : j ≡ length states = omega (arith, ge, lt, all, kept.beside) in
             true≢false (sym (state-last is_open states Waiting j here) ∙ settled.before j lt among))))
         | inr old ↦
-          kept.settled cown i old (settled_old kept b cown i settled)
-          ∙ ap (λ h. get_or h cown (pos 0)) (sym (after-append touches effect opening log (b ∷ []) i old))
+            kept.settled cown i old (settled_old kept b cown i settled)
+            ∙ ap (λ h. get_or h cown (pos 0)) (sym (after-append touches effect opening log (b ∷ []) i old))
       ]
 
   pub keeps_submitted : {opening : List ℤ} {log : List B} {states : List State} {held : List ℤ} → Keeps touches effect opening log states held
@@ -77,25 +77,25 @@ module _ {B : Type 0} (touches : B → List ℕ) (effect : B → List ℤ → Re
         in_range = λ k cown among. elim (cases_lt k (length log)) [
           | inl within ↦ kept.in_range k cown (sym (touches-append log b cown k within) ∙ among)
           | inr past ↦
-            let here : k ≡ length log = (let lt = touched_within touches effect (log ++ b ∷ []) cown k among in omega (arith, lt, past, longer)) in
-            fits cown (sym (ap (λ o. is_among cown (touched_by touches o)) (ap (slice_get (log ++ b ∷ [])) here ∙ last)) ∙ among)
+              let here : k ≡ length log = (let lt = touched_within touches effect (log ++ b ∷ []) cown k among in omega (arith, lt, past, longer)) in
+              fits cown (sym (ap (λ o. is_among cown (touched_by touches o)) (ap (slice_get (log ++ b ∷ [])) here ∙ last)) ∙ among)
         ];
         ordered = λ j i before within unfinished conflict. elim (cases_lt i (length log)) [
           | inl old ↦
-            state-append is_waiting states Waiting i (omega (arith, old, kept.beside))
-            ∙ kept.ordered j i before old
+              state-append is_waiting states Waiting i (omega (arith, old, kept.beside))
+              ∙ kept.ordered j i before old
               (sym (state-append is_open states Waiting j (omega (arith, old, before, kept.beside))) ∙ unfinished)
               (sym (conflict-append log b j i (omega (arith, old, before)) old) ∙ conflict)
           | inr new ↦ state-last is_waiting states Waiting i (omega (arith, new, within, longer, kept.beside))
         ];
         settled = settled_submitted kept b;
         replies = λ i reply finished.
-          let lt : i < length states + 1 = (let w = slice_get_within (states ++ Waiting ∷ []) i (Finished reply) finished in omega (arith, w, more)) in
-          elim (cases_lt i (length states)) [
-            | inl old ↦
-              ap (λ h. option_map (reply_of touches effect h) (slice_get (log ++ b ∷ []) i)) (after-append touches effect opening log (b ∷ []) i (omega (arith, old, kept.beside)))
-              ∙ ap (option_map (reply_of touches effect (held_after_first touches effect opening log i))) (slice_get-left log (b ∷ []) i (omega (arith, old, kept.beside)))
-              ∙ kept.replies i reply (sym (slice_get-left states (Waiting ∷ []) i old) ∙ finished)
-            | inr new ↦ absurd (not_waiting (injective (sym (slice_get-right states (Waiting ∷ []) i 0 (omega (arith, lt, new))) ∙ finished)))
-          ];
+            let lt : i < length states + 1 = (let w = slice_get_within (states ++ Waiting ∷ []) i (Finished reply) finished in omega (arith, w, more)) in
+            elim (cases_lt i (length states)) [
+              | inl old ↦
+                  ap (λ h. option_map (reply_of touches effect h) (slice_get (log ++ b ∷ []) i)) (after-append touches effect opening log (b ∷ []) i (omega (arith, old, kept.beside)))
+                  ∙ ap (option_map (reply_of touches effect (held_after_first touches effect opening log i))) (slice_get-left log (b ∷ []) i (omega (arith, old, kept.beside)))
+                  ∙ kept.replies i reply (sym (slice_get-left states (Waiting ∷ []) i old) ∙ finished)
+              | inr new ↦ absurd (not_waiting (injective (sym (slice_get-right states (Waiting ∷ []) i 0 (omega (arith, lt, new))) ∙ finished)))
+            ];
       }

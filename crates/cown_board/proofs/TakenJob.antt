@@ -1,8 +1,8 @@
 -- The job that is handed out.
-use Rattle.std.proofs.Common.{◌≡◌, ◌≢◌, ◌⊎◌, inl, inr, ℕ, zero, suc, ◌+◌, ◌<◌, ◌≤◌, ℤ, pos, Bool, true, false, ◌&&◌, Option, Some, None, List, [], ◌∷◌, length, get_or, take, refl, sym, ap, subst, ◌∙◌, arith}
+use Rattle.std.proofs.Common.{◌≡◌, inl, inr, ℕ, zero, suc, ◌+◌, ◌<◌, ◌≤◌, ℤ, true, false, ◌&&◌, Option, Some, None, List, [], ◌∷◌, length, get_or, take, refl, sym, ap, subst, ◌∙◌, arith}
 use Rattle.std.specs.Prelude.{slice_get, slice_set, filter, remove}
 use Rattle.std.proofs.lemmas.Bool.{cases_Bool, and_parts, and_from, and_left, true≢false, both_ways, false_from_ne_true}
-use Rattle.std.proofs.lemmas.Option.{slice_get_within, slice_get-get_or}
+use Rattle.std.proofs.lemmas.Option.{slice_get-get_or}
 use Rattle.sb_rows.specs.Balances.{Balances}
 use Rattle.sb_calls.specs.Cowns.{AreBelow, AreHeld, held_of, read_cowns}
 use Rattle.sb_calls.specs.OneByOne.{is_among, inputs_of, held_after_first}
@@ -16,11 +16,10 @@ use Rattle.cown_board.proofs.LogLaws.{AllHeld-after_first, length-after}
 use Rattle.cown_board.proofs.PlacesLaws.{places-agree, places-filter, place_is, none_below_at, none_below_from}
 use Rattle.cown_board.proofs.Queued.{fronts_from_clear, clear_from_fronts}
 use Rattle.cown_board.proofs.States.{waiting_is_open}
-use Rattle.cown_board.specs.Board.{BoardOf, Takes}
-use Rattle.cown_board.specs.Job.{JobOf}
-use Rattle.cown_board.specs.Fronts.{AreFronts, are_fronts, is_front_at}
-use Rattle.cown_board.specs.Invariant.{IsBoard, open_at, waiting_at, touches_at}
-use Rattle.cown_board.specs.Places.{places, none_below}
+use Rattle.cown_board.specs.Board.{Takes}
+use Rattle.cown_board.specs.Fronts.{are_fronts, is_front_at}
+use Rattle.cown_board.specs.Invariant.{IsBoard, open_at, waiting_at}
+use Rattle.cown_board.specs.Places.{places}
 use Rattle.cown_board.specs.Readiness.{touched_by, conflict_at, is_clear_at, is_ready_at, ready_places}
 use Rattle.cown_board.specs.State.{is_waiting, state_is}
 use Rattle.cown_board.specs.declared.state.State.{State}
@@ -57,13 +56,13 @@ module _ {B : Type 0} (touches : B → List ℕ) (effect : B → List ℤ → Re
   clear_fact : (k : ℕ) → is_clear_at touches log states k ≡ true → (j : ℕ) → j < k → conflict_at touches log j k ≡ true → open_at states j ≡ false
   clear_fact k clear j lt conflict = false_from_ne_true (open_at states j) (λ unfinished.
       both_ways (open_at states j && conflict_at touches log j k) (none_below_at (λ i. open_at states i && conflict_at touches log i k) k j clear lt)
-        (and_from (open_at states j) (conflict_at touches log j k) unfinished conflict))
+      (and_from (open_at states j) (conflict_at touches log j k) unfinished conflict))
 
   clear_test : (k : ℕ) → ((j : ℕ) → j < k → conflict_at touches log j k ≡ true → open_at states j ≡ false) → is_clear_at touches log states k ≡ true
   clear_test k clear = none_below_from (λ j. open_at states j && conflict_at touches log j k) k (λ j lt.
       false_from_ne_true (open_at states j && conflict_at touches log j k) (λ both.
-        let parts = and_parts (open_at states j) (conflict_at touches log j k) both in
-        true≢false (sym parts.0 ∙ clear j lt parts.1)))
+      let parts = and_parts (open_at states j) (conflict_at touches log j k) both in
+      true≢false (sym parts.0 ∙ clear j lt parts.1)))
 
   -- of those that wait the ones in front at all their cowns are the clear ones
   front_is_clear : (k : ℕ) (b : B) → slice_get log k ≡ Some b → waiting_at states k ≡ true → is_front_at touches log lists k ≡ is_clear_at touches log states k
@@ -72,11 +71,11 @@ module _ {B : Type 0} (touches : B → List ℕ) (effect : B → List ℤ → Re
       let cowns = length (held_of opening) in
       let in_range = λ (cown : ℕ) (among : is_among cown (touches b) ≡ true). board.keeps.in_range k cown (ap (λ o. is_among cown (touched_by touches o)) here ∙ among) in
       same_tests (is_front_at touches log lists k) (is_clear_at touches log states k)
-        (λ front. clear_test k (clear_from_fronts touches effect log states lists cowns board.queues k b here
-          (fronts_fact k lists (touches b) (sym (ap (are_fronts k lists) at) ∙ front)) in_range))
-        (λ clear. ap (are_fronts k lists) at ∙ fronts_test k lists (touches b)
-          (fronts_from_clear touches effect log states lists cowns board.queues k b here (waiting_is_open states k waits) (clear_fact k clear) (touches b)
-            (λ cown among. (among, in_range cown among))))
+      (λ front. clear_test k (clear_from_fronts touches effect log states lists cowns board.queues k b here
+      (fronts_fact k lists (touches b) (sym (ap (are_fronts k lists) at) ∙ front)) in_range))
+      (λ clear. ap (are_fronts k lists) at ∙ fronts_test k lists (touches b)
+      (fronts_from_clear touches effect log states lists cowns board.queues k b here (waiting_is_open states k waits) (clear_fact k clear) (touches b)
+      (λ cown among. (among, in_range cown among))))
 
   -- so they are the ready ones
   pub fronts_are_ready : filter (is_front_at touches log lists) waiting ≡ ready_places touches log states
@@ -85,10 +84,10 @@ module _ {B : Type 0} (touches : B → List ℕ) (effect : B → List ℤ → Re
       ap (filter (is_front_at touches log lists)) board.rest
       ∙ places-filter (waiting_at states) (is_front_at touches log lists) (length log)
       ∙ places-agree (λ j. waiting_at states j && is_front_at touches log lists j) (is_ready_at touches log states) (length log)
-        (λ j lt. elim (cases_Bool (waiting_at states j)) [
-          | inl waits ↦ let found = some_at log j lt in ap (λ x. waiting_at states j && x) (front_is_clear j found.0 found.1 waits)
-          | inr not_waiting ↦ and_left (waiting_at states j) (is_front_at touches log lists j) not_waiting ∙ sym (and_left (waiting_at states j) (is_clear_at touches log states j) not_waiting)
-        ])
+      (λ j lt. elim (cases_Bool (waiting_at states j)) [
+        | inl waits ↦ let found = some_at log j lt in ap (λ x. waiting_at states j && x) (front_is_clear j found.0 found.1 waits)
+        | inr not_waiting ↦ and_left (waiting_at states j) (is_front_at touches log lists j) not_waiting ∙ sym (and_left (waiting_at states j) (is_clear_at touches log states j) not_waiting)
+      ])
 
   -- what is known of a place that is ready
   pub record IsTakable (k : ℕ) (b : B) : Type 0 where
@@ -117,8 +116,8 @@ module _ {B : Type 0} (touches : B → List ℕ) (effect : B → List ℤ → Re
   inputs_held keeps k place b here =
       let before = held_after_first touches effect (held_of opening) log k in
       AreHeld-read before (touches b) (AllHeld-after_first touches effect keeps (held_of opening) log k board.keeps.opened board.keeps.in_range) (λ cown among.
-        let lt = board.keeps.in_range place cown (ap (λ o. is_among cown (touched_by touches o)) here ∙ among) in
-        omega (arith, lt, length-after touches effect (held_of opening) (take k log)))
+      let lt = board.keeps.in_range place cown (ap (λ o. is_among cown (touched_by touches o)) here ∙ among) in
+      omega (arith, lt, length-after touches effect (held_of opening) (take k log)))
 
   -- the waiting places are places of the log
   pub waiting_below : (k d : ℕ) → k < length waiting → get_or waiting k d < length log
@@ -137,15 +136,15 @@ module _ {B : Type 0} (touches : B → List ℕ) (effect : B → List ℤ → Re
 
   pub takes_from : (index k : ℕ) (b : B) (inputs : List ℤ) → slice_get (ready_places touches log states) index ≡ Some k → slice_get log k ≡ Some b → inputs ≡ read_cowns (held_of now) (touches b)
       → Takes touches effect (record { opening = opening; earlier = earlier; log = log; states = states }) index (record { number = base + k + 1; behaviour = b; inputs = inputs })
-        (record { opening = opening; earlier = earlier; log = log; states = slice_set states k Out })
+      (record { opening = opening; earlier = earlier; log = log; states = slice_set states k Out })
   takes_from index k b inputs ready here read = record {
-      place = k;
-      ready = ready;
-      number = omega (arith, board.based);
-      behaviour = here;
-      inputs = read ∙ (takable index k b ready here).inputs;
-      out = refl;
-    }
+    place = k;
+    ready = ready;
+    number = omega (arith, board.based);
+    behaviour = here;
+    inputs = read ∙ (takable index k b ready here).inputs;
+    out = refl;
+  }
 
   pub taken_inputs_held : ((b : B) (inputs : List ℤ) → AreHeld (touches b) inputs → AreHeld (touches b) (effect b inputs).1)
       → (index k : ℕ) (b : B) (inputs : List ℤ) → slice_get (ready_places touches log states) index ≡ Some k → slice_get log k ≡ Some b → inputs ≡ read_cowns (held_of now) (touches b) → AreHeld (touches b) inputs

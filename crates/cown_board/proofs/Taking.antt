@@ -1,13 +1,13 @@
 -- A ready behaviour is handed out: what is kept.
-use Rattle.std.proofs.Common.{◌≡◌, ◌≢◌, ◌⊎◌, inl, inr, ℕ, ◌<◌, ◌≤◌, ℤ, Bool, true, false, Option, Some, None, List, length, refl, sym, ap, ◌∙◌, arith}
+use Rattle.std.proofs.Common.{◌≡◌, inl, inr, ℕ, ◌<◌, ℤ, true, false, Some, List, sym, ap, ◌∙◌, arith}
 use Rattle.std.specs.Prelude.{slice_get, slice_set}
-use Rattle.std.proofs.lemmas.Bool.{cases_eq, both_ways, true≢false}
+use Rattle.std.proofs.lemmas.Bool.{cases_eq, true≢false}
 use Rattle.std.proofs.lemmas.List.{length-set}
 use Rattle.std.proofs.lemmas.Option.{slice_get_within}
 use Rattle.sb_calls.specs.declared.reply.Reply.{Reply}
 use Rattle.cown_board.proofs.LogLaws.{injective}
 use Rattle.cown_board.proofs.States.{state-set_same, state-set_other, state_here, slice_get-set_same, slice_get-set_other}
-use Rattle.cown_board.specs.Invariant.{Keeps, IsSettled, open_at, waiting_at, touches_at}
+use Rattle.cown_board.specs.Invariant.{Keeps, open_at}
 use Rattle.cown_board.specs.Readiness.{conflict_at}
 use Rattle.cown_board.specs.State.{is_waiting, is_open}
 use Rattle.cown_board.specs.declared.state.State.{State}
@@ -16,11 +16,11 @@ use Rattle.cown_board.specs.declared.state.State.TheVariants.{Waiting, Out, Fini
 -- it is unfinished before and after, like all others
 pub open-taken : (states : List State) (k j : ℕ) → slice_get states k ≡ Some Waiting → open_at (slice_set states k Out) j ≡ open_at states j
 open-taken states k j here = elim (cases_eq j k) [
-    | inl same ↦
+  | inl same ↦
       ap (open_at (slice_set states k Out)) same ∙ state-set_same is_open states k Out (slice_get_within states k Waiting here)
       ∙ sym (ap (open_at states) same ∙ state_here is_open states k Waiting here)
-    | inr differs ↦ state-set_other is_open states k j Out differs
-  ]
+  | inr differs ↦ state-set_other is_open states k j Out differs
+]
 
 -- one that is out isn't finished
 pub not_out : {reply : Reply} → ◌≡◌ {A = State} Out (Finished reply) → ⊥
@@ -31,22 +31,22 @@ module _ {B : Type 0} (touches : B → List ℕ) (effect : B → List ℤ → Re
       → (k : ℕ) → slice_get states k ≡ Some Waiting → ((j : ℕ) → j < k → conflict_at touches log j k ≡ true → open_at states j ≡ false)
       → Keeps touches effect opening log (slice_set states k Out) held
   keeps_taken {opening = opening} {log = log} {states = states} {held = held} kept k here clear = record {
-      beside = kept.beside ∙ sym (length-set states k Out);
-      cowns_stay = kept.cowns_stay;
-      opened = kept.opened;
-      in_range = kept.in_range;
-      ordered = λ j i before within unfinished conflict.
+    beside = kept.beside ∙ sym (length-set states k Out);
+    cowns_stay = kept.cowns_stay;
+    opened = kept.opened;
+    in_range = kept.in_range;
+    ordered = λ j i before within unfinished conflict.
         let was : open_at states j ≡ true = sym (open-taken states k j here) ∙ unfinished in
         elim (cases_eq i k) [
           | inl same ↦ absurd (true≢false (sym was ∙ clear j (omega (arith, same, before)) (ap (conflict_at touches log j) (sym same) ∙ conflict)))
           | inr differs ↦ state-set_other is_waiting states k i Out differs ∙ kept.ordered j i before within was conflict
         ];
-      settled = λ cown i le settled. kept.settled cown i le (record {
-        before = λ j lt among. sym (open-taken states k j here) ∙ settled.before j lt among;
-        after = λ j ge among. sym (open-taken states k j here) ∙ settled.after j ge among;
-      });
-      replies = λ i reply finished. elim (cases_eq i k) [
-        | inl same ↦ absurd (not_out (injective (sym (slice_get-set_same states k Out (slice_get_within states k Waiting here)) ∙ ap (slice_get (slice_set states k Out)) (sym same) ∙ finished)))
-        | inr differs ↦ kept.replies i reply (sym (slice_get-set_other states k i Out differs) ∙ finished)
-      ];
-    }
+    settled = λ cown i le settled. kept.settled cown i le (record {
+      before = λ j lt among. sym (open-taken states k j here) ∙ settled.before j lt among;
+      after = λ j ge among. sym (open-taken states k j here) ∙ settled.after j ge among;
+    });
+    replies = λ i reply finished. elim (cases_eq i k) [
+      | inl same ↦ absurd (not_out (injective (sym (slice_get-set_same states k Out (slice_get_within states k Waiting here)) ∙ ap (slice_get (slice_set states k Out)) (sym same) ∙ finished)))
+      | inr differs ↦ kept.replies i reply (sym (slice_get-set_other states k i Out differs) ∙ finished)
+    ];
+  }

@@ -1,5 +1,5 @@
 -- A board as its callers see it.
-use Rattle.std.specs.Prelude.{◌≡◌, ℕ, suc, ◌+◌, ◌-◌, ℤ, ◌==◌, nat_le, if◌then◌else◌, Bool, Option, Some, None, List, length, count_by, option_and_then, slice_get, slice_set}
+use Rattle.std.specs.Prelude.{◌≡◌, ℕ, suc, ◌+◌, ◌-◌, ℤ, ◌==◌, nat_le, if◌then◌else◌, Option, Some, None, List, length, count_by, option_and_then, slice_get, slice_set}
 use Rattle.sb_rows.specs.Balances.{Balances}
 use Rattle.sb_calls.specs.Cowns.{held_of}
 use Rattle.sb_calls.specs.OneByOne.{inputs_of, held_after, held_after_first, reply_by_log}

@@ -1,5 +1,5 @@
 -- What a board keeps, whatever is submitted, taken and finished.
-use Rattle.std.specs.Prelude.{◌≡◌, ℕ, ◌<◌, ◌≤◌, ◌+◌, ℤ, pos, Bool, true, false, ◌&&◌, Option, Some, None, List, length, get_or, slice_get, option_map, count_by}
+use Rattle.std.specs.Prelude.{◌≡◌, ℕ, ◌<◌, ◌≤◌, ◌+◌, ℤ, pos, Bool, true, false, ◌&&◌, Some, List, length, get_or, slice_get, option_map, count_by}
 use Rattle.sb_rows.specs.Balances.{Balances}
 use Rattle.sb_calls.specs.Cowns.{IsHeld, held_of}
 use Rattle.sb_calls.specs.OneByOne.{is_among, held_after_first, reply_of}

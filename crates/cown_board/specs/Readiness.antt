@@ -1,5 +1,5 @@
 -- Which behaviours of a log are ready.
-use Rattle.std.specs.Prelude.{◌≡◌, ℕ, ◌<◌, Bool, true, ◌&&◌, Option, Some, None, List, [], slice_get, length}
+use Rattle.std.specs.Prelude.{ℕ, Bool, ◌&&◌, Option, Some, None, List, [], slice_get, length}
 use Rattle.sb_calls.specs.OneByOne.{share_cown}
 use Rattle.cown_board.specs.Places.{places, none_below}
 use Rattle.cown_board.specs.State.{is_waiting, is_open, state_is}

@@ -43,7 +43,7 @@ pub(crate) fn nth_front<B: Behaviour>(
     ensures { MatchOption result
         (length (filter (is_front_at B.touches log.now.items queues.now.lists) waiting.now.items) ≤ index)
         (λ found. (slice_get waiting.now.items found.0 ≡ Some found.1)
-            × (slice_get (filter (is_front_at B.touches log.now.items queues.now.lists) waiting.now.items) index ≡ Some found.1)) }
+        × (slice_get (filter (is_front_at B.touches log.now.items queues.now.lists) waiting.now.items) index ≡ Some found.1)) }
 {
     let mut before = 0;
     for position in 0..waiting.len() {

@@ -6,10 +6,12 @@ mod board;
 mod fronts;
 mod held;
 mod job;
+mod laws;
 mod runs;
 mod state;
 
 pub use board::{Board, OPEN_BEHAVIOURS, SubmitFault};
 pub use job::{Done, Job};
+pub use laws::true_to_the_log;
 pub use runs::Runs;
 pub use state::State;

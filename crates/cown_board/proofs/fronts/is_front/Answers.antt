@@ -7,5 +7,5 @@ pub returns : goal.returns
 returns g c =
     let log = c.args.log.now.items in
     front_at_place g.B.Behaviour.touches log c.args.queues.now.lists c.args.place c.index.result.now c.as_slice.result.now c.is_in_front.result
-      (slice_get_read log (length log) c.args.place c.index.result.now refl c.requires.place c.index.ensures)
-      (c.as_slice.ensures.value ∙ c.cowns-cowns.ensures) c.is_in_front.ensures.0 c.is_in_front.ensures.1
+    (slice_get_read log (length log) c.args.place c.index.result.now refl c.requires.place c.index.ensures)
+    (c.as_slice.ensures.value ∙ c.cowns-cowns.ensures) c.is_in_front.ensures.0 c.is_in_front.ensures.1

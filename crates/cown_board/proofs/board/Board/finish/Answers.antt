@@ -1,4 +1,4 @@
-use Rattle.std.proofs.Common.{◌≡◌, ◌≤◌, ◌<◌, ◌+◌, Bool, true, false, Some, List, ℕ, suc, length, refl, sym, ap, ◌∙◌, subst, arith}
+use Rattle.std.proofs.Common.{◌≡◌, true, false, Some, length, refl, sym, ap, ◌∙◌, subst, arith}
 use Rattle.std.specs.Prelude.{slice_get}
 use Rattle.std.proofs.lemmas.Bool.{both_ways}
 use Rattle.std.proofs.lemmas.Option.{slice_get_read}
@@ -7,7 +7,7 @@ use Rattle.cown_queue.specs.Queues.{IsInFront, Releases}
 use Rattle.cown_board.proofs.FinishedJob.{not_numbered, not_inside, refused_done, accepted_done, released_in_front, some_unfinished, outputs_held, board_finished, finishes_from}
 use Rattle.cown_board.proofs.TakenJob.{declared_in_queues, declared_in_held}
 use Rattle.cown_board.proofs.LogLaws.{injective}
-use Rattle.cown_board.specs.Board.{BoardOf, IsOutHere, Finishes}
+use Rattle.cown_board.specs.Board.{BoardOf, IsOutHere}
 use Rattle.cown_board.proofs.board.Board.finish.Goals as goal
 
 pub returns-in_default-clause-accepted : goal.returns-in_default-clause-accepted
@@ -17,8 +17,8 @@ returns-in_default-clause-accepted g c =
     let board = c.self.invariant in
     let done = c.args.done in
     subst (λ (v : BoardOf g.row.B.Denot). (false ≡ true → IsOutHere touches effect v done) × (IsOutHere touches effect v done → false ≡ true)) c.self.view_is
-      (refused_done touches effect board done (not_numbered touches effect board done (λ k lt same.
-        c.in_default.ensures k (omega (arith, lt, c.len.ensures, c.self.inside.log.ok)) (c.number.ensures ∙ same))))
+    (refused_done touches effect board done (not_numbered touches effect board done (λ k lt same.
+    c.in_default.ensures k (omega (arith, lt, c.len.ensures, c.self.inside.log.ok)) (c.number.ensures ∙ same))))
 
 pub is_out_at-requires-clause-cowns : goal.is_out_at-requires-clause-cowns
 is_out_at-requires-clause-cowns g c k b here = declared_in_held g.B.Behaviour.touches g.B.Behaviour.effect c.self.invariant k b here
@@ -30,8 +30,8 @@ returns-then-not-is_out_at-clause-accepted g c =
     let board = c.self.invariant in
     let done = c.args.done in
     subst (λ (v : BoardOf g.row.B.Denot). (false ≡ true → IsOutHere touches effect v done) × (IsOutHere touches effect v done → false ≡ true)) c.self.view_is
-      (refused_done touches effect board done (not_inside touches effect board c.in-Some.place done (sym c.number.ensures ∙ c.in-Some.ensures.1)
-        (λ inside. both_ways c.is_out_at.result c.if-not-is_out_at.true (c.is_out_at.ensures.1 inside))))
+    (refused_done touches effect board done (not_inside touches effect board c.in-Some.place done (sym c.number.ensures ∙ c.in-Some.ensures.1)
+    (λ inside. both_ways c.is_out_at.result c.if-not-is_out_at.true (c.is_out_at.ensures.1 inside))))
 
 pub release-requires-clause-cowns : goal.release-requires-clause-cowns
 release-requires-clause-cowns g c =
@@ -48,7 +48,7 @@ release-requires-clause-front g c =
     let here : slice_get log c.in-Some.place ≡ Some c.index.result.now = slice_get_read log (length log) c.in-Some.place c.index.result.now refl (omega (arith, c.in-Some.ensures.0, c.len.ensures, c.self.inside.log.ok)) c.index.ensures in
     let same : c.index.result.now ≡ c.args.done.behaviour = injective (sym here ∙ inside.1) in
     subst (λ cowns. IsInFront c.in-Some.place cowns c.self.inside.queues.lists) (sym (c.as_slice.ensures.value ∙ c.cowns-cowns.ensures ∙ ap touches same))
-      (released_in_front touches g.B.Behaviour.effect c.self.invariant c.in-Some.place c.args.done (sym c.number.ensures ∙ c.in-Some.ensures.1) inside)
+    (released_in_front touches g.B.Behaviour.effect c.self.invariant c.in-Some.place c.args.done (sym c.number.ensures ∙ c.in-Some.ensures.1) inside)
 
 pub write_all-requires-clause-cowns : goal.write_all-requires-clause-cowns
 write_all-requires-clause-cowns g c =
@@ -65,8 +65,8 @@ write_all-requires-clause-values g c =
     let here : slice_get log c.in-Some.place ≡ Some c.index.result.now = slice_get_read log (length log) c.in-Some.place c.index.result.now refl (omega (arith, c.in-Some.ensures.0, c.len.ensures, c.self.inside.log.ok)) c.index.ensures in
     let same : c.index.result.now ≡ c.args.done.behaviour = injective (sym here ∙ inside.1) in
     subst (λ cowns. AreHeld cowns c.as_slice-3.result.now) (sym (c.as_slice-2.ensures.value ∙ c.cowns-cowns.ensures ∙ ap touches same))
-      (outputs_held touches g.B.Behaviour.effect c.self.invariant c.in-Some.place c.args.done (sym c.number.ensures ∙ c.in-Some.ensures.1) inside g.met.B.Behaviour.keeps
-        c.as_slice-3.result.now (c.as_slice-3.ensures.value ∙ c.into_effect-reply.ensures.outputs))
+    (outputs_held touches g.B.Behaviour.effect c.self.invariant c.in-Some.place c.args.done (sym c.number.ensures ∙ c.in-Some.ensures.1) inside g.met.B.Behaviour.keeps
+    c.as_slice-3.result.now (c.as_slice-3.ensures.value ∙ c.into_effect-reply.ensures.outputs))
 
 pub overflow_sub-self : goal.overflow_sub-self
 overflow_sub-self g c =
@@ -83,10 +83,10 @@ invariant_of-self g c =
     let declared : c.as_slice.result.now ≡ touches c.args.done.behaviour = c.as_slice.ensures.value ∙ c.cowns-cowns.ensures ∙ ap touches same in
     let declared_too : c.as_slice-2.result.now ≡ touches c.args.done.behaviour = c.as_slice-2.ensures.value ∙ c.cowns-cowns.ensures ∙ ap touches same in
     board_finished touches g.B.Behaviour.effect c.self.invariant c.in-Some.place c.args.done (sym c.number.ensures ∙ c.in-Some.ensures.1) inside g.met.B.Behaviour.keeps
-      c.into_effect-reply.result.0 c.as_slice-3.result.now c.write_all.new.columns c.release.new.self.lists
-      c.into_effect-reply.ensures.reply (c.as_slice-3.ensures.value ∙ c.into_effect-reply.ensures.outputs)
-      (c.write_all.ensures ∙ ap (λ cowns. write_cowns (held_of c.self.inside.columns) cowns c.as_slice-3.result.now) declared_too)
-      (subst (λ cowns. Releases cowns c.self.inside.queues.lists c.release.new.self.lists) declared c.release.ensures.lists)
+    c.into_effect-reply.result.0 c.as_slice-3.result.now c.write_all.new.columns c.release.new.self.lists
+    c.into_effect-reply.ensures.reply (c.as_slice-3.ensures.value ∙ c.into_effect-reply.ensures.outputs)
+    (c.write_all.ensures ∙ ap (λ cowns. write_cowns (held_of c.self.inside.columns) cowns c.as_slice-3.result.now) declared_too)
+    (subst (λ cowns. Releases cowns c.self.inside.queues.lists c.release.new.self.lists) declared c.release.ensures.lists)
 
 pub returns-clause-accepted : goal.returns-clause-accepted
 returns-clause-accepted g c =
@@ -95,7 +95,7 @@ returns-clause-accepted g c =
     let done = c.args.done in
     let inside = c.is_out_at.ensures.0 c.if-not-is_out_at.false in
     subst (λ (v : BoardOf g.row.B.Denot). (true ≡ true → IsOutHere touches effect v done) × (IsOutHere touches effect v done → true ≡ true)) c.self.view_is
-      (accepted_done touches effect c.self.invariant c.in-Some.place done (sym c.number.ensures ∙ c.in-Some.ensures.1) inside)
+    (accepted_done touches effect c.self.invariant c.in-Some.place done (sym c.number.ensures ∙ c.in-Some.ensures.1) inside)
 
 pub returns-clause-outcome : goal.returns-clause-outcome
 returns-clause-outcome g c =

@@ -1,9 +1,9 @@
-use Rattle.std.proofs.Common.{◌≡◌, ◌≤◌, ◌<◌, ◌+◌, Some, List, ℕ, length, refl, sym, ap, ◌∙◌, subst, arith}
-use Rattle.std.specs.Prelude.{slice_get, remove, MatchOption, OnSome, Option}
+use Rattle.std.proofs.Common.{◌≡◌, ◌≤◌, Some, ℕ, length, refl, sym, ap, ◌∙◌, subst, arith}
+use Rattle.std.specs.Prelude.{slice_get, remove, OnSome, Option}
 use Rattle.std.proofs.lemmas.Option.{slice_get_read, slice_get_within}
-use Rattle.sb_calls.specs.Cowns.{AreBelow, AreHeld, held_of, read_cowns}
+use Rattle.sb_calls.specs.Cowns.{AreBelow, held_of, read_cowns}
 use Rattle.cown_board.proofs.TakenJob.{waiting_below, ready_from, few_from, ready_within, number_below, takes_from, taken_inputs_held, board_taken, declared_in_queues, declared_in_held}
-use Rattle.cown_board.specs.Board.{BoardOf, Takes}
+use Rattle.cown_board.specs.Board.{BoardOf}
 use Rattle.cown_board.specs.Readiness.{ready_places}
 use Rattle.cown_board.proofs.board.Board.take_at.Goals as goal
 
@@ -66,7 +66,7 @@ new-requires g c =
     let lt = ready_within touches effect c.self.invariant c.args.index c.in_ok-position.place ready in
     let here : slice_get log c.in_ok-position.place ≡ Some c.index-behaviour.result.now = slice_get_read log (length log) c.in_ok-position.place c.index-behaviour.result.now refl lt c.index-behaviour.ensures in
     let read : c.read_all-inputs.result.items ≡ read_cowns (held_of c.self.inside.columns) (touches c.index-behaviour.result.now) =
-      c.read_all-inputs.ensures ∙ ap (read_cowns (held_of c.self.inside.columns)) (c.as_slice.ensures.value ∙ c.cowns.ensures) in
+    c.read_all-inputs.ensures ∙ ap (read_cowns (held_of c.self.inside.columns)) (c.as_slice.ensures.value ∙ c.cowns.ensures) in
     taken_inputs_held touches effect c.self.invariant g.met.B.Behaviour.keeps c.args.index c.in_ok-position.place c.index-behaviour.result.now c.read_all-inputs.result.items ready here read
 
 pub invariant_of-self : goal.invariant_of-self
@@ -78,7 +78,7 @@ invariant_of-self g c =
     let within = slice_get_within waiting c.in_ok-position.position c.in_ok-position.place c.in_ok-position.ensures.0 in
     let some = c.remove.ensures.succeeds c.in_ok-position.place (omega (arith, within, c.self.inside.waiting.ok)) in
     let removed : c.remove.new.self.items ≡ remove waiting c.in_ok-position.position =
-      subst (λ (r : Option ℕ). OnSome r (c.remove.new.self.items ≡ remove waiting c.in_ok-position.position)) some c.remove.ensures.items in
+    subst (λ (r : Option ℕ). OnSome r (c.remove.new.self.items ≡ remove waiting c.in_ok-position.position)) some c.remove.ensures.items in
     rw removed (board_taken touches effect c.self.invariant c.args.index c.in_ok-position.position c.in_ok-position.place c.in_ok-position.ensures.0 ready)
 
 pub returns : goal.returns
@@ -90,6 +90,6 @@ returns g c =
     let lt = ready_within touches effect c.self.invariant c.args.index c.in_ok-position.place ready in
     let here : slice_get log c.in_ok-position.place ≡ Some c.index-behaviour.result.now = slice_get_read log (length log) c.in_ok-position.place c.index-behaviour.result.now refl lt c.index-behaviour.ensures in
     let read : c.read_all-inputs.result.items ≡ read_cowns (held_of c.self.inside.columns) (touches c.index-behaviour.result.now) =
-      c.read_all-inputs.ensures ∙ ap (read_cowns (held_of c.self.inside.columns)) (c.as_slice.ensures.value ∙ c.cowns.ensures) in
+    c.read_all-inputs.ensures ∙ ap (read_cowns (held_of c.self.inside.columns)) (c.as_slice.ensures.value ∙ c.cowns.ensures) in
     let takes = takes_from touches effect c.self.invariant c.args.index c.in_ok-position.place c.index-behaviour.result.now c.read_all-inputs.result.items ready here read in
     rw (c.new.ensures, sym c.self.view_is) takes

@@ -1,0 +1,126 @@
+-- A board over many calls.
+use Rattle.std.proofs.Common.{◌≡◌, ◌⊎◌, inl, inr, ℕ, suc, ◌+◌, ◌<◌, ℤ, true, false, ◌&&◌, Option, Some, None, Ok, Err, List, [], ◌∷◌, ◌++◌, length, length-append, refl, sym, ap, subst, ◌∙◌, arith}
+use Rattle.std.specs.Prelude.{slice_get, slice_set, option_map}
+use Rattle.std.proofs.lemmas.Bool.{cases_eq, cases_lt, and_from, true≢false, false_from_ne_true, and_parts}
+use Rattle.std.proofs.lemmas.List.{length-set, append_assoc}
+use Rattle.std.proofs.lemmas.Option.{slice_get_within}
+use Rattle.sb_rows.specs.Balances.{Balances}
+use Rattle.sb_calls.specs.Cowns.{held_of}
+use Rattle.sb_calls.specs.OneByOne.{held_after_first, reply_of, reply_by_log}
+use Rattle.sb_calls.specs.declared.reply.Reply.{Reply}
+use Rattle.cown_board.proofs.LogLaws.{injective, no_some, after-append}
+use Rattle.cown_board.proofs.PlacesLaws.{append_nothing, none_below_from, slice_get-left, slice_get-right}
+use Rattle.cown_board.proofs.States.{slice_get-set_same, slice_get-set_other}
+use Rattle.cown_board.proofs.Submitting.{not_waiting}
+use Rattle.cown_board.proofs.Taking.{not_out}
+use Rattle.cown_board.proofs.Finishing.{same_reply}
+use Rattle.cown_board.specs.Board.{BoardOf}
+use Rattle.cown_board.specs.Invariant.{open_at, waiting_at}
+use Rattle.cown_board.specs.Played.{BoardCall, Submitted, TakenAt, Returned, Makes, Plays, BoardLaw, put_by, put_by_all}
+use Rattle.cown_board.specs.Readiness.{conflict_at, is_clear_at, is_ready_at}
+use Rattle.cown_board.specs.State.{is_open, is_waiting, state_is}
+use Rattle.cown_board.specs.declared.board.SubmitFault.TheVariants.{Busy, LogFull, OutOfMemory}
+use Rattle.cown_board.specs.declared.state.State.{State}
+use Rattle.cown_board.specs.declared.state.State.TheVariants.{Waiting, Out, Finished}
+
+-- an unfinished state waits or is out
+waits_or_out : (o : Option State) → state_is is_open o ≡ true → (o ≡ Some Waiting) ⊎ (o ≡ Some Out)
+waits_or_out None h = absurd (true≢false (sym h))
+waits_or_out (Some Waiting) h = inl refl
+waits_or_out (Some Out) h = inr refl
+waits_or_out (Some (Finished reply)) h = absurd (true≢false (sym h))
+
+module _ {B : Type 0} (touches : B → List ℕ) (effect : B → List ℤ → Reply × List ℤ) where
+  -- what holds after each call
+  pub record IsGood (columns : Balances) (earlier : List Reply) (submitted : List B) (board : BoardOf B) : Type 0 where
+    pub opening : board.opening ≡ columns
+    pub before : board.earlier ≡ earlier
+    pub log : board.log ≡ submitted
+    pub beside : length board.log ≡ length board.states
+    pub replies : (k : ℕ) (reply : Reply) → slice_get board.states k ≡ Some (Finished reply)
+        → reply_by_log touches effect (held_of columns) board.log (suc k) ≡ Some reply
+
+  least_of : (board : BoardOf B) (k : ℕ) → open_at board.states k ≡ true → ((j : ℕ) → j < k → open_at board.states j ≡ false)
+      → (is_ready_at touches board.log board.states k ≡ true) ⊎ (slice_get board.states k ≡ Some Out)
+  least_of board k unfinished none = elim (waits_or_out (slice_get board.states k) unfinished) [
+    | inl waits ↦ inl (and_from (waiting_at board.states k) (is_clear_at touches board.log board.states k) (ap (state_is is_waiting) waits)
+        (none_below_from (λ j. open_at board.states j && conflict_at touches board.log j k) k (λ j lt. false_from_ne_true (open_at board.states j && conflict_at touches board.log j k) (λ both.
+        true≢false (sym (and_parts (open_at board.states j) (conflict_at touches board.log j k) both).0 ∙ none j lt)))))
+    | inr out ↦ inr out
+  ]
+
+  good_submitted : (columns : Balances) (earlier : List Reply) (log : List B) (old : BoardOf B) (b : B) → IsGood columns earlier log old
+      → IsGood columns earlier (log ++ b ∷ []) (record old { log = old.log ++ b ∷ []; states = old.states ++ Waiting ∷ [] })
+  good_submitted columns earlier log old b good = record {
+    opening = good.opening;
+    before = good.before;
+    log = ap (λ l. l ++ b ∷ []) good.log;
+    beside = length-append old.log (b ∷ []) ∙ ap (λ n. n + 1) good.beside ∙ sym (length-append old.states (Waiting ∷ []));
+    replies = λ k reply finished.
+        let more : length (old.states ++ Waiting ∷ []) ≡ length old.states + 1 = length-append old.states (Waiting ∷ []) in
+        let lt = slice_get_within (old.states ++ Waiting ∷ []) k (Finished reply) finished in
+        elim (cases_lt k (length old.states)) [
+          | inl before ↦
+              ap (λ h. option_map (reply_of touches effect h) (slice_get (old.log ++ b ∷ []) k)) (after-append touches effect (held_of columns) old.log (b ∷ []) k (omega (arith, before, good.beside)))
+              ∙ ap (option_map (reply_of touches effect (held_after_first touches effect (held_of columns) old.log k))) (slice_get-left old.log (b ∷ []) k (omega (arith, before, good.beside)))
+              ∙ good.replies k reply (sym (slice_get-left old.states (Waiting ∷ []) k before) ∙ finished)
+          | inr last ↦ absurd (not_waiting (injective (sym (slice_get-right old.states (Waiting ∷ []) k 0 (omega (arith, lt, more, last))) ∙ finished)))
+        ];
+  }
+
+  good_set : (columns : Balances) (earlier : List Reply) (log : List B) (old : BoardOf B) (k : ℕ) (s : State) → IsGood columns earlier log old → k < length old.states
+      → ((reply : Reply) → s ≡ Finished reply → reply_by_log touches effect (held_of columns) old.log (suc k) ≡ Some reply)
+      → IsGood columns earlier log (record old { states = slice_set old.states k s })
+  good_set columns earlier log old k s good lt told = record {
+    opening = good.opening;
+    before = good.before;
+    log = good.log;
+    beside = good.beside ∙ sym (length-set old.states k s);
+    replies = λ j reply finished. elim (cases_eq j k) [
+      | inl same ↦
+          ap (λ i. reply_by_log touches effect (held_of columns) old.log (suc i)) same
+          ∙ told reply (injective (sym (slice_get-set_same old.states k s lt) ∙ ap (slice_get (slice_set old.states k s)) (sym same) ∙ finished))
+      | inr differs ↦ good.replies j reply (sym (slice_get-set_other old.states k j s differs) ∙ finished)
+    ];
+  }
+
+  unchanged : (columns : Balances) (earlier : List Reply) (log : List B) (old new : BoardOf B) → new ≡ old → IsGood columns earlier log old → IsGood columns earlier (log ++ []) new
+  unchanged columns earlier log old new same good =
+      subst (λ board. IsGood columns earlier (log ++ []) board) (sym same) (subst (λ l. IsGood columns earlier l old) (sym (append_nothing log)) good)
+
+  good_call : (columns : Balances) (earlier : List Reply) (log : List B) (old new : BoardOf B) (call : BoardCall B) → Makes touches effect old call new
+      → IsGood columns earlier log old → IsGood columns earlier (log ++ put_by call) new
+  good_call columns earlier log old new (Submitted b (Ok number)) made good = subst (IsGood columns earlier (log ++ b ∷ [])) (sym made.3) (good_submitted columns earlier log old b good)
+  good_call columns earlier log old new (Submitted b (Err Busy)) made good = unchanged columns earlier log old new made.1 good
+  good_call columns earlier log old new (Submitted b (Err LogFull)) made good = unchanged columns earlier log old new made.2 good
+  good_call columns earlier log old new (Submitted b (Err OutOfMemory)) made good = unchanged columns earlier log old new made.2 good
+  good_call columns earlier log old new (TakenAt index None) made good = unchanged columns earlier log old new made.1 good
+  good_call columns earlier log old new (TakenAt index (Some job)) made good =
+      let lt = slice_get_within old.log made.place job.behaviour made.behaviour in
+      subst (IsGood columns earlier (log ++ [])) (sym made.out) (subst (λ l. IsGood columns earlier l (record old { states = slice_set old.states made.place Out })) (sym (append_nothing log))
+      (good_set columns earlier log old made.place Out good (omega (arith, lt, good.beside)) (λ reply out. absurd (not_out out))))
+  good_call columns earlier log old new (Returned done (Ok reply)) made good =
+      let lt = slice_get_within old.states made.place Out made.here.out in
+      subst (IsGood columns earlier (log ++ [])) (sym made.finished) (subst (λ l. IsGood columns earlier l (record old { states = slice_set old.states made.place (Finished reply) })) (sym (append_nothing log))
+      (good_set columns earlier log old made.place (Finished reply) good lt (λ r is.
+      ap (λ opening. reply_by_log touches effect (held_of opening) old.log (suc made.place)) (sym good.opening) ∙ made.by_log ∙ ap (λ x. Some x) (same_reply (ap (λ s. Some s) is)))))
+  good_call columns earlier log old new (Returned done (Err back)) made good = unchanged columns earlier log old new made.2 good
+
+  good_calls : (columns : Balances) (earlier : List Reply) (log : List B) (old new : BoardOf B) (calls : List (BoardCall B)) → Plays touches effect old calls new
+      → IsGood columns earlier log old → IsGood columns earlier (log ++ put_by_all calls) new
+  good_calls columns earlier log old new [] played good = unchanged columns earlier log old new played good
+  good_calls columns earlier log old new (call ∷ calls) played good =
+      subst (λ l. IsGood columns earlier l new) (append_assoc log (put_by call) (put_by_all calls))
+      (good_calls columns earlier (log ++ put_by call) played.0 new calls played.2 (good_call columns earlier log old played.0 call played.1 good))
+
+  pub board_law : BoardLaw touches effect
+  board_law columns earlier calls board played =
+      let good = good_calls columns earlier [] (record { opening = columns; earlier = earlier; log = []; states = [] }) board calls played
+      (record { opening = refl; before = refl; log = refl; beside = refl; replies = λ k reply finished. absurd (no_some finished) }) in
+      record {
+        opening = good.opening;
+        before = good.before;
+        log = good.log;
+        replies = good.replies;
+        least = least_of board;
+      }

@@ -1,0 +1,68 @@
+-- What the calls of a board are answered, one after another, and what they leave.
+use Rattle.std.specs.Prelude.{◌≡◌, ◌≢◌, ◌⊎◌, ℕ, suc, ◌<◌, ◌≤◌, ℤ, true, false, Option, Some, None, Result, Ok, Err, List, [], ◌∷◌, ◌++◌, length, slice_get}
+use Rattle.sb_rows.specs.Balances.{Balances}
+use Rattle.sb_calls.specs.Cowns.{held_of}
+use Rattle.sb_calls.specs.OneByOne.{reply_by_log}
+use Rattle.sb_calls.specs.declared.call.TheConstants.{LOG_CALLS}
+use Rattle.sb_calls.specs.declared.reply.Reply.{Reply}
+use Rattle.cown_board.specs.Board.{BoardOf, length_of, open_of, Takes, Finishes, IsOutHere}
+use Rattle.cown_board.specs.Invariant.{open_at}
+use Rattle.cown_board.specs.Job.{JobOf, DoneOf}
+use Rattle.cown_board.specs.Readiness.{is_ready_at, ready_places}
+use Rattle.cown_board.specs.declared.board.SubmitFault.{SubmitFault}
+use Rattle.cown_board.specs.declared.board.SubmitFault.TheVariants.{Busy, LogFull, OutOfMemory}
+use Rattle.cown_board.specs.declared.board.TheConstants.{OPEN_BEHAVIOURS}
+use Rattle.cown_board.specs.declared.state.State.TheVariants.{Waiting, Out, Finished}
+
+-- a call of a board, with its answer
+pub data BoardCall (B : Type 0) : Type 0 where
+  Submitted : (behaviour : B) (answer : Result ℕ SubmitFault) → BoardCall B
+  TakenAt : (index : ℕ) (answer : Option (JobOf B)) → BoardCall B
+  Returned : (done : DoneOf B) (answer : Result Reply (DoneOf B)) → BoardCall B
+
+-- what a call puts into the log
+abbrev pub put_by : {B : Type 0} → BoardCall B → List B
+put_by (Submitted behaviour (Ok number)) = behaviour ∷ []
+put_by (Submitted behaviour (Err fault)) = []
+put_by (TakenAt index answer) = []
+put_by (Returned done answer) = []
+
+abbrev pub put_by_all : {B : Type 0} → List (BoardCall B) → List B
+put_by_all [] = []
+put_by_all (call ∷ calls) = put_by call ++ put_by_all calls
+
+module _ {B : Type 0} (touches : B → List ℕ) (effect : B → List ℤ → Reply × List ℤ) where
+  -- one call: what its contract says
+  abbrev pub Makes : BoardOf B → BoardCall B → BoardOf B → Type 0
+  Makes old (Submitted behaviour (Ok number)) new =
+      (open_of old ≢ OPEN_BEHAVIOURS) × (length_of old ≢ LOG_CALLS) × (number ≡ suc (length_of old))
+      × (new ≡ record old { log = old.log ++ behaviour ∷ []; states = old.states ++ Waiting ∷ [] })
+  Makes old (Submitted behaviour (Err Busy)) new = (open_of old ≡ OPEN_BEHAVIOURS) × (new ≡ old)
+  Makes old (Submitted behaviour (Err LogFull)) new = (open_of old ≢ OPEN_BEHAVIOURS) × (length_of old ≡ LOG_CALLS) × (new ≡ old)
+  Makes old (Submitted behaviour (Err OutOfMemory)) new = (open_of old ≢ OPEN_BEHAVIOURS) × (length_of old ≢ LOG_CALLS) × (new ≡ old)
+  Makes old (TakenAt index None) new = (length (ready_places touches old.log old.states) ≤ index) × (new ≡ old)
+  Makes old (TakenAt index (Some job)) new = Takes touches effect old index job new
+  Makes old (Returned done (Ok reply)) new = Finishes touches effect old done reply new
+  Makes old (Returned done (Err back)) new = (¬ IsOutHere touches effect old done) × (back ≡ done) × (new ≡ old)
+
+  -- these calls one after another
+  abbrev pub Plays : BoardOf B → List (BoardCall B) → BoardOf B → Type 0
+  Plays old [] new = new ≡ old
+  Plays old (call ∷ calls) new = (mid : BoardOf B) × Makes old call mid × Plays mid calls new
+
+  -- a board after these calls on one that was opened with these columns and replies
+  pub record IsTrueToLog (columns : Balances) (earlier : List Reply) (calls : List (BoardCall B)) (board : BoardOf B) : Type 0 where
+    pub opening : board.opening ≡ columns
+    pub before : board.earlier ≡ earlier
+    pub log : board.log ≡ put_by_all calls
+    -- each finished behaviour has the reply of the log run one by one
+    pub replies : (k : ℕ) (reply : Reply) → slice_get board.states k ≡ Some (Finished reply)
+        → reply_by_log touches effect (held_of columns) board.log (suc k) ≡ Some reply
+    -- the least unfinished one is ready or out
+    pub least : (k : ℕ) → open_at board.states k ≡ true → ((j : ℕ) → j < k → open_at board.states j ≡ false)
+        → (is_ready_at touches board.log board.states k ≡ true) ⊎ (slice_get board.states k ≡ Some Out)
+
+  -- whatever was submitted, taken and given back, in whatever order
+  abbrev pub BoardLaw : Type 0
+  BoardLaw = (columns : Balances) (earlier : List Reply) (calls : List (BoardCall B)) (board : BoardOf B)
+      → Plays (record { opening = columns; earlier = earlier; log = []; states = [] }) calls board → IsTrueToLog columns earlier calls board

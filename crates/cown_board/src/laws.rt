@@ -1,0 +1,13 @@
+//! What a board keeps, over every list of calls.
+ghost use Rattle.std.specs.Prelude.{ℕ, ℤ, List};
+ghost use Rattle.sb_calls.specs.declared.reply.Reply.{Reply};
+ghost use Rattle.cown_board.specs.Played.{BoardLaw};
+
+use sb_calls::Behaviour;
+
+/// Whatever is submitted to an opened board, taken and given back, in whatever order: its log is what was
+/// submitted, each finished behaviour has the reply of the log run one by one, and while something is
+/// unfinished the least such number is ready or out.
+pub fn true_to_the_log<B: Behaviour>()
+    ensures { BoardLaw B.touches B.effect }
+{}
