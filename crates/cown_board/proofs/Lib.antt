@@ -1,5 +1,5 @@
 mod Changes
-mod Counts
+pub mod Counts
 mod CownLists
 mod FinishedJob
 mod Finishing
@@ -8,12 +8,12 @@ mod HeldLaws
 mod Inputs
 mod LogLaws
 mod Opening
-mod PlacesLaws
+pub mod PlacesLaws
 mod PlayedLaws
 mod Queued
 mod ReadingCowns
 mod Replies
-mod States
+pub mod States
 mod Submitting
 mod TakenJob
-mod Taking
+pub mod Taking

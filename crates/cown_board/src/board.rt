@@ -104,7 +104,9 @@ impl<B: Behaviour> Board<B> {
 
     /// Whether nothing is unfinished.
     pub fn idle(&self) -> bool
-        ensures { IsTrue result ↔ (open_of self.now ≡ 0) }
+        ensures value { IsTrue result ↔ (open_of self.now ≡ 0) }
+        // Each behaviour of the log is somewhere.
+        ensures beside { length self.now.log ≡ length self.now.states }
     {
         self.unfinished == 0
     }

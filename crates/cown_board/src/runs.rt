@@ -27,7 +27,9 @@ pub trait Runs {
 
     /// Whether nothing is unfinished.
     fn idle(&self) -> bool
-        ensures { IsTrue result ↔ (open_of (board self.now) ≡ 0) };
+        ensures value { IsTrue result ↔ (open_of (board self.now) ≡ 0) }
+        // Each op of the log is somewhere.
+        ensures beside { length (board self.now).log ≡ length (board self.now).states };
 }
 
 impl Runs for Board<Op> {

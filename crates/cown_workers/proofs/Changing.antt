@@ -1,0 +1,193 @@
+-- A board after an op was handed out, or finished.
+use Rattle.std.proofs.Common.{◌≡◌, ◌≢◌, ◌⊎◌, inl, inr, ℕ, suc, ◌+◌, ◌<◌, ◌≤◌, ℤ, Bool, true, false, ◌&&◌, Option, Some, None, Result, Ok, Err, List, length, refl, sym, ap, subst, ◌∙◌, arith}
+use Rattle.std.specs.Prelude.{◌↔◌, slice_get, slice_set, count_by, IsOk, is_ok, MatchResult}
+use Rattle.std.proofs.lemmas.Bool.{cases_eq, and_parts, true≢false}
+use Rattle.std.proofs.lemmas.Option.{slice_get_within}
+use Rattle.sb_calls.specs.declared.op.Op.{Op}
+use Rattle.sb_calls.specs.declared.reply.Reply.{Reply}
+use Rattle.cown_board.proofs.PlacesLaws.{place_is}
+use Rattle.cown_board.proofs.States.{slice_get-set_same, slice_get-set_other}
+use Rattle.cown_board.specs.Board.{BoardOf, open_of, number_at, inputs_at, IsOutAt, IsOutHere, Takes, Finishes}
+use Rattle.cown_board.specs.Job.{JobOf, DoneOf}
+use Rattle.cown_board.specs.Readiness.{is_ready_at, is_clear_at, ready_places}
+use Rattle.cown_board.specs.State.{is_waiting, is_open, state_is}
+use Rattle.cown_board.specs.declared.state.State.{State}
+use Rattle.cown_board.specs.declared.state.State.TheVariants.{Waiting, Out, Finished}
+use Rattle.cown_workers.proofs.Counting.{count-set, injective}
+use Rattle.cown_workers.specs.Draining.{Drains, NoneOut, KeepsNothing, waiting_of}
+
+pub Drains_refl : (board : BoardOf Op) → Drains board board
+Drains_refl board = record { opening = refl; earlier = refl; log = refl; finished = λ k reply h. h }
+
+pub Drains_trans : {a b c : BoardOf Op} → Drains a b → Drains b c → Drains a c
+Drains_trans first second = record {
+    opening = second.opening ∙ first.opening;
+    earlier = second.earlier ∙ first.earlier;
+    log = second.log ∙ first.log;
+    finished = λ k reply h. second.finished k reply (first.finished k reply h);
+  }
+
+pub KeepsNothing_trans : {p q r : Bool} {a b c : BoardOf Op} → KeepsNothing p q a b → KeepsNothing q r b c → KeepsNothing p r a c
+KeepsNothing_trans first second = record {
+    stays = λ nothing. second.stays (first.stays nothing);
+    none_out = λ nothing none. second.none_out (first.stays nothing) (first.none_out nothing none);
+  }
+
+-- one state changed
+record Changes (old new : BoardOf Op) (k : ℕ) (before after : State) : Type 0 where
+  pub here : slice_get old.states k ≡ Some before
+  pub changed : new ≡ record old { states = slice_set old.states k after }
+
+-- and it wasn't finished before
+Drains_changed : (old new : BoardOf Op) (k : ℕ) (before after : State) → ((reply : Reply) → before ≢ Finished reply) → Changes old new k before after → Drains old new
+Drains_changed old new k before after unfinished c = record {
+    opening = ap (λ b. b.opening) c.changed;
+    earlier = ap (λ b. b.earlier) c.changed;
+    log = ap (λ b. b.log) c.changed;
+    finished = λ j reply h. elim (cases_eq j k) [
+      | inl same ↦ absurd (unfinished reply (injective (sym c.here ∙ ap (slice_get old.states) (sym same) ∙ h)))
+      | inr differs ↦ ap (λ b. slice_get b.states j) c.changed ∙ slice_get-set_other old.states k j after differs ∙ h
+    ];
+  }
+
+waits_here : (o : Option State) → state_is is_waiting o ≡ true → o ≡ Some Waiting
+waits_here None h = absurd (true≢false (sym h))
+waits_here (Some Waiting) h = refl
+waits_here (Some Out) h = absurd (true≢false (sym h))
+waits_here (Some (Finished reply)) h = absurd (true≢false (sym h))
+
+-- what was done is that of a job
+abbrev pub IsOf : DoneOf Op → JobOf Op → Type 0
+IsOf done job = (done.number ≡ job.number) × (done.behaviour ≡ job.behaviour) × (done.inputs ≡ job.inputs)
+
+waiting_not_finished : (reply : Reply) → Waiting ≢ Finished reply
+waiting_not_finished reply h = cc
+
+out_not_finished : (reply : Reply) → Out ≢ Finished reply
+out_not_finished reply h = cc
+
+module _ (touches : Op → List ℕ) (effect : Op → List ℤ → Reply × List ℤ) where
+  -- what is handed out waited
+  taken_waits : (old : BoardOf Op) (index : ℕ) (job : JobOf Op) (new : BoardOf Op) (takes : Takes touches effect old index job new)
+      → slice_get old.states takes.place ≡ Some Waiting
+  unfolding ready_places
+  taken_waits old index job new takes =
+      let ready = (place_is (is_ready_at touches old.log old.states) (length old.log) index takes.place takes.ready).1 in
+      waits_here (slice_get old.states takes.place)
+        (and_parts (state_is is_waiting (slice_get old.states takes.place)) (is_clear_at touches old.log old.states takes.place) ready).0
+
+  taken_changes : (old : BoardOf Op) (index : ℕ) (job : JobOf Op) (new : BoardOf Op) (takes : Takes touches effect old index job new)
+      → Changes old new takes.place Waiting Out
+  taken_changes old index job new takes = record { here = taken_waits old index job new takes; changed = takes.out }
+
+  finished_changes : (old : BoardOf Op) (done : DoneOf Op) (reply : Reply) (new : BoardOf Op) (finishes : Finishes touches effect old done reply new)
+      → Changes old new finishes.place Out (Finished reply)
+  finished_changes old done reply new finishes = record { here = finishes.here.out; changed = finishes.finished }
+
+  pub Takes-drains : {old : BoardOf Op} {index : ℕ} {job : JobOf Op} {new : BoardOf Op} → Takes touches effect old index job new → Drains old new
+  Takes-drains {old} {index} {job} {new} takes =
+      Drains_changed old new takes.place Waiting Out waiting_not_finished (taken_changes old index job new takes)
+
+  pub Finishes-drains : {old : BoardOf Op} {done : DoneOf Op} {reply : Reply} {new : BoardOf Op} → Finishes touches effect old done reply new → Drains old new
+  Finishes-drains {old} {done} {reply} {new} finishes =
+      Drains_changed old new finishes.place Out (Finished reply) out_not_finished (finished_changes old done reply new finishes)
+
+  -- one fewer waits, and as many are unfinished
+  pub Takes-counts : {old : BoardOf Op} {index : ℕ} {job : JobOf Op} {new : BoardOf Op} → Takes touches effect old index job new
+      → (waiting_of new + 1 ≡ waiting_of old) × (open_of new ≡ open_of old)
+  Takes-counts {old} {index} {job} {new} takes =
+      let here = taken_waits old index job new takes in
+      let waiting = ap (λ b. waiting_of b) takes.out in
+      let unfinished = ap (λ b. open_of b) takes.out in
+      let a = count-set is_waiting old.states takes.place Waiting Out here in
+      let b = count-set is_open old.states takes.place Waiting Out here in
+      (omega (arith, waiting, a), omega (arith, unfinished, b))
+
+  -- one fewer is unfinished, and as many wait
+  pub Finishes-counts : {old : BoardOf Op} {done : DoneOf Op} {reply : Reply} {new : BoardOf Op} → Finishes touches effect old done reply new
+      → (open_of new + 1 ≡ open_of old) × (waiting_of new ≡ waiting_of old)
+  Finishes-counts {old} {done} {reply} {new} finishes =
+      let here = finishes.here.out in
+      let waiting = ap (λ b. waiting_of b) finishes.finished in
+      let unfinished = ap (λ b. open_of b) finishes.finished in
+      let a = count-set is_open old.states finishes.place Out (Finished reply) here in
+      let b = count-set is_waiting old.states finishes.place Out (Finished reply) here in
+      (omega (arith, unfinished, a), omega (arith, waiting, b))
+
+  -- a job that was just handed out is taken back once it is carried out
+  pub Takes-here : {old : BoardOf Op} {index : ℕ} {job : JobOf Op} {new : BoardOf Op} (done : DoneOf Op) → Takes touches effect old index job new
+      → IsOf done job → IsOutHere touches effect new done
+  Takes-here {old} {index} {job} {new} done takes (number, behaviour, inputs) =
+      (takes.place, record {
+        number = number ∙ takes.number ∙ ap (λ b. number_at b takes.place) (sym takes.out);
+        out = ap (λ b. slice_get b.states takes.place) takes.out
+          ∙ slice_get-set_same old.states takes.place Out (slice_get_within old.states takes.place Waiting (taken_waits old index job new takes));
+        behaviour = ap (λ b. slice_get b.log takes.place) takes.out ∙ takes.behaviour ∙ ap (λ x. Some x) (sym behaviour);
+        inputs = inputs ∙ takes.inputs ∙ ap (inputs_at touches effect old takes.place) (sym behaviour)
+          ∙ ap (λ b. inputs_at touches effect b takes.place done.behaviour) (sym takes.out);
+      })
+
+  -- where nothing was out, only what was just handed out is
+  out_is_taken : (old : BoardOf Op) (index : ℕ) (job : JobOf Op) (new : BoardOf Op) (takes : Takes touches effect old index job new) → NoneOut old
+      → (j : ℕ) → slice_get new.states j ≡ Some Out → j ≡ takes.place
+  out_is_taken old index job new takes none j out = elim (cases_eq j takes.place) [
+      | inl same ↦ same
+      | inr differs ↦ absurd (none j (sym (slice_get-set_other old.states takes.place j Out differs) ∙ ap (λ b. slice_get b.states j) (sym takes.out) ∙ out))
+    ]
+
+  -- and once that is finished nothing is
+  pub NoneOut-again : {old : BoardOf Op} {index : ℕ} {job : JobOf Op} {mid : BoardOf Op} {done : DoneOf Op} {reply : Reply} {new : BoardOf Op}
+      → Takes touches effect old index job mid → Finishes touches effect mid done reply new → NoneOut old → NoneOut new
+  NoneOut-again {old} {index} {job} {mid} {done} {reply} {new} takes finishes none = λ j out.
+      let alone = out_is_taken old index job mid takes none in
+      let at : finishes.place ≡ takes.place = alone finishes.place finishes.here.out in
+      let within : finishes.place < length mid.states = slice_get_within mid.states finishes.place Out finishes.here.out in
+      elim (cases_eq j finishes.place) [
+      | inl same ↦ out_not_finished reply (injective (sym out ∙ ap (slice_get new.states) same
+        ∙ ap (λ b. slice_get b.states finishes.place) finishes.finished ∙ slice_get-set_same mid.states finishes.place (Finished reply) within))
+      | inr differs ↦ differs (alone j (sym (slice_get-set_other mid.states finishes.place j (Finished reply) differs)
+        ∙ ap (λ b. slice_get b.states j) (sym finishes.finished) ∙ out) ∙ sym at)
+    ]
+
+  -- where nothing is out nothing is finished
+  pub NoneOut-finishes : {old : BoardOf Op} {done : DoneOf Op} {reply : Reply} {new : BoardOf Op} → Finishes touches effect old done reply new → NoneOut old → ⊥
+  NoneOut-finishes finishes none = none finishes.place finishes.here.out
+
+-- what is accepted is not refused
+pub no_refusal : {A E : Type 0} (answer : Result A E) → IsOk answer → is_ok answer ≡ false → ⊥
+no_refusal answer ok refused = true≢false (sym ok ∙ refused)
+
+-- an op was handed out, carried out, and finished
+pub record CarriesOut (old new : BoardOf Op) : Type 0 where
+  pub waiting : waiting_of new < waiting_of old
+  pub unfinished : open_of new < open_of old
+  pub drains : Drains old new
+  pub none_out : NoneOut old → NoneOut new
+
+module _ (touches : Op → List ℕ) (effect : Op → List ℤ → Reply × List ℤ) where
+  -- what the board answers to what it just handed out
+  pub accepts : {old mid : BoardOf Op} {index : ℕ} {job back : JobOf Op} {done : DoneOf Op} (answer : Result Reply (DoneOf Op))
+      → Takes touches effect old index job mid → back ≡ job → IsOf done back → (IsOk answer ↔ IsOutHere touches effect mid done) → IsOk answer
+  accepts {old} {mid} {index} {job} {back} {done} answer takes same of accepted =
+      accepted.1 (Takes-here touches effect done takes (of.0 ∙ ap (λ j. j.number) same, of.1 ∙ ap (λ j. j.behaviour) same, of.2 ∙ ap (λ j. j.inputs) same))
+
+  finishes_of : {mid new : BoardOf Op} {done : DoneOf Op} (answer : Result Reply (DoneOf Op)) → IsOk answer
+      → MatchResult answer (λ reply. Finishes touches effect mid done reply new) (λ back. (back ≡ done) × (new ≡ mid))
+      → (reply : Reply) × Finishes touches effect mid done reply new
+  finishes_of (Ok reply) ok outcome = (reply, outcome)
+  finishes_of (Err back) ok outcome = absurd (true≢false (sym ok))
+
+  pub carried : {old mid new : BoardOf Op} {index : ℕ} {job back : JobOf Op} {done : DoneOf Op} (answer : Result Reply (DoneOf Op))
+      → Takes touches effect old index job mid → back ≡ job → IsOf done back → (IsOk answer ↔ IsOutHere touches effect mid done)
+      → MatchResult answer (λ reply. Finishes touches effect mid done reply new) (λ back. (back ≡ done) × (new ≡ mid))
+      → CarriesOut old new
+  carried {old} {mid} {new} answer takes same of accepted outcome =
+      let (reply, finishes) = finishes_of answer (accepts answer takes same of accepted) outcome in
+      let first = Takes-counts touches effect takes in
+      let second = Finishes-counts touches effect finishes in
+      record {
+        waiting = omega (arith, first, second);
+        unfinished = omega (arith, first, second);
+        drains = Drains_trans (Takes-drains touches effect takes) (Finishes-drains touches effect finishes);
+        none_out = NoneOut-again touches effect takes finishes;
+      }

@@ -1,0 +1,11 @@
+-- What is finished was out.
+use Rattle.std.proofs.Common.{arith}
+use Rattle.sb_calls.specs.Behaviour.{declared_cowns, effect_of}
+use Rattle.cown_workers.proofs.Changing.{Finishes-drains, Finishes-counts}
+use Rattle.cown_workers.proofs.draining.finish_next.Goals as goal
+
+pub returns-in-Ok-clause-ok : goal.returns-in-Ok-clause-ok
+returns-in-Ok-clause-ok g c = let h = Finishes-counts declared_cowns effect_of c.in-Ok.ensures.outcome in omega (arith, h)
+
+pub returns-in-Ok-clause-log : goal.returns-in-Ok-clause-log
+returns-in-Ok-clause-log g c = Finishes-drains declared_cowns effect_of c.in-Ok.ensures.outcome

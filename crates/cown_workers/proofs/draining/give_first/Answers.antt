@@ -1,0 +1,36 @@
+-- What was just handed out, and comes back, is finished at once.
+use Rattle.std.proofs.Common.{◌≡◌, true, false, sym, ◌∙◌, arith}
+use Rattle.sb_calls.specs.Behaviour.{declared_cowns, effect_of}
+use Rattle.cown_workers.proofs.Changing.{CarriesOut, accepts, carried, no_refusal, Takes-drains, Takes-counts}
+use Rattle.cown_workers.proofs.draining.give_first.Goals as goal
+use Rattle.cown_workers.proofs.draining.give_first.Given.{Over}
+
+carried_here : (g : Over) (c : goal.Else-prove g) → CarriesOut (g.R.Runs.board c.args.runs.now) (g.R.Runs.board c.finish.new.self)
+carried_here g c = carried declared_cowns effect_of c.finish.result c.in-Some.ensures c.in-Err.ensures.same c.run.ensures.job c.finish.ensures.accepted c.finish.ensures.outcome
+
+pub prove-unreachable-requires : goal.prove-unreachable-requires
+prove-unreachable-requires g c =
+    no_refusal c.finish.result
+      (accepts declared_cowns effect_of c.finish.result c.in-Some.ensures c.in-Err.ensures.same c.run.ensures.job c.finish.ensures.accepted)
+      (sym c.is_ok-finished.ensures.value ∙ c.if-prove.true)
+
+pub returns-in-Err-clause-given : goal.returns-in-Err-clause-given
+returns-in-Err-clause-given g c = λ _. (carried_here g c).waiting
+
+pub returns-in-Err-clause-log : goal.returns-in-Err-clause-log
+returns-in-Err-clause-log g c = (carried_here g c).drains
+
+pub returns-in-Err-clause-unfinished : goal.returns-in-Err-clause-unfinished
+returns-in-Err-clause-unfinished g c = let h = (carried_here g c).unfinished in omega (arith, h)
+
+pub returns-in-Err-clause-nothing : goal.returns-in-Err-clause-nothing
+returns-in-Err-clause-nothing g c = record { stays = c.in-Err.ensures.stays; none_out = λ _. (carried_here g c).none_out }
+
+pub returns-in_default-give-clause-given : goal.returns-in_default-give-clause-given
+returns-in_default-give-clause-given g c = λ _. let h = Takes-counts declared_cowns effect_of c.in-Some.ensures in omega (arith, h)
+
+pub returns-in_default-give-clause-log : goal.returns-in_default-give-clause-log
+returns-in_default-give-clause-log g c = Takes-drains declared_cowns effect_of c.in-Some.ensures
+
+pub returns-in_default-give-clause-unfinished : goal.returns-in_default-give-clause-unfinished
+returns-in_default-give-clause-unfinished g c = let h = Takes-counts declared_cowns effect_of c.in-Some.ensures in omega (arith, h)

@@ -1,0 +1,69 @@
+//! Carrying out all that a board has.
+ghost use Rattle.std.specs.Prelude.{◌≡◌, ◌<◌, ◌≤◌, true, false, IsOk, OnOk};
+ghost use Rattle.cown_board.specs.Board.{open_of};
+ghost use Rattle.cown_workers.specs.Draining.{Drains, NoneOut, NoneReady, waiting_of, KeepsNothing};
+
+use crate::crew::{Crew, CrewGone};
+use cown_board::Runs;
+
+/// Gives each ready op to the crew and takes back what is carried out, until nothing is unfinished. An op
+/// that the crew hands back is carried out here. It allocates nothing.
+///
+/// Fails where something is unfinished and the crew has nothing more to hand over, or handed over what isn't
+/// out. What was finished by then stays finished, with its reply. A crew that keeps nothing never fails so,
+/// if nothing was out before.
+pub fn drain<R: Runs, C: Crew>(runs: &mut R, crew: &mut C) -> Result<(), CrewGone>
+    ensures ok { OnOk result (open_of (R.board runs.new) ≡ 0) }
+    ensures log { Drains (R.board runs.old) (R.board runs.new) }
+    ensures sure { C.keeps crew.old ≡ false → NoneOut (R.board runs.old) → IsOk result }
+{
+    loop {
+        give_ready(runs, crew);
+        if runs.idle() {
+            return Ok(());
+        }
+        finish_next(runs, crew)?;
+    }
+}
+
+// Gives all that is ready, and what becomes ready by it.
+fn give_ready<R: Runs, C: Crew>(runs: &mut R, crew: &mut C)
+    ensures log { Drains (R.board runs.old) (R.board runs.new) }
+    ensures unfinished { open_of (R.board runs.new) ≤ open_of (R.board runs.old) }
+    ensures none_ready { NoneReady (R.board runs.new) }
+    ensures nothing { KeepsNothing (C.keeps crew.old) (C.keeps crew.new) (R.board runs.old) (R.board runs.new) }
+{
+    while give_first(runs, crew) {}
+}
+
+// Gives the first ready op, and answers whether there was one. Where it comes back it is carried out here.
+fn give_first<R: Runs, C: Crew>(runs: &mut R, crew: &mut C) -> bool
+    ensures given { result ≡ true → waiting_of (R.board runs.new) < waiting_of (R.board runs.old) }
+    ensures none_ready { result ≡ false → NoneReady (R.board runs.new) }
+    ensures log { Drains (R.board runs.old) (R.board runs.new) }
+    ensures unfinished { open_of (R.board runs.new) ≤ open_of (R.board runs.old) }
+    ensures nothing { KeepsNothing (C.keeps crew.old) (C.keeps crew.new) (R.board runs.old) (R.board runs.new) }
+{
+    let Some(job) = runs.take_at(0) else {
+        return false;
+    };
+    if let Err(back) = crew.give(job) {
+        let finished = runs.finish(back.run()).is_ok();
+        // It is out since it was taken, on the inputs that it has.
+        prove!(finished);
+    }
+    true
+}
+
+// Takes one that is carried out from the crew, and finishes it.
+fn finish_next<R: Runs, C: Crew>(runs: &mut R, crew: &mut C) -> Result<(), CrewGone>
+    ensures ok { OnOk result (open_of (R.board runs.new) < open_of (R.board runs.old)) }
+    ensures log { Drains (R.board runs.old) (R.board runs.new) }
+    ensures nothing { KeepsNothing (C.keeps crew.old) (C.keeps crew.new) (R.board runs.old) (R.board runs.new) }
+{
+    let done = crew.next().ok_or(CrewGone)?;
+    match runs.finish(done) {
+        Ok(_) => Ok(()),
+        Err(_) => Err(CrewGone),
+    }
+}

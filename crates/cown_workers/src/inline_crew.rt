@@ -1,0 +1,26 @@
+//! The crew of one thread.
+ghost use Rattle.std.specs.Prelude.{false};
+
+use crate::crew::Crew;
+use cown_board::{Done, Job};
+use sb_calls::Op;
+
+/// A crew of nobody: each job comes back at once, so that whoever gives it carries it out in place.
+#[derive(Clone, Copy, Debug, Default)]
+pub struct InlineCrew;
+
+impl Crew for InlineCrew {
+    ghost keeps = { λ crew. false };
+
+    fn keeps(&self) -> bool {
+        false
+    }
+
+    fn give(&mut self, job: Job<Op>) -> Result<(), Job<Op>> {
+        Err(job)
+    }
+
+    fn next(&mut self) -> Option<Done<Op>> {
+        None
+    }
+}
