@@ -9,6 +9,8 @@ mod job;
 mod laws;
 mod runs;
 mod state;
+#[cfg(test)]
+mod tests;
 
 pub use board::{Board, OPEN_BEHAVIOURS, SubmitFault};
 pub use job::{Done, Job};

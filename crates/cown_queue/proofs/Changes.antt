@@ -40,8 +40,8 @@ length-changed change (cown ∷ cowns) lists =
 list_of-change : (change : List ℕ → List ℕ) (first : ℕ) (cowns : List ℕ) (lists : List (List ℕ)) (cown : ℕ) (list : List ℕ) (same : Bool)
     → IsRising (first ∷ cowns) → cown < length lists → (cown == first) ≡ same
     → list
-      ≡ (if is_among cown cowns then change (list_of (set lists first (change (list_of lists first))) cown)
-        else list_of (set lists first (change (list_of lists first))) cown)
+    ≡ (if is_among cown cowns then change (list_of (set lists first (change (list_of lists first))) cown)
+    else list_of (set lists first (change (list_of lists first))) cown)
     → list ≡ (if same || is_among cown cowns then change (list_of lists cown) else list_of lists cown)
 list_of-change change first cowns lists cown list true rising l e rest =
     let one : cown ≡ first = eqb-true cown first e in

@@ -1,7 +1,6 @@
 -- A deque that takes the place of another, and the room that is left.
-use Rattle.std.proofs.Common.{◌≡◌, ◌≢◌, ℕ, ◌<◌, ◌≤◌, ◌-◌, false, ◌==◌, List, [], ◌∷◌, ◌++◌, length, get_or, set, map, inl, inr, refl, sym, ap, ◌∙◌, arith, get_or-set_same, get_or-set_other}
+use Rattle.std.proofs.Common.{◌≡◌, ◌≢◌, ℕ, ◌<◌, ◌≤◌, ◌-◌, false, ◌==◌, List, [], ◌∷◌, ◌++◌, length, get_or, set, inl, inr, sym, ap, ◌∙◌, arith, get_or-set_same, get_or-set_other}
 use Rattle.std.proofs.lemmas.Bool.{cases_eq, cases_lt, eqb-false, or_parts}
-use Rattle.std.proofs.lemmas.Grind.{get_or-set_at}
 use Rattle.std.proofs.lemmas.List.{get_or-map, get_or_past, length-map, map-set, set-get_or}
 use Rattle.std.specs.VecDeque.{deque_len, deque_capacity}
 use Rattle.std.specs.declared.collections.VecDeque.{VecDeque}
@@ -22,12 +21,12 @@ module _ {A : Type 0} where
 
   -- the deque at a cown has its list
   list_of-read : (deques : List (VecDeque ℕ A)) (cown : ℕ) (deque : VecDeque ℕ A) → cown < length deques
-    → deque ≡ get_or deques cown deque → list_of (lists_of deques) cown ≡ deque.items
+      → deque ≡ get_or deques cown deque → list_of (lists_of deques) cown ≡ deque.items
   list_of-read deques cown deque l e = get_or-map (λ (d : VecDeque ℕ A). d.items) deques cown deque [] l ∙ ap (λ d. d.items) (sym e)
 
   -- and its room
   room_at-read : (deques : List (VecDeque ℕ A)) (cown : ℕ) (deque : VecDeque ℕ A) → cown < length deques
-    → deque ≡ get_or deques cown deque → room_at (rooms_of deques) cown ≡ room_in deque
+      → deque ≡ get_or deques cown deque → room_at (rooms_of deques) cown ≡ room_in deque
   room_at-read deques cown deque l e = get_or-map room_in deques cown deque 0 l ∙ ap room_in (sym e)
 
   -- only a deque has room
@@ -39,35 +38,35 @@ module _ {A : Type 0} where
 
   -- the deque at a cown becomes another, with a change of its list
   pub lists_of-changed : (change : List ℕ → List ℕ) (deques : List (VecDeque ℕ A)) (cown : ℕ) (old new : VecDeque ℕ A) → cown < length deques
-    → old ≡ get_or deques cown old → new.items ≡ change old.items
-    → lists_of (set deques cown new) ≡ set (lists_of deques) cown (change (list_of (lists_of deques) cown))
+      → old ≡ get_or deques cown old → new.items ≡ change old.items
+      → lists_of (set deques cown new) ≡ set (lists_of deques) cown (change (list_of (lists_of deques) cown))
   lists_of-changed change deques cown old new l read e =
       map-set (λ (d : VecDeque ℕ A). d.items) deques cown new
       ∙ ap (set (lists_of deques) cown) (e ∙ ap change (sym (list_of-read deques cown old l read)))
 
   -- with the same list
   pub lists_of-same : (deques : List (VecDeque ℕ A)) (cown : ℕ) (old new : VecDeque ℕ A) → cown < length deques
-    → old ≡ get_or deques cown old → new.items ≡ old.items → lists_of (set deques cown new) ≡ lists_of deques
+      → old ≡ get_or deques cown old → new.items ≡ old.items → lists_of (set deques cown new) ≡ lists_of deques
   lists_of-same deques cown old new l read e =
       lists_of-changed (λ list. list) deques cown old new l read e ∙ set-get_or (lists_of deques) cown []
 
   -- the room there is then the other's
   pub room_at-set_same : (deques : List (VecDeque ℕ A)) (cown : ℕ) (new : VecDeque ℕ A) → cown < length deques
-    → room_at (rooms_of (set deques cown new)) cown ≡ room_in new
+      → room_at (rooms_of (set deques cown new)) cown ≡ room_in new
   room_at-set_same deques cown new l =
       ap (λ rooms. room_at rooms cown) (map-set room_in deques cown new)
       ∙ get_or-set_same (rooms_of deques) cown (room_in new) 0 (omega (arith, length-map deques room_in))
 
   -- and elsewhere as it was
   pub room_at-set_other : (deques : List (VecDeque ℕ A)) (cown : ℕ) (new : VecDeque ℕ A) (other : ℕ) → other ≢ cown
-    → room_at (rooms_of (set deques cown new)) other ≡ room_at (rooms_of deques) other
+      → room_at (rooms_of (set deques cown new)) other ≡ room_at (rooms_of deques) other
   room_at-set_other deques cown new other ne =
       ap (λ rooms. room_at rooms other) (map-set room_in deques cown new)
       ∙ get_or-set_other (rooms_of deques) cown other (room_in new) 0 ne
 
   -- no cown loses room where the other has no less
   pub LoseNoRoom-set : (deques : List (VecDeque ℕ A)) (cown : ℕ) (old new : VecDeque ℕ A) → cown < length deques
-    → old ≡ get_or deques cown old → room_in old ≤ room_in new → LoseNoRoom (rooms_of deques) (rooms_of (set deques cown new))
+      → old ≡ get_or deques cown old → room_in old ≤ room_in new → LoseNoRoom (rooms_of deques) (rooms_of (set deques cown new))
   LoseNoRoom-set deques cown old new l read more other = elim (cases_eq other cown) [ inl e ↦ here e | inr ne ↦ there ne ]
     where
       here : other ≡ cown → room_at (rooms_of deques) other ≤ room_at (rooms_of (set deques cown new)) other

@@ -1,5 +1,5 @@
 -- The numbers that wait at each cown.
-use Rattle.std.specs.Prelude.{◌≡◌, ℕ, ◌+◌, ◌<◌, if◌then◌else◌, List, [], ◌∷◌, ◌++◌, length, get_or, drop, slice_get, filter_map}
+use Rattle.std.specs.Prelude.{◌≡◌, ℕ, ◌<◌, if◌then◌else◌, List, [], ◌∷◌, ◌++◌, length, get_or, drop, slice_get, filter_map}
 use Rattle.sb_calls.specs.OneByOne.{is_among}
 
 -- a list of numbers for each cown, the first one first, and the cowns at which there is room for one more

@@ -12,7 +12,7 @@ module _ {A : Type 0} where
   abbrev pub rooms_of : List (VecDeque ℕ A) → List ℕ
   rooms_of deques = map (λ d. deque_capacity d - deque_len d) deques
 
--- the room at a cown
+-- the room at a cown; past the last cown there is none
 abbrev pub room_at : List ℕ → ℕ → ℕ
 room_at rooms cown = get_or rooms cown 0
 

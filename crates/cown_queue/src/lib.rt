@@ -3,5 +3,7 @@
 
 mod lists;
 mod queues;
+#[cfg(test)]
+mod tests;
 
 pub use queues::Queues;

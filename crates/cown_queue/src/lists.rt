@@ -33,8 +33,10 @@ fn reserve_at(lists: &mut Vec<VecDeque<u64>>, cown: Cown) -> Result<(), AllocErr
 // Puts a number last at a cown that has room for it.
 fn push_at(lists: &mut Vec<VecDeque<u64>>, number: u64, cown: Cown)
     requires { 0 < room_at (rooms_of lists.old.items) cown }
-    ensures lists { lists_of lists.new.items ≡ slice_set (lists_of lists.old.items) cown (list_of (lists_of lists.old.items) cown ++ number ∷ []) }
-    ensures others { (other : ℕ) → other ≢ cown → room_at (rooms_of lists.new.items) other ≡ room_at (rooms_of lists.old.items) other }
+    ensures lists { lists_of lists.new.items
+        ≡ slice_set (lists_of lists.old.items) cown (list_of (lists_of lists.old.items) cown ++ number ∷ []) }
+    ensures others { (other : ℕ) → other ≢ cown →
+        room_at (rooms_of lists.new.items) other ≡ room_at (rooms_of lists.old.items) other }
 {
     lists[cown.number()].push_back_reserved(number);
 }
@@ -42,7 +44,8 @@ fn push_at(lists: &mut Vec<VecDeque<u64>>, number: u64, cown: Cown)
 // Takes the first number of a cown away.
 fn pop_at(lists: &mut Vec<VecDeque<u64>>, cown: Cown)
     requires { cown < length (lists_of lists.old.items) }
-    ensures lists { lists_of lists.new.items ≡ slice_set (lists_of lists.old.items) cown (drop 1 (list_of (lists_of lists.old.items) cown)) }
+    ensures lists { lists_of lists.new.items
+        ≡ slice_set (lists_of lists.old.items) cown (drop 1 (list_of (lists_of lists.old.items) cown)) }
     ensures rooms { LoseNoRoom (rooms_of lists.old.items) (rooms_of lists.new.items) }
 {
     lists[cown.number()].pop_front();
@@ -105,16 +108,4 @@ pub(crate) fn fronts_at(lists: &[VecDeque<u64>], cowns: &[Cown]) -> ArrayVec<u64
         }
     }
     fronts
-}
-
-// At most three cowns, kept by value.
-pub(crate) fn copy_of(cowns: &[Cown]) -> ArrayVec<Cown, 3>
-    requires { length cowns.now ≤ 3 }
-    ensures { result.items ≡ cowns.now }
-{
-    let mut copy = ArrayVec::new();
-    for cown in cowns {
-        copy.push(*cown);
-    }
-    copy
 }

@@ -3,7 +3,7 @@ ghost use Rattle.std.specs.Prelude.{◌≡◌, ◌≤◌, ◌<◌, ℕ, [], leng
 ghost use Rattle.sb_calls.specs.Cowns.{AreBelow, IsRising};
 ghost use Rattle.cown_queue.specs.Queues.{CownQueues, list_of, fronts_of, Appends, IsInFront, Releases};
 
-use crate::lists::{empty_lists, front_at, fronts_at, pop_each, push_each, reserve_each, copy_of};
+use crate::lists::{empty_lists, front_at, fronts_at, pop_each, push_each, reserve_each};
 use arrayvec::ArrayVec;
 use sb_calls::Cown;
 use std::alloc::{AllocError, Global};
@@ -97,4 +97,16 @@ impl Queues {
     {
         front_at(&self.lists, cown)
     }
+}
+
+// At most three cowns, kept by value.
+fn copy_of(cowns: &[Cown]) -> ArrayVec<Cown, 3>
+    requires { length cowns.now ≤ 3 }
+    ensures { result.items ≡ cowns.now }
+{
+    let mut copy = ArrayVec::new();
+    for cown in cowns {
+        copy.push(*cown);
+    }
+    copy
 }

@@ -1,13 +1,13 @@
 -- A board after an op was handed out, or finished.
-use Rattle.std.proofs.Common.{◌≡◌, ◌≢◌, ◌⊎◌, inl, inr, ℕ, suc, ◌+◌, ◌<◌, ◌≤◌, ℤ, Bool, true, false, ◌&&◌, Option, Some, None, Result, Ok, Err, List, length, refl, sym, ap, subst, ◌∙◌, arith}
-use Rattle.std.specs.Prelude.{◌↔◌, slice_get, slice_set, count_by, IsOk, is_ok, MatchResult}
+use Rattle.std.proofs.Common.{◌≡◌, ◌≢◌, inl, inr, ℕ, ◌+◌, ◌<◌, ℤ, Bool, true, false, Option, Some, None, Result, Ok, Err, List, length, refl, sym, ap, ◌∙◌, arith}
+use Rattle.std.specs.Prelude.{◌↔◌, slice_get, slice_set, IsOk, is_ok, MatchResult}
 use Rattle.std.proofs.lemmas.Bool.{cases_eq, and_parts, true≢false}
 use Rattle.std.proofs.lemmas.Option.{slice_get_within}
 use Rattle.sb_calls.specs.declared.op.Op.{Op}
 use Rattle.sb_calls.specs.declared.reply.Reply.{Reply}
 use Rattle.cown_board.proofs.PlacesLaws.{place_is}
 use Rattle.cown_board.proofs.States.{slice_get-set_same, slice_get-set_other}
-use Rattle.cown_board.specs.Board.{BoardOf, open_of, number_at, inputs_at, IsOutAt, IsOutHere, Takes, Finishes}
+use Rattle.cown_board.specs.Board.{BoardOf, open_of, number_at, inputs_at, IsOutHere, Takes, Finishes}
 use Rattle.cown_board.specs.Job.{JobOf, DoneOf}
 use Rattle.cown_board.specs.Readiness.{is_ready_at, is_clear_at, ready_places}
 use Rattle.cown_board.specs.State.{is_waiting, is_open, state_is}
@@ -16,22 +16,19 @@ use Rattle.cown_board.specs.declared.state.State.TheVariants.{Waiting, Out, Fini
 use Rattle.cown_workers.proofs.Counting.{count-set, injective}
 use Rattle.cown_workers.specs.Draining.{Drains, NoneOut, KeepsNothing, waiting_of}
 
-pub Drains_refl : (board : BoardOf Op) → Drains board board
-Drains_refl board = record { opening = refl; earlier = refl; log = refl; finished = λ k reply h. h }
-
 pub Drains_trans : {a b c : BoardOf Op} → Drains a b → Drains b c → Drains a c
 Drains_trans first second = record {
-    opening = second.opening ∙ first.opening;
-    earlier = second.earlier ∙ first.earlier;
-    log = second.log ∙ first.log;
-    finished = λ k reply h. second.finished k reply (first.finished k reply h);
-  }
+  opening = second.opening ∙ first.opening;
+  earlier = second.earlier ∙ first.earlier;
+  log = second.log ∙ first.log;
+  finished = λ k reply h. second.finished k reply (first.finished k reply h);
+}
 
 pub KeepsNothing_trans : {p q r : Bool} {a b c : BoardOf Op} → KeepsNothing p q a b → KeepsNothing q r b c → KeepsNothing p r a c
 KeepsNothing_trans first second = record {
-    stays = λ nothing. second.stays (first.stays nothing);
-    none_out = λ nothing none. second.none_out (first.stays nothing) (first.none_out nothing none);
-  }
+  stays = λ nothing. second.stays (first.stays nothing);
+  none_out = λ nothing none. second.none_out (first.stays nothing) (first.none_out nothing none);
+}
 
 -- one state changed
 record Changes (old new : BoardOf Op) (k : ℕ) (before after : State) : Type 0 where
@@ -41,14 +38,14 @@ record Changes (old new : BoardOf Op) (k : ℕ) (before after : State) : Type 0 
 -- and it wasn't finished before
 Drains_changed : (old new : BoardOf Op) (k : ℕ) (before after : State) → ((reply : Reply) → before ≢ Finished reply) → Changes old new k before after → Drains old new
 Drains_changed old new k before after unfinished c = record {
-    opening = ap (λ b. b.opening) c.changed;
-    earlier = ap (λ b. b.earlier) c.changed;
-    log = ap (λ b. b.log) c.changed;
-    finished = λ j reply h. elim (cases_eq j k) [
-      | inl same ↦ absurd (unfinished reply (injective (sym c.here ∙ ap (slice_get old.states) (sym same) ∙ h)))
-      | inr differs ↦ ap (λ b. slice_get b.states j) c.changed ∙ slice_get-set_other old.states k j after differs ∙ h
-    ];
-  }
+  opening = ap (λ b. b.opening) c.changed;
+  earlier = ap (λ b. b.earlier) c.changed;
+  log = ap (λ b. b.log) c.changed;
+  finished = λ j reply h. elim (cases_eq j k) [
+    | inl same ↦ absurd (unfinished reply (injective (sym c.here ∙ ap (slice_get old.states) (sym same) ∙ h)))
+    | inr differs ↦ ap (λ b. slice_get b.states j) c.changed ∙ slice_get-set_other old.states k j after differs ∙ h
+  ];
+}
 
 waits_here : (o : Option State) → state_is is_waiting o ≡ true → o ≡ Some Waiting
 waits_here None h = absurd (true≢false (sym h))
@@ -74,7 +71,7 @@ module _ (touches : Op → List ℕ) (effect : Op → List ℤ → Reply × List
   taken_waits old index job new takes =
       let ready = (place_is (is_ready_at touches old.log old.states) (length old.log) index takes.place takes.ready).1 in
       waits_here (slice_get old.states takes.place)
-        (and_parts (state_is is_waiting (slice_get old.states takes.place)) (is_clear_at touches old.log old.states takes.place) ready).0
+      (and_parts (state_is is_waiting (slice_get old.states takes.place)) (is_clear_at touches old.log old.states takes.place) ready).0
 
   taken_changes : (old : BoardOf Op) (index : ℕ) (job : JobOf Op) (new : BoardOf Op) (takes : Takes touches effect old index job new)
       → Changes old new takes.place Waiting Out
@@ -117,23 +114,25 @@ module _ (touches : Op → List ℕ) (effect : Op → List ℤ → Reply × List
   -- a job that was just handed out is taken back once it is carried out
   pub Takes-here : {old : BoardOf Op} {index : ℕ} {job : JobOf Op} {new : BoardOf Op} (done : DoneOf Op) → Takes touches effect old index job new
       → IsOf done job → IsOutHere touches effect new done
-  Takes-here {old} {index} {job} {new} done takes (number, behaviour, inputs) =
-      (takes.place, record {
-        number = number ∙ takes.number ∙ ap (λ b. number_at b takes.place) (sym takes.out);
-        out = ap (λ b. slice_get b.states takes.place) takes.out
+  Takes-here {old} {index} {job} {new} done takes (number, behaviour, inputs) = (
+    takes.place,
+    record {
+      number = number ∙ takes.number ∙ ap (λ b. number_at b takes.place) (sym takes.out);
+      out = ap (λ b. slice_get b.states takes.place) takes.out
           ∙ slice_get-set_same old.states takes.place Out (slice_get_within old.states takes.place Waiting (taken_waits old index job new takes));
-        behaviour = ap (λ b. slice_get b.log takes.place) takes.out ∙ takes.behaviour ∙ ap (λ x. Some x) (sym behaviour);
-        inputs = inputs ∙ takes.inputs ∙ ap (inputs_at touches effect old takes.place) (sym behaviour)
+      behaviour = ap (λ b. slice_get b.log takes.place) takes.out ∙ takes.behaviour ∙ ap (λ x. Some x) (sym behaviour);
+      inputs = inputs ∙ takes.inputs ∙ ap (inputs_at touches effect old takes.place) (sym behaviour)
           ∙ ap (λ b. inputs_at touches effect b takes.place done.behaviour) (sym takes.out);
-      })
+    },
+  )
 
   -- where nothing was out, only what was just handed out is
   out_is_taken : (old : BoardOf Op) (index : ℕ) (job : JobOf Op) (new : BoardOf Op) (takes : Takes touches effect old index job new) → NoneOut old
       → (j : ℕ) → slice_get new.states j ≡ Some Out → j ≡ takes.place
   out_is_taken old index job new takes none j out = elim (cases_eq j takes.place) [
-      | inl same ↦ same
-      | inr differs ↦ absurd (none j (sym (slice_get-set_other old.states takes.place j Out differs) ∙ ap (λ b. slice_get b.states j) (sym takes.out) ∙ out))
-    ]
+    | inl same ↦ same
+    | inr differs ↦ absurd (none j (sym (slice_get-set_other old.states takes.place j Out differs) ∙ ap (λ b. slice_get b.states j) (sym takes.out) ∙ out))
+  ]
 
   -- and once that is finished nothing is
   pub NoneOut-again : {old : BoardOf Op} {index : ℕ} {job : JobOf Op} {mid : BoardOf Op} {done : DoneOf Op} {reply : Reply} {new : BoardOf Op}
@@ -143,51 +142,8 @@ module _ (touches : Op → List ℕ) (effect : Op → List ℤ → Reply × List
       let at : finishes.place ≡ takes.place = alone finishes.place finishes.here.out in
       let within : finishes.place < length mid.states = slice_get_within mid.states finishes.place Out finishes.here.out in
       elim (cases_eq j finishes.place) [
-      | inl same ↦ out_not_finished reply (injective (sym out ∙ ap (slice_get new.states) same
-        ∙ ap (λ b. slice_get b.states finishes.place) finishes.finished ∙ slice_get-set_same mid.states finishes.place (Finished reply) within))
-      | inr differs ↦ differs (alone j (sym (slice_get-set_other mid.states finishes.place j (Finished reply) differs)
-        ∙ ap (λ b. slice_get b.states j) (sym finishes.finished) ∙ out) ∙ sym at)
-    ]
-
-  -- where nothing is out nothing is finished
-  pub NoneOut-finishes : {old : BoardOf Op} {done : DoneOf Op} {reply : Reply} {new : BoardOf Op} → Finishes touches effect old done reply new → NoneOut old → ⊥
-  NoneOut-finishes finishes none = none finishes.place finishes.here.out
-
--- what is accepted is not refused
-pub no_refusal : {A E : Type 0} (answer : Result A E) → IsOk answer → is_ok answer ≡ false → ⊥
-no_refusal answer ok refused = true≢false (sym ok ∙ refused)
-
--- an op was handed out, carried out, and finished
-pub record CarriesOut (old new : BoardOf Op) : Type 0 where
-  pub waiting : waiting_of new < waiting_of old
-  pub unfinished : open_of new < open_of old
-  pub drains : Drains old new
-  pub none_out : NoneOut old → NoneOut new
-
-module _ (touches : Op → List ℕ) (effect : Op → List ℤ → Reply × List ℤ) where
-  -- what the board answers to what it just handed out
-  pub accepts : {old mid : BoardOf Op} {index : ℕ} {job back : JobOf Op} {done : DoneOf Op} (answer : Result Reply (DoneOf Op))
-      → Takes touches effect old index job mid → back ≡ job → IsOf done back → (IsOk answer ↔ IsOutHere touches effect mid done) → IsOk answer
-  accepts {old} {mid} {index} {job} {back} {done} answer takes same of accepted =
-      accepted.1 (Takes-here touches effect done takes (of.0 ∙ ap (λ j. j.number) same, of.1 ∙ ap (λ j. j.behaviour) same, of.2 ∙ ap (λ j. j.inputs) same))
-
-  finishes_of : {mid new : BoardOf Op} {done : DoneOf Op} (answer : Result Reply (DoneOf Op)) → IsOk answer
-      → MatchResult answer (λ reply. Finishes touches effect mid done reply new) (λ back. (back ≡ done) × (new ≡ mid))
-      → (reply : Reply) × Finishes touches effect mid done reply new
-  finishes_of (Ok reply) ok outcome = (reply, outcome)
-  finishes_of (Err back) ok outcome = absurd (true≢false (sym ok))
-
-  pub carried : {old mid new : BoardOf Op} {index : ℕ} {job back : JobOf Op} {done : DoneOf Op} (answer : Result Reply (DoneOf Op))
-      → Takes touches effect old index job mid → back ≡ job → IsOf done back → (IsOk answer ↔ IsOutHere touches effect mid done)
-      → MatchResult answer (λ reply. Finishes touches effect mid done reply new) (λ back. (back ≡ done) × (new ≡ mid))
-      → CarriesOut old new
-  carried {old} {mid} {new} answer takes same of accepted outcome =
-      let (reply, finishes) = finishes_of answer (accepts answer takes same of accepted) outcome in
-      let first = Takes-counts touches effect takes in
-      let second = Finishes-counts touches effect finishes in
-      record {
-        waiting = omega (arith, first, second);
-        unfinished = omega (arith, first, second);
-        drains = Drains_trans (Takes-drains touches effect takes) (Finishes-drains touches effect finishes);
-        none_out = NoneOut-again touches effect takes finishes;
-      }
+        | inl same ↦ out_not_finished reply (injective (sym out ∙ ap (slice_get new.states) same
+            ∙ ap (λ b. slice_get b.states finishes.place) finishes.finished ∙ slice_get-set_same mid.states finishes.place (Finished reply) within))
+        | inr differs ↦ differs (alone j (sym (slice_get-set_other mid.states finishes.place j (Finished reply) differs)
+            ∙ ap (λ b. slice_get b.states j) (sym finishes.finished) ∙ out) ∙ sym at)
+      ]

@@ -1,3 +1,4 @@
+mod CarryingOut
 mod Changing
 mod Counting
 mod Settled

@@ -1,7 +1,7 @@
 -- A board on which nothing is out, and nothing is ready, has nothing unfinished.
-use Rattle.std.proofs.Common.{◌≡◌, ◌≢◌, ◌⊎◌, inl, inr, ℕ, zero, suc, ◌<◌, ◌≤◌, Bool, true, false, ◌&&◌, Option, Some, None, List, [], ◌∷◌, length, refl, sym, ap, ◌∙◌, arith}
-use Rattle.std.specs.Prelude.{slice_get, count_by}
-use Rattle.std.proofs.lemmas.Bool.{cases_lt, cases_order, and_left, and_from, true≢false, false_from_ne_true}
+use Rattle.std.proofs.Common.{◌≡◌, ◌≢◌, inl, inr, ℕ, zero, suc, ◌<◌, ◌≤◌, true, false, ◌&&◌, Option, Some, None, List, [], ◌∷◌, length, refl, sym, ap, ◌∙◌, arith}
+use Rattle.std.specs.Prelude.{slice_get}
+use Rattle.std.proofs.lemmas.Bool.{cases_lt, and_left, and_from, true≢false}
 use Rattle.std.proofs.lemmas.Option.{slice_get_past}
 use Rattle.sb_calls.specs.Behaviour.{declared_cowns}
 use Rattle.sb_calls.specs.declared.op.Op.{Op}
@@ -34,29 +34,29 @@ module _ {B : Type 0} (touches : B → List ℕ) (log : List B) (states : List S
   finished_below (suc m) le j lt =
       let before = finished_below m (omega (arith, le)) in
       elim (cases_lt j m) [
-      | inl below ↦ before j below
-      | inr past ↦
-        let at : j ≡ m = omega (arith, lt, past) in
-        let clear : is_clear_at touches log states m ≡ true =
-          none_below_from (λ i. state_is is_open (slice_get states i) && conflict_at touches log i m) m
+        | inl below ↦ before j below
+        | inr past ↦
+            let at : j ≡ m = omega (arith, lt, past) in
+            let clear : is_clear_at touches log states m ≡ true =
+            none_below_from (λ i. state_is is_open (slice_get states i) && conflict_at touches log i m) m
             (λ i below. and_left (state_is is_open (slice_get states i)) (conflict_at touches log i m) (before i below)) in
-        ap (λ k. state_is is_open (slice_get states k)) at
-        ∙ neither (slice_get states m)
-          (λ waits. true≢false (sym (and_from (state_is is_waiting (slice_get states m)) (is_clear_at touches log states m) waits clear) ∙ none_ready m (omega (arith, le))))
-          (none_out m)
-    ]
+            ap (λ k. state_is is_open (slice_get states k)) at
+            ∙ neither (slice_get states m)
+            (λ waits. true≢false (sym (and_from (state_is is_waiting (slice_get states m)) (is_clear_at touches log states m) waits clear) ∙ none_ready m (omega (arith, le))))
+            (none_out m)
+      ]
 
   all_finished : length log ≡ length states → (k : ℕ) → state_is is_open (slice_get states k) ≡ false
   all_finished beside k = elim (cases_lt k (length log)) [
-      | inl lt ↦ finished_below (length log) (omega arith) k lt
-      | inr past ↦ ap (state_is is_open) (slice_get_past states k (omega (arith, past, beside)))
-    ]
+    | inl lt ↦ finished_below (length log) (omega arith) k lt
+    | inr past ↦ ap (state_is is_open) (slice_get_past states k (omega (arith, past, beside)))
+  ]
 
 pub nothing_left : (board : BoardOf Op) → length board.log ≡ length board.states → NoneOut board → NoneReady board → open_of board ≡ 0
 unfolding ready_places
 nothing_left board beside none_out none_ready =
     let none : none_below (is_ready_at declared_cowns board.log board.states) (length board.log) ≡ true =
-      none_from_places (is_ready_at declared_cowns board.log board.states) (length board.log)
-        (empty (places (is_ready_at declared_cowns board.log board.states) (length board.log)) none_ready) in
+    none_from_places (is_ready_at declared_cowns board.log board.states) (length board.log)
+    (empty (places (is_ready_at declared_cowns board.log board.states) (length board.log)) none_ready) in
     count_none is_open board.states
-      (all_finished declared_cowns board.log board.states none_out (λ k lt. none_below_at (is_ready_at declared_cowns board.log board.states) (length board.log) k none lt) beside)
+    (all_finished declared_cowns board.log board.states none_out (λ k lt. none_below_at (is_ready_at declared_cowns board.log board.states) (length board.log) k none lt) beside)

@@ -1,12 +1,11 @@
 -- What draining a board leaves as it was.
-use Rattle.std.specs.Prelude.{◌≡◌, ◌≢◌, ℕ, ◌≤◌, Bool, false, Option, Some, List, length, slice_get, count_by}
+use Rattle.std.specs.Prelude.{◌≡◌, ◌≢◌, ℕ, ◌≤◌, Bool, false, Some, length, slice_get, count_by}
 use Rattle.sb_calls.specs.Behaviour.{declared_cowns}
 use Rattle.sb_calls.specs.declared.op.Op.{Op}
 use Rattle.sb_calls.specs.declared.reply.Reply.{Reply}
 use Rattle.cown_board.specs.Board.{BoardOf}
 use Rattle.cown_board.specs.Readiness.{ready_places}
 use Rattle.cown_board.specs.State.{is_waiting}
-use Rattle.cown_board.specs.declared.state.State.{State}
 use Rattle.cown_board.specs.declared.state.State.TheVariants.{Out, Finished}
 
 -- the log, and what was before it, stay; what was finished stays finished, with the same reply

@@ -5,8 +5,8 @@ use cown_board::{Done, Job};
 use sb_calls::Op;
 use thiserror::Error;
 
-/// The crew has nothing more to hand over, though something is unfinished, or it handed over what the board
-/// refused.
+/// Something is unfinished, and the crew has nothing more to hand over, or it handed over what the board
+/// refused. What was finished by then stays finished.
 #[derive(Clone, Copy, Debug, PartialEq, Eq, Error, Drop)]
 #[error("crew gone")]
 pub struct CrewGone;

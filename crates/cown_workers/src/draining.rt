@@ -1,5 +1,5 @@
 //! Carrying out all that a board has.
-ghost use Rattle.std.specs.Prelude.{◌≡◌, ◌<◌, ◌≤◌, true, false, IsOk, OnOk};
+ghost use Rattle.std.specs.Prelude.{◌≡◌, ◌≢◌, ◌<◌, ◌≤◌, true, false, IsOk, OnOk, OnErr};
 ghost use Rattle.cown_board.specs.Board.{open_of};
 ghost use Rattle.cown_workers.specs.Draining.{Drains, NoneOut, NoneReady, waiting_of, KeepsNothing};
 
@@ -14,8 +14,10 @@ use cown_board::Runs;
 /// if nothing was out before.
 pub fn drain<R: Runs, C: Crew>(runs: &mut R, crew: &mut C) -> Result<(), CrewGone>
     ensures ok { OnOk result (open_of (R.board runs.new) ≡ 0) }
+    ensures gone { OnErr result (open_of (R.board runs.new) ≢ 0) }
     ensures log { Drains (R.board runs.old) (R.board runs.new) }
     ensures sure { C.keeps crew.old ≡ false → NoneOut (R.board runs.old) → IsOk result }
+    ensures stays { C.keeps crew.old ≡ false → C.keeps crew.new ≡ false }
 {
     loop {
         give_ready(runs, crew);
@@ -58,6 +60,7 @@ fn give_first<R: Runs, C: Crew>(runs: &mut R, crew: &mut C) -> bool
 // Takes one that is carried out from the crew, and finishes it.
 fn finish_next<R: Runs, C: Crew>(runs: &mut R, crew: &mut C) -> Result<(), CrewGone>
     ensures ok { OnOk result (open_of (R.board runs.new) < open_of (R.board runs.old)) }
+    ensures gone { OnErr result (R.board runs.new ≡ R.board runs.old) }
     ensures log { Drains (R.board runs.old) (R.board runs.new) }
     ensures nothing { KeepsNothing (C.keeps crew.old) (C.keeps crew.new) (R.board runs.old) (R.board runs.new) }
 {

@@ -1,5 +1,6 @@
 pub mod Answered
 pub mod AskedLines
+pub mod Boards
 pub mod ByPlace
 pub mod Carrying
 pub mod Keyed

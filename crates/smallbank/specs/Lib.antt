@@ -1,5 +1,6 @@
 pub mod Asking
 pub mod Asks
+pub mod Execution
 pub mod Faults
 pub mod Input
 pub mod Outcome

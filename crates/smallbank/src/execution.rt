@@ -1,15 +1,24 @@
-//! Carrying out the log, one call after the other.
-ghost use Rattle.std.specs.Prelude.{◌≡◌, IfOk};
+//! Carrying out the log over a board.
+ghost use Rattle.std.specs.Prelude.{◌≡◌, ◌≢◌, ℕ, [], ◌<◌, length, map, suc, slice_get, IfOk, OnOk};
 ghost use Rattle.sb_rows.specs.Rows.{SameCustomers, rows_of};
+ghost use Rattle.sb_calls.specs.Behaviour.{declared_cowns, effect_of};
+ghost use Rattle.sb_calls.specs.Cowns.{AreBelow, held_of};
 ghost use Rattle.sb_calls.specs.Log.{rows_after, replies_to};
+ghost use Rattle.sb_calls.specs.OneByOne.{reply_by_log};
+ghost use Rattle.sb_calls.specs.Op.{resolved};
+ghost use Rattle.cown_board.specs.Board.{length_of, open_of};
+ghost use Rattle.cown_workers.specs.Draining.{Drains, NoneOut};
+ghost use Rattle.smallbank.specs.Execution.{IsPut, IsOpened, AreReplies};
 ghost use Rattle.smallbank.specs.Output.{calls_of};
 
-use sb_calls::{Reply, apply, resolve};
-use sb_rows::{Columns, Directory};
+use cown_board::{Board, SubmitFault};
+use cown_workers::{InlineCrew, drain};
+use sb_calls::{Call, LOG_CALLS, Op, Reply, resolve};
+use sb_rows::{CUSTOMERS, Columns, Directory};
 use sb_sequencer::Sequencer;
 use std::alloc::{AllocError, Global};
 
-/// Carries out the calls of a log in order, and gives their replies.
+/// Carries out the calls of a log, each as soon as its cowns are free, and gives their replies in order.
 pub fn carry_out(
     alloc: Global,
     log: &Sequencer,
@@ -21,10 +30,76 @@ pub fn carry_out(
     ensures rows { IfOk result (λ replies. rows_of directory.now columns.new ≡ rows_after (calls_of log.now) (rows_of directory.now columns.old)) }
     ensures customers { IfOk result (λ replies. SameCustomers directory.now columns.new) }
 {
-    let mut replies = Vec::with_capacity(alloc, log.length() as usize)?;
+    let mut board = Board::open(alloc, columns.copy()?, 0, Vec::new(alloc))?;
+    submit_all(log, directory, &mut board)?;
+    run_all(&mut board);
+    let replies = replies_of(alloc, &board)?;
+    let after = board.columns()?.unwrap();
+    // They are the columns of a bank.
+    prove!(after.customers() <= CUSTOMERS);
+    *columns = after;
+    Ok(replies)
+}
+
+// Submits each call of the log.
+fn submit_all(
+    log: &Sequencer,
+    directory: &Directory,
+    board: &mut Board<Op>,
+) -> Result<(), AllocError>
+    requires opened { IsOpened board.old }
+    requires customers { SameCustomers directory.now board.old.opening }
+    ensures opening { OnOk result (board.new.opening ≡ board.old.opening) }
+    ensures earlier { OnOk result (board.new.earlier ≡ []) }
+    ensures log { OnOk result (board.new.log ≡ map (resolved directory.now) (calls_of log.now)) }
+    ensures none_out { OnOk result (NoneOut board.new) }
+{
     for place in 0..log.length() {
         let call = log.call(place + 1).unwrap();
-        replies.push(apply(columns, resolve(directory, &call)))?;
+        submit(directory, &call, board)?;
+    }
+    Ok(())
+}
+
+// Submits a call. Where as many are unfinished as may be, these are carried out first.
+fn submit(directory: &Directory, call: &Call, board: &mut Board<Op>) -> Result<(), AllocError>
+    requires customers { SameCustomers directory.now board.old.opening }
+    requires room { length_of board.old ≢ LOG_CALLS }
+    requires none_out { NoneOut board.old }
+    ensures { OnOk result (IsPut (resolved directory.now call.now) board.old board.new) }
+{
+    match board.submit(resolve(directory, call)) {
+        Ok(_) => return Ok(()),
+        Err(SubmitFault::Busy) => run_all(board),
+        Err(_) => return Err(AllocError),
+    }
+    match board.submit(resolve(directory, call)) {
+        Ok(_) => Ok(()),
+        Err(_) => Err(AllocError),
+    }
+}
+
+// Carries out all that is unfinished.
+fn run_all(board: &mut Board<Op>)
+    requires { NoneOut board.old }
+    ensures idle { open_of board.new ≡ 0 }
+    ensures log { Drains board.old board.new }
+{
+    let drained = drain(board, &mut InlineCrew).is_ok();
+    // A crew that keeps nothing is never gone.
+    prove!(drained);
+}
+
+// The replies to all numbers of a board, in order.
+fn replies_of(alloc: Global, board: &Board<Op>) -> Result<Vec<Reply>, AllocError>
+    requires idle { open_of board.now ≡ 0 }
+    requires earlier { board.now.earlier ≡ [] }
+    ensures { IfOk result (λ replies. AreReplies board.now replies.items) }
+{
+    let mut replies = Vec::with_capacity(alloc, board.length() as usize)?;
+    prove!(board.idle());
+    for place in 0..board.length() {
+        replies.push(board.reply(place + 1).unwrap())?;
     }
     Ok(replies)
 }

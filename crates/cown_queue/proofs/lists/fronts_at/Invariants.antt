@@ -1,5 +1,4 @@
-use Rattle.std.proofs.Common.{◌≡◌, ◌≤◌, length, take, drop}
-use Rattle.sb_calls.specs.Cowns.{AreBelow}
+use Rattle.std.proofs.Common.{◌≡◌, ◌≤◌, length, take}
 use Rattle.cown_queue.specs.Queues.{fronts_of}
 use Rattle.cown_queue.specs.Rooms.{lists_of}
 use Rattle.cown_queue.proofs.lists.fronts_at.Given as goal

@@ -1,4 +1,4 @@
-use Rattle.std.proofs.Common.{◌≡◌, ◌<◌, arith}
+use Rattle.std.proofs.Common.{arith}
 use Rattle.cown_queue.proofs.Changes.{AreBelow-at, Releases-changed}
 use Rattle.cown_queue.proofs.lists.pop_each.Goals as goal
 

@@ -1,5 +1,5 @@
-use Rattle.std.proofs.Common.{◌≡◌, ℕ, ◌+◌, ◌<◌, List, [], ◌∷◌, ◌++◌, length, drop, ap, ◌∙◌, arith}
-use Rattle.cown_queue.specs.Rooms.{lists_of, rooms_of}
+use Rattle.std.proofs.Common.{ℕ, ◌+◌, ◌<◌, List, [], ◌∷◌, ◌++◌, length, drop, ap, ◌∙◌, arith}
+use Rattle.cown_queue.specs.Rooms.{rooms_of}
 use Rattle.cown_queue.proofs.Changes.{changed, changed_more, drop-cown, Appends-changed, IsRising-rest}
 use Rattle.cown_queue.proofs.Rooms.{HaveRoom-rest}
 use Rattle.cown_queue.proofs.lists.push_each.Goals as goal
@@ -13,7 +13,7 @@ loop-cown-preserved c =
     let room = rw left at c.loop-cown.invariant.room in
     record {
       lists = ap (changed add (drop (c.loop-cown.cown-index + 1) c.args.cowns.now)) c.push_at.ensures.lists
-        ∙ changed_more add c.args.cowns.now c.loop-cown.cown-index c.cown-item.result _ _ within c.cown-item.is c.loop-cown.invariant.lists;
+          ∙ changed_more add c.args.cowns.now c.loop-cown.cown-index c.cown-item.result _ _ within c.cown-item.is c.loop-cown.invariant.lists;
       rising = IsRising-rest c.cown-item.result _ rising;
       room = HaveRoom-rest (rooms_of c.loop-cown.lists.items) (rooms_of c.push_at.new.lists.items) c.cown-item.result _ rising c.push_at.ensures.others room;
     }

@@ -1,4 +1,4 @@
-use Rattle.std.proofs.Common.{◌≡◌, ◌<◌, get_or, length, arith}
+use Rattle.std.proofs.Common.{arith}
 use Rattle.std.proofs.lemmas.Result.{on_ok_weaker}
 use Rattle.cown_queue.proofs.Rooms.{length-lists_of, lists_of-same, room_at-set_same, LoseNoRoom-set}
 use Rattle.cown_queue.proofs.lists.reserve_at.Goals as goal

@@ -1,5 +1,4 @@
-use Rattle.std.proofs.Common.{◌≡◌, ◌+◌, ◌<◌, length, take, ap, ◌∙◌, arith}
-use Rattle.std.proofs.lemmas.List.{take_more}
+use Rattle.std.proofs.Common.{◌<◌, length, take, ap, ◌∙◌, arith}
 use Rattle.cown_queue.specs.Rooms.{rooms_of}
 use Rattle.cown_queue.proofs.Changes.{AreBelow-at, take-cown}
 use Rattle.cown_queue.proofs.Rooms.{HaveRoom-LoseNoRoom, HaveRoom-push}
@@ -18,7 +17,7 @@ loop-cown-preserved c =
       lists = c.reserve_at.ensures.lists ∙ before.lists;
       rooms = λ cown. omega (arith, before.rooms cown, c.reserve_at.ensures.rooms cown);
       made = rw (take-cown c.args.cowns.now c.loop-cown.cown-index c.cown-item.result within c.cown-item.is)
-        (HaveRoom-push (rooms_of c.reserve_at.new.lists.items) (take c.loop-cown.cown-index c.args.cowns.now) c.cown-item.result
-        (HaveRoom-LoseNoRoom (rooms_of c.loop-cown.lists.items) (rooms_of c.reserve_at.new.lists.items) _ c.reserve_at.ensures.rooms before.made)
-        c.in_ok-reserve_at.ensures.ok);
+          (HaveRoom-push (rooms_of c.reserve_at.new.lists.items) (take c.loop-cown.cown-index c.args.cowns.now) c.cown-item.result
+          (HaveRoom-LoseNoRoom (rooms_of c.loop-cown.lists.items) (rooms_of c.reserve_at.new.lists.items) _ c.reserve_at.ensures.rooms before.made)
+          c.in_ok-reserve_at.ensures.ok);
     }

@@ -18,5 +18,5 @@ pub returns-in_err-finish_next-clause-sure : goal.returns-in_err-finish_next-cla
 returns-in_err-finish_next-clause-sure g c = λ nothing none.
     let given = KeepsNothing_trans c.loop-runs.invariant.nothing c.give_ready.ensures.nothing in
     let all : open_of (g.R.Runs.board c.give_ready.new.runs) ≡ 0 =
-      nothing_left (g.R.Runs.board c.give_ready.new.runs) c.idle.ensures.beside (given.none_out nothing none) c.give_ready.ensures.none_ready in
+    nothing_left (g.R.Runs.board c.give_ready.new.runs) c.idle.ensures.beside (given.none_out nothing none) c.give_ready.ensures.none_ready in
     absurd (true≢false (sym (c.idle.ensures.value.1 all) ∙ c.if-idle.false))

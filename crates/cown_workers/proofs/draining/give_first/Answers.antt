@@ -1,7 +1,8 @@
 -- What was just handed out, and comes back, is finished at once.
-use Rattle.std.proofs.Common.{◌≡◌, true, false, sym, ◌∙◌, arith}
+use Rattle.std.proofs.Common.{sym, ◌∙◌, arith}
 use Rattle.sb_calls.specs.Behaviour.{declared_cowns, effect_of}
-use Rattle.cown_workers.proofs.Changing.{CarriesOut, accepts, carried, no_refusal, Takes-drains, Takes-counts}
+use Rattle.cown_workers.proofs.CarryingOut.{CarriesOut, accepts, carried, no_refusal}
+use Rattle.cown_workers.proofs.Changing.{Takes-drains, Takes-counts}
 use Rattle.cown_workers.proofs.draining.give_first.Goals as goal
 use Rattle.cown_workers.proofs.draining.give_first.Given.{Over}
 
@@ -11,8 +12,8 @@ carried_here g c = carried declared_cowns effect_of c.finish.result c.in-Some.en
 pub prove-unreachable-requires : goal.prove-unreachable-requires
 prove-unreachable-requires g c =
     no_refusal c.finish.result
-      (accepts declared_cowns effect_of c.finish.result c.in-Some.ensures c.in-Err.ensures.same c.run.ensures.job c.finish.ensures.accepted)
-      (sym c.is_ok-finished.ensures.value ∙ c.if-prove.true)
+    (accepts declared_cowns effect_of c.finish.result c.in-Some.ensures c.in-Err.ensures.same c.run.ensures.job c.finish.ensures.accepted)
+    (sym c.is_ok-finished.ensures.value ∙ c.if-prove.true)
 
 pub returns-in-Err-clause-given : goal.returns-in-Err-clause-given
 returns-in-Err-clause-given g c = λ _. (carried_here g c).waiting

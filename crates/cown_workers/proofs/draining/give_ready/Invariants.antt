@@ -1,15 +1,15 @@
 -- Each that is given waited.
-use Rattle.std.proofs.Common.{ℕ, ◌≤◌}
+use Rattle.std.proofs.Common.{◌≤◌}
 use Rattle.cown_board.specs.Board.{open_of}
 use Rattle.cown_workers.specs.Draining.{Drains, KeepsNothing, waiting_of}
 use Rattle.cown_workers.proofs.draining.give_ready.Given as goal
 
 abbrev pub invariant-loop : goal.invariant-loop
 invariant-loop g l = record {
-    drains : Drains (g.R.Runs.board l.fn.runs) (g.R.Runs.board l.runs);
-    unfinished : open_of (g.R.Runs.board l.runs) ≤ open_of (g.R.Runs.board l.fn.runs);
-    nothing : KeepsNothing (g.C.Crew.keeps l.fn.crew) (g.C.Crew.keeps l.crew) (g.R.Runs.board l.fn.runs) (g.R.Runs.board l.runs);
-  }
+  drains : Drains (g.R.Runs.board l.fn.runs) (g.R.Runs.board l.runs);
+  unfinished : open_of (g.R.Runs.board l.runs) ≤ open_of (g.R.Runs.board l.fn.runs);
+  nothing : KeepsNothing (g.C.Crew.keeps l.fn.crew) (g.C.Crew.keeps l.crew) (g.R.Runs.board l.fn.runs) (g.R.Runs.board l.runs);
+}
 
 abbrev pub decreases-loop : goal.decreases-loop
 decreases-loop g l = waiting_of (g.R.Runs.board l.runs)

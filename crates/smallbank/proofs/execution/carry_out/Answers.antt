@@ -1,23 +1,32 @@
-use Rattle.std.proofs.Common.{◌≡◌, ◌+◌, ◌++◌, Some, drop, sym, ap, ◌∙◌}
-use Rattle.sb_rows.specs.Rows.{rows_of}
-use Rattle.sb_calls.specs.Log.{replies_to}
-use Rattle.sb_sequencer.specs.Numbering.{call_at}
+use Rattle.std.proofs.Common.{◌≡◌, ◌≢◌, Option, List, ℕ, map, sym, ap, ◌∙◌, subst}
+use Rattle.std.specs.Prelude.{MatchOption}
+use Rattle.sb_rows.specs.Balances.{Balances}
+use Rattle.sb_rows.specs.Rows.{SameCustomers, rows_of}
+use Rattle.sb_calls.specs.Behaviour.{declared_cowns, effect_of}
+use Rattle.sb_calls.specs.Log.{rows_after}
+use Rattle.sb_calls.specs.Op.{resolved}
+use Rattle.sb_calls.specs.declared.op.Op.{Op}
+use Rattle.cown_board.specs.Board.{BoardOf, open_of, IsAfterAll}
 use Rattle.smallbank.specs.Output.{calls_of}
-use Rattle.smallbank.proofs.Carrying.{replies_step, rows_step}
+use Rattle.smallbank.proofs.Boards.{all_replies, all_rows}
 use Rattle.smallbank.proofs.execution.carry_out.Goals as goal
 
-pub loop-place-preserved : goal.loop-place-preserved
-loop-place-preserved c =
-    let log = c.args.log.now in
-    let place = c.loop-place.place in
-    let call = c.unwrap-call.result in
-    let rows = rows_of c.args.directory.now c.loop-place.columns in
-    let after = rows_of c.args.directory.now c.apply.new.columns in
-    let at : call_at log (place + 1) ≡ Some call = sym c.call.ensures ∙ c.unwrap-call.ensures in
-    let done = c.apply.ensures.procedure c.args.directory.now call c.loop-place.invariant.customers c.resolve.ensures.value in
-    record {
-      told = ap (λ told. told ++ replies_to after (calls_of (drop (place + 1) log))) c.in_ok-push.ensures.items
-          ∙ (replies_step c.loop-place.replies.items log place call rows after c.apply.result at done.rows done.reply ∙ c.loop-place.invariant.told);
-      rest = rows_step log place call rows after at done.rows ∙ c.loop-place.invariant.rest;
-      customers = done.customers;
-    }
+pub returns-clause-replies : goal.returns-clause-replies
+returns-clause-replies c =
+    let opening : c.run_all.new.board.opening ≡ c.args.columns.now = c.run_all.ensures.log.opening ∙ c.in_ok-submit_all.ensures.opening ∙ ap (λ (b : BoardOf Op). b.opening) c.in_ok-board.ensures ∙ c.in_ok-copy.ensures in
+    all_replies c.args.directory.now c.args.columns.now (calls_of c.args.log.now) c.run_all.new.board c.in_ok-replies.replies.items c.requires opening
+    (c.run_all.ensures.log.log ∙ c.in_ok-submit_all.ensures.log) c.in_ok-replies.ensures
+
+pub returns-clause-rows : goal.returns-clause-rows
+returns-clause-rows c =
+    let opening : c.run_all.new.board.opening ≡ c.args.columns.now = c.run_all.ensures.log.opening ∙ c.in_ok-submit_all.ensures.opening ∙ ap (λ (b : BoardOf Op). b.opening) c.in_ok-board.ensures ∙ c.in_ok-copy.ensures in
+    let after = subst (λ (o : Option Balances). MatchOption o (open_of c.run_all.new.board ≢ 0) (λ all. (open_of c.run_all.new.board ≡ 0) × IsAfterAll declared_cowns effect_of c.run_all.new.board all)) c.unwrap-after.ensures c.in_ok-columns.ensures.value in
+    (all_rows c.args.directory.now c.args.columns.now c.unwrap-after.result (calls_of c.args.log.now) c.run_all.new.board c.requires c.customers.ensures.valid opening
+    (c.run_all.ensures.log.log ∙ c.in_ok-submit_all.ensures.log) after.1).1
+
+pub returns-clause-customers : goal.returns-clause-customers
+returns-clause-customers c =
+    let opening : c.run_all.new.board.opening ≡ c.args.columns.now = c.run_all.ensures.log.opening ∙ c.in_ok-submit_all.ensures.opening ∙ ap (λ (b : BoardOf Op). b.opening) c.in_ok-board.ensures ∙ c.in_ok-copy.ensures in
+    let after = subst (λ (o : Option Balances). MatchOption o (open_of c.run_all.new.board ≢ 0) (λ all. (open_of c.run_all.new.board ≡ 0) × IsAfterAll declared_cowns effect_of c.run_all.new.board all)) c.unwrap-after.ensures c.in_ok-columns.ensures.value in
+    (all_rows c.args.directory.now c.args.columns.now c.unwrap-after.result (calls_of c.args.log.now) c.run_all.new.board c.requires c.customers.ensures.valid opening
+    (c.run_all.ensures.log.log ∙ c.in_ok-submit_all.ensures.log) after.1).0

@@ -1,0 +1,156 @@
+//! A board that is known to have six cowns, so that each submit in the tests is one that it allows, and what
+//! it is to answer.
+ghost use Rattle.std.specs.Prelude.{◌≡◌, ◌≤◌, length};
+ghost use Rattle.sb_calls.specs.Cowns.{AreBelow};
+
+use super::*;
+use sb_calls::{Behaviour, LOG_CALLS};
+use sb_rows::{Columns, read_opening};
+use std::marker::Model;
+
+// A board over the columns of three customers.
+#[derive(Drop)]
+pub(super) struct Bank<B: Behaviour> {
+    board: Board<B>,
+}
+
+impl<B: Behaviour> Model for Bank<B> {
+    ghost use Rattle.std.specs.Prelude.{◌≡◌, length};
+    ghost use Rattle.sb_calls.specs.Cowns.{held_of};
+    ghost use Rattle.cown_board.specs.Board.{BoardOf};
+
+    ghost Value = { BoardOf B };
+
+    ghost view = { λ b. b.board };
+
+    ghost invariant = { λ b. length (held_of b.board.opening) ≡ 6 };
+}
+
+impl<B: Behaviour> Bank<B> {
+    // Over the columns of an opening text, with the replies to the numbers before it.
+    pub(super) fn open(alloc: Global, opening: &str, replies: Vec<Reply>) -> Result<Bank<B>, Fail> {
+        let columns = read_opening(alloc, opening.as_bytes())?.columns;
+        if columns.customers() != 3 {
+            return Err(Fail::new("not three"));
+        }
+        if replies.len() > LOG_CALLS {
+            return Err(Fail::new("too many replies"));
+        }
+        Ok(Bank::over(alloc, columns, replies)?)
+    }
+
+    fn over(alloc: Global, columns: Columns, replies: Vec<Reply>) -> Result<Bank<B>, AllocError>
+        requires three { length columns.savings ≡ 3 }
+        requires few { length replies.items ≤ LOG_CALLS }
+    {
+        prove!(columns.customers() == 3);
+        let base = replies.len() as u64;
+        Ok(Bank {
+            board: Board::open(alloc, columns, base, replies)?,
+        })
+    }
+
+    pub(super) fn submit(&mut self, behaviour: B) -> Result<u64, SubmitFault>
+        requires { AreBelow 6 (B.touches behaviour) }
+    {
+        self.board.submit(behaviour)
+    }
+
+    // The next behaviour has this number.
+    pub(super) fn submits(&mut self, rt: &impl Abort, number: u64, behaviour: B)
+        requires { AreBelow 6 (B.touches behaviour) }
+    {
+        assert_eq!(rt; self.submit(behaviour), Ok(number));
+    }
+
+    fn take_at(&mut self, index: usize) -> Option<Job<B>> {
+        self.board.take_at(index)
+    }
+
+    // The one that this many ready ones stand before has this number.
+    pub(super) fn takes(
+        &mut self,
+        rt: &impl Abort,
+        index: usize,
+        number: u64,
+    ) -> Result<Job<B>, Fail> {
+        match self.take_at(index) {
+            Some(job) => {
+                assert_eq!(rt; job.number(), number);
+                Ok(job)
+            }
+            None => Err(Fail::new("none is ready")),
+        }
+    }
+
+    pub(super) fn takes_none(&mut self, rt: &impl Abort, index: usize) {
+        assert!(rt; self.take_at(index).is_none(), "{index}");
+    }
+
+    fn finish(&mut self, done: Done<B>) -> Result<Reply, Done<B>> {
+        self.board.finish(done)
+    }
+
+    // What was done is taken back, and has no reply before that.
+    pub(super) fn finishes(&mut self, rt: &impl Abort, done: Done<B>, reply: Reply) {
+        let number = done.number();
+        assert_eq!(rt; self.reply(number), None, "{number}");
+        assert_eq!(rt; self.finish(done).ok(), Some(reply), "{number}");
+        assert_eq!(rt; self.reply(number), Some(reply), "{number}");
+    }
+
+    // What was done is given back, and nothing that the board tells is changed.
+    pub(super) fn gives_back(&mut self, rt: &impl Abort, done: Done<B>, number: u64) {
+        let before = self.told();
+        let back = match self.finish(done) {
+            Ok(_) => None,
+            Err(back) => Some(back.number()),
+        };
+        assert_eq!(rt; back, Some(number));
+        assert_eq!(rt; self.told(), before);
+    }
+
+    fn told(&self) -> (u64, bool, Option<Reply>, Option<Reply>) {
+        (self.length(), self.idle(), self.reply(1), self.reply(2))
+    }
+
+    pub(super) fn length(&self) -> u64 {
+        self.board.length()
+    }
+
+    pub(super) fn idle(&self) -> bool {
+        self.board.idle()
+    }
+
+    pub(super) fn reply(&self, number: u64) -> Option<Reply> {
+        self.board.reply(number)
+    }
+
+    // Nothing is unfinished, and everyone has this.
+    pub(super) fn ends_with(
+        &self,
+        rt: &impl Abort,
+        savings: [i64; 3],
+        checking: [i64; 3],
+    ) -> Result<(), Fail> {
+        assert!(rt; self.idle());
+        let Some(columns) = self.board.columns()? else {
+            return Err(Fail::new("no columns"));
+        };
+        assert_eq!(rt; columns.savings(), savings.as_slice());
+        assert_eq!(rt; columns.checking(), checking.as_slice());
+        Ok(())
+    }
+
+    // Something is unfinished, and so there are no columns.
+    pub(super) fn has_no_columns(&self, rt: &impl Abort) -> Result<(), AllocError> {
+        assert!(rt; !self.idle());
+        assert!(rt; self.board.columns()?.is_none());
+        Ok(())
+    }
+
+    pub(super) fn into_board(self) -> Board<B> {
+        let Bank { board } = self;
+        board
+    }
+}

@@ -1,0 +1,49 @@
+use super::*;
+
+#[test]
+fn two_hands_run_what_is_ready(rt: HostRuntime) -> Result<(), Fail> {
+    let mut bank = open(rt.alloc())?;
+    assert!(rt; bank.idle());
+    submit_four(&rt, &mut bank)?;
+    assert_eq!(rt; bank.length(), 4);
+    let second = bank.takes(&rt, 1, 2)?;
+    let first = bank.takes(&rt, 0, 1)?;
+    bank.finishes(&rt, second.run(), Reply::Done);
+    bank.takes_none(&rt, 0);
+    bank.finishes(&rt, first.run(), Reply::Done);
+    let third = bank.takes(&rt, 0, 3)?;
+    bank.takes_none(&rt, 0);
+    bank.finishes(&rt, third.run(), Reply::Done);
+    let fourth = bank.takes(&rt, 0, 4)?;
+    assert!(rt; !bank.idle());
+    bank.finishes(&rt, fourth.run(), Reply::Shown(0));
+    assert_eq!(rt; bank.length(), 4);
+    bank.ends_with(&rt, [0, 0, 1_000], [0, 17_200, 0])
+}
+
+#[test]
+fn ops_without_cowns_are_ready_at_once(rt: HostRuntime) -> Result<(), Fail> {
+    let mut bank = open(rt.alloc())?;
+    bank.submits(&rt, 1, Op::Balance(CAROL));
+    bank.submits(&rt, 2, Op::Balance(CAROL));
+    bank.submits(&rt, 3, Op::NoCustomer);
+    bank.submits(&rt, 4, Op::SameCustomer);
+    let same = bank.takes(&rt, 2, 4)?;
+    let none = bank.takes(&rt, 1, 3)?;
+    bank.takes_none(&rt, 1);
+    bank.finishes(&rt, none.run(), Reply::NoCustomer);
+    bank.finishes(&rt, same.run(), Reply::SameCustomer);
+    Ok(())
+}
+
+#[test]
+fn there_are_no_columns_while_something_is_unfinished(rt: HostRuntime) -> Result<(), Fail> {
+    let mut bank = open(rt.alloc())?;
+    bank.ends_with(&rt, [10_000, 0, 1_000], [5_000, 2_000, 0])?;
+    bank.submits(&rt, 1, Op::Balance(ALICE));
+    bank.has_no_columns(&rt)?;
+    let job = bank.takes(&rt, 0, 1)?;
+    bank.has_no_columns(&rt)?;
+    bank.finishes(&rt, job.run(), Reply::Shown(15_000));
+    bank.ends_with(&rt, [10_000, 0, 1_000], [5_000, 2_000, 0])
+}

@@ -1,0 +1,25 @@
+use Rattle.std.proofs.Common.{◌≡◌, ℕ, ◌<◌, Some, slice_get, List, [], ◌∷◌, ◌++◌, length, take, sym, ap, ◌∙◌, arith}
+use Rattle.cown_queue.specs.Queues.{list_of, IsInFront}
+use Rattle.cown_queue.proofs.Changes.{AreBelow-at, take-cown}
+use Rattle.cown_queue.proofs.tests.is_in_front.Goals as goal
+
+-- a list begins with the number that it has in front
+front-is : (list : List ℕ) (number : ℕ) → slice_get list 0 ≡ Some number → (rest : List ℕ) × (list ≡ number ∷ rest)
+front-is [] number e = cc
+front-is (first ∷ rest) number e = let same : first ≡ number = cc in (rest, ap (λ n. n ∷ rest) same)
+
+-- one cown more at which the number is in front
+IsInFront-push : (number : ℕ) (cowns : List ℕ) (cown : ℕ) (lists : List (List ℕ)) → IsInFront number cowns lists
+    → slice_get (list_of lists cown) 0 ≡ Some number → IsInFront number (cowns ++ cown ∷ []) lists
+IsInFront-push number [] cown lists front e = (front-is (list_of lists cown) number e, tt)
+IsInFront-push number (first ∷ cowns) cown lists front e = (front.0, IsInFront-push number cowns cown lists front.1 e)
+
+pub front-requires : goal.front-requires
+front-requires c = AreBelow-at _ c.args.cowns.now c.loop-cown.cown-index c.cown-item.result c.requires (omega arith) c.cown-item.is
+
+pub loop-cown-preserved : goal.loop-cown-preserved
+loop-cown-preserved c =
+    let within : c.loop-cown.cown-index < length c.args.cowns.now = omega arith in
+    rw (take-cown c.args.cowns.now c.loop-cown.cown-index c.cown-item.result within c.cown-item.is)
+    (IsInFront-push c.args.number (take c.loop-cown.cown-index c.args.cowns.now) c.cown-item.result c.args.queues.now.lists c.loop-cown.invariant
+    (sym c.in-Some.ensures ∙ ap Some c.if-front-number.true))

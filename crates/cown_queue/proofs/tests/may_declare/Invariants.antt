@@ -1,0 +1,10 @@
+use Rattle.std.proofs.Common.{take}
+use Rattle.sb_calls.specs.Cowns.{AreBelow, IsRising}
+use Rattle.cown_queue.proofs.tests.may_declare.Given as goal
+
+abbrev pub invariant-loop-cown : goal.invariant-loop-cown
+invariant-loop-cown l = record {
+  below : AreBelow l.bound (take l.cown-index l.cowns);
+  rising : IsRising (take l.cown-index l.cowns);
+  earlier : AreBelow l.least (take l.cown-index l.cowns);
+}

@@ -1,0 +1,49 @@
+-- A board after an op was handed out, carried out and finished at once.
+use Rattle.std.proofs.Common.{◌≡◌, ℕ, ◌<◌, ℤ, true, false, Result, Ok, Err, List, sym, ap, ◌∙◌, arith}
+use Rattle.std.specs.Prelude.{◌↔◌, IsOk, is_ok, MatchResult}
+use Rattle.std.proofs.lemmas.Bool.{true≢false}
+use Rattle.sb_calls.specs.declared.op.Op.{Op}
+use Rattle.sb_calls.specs.declared.reply.Reply.{Reply}
+use Rattle.cown_board.specs.Board.{BoardOf, open_of, IsOutHere, Takes, Finishes}
+use Rattle.cown_board.specs.Job.{JobOf, DoneOf}
+use Rattle.cown_workers.proofs.Changing.{Drains_trans, IsOf, Takes-drains, Finishes-drains, Takes-counts, Finishes-counts, Takes-here, NoneOut-again}
+use Rattle.cown_workers.specs.Draining.{Drains, NoneOut, waiting_of}
+
+-- what is accepted is not refused
+pub no_refusal : {A E : Type 0} (answer : Result A E) → IsOk answer → is_ok answer ≡ false → ⊥
+no_refusal answer ok refused = true≢false (sym ok ∙ refused)
+
+-- an op was handed out, carried out, and finished
+pub record CarriesOut (old new : BoardOf Op) : Type 0 where
+  pub waiting : waiting_of new < waiting_of old
+  pub unfinished : open_of new < open_of old
+  pub drains : Drains old new
+  pub none_out : NoneOut old → NoneOut new
+
+module _ (touches : Op → List ℕ) (effect : Op → List ℤ → Reply × List ℤ) where
+  -- what the board answers to what it just handed out
+  pub accepts : {old mid : BoardOf Op} {index : ℕ} {job back : JobOf Op} {done : DoneOf Op} (answer : Result Reply (DoneOf Op))
+      → Takes touches effect old index job mid → back ≡ job → IsOf done back → (IsOk answer ↔ IsOutHere touches effect mid done) → IsOk answer
+  accepts {old} {mid} {index} {job} {back} {done} answer takes same of accepted =
+      accepted.1 (Takes-here touches effect done takes (of.0 ∙ ap (λ j. j.number) same, of.1 ∙ ap (λ j. j.behaviour) same, of.2 ∙ ap (λ j. j.inputs) same))
+
+  finishes_of : {mid new : BoardOf Op} {done : DoneOf Op} (answer : Result Reply (DoneOf Op)) → IsOk answer
+      → MatchResult answer (λ reply. Finishes touches effect mid done reply new) (λ back. (back ≡ done) × (new ≡ mid))
+      → (reply : Reply) × Finishes touches effect mid done reply new
+  finishes_of (Ok reply) ok outcome = (reply, outcome)
+  finishes_of (Err back) ok outcome = absurd (true≢false (sym ok))
+
+  pub carried : {old mid new : BoardOf Op} {index : ℕ} {job back : JobOf Op} {done : DoneOf Op} (answer : Result Reply (DoneOf Op))
+      → Takes touches effect old index job mid → back ≡ job → IsOf done back → (IsOk answer ↔ IsOutHere touches effect mid done)
+      → MatchResult answer (λ reply. Finishes touches effect mid done reply new) (λ back. (back ≡ done) × (new ≡ mid))
+      → CarriesOut old new
+  carried {old} {mid} {new} answer takes same of accepted outcome =
+      let (reply, finishes) = finishes_of answer (accepts answer takes same of accepted) outcome in
+      let first = Takes-counts touches effect takes in
+      let second = Finishes-counts touches effect finishes in
+      record {
+        waiting = omega (arith, first, second);
+        unfinished = omega (arith, first, second);
+        drains = Drains_trans (Takes-drains touches effect takes) (Finishes-drains touches effect finishes);
+        none_out = NoneOut-again touches effect takes finishes;
+      }

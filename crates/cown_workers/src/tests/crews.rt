@@ -1,0 +1,110 @@
+//! Crews that keep jobs.
+ghost use Rattle.std.specs.Prelude.{◌≡◌, true};
+
+use super::*;
+use cown_board::{Done, Job};
+
+// Keeps a job until it is asked for one more.
+#[derive(Drop)]
+pub(super) struct Desk {
+    job: Option<Job<Op>>,
+}
+
+impl Desk {
+    pub(super) fn new() -> Desk {
+        Desk { job: None }
+    }
+}
+
+impl Crew for Desk {
+    ghost keeps = { λ desk. true };
+
+    fn keeps(&self) -> bool {
+        true
+    }
+
+    fn give(&mut self, job: Job<Op>) -> Result<(), Job<Op>> {
+        if self.job.is_some() {
+            return Err(job);
+        }
+        self.job = Some(job);
+        Ok(())
+    }
+
+    fn next(&mut self) -> Option<Done<Op>> {
+        self.job.take().map(Job::run)
+    }
+}
+
+// Keeps the first job that it gets after it let this many go, and never hands it over.
+#[derive(Drop)]
+pub(super) struct Keeper {
+    lets_go: u32,
+    kept: Option<Job<Op>>,
+}
+
+impl Keeper {
+    pub(super) fn after(lets_go: u32) -> Keeper {
+        Keeper {
+            lets_go,
+            kept: None,
+        }
+    }
+}
+
+impl Crew for Keeper {
+    ghost keeps = { λ keeper. true };
+
+    fn keeps(&self) -> bool {
+        true
+    }
+
+    fn give(&mut self, job: Job<Op>) -> Result<(), Job<Op>> {
+        if self.lets_go > 0 {
+            self.lets_go -= 1;
+            return Err(job);
+        }
+        if self.kept.is_some() {
+            return Err(job);
+        }
+        self.kept = Some(job);
+        Ok(())
+    }
+
+    fn next(&mut self) -> Option<Done<Op>> {
+        None
+    }
+}
+
+// Hands over what was carried out elsewhere in place of the job that it got.
+#[derive(Drop)]
+pub(super) struct Stranger {
+    elsewhere: Option<Done<Op>>,
+    job: Option<Job<Op>>,
+}
+
+impl Stranger {
+    pub(super) fn with(done: Done<Op>) -> Stranger {
+        Stranger {
+            elsewhere: Some(done),
+            job: None,
+        }
+    }
+}
+
+impl Crew for Stranger {
+    ghost keeps = { λ stranger. true };
+
+    fn keeps(&self) -> bool {
+        true
+    }
+
+    fn give(&mut self, job: Job<Op>) -> Result<(), Job<Op>> {
+        self.job = Some(job);
+        Ok(())
+    }
+
+    fn next(&mut self) -> Option<Done<Op>> {
+        self.elsewhere.take()
+    }
+}

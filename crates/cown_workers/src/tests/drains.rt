@@ -1,0 +1,127 @@
+use super::crews::{Desk, Keeper, Stranger};
+use super::*;
+
+// Three that share bob's checking, and one that shares nothing.
+const CALLS: [&str; 4] = [
+    "deposit bob 5.00",
+    "amalgamate alice bob",
+    "balance bob",
+    "balance carol",
+];
+
+// Alice's 150.00 come to bob's 20.00 and 5.00.
+const REPLIES: [Option<Reply>; 4] = [
+    Some(Reply::Done),
+    Some(Reply::Done),
+    Some(Reply::Shown(17_500)),
+    Some(Reply::Shown(1_000)),
+];
+
+#[test]
+fn carries_all_out_in_place(rt: HostRuntime) -> Result<(), Fail> {
+    let mut board = board_of(rt.alloc(), &CALLS)?;
+    let mut crew = InlineCrew;
+    assert_eq!(rt; drain(&mut board, &mut crew), Ok(()));
+    assert!(rt; board.idle());
+    assert!(rt; replies(&board, &REPLIES));
+    assert!(rt; holds(&board, [0, 0, 1_000], [0, 17_500, 0])?);
+    // Nothing is left to do.
+    assert_eq!(rt; drain(&mut board, &mut crew), Ok(()));
+    assert!(rt; replies(&board, &REPLIES));
+    Ok(())
+}
+
+#[test]
+fn an_inline_crew_keeps_nothing(rt: HostRuntime) -> Result<(), Fail> {
+    let mut board = board_of(rt.alloc(), &CALLS)?;
+    let mut crew = InlineCrew;
+    assert!(rt; !crew.keeps());
+    let job = board.take_at(0).ok_or("none is ready")?;
+    let back = crew.give(job).err().ok_or("it kept a job")?;
+    assert_eq!(rt; back.number(), 1);
+    assert!(rt; crew.next().is_none());
+    Ok(())
+}
+
+#[test]
+fn finishes_what_a_crew_hands_over(rt: HostRuntime) -> Result<(), Fail> {
+    let mut board = board_of(rt.alloc(), &CALLS)?;
+    assert_eq!(rt; drain(&mut board, &mut Desk::new()), Ok(()));
+    assert!(rt; replies(&board, &REPLIES));
+    assert!(rt; holds(&board, [0, 0, 1_000], [0, 17_500, 0])?);
+    Ok(())
+}
+
+#[test]
+fn answers_refusals_as_replies(rt: HostRuntime) -> Result<(), Fail> {
+    let lines = [
+        "check bob 20.01",
+        "savings carol -10.01",
+        "balance zed",
+        "amalgamate bob bob",
+        "deposit alice -0.01",
+    ];
+    let wanted = [
+        Some(Reply::Penalised),
+        Some(Reply::WouldOverdraw),
+        Some(Reply::NoCustomer),
+        Some(Reply::SameCustomer),
+        Some(Reply::Negative),
+    ];
+    let mut board = board_of(rt.alloc(), &lines)?;
+    assert_eq!(rt; drain(&mut board, &mut InlineCrew), Ok(()));
+    assert!(rt; replies(&board, &wanted));
+    assert!(rt; holds(&board, [10_000, 0, 1_000], [5_000, -101, 0])?);
+    Ok(())
+}
+
+#[test]
+fn an_empty_board_is_drained(rt: HostRuntime) -> Result<(), Fail> {
+    let mut board = board_of(rt.alloc(), &[])?;
+    assert_eq!(rt; drain(&mut board, &mut InlineCrew), Ok(()));
+    assert_eq!(rt; drain(&mut board, &mut Keeper::after(0)), Ok(()));
+    assert!(rt; replies(&board, &[]));
+    assert!(rt; holds(&board, [10_000, 0, 1_000], [5_000, 2_000, 0])?);
+    Ok(())
+}
+
+#[test]
+fn a_crew_that_keeps_a_job_leaves_what_was_finished(rt: HostRuntime) -> Result<(), Fail> {
+    let mut board = board_of(rt.alloc(), &CALLS)?;
+    // It lets the deposit go and keeps the amalgamation, so the balance of bob isn't shown.
+    let gone = drain(&mut board, &mut Keeper::after(1));
+    assert_eq!(rt; gone, Err(CrewGone));
+    let wanted = [Some(Reply::Done), None, None, Some(Reply::Shown(1_000))];
+    assert!(rt; replies(&board, &wanted));
+    assert!(rt; !board.idle());
+    assert!(rt; board.columns()?.is_none());
+    // What is out stays out: no crew can help.
+    assert_eq!(rt; drain(&mut board, &mut InlineCrew), Err(CrewGone));
+    assert!(rt; replies(&board, &wanted));
+    Ok(())
+}
+
+#[test]
+fn what_comes_from_another_board_is_refused(rt: HostRuntime) -> Result<(), Fail> {
+    let mut other = board_of(rt.alloc(), &["balance carol"])?;
+    let job = other.take_at(0).ok_or("none is ready")?;
+    let mut board = board_of(rt.alloc(), &["balance alice"])?;
+    let gone = drain(&mut board, &mut Stranger::with(job.run()));
+    assert_eq!(rt; gone, Err(CrewGone));
+    assert!(rt; replies(&board, &[None]));
+    assert!(rt; !board.idle());
+    Ok(())
+}
+
+#[test]
+fn drains_as_many_as_a_board_takes(rt: HostRuntime) -> Result<(), Fail> {
+    // Each waits for the one before it, and brings bob a cent.
+    let lines = ["deposit bob 0.01"; OPEN_BEHAVIOURS];
+    let mut in_place = board_of(rt.alloc(), &lines)?;
+    assert_eq!(rt; drain(&mut in_place, &mut InlineCrew), Ok(()));
+    assert!(rt; holds(&in_place, [10_000, 0, 1_000], [5_000, 3_024, 0])?);
+    let mut by_desk = board_of(rt.alloc(), &lines)?;
+    assert_eq!(rt; drain(&mut by_desk, &mut Desk::new()), Ok(()));
+    assert!(rt; holds(&by_desk, [10_000, 0, 1_000], [5_000, 3_024, 0])?);
+    Ok(())
+}

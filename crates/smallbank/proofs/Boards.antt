@@ -1,0 +1,240 @@
+-- A log of calls over a board.
+use Rattle.std.proofs.Common.{◌≡◌, ◌≢◌, ◌⊎◌, inl, inr, ℕ, zero, suc, ◌+◌, ◌*◌, ◌<◌, ◌≤◌, ℤ, pos, Bool, true, false, Option, Some, None, List, [], ◌∷◌, ◌++◌, length, length-append, ◌-◌, map, get_or, take, drop, refl, sym, ap, subst, ◌∙◌, arith}
+use Rattle.std.specs.Prelude.{slice_get, slice_set, count_by, option_and_then, ◌==◌, nat_lt, nat_le, if◌then◌else◌, IsSome, IfSome}
+use Rattle.std.proofs.lemmas.Bool.{cases_lt, cases_Bool, true≢false, lt-leb, ne_eqb}
+use Rattle.std.proofs.lemmas.List.{length-map, take_all}
+use Rattle.sb_rows.specs.Balances.{Balances, IsBalances}
+use Rattle.sb_rows.specs.Rows.{Rows, SameCustomers, rows_of}
+use Rattle.sb_calls.proofs.Holding.{length-held_of}
+use Rattle.sb_calls.specs.Behaviour.{declared_cowns, cowns_of_two, effect_of}
+use Rattle.sb_calls.proofs.Log.{slice_get-replies_to}
+use Rattle.sb_calls.proofs.OneByOneRuns.{log_by_cowns}
+use Rattle.sb_calls.specs.Cowns.{AreBelow, by_cown, held_of}
+use Rattle.sb_calls.specs.Log.{reply_to, replies_to, rows_after}
+use Rattle.sb_calls.specs.OneByOne.{reply_by_log, held_after}
+use Rattle.sb_calls.specs.Op.{IsOpWithin, resolved}
+use Rattle.sb_calls.specs.Procedures.{procedure}
+use Rattle.sb_calls.specs.declared.ask.Key.{Key}
+use Rattle.sb_calls.specs.declared.call.Call.{Call}
+use Rattle.sb_calls.specs.declared.op.Op.{Op}
+use Rattle.sb_calls.specs.declared.op.Op.TheVariants.{Balance, DepositChecking, TransactSavings, Amalgamate, WriteCheck, NoCustomer, SameCustomer}
+use Rattle.sb_calls.specs.declared.reply.Reply.{Reply}
+use Rattle.cown_board.proofs.Counts.{all_finished}
+use Rattle.cown_board.proofs.PlacesLaws.{slice_get-left, slice_get-right}
+use Rattle.cown_board.specs.Board.{BoardOf, open_of, reply_in, IsAfterAll}
+use Rattle.cown_board.specs.State.{is_open, state_is, finished_reply}
+use Rattle.cown_board.specs.declared.state.State.{State}
+use Rattle.cown_board.specs.declared.state.State.TheVariants.{Waiting, Out, Finished}
+use Rattle.cown_workers.specs.Draining.{NoneOut, Drains}
+use Rattle.sb_sequencer.specs.Numbering.{call_at}
+use Rattle.smallbank.specs.Execution.{IsPut, AreReplies}
+use Rattle.smallbank.specs.Output.{calls_of}
+
+none_is_some : {A : Type 0} {x : A} → ◌≡◌ {A = Option A} None (Some x) → ⊥
+none_is_some h = cc
+
+some_is : {A : Type 0} {x y : A} → ◌≡◌ {A = Option A} (Some x) (Some y) → x ≡ y
+some_is h = cc
+
+no_call : {call : Call} → ◌≡◌ {A = Option Call} None (Some call) → ⊥
+no_call h = cc
+
+some_call : {a b : Call} → ◌≡◌ {A = Option Call} (Some a) (Some b) → a ≡ b
+some_call h = cc
+
+map_more : (f : Call → Op) (log : List (Key × Call)) (entry : Key × Call) → map f (calls_of (log ++ entry ∷ [])) ≡ map f (calls_of log) ++ f entry.1 ∷ []
+map_more f [] entry = refl
+map_more f (e ∷ log) entry = ap (λ ops. f e.1 ∷ ops) (map_more f log entry)
+
+no_out : ◌≡◌ {A = Option State} None (Some Out) → ⊥
+no_out h = cc
+
+waits : Option State → Bool
+waits None = false
+waits (Some Waiting) = true
+waits (Some Out) = false
+waits (Some (Finished reply)) = false
+
+waits_not_out : ◌≡◌ {A = Option State} (Some Waiting) (Some Out) → true ≡ false
+unfolding waits
+waits_not_out h = ap waits h
+
+two_by_test : (from to n : ℕ) (same before : Bool) → from < n → to < n
+    → AreBelow (2 * n) (if same then [] else (if before then 2 * from ∷ (2 * from + 1) ∷ (2 * to + 1) ∷ [] else (2 * to + 1) ∷ 2 * from ∷ (2 * from + 1) ∷ []))
+two_by_test from to n true before lt_from lt_to = tt
+two_by_test from to n false true lt_from lt_to = (omega (arith, lt_from), (omega (arith, lt_from), (omega (arith, lt_to), tt)))
+two_by_test from to n false false lt_from lt_to = (omega (arith, lt_to), (omega (arith, lt_from), (omega (arith, lt_from), tt)))
+
+two_below : (from to n : ℕ) → from < n → to < n → AreBelow (2 * n) (cowns_of_two from to)
+two_below from to n lt_from lt_to = two_by_test from to n (from == to) (nat_lt from to) lt_from lt_to
+
+-- an op at places of customers declares cowns of theirs
+op_below : (n : ℕ) (op : Op) → IsOpWithin n op → AreBelow (2 * n) (declared_cowns op)
+op_below n (Balance place) lt = (omega (arith, lt), (omega (arith, lt), tt))
+op_below n (DepositChecking place amount) lt = (omega (arith, lt), tt)
+op_below n (TransactSavings place amount) lt = (omega (arith, lt), tt)
+op_below n (Amalgamate places) lt = two_below places.0 places.1 n lt.0 lt.1
+op_below n (WriteCheck place amount) lt = (omega (arith, lt), (omega (arith, lt), tt))
+op_below n NoCustomer lt = tt
+op_below n SameCustomer lt = tt
+
+pub declared_below : (directory : List (List ℕ)) (b : Balances) (op : Op) → SameCustomers directory b → IsOpWithin (length directory) op → AreBelow (length (held_of b)) (declared_cowns op)
+declared_below directory b op same within =
+    let two : 2 * length directory ≡ length (held_of b) = (let n = length-held_of b same.balances.same in omega (arith, n, same.places)) in
+    subst (λ n. AreBelow n (declared_cowns op)) two (op_below (length directory) op within)
+
+-- where nothing is unfinished nothing is out
+pub idle_none_out : (board : BoardOf Op) → open_of board ≡ 0 → NoneOut board
+idle_none_out board idle k out = true≢false (sym (ap (state_is is_open) out) ∙ all_finished board.states k idle)
+
+-- one more that waits is not out
+pub none_out_more : (states : List State) → ((k : ℕ) → slice_get states k ≢ Some Out) → (k : ℕ) → slice_get (states ++ Waiting ∷ []) k ≢ Some Out
+none_out_more [] none zero h = true≢false (waits_not_out h)
+none_out_more [] none (suc k) h = absurd (no_out h)
+none_out_more (s ∷ states) none zero h = none 0 h
+none_out_more (s ∷ states) none (suc k) h = none_out_more states (λ j. none (suc j)) k h
+
+pub put_after : (op : Op) (old new : BoardOf Op) → NoneOut old → new ≡ record old { log = old.log ++ op ∷ []; states = old.states ++ Waiting ∷ [] } → IsPut op old new
+put_after op old new none is = record {
+  opening = ap (λ (b : BoardOf Op). b.opening) is;
+  earlier = ap (λ (b : BoardOf Op). b.earlier) is;
+  log = ap (λ (b : BoardOf Op). b.log) is;
+  none_out = subst NoneOut (sym is) (none_out_more old.states none);
+}
+
+pub put_after_run : (op : Op) (old same mid new : BoardOf Op) → same ≡ old → Drains same mid → NoneOut mid
+    → new ≡ record mid { log = mid.log ++ op ∷ []; states = mid.states ++ Waiting ∷ [] } → IsPut op old new
+put_after_run op old same mid new is drained none put =
+    let made = put_after op mid new none put in
+    record {
+      opening = made.opening ∙ drained.opening ∙ ap (λ (b : BoardOf Op). b.opening) is;
+      earlier = made.earlier ∙ drained.earlier ∙ ap (λ (b : BoardOf Op). b.earlier) is;
+      log = made.log ∙ ap (λ l. l ++ op ∷ []) (drained.log ∙ ap (λ (b : BoardOf Op). b.log) is);
+      none_out = made.none_out;
+    }
+
+-- ---- the log so far
+
+call_here : (log : List (Key × Call)) (k : ℕ) (call : Call) → call_at log (suc k) ≡ Some call → (entry : Key × Call) × (slice_get log k ≡ Some entry) × (entry.1 ≡ call)
+call_here [] k call h = absurd (no_call h)
+call_here (entry ∷ log) zero call h = (entry, refl, some_call h)
+call_here (entry ∷ log) (suc k) call h = call_here log k call h
+
+take_one_more : {A : Type 0} (xs : List A) (k : ℕ) (x : A) → slice_get xs k ≡ Some x → take (suc k) xs ≡ take k xs ++ x ∷ []
+take_one_more [] k x h = absurd (none_is_some h)
+take_one_more (y ∷ xs) zero x h = ap (λ z. z ∷ []) (some_is h)
+take_one_more (y ∷ xs) (suc k) x h = ap (λ t. y ∷ t) (take_one_more xs k x h)
+
+pub one_more_call : (f : Call → Op) (log : List (Key × Call)) (k : ℕ) (call : Call) → call_at log (k + 1) ≡ Some call
+    → map f (calls_of (take (k + 1) log)) ≡ map f (calls_of (take k log)) ++ f call ∷ []
+one_more_call f log k call h =
+    let next : k + 1 ≡ suc k = omega arith in
+    let found = call_here log k call (ap (call_at log) (sym next) ∙ h) in
+    ap (λ n. map f (calls_of (take n log))) next
+    ∙ ap (λ l. map f (calls_of l)) (take_one_more log k found.0 found.1)
+    ∙ map_more f (take k log) found.0
+    ∙ ap (λ c. map f (calls_of (take k log)) ++ f c ∷ []) found.2
+
+-- ---- the replies
+
+finished_some : (states : List State) (k : ℕ) → k < length states → state_is is_open (slice_get states k) ≡ false → IsSome (option_and_then finished_reply (slice_get states k))
+finished_some [] k lt closed = absurd (omega (arith, lt))
+finished_some (Waiting ∷ states) zero lt closed = absurd (true≢false closed)
+finished_some (Out ∷ states) zero lt closed = absurd (true≢false closed)
+finished_some (Finished reply ∷ states) zero lt closed = refl
+finished_some (s ∷ states) (suc k) lt closed = finished_some states k (omega (arith, lt)) closed
+
+-- an idle board has a reply to each number
+pub reply_to_each : (board : BoardOf Op) (k : ℕ) (answer : Option Reply) → open_of board ≡ 0 → board.earlier ≡ [] → length board.log ≡ length board.states → k < length board.log
+    → answer ≡ reply_in board (k + 1) → IsSome answer
+unfolding reply_in
+reply_to_each board k answer idle none beside lt is =
+    let after : (nat_le (k + 1) (length board.earlier)) ≡ false = lt-leb (k + 1) (length board.earlier) (omega (arith, ap length none)) in
+    let differs : ((k + 1) == 0) ≡ false = ne_eqb (k + 1) 0 (λ same. omega (arith, same)) in
+    let at : k + 1 - 1 - length board.earlier ≡ k = omega (arith, ap length none) in
+    let value : answer ≡ option_and_then finished_reply (slice_get board.states k) =
+    is ∙ ap (λ b. if b then None else (if nat_le (k + 1) (length board.earlier) then slice_get board.earlier (k + 1 - 1) else option_and_then finished_reply (slice_get board.states (k + 1 - 1 - length board.earlier)))) differs
+    ∙ ap (λ b. if b then slice_get board.earlier (k + 1 - 1) else option_and_then finished_reply (slice_get board.states (k + 1 - 1 - length board.earlier))) after
+    ∙ ap (λ n. option_and_then finished_reply (slice_get board.states n)) at in
+    subst IsSome (sym value) (finished_some board.states k (omega (arith, lt, beside)) (all_finished board.states k idle))
+
+pub push_reply : (replies : List Reply) (place : ℕ) (reply : Reply) (told : ℕ → Option Reply) → length replies ≡ place → ((k : ℕ) → k < place → slice_get replies k ≡ told k) → Some reply ≡ told place
+    → (k : ℕ) → k < place + 1 → slice_get (replies ++ reply ∷ []) k ≡ told k
+push_reply replies place reply told long each here k lt = elim (cases_lt k place) [
+  | inl before ↦ slice_get-left replies (reply ∷ []) k (omega (arith, before, long)) ∙ each k before
+  | inr last ↦
+      let at : k ≡ place = omega (arith, lt, last) in
+      slice_get-right replies (reply ∷ []) k 0 (omega (arith, at, long)) ∙ here ∙ ap told (sym at)
+]
+
+-- ---- the whole log
+
+same_items : {A : Type 0} (xs ys : List A) → length xs ≡ length ys → ((k : ℕ) → k < length xs → slice_get xs k ≡ slice_get ys k) → xs ≡ ys
+same_items [] [] long each = refl
+same_items [] (y ∷ ys) long each = absurd (omega (arith, long))
+same_items (x ∷ xs) [] long each = absurd (omega (arith, long))
+same_items (x ∷ xs) (y ∷ ys) long each =
+    ap (λ z. z ∷ xs) (some_is (each 0 (omega arith))) ∙ ap (λ zs. y ∷ zs) (same_items xs ys (omega (arith, long)) (λ k lt. each (suc k) (omega (arith, lt))))
+
+length-replies : (rows : Rows) (calls : List Call) → length (replies_to rows calls) ≡ length calls
+length-replies rows [] = refl
+length-replies rows (call ∷ calls) = ap suc (length-replies (procedure call rows).rows calls)
+
+pub all_replies : (directory : List (List ℕ)) (b : Balances) (calls : List Call) (board : BoardOf Op) (replies : List Reply) → SameCustomers directory b → board.opening ≡ b → board.log ≡ map (resolved directory) calls
+    → AreReplies board replies → replies ≡ replies_to (rows_of directory b) calls
+all_replies directory b calls board replies same opening log are =
+    let run = log_by_cowns directory b calls same in
+    let long : length board.log ≡ length calls = ap length log ∙ length-map calls (resolved directory) in
+    same_items replies (replies_to (rows_of directory b) calls) (are.all ∙ long ∙ sym (length-replies (rows_of directory b) calls)) (λ k lt.
+    are.each k (omega (arith, lt, are.all))
+    ∙ ap (λ (opening : Balances). reply_by_log declared_cowns effect_of (held_of opening) board.log (suc k)) opening
+    ∙ ap (λ l. reply_by_log declared_cowns effect_of (held_of b) l (suc k)) log
+    ∙ run.replies (suc k) ∙ sym (slice_get-replies_to (rows_of directory b) calls k))
+
+by_cown_injective : (s c s' c' : List ℤ) → length s ≡ length c → length s' ≡ length c' → by_cown s c ≡ by_cown s' c' → (s ≡ s') × (c ≡ c')
+by_cown_injective [] [] [] [] e f h = (refl, refl)
+by_cown_injective [] (y ∷ c) s' c' e f h = absurd (omega (arith, e))
+by_cown_injective (x ∷ s) [] s' c' e f h = absurd (omega (arith, e))
+by_cown_injective [] [] [] (y ∷ c') e f h = absurd (omega (arith, f))
+by_cown_injective [] [] (x ∷ s') [] e f h = absurd (omega (arith, f))
+by_cown_injective [] [] (x ∷ s') (y ∷ c') e f h = absurd (omega (arith, ap length h))
+by_cown_injective (x ∷ s) (y ∷ c) [] [] e f h = absurd (omega (arith, ap length h))
+by_cown_injective (x ∷ s) (y ∷ c) [] (y' ∷ c') e f h = absurd (omega (arith, f))
+by_cown_injective (x ∷ s) (y ∷ c) (x' ∷ s') [] e f h = absurd (omega (arith, f))
+by_cown_injective (x ∷ s) (y ∷ c) (x' ∷ s') (y' ∷ c') e f h =
+    let first : x ≡ x' = some_is (ap (λ l. slice_get l 0) h) in
+    let second : y ≡ y' = some_is (ap (λ l. slice_get l 1) h) in
+    let rest = by_cown_injective s c s' c' (omega (arith, e)) (omega (arith, f)) (ap (drop 2) h) in
+    (ap (λ z. z ∷ s) first ∙ ap (λ zs. x' ∷ zs) rest.0, ap (λ z. z ∷ c) second ∙ ap (λ zs. y' ∷ zs) rest.1)
+
+abbrev balances_of : List ℤ → List ℤ → Balances
+balances_of s c = record { savings = s; checking = c }
+
+-- balances with the same values by cown are the same
+same_balances : (a b : Balances) → IsBalances a → IsBalances b → held_of a ≡ held_of b → a ≡ b
+unfolding held_of
+same_balances a b valid_a valid_b h =
+    let parts = by_cown_injective a.savings a.checking b.savings b.checking valid_a.same valid_b.same h in
+    ap (λ s. balances_of s a.checking) parts.0 ∙ ap (balances_of b.savings) parts.1
+
+-- the columns of an idle board are those after the whole log
+pub all_rows : (directory : List (List ℕ)) (b c : Balances) (calls : List Call) (board : BoardOf Op) → SameCustomers directory b → IsBalances c → board.opening ≡ b → board.log ≡ map (resolved directory) calls
+    → IsAfterAll declared_cowns effect_of board c → SameCustomers directory c × (rows_of directory c ≡ rows_after calls (rows_of directory b))
+all_rows directory b c calls board same valid opening log after =
+    let run = (log_by_cowns directory b calls same).rows (length calls) in
+    let held : held_of c ≡ held_of run.0 =
+    after ∙ ap (λ (o : Balances). held_after declared_cowns effect_of (held_of o) board.log) opening
+    ∙ ap (held_after declared_cowns effect_of (held_of b)) (log ∙ sym (take_all (length calls) (map (resolved directory) calls) (omega (arith, length-map calls (resolved directory)))))
+    ∙ sym run.2 in
+    let is : c ≡ run.0 = same_balances c run.0 valid run.1.balances held in (
+      subst (SameCustomers directory) (sym is) run.1,
+      ap (rows_of directory) is ∙ run.3 ∙ ap (λ l. rows_after l (rows_of directory b)) (take_all (length calls) calls (omega arith)),
+    )
+
+pub told_here : (board : BoardOf Op) (place : ℕ) (answer : Option Reply) (reply : Reply) → board.earlier ≡ [] → answer ≡ Some reply
+    → IfSome answer (λ r. length board.earlier < place + 1 → reply_by_log declared_cowns effect_of (held_of board.opening) board.log (place + 1 - length board.earlier) ≡ Some r)
+    → Some reply ≡ reply_by_log declared_cowns effect_of (held_of board.opening) board.log (suc place)
+told_here board place answer reply none is told =
+    let known = subst (λ (o : Option Reply). IfSome o (λ r. length board.earlier < place + 1 → reply_by_log declared_cowns effect_of (held_of board.opening) board.log (place + 1 - length board.earlier) ≡ Some r)) is told in
+    let at : place + 1 - length board.earlier ≡ suc place = omega (arith, ap length none) in
+    sym (known (omega (arith, ap length none))) ∙ ap (reply_by_log declared_cowns effect_of (held_of board.opening) board.log) at

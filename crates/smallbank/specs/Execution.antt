@@ -1,0 +1,27 @@
+-- What carrying out the log over a board keeps.
+use Rattle.std.specs.Prelude.{◌≡◌, ℕ, suc, ◌<◌, List, [], ◌∷◌, ◌++◌, length, slice_get}
+use Rattle.sb_calls.specs.Behaviour.{declared_cowns, effect_of}
+use Rattle.sb_calls.specs.Cowns.{held_of}
+use Rattle.sb_calls.specs.OneByOne.{reply_by_log}
+use Rattle.sb_calls.specs.declared.op.Op.{Op}
+use Rattle.sb_calls.specs.declared.reply.Reply.{Reply}
+use Rattle.cown_board.specs.Board.{BoardOf}
+use Rattle.cown_workers.specs.Draining.{NoneOut}
+
+-- nothing was submitted, and there are no numbers before
+pub record IsOpened (board : BoardOf Op) : Type 0 where
+  pub earlier : board.earlier ≡ []
+  pub log : board.log ≡ []
+  pub states : board.states ≡ []
+
+-- the op is last in the log, and no op is out
+pub record IsPut (op : Op) (old new : BoardOf Op) : Type 0 where
+  pub opening : new.opening ≡ old.opening
+  pub earlier : new.earlier ≡ old.earlier
+  pub log : new.log ≡ old.log ++ op ∷ []
+  pub none_out : NoneOut new
+
+-- a reply to each op of the board's log, that of the log run one by one
+pub record AreReplies (board : BoardOf Op) (replies : List Reply) : Type 0 where
+  pub all : length replies ≡ length board.log
+  pub each : (k : ℕ) → k < length board.log → slice_get replies k ≡ reply_by_log declared_cowns effect_of (held_of board.opening) board.log (suc k)
