@@ -1,5 +1,5 @@
 -- A board after an op was handed out, carried out and finished at once.
-use Rattle.std.proofs.Common.{◌≡◌, ℕ, ◌<◌, ℤ, true, false, Result, Ok, Err, List, sym, ap, ◌∙◌, arith}
+use Rattle.std.proofs.Common.{◌≡◌, ℕ, ◌<◌, ℤ, false, Result, Ok, Err, List, sym, ap, ◌∙◌, arith}
 use Rattle.std.specs.Prelude.{◌↔◌, IsOk, is_ok, MatchResult}
 use Rattle.std.proofs.lemmas.Bool.{true≢false}
 use Rattle.sb_calls.specs.declared.op.Op.{Op}
