@@ -9,6 +9,7 @@ mod Inputs
 mod LogLaws
 mod Opening
 pub mod PlacesLaws
+mod PlayedCalls
 mod PlayedLaws
 mod Queued
 mod ReadingCowns

@@ -31,6 +31,10 @@ abbrev pub put_by_all : {B : Type 0} → List (BoardCall B) → List B
 put_by_all [] = []
 put_by_all (call ∷ calls) = put_by call ++ put_by_all calls
 
+-- a board with an empty log
+abbrev pub opened_with : {B : Type 0} → Balances → List Reply → BoardOf B
+opened_with columns earlier = record { opening = columns; earlier = earlier; log = []; states = [] }
+
 module _ {B : Type 0} (touches : B → List ℕ) (effect : B → List ℤ → Reply × List ℤ) where
   -- one call: what its contract says
   abbrev pub Makes : BoardOf B → BoardCall B → BoardOf B → Type 0
@@ -65,4 +69,10 @@ module _ {B : Type 0} (touches : B → List ℕ) (effect : B → List ℤ → Re
   -- whatever was submitted, taken and given back, in whatever order
   abbrev pub BoardLaw : Type 0
   BoardLaw = (columns : Balances) (earlier : List Reply) (calls : List (BoardCall B)) (board : BoardOf B)
-      → Plays (record { opening = columns; earlier = earlier; log = []; states = [] }) calls board → IsTrueToLog columns earlier calls board
+      → Plays (opened_with columns earlier) calls board → IsTrueToLog columns earlier calls board
+
+  -- a call, and what it leaves: whatever the calls before it were, it's as true to the log as they
+  pub record IsPlayed (old : BoardOf B) (call : BoardCall B) (new : BoardOf B) : Type 0 where
+    pub made : Makes old call new
+    pub law : (columns : Balances) (earlier : List Reply) (calls : List (BoardCall B))
+        → Plays (opened_with columns earlier) calls old → IsTrueToLog columns earlier (calls ++ call ∷ []) new

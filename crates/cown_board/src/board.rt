@@ -1,9 +1,11 @@
 //! The board.
-ghost use Rattle.std.specs.Prelude.{◌≡◌, ◌≢◌, ◌↔◌, ◌<◌, ◌≤◌, ◌-◌, ◌++◌, [], ◌∷◌, suc, length, slice_get, IsTrue, IfOk, IfSome, OnOk, OnErr, IsErrOf, IsOk, Some, MatchOption, MatchResult, vec_len, vec_capacity};
+ghost use Rattle.std.specs.Prelude.{◌≡◌, ◌≢◌, ◌↔◌, ◌<◌, ◌≤◌, ◌-◌, ◌++◌, [], ◌∷◌, suc, length, slice_get, IsTrue, IfOk, remove, IfSome, OnOk, OnErr, IsErrOf, IsOk, Some, None, Ok, Err, MatchOption, MatchResult, vec_len, vec_capacity};
 ghost use Rattle.std.specs.VecDeque.{deque_len, deque_capacity};
-ghost use Rattle.sb_calls.specs.Cowns.{AreBelow, IsRising, held_of};
+ghost use Rattle.sb_calls.specs.Cowns.{AreBelow, AreHeld, IsRising, held_of, write_cowns};
 ghost use Rattle.sb_calls.specs.OneByOne.{reply_by_log};
+ghost use Rattle.cown_queue.specs.Queues.{IsInFront, Releases};
 ghost use Rattle.cown_board.specs.Board.{BoardOf, length_of, open_of, reply_in, Takes, Finishes, IsOutHere, IsAfterAll};
+ghost use Rattle.cown_board.specs.Played.{IsPlayed, Submitted, TakenAt, Returned};
 ghost use Rattle.cown_board.specs.Readiness.{ready_places};
 
 use crate::accepting::{is_out_at, place_of};
@@ -95,6 +97,15 @@ impl<B: Behaviour> Board<B> {
         })
     }
 
+    /// Makes room for this many behaviours more, so that submitting them moves no others. Where memory is
+    /// refused nothing is lost.
+    pub fn reserve(&mut self, additional: usize) -> Result<(), AllocError>
+        ensures { self.new ≡ self.old }
+    {
+        self.log.reserve(additional)?;
+        self.states.reserve(additional)
+    }
+
     /// The greatest number so far.
     pub fn length(&self) -> u64
         ensures { result ≡ length_of self.now }
@@ -122,6 +133,10 @@ impl<B: Behaviour> Board<B> {
         ensures err { OnErr result (self.new ≡ self.old) }
         ensures busy { IsErrOf result SubmitFault.Busy ↔ (open_of self.old ≡ OPEN_BEHAVIOURS) }
         ensures full { IsErrOf result SubmitFault.LogFull ↔ ((open_of self.old ≢ OPEN_BEHAVIOURS) × (length_of self.old ≡ LOG_CALLS)) }
+        // After any calls, with this one too, the board is true to its log.
+        ensures played { MatchResult result
+            (λ number. IsPlayed B.touches B.effect self.old (Submitted behaviour (Ok number)) self.new)
+            (λ fault. IsPlayed B.touches B.effect self.old (Submitted behaviour (Err fault)) self.new) }
     {
         if self.unfinished == OPEN_BEHAVIOURS {
             return Err(SubmitFault::Busy);
@@ -155,12 +170,16 @@ impl<B: Behaviour> Board<B> {
     ///
     /// A behaviour is ready while it waits and no unfinished one before it shares a cown with it.
     pub fn take_at(&mut self, index: usize) -> Option<Job<B>>
-        ensures { MatchOption result
+        ensures outcome { MatchOption result
             ((length (ready_places B.touches self.old.log self.old.states) ≤ index) × (self.new ≡ self.old))
             (λ job. Takes B.touches B.effect self.old index job self.new) }
+        // After any calls, with this one too, the board is true to its log.
+        ensures played { MatchOption result
+            (IsPlayed B.touches B.effect self.old (TakenAt index None) self.new)
+            (λ job. IsPlayed B.touches B.effect self.old (TakenAt index (Some job)) self.new) }
     {
         let (position, place) = nth_front(&self.log, &self.queues, &self.waiting, index)?;
-        self.waiting.remove(position);
+        take_out(&mut self.waiting, position);
         let behaviour = self.log[place as usize];
         self.states[place as usize] = State::Out;
         let inputs = read_all(&self.columns, behaviour.cowns().as_slice());
@@ -173,6 +192,10 @@ impl<B: Behaviour> Board<B> {
     pub fn finish(&mut self, done: Done<B>) -> Result<Reply, Done<B>>
         ensures accepted { IsOk result ↔ IsOutHere B.touches B.effect self.old done }
         ensures outcome { MatchResult result (λ reply. Finishes B.touches B.effect self.old done reply self.new) (λ back. (back ≡ done) × (self.new ≡ self.old)) }
+        // After any calls, with this one too, the board is true to its log.
+        ensures played { MatchResult result
+            (λ reply. IsPlayed B.touches B.effect self.old (Returned done (Ok reply)) self.new)
+            (λ back. IsPlayed B.touches B.effect self.old (Returned done (Err back)) self.new) }
     {
         let Some(place) = place_of(self.base, self.log.len(), done.number()) else {
             return Err(done);
@@ -182,8 +205,13 @@ impl<B: Behaviour> Board<B> {
         }
         let cowns = self.log[place as usize].cowns();
         let (reply, outputs) = done.into_effect();
-        self.queues.release(place, cowns.as_slice());
-        write_all(&mut self.columns, cowns.as_slice(), outputs.as_slice());
+        settle(
+            &mut self.queues,
+            &mut self.columns,
+            place,
+            cowns.as_slice(),
+            outputs.as_slice(),
+        );
         self.states[place as usize] = State::Finished(reply);
         self.unfinished -= 1;
         Ok(reply)
@@ -241,4 +269,31 @@ fn make_room<B: Behaviour>(
     states.reserve(1)?;
     waiting.reserve(1)?;
     queues.reserve(cowns)
+}
+
+// Takes a place from the front of its cowns, and leaves these values in them.
+fn settle(queues: &mut Queues, columns: &mut Columns, place: u64, cowns: &[Cown], outputs: &[i64])
+    requires few { length cowns.now ≤ 3 }
+    requires rising { IsRising cowns.now }
+    requires queued { AreBelow (length queues.old.lists) cowns.now }
+    requires front { IsInFront place cowns.now queues.old.lists }
+    requires held { AreBelow (length (held_of columns.old)) cowns.now }
+    requires outputs { AreHeld cowns.now outputs.now }
+    ensures lists { Releases cowns.now queues.old.lists queues.new.lists }
+    ensures written { held_of columns.new ≡ write_cowns (held_of columns.old) cowns.now outputs.now }
+{
+    queues.release(place, cowns);
+    write_all(columns, cowns, outputs);
+}
+
+// Takes a position out of the waiting places. Where all are run in place it is the first.
+fn take_out(waiting: &mut VecDeque<u64>, position: usize)
+    requires { position < length waiting.old.items }
+    ensures { waiting.new.items ≡ remove waiting.old.items position }
+{
+    if position == 0 {
+        waiting.pop_front();
+    } else {
+        waiting.remove(position);
+    }
 }

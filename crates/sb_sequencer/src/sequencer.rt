@@ -1,5 +1,5 @@
 //! The log of numbered requests.
-ghost use Rattle.std.specs.Prelude.{◌≡◌, ◌≢◌, ◌<◌, ◌≤◌, ◌↔◌, [], ◌∷◌, ◌++◌, length, List, IsTrue, OnOk, OnErr};
+ghost use Rattle.std.specs.Prelude.{◌≡◌, ◌≢◌, ◌<◌, ◌≤◌, ◌↔◌, [], ◌∷◌, ◌++◌, length, List, IsTrue, IfOk, OnOk, OnErr};
 ghost use Rattle.sb_calls.specs.declared.ask.Key.{Key as AnyKey};
 ghost use Rattle.sb_calls.specs.declared.call.Call.{Call as AnyCall};
 ghost use Rattle.sb_sequencer.specs.Answer.{IsAnswered, LogAfter, Numbers};
@@ -46,6 +46,16 @@ impl Sequencer {
         Sequencer {
             log: IndexMap::new(alloc),
         }
+    }
+
+    /// A sequencer with an empty log that takes this many calls before it needs more memory. Fails where
+    /// memory is refused.
+    pub fn with_capacity(alloc: Global, calls: usize) -> Result<Sequencer, AllocError>
+        ensures { IfOk result (λ sequencer. sequencer ≡ []) }
+    {
+        Ok(Sequencer {
+            log: IndexMap::with_capacity(alloc, calls)?,
+        })
     }
 
     /// How many calls have a number.

@@ -135,3 +135,18 @@ fn answers_as_a_plain_search_does(rt: HostRuntime) -> Result<(), Fail> {
     }
     Ok(())
 }
+
+#[test]
+fn takes_more_calls_than_it_was_opened_for(rt: HostRuntime) -> Result<(), Fail> {
+    let mut log = Sequencer::with_capacity(rt.alloc(), 2)?;
+    let alice = balance("alice")?;
+    for number in 1..=40u32 {
+        assert_eq!(rt;
+            log.ask(1, number, &alice),
+            Ok(Numbered::New(number as u64))
+        );
+    }
+    assert_eq!(rt; log.length(), 40);
+    assert!(rt; Sequencer::with_capacity(rt.alloc(), usize::MAX).is_err());
+    Ok(())
+}

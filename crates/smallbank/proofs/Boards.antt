@@ -1,7 +1,7 @@
 -- A log of calls over a board.
-use Rattle.std.proofs.Common.{◌≡◌, ◌≢◌, ◌⊎◌, inl, inr, ℕ, zero, suc, ◌+◌, ◌*◌, ◌<◌, ◌≤◌, ℤ, pos, Bool, true, false, Option, Some, None, List, [], ◌∷◌, ◌++◌, length, length-append, ◌-◌, map, get_or, take, drop, refl, sym, ap, subst, ◌∙◌, arith}
-use Rattle.std.specs.Prelude.{slice_get, slice_set, count_by, option_and_then, ◌==◌, nat_lt, nat_le, if◌then◌else◌, IsSome, IfSome}
-use Rattle.std.proofs.lemmas.Bool.{cases_lt, cases_Bool, true≢false, lt-leb, ne_eqb}
+use Rattle.std.proofs.Common.{◌≡◌, ◌≢◌, inl, inr, ℕ, zero, suc, ◌+◌, ◌*◌, ◌<◌, ◌≤◌, ℤ, Bool, true, false, Option, Some, None, List, [], ◌∷◌, ◌++◌, length, ◌-◌, map, take, drop, refl, sym, ap, subst, ◌∙◌, arith}
+use Rattle.std.specs.Prelude.{slice_get, option_and_then, ◌==◌, nat_lt, nat_le, if◌then◌else◌, IsSome, IfSome}
+use Rattle.std.proofs.lemmas.Bool.{cases_lt, true≢false, lt-leb, ne_eqb}
 use Rattle.std.proofs.lemmas.List.{length-map, take_all}
 use Rattle.sb_rows.specs.Balances.{Balances, IsBalances}
 use Rattle.sb_rows.specs.Rows.{Rows, SameCustomers, rows_of}
@@ -10,7 +10,7 @@ use Rattle.sb_calls.specs.Behaviour.{declared_cowns, cowns_of_two, effect_of}
 use Rattle.sb_calls.proofs.Log.{slice_get-replies_to}
 use Rattle.sb_calls.proofs.OneByOneRuns.{log_by_cowns}
 use Rattle.sb_calls.specs.Cowns.{AreBelow, by_cown, held_of}
-use Rattle.sb_calls.specs.Log.{reply_to, replies_to, rows_after}
+use Rattle.sb_calls.specs.Log.{replies_to, rows_after}
 use Rattle.sb_calls.specs.OneByOne.{reply_by_log, held_after}
 use Rattle.sb_calls.specs.Op.{IsOpWithin, resolved}
 use Rattle.sb_calls.specs.Procedures.{procedure}
@@ -20,14 +20,13 @@ use Rattle.sb_calls.specs.declared.op.Op.{Op}
 use Rattle.sb_calls.specs.declared.op.Op.TheVariants.{Balance, DepositChecking, TransactSavings, Amalgamate, WriteCheck, NoCustomer, SameCustomer}
 use Rattle.sb_calls.specs.declared.reply.Reply.{Reply}
 use Rattle.cown_board.proofs.Counts.{all_finished}
-use Rattle.cown_board.proofs.PlacesLaws.{slice_get-left, slice_get-right}
 use Rattle.cown_board.specs.Board.{BoardOf, open_of, reply_in, IsAfterAll}
 use Rattle.cown_board.specs.State.{is_open, state_is, finished_reply}
 use Rattle.cown_board.specs.declared.state.State.{State}
 use Rattle.cown_board.specs.declared.state.State.TheVariants.{Waiting, Out, Finished}
 use Rattle.cown_workers.specs.Draining.{NoneOut, Drains}
 use Rattle.sb_sequencer.specs.Numbering.{call_at}
-use Rattle.smallbank.specs.Execution.{IsPut, AreReplies}
+use Rattle.smallbank.specs.Execution.{IsPut, Tells}
 use Rattle.smallbank.specs.Output.{calls_of}
 
 none_is_some : {A : Type 0} {x : A} → ◌≡◌ {A = Option A} None (Some x) → ⊥
@@ -144,52 +143,42 @@ finished_some (Out ∷ states) zero lt closed = absurd (true≢false closed)
 finished_some (Finished reply ∷ states) zero lt closed = refl
 finished_some (s ∷ states) (suc k) lt closed = finished_some states k (omega (arith, lt)) closed
 
--- an idle board has a reply to each number
-pub reply_to_each : (board : BoardOf Op) (k : ℕ) (answer : Option Reply) → open_of board ≡ 0 → board.earlier ≡ [] → length board.log ≡ length board.states → k < length board.log
-    → answer ≡ reply_in board (k + 1) → IsSome answer
+-- the reply to a number is that of the state at its place
+reply_at : (board : BoardOf Op) (k : ℕ) → board.earlier ≡ [] → reply_in board (k + 1) ≡ option_and_then finished_reply (slice_get board.states k)
 unfolding reply_in
-reply_to_each board k answer idle none beside lt is =
+reply_at board k none =
     let after : (nat_le (k + 1) (length board.earlier)) ≡ false = lt-leb (k + 1) (length board.earlier) (omega (arith, ap length none)) in
     let differs : ((k + 1) == 0) ≡ false = ne_eqb (k + 1) 0 (λ same. omega (arith, same)) in
     let at : k + 1 - 1 - length board.earlier ≡ k = omega (arith, ap length none) in
-    let value : answer ≡ option_and_then finished_reply (slice_get board.states k) =
-    is ∙ ap (λ b. if b then None else (if nat_le (k + 1) (length board.earlier) then slice_get board.earlier (k + 1 - 1) else option_and_then finished_reply (slice_get board.states (k + 1 - 1 - length board.earlier)))) differs
+    ap (λ b. if b then None else (if nat_le (k + 1) (length board.earlier) then slice_get board.earlier (k + 1 - 1) else option_and_then finished_reply (slice_get board.states (k + 1 - 1 - length board.earlier)))) differs
     ∙ ap (λ b. if b then slice_get board.earlier (k + 1 - 1) else option_and_then finished_reply (slice_get board.states (k + 1 - 1 - length board.earlier))) after
-    ∙ ap (λ n. option_and_then finished_reply (slice_get board.states n)) at in
-    subst IsSome (sym value) (finished_some board.states k (omega (arith, lt, beside)) (all_finished board.states k idle))
+    ∙ ap (λ n. option_and_then finished_reply (slice_get board.states n)) at
 
-pub push_reply : (replies : List Reply) (place : ℕ) (reply : Reply) (told : ℕ → Option Reply) → length replies ≡ place → ((k : ℕ) → k < place → slice_get replies k ≡ told k) → Some reply ≡ told place
-    → (k : ℕ) → k < place + 1 → slice_get (replies ++ reply ∷ []) k ≡ told k
-push_reply replies place reply told long each here k lt = elim (cases_lt k place) [
-  | inl before ↦ slice_get-left replies (reply ∷ []) k (omega (arith, before, long)) ∙ each k before
-  | inr last ↦
-      let at : k ≡ place = omega (arith, lt, last) in
-      slice_get-right replies (reply ∷ []) k 0 (omega (arith, at, long)) ∙ here ∙ ap told (sym at)
-]
+past : {A : Type 0} (xs : List A) (k : ℕ) → length xs ≤ k → slice_get xs k ≡ None
+past [] k le = refl
+past (x ∷ xs) zero le = absurd (omega (arith, le))
+past (x ∷ xs) (suc k) le = past xs k (omega (arith, le))
 
 -- ---- the whole log
-
-same_items : {A : Type 0} (xs ys : List A) → length xs ≡ length ys → ((k : ℕ) → k < length xs → slice_get xs k ≡ slice_get ys k) → xs ≡ ys
-same_items [] [] long each = refl
-same_items [] (y ∷ ys) long each = absurd (omega (arith, long))
-same_items (x ∷ xs) [] long each = absurd (omega (arith, long))
-same_items (x ∷ xs) (y ∷ ys) long each =
-    ap (λ z. z ∷ xs) (some_is (each 0 (omega arith))) ∙ ap (λ zs. y ∷ zs) (same_items xs ys (omega (arith, long)) (λ k lt. each (suc k) (omega (arith, lt))))
 
 length-replies : (rows : Rows) (calls : List Call) → length (replies_to rows calls) ≡ length calls
 length-replies rows [] = refl
 length-replies rows (call ∷ calls) = ap suc (length-replies (procedure call rows).rows calls)
 
-pub all_replies : (directory : List (List ℕ)) (b : Balances) (calls : List Call) (board : BoardOf Op) (replies : List Reply) → SameCustomers directory b → board.opening ≡ b → board.log ≡ map (resolved directory) calls
-    → AreReplies board replies → replies ≡ replies_to (rows_of directory b) calls
-all_replies directory b calls board replies same opening log are =
+pub all_replies : (directory : List (List ℕ)) (b : Balances) (calls : List Call) (board : BoardOf Op) → SameCustomers directory b → board.opening ≡ b → board.log ≡ map (resolved directory) calls
+    → open_of board ≡ 0 → board.earlier ≡ [] → Tells board (replies_to (rows_of directory b) calls)
+all_replies directory b calls board same opening log idle earlier =
     let run = log_by_cowns directory b calls same in
     let long : length board.log ≡ length calls = ap length log ∙ length-map calls (resolved directory) in
-    same_items replies (replies_to (rows_of directory b) calls) (are.all ∙ long ∙ sym (length-replies (rows_of directory b) calls)) (λ k lt.
-    are.each k (omega (arith, lt, are.all))
-    ∙ ap (λ (opening : Balances). reply_by_log declared_cowns effect_of (held_of opening) board.log (suc k)) opening
-    ∙ ap (λ l. reply_by_log declared_cowns effect_of (held_of b) l (suc k)) log
-    ∙ run.replies (suc k) ∙ sym (slice_get-replies_to (rows_of directory b) calls k))
+    record {
+      idle = idle;
+      earlier = earlier;
+      all = length-replies (rows_of directory b) calls ∙ sym long;
+      each = λ k lt. sym (
+          ap (λ (opening : Balances). reply_by_log declared_cowns effect_of (held_of opening) board.log (suc k)) opening
+          ∙ ap (λ l. reply_by_log declared_cowns effect_of (held_of b) l (suc k)) log
+          ∙ run.replies (suc k) ∙ sym (slice_get-replies_to (rows_of directory b) calls k));
+    }
 
 by_cown_injective : (s c s' c' : List ℤ) → length s ≡ length c → length s' ≡ length c' → by_cown s c ≡ by_cown s' c' → (s ≡ s') × (c ≡ c')
 by_cown_injective [] [] [] [] e f h = (refl, refl)
@@ -231,10 +220,26 @@ all_rows directory b c calls board same valid opening log after =
       ap (rows_of directory) is ∙ run.3 ∙ ap (λ l. rows_after l (rows_of directory b)) (take_all (length calls) calls (omega arith)),
     )
 
-pub told_here : (board : BoardOf Op) (place : ℕ) (answer : Option Reply) (reply : Reply) → board.earlier ≡ [] → answer ≡ Some reply
+told_here : (board : BoardOf Op) (place : ℕ) (answer : Option Reply) (reply : Reply) → board.earlier ≡ [] → answer ≡ Some reply
     → IfSome answer (λ r. length board.earlier < place + 1 → reply_by_log declared_cowns effect_of (held_of board.opening) board.log (place + 1 - length board.earlier) ≡ Some r)
     → Some reply ≡ reply_by_log declared_cowns effect_of (held_of board.opening) board.log (suc place)
 told_here board place answer reply none is told =
     let known = subst (λ (o : Option Reply). IfSome o (λ r. length board.earlier < place + 1 → reply_by_log declared_cowns effect_of (held_of board.opening) board.log (place + 1 - length board.earlier) ≡ Some r)) is told in
     let at : place + 1 - length board.earlier ≡ suc place = omega (arith, ap length none) in
     sym (known (omega (arith, ap length none))) ∙ ap (reply_by_log declared_cowns effect_of (held_of board.opening) board.log) at
+
+-- what a board answers is the reply of the log one by one
+pub told_at : (board : BoardOf Op) (replies : List Reply) (place : ℕ) (answer : Option Reply) → Tells board replies → length board.log ≡ length board.states → answer ≡ reply_in board (place + 1)
+    → IfSome answer (λ r. length board.earlier < place + 1 → reply_by_log declared_cowns effect_of (held_of board.opening) board.log (place + 1 - length board.earlier) ≡ Some r)
+    → answer ≡ slice_get replies place
+told_at board replies place answer tells beside is told = elim (cases_lt place (length board.log)) [
+  | inl lt ↦ by answer refl (subst IsSome (sym state) (finished_some board.states place (omega (arith, lt, beside)) (all_finished board.states place tells.idle))) lt
+  | inr ge ↦ state ∙ ap (option_and_then finished_reply) (past board.states place (omega (arith, ge, beside))) ∙ sym (past replies place (omega (arith, ge, tells.all)))
+]
+  where
+    state : answer ≡ option_and_then finished_reply (slice_get board.states place)
+    state = is ∙ reply_at board place tells.earlier
+
+    by : (o : Option Reply) → answer ≡ o → IsSome answer → place < length board.log → answer ≡ slice_get replies place
+    by None none some lt = absurd (true≢false (sym (subst IsSome none some)))
+    by (Some reply) found some lt = found ∙ told_here board place answer reply tells.earlier found told ∙ sym (tells.each place lt)

@@ -5,7 +5,7 @@ use Rattle.sb_calls.specs.Cowns.{held_of}
 use Rattle.sb_calls.specs.OneByOne.{reply_by_log}
 use Rattle.sb_calls.specs.declared.op.Op.{Op}
 use Rattle.sb_calls.specs.declared.reply.Reply.{Reply}
-use Rattle.cown_board.specs.Board.{BoardOf}
+use Rattle.cown_board.specs.Board.{BoardOf, open_of}
 use Rattle.cown_workers.specs.Draining.{NoneOut}
 
 -- nothing was submitted, and there are no numbers before
@@ -21,7 +21,9 @@ pub record IsPut (op : Op) (old new : BoardOf Op) : Type 0 where
   pub log : new.log ≡ old.log ++ op ∷ []
   pub none_out : NoneOut new
 
--- a reply to each op of the board's log, that of the log run one by one
-pub record AreReplies (board : BoardOf Op) (replies : List Reply) : Type 0 where
+-- an idle board with no numbers before, and a reply to each op of its log: that of the log run one by one
+pub record Tells (board : BoardOf Op) (replies : List Reply) : Type 0 where
+  pub idle : open_of board ≡ 0
+  pub earlier : board.earlier ≡ []
   pub all : length replies ≡ length board.log
   pub each : (k : ℕ) → k < length board.log → slice_get replies k ≡ reply_by_log declared_cowns effect_of (held_of board.opening) board.log (suc k)

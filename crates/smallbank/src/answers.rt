@@ -1,41 +1,56 @@
 //! The answers to the asking lines.
-ghost use Rattle.std.specs.Prelude.{◌≡◌, [], ◌∷◌, ◌++◌, map, decimal, codes, OnOk};
+ghost use Rattle.std.specs.Prelude.{◌≡◌, ◌-◌, List, [], ◌∷◌, ◌++◌, map, slice_get, decimal, codes, OnOk};
 ghost use Rattle.sb_rows.specs.Text.{unlines};
+ghost use Rattle.sb_calls.specs.declared.reply.Reply.{Reply as AnyReply};
+ghost use Rattle.cown_board.specs.Board.{open_of};
+ghost use Rattle.smallbank.specs.Execution.{Tells};
 ghost use Rattle.smallbank.specs.Outcome.{outcome_line, reply_line};
 
 use crate::asking::Outcome;
+use cown_board::Board;
 use itoa::Buffer;
-use sb_calls::{Reply, print_reply};
+use sb_calls::{Op, Reply, print_reply};
 use std::alloc::AllocError;
 
-/// Writes a line an outcome, where these are the replies to the log.
+/// Writes a line an outcome, with the replies on a board.
 pub fn push_answers(
     outcomes: &[Outcome],
-    replies: &[Reply],
+    board: &Board<Op>,
     out: &mut Vec<u8>,
 ) -> Result<(), AllocError>
-    ensures { OnOk result (out.new.items ≡ out.old.items ++ unlines (map (outcome_line replies.now) outcomes.now)) }
+    requires { open_of board.now ≡ 0 }
+    ensures { (replies : List AnyReply) → Tells board.now replies
+        → OnOk result (out.new.items ≡ out.old.items ++ unlines (map (outcome_line replies) outcomes.now)) }
 {
     for outcome in outcomes {
-        push_answer(*outcome, replies, out)?;
+        push_answer(*outcome, board, out)?;
     }
     Ok(())
 }
 
 // Writes the line of an outcome.
-fn push_answer(outcome: Outcome, replies: &[Reply], out: &mut Vec<u8>) -> Result<(), AllocError>
-    ensures { OnOk result (out.new.items ≡ out.old.items ++ outcome_line replies.now outcome ++ 10 ∷ []) }
+fn push_answer(outcome: Outcome, board: &Board<Op>, out: &mut Vec<u8>) -> Result<(), AllocError>
+    requires { open_of board.now ≡ 0 }
+    ensures { (replies : List AnyReply) → Tells board.now replies
+        → OnOk result (out.new.items ≡ out.old.items ++ outcome_line replies outcome ++ 10 ∷ []) }
 {
     match outcome {
-        Outcome::Number(number) => {
-            let place = (number as usize).saturating_sub(1);
-            push_reply(number, replies.get(place).copied(), out)?;
-        }
+        Outcome::Number(number) => push_reply(number, reply_to(board, number), out)?,
         Outcome::Mismatch(number) => push_mismatch(number, out)?,
         Outcome::LogFull => out.extend_from_slice(b"log full")?,
     }
     out.push(b'\n')?;
     Ok(())
+}
+
+// The reply on a board to a number of its log.
+fn reply_to(board: &Board<Op>, number: u64) -> Option<Reply>
+    requires { open_of board.now ≡ 0 }
+    ensures { (replies : List AnyReply) → Tells board.now replies → result ≡ slice_get replies (number - 1) }
+{
+    prove!(board.idle());
+    // Numbers count from 1.
+    board.reply(number.saturating_sub(1) + 1)
 }
 
 // Writes a number and its reply.

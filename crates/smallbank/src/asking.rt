@@ -9,10 +9,13 @@ ghost use Rattle.smallbank.specs.Faults.{Blames};
 ghost use Rattle.smallbank.specs.Input.{asks_from, in_call};
 
 use crate::fault::{InputFault, RunFault};
-use sb_calls::{Asked, Key, read_ask};
+use sb_calls::{Asked, Key, LOG_CALLS, read_ask};
 use sb_rows::next_line;
 use sb_sequencer::{AskFault, Numbered, Sequencer};
 use std::alloc::Global;
+
+// How many bytes an asking line takes, as a rule. Room is made by that; where lines are shorter, the lists grow.
+const USUAL_LINE: usize = 32;
 
 /// What an asking line comes to.
 #[derive(Clone, Copy, Debug, PartialEq, Eq)]
@@ -43,8 +46,9 @@ pub fn ask_lines(alloc: Global, text: &[u8], first_line: usize) -> Result<Asking
         (λ asking. IsAsking (asks_from first_line [] (lines text.now)) asking.sequencer asking.outcomes.items)
         (λ fault. Blames fault (in_call (asks_from first_line [] (lines text.now)))) }
 {
-    let mut sequencer = Sequencer::open(alloc);
-    let mut outcomes = Vec::new(alloc);
+    let expected = text.len() / USUAL_LINE;
+    let mut sequencer = Sequencer::with_capacity(alloc, expected.min(LOG_CALLS))?;
+    let mut outcomes = Vec::with_capacity(alloc, expected)?;
     let mut running = 1u64;
     let mut left = text;
     while let Some((line, rest)) = next_line(left) {

@@ -1,44 +1,43 @@
 //! Carrying out the log over a board.
 ghost use Rattle.std.specs.Prelude.{◌≡◌, ◌≢◌, ℕ, [], ◌<◌, length, map, suc, slice_get, IfOk, OnOk};
 ghost use Rattle.sb_rows.specs.Rows.{SameCustomers, rows_of};
-ghost use Rattle.sb_calls.specs.Behaviour.{declared_cowns, effect_of};
 ghost use Rattle.sb_calls.specs.Cowns.{AreBelow, held_of};
 ghost use Rattle.sb_calls.specs.Log.{rows_after, replies_to};
-ghost use Rattle.sb_calls.specs.OneByOne.{reply_by_log};
 ghost use Rattle.sb_calls.specs.Op.{resolved};
 ghost use Rattle.cown_board.specs.Board.{length_of, open_of};
 ghost use Rattle.cown_workers.specs.Draining.{Drains, NoneOut};
-ghost use Rattle.smallbank.specs.Execution.{IsPut, IsOpened, AreReplies};
+ghost use Rattle.smallbank.specs.Execution.{IsPut, IsOpened, Tells};
 ghost use Rattle.smallbank.specs.Output.{calls_of};
 
 use cown_board::{Board, SubmitFault};
 use cown_workers::{InlineCrew, drain};
-use sb_calls::{Call, LOG_CALLS, Op, Reply, resolve};
+use sb_calls::{Call, LOG_CALLS, Op, resolve};
 use sb_rows::{CUSTOMERS, Columns, Directory};
 use sb_sequencer::Sequencer;
 use std::alloc::{AllocError, Global};
 
-/// Carries out the calls of a log, each as soon as its cowns are free, and gives their replies in order.
+/// Carries out the calls of a log on these columns, each as soon as its cowns are free. The replies stay on
+/// the board that is answered.
 pub fn carry_out(
     alloc: Global,
     log: &Sequencer,
     directory: &Directory,
     columns: &mut Columns,
-) -> Result<Vec<Reply>, AllocError>
+) -> Result<Board<Op>, AllocError>
     requires { SameCustomers directory.now columns.old }
-    ensures replies { IfOk result (λ replies. replies.items ≡ replies_to (rows_of directory.now columns.old) (calls_of log.now)) }
-    ensures rows { IfOk result (λ replies. rows_of directory.now columns.new ≡ rows_after (calls_of log.now) (rows_of directory.now columns.old)) }
-    ensures customers { IfOk result (λ replies. SameCustomers directory.now columns.new) }
+    ensures replies { IfOk result (λ board. Tells board (replies_to (rows_of directory.now columns.old) (calls_of log.now))) }
+    ensures rows { IfOk result (λ board. rows_of directory.now columns.new ≡ rows_after (calls_of log.now) (rows_of directory.now columns.old)) }
+    ensures customers { IfOk result (λ board. SameCustomers directory.now columns.new) }
 {
     let mut board = Board::open(alloc, columns.copy()?, 0, Vec::new(alloc))?;
+    board.reserve(log.length() as usize)?;
     submit_all(log, directory, &mut board)?;
     run_all(&mut board);
-    let replies = replies_of(alloc, &board)?;
     let after = board.columns()?.unwrap();
     // They are the columns of a bank.
     prove!(after.customers() <= CUSTOMERS);
     *columns = after;
-    Ok(replies)
+    Ok(board)
 }
 
 // Submits each call of the log.
@@ -71,11 +70,14 @@ fn submit(directory: &Directory, call: &Call, board: &mut Board<Op>) -> Result<(
     match board.submit(resolve(directory, call)) {
         Ok(_) => return Ok(()),
         Err(SubmitFault::Busy) => run_all(board),
-        Err(_) => return Err(AllocError),
+        Err(SubmitFault::LogFull) => unreachable!(),
+        Err(SubmitFault::OutOfMemory) => return Err(AllocError),
     }
     match board.submit(resolve(directory, call)) {
         Ok(_) => Ok(()),
-        Err(_) => Err(AllocError),
+        // Nothing is unfinished by now, and the log is as long as it was.
+        Err(SubmitFault::Busy | SubmitFault::LogFull) => unreachable!(),
+        Err(SubmitFault::OutOfMemory) => Err(AllocError),
     }
 }
 
@@ -88,18 +90,4 @@ fn run_all(board: &mut Board<Op>)
     let drained = drain(board, &mut InlineCrew).is_ok();
     // A crew that keeps nothing is never gone.
     prove!(drained);
-}
-
-// The replies to all numbers of a board, in order.
-fn replies_of(alloc: Global, board: &Board<Op>) -> Result<Vec<Reply>, AllocError>
-    requires idle { open_of board.now ≡ 0 }
-    requires earlier { board.now.earlier ≡ [] }
-    ensures { IfOk result (λ replies. AreReplies board.now replies.items) }
-{
-    let mut replies = Vec::with_capacity(alloc, board.length() as usize)?;
-    prove!(board.idle());
-    for place in 0..board.length() {
-        replies.push(board.reply(place + 1).unwrap())?;
-    }
-    Ok(replies)
 }

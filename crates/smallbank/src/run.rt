@@ -70,9 +70,10 @@ fn output_text(alloc: Global, input: Vec<u8>) -> Result<Vec<u8>, RunFault>
     // The output may take the input's place in memory.
     drop(input);
     let mut columns = opening.columns;
-    let replies = carry_out(alloc, &asking.sequencer, &opening.directory, &mut columns)?;
+    let board = carry_out(alloc, &asking.sequencer, &opening.directory, &mut columns)?;
+    drop(asking.sequencer);
     let mut output = Vec::new(alloc);
-    push_answers(&asking.outcomes, &replies, &mut output)?;
+    push_answers(&asking.outcomes, &board, &mut output)?;
     list_rows(&opening.directory, &columns, &mut output)?;
     Ok(output)
 }

@@ -63,6 +63,10 @@ impl<B: Behaviour> Bank<B> {
         assert_eq!(rt; self.submit(behaviour), Ok(number));
     }
 
+    pub(super) fn reserve(&mut self, additional: usize) -> Result<(), AllocError> {
+        self.board.reserve(additional)
+    }
+
     fn take_at(&mut self, index: usize) -> Option<Job<B>> {
         self.board.take_at(index)
     }

@@ -86,3 +86,18 @@ fn words_of_the_faults(rt: HostRuntime) -> Result<(), Fail> {
     }
     Ok(())
 }
+
+#[test]
+fn room_made_ahead_changes_nothing(rt: HostRuntime) -> Result<(), Fail> {
+    let mut bank = open(rt.alloc())?;
+    submit_four(&rt, &mut bank)?;
+    let first = bank.takes(&rt, 0, 1)?;
+    bank.reserve(2_000)?;
+    assert!(rt; bank.reserve(usize::MAX).is_err());
+    assert_eq!(rt; bank.length(), 4);
+    bank.finishes(&rt, first.run(), Reply::Done);
+    let second = bank.takes(&rt, 0, 2)?;
+    bank.finishes(&rt, second.run(), Reply::Done);
+    bank.submits(&rt, 5, Op::Balance(CAROL));
+    Ok(())
+}

@@ -13,10 +13,10 @@ loop-line-init c = (
   [],
   record {
     all = refl;
-    after = record { keys = tt; running_is = refl; log_is = c.open-sequencer.ensures ∙ sym log_of-nil };
-    outcomes = c.new-outcomes.ensures.items;
+    after = record { keys = tt; running_is = refl; log_is = c.in_ok-sequencer.ensures ∙ sym log_of-nil };
+    outcomes = c.in_ok-outcomes.ensures.items;
     room = omega arith;
-    count = ap length c.new-outcomes.ensures.items;
+    count = ap length c.in_ok-outcomes.ensures.items;
     few = omega arith;
   },
 )

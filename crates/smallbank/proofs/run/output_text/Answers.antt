@@ -1,12 +1,14 @@
 use Rattle.std.proofs.Common.{◌≡◌, ℕ, ◌+◌, ◌-◌, Ok, List, [], ◌++◌, length, map, take, drop, sym, ap, subst, ◌∙◌, arith, length-drop}
 use Rattle.std.proofs.lemmas.List.{take_all}
 use Rattle.sb_rows.specs.Opening.{OpeningText, opening_of}
+use Rattle.sb_rows.specs.Rows.{rows_of}
 use Rattle.sb_rows.specs.Text.{lines, unlines}
+use Rattle.sb_calls.specs.Log.{replies_to}
 use Rattle.sb_calls.specs.declared.reply.Reply.{Reply}
 use Rattle.smallbank.specs.Asking.{IsAsking}
 use Rattle.smallbank.specs.Input.{asks_from}
 use Rattle.smallbank.specs.Outcome.{outcome_line}
-use Rattle.smallbank.specs.Output.{row_lines}
+use Rattle.smallbank.specs.Output.{calls_of, row_lines}
 use Rattle.smallbank.proofs.Whole.{output_is}
 use Rattle.smallbank.proofs.run.output_text.Goals as goal
 
@@ -24,8 +26,9 @@ returns c =
     (subst (λ (text : List ℕ). IsAsking (asks_from (c.len-first_line.result + 2) [] (lines (take (length text - opening.place) (drop opening.place text)))) log outcomes)
     c.deref-2.ensures.value c.in_ok-asking.ensures)) in
     let lines_of : List Reply → List ℕ = λ replies. unlines (map (outcome_line replies) outcomes) in
-    let told : c.push_answers.new.out.items ≡ lines_of c.in_ok-replies.replies.items =
-    c.in_ok-push_answers.ensures ∙ (λ j. c.new-output.ensures.items j ++ unlines (map (outcome_line (c.deref-4.ensures.value j)) (c.deref-3.ensures.value j))) in
+    let replies : List Reply = replies_to (rows_of opening.names opening.balances) (calls_of log) in
+    let told : c.push_answers.new.out.items ≡ unlines (map (outcome_line replies) outcomes) =
+    c.in_ok-push_answers.ensures replies c.in_ok-board.ensures.replies ∙ (λ j. c.new-output.ensures.items j ++ unlines (map (outcome_line replies) (c.deref-3.ensures.value j))) in
     output_is input opening log outcomes (sym (ap opening_of c.deref.ensures.value) ∙ c.in-Ok.ensures.exact) asked
     ∙ ap Ok (sym (c.in_ok-list_rows.ensures
-    ∙ λ j. (told ∙ ap lines_of c.in_ok-replies.ensures.replies) j ++ unlines (row_lines opening.names (c.in_ok-replies.ensures.rows j))))
+    ∙ λ j. told j ++ unlines (row_lines opening.names (c.in_ok-board.ensures.rows j))))

@@ -1,8 +1,11 @@
-use Rattle.std.proofs.Common.{◌≡◌, ◌++◌, ◌∷◌, [], List, ℕ, length, ap, sym, ◌∙◌, subst, arith}
+use Rattle.std.proofs.Common.{◌≡◌, ◌+◌, Err, ◌++◌, ◌∷◌, [], List, ℕ, length, ap, sym, ◌∙◌, subst, arith}
 use Rattle.sb_calls.specs.Cowns.{AreBelow, held_of}
 use Rattle.cown_board.specs.Board.{BoardOf}
 use Rattle.cown_queue.specs.Queues.{Appends}
 use Rattle.cown_board.proofs.Changes.{IsBoard-pushed}
+use Rattle.cown_board.proofs.PlayedCalls.{played_busy, played_full, played_no_memory, played_put}
+use Rattle.cown_board.specs.Played.{IsPlayed, Submitted}
+use Rattle.cown_board.specs.declared.board.SubmitFault.TheVariants.{Busy, LogFull}
 use Rattle.cown_board.specs.declared.state.State.TheVariants.{Waiting}
 use Rattle.cown_board.proofs.board.Board.submit.Goals as goal
 
@@ -22,3 +25,39 @@ invariant_of-self-2 g c =
     (c.push_back_reserved.ensures.items ∙ ap (λ (xs : List ℕ). xs ++ c.len-place.result ∷ []) room.waiting.0)
     c.if-self-eq-OPEN_BEHAVIOURS.false
     (λ full. c.if-self-len-eq-LOG_CALLS.false (omega (arith, full, c.len.ensures, c.self.inside.log.ok)))
+
+pub returns-then-self-eq-OPEN_BEHAVIOURS-clause-played : goal.returns-then-self-eq-OPEN_BEHAVIOURS-clause-played
+returns-then-self-eq-OPEN_BEHAVIOURS-clause-played g c =
+    let touches = g.B.Behaviour.touches in
+    let effect = g.B.Behaviour.effect in
+    subst (λ (v : BoardOf g.row.B.Denot). IsPlayed touches effect v (Submitted c.args.behaviour (Err Busy)) v) c.self.view_is
+    (played_busy touches effect c.self.invariant c.args.behaviour c.if-self-eq-OPEN_BEHAVIOURS.true)
+
+pub returns-then-self-len-eq-LOG_CALLS-clause-played : goal.returns-then-self-len-eq-LOG_CALLS-clause-played
+returns-then-self-len-eq-LOG_CALLS-clause-played g c =
+    let touches = g.B.Behaviour.touches in
+    let effect = g.B.Behaviour.effect in
+    subst (λ (v : BoardOf g.row.B.Denot). IsPlayed touches effect v (Submitted c.args.behaviour (Err LogFull)) v) c.self.view_is
+    (played_full touches effect c.self.invariant c.args.behaviour c.if-self-eq-OPEN_BEHAVIOURS.false
+    (omega (arith, c.if-self-len-eq-LOG_CALLS.true, c.len.ensures, c.self.inside.log.ok)))
+
+pub returns-then-is_err-clause-played : goal.returns-then-is_err-clause-played
+returns-then-is_err-clause-played g c =
+    let touches = g.B.Behaviour.touches in
+    let effect = g.B.Behaviour.effect in
+    let room = c.make_room.ensures in
+    rw (room.log.0, room.states.0, sym c.self.view_is)
+    (played_no_memory touches effect c.self.invariant c.args.behaviour c.if-self-eq-OPEN_BEHAVIOURS.false
+    (λ full. c.if-self-len-eq-LOG_CALLS.false (omega (arith, full, c.len.ensures, c.self.inside.log.ok))))
+
+pub returns-clause-played : goal.returns-clause-played
+returns-clause-played g c =
+    let touches = g.B.Behaviour.touches in
+    let effect = g.B.Behaviour.effect in
+    let room = c.make_room.ensures in
+    let pushed = c.push_reserved.ensures.items ∙ ap (λ (xs : List g.row.B.Denot). xs ++ c.args.behaviour ∷ []) room.log.0 in
+    let waits = c.push_reserved-2.ensures.items ∙ ap (λ xs. xs ++ Waiting ∷ []) room.states.0 in
+    rw (pushed, waits, sym c.self.view_is)
+    (played_put touches effect c.self.invariant c.args.behaviour (c.self.inside.base + c.len-place.result + 1) c.if-self-eq-OPEN_BEHAVIOURS.false
+    (λ full. c.if-self-len-eq-LOG_CALLS.false (omega (arith, full, c.len.ensures, c.self.inside.log.ok)))
+    (omega (arith, c.len-place.ensures, room.log.1, c.self.inside.log.ok)))

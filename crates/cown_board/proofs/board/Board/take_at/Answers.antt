@@ -1,8 +1,9 @@
-use Rattle.std.proofs.Common.{◌≡◌, ◌≤◌, Some, ℕ, length, refl, sym, ap, ◌∙◌, subst, arith}
-use Rattle.std.specs.Prelude.{slice_get, remove, OnSome, Option}
+use Rattle.std.proofs.Common.{◌≡◌, ◌≤◌, Some, length, refl, sym, ap, ◌∙◌, subst, arith}
+use Rattle.std.specs.Prelude.{slice_get}
 use Rattle.std.proofs.lemmas.Option.{slice_get_read, slice_get_within}
 use Rattle.sb_calls.specs.Cowns.{AreBelow, held_of, read_cowns}
 use Rattle.cown_board.proofs.TakenJob.{waiting_below, ready_from, few_from, ready_within, number_below, takes_from, taken_inputs_held, board_taken, declared_in_queues, declared_in_held}
+use Rattle.cown_board.proofs.PlayedCalls.{played_none, played_taken}
 use Rattle.cown_board.specs.Board.{BoardOf}
 use Rattle.cown_board.specs.Readiness.{ready_places}
 use Rattle.cown_board.proofs.board.Board.take_at.Goals as goal
@@ -13,10 +14,16 @@ nth_front-requires-clause-places g c k d lt = waiting_below g.B.Behaviour.touche
 pub nth_front-requires-clause-cowns : goal.nth_front-requires-clause-cowns
 nth_front-requires-clause-cowns g c k b here = declared_in_queues g.B.Behaviour.touches g.B.Behaviour.effect c.self.invariant k b here
 
-pub returns-in_err-position : goal.returns-in_err-position
-returns-in_err-position g c =
+pub returns-in_err-position-clause-outcome : goal.returns-in_err-position-clause-outcome
+returns-in_err-position-clause-outcome g c =
     let few = few_from g.B.Behaviour.touches g.B.Behaviour.effect c.self.invariant c.args.index c.in_err-position.ensures in
     rw c.from_residual.ensures (subst (λ (v : BoardOf g.row.B.Denot). length (ready_places g.B.Behaviour.touches v.log v.states) ≤ c.args.index) c.self.view_is few, refl)
+
+pub returns-in_err-position-clause-played : goal.returns-in_err-position-clause-played
+returns-in_err-position-clause-played g c =
+    let few = few_from g.B.Behaviour.touches g.B.Behaviour.effect c.self.invariant c.args.index c.in_err-position.ensures in
+    rw c.from_residual.ensures (played_none g.B.Behaviour.touches g.B.Behaviour.effect c.args.self.now c.args.index
+    (subst (λ (v : BoardOf g.row.B.Denot). length (ready_places g.B.Behaviour.touches v.log v.states) ≤ c.args.index) c.self.view_is few))
 
 pub index-behaviour-requires : goal.index-behaviour-requires
 index-behaviour-requires g c =
@@ -69,20 +76,18 @@ new-requires g c =
     c.read_all-inputs.ensures ∙ ap (read_cowns (held_of c.self.inside.columns)) (c.as_slice.ensures.value ∙ c.cowns.ensures) in
     taken_inputs_held touches effect c.self.invariant g.met.B.Behaviour.keeps c.args.index c.in_ok-position.place c.index-behaviour.result.now c.read_all-inputs.result.items ready here read
 
+pub take_out-requires : goal.take_out-requires
+take_out-requires g c = slice_get_within c.self.inside.waiting.items c.in_ok-position.position c.in_ok-position.place c.in_ok-position.ensures.0
+
 pub invariant_of-self : goal.invariant_of-self
 invariant_of-self g c =
     let touches = g.B.Behaviour.touches in
     let effect = g.B.Behaviour.effect in
     let ready = ready_from touches effect c.self.invariant c.args.index c.in_ok-position.place c.in_ok-position.ensures.1 in
-    let waiting = c.self.inside.waiting.items in
-    let within = slice_get_within waiting c.in_ok-position.position c.in_ok-position.place c.in_ok-position.ensures.0 in
-    let some = c.remove.ensures.succeeds c.in_ok-position.place (omega (arith, within, c.self.inside.waiting.ok)) in
-    let removed : c.remove.new.self.items ≡ remove waiting c.in_ok-position.position =
-    subst (λ (r : Option ℕ). OnSome r (c.remove.new.self.items ≡ remove waiting c.in_ok-position.position)) some c.remove.ensures.items in
-    rw removed (board_taken touches effect c.self.invariant c.args.index c.in_ok-position.position c.in_ok-position.place c.in_ok-position.ensures.0 ready)
+    rw c.take_out.ensures (board_taken touches effect c.self.invariant c.args.index c.in_ok-position.position c.in_ok-position.place c.in_ok-position.ensures.0 ready)
 
-pub returns : goal.returns
-returns g c =
+pub returns-clause-outcome : goal.returns-clause-outcome
+returns-clause-outcome g c =
     let touches = g.B.Behaviour.touches in
     let effect = g.B.Behaviour.effect in
     let log = c.self.inside.log.items in
@@ -93,3 +98,16 @@ returns g c =
     c.read_all-inputs.ensures ∙ ap (read_cowns (held_of c.self.inside.columns)) (c.as_slice.ensures.value ∙ c.cowns.ensures) in
     let takes = takes_from touches effect c.self.invariant c.args.index c.in_ok-position.place c.index-behaviour.result.now c.read_all-inputs.result.items ready here read in
     rw (c.new.ensures, sym c.self.view_is) takes
+
+pub returns-clause-played : goal.returns-clause-played
+returns-clause-played g c =
+    let touches = g.B.Behaviour.touches in
+    let effect = g.B.Behaviour.effect in
+    let log = c.self.inside.log.items in
+    let ready = ready_from touches effect c.self.invariant c.args.index c.in_ok-position.place c.in_ok-position.ensures.1 in
+    let lt = ready_within touches effect c.self.invariant c.args.index c.in_ok-position.place ready in
+    let here : slice_get log c.in_ok-position.place ≡ Some c.index-behaviour.result.now = slice_get_read log (length log) c.in_ok-position.place c.index-behaviour.result.now refl lt c.index-behaviour.ensures in
+    let read : c.read_all-inputs.result.items ≡ read_cowns (held_of c.self.inside.columns) (touches c.index-behaviour.result.now) =
+    c.read_all-inputs.ensures ∙ ap (read_cowns (held_of c.self.inside.columns)) (c.as_slice.ensures.value ∙ c.cowns.ensures) in
+    let takes = takes_from touches effect c.self.invariant c.args.index c.in_ok-position.place c.index-behaviour.result.now c.read_all-inputs.result.items ready here read in
+    rw (c.new.ensures, sym c.self.view_is) (played_taken touches effect takes)
