@@ -1,4 +1,5 @@
 pub mod Answer
 pub mod Fault
+pub mod Hashing
 pub mod Log
 pub mod Numbering

@@ -2,6 +2,7 @@
 #![tactic(auto)]
 
 mod answer;
+mod hashing;
 mod laws;
 mod sequencer;
 #[cfg(test)]

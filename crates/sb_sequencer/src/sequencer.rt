@@ -1,5 +1,6 @@
 //! The log of numbered requests.
 ghost use Rattle.std.specs.Prelude.{◌≡◌, ◌≢◌, ◌<◌, ◌≤◌, ◌↔◌, [], ◌∷◌, ◌++◌, length, List, IsTrue, IfOk, OnOk, OnErr};
+ghost use Rattle.std.specs.Option.{option_copied};
 ghost use Rattle.sb_calls.specs.declared.ask.Key.{Key as AnyKey};
 ghost use Rattle.sb_calls.specs.declared.call.Call.{Call as AnyCall};
 ghost use Rattle.sb_sequencer.specs.Answer.{IsAnswered, LogAfter, Numbers};
@@ -7,15 +8,17 @@ ghost use Rattle.sb_sequencer.specs.Log.{log_with};
 ghost use Rattle.sb_sequencer.specs.Numbering.{IsLog, call_at, place_of_key};
 
 use crate::answer::{AskFault, Numbered};
+use crate::hashing::KeyHasher;
 use indexmap::IndexMap;
 use sb_calls::{Call, Key, LOG_CALLS};
 use std::alloc::{AllocError, Global};
+use std::hash::BuildHasherDefault;
 use std::marker::Model;
 
 /// Numbers clients' requests into one log: each key once, in the order of first asks.
 #[derive(Drop)]
 pub struct Sequencer {
-    log: IndexMap<Key, Call>,
+    log: IndexMap<Key, Call, BuildHasherDefault<KeyHasher>>,
 }
 
 impl Model for Sequencer {
@@ -44,7 +47,7 @@ impl Sequencer {
         ensures { result ≡ [] }
     {
         Sequencer {
-            log: IndexMap::new(alloc),
+            log: IndexMap::with_hasher(alloc, BuildHasherDefault::new()),
         }
     }
 
@@ -54,7 +57,7 @@ impl Sequencer {
         ensures { IfOk result (λ sequencer. sequencer ≡ []) }
     {
         Ok(Sequencer {
-            log: IndexMap::with_capacity(alloc, calls)?,
+            log: IndexMap::with_capacity_and_hasher(alloc, calls, BuildHasherDefault::new())?,
         })
     }
 
@@ -67,12 +70,12 @@ impl Sequencer {
     }
 
     /// The call with this number, counted from 1, or `None` where there is none.
-    pub fn call(&self, number: u64) -> Option<Call>
-        ensures { result ≡ call_at self.now number }
+    pub fn call(&self, number: u64) -> Option<&Call>
+        ensures { option_copied result ≡ call_at self.now number }
     {
         let place = number.checked_sub(1)?;
         let (_, call) = self.log.get_index(place as usize)?;
-        Some(*call)
+        Some(call)
     }
 
     // Whether the log takes no more calls.

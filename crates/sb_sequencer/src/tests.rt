@@ -56,7 +56,7 @@ fn shows_calls_by_number(rt: HostRuntime) -> Result<(), Fail> {
     let alice = balance("alice")?;
     assert_eq!(rt; log.ask(1, 1, &alice), Ok(Numbered::New(1)));
     assert_eq!(rt; log.call(0), None);
-    assert_eq!(rt; log.call(1), Some(alice));
+    assert_eq!(rt; log.call(1), Some(&alice));
     assert_eq!(rt; log.call(2), None);
     assert_eq!(rt; log.call(u64::MAX), None);
     Ok(())
@@ -78,7 +78,7 @@ fn a_full_log_takes_repeats_alone(rt: HostRuntime) -> Result<(), Fail> {
         Ok(Numbered::Repeat(1_000_000))
     );
     assert_eq!(rt; log.length(), 1_000_000);
-    assert_eq!(rt; log.call(1_000_000), Some(alice));
+    assert_eq!(rt; log.call(1_000_000), Some(&alice));
     assert_eq!(rt; log.call(1_000_001), None);
     Ok(())
 }
@@ -131,7 +131,7 @@ fn answers_as_a_plain_search_does(rt: HostRuntime) -> Result<(), Fail> {
         assert_eq!(rt; log.length(), plain.len() as u64, "{step}");
     }
     for (place, (_, call)) in plain.iter().enumerate() {
-        assert_eq!(rt; log.call(place as u64 + 1), Some(*call), "{place}");
+        assert_eq!(rt; log.call(place as u64 + 1), Some(call), "{place}");
     }
     Ok(())
 }

@@ -55,7 +55,7 @@ fn submit_all(
 {
     for place in 0..log.length() {
         let call = log.call(place + 1).unwrap();
-        submit(directory, &call, board)?;
+        submit(directory, call, board)?;
     }
     Ok(())
 }
