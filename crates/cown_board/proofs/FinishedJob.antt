@@ -14,7 +14,7 @@ use Rattle.cown_board.proofs.Counts.{count_some, all_finished}
 use Rattle.cown_board.proofs.Finishing.{clear_of_out}
 use Rattle.cown_board.proofs.HeldLaws.{length-AreHeld}
 use Rattle.cown_board.proofs.Inputs.{holds_inputs, touched_within}
-use Rattle.cown_board.proofs.LogLaws.{injective, length-after}
+use Rattle.cown_board.proofs.LogLaws.{length-after}
 use Rattle.cown_board.proofs.Queued.{fronts_from_clear, in_front_from}
 use Rattle.cown_board.proofs.States.{state_here}
 use Rattle.cown_board.proofs.TakenJob.{inputs_held}
@@ -43,23 +43,6 @@ module _ {B : Type 0} (touches : B → List ℕ) (effect : B → List ℤ → Re
   -- what was tested, as what callers see
   abbrev IsOutInside : ℕ → DoneOf B → Type 0
   IsOutInside k done = (slice_get states k ≡ Some Out) × (slice_get log k ≡ Some done.behaviour) × (done.inputs ≡ read_cowns (held_of now) (touches done.behaviour))
-
-  -- what is compared: the behaviour at a place, its state, and what its cowns hold
-  module _ (k : ℕ) (done : DoneOf B) (state : State) (b : B) (cowns : List ℕ) (found : slice_get states k ≡ Some state) (here : slice_get log k ≡ Some b) (declared : cowns ≡ touches b) where
-    abbrev AreCompared : Type 0
-    AreCompared = (state ≡ Out) × (b ≡ done.behaviour) × (done.inputs ≡ read_cowns (held_of now) cowns)
-
-    pub inside_from : AreCompared → IsOutInside k done
-    inside_from same = (
-      found ∙ ap (λ s. Some s) same.0,
-      here ∙ ap (λ x. Some x) same.1,
-      same.2 ∙ ap (read_cowns (held_of now)) (declared ∙ ap touches same.1),
-    )
-
-    pub inside_to : IsOutInside k done → AreCompared
-    inside_to inside =
-        let same : b ≡ done.behaviour = injective (sym here ∙ inside.1) in
-        (injective (sym found ∙ inside.0), same, inside.2 ∙ sym (ap (read_cowns (held_of now)) (declared ∙ ap touches same)))
 
   pub out_from : (k : ℕ) (done : DoneOf B) → done.number ≡ suc (base + k) → IsOutInside k done → IsOutAt touches effect seen done k
   out_from k done numbered inside = record {

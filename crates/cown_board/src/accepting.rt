@@ -3,10 +3,10 @@ ghost use Rattle.std.specs.Prelude.{◌≡◌, ◌≢◌, ◌<◌, ◌+◌, ◌�
 ghost use Rattle.sb_calls.specs.Cowns.{AreBelow, held_of, read_cowns};
 ghost use Rattle.cown_board.specs.State as spec;
 
-use crate::held::hold;
+use crate::held::read_all;
 use crate::job::Done;
 use crate::state::State;
-use sb_calls::{Behaviour, Cown};
+use sb_calls::Behaviour;
 use sb_rows::Columns;
 
 // The place in the log of a number, if it has one.
@@ -38,18 +38,31 @@ fn same_behaviour<B: Behaviour>(a: B, b: B) -> bool
     a == b
 }
 
-// Whether what comes back is of a behaviour in this state that declares these cowns: it is out, on what they hold.
-pub(crate) fn is_accepted<B: Behaviour>(
+// Whether these are the same values.
+fn same_values(a: &[i64], b: &[i64]) -> bool
+    ensures { IsTrue result ↔ (a.now ≡ b.now) }
+{
+    a == b
+}
+
+// Whether the behaviour at a place is out, and what comes back is of this behaviour, on what its cowns hold.
+pub(crate) fn is_out_at<B: Behaviour>(
     columns: &Columns,
-    state: State,
-    behaviour: B,
-    cowns: &[Cown],
+    log: &Vec<B>,
+    states: &Vec<State>,
+    place: u64,
     done: &Done<B>,
 ) -> bool
-    requires { AreBelow (length (held_of columns.now)) cowns.now }
-    ensures { IsTrue result ↔ ((state ≡ State.Out) × (behaviour ≡ done.now.behaviour) × (done.now.inputs ≡ read_cowns (held_of columns.now) cowns.now)) }
+    requires place { place < length log.now.items }
+    requires beside { length log.now.items ≡ length states.now.items }
+    requires cowns { (k : ℕ) (behaviour : B) → slice_get log.now.items k ≡ Some behaviour → AreBelow (length (held_of columns.now)) (B.touches behaviour) }
+    ensures { IsTrue result ↔ ((slice_get states.now.items place ≡ Some State.Out) × (slice_get log.now.items place ≡ Some done.now.behaviour)
+        × (done.now.inputs ≡ read_cowns (held_of columns.now) (B.touches done.now.behaviour))) }
 {
-    is_out(state)
-        && same_behaviour(behaviour, done.behaviour())
-        && hold(columns, cowns, done.inputs())
+    let behaviour = log[place as usize];
+    if !is_out(states[place as usize]) || !same_behaviour(behaviour, done.behaviour()) {
+        return false;
+    }
+    let inputs = read_all(columns, behaviour.cowns().as_slice());
+    same_values(done.inputs(), inputs.as_slice())
 }

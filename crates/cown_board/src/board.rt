@@ -8,7 +8,7 @@ ghost use Rattle.cown_board.specs.Board.{BoardOf, length_of, open_of, reply_in, 
 ghost use Rattle.cown_board.specs.Played.{IsPlayed, Submitted, TakenAt, Returned};
 ghost use Rattle.cown_board.specs.Readiness.{ready_places};
 
-use crate::accepting::{is_accepted, place_of};
+use crate::accepting::{is_out_at, place_of};
 use crate::fronts::nth_front;
 use crate::held::{read_all, write_all};
 use crate::job::{Done, Job};
@@ -178,12 +178,11 @@ impl<B: Behaviour> Board<B> {
             (IsPlayed B.touches B.effect self.old (TakenAt index None) self.new)
             (λ job. IsPlayed B.touches B.effect self.old (TakenAt index (Some job)) self.new) }
     {
-        let (position, place, cowns) =
-            nth_front(&self.log, &self.queues, &self.waiting, index)?;
+        let (position, place) = nth_front(&self.log, &self.queues, &self.waiting, index)?;
         take_out(&mut self.waiting, position);
         let behaviour = self.log[place as usize];
         self.states[place as usize] = State::Out;
-        let inputs = read_all(&self.columns, cowns.as_slice());
+        let inputs = read_all(&self.columns, behaviour.cowns().as_slice());
         Some(Job::new(self.base + place + 1, behaviour, inputs))
     }
 
@@ -201,12 +200,10 @@ impl<B: Behaviour> Board<B> {
         let Some(place) = place_of(self.base, self.log.len(), done.number()) else {
             return Err(done);
         };
-        let behaviour = self.log[place as usize];
-        let state = self.states[place as usize];
-        let cowns = behaviour.cowns();
-        if !is_accepted(&self.columns, state, behaviour, cowns.as_slice(), &done) {
+        if !is_out_at(&self.columns, &self.log, &self.states, place, &done) {
             return Err(done);
         }
+        let cowns = self.log[place as usize].cowns();
         let (reply, outputs) = done.into_effect();
         settle(
             &mut self.queues,

@@ -1,10 +1,8 @@
 //! Which waiting behaviours are in front at all their cowns.
-ghost use Rattle.std.specs.Prelude.{◌≡◌, ◌↔◌, ◌<◌, ◌≤◌, ℕ, Some, length, filter, slice_get, is_some, All, IsTrue, IfSome, MatchOption};
+ghost use Rattle.std.specs.Prelude.{◌≡◌, ◌↔◌, ◌<◌, ◌≤◌, ℕ, Some, length, filter, slice_get, All, IsTrue, MatchOption};
 ghost use Rattle.sb_calls.specs.Cowns.{AreBelow};
 ghost use Rattle.cown_board.specs.Fronts.{AreFronts, is_front_at};
-ghost use Rattle.cown_board.specs.Readiness.{touched_by};
 
-use arrayvec::ArrayVec;
 use cown_queue::Queues;
 use sb_calls::{Behaviour, Cown};
 use std::collections::VecDeque;
@@ -22,47 +20,37 @@ pub(crate) fn is_in_front(queues: &Queues, number: u64, cowns: &[Cown]) -> bool
     true
 }
 
-// The cowns of the behaviour at a place of a log, if it is in front at all of them.
-fn cowns_in_front<B: Behaviour>(
-    log: &Vec<B>,
-    queues: &Queues,
-    place: u64,
-) -> Option<ArrayVec<Cown, 3>>
+// Whether the behaviour at a place of a log is in front at all its cowns.
+fn is_front<B: Behaviour>(log: &Vec<B>, queues: &Queues, place: u64) -> bool
     requires place { place < length log.now.items }
     requires cowns { (k : ℕ) (behaviour : B) → slice_get log.now.items k ≡ Some behaviour → AreBelow (length queues.now.lists) (B.touches behaviour) }
-    ensures front { is_some result ≡ is_front_at B.touches log.now.items queues.now.lists place }
-    ensures cowns { IfSome result (λ cowns. cowns.items ≡ touched_by B.touches (slice_get log.now.items place)) }
+    ensures { result ≡ is_front_at B.touches log.now.items queues.now.lists place }
 {
     let cowns = log[place as usize].cowns();
-    if is_in_front(queues, place, cowns.as_slice()) {
-        Some(cowns)
-    } else {
-        None
-    }
+    is_in_front(queues, place, cowns.as_slice())
 }
 
-// The waiting place that is in front at all its cowns and has this many such places before it, behind where
-// it stands in their list, and before its cowns.
+// The waiting place that is in front at all its cowns and has this many such places before it, with where it
+// stands in their list.
 pub(crate) fn nth_front<B: Behaviour>(
     log: &Vec<B>,
     queues: &Queues,
     waiting: &VecDeque<u64>,
     index: usize,
-) -> Option<(usize, u64, ArrayVec<Cown, 3>)>
+) -> Option<(usize, u64)>
     requires places { All (λ place. place < length log.now.items) waiting.now.items }
     requires cowns { (place : ℕ) (behaviour : B) → slice_get log.now.items place ≡ Some behaviour → AreBelow (length queues.now.lists) (B.touches behaviour) }
     ensures { MatchOption result
         (length (filter (is_front_at B.touches log.now.items queues.now.lists) waiting.now.items) ≤ index)
         (λ found. (slice_get waiting.now.items found.0 ≡ Some found.1)
-        × (slice_get (filter (is_front_at B.touches log.now.items queues.now.lists) waiting.now.items) index ≡ Some found.1)
-        × (found.2.items ≡ touched_by B.touches (slice_get log.now.items found.1))) }
+        × (slice_get (filter (is_front_at B.touches log.now.items queues.now.lists) waiting.now.items) index ≡ Some found.1)) }
 {
     let mut before = 0;
     for position in 0..waiting.len() {
         let place = waiting[position];
-        if let Some(cowns) = cowns_in_front(log, queues, place) {
+        if is_front(log, queues, place) {
             if before == index {
-                return Some((position, place, cowns));
+                return Some((position, place));
             }
             before += 1;
         }

@@ -1,5 +1,5 @@
 //! Reading and writing balances by cown.
-ghost use Rattle.std.specs.Prelude.{◌≡◌, ◌↔◌, ◌<◌, ◌≤◌, length, pos, get_or, slice_set, IsTrue};
+ghost use Rattle.std.specs.Prelude.{◌≡◌, ◌<◌, ◌≤◌, length, pos, get_or, slice_set};
 ghost use Rattle.sb_amount.specs.Limit.{IsWithinLimit};
 ghost use Rattle.sb_calls.specs.Cowns.{AreBelow, AreHeld, IsHeld, held_of, read_cowns, write_cowns};
 
@@ -68,22 +68,6 @@ pub(crate) fn read_all(columns: &Columns, cowns: &[Cown]) -> ArrayVec<i64, 3>
         values.push(value_of(read(columns, *cown)));
     }
     values
-}
-
-// Whether these cowns hold these values, in order.
-pub(crate) fn hold(columns: &Columns, cowns: &[Cown], values: &[i64]) -> bool
-    requires { AreBelow (length (held_of columns.now)) cowns.now }
-    ensures { IsTrue result ↔ (values.now ≡ read_cowns (held_of columns.now) cowns.now) }
-{
-    if values.len() != cowns.len() {
-        return false;
-    }
-    for place in 0..cowns.len() {
-        if value_of(read(columns, cowns[place])) != values[place] {
-            return false;
-        }
-    }
-    true
 }
 
 // Replaces what these cowns hold.

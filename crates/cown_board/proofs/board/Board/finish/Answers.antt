@@ -4,7 +4,7 @@ use Rattle.std.proofs.lemmas.Bool.{both_ways}
 use Rattle.std.proofs.lemmas.Option.{slice_get_read}
 use Rattle.sb_calls.specs.Cowns.{AreBelow, AreHeld, held_of, write_cowns}
 use Rattle.cown_queue.specs.Queues.{IsInFront, Releases}
-use Rattle.cown_board.proofs.FinishedJob.{not_numbered, not_inside, refused_done, accepted_done, released_in_front, some_unfinished, outputs_held, board_finished, finishes_from, seen, inside_from, inside_to}
+use Rattle.cown_board.proofs.FinishedJob.{not_numbered, not_inside, refused_done, accepted_done, released_in_front, some_unfinished, outputs_held, board_finished, finishes_from, seen}
 use Rattle.cown_board.proofs.TakenJob.{declared_in_queues, declared_in_held}
 use Rattle.cown_board.proofs.LogLaws.{injective}
 use Rattle.cown_board.proofs.PlayedCalls.{played_refused, played_finished}
@@ -22,94 +22,71 @@ returns-in_default-clause-accepted g c =
     (refused_done touches effect board done (not_numbered touches effect board done (λ k lt same.
     c.in_default.ensures k (omega (arith, lt, c.len.ensures, c.self.inside.log.ok)) (c.number.ensures ∙ same))))
 
-pub is_accepted-requires : goal.is_accepted-requires
-is_accepted-requires g c =
-    let touches = g.B.Behaviour.touches in
-    let log = c.self.inside.log.items in
-    let here : slice_get log c.in-Some.place ≡ Some c.index-behaviour.result.now = slice_get_read log (length log) c.in-Some.place c.index-behaviour.result.now refl (omega (arith, c.in-Some.ensures.0, c.len.ensures, c.self.inside.log.ok)) c.index-behaviour.ensures in
-    subst (AreBelow (length (held_of c.self.inside.columns))) (sym (c.as_slice.ensures.value ∙ c.cowns-cowns.ensures)) (declared_in_held touches g.B.Behaviour.effect c.self.invariant c.in-Some.place c.index-behaviour.result.now here)
+pub is_out_at-requires-clause-cowns : goal.is_out_at-requires-clause-cowns
+is_out_at-requires-clause-cowns g c k b here = declared_in_held g.B.Behaviour.touches g.B.Behaviour.effect c.self.invariant k b here
 
-pub returns-then-not-is_accepted-clause-accepted : goal.returns-then-not-is_accepted-clause-accepted
-returns-then-not-is_accepted-clause-accepted g c =
+pub returns-then-not-is_out_at-clause-accepted : goal.returns-then-not-is_out_at-clause-accepted
+returns-then-not-is_out_at-clause-accepted g c =
     let touches = g.B.Behaviour.touches in
     let effect = g.B.Behaviour.effect in
     let board = c.self.invariant in
     let done = c.args.done in
-    let log = c.self.inside.log.items in
-    let here : slice_get log c.in-Some.place ≡ Some c.index-behaviour.result.now = slice_get_read log (length log) c.in-Some.place c.index-behaviour.result.now refl (omega (arith, c.in-Some.ensures.0, c.len.ensures, c.self.inside.log.ok)) c.index-behaviour.ensures in
-    let states = c.self.inside.states.items in
-    let found : slice_get states c.in-Some.place ≡ Some c.index-state.result.now = slice_get_read states (length states) c.in-Some.place c.index-state.result.now refl (omega (arith, c.in-Some.ensures.0, c.len.ensures, c.self.inside.log.ok, c.self.invariant.keeps.beside)) c.index-state.ensures in
-    let declared_here : c.as_slice.result.now ≡ g.B.Behaviour.touches c.index-behaviour.result.now = c.as_slice.ensures.value ∙ c.cowns-cowns.ensures in
     subst (λ (v : BoardOf g.row.B.Denot). (false ≡ true → IsOutHere touches effect v done) × (IsOutHere touches effect v done → false ≡ true)) c.self.view_is
     (refused_done touches effect board done (not_inside touches effect board c.in-Some.place done (sym c.number.ensures ∙ c.in-Some.ensures.1)
-    (λ inside. both_ways c.is_accepted.result c.if-not-is_accepted.true (c.is_accepted.ensures.1 (inside_to touches effect board c.in-Some.place done c.index-state.result.now c.index-behaviour.result.now c.as_slice.result.now found here declared_here inside)))))
+    (λ inside. both_ways c.is_out_at.result c.if-not-is_out_at.true (c.is_out_at.ensures.1 inside))))
 
 pub settle-requires-clause-queued : goal.settle-requires-clause-queued
 settle-requires-clause-queued g c =
     let touches = g.B.Behaviour.touches in
     let log = c.self.inside.log.items in
-    let here : slice_get log c.in-Some.place ≡ Some c.index-behaviour.result.now = slice_get_read log (length log) c.in-Some.place c.index-behaviour.result.now refl (omega (arith, c.in-Some.ensures.0, c.len.ensures, c.self.inside.log.ok)) c.index-behaviour.ensures in
-    subst (AreBelow (length c.self.inside.queues.lists)) (sym (c.as_slice-2.ensures.value ∙ c.cowns-cowns.ensures)) (declared_in_queues touches g.B.Behaviour.effect c.self.invariant c.in-Some.place c.index-behaviour.result.now here)
+    let here : slice_get log c.in-Some.place ≡ Some c.index.result.now = slice_get_read log (length log) c.in-Some.place c.index.result.now refl (omega (arith, c.in-Some.ensures.0, c.len.ensures, c.self.inside.log.ok)) c.index.ensures in
+    subst (AreBelow (length c.self.inside.queues.lists)) (sym (c.as_slice.ensures.value ∙ c.cowns-cowns.ensures)) (declared_in_queues touches g.B.Behaviour.effect c.self.invariant c.in-Some.place c.index.result.now here)
 
 pub settle-requires-clause-front : goal.settle-requires-clause-front
 settle-requires-clause-front g c =
     let touches = g.B.Behaviour.touches in
     let log = c.self.inside.log.items in
-    let here : slice_get log c.in-Some.place ≡ Some c.index-behaviour.result.now = slice_get_read log (length log) c.in-Some.place c.index-behaviour.result.now refl (omega (arith, c.in-Some.ensures.0, c.len.ensures, c.self.inside.log.ok)) c.index-behaviour.ensures in
-    let states = c.self.inside.states.items in
-    let found : slice_get states c.in-Some.place ≡ Some c.index-state.result.now = slice_get_read states (length states) c.in-Some.place c.index-state.result.now refl (omega (arith, c.in-Some.ensures.0, c.len.ensures, c.self.inside.log.ok, c.self.invariant.keeps.beside)) c.index-state.ensures in
-    let declared_here : c.as_slice.result.now ≡ g.B.Behaviour.touches c.index-behaviour.result.now = c.as_slice.ensures.value ∙ c.cowns-cowns.ensures in
-    let inside = inside_from g.B.Behaviour.touches g.B.Behaviour.effect c.self.invariant c.in-Some.place c.args.done c.index-state.result.now c.index-behaviour.result.now c.as_slice.result.now found here declared_here (c.is_accepted.ensures.0 c.if-not-is_accepted.false) in
-    let same : c.index-behaviour.result.now ≡ c.args.done.behaviour = injective (sym here ∙ inside.1) in
-    subst (λ cowns. IsInFront c.in-Some.place cowns c.self.inside.queues.lists) (sym (c.as_slice-2.ensures.value ∙ c.cowns-cowns.ensures ∙ ap touches same))
+    let inside = c.is_out_at.ensures.0 c.if-not-is_out_at.false in
+    let here : slice_get log c.in-Some.place ≡ Some c.index.result.now = slice_get_read log (length log) c.in-Some.place c.index.result.now refl (omega (arith, c.in-Some.ensures.0, c.len.ensures, c.self.inside.log.ok)) c.index.ensures in
+    let same : c.index.result.now ≡ c.args.done.behaviour = injective (sym here ∙ inside.1) in
+    subst (λ cowns. IsInFront c.in-Some.place cowns c.self.inside.queues.lists) (sym (c.as_slice.ensures.value ∙ c.cowns-cowns.ensures ∙ ap touches same))
     (released_in_front touches g.B.Behaviour.effect c.self.invariant c.in-Some.place c.args.done (sym c.number.ensures ∙ c.in-Some.ensures.1) inside)
 
 pub settle-requires-clause-held : goal.settle-requires-clause-held
 settle-requires-clause-held g c =
     let touches = g.B.Behaviour.touches in
     let log = c.self.inside.log.items in
-    let here : slice_get log c.in-Some.place ≡ Some c.index-behaviour.result.now = slice_get_read log (length log) c.in-Some.place c.index-behaviour.result.now refl (omega (arith, c.in-Some.ensures.0, c.len.ensures, c.self.inside.log.ok)) c.index-behaviour.ensures in
-    subst (AreBelow (length (held_of c.self.inside.columns))) (sym (c.as_slice-2.ensures.value ∙ c.cowns-cowns.ensures)) (declared_in_held touches g.B.Behaviour.effect c.self.invariant c.in-Some.place c.index-behaviour.result.now here)
+    let here : slice_get log c.in-Some.place ≡ Some c.index.result.now = slice_get_read log (length log) c.in-Some.place c.index.result.now refl (omega (arith, c.in-Some.ensures.0, c.len.ensures, c.self.inside.log.ok)) c.index.ensures in
+    subst (AreBelow (length (held_of c.self.inside.columns))) (sym (c.as_slice.ensures.value ∙ c.cowns-cowns.ensures)) (declared_in_held touches g.B.Behaviour.effect c.self.invariant c.in-Some.place c.index.result.now here)
 
 pub settle-requires-clause-outputs : goal.settle-requires-clause-outputs
 settle-requires-clause-outputs g c =
     let touches = g.B.Behaviour.touches in
     let log = c.self.inside.log.items in
-    let here : slice_get log c.in-Some.place ≡ Some c.index-behaviour.result.now = slice_get_read log (length log) c.in-Some.place c.index-behaviour.result.now refl (omega (arith, c.in-Some.ensures.0, c.len.ensures, c.self.inside.log.ok)) c.index-behaviour.ensures in
-    let states = c.self.inside.states.items in
-    let found : slice_get states c.in-Some.place ≡ Some c.index-state.result.now = slice_get_read states (length states) c.in-Some.place c.index-state.result.now refl (omega (arith, c.in-Some.ensures.0, c.len.ensures, c.self.inside.log.ok, c.self.invariant.keeps.beside)) c.index-state.ensures in
-    let declared_here : c.as_slice.result.now ≡ g.B.Behaviour.touches c.index-behaviour.result.now = c.as_slice.ensures.value ∙ c.cowns-cowns.ensures in
-    let inside = inside_from g.B.Behaviour.touches g.B.Behaviour.effect c.self.invariant c.in-Some.place c.args.done c.index-state.result.now c.index-behaviour.result.now c.as_slice.result.now found here declared_here (c.is_accepted.ensures.0 c.if-not-is_accepted.false) in
-    let same : c.index-behaviour.result.now ≡ c.args.done.behaviour = injective (sym here ∙ inside.1) in
-    subst (λ cowns. AreHeld cowns c.as_slice-3.result.now) (sym (c.as_slice-2.ensures.value ∙ c.cowns-cowns.ensures ∙ ap touches same))
+    let inside = c.is_out_at.ensures.0 c.if-not-is_out_at.false in
+    let here : slice_get log c.in-Some.place ≡ Some c.index.result.now = slice_get_read log (length log) c.in-Some.place c.index.result.now refl (omega (arith, c.in-Some.ensures.0, c.len.ensures, c.self.inside.log.ok)) c.index.ensures in
+    let same : c.index.result.now ≡ c.args.done.behaviour = injective (sym here ∙ inside.1) in
+    subst (λ cowns. AreHeld cowns c.as_slice-2.result.now) (sym (c.as_slice.ensures.value ∙ c.cowns-cowns.ensures ∙ ap touches same))
     (outputs_held touches g.B.Behaviour.effect c.self.invariant c.in-Some.place c.args.done (sym c.number.ensures ∙ c.in-Some.ensures.1) inside g.met.B.Behaviour.keeps
-    c.as_slice-3.result.now (c.as_slice-3.ensures.value ∙ c.into_effect-reply.ensures.outputs))
+    c.as_slice-2.result.now (c.as_slice-2.ensures.value ∙ c.into_effect-reply.ensures.outputs))
 
 pub overflow_sub-self : goal.overflow_sub-self
 overflow_sub-self g c =
-    let log = c.self.inside.log.items in
-    let here : slice_get log c.in-Some.place ≡ Some c.index-behaviour.result.now = slice_get_read log (length log) c.in-Some.place c.index-behaviour.result.now refl (omega (arith, c.in-Some.ensures.0, c.len.ensures, c.self.inside.log.ok)) c.index-behaviour.ensures in
-    let states = c.self.inside.states.items in
-    let found : slice_get states c.in-Some.place ≡ Some c.index-state.result.now = slice_get_read states (length states) c.in-Some.place c.index-state.result.now refl (omega (arith, c.in-Some.ensures.0, c.len.ensures, c.self.inside.log.ok, c.self.invariant.keeps.beside)) c.index-state.ensures in
-    let declared_here : c.as_slice.result.now ≡ g.B.Behaviour.touches c.index-behaviour.result.now = c.as_slice.ensures.value ∙ c.cowns-cowns.ensures in
-    let inside = inside_from g.B.Behaviour.touches g.B.Behaviour.effect c.self.invariant c.in-Some.place c.args.done c.index-state.result.now c.index-behaviour.result.now c.as_slice.result.now found here declared_here (c.is_accepted.ensures.0 c.if-not-is_accepted.false) in
+    let inside = c.is_out_at.ensures.0 c.if-not-is_out_at.false in
     some_unfinished g.B.Behaviour.touches g.B.Behaviour.effect c.self.invariant c.in-Some.place c.args.done (sym c.number.ensures ∙ c.in-Some.ensures.1) inside
 
 pub invariant_of-self : goal.invariant_of-self
 invariant_of-self g c =
     let touches = g.B.Behaviour.touches in
     let log = c.self.inside.log.items in
-    let here : slice_get log c.in-Some.place ≡ Some c.index-behaviour.result.now = slice_get_read log (length log) c.in-Some.place c.index-behaviour.result.now refl (omega (arith, c.in-Some.ensures.0, c.len.ensures, c.self.inside.log.ok)) c.index-behaviour.ensures in
-    let states = c.self.inside.states.items in
-    let found : slice_get states c.in-Some.place ≡ Some c.index-state.result.now = slice_get_read states (length states) c.in-Some.place c.index-state.result.now refl (omega (arith, c.in-Some.ensures.0, c.len.ensures, c.self.inside.log.ok, c.self.invariant.keeps.beside)) c.index-state.ensures in
-    let declared_here : c.as_slice.result.now ≡ g.B.Behaviour.touches c.index-behaviour.result.now = c.as_slice.ensures.value ∙ c.cowns-cowns.ensures in
-    let inside = inside_from g.B.Behaviour.touches g.B.Behaviour.effect c.self.invariant c.in-Some.place c.args.done c.index-state.result.now c.index-behaviour.result.now c.as_slice.result.now found here declared_here (c.is_accepted.ensures.0 c.if-not-is_accepted.false) in
-    let same : c.index-behaviour.result.now ≡ c.args.done.behaviour = injective (sym here ∙ inside.1) in
-    let declared : c.as_slice-2.result.now ≡ touches c.args.done.behaviour = c.as_slice-2.ensures.value ∙ c.cowns-cowns.ensures ∙ ap touches same in
+    let inside = c.is_out_at.ensures.0 c.if-not-is_out_at.false in
+    let here : slice_get log c.in-Some.place ≡ Some c.index.result.now = slice_get_read log (length log) c.in-Some.place c.index.result.now refl (omega (arith, c.in-Some.ensures.0, c.len.ensures, c.self.inside.log.ok)) c.index.ensures in
+    let same : c.index.result.now ≡ c.args.done.behaviour = injective (sym here ∙ inside.1) in
+    let declared : c.as_slice.result.now ≡ touches c.args.done.behaviour = c.as_slice.ensures.value ∙ c.cowns-cowns.ensures ∙ ap touches same in
     board_finished touches g.B.Behaviour.effect c.self.invariant c.in-Some.place c.args.done (sym c.number.ensures ∙ c.in-Some.ensures.1) inside g.met.B.Behaviour.keeps
-    c.into_effect-reply.result.0 c.as_slice-3.result.now c.settle.new.columns c.settle.new.queues.lists
-    c.into_effect-reply.ensures.reply (c.as_slice-3.ensures.value ∙ c.into_effect-reply.ensures.outputs)
-    (c.settle.ensures.written ∙ ap (λ cowns. write_cowns (held_of c.self.inside.columns) cowns c.as_slice-3.result.now) declared)
+    c.into_effect-reply.result.0 c.as_slice-2.result.now c.settle.new.columns c.settle.new.queues.lists
+    c.into_effect-reply.ensures.reply (c.as_slice-2.ensures.value ∙ c.into_effect-reply.ensures.outputs)
+    (c.settle.ensures.written ∙ ap (λ cowns. write_cowns (held_of c.self.inside.columns) cowns c.as_slice-2.result.now) declared)
     (subst (λ cowns. Releases cowns c.self.inside.queues.lists c.settle.new.queues.lists) declared c.settle.ensures.lists)
 
 pub returns-clause-accepted : goal.returns-clause-accepted
@@ -117,12 +94,7 @@ returns-clause-accepted g c =
     let touches = g.B.Behaviour.touches in
     let effect = g.B.Behaviour.effect in
     let done = c.args.done in
-    let log = c.self.inside.log.items in
-    let here : slice_get log c.in-Some.place ≡ Some c.index-behaviour.result.now = slice_get_read log (length log) c.in-Some.place c.index-behaviour.result.now refl (omega (arith, c.in-Some.ensures.0, c.len.ensures, c.self.inside.log.ok)) c.index-behaviour.ensures in
-    let states = c.self.inside.states.items in
-    let found : slice_get states c.in-Some.place ≡ Some c.index-state.result.now = slice_get_read states (length states) c.in-Some.place c.index-state.result.now refl (omega (arith, c.in-Some.ensures.0, c.len.ensures, c.self.inside.log.ok, c.self.invariant.keeps.beside)) c.index-state.ensures in
-    let declared_here : c.as_slice.result.now ≡ g.B.Behaviour.touches c.index-behaviour.result.now = c.as_slice.ensures.value ∙ c.cowns-cowns.ensures in
-    let inside = inside_from g.B.Behaviour.touches g.B.Behaviour.effect c.self.invariant c.in-Some.place c.args.done c.index-state.result.now c.index-behaviour.result.now c.as_slice.result.now found here declared_here (c.is_accepted.ensures.0 c.if-not-is_accepted.false) in
+    let inside = c.is_out_at.ensures.0 c.if-not-is_out_at.false in
     subst (λ (v : BoardOf g.row.B.Denot). (true ≡ true → IsOutHere touches effect v done) × (IsOutHere touches effect v done → true ≡ true)) c.self.view_is
     (accepted_done touches effect c.self.invariant c.in-Some.place done (sym c.number.ensures ∙ c.in-Some.ensures.1) inside)
 
@@ -130,12 +102,7 @@ pub returns-clause-outcome : goal.returns-clause-outcome
 returns-clause-outcome g c =
     let touches = g.B.Behaviour.touches in
     let effect = g.B.Behaviour.effect in
-    let log = c.self.inside.log.items in
-    let here : slice_get log c.in-Some.place ≡ Some c.index-behaviour.result.now = slice_get_read log (length log) c.in-Some.place c.index-behaviour.result.now refl (omega (arith, c.in-Some.ensures.0, c.len.ensures, c.self.inside.log.ok)) c.index-behaviour.ensures in
-    let states = c.self.inside.states.items in
-    let found : slice_get states c.in-Some.place ≡ Some c.index-state.result.now = slice_get_read states (length states) c.in-Some.place c.index-state.result.now refl (omega (arith, c.in-Some.ensures.0, c.len.ensures, c.self.inside.log.ok, c.self.invariant.keeps.beside)) c.index-state.ensures in
-    let declared_here : c.as_slice.result.now ≡ g.B.Behaviour.touches c.index-behaviour.result.now = c.as_slice.ensures.value ∙ c.cowns-cowns.ensures in
-    let inside = inside_from g.B.Behaviour.touches g.B.Behaviour.effect c.self.invariant c.in-Some.place c.args.done c.index-state.result.now c.index-behaviour.result.now c.as_slice.result.now found here declared_here (c.is_accepted.ensures.0 c.if-not-is_accepted.false) in
+    let inside = c.is_out_at.ensures.0 c.if-not-is_out_at.false in
     let finished = finishes_from touches effect c.self.invariant c.in-Some.place c.args.done (sym c.number.ensures ∙ c.in-Some.ensures.1) inside c.into_effect-reply.result.0 c.into_effect-reply.ensures.reply in
     rw (sym c.self.view_is) finished
 
@@ -149,30 +116,20 @@ returns-in_default-clause-played g c =
     (played_refused touches effect (seen touches effect board) done (not_numbered touches effect board done (λ k lt same.
     c.in_default.ensures k (omega (arith, lt, c.len.ensures, c.self.inside.log.ok)) (c.number.ensures ∙ same))))
 
-pub returns-then-not-is_accepted-clause-played : goal.returns-then-not-is_accepted-clause-played
-returns-then-not-is_accepted-clause-played g c =
+pub returns-then-not-is_out_at-clause-played : goal.returns-then-not-is_out_at-clause-played
+returns-then-not-is_out_at-clause-played g c =
     let touches = g.B.Behaviour.touches in
     let effect = g.B.Behaviour.effect in
     let board = c.self.invariant in
     let done = c.args.done in
-    let log = c.self.inside.log.items in
-    let here : slice_get log c.in-Some.place ≡ Some c.index-behaviour.result.now = slice_get_read log (length log) c.in-Some.place c.index-behaviour.result.now refl (omega (arith, c.in-Some.ensures.0, c.len.ensures, c.self.inside.log.ok)) c.index-behaviour.ensures in
-    let states = c.self.inside.states.items in
-    let found : slice_get states c.in-Some.place ≡ Some c.index-state.result.now = slice_get_read states (length states) c.in-Some.place c.index-state.result.now refl (omega (arith, c.in-Some.ensures.0, c.len.ensures, c.self.inside.log.ok, c.self.invariant.keeps.beside)) c.index-state.ensures in
-    let declared_here : c.as_slice.result.now ≡ g.B.Behaviour.touches c.index-behaviour.result.now = c.as_slice.ensures.value ∙ c.cowns-cowns.ensures in
     subst (λ (v : BoardOf g.row.B.Denot). IsPlayed touches effect v (Returned done (Err done)) v) c.self.view_is
     (played_refused touches effect (seen touches effect board) done (not_inside touches effect board c.in-Some.place done (sym c.number.ensures ∙ c.in-Some.ensures.1)
-    (λ inside. both_ways c.is_accepted.result c.if-not-is_accepted.true (c.is_accepted.ensures.1 (inside_to touches effect board c.in-Some.place done c.index-state.result.now c.index-behaviour.result.now c.as_slice.result.now found here declared_here inside)))))
+    (λ inside. both_ways c.is_out_at.result c.if-not-is_out_at.true (c.is_out_at.ensures.1 inside))))
 
 pub returns-clause-played : goal.returns-clause-played
 returns-clause-played g c =
     let touches = g.B.Behaviour.touches in
     let effect = g.B.Behaviour.effect in
-    let log = c.self.inside.log.items in
-    let here : slice_get log c.in-Some.place ≡ Some c.index-behaviour.result.now = slice_get_read log (length log) c.in-Some.place c.index-behaviour.result.now refl (omega (arith, c.in-Some.ensures.0, c.len.ensures, c.self.inside.log.ok)) c.index-behaviour.ensures in
-    let states = c.self.inside.states.items in
-    let found : slice_get states c.in-Some.place ≡ Some c.index-state.result.now = slice_get_read states (length states) c.in-Some.place c.index-state.result.now refl (omega (arith, c.in-Some.ensures.0, c.len.ensures, c.self.inside.log.ok, c.self.invariant.keeps.beside)) c.index-state.ensures in
-    let declared_here : c.as_slice.result.now ≡ g.B.Behaviour.touches c.index-behaviour.result.now = c.as_slice.ensures.value ∙ c.cowns-cowns.ensures in
-    let inside = inside_from g.B.Behaviour.touches g.B.Behaviour.effect c.self.invariant c.in-Some.place c.args.done c.index-state.result.now c.index-behaviour.result.now c.as_slice.result.now found here declared_here (c.is_accepted.ensures.0 c.if-not-is_accepted.false) in
+    let inside = c.is_out_at.ensures.0 c.if-not-is_out_at.false in
     let finished = finishes_from touches effect c.self.invariant c.in-Some.place c.args.done (sym c.number.ensures ∙ c.in-Some.ensures.1) inside c.into_effect-reply.result.0 c.into_effect-reply.ensures.reply in
     rw (sym c.self.view_is) (played_finished touches effect finished)

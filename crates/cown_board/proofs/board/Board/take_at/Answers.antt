@@ -5,7 +5,7 @@ use Rattle.sb_calls.specs.Cowns.{AreBelow, held_of, read_cowns}
 use Rattle.cown_board.proofs.TakenJob.{waiting_below, ready_from, few_from, ready_within, number_below, takes_from, taken_inputs_held, board_taken, declared_in_queues, declared_in_held}
 use Rattle.cown_board.proofs.PlayedCalls.{played_none, played_taken}
 use Rattle.cown_board.specs.Board.{BoardOf}
-use Rattle.cown_board.specs.Readiness.{touched_by, ready_places}
+use Rattle.cown_board.specs.Readiness.{ready_places}
 use Rattle.cown_board.proofs.board.Board.take_at.Goals as goal
 
 pub nth_front-requires-clause-places : goal.nth_front-requires-clause-places
@@ -46,7 +46,7 @@ read_all-inputs-requires-clause-cowns g c =
     let log = c.self.inside.log.items in
     let lt = ready_within touches effect c.self.invariant c.args.index c.in_ok-position.place (ready_from touches effect c.self.invariant c.args.index c.in_ok-position.place c.in_ok-position.ensures.1) in
     let here : slice_get log c.in_ok-position.place ≡ Some c.index-behaviour.result.now = slice_get_read log (length log) c.in_ok-position.place c.index-behaviour.result.now refl lt c.index-behaviour.ensures in
-    subst (AreBelow (length (held_of c.self.inside.columns))) (sym (c.as_slice.ensures.value ∙ c.in_ok-position.ensures.2 ∙ ap (touched_by touches) here)) (declared_in_held touches effect c.self.invariant c.in_ok-position.place c.index-behaviour.result.now here)
+    subst (AreBelow (length (held_of c.self.inside.columns))) (sym (c.as_slice.ensures.value ∙ c.cowns.ensures)) (declared_in_held touches effect c.self.invariant c.in_ok-position.place c.index-behaviour.result.now here)
 
 pub overflow_add-self-inside : goal.overflow_add-self-inside
 overflow_add-self-inside g c =
@@ -73,7 +73,7 @@ new-requires g c =
     let lt = ready_within touches effect c.self.invariant c.args.index c.in_ok-position.place ready in
     let here : slice_get log c.in_ok-position.place ≡ Some c.index-behaviour.result.now = slice_get_read log (length log) c.in_ok-position.place c.index-behaviour.result.now refl lt c.index-behaviour.ensures in
     let read : c.read_all-inputs.result.items ≡ read_cowns (held_of c.self.inside.columns) (touches c.index-behaviour.result.now) =
-    c.read_all-inputs.ensures ∙ ap (read_cowns (held_of c.self.inside.columns)) (c.as_slice.ensures.value ∙ c.in_ok-position.ensures.2 ∙ ap (touched_by touches) here) in
+    c.read_all-inputs.ensures ∙ ap (read_cowns (held_of c.self.inside.columns)) (c.as_slice.ensures.value ∙ c.cowns.ensures) in
     taken_inputs_held touches effect c.self.invariant g.met.B.Behaviour.keeps c.args.index c.in_ok-position.place c.index-behaviour.result.now c.read_all-inputs.result.items ready here read
 
 pub take_out-requires : goal.take_out-requires
@@ -95,7 +95,7 @@ returns-clause-outcome g c =
     let lt = ready_within touches effect c.self.invariant c.args.index c.in_ok-position.place ready in
     let here : slice_get log c.in_ok-position.place ≡ Some c.index-behaviour.result.now = slice_get_read log (length log) c.in_ok-position.place c.index-behaviour.result.now refl lt c.index-behaviour.ensures in
     let read : c.read_all-inputs.result.items ≡ read_cowns (held_of c.self.inside.columns) (touches c.index-behaviour.result.now) =
-    c.read_all-inputs.ensures ∙ ap (read_cowns (held_of c.self.inside.columns)) (c.as_slice.ensures.value ∙ c.in_ok-position.ensures.2 ∙ ap (touched_by touches) here) in
+    c.read_all-inputs.ensures ∙ ap (read_cowns (held_of c.self.inside.columns)) (c.as_slice.ensures.value ∙ c.cowns.ensures) in
     let takes = takes_from touches effect c.self.invariant c.args.index c.in_ok-position.place c.index-behaviour.result.now c.read_all-inputs.result.items ready here read in
     rw (c.new.ensures, sym c.self.view_is) takes
 
@@ -108,6 +108,6 @@ returns-clause-played g c =
     let lt = ready_within touches effect c.self.invariant c.args.index c.in_ok-position.place ready in
     let here : slice_get log c.in_ok-position.place ≡ Some c.index-behaviour.result.now = slice_get_read log (length log) c.in_ok-position.place c.index-behaviour.result.now refl lt c.index-behaviour.ensures in
     let read : c.read_all-inputs.result.items ≡ read_cowns (held_of c.self.inside.columns) (touches c.index-behaviour.result.now) =
-    c.read_all-inputs.ensures ∙ ap (read_cowns (held_of c.self.inside.columns)) (c.as_slice.ensures.value ∙ c.in_ok-position.ensures.2 ∙ ap (touched_by touches) here) in
+    c.read_all-inputs.ensures ∙ ap (read_cowns (held_of c.self.inside.columns)) (c.as_slice.ensures.value ∙ c.cowns.ensures) in
     let takes = takes_from touches effect c.self.invariant c.args.index c.in_ok-position.place c.index-behaviour.result.now c.read_all-inputs.result.items ready here read in
     rw (c.new.ensures, sym c.self.view_is) (played_taken touches effect takes)
