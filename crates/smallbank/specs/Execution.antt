@@ -1,12 +1,23 @@
 -- What carrying out the log over a board keeps.
 use Rattle.std.specs.Prelude.{◌≡◌, ℕ, suc, ◌<◌, List, [], ◌∷◌, ◌++◌, length, slice_get}
 use Rattle.sb_calls.specs.Behaviour.{declared_cowns, effect_of}
-use Rattle.sb_calls.specs.Cowns.{held_of}
+use Rattle.std.specs.List.{All}
+use Rattle.sb_rows.specs.Balances.{Balances}
+use Rattle.sb_rows.specs.Rows.{SameCustomers}
+use Rattle.sb_calls.specs.Cowns.{AreBelow, held_of}
 use Rattle.sb_calls.specs.OneByOne.{reply_by_log}
 use Rattle.sb_calls.specs.declared.op.Op.{Op}
 use Rattle.sb_calls.specs.declared.reply.Reply.{Reply}
 use Rattle.cown_board.specs.Board.{BoardOf, open_of}
 use Rattle.cown_workers.specs.Draining.{NoneOut}
+
+-- each op declares cowns below this one
+abbrev pub AreBelowCowns : ℕ → List Op → Type 0
+AreBelowCowns cowns ops = All (λ op. AreBelow cowns (declared_cowns op)) ops
+
+-- each op declares cowns of these customers
+abbrev pub DeclareCownsOf : List (List ℕ) → List Op → Type 0
+DeclareCownsOf directory ops = (b : Balances) → SameCustomers directory b → AreBelowCowns (length (held_of b)) ops
 
 -- nothing was submitted, and there are no numbers before
 pub record IsOpened (board : BoardOf Op) : Type 0 where

@@ -1,37 +1,42 @@
-//! Carrying out the log over a board.
-ghost use Rattle.std.specs.Prelude.{◌≡◌, ◌≢◌, ℕ, [], ◌<◌, length, map, suc, slice_get, IfOk, OnOk};
+//! Carrying out the ops of a log over a board.
+ghost use Rattle.std.specs.Prelude.{◌≡◌, ◌≢◌, ◌+◌, ◌<◌, ◌≤◌, ◌++◌, ℕ, List, [], length, map, IfOk, OnOk};
 ghost use Rattle.sb_rows.specs.Rows.{SameCustomers, rows_of};
+ghost use Rattle.sb_calls.specs.Behaviour.{declared_cowns};
 ghost use Rattle.sb_calls.specs.Cowns.{AreBelow, held_of};
 ghost use Rattle.sb_calls.specs.Log.{rows_after, replies_to};
 ghost use Rattle.sb_calls.specs.Op.{resolved};
+ghost use Rattle.sb_calls.specs.declared.call.Call.{Call as AnyCall};
 ghost use Rattle.cown_board.specs.Board.{length_of, open_of};
 ghost use Rattle.cown_workers.specs.Draining.{Drains, NoneOut};
-ghost use Rattle.smallbank.specs.Execution.{IsPut, IsOpened, Tells};
-ghost use Rattle.smallbank.specs.Output.{calls_of};
+ghost use Rattle.smallbank.specs.Execution.{AreBelowCowns, IsPut, IsOpened, Tells};
 
 use cown_board::{Board, SubmitFault};
 use cown_workers::{InlineCrew, drain};
-use sb_calls::{Call, LOG_CALLS, Op, resolve};
-use sb_rows::{CUSTOMERS, Columns, Directory};
-use sb_sequencer::Sequencer;
+use sb_calls::{LOG_CALLS, Op};
+use sb_rows::{CUSTOMERS, Columns};
 use std::alloc::{AllocError, Global};
 
-/// Carries out the calls of a log on these columns, each as soon as its cowns are free. The replies stay on
+/// Carries out the ops of a log on these columns, each as soon as its cowns are free. The replies stay on
 /// the board that is answered.
 pub fn carry_out(
     alloc: Global,
-    log: &Sequencer,
-    directory: &Directory,
+    ops: &[Op],
     columns: &mut Columns,
 ) -> Result<Board<Op>, AllocError>
-    requires { SameCustomers directory.now columns.old }
-    ensures replies { IfOk result (λ board. Tells board (replies_to (rows_of directory.now columns.old) (calls_of log.now))) }
-    ensures rows { IfOk result (λ board. rows_of directory.now columns.new ≡ rows_after (calls_of log.now) (rows_of directory.now columns.old)) }
-    ensures customers { IfOk result (λ board. SameCustomers directory.now columns.new) }
+    requires few { length ops.now ≤ LOG_CALLS }
+    requires cowns { AreBelowCowns (length (held_of columns.old)) ops.now }
+    ensures idle { IfOk result (λ board. open_of board ≡ 0) }
+    // Where calls come to these ops, the replies and the rows are those of the calls one by one.
+    ensures replies { (directory : List (List ℕ)) (calls : List AnyCall) → SameCustomers directory columns.old → ops.now ≡ map (resolved directory) calls
+        → IfOk result (λ board. Tells board (replies_to (rows_of directory columns.old) calls)) }
+    ensures rows { (directory : List (List ℕ)) (calls : List AnyCall) → SameCustomers directory columns.old → ops.now ≡ map (resolved directory) calls
+        → IfOk result (λ board. rows_of directory columns.new ≡ rows_after calls (rows_of directory columns.old)) }
+    ensures customers { (directory : List (List ℕ)) (calls : List AnyCall) → SameCustomers directory columns.old → ops.now ≡ map (resolved directory) calls
+        → IfOk result (λ board. SameCustomers directory columns.new) }
 {
     let mut board = Board::open(alloc, columns.copy()?, 0, Vec::new(alloc))?;
-    board.reserve(log.length() as usize)?;
-    submit_all(log, directory, &mut board)?;
+    board.reserve(ops.len())?;
+    submit_all(ops, &mut board)?;
     run_all(&mut board);
     let after = board.columns()?.unwrap();
     // They are the columns of a bank.
@@ -40,40 +45,36 @@ pub fn carry_out(
     Ok(board)
 }
 
-// Submits each call of the log.
-fn submit_all(
-    log: &Sequencer,
-    directory: &Directory,
-    board: &mut Board<Op>,
-) -> Result<(), AllocError>
+// Submits each op.
+fn submit_all(ops: &[Op], board: &mut Board<Op>) -> Result<(), AllocError>
     requires opened { IsOpened board.old }
-    requires customers { SameCustomers directory.now board.old.opening }
+    requires few { length ops.now ≤ LOG_CALLS }
+    requires cowns { AreBelowCowns (length (held_of board.old.opening)) ops.now }
     ensures opening { OnOk result (board.new.opening ≡ board.old.opening) }
     ensures earlier { OnOk result (board.new.earlier ≡ []) }
-    ensures log { OnOk result (board.new.log ≡ map (resolved directory.now) (calls_of log.now)) }
+    ensures log { OnOk result (board.new.log ≡ ops.now) }
     ensures none_out { OnOk result (NoneOut board.new) }
 {
-    for place in 0..log.length() {
-        let call = log.call(place + 1).unwrap();
-        submit(directory, call, board)?;
+    for op in ops {
+        submit(op, board)?;
     }
     Ok(())
 }
 
-// Submits a call. Where as many are unfinished as may be, these are carried out first.
-fn submit(directory: &Directory, call: &Call, board: &mut Board<Op>) -> Result<(), AllocError>
-    requires customers { SameCustomers directory.now board.old.opening }
+// Submits an op. Where as many are unfinished as may be, these are carried out first.
+fn submit(op: &Op, board: &mut Board<Op>) -> Result<(), AllocError>
+    requires cowns { AreBelow (length (held_of board.old.opening)) (declared_cowns op.now) }
     requires room { length_of board.old ≢ LOG_CALLS }
     requires none_out { NoneOut board.old }
-    ensures { OnOk result (IsPut (resolved directory.now call.now) board.old board.new) }
+    ensures { OnOk result (IsPut op.now board.old board.new) }
 {
-    match board.submit(resolve(directory, call)) {
+    match board.submit(*op) {
         Ok(_) => return Ok(()),
         Err(SubmitFault::Busy) => run_all(board),
         Err(SubmitFault::LogFull) => unreachable!(),
         Err(SubmitFault::OutOfMemory) => return Err(AllocError),
     }
-    match board.submit(resolve(directory, call)) {
+    match board.submit(*op) {
         Ok(_) => Ok(()),
         // Nothing is unfinished by now, and the log is as long as it was.
         Err(SubmitFault::Busy | SubmitFault::LogFull) => unreachable!(),

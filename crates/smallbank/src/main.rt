@@ -17,6 +17,7 @@ pub mod input;
 pub mod listing;
 #[cfg(test)]
 mod plain;
+pub mod resolving;
 pub mod run;
 #[cfg(test)]
 mod tests;

@@ -10,6 +10,7 @@ use crate::execution::carry_out;
 use crate::fault::{InputFault, RunFault};
 use crate::input::read_all;
 use crate::listing::list_rows;
+use crate::resolving::resolve_all;
 use sb_rows::{OpeningFault, read_opening};
 use std::alloc::Global;
 use std::io;
@@ -69,9 +70,12 @@ fn output_text(alloc: Global, input: Vec<u8>) -> Result<Vec<u8>, RunFault>
     let asking = ask_lines(alloc, &input[opening.place..], first_line)?;
     // The output may take the input's place in memory.
     drop(input);
-    let mut columns = opening.columns;
-    let board = carry_out(alloc, &asking.sequencer, &opening.directory, &mut columns)?;
+    let ops = resolve_all(alloc, &asking.sequencer, &opening.directory)?;
+    // And the board the log's.
     drop(asking.sequencer);
+    let mut columns = opening.columns;
+    let board = carry_out(alloc, &ops, &mut columns)?;
+    drop(ops);
     let mut output = Vec::new(alloc);
     push_answers(&asking.outcomes, &board, &mut output)?;
     list_rows(&opening.directory, &columns, &mut output)?;

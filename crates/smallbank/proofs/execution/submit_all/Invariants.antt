@@ -1,14 +1,15 @@
-use Rattle.std.proofs.Common.{◌≡◌, [], map, take}
-use Rattle.sb_calls.specs.Op.{resolved}
+use Rattle.std.proofs.Common.{◌≡◌, [], ◌++◌, length, drop}
+use Rattle.sb_calls.specs.Cowns.{held_of}
 use Rattle.cown_workers.specs.Draining.{NoneOut}
-use Rattle.smallbank.specs.Output.{calls_of}
+use Rattle.smallbank.specs.Execution.{AreBelowCowns}
 use Rattle.smallbank.proofs.execution.submit_all.Given as goal
 
--- the calls so far are submitted
-abbrev pub invariant-loop-place : goal.invariant-loop-place
-invariant-loop-place l = record {
+-- the ops so far are submitted, and those that are left declare cowns too
+abbrev pub invariant-loop-op : goal.invariant-loop-op
+invariant-loop-op l = record {
   opening : l.board.opening ≡ l.fn.board.opening;
   earlier : l.board.earlier ≡ [];
-  log : l.board.log ≡ map (resolved l.directory) (calls_of (take l.place l.log));
+  log : l.board.log ++ drop l.op-index l.ops ≡ l.ops;
+  count : length l.board.log ≡ l.op-index;
   none_out : NoneOut l.board;
 }
