@@ -2,7 +2,6 @@
 #![tactic(auto)]
 
 mod answer;
-mod hashing;
 mod laws;
 mod sequencer;
 #[cfg(test)]

@@ -8,17 +8,15 @@ ghost use Rattle.sb_sequencer.specs.Log.{log_with};
 ghost use Rattle.sb_sequencer.specs.Numbering.{IsLog, call_at, place_of_key};
 
 use crate::answer::{AskFault, Numbered};
-use crate::hashing::KeyHasher;
 use indexmap::IndexMap;
 use sb_calls::{Call, Key, LOG_CALLS};
 use std::alloc::{AllocError, Global};
-use std::hash::BuildHasherDefault;
 use std::marker::Model;
 
 /// Numbers clients' requests into one log: each key once, in the order of first asks.
 #[derive(Drop)]
 pub struct Sequencer {
-    log: IndexMap<Key, Call, BuildHasherDefault<KeyHasher>>,
+    log: IndexMap<Key, Call>,
 }
 
 impl Model for Sequencer {
@@ -47,7 +45,7 @@ impl Sequencer {
         ensures { result ≡ [] }
     {
         Sequencer {
-            log: IndexMap::with_hasher(alloc, BuildHasherDefault::new()),
+            log: IndexMap::new(alloc),
         }
     }
 
@@ -57,7 +55,7 @@ impl Sequencer {
         ensures { IfOk result (λ sequencer. sequencer ≡ []) }
     {
         Ok(Sequencer {
-            log: IndexMap::with_capacity_and_hasher(alloc, calls, BuildHasherDefault::new())?,
+            log: IndexMap::with_capacity(alloc, calls)?,
         })
     }
 
