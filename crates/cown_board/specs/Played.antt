@@ -71,7 +71,7 @@ module _ {B : Type 0} (touches : B → List ℕ) (effect : B → List ℤ → Re
   BoardLaw = (columns : Balances) (earlier : List Reply) (calls : List (BoardCall B)) (board : BoardOf B)
       → Plays (opened_with columns earlier) calls board → IsTrueToLog columns earlier calls board
 
-  -- a call, and what it leaves: whatever the calls before it were, it's as true to the log as they
+  -- a call, and the board that it leaves, which is true to its log whatever the calls before it were
   pub record IsPlayed (old : BoardOf B) (call : BoardCall B) (new : BoardOf B) : Type 0 where
     pub made : Makes old call new
     pub law : (columns : Balances) (earlier : List Reply) (calls : List (BoardCall B))

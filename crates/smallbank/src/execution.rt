@@ -1,5 +1,5 @@
 //! Carrying out the ops of a log over a board.
-ghost use Rattle.std.specs.Prelude.{◌≡◌, ◌≢◌, ◌+◌, ◌<◌, ◌≤◌, ◌++◌, ℕ, List, [], length, map, IfOk, OnOk};
+ghost use Rattle.std.specs.Prelude.{◌≡◌, ◌≢◌, ◌+◌, ◌<◌, ◌≤◌, ◌++◌, ℕ, List, [], length, map, IfOk, OnOk, OnErr};
 ghost use Rattle.sb_rows.specs.Rows.{SameCustomers, rows_of};
 ghost use Rattle.sb_calls.specs.Behaviour.{declared_cowns};
 ghost use Rattle.sb_calls.specs.Cowns.{AreBelow, held_of};
@@ -17,15 +17,12 @@ use sb_rows::{CUSTOMERS, Columns};
 use std::alloc::{AllocError, Global};
 
 /// Carries out the ops of a log on these columns, each as soon as its cowns are free. The replies stay on
-/// the board that is answered.
-pub fn carry_out(
-    alloc: Global,
-    ops: &[Op],
-    columns: &mut Columns,
-) -> Result<Board<Op>, AllocError>
+/// the board that is answered. Where memory is refused the columns are as they were.
+pub fn carry_out(alloc: Global, ops: &[Op], columns: &mut Columns) -> Result<Board<Op>, AllocError>
     requires few { length ops.now ≤ LOG_CALLS }
     requires cowns { AreBelowCowns (length (held_of columns.old)) ops.now }
     ensures idle { IfOk result (λ board. open_of board ≡ 0) }
+    ensures err { OnErr result (columns.new ≡ columns.old) }
     // Where calls come to these ops, the replies and the rows are those of the calls one by one.
     ensures replies { (directory : List (List ℕ)) (calls : List AnyCall) → SameCustomers directory columns.old → ops.now ≡ map (resolved directory) calls
         → IfOk result (λ board. Tells board (replies_to (rows_of directory columns.old) calls)) }

@@ -1,7 +1,5 @@
 use Rattle.std.proofs.Common.{◌≡◌, [], ◌++◌, length, drop}
-use Rattle.sb_calls.specs.Cowns.{held_of}
 use Rattle.cown_workers.specs.Draining.{NoneOut}
-use Rattle.smallbank.specs.Execution.{AreBelowCowns}
 use Rattle.smallbank.proofs.execution.submit_all.Given as goal
 
 -- the ops so far are submitted, and those that are left declare cowns too

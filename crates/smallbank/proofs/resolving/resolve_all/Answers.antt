@@ -1,8 +1,6 @@
 use Rattle.std.proofs.Common.{◌≡◌, ◌+◌, ◌++◌, ◌∷◌, [], List, Some, length, map, take, sym, ap, subst, ◌∙◌, arith}
 use Rattle.std.specs.Option.{option_copied}
 use Rattle.std.proofs.lemmas.List.Elements.{All-push}
-use Rattle.sb_rows.specs.Balances.{Balances}
-use Rattle.sb_rows.specs.Rows.{SameCustomers}
 use Rattle.sb_calls.specs.Behaviour.{declared_cowns}
 use Rattle.sb_calls.specs.Cowns.{AreBelow, held_of}
 use Rattle.sb_calls.specs.Op.{resolved}
