@@ -1,5 +1,5 @@
 //! Carrying out the ops of a log over a board.
-ghost use Rattle.std.specs.Prelude.{◌≡◌, ◌≢◌, ◌+◌, ◌<◌, ◌≤◌, ◌++◌, ℕ, List, [], length, map, IfOk, OnOk, OnErr};
+ghost use Rattle.std.specs.Prelude.{◌≡◌, ◌≢◌, ◌≤◌, ℕ, List, [], length, map, IfOk, OnOk, OnErr};
 ghost use Rattle.sb_rows.specs.Rows.{SameCustomers, rows_of};
 ghost use Rattle.sb_calls.specs.Behaviour.{declared_cowns};
 ghost use Rattle.sb_calls.specs.Cowns.{AreBelow, held_of};

@@ -71,7 +71,7 @@ fn output_text(alloc: Global, input: Vec<u8>) -> Result<Vec<u8>, RunFault>
     // The output may take the input's place in memory.
     drop(input);
     let ops = resolve_all(alloc, &asking.sequencer, &opening.directory)?;
-    // And the board the log's.
+    // And the board that of the log.
     drop(asking.sequencer);
     let mut columns = opening.columns;
     let board = carry_out(alloc, &ops, &mut columns)?;
