@@ -2,7 +2,7 @@ use Rattle.std.proofs.Common.{◌≡◌, [], ◌++◌, length, drop}
 use Rattle.cown_workers.specs.Draining.{NoneOut}
 use Rattle.smallbank.proofs.execution.submit_all.Given as goal
 
--- the ops so far are submitted, and those that are left declare cowns too
+-- the ops so far are submitted
 abbrev pub invariant-loop-op : goal.invariant-loop-op
 invariant-loop-op l = record {
   opening : l.board.opening ≡ l.fn.board.opening;
