@@ -16,9 +16,10 @@ pub const NAME_BYTES: usize = 20;
 /// The name of a customer: 1 to 20 bytes of `a` to `z`, `0` to `9` and `_`.
 #[derive(Clone, Copy, Debug)]
 pub struct Name {
+    // The length stands first, where a refusal's one byte would: so the bytes are copied as one piece.
+    len: u8,
     // The text, and zeros after it.
     bytes: [u8; 20],
-    len: u8,
 }
 
 impl Model for Name {
