@@ -58,7 +58,7 @@ impl Queues {
         ensures err { OnErr result (self.new ≡ self.old) }
     {
         reserve_each(&mut self.lists, cowns)?;
-        self.reserved = copy_of(cowns);
+        keep(&mut self.reserved, cowns);
         Ok(())
     }
 
@@ -72,7 +72,7 @@ impl Queues {
         ensures reserved { self.new.reserved ≡ [] }
     {
         push_each(&mut self.lists, number, cowns);
-        self.reserved.clear();
+        self.reserved = ArrayVec::new();
     }
 
     /// Takes a number from the front of these cowns, and answers the new fronts of those that still hold
@@ -99,14 +99,14 @@ impl Queues {
     }
 }
 
-// At most three cowns, kept by value.
-fn copy_of(cowns: &[Cown]) -> ArrayVec<Cown, 3>
+// Keeps these cowns and no others. They are written where they stay: copied as a whole at once, they would be
+// read back before the queues' first touches are over.
+fn keep(kept: &mut ArrayVec<Cown, 3>, cowns: &[Cown])
     requires { length cowns.now ≤ 3 }
-    ensures { result.items ≡ cowns.now }
+    ensures { kept.new.items ≡ cowns.now }
 {
-    let mut copy = ArrayVec::new();
+    *kept = ArrayVec::new();
     for cown in cowns {
-        copy.push(*cown);
+        kept.push(*cown);
     }
-    copy
 }

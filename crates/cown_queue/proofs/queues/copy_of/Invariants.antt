@@ -1,5 +1,0 @@
-use Rattle.std.proofs.Common.{◌≡◌, take}
-use Rattle.cown_queue.proofs.queues.copy_of.Given as goal
-
-abbrev pub invariant-loop-cown : goal.invariant-loop-cown
-invariant-loop-cown l = l.copy.items ≡ take l.cown-index l.cowns
