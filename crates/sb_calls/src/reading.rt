@@ -33,22 +33,25 @@ pub(crate) fn call_with(verb: &[u8], rest: Option<&[u8]>) -> Result<Call, CallFa
     ensures { result ≡ call_of_words (verb.now ∷ words_left (option_map (λ text. text.now) rest.entry)) }
 {
     if verb == b"balance".as_slice() {
-        one_name(rest).map(Call::Balance)
-    } else if verb == b"deposit".as_slice() {
-        let (name, amount) = name_and_amount(rest)?;
-        Ok(Call::DepositChecking(name, amount))
-    } else if verb == b"savings".as_slice() {
-        let (name, amount) = name_and_amount(rest)?;
-        Ok(Call::TransactSavings(name, amount))
-    } else if verb == b"check".as_slice() {
-        let (name, amount) = name_and_amount(rest)?;
-        Ok(Call::WriteCheck(name, amount))
-    } else if verb == b"amalgamate".as_slice() {
-        let (from, to) = two_names(rest)?;
-        Ok(Call::Amalgamate(from, to))
-    } else {
-        Err(CallFault::UnknownVerb)
+        return one_name(rest).map(Call::Balance);
     }
+    if verb == b"deposit".as_slice() {
+        let (name, amount) = name_and_amount(rest)?;
+        return Ok(Call::DepositChecking(name, amount));
+    }
+    if verb == b"savings".as_slice() {
+        let (name, amount) = name_and_amount(rest)?;
+        return Ok(Call::TransactSavings(name, amount));
+    }
+    if verb == b"check".as_slice() {
+        let (name, amount) = name_and_amount(rest)?;
+        return Ok(Call::WriteCheck(name, amount));
+    }
+    if verb == b"amalgamate".as_slice() {
+        let (from, to) = two_names(rest)?;
+        return Ok(Call::Amalgamate(from, to));
+    }
+    Err(CallFault::UnknownVerb)
 }
 
 // The one name that is left, whatever call it is for.
