@@ -1,17 +1,18 @@
 -- Texts of digits, a point and two digits: a money text without its sign.
-use Rattle.std.proofs.Common.{◌≡◌, ◌≢◌, Option, Some, None, is_some, drop, ℕ, ◌+◌, ◌-◌, ◌*◌, ◌/◌, ◌%◌, ◌<◌, ◌≤◌, ◌^◌, Bool, true, false, ◌||◌, ◌==◌, inl, inr, List, [], ◌∷◌, ◌++◌, length, refl, sym, ap, ◌∙◌, arith, decimal, append_assoc}
+use Rattle.std.proofs.Common.{◌≡◌, ◌≢◌, ℕ, ◌+◌, ◌-◌, ◌*◌, ◌/◌, ◌%◌, ◌<◌, ◌≤◌, ◌^◌, Bool, true, false, ◌||◌, ◌==◌, inl, inr, List, [], ◌∷◌, ◌++◌, length, length-drop, get_or, take, refl, sym, ap, ◌∙◌, arith, decimal, append_assoc}
 use Rattle.std.proofs.lemmas.Bool.{and_parts, and_from, or_left, or_cases, eqb-true, eq-eqb, ne_eqb, and_left, and_right}
 use Rattle.std.proofs.lemmas.Fmt.{digits_value-decimal}
 use Rattle.std.proofs.lemmas.Int.Digits.{digits_value_push}
 use Rattle.std.proofs.lemmas.List.Folds.{list_all-append}
+use Rattle.std.proofs.lemmas.List.Sums.{passes_at_first}
 use Rattle.std.specs.Char.{is_ascii_digit}
 use Rattle.std.specs.Int.{IsInRange}
-use Rattle.std.specs.List.{list_all, filter, count_by, before_first, after_first, position}
+use Rattle.std.specs.List.{list_all, filter, count_by, before_first, after_first, position_or_len}
 use Rattle.std.specs.Str.Parse.{digits_value}
 use Rattle.sb_amount.specs.Money.{unsigned_money}
 use Rattle.sb_amount.specs.Reading.{is_point, has_two_decimals, is_canonical, cents_of_digits}
 use Rattle.sb_amount.proofs.Digits.{all_digits, digit_range, digit_from_range, digit_value-digit, is_point-digit, NonePasses-digits, numerals, all_digits-decimal, filter-digits, decimal-canonical}
-use Rattle.sb_amount.proofs.Points.{NonePasses, before_first-at, after_first-at, count_by-none, count_by-at, cut_at_first, NonePasses-from_count, count_by-position_none, IsCutAt-position}
+use Rattle.sb_amount.proofs.Points.{NonePasses, before_first-at, after_first-at, count_by-none, count_by-at, cut_at_first, NonePasses-from_count, IsCutAt-only}
 
 -- what may stand in a body
 abbrev pub is_body_byte : ℕ → Bool
@@ -53,36 +54,33 @@ has_two_decimals-body whole tens ones h =
     let ones_no = is_point-digit ones h.ones_digit in
     rw (points, after, tens_no, ones_no)
 
-none_from_test : (o : Option ℕ) → is_some o ≡ false → o ≡ None
-none_from_test None h = refl
-none_from_test (Some i) h = cc
+-- ---- the decimals, from how many points there are and the third byte from the end
 
--- what the tests of the decimals say, where the first point stands at i
-pub has_two_decimals-yes : (body decimals : List ℕ) (i : ℕ) → position is_point body ≡ Some i → decimals ≡ drop (i + 1) body → length decimals ≡ 2 → is_some (position is_point decimals) ≡ false → has_two_decimals body ≡ true
-has_two_decimals-yes body decimals i at is two none =
-    let cut = IsCutAt-position is_point body i at in
-    let after : after_first is_point body ≡ decimals = sym cut.after ∙ sym is in
-    let count : count_by is_point body ≡ 1 = omega (arith, cut.count, ap {B = ℕ} (count_by is_point) after, count_by-position_none is_point decimals (none_from_test (position is_point decimals) none)) in
-    let long : length (after_first is_point body) ≡ 2 = ap {B = ℕ} length after ∙ two in
-    and_from (count_by is_point body == 1) (length (after_first is_point body) == 2) (eq-eqb (count_by is_point body) 1 count) (eq-eqb (length (after_first is_point body)) 2 long)
+pub has_two_decimals-yes : (body : List ℕ) → 3 ≤ length body → get_or body (length body - 3) 0 ≡ 46 → count_by is_point body ≡ 1 → (has_two_decimals body ≡ true) × (take (length body - 3) body ≡ before_first is_point body)
+has_two_decimals-yes body long point one =
+    let cut = IsCutAt-only is_point body (length body - 3) 0 (omega arith) (eq-eqb (get_or body (length body - 3) 0) 46 point) one in
+    let two : length (after_first is_point body) ≡ 2 = omega (arith, ap {B = ℕ} length cut.after, length-drop (length body - 3 + 1) body) in
+    (and_from (count_by is_point body == 1) (length (after_first is_point body) == 2) (eq-eqb (count_by is_point body) 1 one) (eq-eqb (length (after_first is_point body)) 2 two), cut.before)
 
-pub has_two_decimals-not_two : (body decimals : List ℕ) (i : ℕ) → position is_point body ≡ Some i → decimals ≡ drop (i + 1) body → length decimals ≢ 2 → has_two_decimals body ≡ false
-has_two_decimals-not_two body decimals i at is other =
-    let cut = IsCutAt-position is_point body i at in
-    let long : length (after_first is_point body) ≡ length decimals = ap {B = ℕ} length (sym cut.after ∙ sym is) in
-    and_right (count_by is_point body == 1) (length (after_first is_point body) == 2) (ne_eqb (length (after_first is_point body)) 2 (λ two. other (sym long ∙ two)))
+pub has_two_decimals-points : (body : List ℕ) → count_by is_point body ≢ 1 → has_two_decimals body ≡ false
+has_two_decimals-points body other = and_left (count_by is_point body == 1) (length (after_first is_point body) == 2) (ne_eqb (count_by is_point body) 1 other)
 
-pub has_two_decimals-another : (body decimals : List ℕ) (i : ℕ) → position is_point body ≡ Some i → decimals ≡ drop (i + 1) body → is_some (position is_point decimals) ≡ true → has_two_decimals body ≡ false
-has_two_decimals-another body decimals i at is found =
-    let cut = IsCutAt-position is_point body i at in
-    let after : after_first is_point body ≡ decimals = sym cut.after ∙ sym is in
-    elim (position is_point decimals) as (λ o. position is_point decimals ≡ o → is_some o ≡ true → has_two_decimals body ≡ false) [
-      | None ↦ λ none some. cc
-      | Some j ↦ λ second some.
-          let next = IsCutAt-position is_point decimals j second in
-          let more : 2 ≤ count_by is_point body = omega (arith, cut.count, next.count, ap {B = ℕ} (count_by is_point) after) in
-          and_left (count_by is_point body == 1) (length (after_first is_point body) == 2) (ne_eqb (count_by is_point body) 1 (λ one. omega arith))
-    ] refl found
+-- where two bytes stand after the first point, it is the third byte from the end
+third_from_end : (body : List ℕ) → length (after_first is_point body) ≡ 2 → (3 ≤ length body) × (get_or body (length body - 3) 0 ≡ 46)
+third_from_end body two =
+    let i = position_or_len is_point body in
+    let after = length-drop (i + 1) body in
+    let point = eqb-true (get_or body i 0) 46 (passes_at_first is_point body 0 (omega (arith, after, two))) in
+    let place : length body - 3 ≡ i = omega (arith, after, two) in
+    (omega (arith, after, two), ap (λ k. get_or body k 0) place ∙ point)
+
+pub has_two_decimals-short : (body : List ℕ) → length body < 3 → has_two_decimals body ≡ false
+has_two_decimals-short body short =
+    and_right (count_by is_point body == 1) (length (after_first is_point body) == 2) (ne_eqb (length (after_first is_point body)) 2 (λ two. omega (arith, (third_from_end body two).0)))
+
+pub has_two_decimals-other : (body : List ℕ) → get_or body (length body - 3) 0 ≢ 46 → has_two_decimals body ≡ false
+has_two_decimals-other body other =
+    and_right (count_by is_point body == 1) (length (after_first is_point body) == 2) (ne_eqb (length (after_first is_point body)) 2 (λ two. other (third_from_end body two).1))
 
 -- two more digits
 digits_value-push_two : (ds : List ℕ) (tens ones : ℕ) → is_ascii_digit tens ≡ true → is_ascii_digit ones ≡ true → digits_value 10 (ds ++ tens ∷ ones ∷ []) ≡ digits_value 10 ds * 100 + (tens - 48) * 10 + (ones - 48)

@@ -1,10 +1,11 @@
 -- What a text is read as, test by test in the order of the faults.
-use Rattle.std.proofs.Common.{◌≡◌, subst, IfOk, ℕ, ◌-◌, ◌<◌, ◌≤◌, ◌^◌, min, ℤ, pos, neg_ℤ, Bool, true, false, not, ◌||◌, ◌==◌, nat_lt, if◌then◌else◌, Option, Some, None, Result, Ok, Err, SomeIff, inl, inr, List, length, codes, refl, sym, ap, ◌∙◌, arith}
+use Rattle.std.proofs.Common.{◌≡◌, subst, IfOk, ℕ, ◌+◌, ◌<◌, ◌≤◌, min, nat_abs, ℤ, pos, neg_ℤ, Bool, true, false, not, ◌||◌, ◌==◌, nat_lt, if◌then◌else◌, Option, Some, None, Result, Ok, Err, SomeIff, inl, inr, List, length, codes, refl, sym, ap, ◌∙◌, arith}
 use Rattle.std.proofs.lemmas.Bool.{eq-eqb, ltb-true, ltb-false, cases_Bool}
 use Rattle.std.proofs.lemmas.Int.{ints}
 use Rattle.std.specs.List.{list_all, before_first}
 use Rattle.std.specs.Option.{ok_or}
 use Rattle.std.specs.Str.{bytes_eq}
+use Rattle.sb_amount.specs.declared.cents.TheConstants.{LIMIT}
 use Rattle.sb_amount.specs.declared.fault.MoneyFault.{MoneyFault}
 use Rattle.sb_amount.specs.declared.fault.MoneyFault.TheVariants.{Empty, NotDigit, BadDecimals, NotCanonical, TooLarge}
 use Rattle.sb_amount.specs.Limit.{IsWithinLimit}
@@ -72,8 +73,8 @@ none_past : (o : Option ℤ) (x : ℤ) → SomeIff o (IsWithinLimit x) x → (Is
 none_past None x h past = refl
 none_past (Some y) x h past = absurd (past h.0)
 
--- the limit is tested on the size with its sign, where the size stops at the greatest `i64`
-pub read_money-sized : (text body : List ℕ) → HasDecimals text body → (not (is_canonical (before_first is_point body)) || bytes_eq text (codes "-0.00")) ≡ false → (x : ℤ) (o : Option ℤ) → x ≡ (if is_negative text then neg_ℤ (pos (min (cents_of_digits body) (2 ^ 63 - 1))) else pos (min (cents_of_digits body) (2 ^ 63 - 1))) → SomeIff o (IsWithinLimit x) x → ok_or o TooLarge ≡ read_money text
+-- the limit is tested on the size with its sign, where the size stops one above the limit
+pub read_money-sized : (text body : List ℕ) → HasDecimals text body → (not (is_canonical (before_first is_point body)) || bytes_eq text (codes "-0.00")) ≡ false → (x : ℤ) (o : Option ℤ) → x ≡ (if is_negative text then neg_ℤ (pos (min (cents_of_digits body) (nat_abs LIMIT + 1))) else pos (min (cents_of_digits body) (nat_abs LIMIT + 1))) → SomeIff o (IsWithinLimit x) x → ok_or o TooLarge ≡ read_money text
 unfolding amount_of
 read_money-sized text body h canonical x o signed limited =
     let n = cents_of_digits body in
@@ -82,12 +83,12 @@ read_money-sized text body h canonical x o signed limited =
     elim (cases_Bool (nat_lt 1000000000000 n)) [
       | inl large ↦
           let above : 1000000000000 < n = ltb-true 1000000000000 n large in
-          let past : IsWithinLimit x → ⊥ = λ within. signed_size-large (min n (2 ^ 63 - 1)) minus (omega arith) (subst IsWithinLimit signed within) in
+          let past : IsWithinLimit x → ⊥ = λ within. signed_size-large (min n (nat_abs LIMIT + 1)) minus (omega arith) (subst IsWithinLimit signed within) in
           let read_large : read_money text ≡ Err TooLarge = read ∙ rw large in
           ap (λ found. ok_or found TooLarge) (none_past o x limited past) ∙ sym read_large
       | inr within ↦
           let small : n ≤ 1000000000000 = ltb-false 1000000000000 n within in
-          let least : min n (2 ^ 63 - 1) ≡ n = omega arith in
+          let least : min n (nat_abs LIMIT + 1) ≡ n = omega arith in
           let is : x ≡ (if minus then neg_ℤ (pos n) else pos n) = signed ∙ ap (λ k. if minus then neg_ℤ (pos k) else pos k) least in
           let read_small : read_money text ≡ Ok (if minus then neg_ℤ (pos n) else pos n) = read ∙ rw within (rw (sym h.start.is)) in
           ap (λ found. ok_or found TooLarge) (some_within o x limited (subst IsWithinLimit (sym is) (signed_size-small n minus small))) ∙ ap Ok is ∙ sym read_small

@@ -1,9 +1,10 @@
 -- Texts with a point: what stands before it and after it, and how many points there are.
-use Rattle.std.proofs.Common.{◌≡◌, ltb, Some, None, length-append, ◌⊎◌, inl, inr, ℕ, suc, ◌+◌, ◌<◌, Bool, true, false, cond, List, [], ◌∷◌, ◌++◌, length, take, drop, refl, sym, ap, ◌∙◌, arith}
-use Rattle.std.proofs.lemmas.List.Sums.{sum_by-cons, sum_by-append}
-use Rattle.std.proofs.lemmas.Bool.{lt-ltb, le-ltb, false_from_ne_true}
+use Rattle.std.proofs.Common.{◌≡◌, ◌⊎◌, inl, inr, ℕ, suc, ◌+◌, ◌<◌, Bool, true, false, cond, List, [], ◌∷◌, ◌++◌, length, get_or, take, drop, refl, sym, ap, ◌∙◌, arith}
+use Rattle.std.proofs.lemmas.List.Sums.{sum_by-cons, sum_by-append, sum_by-take-drop, sum_by-drop_more}
+use Rattle.std.proofs.lemmas.List.{drop_more, take-append-drop}
+use Rattle.std.proofs.lemmas.Bool.{false_from_ne_true}
 use Rattle.std.proofs.lemmas.Grind.{common_steps}
-use Rattle.std.specs.List.{count_by, before_first, after_first, position_or_len, position}
+use Rattle.std.specs.List.{count_by, before_first, after_first, position_or_len}
 
 -- no element of the list passes the test
 abbrev pub NonePasses : {X : Type 0} → (X → Bool) → List X → Type 0
@@ -62,49 +63,22 @@ cut_at_first {X} p (x ∷ xs) =
       ]
     ] refl
 
--- ---- the same, from where the first one stands
+-- ---- the same, from where the only one stands
 
--- where there is no first, the count is 0
-pub count_by-position_none : {X : Type 0} (p : X → Bool) (xs : List X) → position p xs ≡ None → count_by p xs ≡ 0
-count_by-position_none {X} p xs h =
-    elim (cut_at_first p xs) [
-      | inl none ↦ count_by-none p xs none
-      | inr cut ↦
-          let at : position_or_len p xs ≡ length cut.0 = ap (position_or_len p) cut.3 ∙ position_or_len-at p cut.0 cut.1 cut.2 cut.4 cut.5 in
-          let long : length cut.0 < length xs = omega (arith, ap {B = ℕ} length cut.3, length-append cut.0 (cut.1 ∷ cut.2)) in
-          let found : ltb (position_or_len p xs) (length xs) ≡ true = lt-ltb (position_or_len p xs) (length xs) (omega arith) in
-          let some : position p xs ≡ Some (position_or_len p xs) = rw found in
-          cc
-    ]
-
--- where there is no such element, the first would be the end
-position_or_len-none : {X : Type 0} (p : X → Bool) (xs : List X) → NonePasses p xs → position_or_len p xs ≡ length xs
-position_or_len-none p [] h = refl
-position_or_len-none p (x ∷ xs) h = rw (h.0, position_or_len-none p xs h.1) (omega arith)
-
--- where the first stands at i, the list is cut there
+-- the list is cut at i
 pub record IsCutAt {X : Type 0} (p : X → Bool) (xs : List X) (i : ℕ) : Type 0 where
   pub before : take i xs ≡ before_first p xs
   pub after : drop (i + 1) xs ≡ after_first p xs
-  pub count : count_by p xs ≡ 1 + count_by p (after_first p xs)
 
-pub IsCutAt-position : {X : Type 0} (p : X → Bool) (xs : List X) (i : ℕ) → position p xs ≡ Some i → IsCutAt p xs i
-IsCutAt-position {X} p xs i h =
-    elim (cut_at_first p xs) [
-      | inl none ↦
-          let past : ltb (position_or_len p xs) (length xs) ≡ false = le-ltb (position_or_len p xs) (length xs) (omega (arith, position_or_len-none p xs none)) in
-          let nothing : position p xs ≡ None = rw past in
-          cc
-      | inr cut ↦
-          let at : position_or_len p xs ≡ length cut.0 = ap (position_or_len p) cut.3 ∙ position_or_len-at p cut.0 cut.1 cut.2 cut.4 cut.5 in
-          let long : length cut.0 < length xs = omega (arith, ap {B = ℕ} length cut.3, length-append cut.0 (cut.1 ∷ cut.2)) in
-          let found : ltb (position_or_len p xs) (length xs) ≡ true = lt-ltb (position_or_len p xs) (length xs) (omega arith) in
-          let some : position p xs ≡ Some (position_or_len p xs) = rw found in
-          let same : i ≡ position_or_len p xs = cc in
-          let after : after_first p xs ≡ cut.2 = ap (after_first p) cut.3 ∙ after_first-at p cut.0 cut.1 cut.2 cut.4 cut.5 in
-          record {
-            before = ap (λ n. take n xs) same;
-            after = ap (λ n. drop (n + 1) xs) same;
-            count = ap (count_by p) cut.3 ∙ count_by-at p cut.0 cut.1 cut.2 cut.4 cut.5 ∙ ap {B = ℕ} (λ ys. 1 + count_by p ys) (sym after);
-          }
-    ]
+pub IsCutAt-only : {X : Type 0} (p : X → Bool) (xs : List X) (i : ℕ) (d : X) → i < length xs → p (get_or xs i d) ≡ true → count_by p xs ≡ 1 → IsCutAt p xs i
+IsCutAt-only p xs i d within passes one =
+    let y = get_or xs i d in
+    let ys = drop (i + 1) xs in
+    let apart = sum_by-take-drop (λ x. cond (p x) 1 0) xs i in
+    let next = sum_by-drop_more (λ x. cond (p x) 1 0) xs i d within in
+    let none : NonePasses p (take i xs) = NonePasses-from_count p (take i xs) (omega (arith, apart, next, one, ap {B = ℕ} (λ b. cond b 1 0) passes)) in
+    let split : take i xs ++ y ∷ ys ≡ xs = ap (λ zs. take i xs ++ zs) (sym (drop_more xs i d within)) ∙ take-append-drop i xs in
+    record {
+      before = sym (before_first-at p (take i xs) y ys none passes) ∙ ap (before_first p) split;
+      after = sym (after_first-at p (take i xs) y ys none passes) ∙ ap (after_first p) split;
+    }

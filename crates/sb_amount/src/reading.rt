@@ -1,12 +1,12 @@
 //! Money text as cents.
-ghost use Rattle.std.specs.Prelude.{◌≡◌, ◌||◌, ◌^◌, ◌-◌, ℤ, pos, min, true, false, Ok, IfOk, MatchOption};
+ghost use Rattle.std.specs.Prelude.{◌≡◌, ◌||◌, ◌+◌, ℤ, pos, min, nat_abs, true, false, Ok, IfOk, MatchOption, count_by};
 ghost use Rattle.std.specs.Char.{is_ascii_digit};
-ghost use Rattle.std.specs.List.{list_all, before_first, position};
+ghost use Rattle.std.specs.List.{list_all, before_first};
 ghost use Rattle.sb_amount.specs.Limit.{IsWithinLimit};
 ghost use Rattle.sb_amount.specs.Money.{money};
 ghost use Rattle.sb_amount.specs.Reading.{read_money, is_point, is_negative, without_sign, has_two_decimals, is_canonical, cents_of_digits};
 
-use crate::cents::Cents;
+use crate::cents::{Cents, LIMIT};
 use crate::fault::MoneyFault;
 
 impl Cents {
@@ -25,16 +25,15 @@ impl Cents {
         if body.is_empty() {
             return Err(MoneyFault::Empty);
         }
-        if !has_only_digits_and_points(body) {
+        let Some((size, points)) = read_digits(body) else {
             return Err(MoneyFault::NotDigit);
-        }
-        let Some(whole) = whole_part(body) else {
+        };
+        let Some(whole) = whole_part(body, points) else {
             return Err(MoneyFault::BadDecimals);
         };
         if !is_canonical(whole) || text == b"-0.00".as_slice() {
             return Err(MoneyFault::NotCanonical);
         }
-        let size = size_of_digits(body);
         let cents = if is_negative { -size } else { size };
         Cents::new(cents).ok_or(MoneyFault::TooLarge)
     }
@@ -51,34 +50,40 @@ fn split_sign(text: &[u8]) -> (bool, &[u8])
     }
 }
 
-// Whether each byte is a digit or a point.
-fn has_only_digits_and_points(body: &[u8]) -> bool
-    ensures { result ≡ list_all (λ c. is_ascii_digit c || is_point c) body.now }
+// The number that the digits spell without the points, or `LIMIT + 1` where it is above the limit,
+// and how many points there are. `None` where a byte is neither a digit nor a point.
+fn read_digits(body: &[u8]) -> Option<(i64, usize)>
+    ensures { MatchOption result
+        (list_all (λ c. is_ascii_digit c || is_point c) body.now ≡ false)
+        (λ read. (list_all (λ c. is_ascii_digit c || is_point c) body.now ≡ true)
+        × (read.0 ≡ pos (min (cents_of_digits body.now) (nat_abs LIMIT + 1)))
+        × (read.1 ≡ count_by is_point body.now)) }
 {
-    body.iter()
-        .all(|byte| byte.is_ascii_digit() || *byte == b'.')
+    let mut size = 0;
+    let mut points = 0;
+    for byte in body {
+        if byte.is_ascii_digit() {
+            size = (size * 10 + i64::from(*byte - b'0')).min(LIMIT + 1);
+        } else if *byte == b'.' {
+            points += 1;
+        } else {
+            return None;
+        }
+    }
+    Some((size, points))
 }
 
 // The part before the point, where there is exactly one point with exactly two bytes after it.
-fn whole_part(body: &[u8]) -> Option<&[u8]>
+fn whole_part(body: &[u8], points: usize) -> Option<&[u8]>
+    requires { points ≡ count_by is_point body.now }
     ensures { MatchOption result
         (has_two_decimals body.now ≡ false)
         (λ whole. (has_two_decimals body.now ≡ true) × (whole.now ≡ before_first is_point body.now)) }
 {
-    let point = first_point(body)?;
-    let decimals = &body[point + 1..];
-    if decimals.len() == 2 && first_point(decimals).is_none() {
-        Some(&body[..point])
-    } else {
-        None
+    match body {
+        [whole @ .., b'.', _, _] if points == 1 => Some(whole),
+        _ => None,
     }
-}
-
-// The index of the first point.
-fn first_point(body: &[u8]) -> Option<usize>
-    ensures { result ≡ position is_point body.now }
-{
-    body.iter().position(|byte| *byte == b'.')
 }
 
 // One digit, or several of which the first isn't 0.
@@ -90,19 +95,4 @@ fn is_canonical(whole: &[u8]) -> bool
         [_] => true,
         [first, ..] => *first != b'0',
     }
-}
-
-// The number that the digits spell without the point, or the greatest `i64` where it is above that.
-fn size_of_digits(body: &[u8]) -> i64
-    ensures { result ≡ pos (min (cents_of_digits body.now) (2 ^ 63 - 1)) }
-{
-    let mut size: i64 = 0;
-    for byte in body {
-        if byte.is_ascii_digit() {
-            size = size
-                .saturating_mul(10)
-                .saturating_add(i64::from(*byte - b'0'));
-        }
-    }
-    size
 }

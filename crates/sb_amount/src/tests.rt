@@ -24,7 +24,9 @@ fn names_the_fault(rt: HostRuntime) {
     for text in ["1,00", "+1.00", "1.0 ", "--1.00"] {
         assert_eq!(rt; cents(text), Err(MoneyFault::NotDigit), "{text}");
     }
-    for text in ["1", "1.", "1.0", "1.000", "1.0.0", "..00"] {
+    for text in [
+        "1", "1.", "1.0", "1.000", "1.0.0", "..00", ".", "00", "100", "1.00.", ".1.00", "0..00",
+    ] {
         assert_eq!(rt; cents(text), Err(MoneyFault::BadDecimals), "{text}");
     }
     for text in ["01.00", "00.00", ".50", "-.50", "-0.00"] {
@@ -35,6 +37,7 @@ fn names_the_fault(rt: HostRuntime) {
         "-10000000000.01",
         "92233720368547758.08",
         "1000000000000000000000000000000000000000.00",
+        "99999999999999999999999999999999999999999999999999999999999999999999999999999999999999999999999999.99",
     ] {
         assert_eq!(rt; cents(text), Err(MoneyFault::TooLarge), "{text}");
     }
@@ -43,7 +46,9 @@ fn names_the_fault(rt: HostRuntime) {
 #[test]
 fn names_the_first_of_two_faults(rt: HostRuntime) {
     assert_eq!(rt; cents("x.0"), Err(MoneyFault::NotDigit));
+    assert_eq!(rt; cents("99999999999999x.00"), Err(MoneyFault::NotDigit));
     assert_eq!(rt; cents("01.0"), Err(MoneyFault::BadDecimals));
+    assert_eq!(rt; cents("99999999999999.0"), Err(MoneyFault::BadDecimals));
     assert_eq!(rt; cents("020000000000.00"), Err(MoneyFault::NotCanonical));
 }
 
