@@ -68,15 +68,15 @@ fn output_text(alloc: Global, input: Vec<u8>) -> Result<Vec<u8>, RunFault>
     };
     let first_line = opening.directory.len() + 2;
     let asking = ask_lines(alloc, &input[opening.place..], first_line)?;
-    // The output may take the input's place in memory.
-    drop(input);
     let ops = resolve_all(alloc, &asking.sequencer, &opening.directory)?;
-    // And the board that of the log.
+    // The board may take the log's place in memory.
     drop(asking.sequencer);
     let mut columns = opening.columns;
     let board = carry_out(alloc, &ops, &mut columns)?;
     drop(ops);
-    let mut output = Vec::new(alloc);
+    // The output takes the input's, whose pages are there already.
+    let mut output = input;
+    output.clear();
     push_answers(&asking.outcomes, &board, &mut output)?;
     list_rows(&opening.directory, &columns, &mut output)?;
     Ok(output)

@@ -31,7 +31,7 @@ returns c =
     let lines_of : List Reply → List ℕ = λ replies. unlines (map (outcome_line replies) outcomes) in
     let replies : List Reply = replies_to (rows_of opening.names opening.balances) (calls_of log) in
     let told : c.push_answers.new.out.items ≡ unlines (map (outcome_line replies) outcomes) =
-    c.in_ok-push_answers.ensures replies (c.in_ok-board.ensures.replies opening.names (calls_of log) same resolved_calls) ∙ (λ j. c.new-output.ensures.items j ++ unlines (map (outcome_line replies) (c.deref-4.ensures.value j))) in
+    c.in_ok-push_answers.ensures replies (c.in_ok-board.ensures.replies opening.names (calls_of log) same resolved_calls) ∙ (λ j. c.clear.ensures.items j ++ unlines (map (outcome_line replies) (c.deref-4.ensures.value j))) in
     output_is input opening log outcomes (sym (ap opening_of c.deref.ensures.value) ∙ c.in-Ok.ensures.exact) asked
     ∙ ap Ok (sym (c.in_ok-list_rows.ensures
     ∙ λ j. told j ++ unlines (row_lines opening.names (c.in_ok-board.ensures.rows opening.names (calls_of log) same resolved_calls j))))
