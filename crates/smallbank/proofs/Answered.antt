@@ -1,17 +1,19 @@
 -- From the sequencer's answer to the outcome of a line.
-use Rattle.std.proofs.Common.{◌≡◌, ℕ, ◌≤◌, ◌^◌, Option, Some, None, Result, Ok, Err, is_some, false, List, [], ◌∷◌, ◌++◌, refl, sym, ap, ◌∙◌}
+use Rattle.std.proofs.Common.{◌≡◌, ℕ, ◌<◌, ◌≤◌, ◌^◌, length, arith, Option, Some, None, Result, Ok, Err, is_some, false, List, [], ◌∷◌, ◌++◌, refl, sym, ap, ◌∙◌}
+use Rattle.std.proofs.lemmas.List.Quantifiers.{position-Some}
 use Rattle.sb_calls.specs.declared.ask.Asked.{Asked}
 use Rattle.sb_calls.specs.declared.ask.Key.{Key}
 use Rattle.sb_calls.specs.declared.call.Call.{Call}
+use Rattle.sb_calls.specs.declared.call.TheConstants.{LOG_CALLS}
 use Rattle.sb_sequencer.proofs.Keys.{has_key-place}
 use Rattle.sb_sequencer.proofs.Logs.{first_asks-push, log_with-full}
 use Rattle.sb_sequencer.specs.Answer.{IsAnswered, LogAfter, Numbers}
-use Rattle.sb_sequencer.specs.Numbering.{has_key, first_asks, place_of_key}
+use Rattle.sb_sequencer.specs.Numbering.{same_key, has_key, first_asks, place_of_key}
 use Rattle.sb_sequencer.specs.declared.answer.AskFault.{AskFault}
 use Rattle.sb_sequencer.specs.declared.answer.AskFault.TheVariants as faults
 use Rattle.sb_sequencer.specs.declared.answer.Numbered.{Numbered}
 use Rattle.sb_sequencer.specs.declared.answer.Numbered.TheVariants.{New, Repeat}
-use Rattle.smallbank.specs.Asking.{IsAfter, AsksOne, AsksLine, outcome_of_answer}
+use Rattle.smallbank.specs.Asking.{IsAfter, IsOfLog, AsksOne, AsksLine, outcome_of_answer}
 use Rattle.smallbank.specs.Asks.{key_of_line, keyed}
 use Rattle.smallbank.specs.Outcome.{outcome_of}
 use Rattle.smallbank.specs.declared.asking.Outcome.TheVariants.{LogFull}
@@ -30,6 +32,18 @@ asks_one asks old new ask (Ok (Repeat n)) e answered log numbered = (numbered e,
 asks_one asks old new ask (Err (faults.Mismatch n)) e answered log numbered = (numbered e, by_same_log (λ l. outcome_of l ask) log (answered_mismatch old ask n answered))
 asks_one asks old new ask (Err faults.LogFull) e answered log numbered = (numbered e, by_same_log (λ l. outcome_of l ask) log (answered_full old ask answered.0))
 asks_one asks old new ask (Err faults.OutOfMemory) e answered log numbered = tt
+
+-- a place of a key is one of the log
+place_within : (log : List (Key × Call)) (ask : Key × Call) (k : ℕ) → place_of_key log ask.0 ≡ Some k → k < length log
+place_within log ask k at = (position-Some (λ entry. same_key ask.0 entry.0) log k ask at).0
+
+-- and so is the number that is answered
+pub number_within : (old new : List (Key × Call)) (ask : Key × Call) (answer : Result Numbered AskFault) → length new ≤ LOG_CALLS → IsAnswered old ask answer → LogAfter old ask answer new → IsOfLog answer
+number_within old new ask (Ok (New n)) few answered log = omega (arith, answered.1, answered.2)
+number_within old new ask (Ok (Repeat n)) few answered log = omega (arith, ap {B = ℕ} length log, answered.2, place_within old ask answered.0 answered.1)
+number_within old new ask (Err (faults.Mismatch n)) few answered log = omega (arith, ap {B = ℕ} length log, answered.2, place_within old ask answered.0 answered.1)
+number_within old new ask (Err faults.LogFull) few answered log = tt
+number_within old new ask (Err faults.OutOfMemory) few answered log = tt
 
 some_is_false : (k : ℕ) → is_some (Some k) ≡ false → ⊥
 some_is_false k e = cc

@@ -1,10 +1,11 @@
 -- What asking for each line comes to.
-use Rattle.std.specs.Prelude.{◌≡◌, ℕ, Result, Ok, Err, List, ◌∷◌, [], ◌++◌, map}
+use Rattle.std.specs.Prelude.{◌≡◌, ◌≤◌, ℕ, Result, Ok, Err, List, ◌∷◌, [], ◌++◌, map}
 use Rattle.std.specs.List.{AllByRecursion}
 use Rattle.sb_calls.specs.Ask.{IsKey}
 use Rattle.sb_calls.specs.declared.ask.Asked.{Asked}
 use Rattle.sb_calls.specs.declared.ask.Key.{Key}
 use Rattle.sb_calls.specs.declared.call.Call.{Call}
+use Rattle.sb_calls.specs.declared.call.TheConstants.{LOG_CALLS}
 use Rattle.sb_calls.specs.declared.fault.CallFault.{CallFault}
 use Rattle.sb_sequencer.specs.Numbering.{first_asks}
 use Rattle.sb_sequencer.specs.declared.answer.AskFault.{AskFault}
@@ -35,6 +36,14 @@ pub record IsAfter (asks : List Asked) (running : ℕ) (log : List (Key × Call)
   pub keys : AllByRecursion (λ asked. IsKey asked.key) asks
   pub running_is : running ≡ running_from 1 asks
   pub log_is : log ≡ log_of asks
+
+-- the number that is answered, if one is, is of a log
+abbrev pub IsOfLog : Result Numbered AskFault → Type 0
+IsOfLog (Ok (New n)) = n ≤ LOG_CALLS
+IsOfLog (Ok (Repeat n)) = n ≤ LOG_CALLS
+IsOfLog (Err (faults.Mismatch n)) = n ≤ LOG_CALLS
+IsOfLog (Err faults.LogFull) = Unit {0}
+IsOfLog (Err faults.OutOfMemory) = Unit {0}
 
 -- what the sequencer's answer comes to
 abbrev pub outcome_of_answer : Result Numbered AskFault → Result Outcome RunFault

@@ -44,17 +44,17 @@ fn push_answer(outcome: Outcome, board: &Board<Op>, out: &mut Vec<u8>) -> Result
 }
 
 // The reply on a board to a number of its log.
-fn reply_to(board: &Board<Op>, number: u64) -> Option<Reply>
+fn reply_to(board: &Board<Op>, number: u32) -> Option<Reply>
     requires { open_of board.now ≡ 0 }
     ensures { (replies : List AnyReply) → Tells board.now replies → result ≡ slice_get replies (number - 1) }
 {
     prove!(board.idle());
     // Numbers count from 1.
-    board.reply(number.saturating_sub(1) + 1)
+    board.reply(u64::from(number.saturating_sub(1)) + 1)
 }
 
 // Writes a number and its reply.
-fn push_reply(number: u64, reply: Option<Reply>, out: &mut Vec<u8>) -> Result<(), AllocError>
+fn push_reply(number: u32, reply: Option<Reply>, out: &mut Vec<u8>) -> Result<(), AllocError>
     ensures { OnOk result (out.new.items ≡ out.old.items ++ reply_line number reply) }
 {
     let Some(reply) = reply else {
@@ -68,7 +68,7 @@ fn push_reply(number: u64, reply: Option<Reply>, out: &mut Vec<u8>) -> Result<()
 }
 
 // Writes the number of another call under the same key.
-fn push_mismatch(number: u64, out: &mut Vec<u8>) -> Result<(), AllocError>
+fn push_mismatch(number: u32, out: &mut Vec<u8>) -> Result<(), AllocError>
     ensures { OnOk result (out.new.items ≡ out.old.items ++ codes "mismatch " ++ decimal number) }
 {
     let mut buffer = Buffer::new();

@@ -3,7 +3,7 @@ ghost use Rattle.std.specs.Prelude.{◌≡◌, ◌+◌, ◌<◌, ◌≤◌, ◌^
 ghost use Rattle.sb_rows.specs.Text.{lines};
 ghost use Rattle.sb_calls.specs.Ask.{IsKey};
 ghost use Rattle.sb_calls.specs.declared.ask.Asked.{Asked as AnyAsked};
-ghost use Rattle.smallbank.specs.Asking.{IsAsking, IsAfter, AsksLine, outcome_of_answer};
+ghost use Rattle.smallbank.specs.Asking.{IsAsking, IsAfter, IsOfLog, AsksLine, outcome_of_answer};
 ghost use Rattle.smallbank.specs.Asks.{key_of_line};
 ghost use Rattle.smallbank.specs.Faults.{Blames};
 ghost use Rattle.smallbank.specs.Input.{asks_from, in_call};
@@ -21,9 +21,9 @@ const USUAL_LINE: usize = 32;
 #[derive(Clone, Copy, Debug, PartialEq, Eq)]
 pub enum Outcome {
     /// Its call has this number in the log.
-    Number(u64),
+    Number(u32),
     /// Its key has this number already, with another call.
-    Mismatch(u64),
+    Mismatch(u32),
     /// Its key has no number, since the log was full.
     LogFull,
 }
@@ -79,7 +79,12 @@ fn ask(sequencer: &mut Sequencer, running: u64, asked: &Asked) -> Result<Outcome
     ensures { (asks : List AnyAsked) → IsAfter asks running sequencer.old → AsksLine asks running asked.now sequencer.new result }
 {
     match key_of(running, asked.key) {
-        Some(key) => outcome_of(sequencer.ask(key.client, key.request, &asked.call)),
+        Some(key) => {
+            let answer = sequencer.ask(key.client, key.request, &asked.call);
+            // A log's numbers are below 2^32.
+            prove!(sequencer.length() <= LOG_CALLS as u64);
+            outcome_of(answer)
+        }
         // So many keys came before this one that the log is full.
         None => Ok(Outcome::LogFull),
     }
@@ -100,12 +105,13 @@ fn key_of(running: u64, key: Option<Key>) -> Option<Key>
 
 // What the sequencer's answer comes to.
 fn outcome_of(answer: Result<Numbered, AskFault>) -> Result<Outcome, RunFault>
+    requires { IsOfLog answer }
     ensures { result ≡ outcome_of_answer answer }
 {
     match answer {
-        Ok(Numbered::New(number)) => Ok(Outcome::Number(number)),
-        Ok(Numbered::Repeat(number)) => Ok(Outcome::Number(number)),
-        Err(AskFault::Mismatch(number)) => Ok(Outcome::Mismatch(number)),
+        Ok(Numbered::New(number)) => Ok(Outcome::Number(number as u32)),
+        Ok(Numbered::Repeat(number)) => Ok(Outcome::Number(number as u32)),
+        Err(AskFault::Mismatch(number)) => Ok(Outcome::Mismatch(number as u32)),
         Err(AskFault::LogFull) => Ok(Outcome::LogFull),
         Err(AskFault::OutOfMemory) => Err(RunFault::OutOfMemory),
     }
