@@ -247,6 +247,7 @@ impl<B: Behaviour> Board<B> {
 }
 
 // Makes room for one behaviour more. Where memory is refused nothing is lost.
+#[inline(always)]
 fn make_room<B: Behaviour>(
     queues: &mut Queues,
     cowns: &[Cown],

@@ -42,7 +42,7 @@ impl Model for Name {
 fn is_name_byte(byte: u8) -> bool
     ensures { result ≡ spec.is_name_byte byte }
 {
-    matches!(byte, b'a'..=b'z' | b'0'..=b'9' | b'_')
+    byte.is_ascii_lowercase() || byte.is_ascii_digit() || byte == b'_'
 }
 
 // Whether each byte of a text may.
