@@ -1,14 +1,16 @@
 -- Keys by value, and where one stands.
-use Rattle.std.proofs.Common.{◌≡◌, ℕ, ◌+◌, ◌≤◌, Bool, true, false, not, cond, nat_lt, Option, Some, None, is_some, All, List, [], ◌∷◌, ◌++◌, length, map, position, slice_get, refl, sym, ap, ◌∙◌, arith}
+use Rattle.std.proofs.Common.{◌≡◌, ℕ, ◌+◌, ◌<◌, ◌≤◌, Bool, true, false, true≢false, not, cond, nat_lt, Option, Some, None, is_some, unwrap_or, get_or, All, List, [], ◌∷◌, ◌++◌, length, map, position, slice_get, refl, sym, ap, ◌∙◌, arith}
 use Rattle.std.specs.List.{prefix_len, position_or_len}
-use Rattle.std.specs.Map.{keys_of}
-use Rattle.std.proofs.lemmas.Bool.{and_parts, and_from, eqb-true, eq-eqb, ltb-false, or_parts, cond-false}
+use Rattle.std.specs.Map.{keys_of, values_of, lookup}
+use Rattle.std.specs.Option.{option_map}
+use Rattle.std.proofs.lemmas.Bool.{and_parts, and_from, eqb-true, eq-eqb, lt-ltb, ltb-false, or_parts, cond-true, cond-false}
 use Rattle.std.proofs.lemmas.List.{length-map}
 use Rattle.std.proofs.lemmas.List.Folds.{list_any_none, list_any_at}
 use Rattle.std.proofs.lemmas.List.Quantifiers.{position-Some}
 use Rattle.std.proofs.lemmas.List.Sums.{fails_before_first}
-use Rattle.std.proofs.lemmas.Option.{get_or_from_slice_get}
+use Rattle.std.proofs.lemmas.Option.{get_or_from_slice_get, slice_get-get_or, slice_get-map}
 use Rattle.indexmap.specs.IndexMap.{insert_entry}
+use Rattle.indexmap.proofs.MapLemmas.{some_index}
 use Rattle.sb_calls.specs.declared.ask.Key.{Key}
 use Rattle.sb_calls.specs.declared.call.Call.{Call}
 use Rattle.sb_sequencer.specs.Numbering.{same_key, has_key, place_of_key}
@@ -41,6 +43,24 @@ pub place_from_map : (entries log : List (Key × Call)) (key : Key) (found : Opt
     → found ≡ position (same_key key) (keys_of entries) → place_of_key log key ≡ found
 place_from_map entries log key found same is =
     ap (λ xs. place_of_key xs key) (sym same) ∙ sym (place_of_key-keys entries key) ∙ sym is
+
+-- the index that a map gives a key, where it is within the log, is the key's place
+pub place_from_index : (log : List (Key × Call)) (key : Key) (place : ℕ) → place ≡ position_or_len (same_key key) (keys_of log) → place < length log
+    → place_of_key log key ≡ Some place
+place_from_index log key place is within =
+    let n = position_or_len (same_key key) (keys_of log) in
+    let long = length-map log (λ entry. entry.0) in
+    let there : n < length (keys_of log) = omega (arith, is, within, long) in
+    sym (place_of_key-keys log key) ∙ cond-true (nat_lt n (length (keys_of log))) (Some n) None (lt-ltb n _ there) ∙ ap Some (sym is)
+
+none_if_not_some : (found : Option ℕ) → is_some found ≡ false → found ≡ None
+none_if_not_some None e = refl
+none_if_not_some (Some place) e = absurd (true≢false e)
+
+-- a key that a map doesn't have has no place
+pub absent_from_map : (log : List (Key × Call)) (key : Key) → lookup (same_key key) log ≡ None → place_of_key log key ≡ None
+absent_from_map log key e =
+    sym (place_of_key-keys log key) ∙ none_if_not_some _ (some_index (same_key key) log ∙ ap is_some e)
 
 -- what the test of a place tells
 none_by_test : (b : Bool) (n : ℕ) → cond b (Some n) None ≡ None → b ≡ false
@@ -76,6 +96,18 @@ entry_from_map entries log key stored call place same is at =
     let stands = get_or_from_slice_get log place (stored, call) (stored, call) here in
     let one : key ≡ stored = same_key_same key stored (ap (λ entry. same_key key entry.0) (sym stands) ∙ there.1) in
     (e, here ∙ ap (λ k. Some (k, call)) (sym one))
+
+-- the value at the key's place is its entry's
+pub entry_from_value : (log : List (Key × Call)) (key : Key) (call : Call) (place : ℕ) → place_of_key log key ≡ Some place
+    → slice_get (values_of log) place ≡ Some call → slice_get log place ≡ Some (key, call)
+entry_from_value log key call place e is =
+    let there = position-Some (λ entry. same_key key entry.0) log place (key, call) e in
+    let entry = get_or log place (key, call) in
+    let at : slice_get log place ≡ Some entry = slice_get-get_or log place (key, call) there.0 in
+    let numbered : Some entry.1 ≡ Some call = ap (option_map (λ other. other.1)) (sym at) ∙ sym (slice_get-map (λ other. other.1) log place) ∙ is in
+    let numbered_is : entry.1 ≡ call = ap (λ value. unwrap_or value call) numbered in
+    let one : key ≡ entry.0 = same_key_same key entry.0 there.1 in
+    at ∙ (λ j. Some (sym one j, numbered_is j))
 
 -- a map puts a new key last
 pub insert_entry-last : (log : List (Key × Call)) (key : Key) (call : Call) → has_key log key ≡ false

@@ -1,16 +1,17 @@
 -- A log after one more ask.
-use Rattle.std.proofs.Common.{◌≡◌, ◌≢◌, ℕ, ◌<◌, ◌≤◌, Bool, Some, None, is_some, get_or, Result, Ok, Err, true, false, ◌||◌, if◌then◌else◌, nat_le, List, [], ◌∷◌, ◌++◌, length, take, inl, inr, refl, sym, ap, ◌∙◌, arith, append-nil, append_assoc}
+use Rattle.std.proofs.Common.{◌≡◌, ◌≢◌, ℕ, ◌<◌, ◌≤◌, Bool, Some, None, is_some, get_or, Result, Ok, Err, true, false, ◌||◌, if◌then◌else◌, nat_le, List, [], ◌∷◌, ◌++◌, length, take, inl, inr, refl, sym, ap, subst, ◌∙◌, arith, append-nil, append_assoc}
 use Rattle.std.proofs.lemmas.Bool.{cond-true, cond-false, or_left, or_right, or_from, le-leb, lt-leb, cases_lt, both_ways}
 use Rattle.std.proofs.lemmas.List.{take_all, take-append-le, length-take-le, length_push}
 use Rattle.std.proofs.lemmas.List.Quantifiers.{all_pairs_push}
 use Rattle.sb_calls.specs.declared.ask.Key.{Key}
 use Rattle.sb_calls.specs.declared.call.Call.{Call}
-use Rattle.sb_sequencer.specs.Answer.{Numbers}
+use Rattle.sb_sequencer.specs.Answer.{IsAnswered, LogAfter, Numbers}
 use Rattle.sb_sequencer.specs.Log.{log_with, log_after}
 use Rattle.sb_sequencer.specs.Numbering.{same_key, has_key, firsts_after, first_asks, place_of_key, IsLog}
 use Rattle.sb_sequencer.specs.declared.answer.AskFault.{AskFault}
 use Rattle.sb_sequencer.specs.declared.answer.AskFault.TheVariants.{Mismatch, LogFull, OutOfMemory}
 use Rattle.sb_sequencer.specs.declared.answer.Numbered.{Numbered}
+use Rattle.sb_sequencer.specs.declared.answer.Numbered.TheVariants.{New, Repeat}
 use Rattle.sb_calls.specs.declared.call.TheConstants.{LOG_CALLS}
 use Rattle.sb_sequencer.proofs.Firsts.{firsts_after-push, has_key-firsts_after}
 use Rattle.sb_sequencer.proofs.Keys.{same_key_itself, absent_from_place, has_key-place}
@@ -116,6 +117,22 @@ IsLog-push log ask h new room = record {
       both_ways (same_key ask.0 (get_or log k d).0) (absent_from_place log ask.0 new k d l)
       (ap (same_key ask.0) e ∙ same_key_itself ask.0));
 }
+
+-- so what an ask is answered and leaves is the log's step, unless memory is refused
+pub log_with-answered : (old new : List (Key × Call)) (ask : Key × Call) (result : Result Numbered AskFault) → IsAnswered old ask result
+    → LogAfter old ask result new → result ≢ Err OutOfMemory → new ≡ log_with old ask
+log_with-answered old new ask (Ok (New n)) h e _ = e ∙ sym (log_with-new old ask h.0 h.1)
+log_with-answered old new ask (Ok (Repeat n)) h e _ = e ∙ sym (log_with-known old ask h.0 h.1)
+log_with-answered old new ask (Err (Mismatch n)) h e _ = e ∙ sym (log_with-known old ask h.0 h.1)
+log_with-answered old new ask (Err LogFull) h e _ = e ∙ sym (log_with-full old ask h.1)
+log_with-answered old new ask (Err OutOfMemory) h e other = absurd (other refl)
+
+-- and what it leaves is a log
+pub IsLog-answered : (old new : List (Key × Call)) (ask : Key × Call) (result : Result Numbered AskFault) → IsLog old → IsAnswered old ask result
+    → LogAfter old ask result new → IsLog new
+IsLog-answered old new ask (Ok (New n)) is h e = subst IsLog (sym e) (IsLog-push old ask is h.0 h.1)
+IsLog-answered old new ask (Ok (Repeat n)) is h e = subst IsLog (sym e) is
+IsLog-answered old new ask (Err fault) is h e = subst IsLog (sym e) is
 
 -- where the log steps, it is the first asks with this one
 pub Numbers-from_step : (asks old new : List (Key × Call)) (ask : Key × Call) (result : Result Numbered AskFault)

@@ -1,5 +1,5 @@
 //! The log of numbered requests.
-ghost use Rattle.std.specs.Prelude.{◌≡◌, ◌≢◌, ◌<◌, ◌≤◌, ◌↔◌, [], ◌∷◌, ◌++◌, length, List, IsTrue, IfOk, OnOk, OnErr};
+ghost use Rattle.std.specs.Prelude.{◌≡◌, ◌≢◌, ◌<◌, ◌≤◌, ◌↔◌, [], Some, length, List, slice_get, Err, IsTrue, IfOk};
 ghost use Rattle.std.specs.Option.{option_copied};
 ghost use Rattle.sb_calls.specs.declared.ask.Key.{Key as AnyKey};
 ghost use Rattle.sb_calls.specs.declared.call.Call.{Call as AnyCall};
@@ -9,6 +9,7 @@ ghost use Rattle.sb_sequencer.specs.Numbering.{IsLog, call_at, place_of_key};
 
 use crate::answer::{AskFault, Numbered};
 use indexmap::IndexMap;
+use indexmap::map::Entry;
 use sb_calls::{Call, Key, LOG_CALLS};
 use std::alloc::{AllocError, Global};
 use std::marker::Model;
@@ -37,6 +38,37 @@ fn same_call(a: &Call, b: &Call) -> bool
     ensures { IsTrue result ↔ (a.now ≡ b.now) }
 {
     a == b
+}
+
+// What a key comes to that stands at this place of a log with this call.
+fn answered(place: usize, numbered: &Call, call: &Call) -> Result<Numbered, AskFault>
+    requires { place < LOG_CALLS }
+    ensures answer { (log : List (AnyKey × AnyCall)) → (key : AnyKey) → place_of_key log key ≡ Some place → slice_get log place ≡ Some (key, numbered.now) → IsAnswered log (key, call.now) result }
+    ensures log { (log : List (AnyKey × AnyCall)) → (ask : AnyKey × AnyCall) → LogAfter log ask result log }
+{
+    let number = place as u64 + 1;
+    if same_call(numbered, call) {
+        Ok(Numbered::Repeat(number))
+    } else {
+        Err(AskFault::Mismatch(number))
+    }
+}
+
+// Answers an ask at a log that takes one more call: by one search, and a new key goes last.
+fn ask_with_room(log: &mut IndexMap<Key, Call>, key: Key, call: &Call) -> Result<Numbered, AskFault>
+    requires { length log.old.entries < LOG_CALLS }
+    ensures answer { IsAnswered log.old.entries (key, call.now) result }
+    ensures log { LogAfter log.old.entries (key, call.now) result log.new.entries }
+{
+    match log.entry(key) {
+        Ok(Entry::Occupied(found)) => answered(found.index(), found.get(), call),
+        Ok(Entry::Vacant(room)) => {
+            let number = room.index() as u64 + 1;
+            room.insert(*call);
+            Ok(Numbered::New(number))
+        }
+        Err(_) => Err(AskFault::OutOfMemory),
+    }
 }
 
 impl Sequencer {
@@ -83,15 +115,16 @@ impl Sequencer {
         self.log.len() >= LOG_CALLS
     }
 
-    // Puts the call of a new key last. Where memory is refused nothing changes.
-    fn push(&mut self, key: Key, call: Call) -> Result<(), AllocError>
-        requires new { place_of_key self.old key ≡ None }
-        requires room { length self.old < LOG_CALLS }
-        ensures ok { OnOk result (self.new ≡ self.old ++ (key, call) ∷ []) }
-        ensures err { OnErr result (self.new ≡ self.old) }
+    // Answers an ask at a full log: the number that its key has, or that the log takes no more.
+    fn ask_full(&self, key: Key, call: &Call) -> Result<Numbered, AskFault>
+        requires { LOG_CALLS ≤ length self.now }
+        ensures answer { IsAnswered self.now (key, call.now) result }
+        ensures log { LogAfter self.now (key, call.now) result self.now }
     {
-        self.log.insert(key, call)?;
-        Ok(())
+        match self.log.get_full(&key) {
+            Some((place, _, numbered)) => answered(place, numbered, call),
+            None => Err(AskFault::LogFull),
+        }
     }
 
     /// Numbers a request, or tells the number that it has already.
@@ -113,19 +146,9 @@ impl Sequencer {
         ensures numbering { (asks : List (AnyKey × AnyCall)) → Numbers asks self.old (record { client = client; request = request }, call.now) result self.new }
     {
         let key = Key { client, request };
-        if let Some((place, _, numbered)) = self.log.get_full(&key) {
-            let number = place as u64 + 1;
-            if !same_call(numbered, call) {
-                return Err(AskFault::Mismatch(number));
-            }
-            return Ok(Numbered::Repeat(number));
-        }
         if self.is_full() {
-            return Err(AskFault::LogFull);
+            return self.ask_full(key, call);
         }
-        match self.push(key, *call) {
-            Ok(()) => Ok(Numbered::New(self.length())),
-            Err(_) => Err(AskFault::OutOfMemory),
-        }
+        ask_with_room(&mut self.log, key, call)
     }
 }

@@ -1,0 +1,52 @@
+use Rattle.std.proofs.Common.{rules, ◌≡◌, ◌+◌, ◌<◌, length, slice_get, Some, None, refl, sym, ap, ◌∙◌, arith}
+use Rattle.std.specs.Map.{values_of, lookup}
+use Rattle.indexmap.specs.Entry.{entry_map, entry_index, entry_value, map_with_value}
+use Rattle.sb_sequencer.specs.Numbering.{same_key}
+use Rattle.sb_sequencer.proofs.Keys.{place_from_index, absent_from_map, entry_from_value, pushed_in_map}
+use Rattle.sb_sequencer.proofs.sequencer.ask_with_room.Goals as goal
+
+-- a key that the log has: the entry's value is the call that was numbered
+pub returns-in-Ok-Occupied-clause-answer : goal.returns-in-Ok-Occupied-clause-answer
+unfolding entry_index entry_value
+returns-in-Ok-Occupied-clause-answer c =
+    let log = c.args.log.now.entries in
+    let is = c.in-Ok-Occupied.field-0-is in
+    let same : c.in-Ok-Occupied.found.map.now.entries ≡ log = ap (λ e. (entry_map e).entries) (sym is) ∙ c.in-Ok-Occupied.ensures.unchanged in
+    let within : c.index.result < length log = omega (arith, c.index.ensures, c.in-Ok-Occupied.found.within, ap length same) in
+    let place = place_from_index log c.args.key c.index.result (c.index.ensures ∙ ap entry_index (sym is) ∙ c.in-Ok-Occupied.ensures.index) within in
+    let numbered : slice_get (values_of log) c.index.result ≡ Some c.get.result.now =
+    (λ j. slice_get (values_of (sym same j)) (c.index.ensures j)) ∙ c.get.ensures in
+    c.answered.ensures.answer log c.args.key place (entry_from_value log c.args.key c.get.result.now c.index.result place numbered)
+
+-- a new key: the place that the map has for it is the log's end
+pub overflow_add-number : goal.overflow_add-number
+unfolding entry_index
+overflow_add-number c =
+    let same : c.in-Ok-Vacant.room.map.now.entries ≡ c.args.log.now.entries =
+    ap (λ e. (entry_map e).entries) (sym c.in-Ok-Vacant.field-0-is) ∙ c.in-Ok-Vacant.ensures.unchanged in
+    omega (arith, c.index-in-Ok-Vacant.ensures, ap length same, c.requires)
+
+pub returns-in-Ok-Vacant-clause-answer : goal.returns-in-Ok-Vacant-clause-answer
+unfolding entry_index entry_value
+returns-in-Ok-Vacant-clause-answer c =
+    let log = c.args.log.now.entries in
+    let is = c.in-Ok-Vacant.field-0-is in
+    let same : c.in-Ok-Vacant.room.map.now.entries ≡ log = ap (λ e. (entry_map e).entries) (sym is) ∙ c.in-Ok-Vacant.ensures.unchanged in
+    let absent : lookup (same_key c.args.key) log ≡ None = sym c.in-Ok-Vacant.ensures.value ∙ ap entry_value is in
+    let last : c.index-in-Ok-Vacant.result ≡ length log = c.index-in-Ok-Vacant.ensures ∙ ap length same in
+    (absent_from_map log c.args.key absent, c.requires, ap (λ n. n + 1) last)
+
+pub returns-in-Ok-Vacant-clause-log : goal.returns-in-Ok-Vacant-clause-log
+unfolding entry_value
+returns-in-Ok-Vacant-clause-log c =
+    let log = c.args.log.now.entries in
+    let is = c.in-Ok-Vacant.field-0-is in
+    let absent : lookup (same_key c.args.key) log ≡ None = sym c.in-Ok-Vacant.ensures.value ∙ ap entry_value is in
+    let pushed =
+    pushed_in_map log _ log c.args.key c.args.call.now refl (absent_from_map log c.args.key absent)
+    (ap (λ e. (map_with_value e c.args.call.now).entries) (sym is) ∙ c.in-Ok-Vacant.ensures.update.1 c.args.call.now) in
+    search rules
+
+-- no memory for a new key
+pub returns-in-Err-clause-answer : goal.returns-in-Err-clause-answer
+returns-in-Err-clause-answer c = (absent_from_map c.args.log.now.entries c.args.key c.in-Err.ensures.absent, c.requires)
