@@ -126,6 +126,7 @@ impl<B: Behaviour> Board<B> {
     ///
     /// Fails with the first fault that holds, in the order of [`SubmitFault`]'s variants; the board is as it
     /// was then. All room that handing out and finishing it take is made here.
+    // Inlined, so that a behaviour isn't handed over in memory and read back at once.
     #[inline(always)]
     pub fn submit(&mut self, behaviour: B) -> Result<u64, SubmitFault>
         requires { AreBelow (length (held_of self.old.opening)) (B.touches behaviour) }
