@@ -2,7 +2,6 @@ pub mod Answered
 pub mod AskedLines
 pub mod Boards
 pub mod ByPlace
-pub mod Carrying
 pub mod Keyed
 pub mod Outcomes
 pub mod Whole
