@@ -37,7 +37,7 @@ impl Model for Name {
     ghost inverse_ok = { λ n h i. record { bytes = (stored_back n.bytes n.len h).0 i; len = (stored_back n.bytes n.len h).1 i } };
 }
 
-// Whether a byte may stand in a name.
+// Whether a byte may stand in a name. Most are letters, so these are tested first.
 #[inline(always)]
 fn is_name_byte(byte: u8) -> bool
     ensures { result ≡ spec.is_name_byte byte }

@@ -74,7 +74,7 @@ fn output_text(alloc: Global, input: Vec<u8>) -> Result<Vec<u8>, RunFault>
     let mut columns = opening.columns;
     let board = carry_out(alloc, &ops, &mut columns)?;
     drop(ops);
-    // The output takes the input's, whose pages are there already.
+    // The output takes the input's place in memory, whose pages are there already.
     let mut output = input;
     output.clear();
     push_answers(&asking.outcomes, &board, &mut output)?;
