@@ -1,5 +1,5 @@
--- From the sequencer's answer to the outcome of a line.
-use Rattle.std.proofs.Common.{◌≡◌, ℕ, ◌<◌, ◌≤◌, ◌^◌, length, arith, Option, Some, None, Result, Ok, Err, is_some, false, List, [], ◌∷◌, ◌++◌, refl, sym, ap, ◌∙◌}
+-- From the sequencer's answer to the standing of a line.
+use Rattle.std.proofs.Common.{◌≡◌, ℕ, ◌+◌, ◌<◌, ◌≤◌, ◌^◌, length, arith, Option, Some, None, Result, Ok, Err, is_some, false, List, [], ◌∷◌, ◌++◌, refl, sym, ap, ◌∙◌}
 use Rattle.std.proofs.lemmas.List.Quantifiers.{position-Some}
 use Rattle.sb_calls.specs.declared.ask.Asked.{Asked}
 use Rattle.sb_calls.specs.declared.ask.Key.{Key}
@@ -13,35 +13,42 @@ use Rattle.sb_sequencer.specs.declared.answer.AskFault.{AskFault}
 use Rattle.sb_sequencer.specs.declared.answer.AskFault.TheVariants as faults
 use Rattle.sb_sequencer.specs.declared.answer.Numbered.{Numbered}
 use Rattle.sb_sequencer.specs.declared.answer.Numbered.TheVariants.{New, Repeat}
-use Rattle.smallbank.specs.Asking.{IsAfter, IsOfLog, AsksOne, AsksLine, outcome_of_answer}
+use Rattle.smallbank.specs.Asking.{IsAfter, IsOfLog, AsksOne, AsksLine, standing_of_answer}
 use Rattle.smallbank.specs.Asks.{key_of_line, keyed}
-use Rattle.smallbank.specs.Outcome.{outcome_of}
-use Rattle.smallbank.specs.declared.asking.Outcome.TheVariants.{LogFull}
+use Rattle.smallbank.specs.LogNumber.{IsLogNumber}
+use Rattle.smallbank.specs.Standing.{standing_of}
+use Rattle.smallbank.specs.declared.asking.Standing.TheVariants.{LogFull}
 use Rattle.smallbank.proofs.Keyed.{own_key, absent_from_log, full_log}
-use Rattle.smallbank.proofs.Outcomes.{answered_new, answered_repeat, answered_mismatch, answered_full}
+use Rattle.smallbank.proofs.Standings.{answered_new, answered_repeat, answered_mismatch, answered_full}
 
--- an outcome by the log as it was is one by the log as it is, which stayed
+-- an standing by the log as it was is one by the log as it is, which stayed
 by_same_log : {A : Type 0} {old new : List (Key × Call)} {x : A} (f : List (Key × Call) → A) → new ≡ old → x ≡ f old → x ≡ f new
 by_same_log f e h = h ∙ ap f (sym e)
 
--- what the sequencer promises of an answer gives the outcome
+-- what the sequencer promises of an answer gives the standing
 pub asks_one : (asks old new : List (Key × Call)) (ask : Key × Call) (answer : Result Numbered AskFault) → old ≡ first_asks asks
-    → IsAnswered old ask answer → LogAfter old ask answer new → Numbers asks old ask answer new → AsksOne asks ask new (outcome_of_answer answer)
-asks_one asks old new ask (Ok (New n)) e answered log numbered = (numbered e, by_same_log (λ l. outcome_of l ask) log (answered_new old ask n answered))
-asks_one asks old new ask (Ok (Repeat n)) e answered log numbered = (numbered e, by_same_log (λ l. outcome_of l ask) log (answered_repeat old ask n answered))
-asks_one asks old new ask (Err (faults.Mismatch n)) e answered log numbered = (numbered e, by_same_log (λ l. outcome_of l ask) log (answered_mismatch old ask n answered))
-asks_one asks old new ask (Err faults.LogFull) e answered log numbered = (numbered e, by_same_log (λ l. outcome_of l ask) log (answered_full old ask answered.0))
-asks_one asks old new ask (Err faults.OutOfMemory) e answered log numbered = tt
+    → IsAnswered old ask answer → LogAfter old ask answer new → Numbers asks old ask answer new → AsksOne asks ask new (standing_of_answer answer)
+asks_one asks old new ask (Ok (New n)) e answered log numbered = (numbered e, by_same_log (λ l. standing_of l ask) log (answered_new old ask n answered))
+asks_one asks old new ask (Ok (Repeat n)) e answered log numbered = (numbered e, by_same_log (λ l. standing_of l ask) log (answered_repeat old ask n answered))
+asks_one asks old new ask (Err (faults.Mismatch n)) e answered log numbered = (numbered e, by_same_log (λ l. standing_of l ask) log (answered_mismatch old ask n answered))
+asks_one asks old new ask (Err faults.LogFull) e answered log numbered = (numbered e, by_same_log (λ l. standing_of l ask) log (answered_full old ask answered.0))
+asks_one asks old new ask (Err faults.OutOfMemory) e answered log numbered = refl
 
 -- a place of a key is one of the log
 place_within : (log : List (Key × Call)) (ask : Key × Call) (k : ℕ) → place_of_key log ask.0 ≡ Some k → k < length log
 place_within log ask k at = (position-Some (λ entry. same_key ask.0 entry.0) log k ask at).0
 
+kept : (old new : List (Key × Call)) (ask : Key × Call) (n k : ℕ) → length new ≤ LOG_CALLS → new ≡ old → place_of_key old ask.0 ≡ Some k → n ≡ k + 1 → IsLogNumber n
+kept old new ask n k few log at is = record {
+  counted = omega (arith, is);
+  few = omega (arith, ap {B = ℕ} length log, is, place_within old ask k at);
+}
+
 -- and so is the number that is answered
 pub number_within : (old new : List (Key × Call)) (ask : Key × Call) (answer : Result Numbered AskFault) → length new ≤ LOG_CALLS → IsAnswered old ask answer → LogAfter old ask answer new → IsOfLog answer
-number_within old new ask (Ok (New n)) few answered log = omega (arith, answered.1, answered.2)
-number_within old new ask (Ok (Repeat n)) few answered log = omega (arith, ap {B = ℕ} length log, answered.2, place_within old ask answered.0 answered.1)
-number_within old new ask (Err (faults.Mismatch n)) few answered log = omega (arith, ap {B = ℕ} length log, answered.2, place_within old ask answered.0 answered.1)
+number_within old new ask (Ok (New n)) few answered log = record { counted = omega (arith, answered.2); few = omega (arith, answered.1, answered.2) }
+number_within old new ask (Ok (Repeat n)) few answered log = kept old new ask n answered.0 few log answered.1 answered.2
+number_within old new ask (Err (faults.Mismatch n)) few answered log = kept old new ask n answered.0 few log answered.1 answered.2
 number_within old new ask (Err faults.LogFull) few answered log = tt
 number_within old new ask (Err faults.OutOfMemory) few answered log = tt
 

@@ -10,11 +10,11 @@ use Rattle.sb_sequencer.specs.Numbering.{first_asks}
 use Rattle.smallbank.specs.Asking.{IsAfter}
 use Rattle.smallbank.specs.Asks.{keyed, key_of_line, running_after}
 use Rattle.smallbank.specs.Input.{asks_from}
-use Rattle.smallbank.specs.Outcome.{outcome_of}
+use Rattle.smallbank.specs.Standing.{standing_of}
 use Rattle.smallbank.specs.Output.{log_of}
-use Rattle.smallbank.specs.declared.asking.Outcome.{Outcome}
+use Rattle.smallbank.specs.declared.asking.Standing.{Standing}
 use Rattle.smallbank.proofs.Keyed.{keyed_from-push, running_from-push, HaveKeys-push}
-use Rattle.smallbank.proofs.Outcomes.{outcomes_after}
+use Rattle.smallbank.proofs.Standings.{standings_after}
 
 -- a line without a fault is asked last
 pub asks_from-line : (first : ℕ) (before : List Asked) (line : List ℕ) (ls : List (List ℕ)) (asked : Asked) → asked_of line ≡ Ok asked
@@ -52,15 +52,15 @@ map_push : {A B : Type 0} (f : A → B) (xs : List A) (x : A) → map f (xs ++ x
 map_push f [] x = refl
 map_push f (y ∷ xs) x = ap (λ rest. f y ∷ rest) (map_push f xs x)
 
--- the outcomes with one more
-pub outcomes_push : (asks : List Asked) (asked : Asked) (running : ℕ) (log new : List (Key × Call)) (outcomes : List Outcome) (outcome : Outcome) → IsAfter asks running log
-    → new ≡ first_asks (keyed asks ++ (key_of_line running asked.key, asked.call) ∷ []) → outcome ≡ outcome_of new (key_of_line running asked.key, asked.call)
-    → outcomes ≡ map (outcome_of log) (keyed asks) → outcomes ++ outcome ∷ [] ≡ map (outcome_of new) (keyed (asks ++ asked ∷ []))
-outcomes_push asks asked running log new outcomes outcome after h e told =
+-- the standings with one more
+pub standings_push : (asks : List Asked) (asked : Asked) (running : ℕ) (log new : List (Key × Call)) (standings : List Standing) (standing : Standing) → IsAfter asks running log
+    → new ≡ first_asks (keyed asks ++ (key_of_line running asked.key, asked.call) ∷ []) → standing ≡ standing_of new (key_of_line running asked.key, asked.call)
+    → standings ≡ map (standing_of log) (keyed asks) → standings ++ standing ∷ [] ≡ map (standing_of new) (keyed (asks ++ asked ∷ []))
+standings_push asks asked running log new standings standing after h e told =
     let ask : Key × Call = (key_of_line running asked.key, asked.call) in
-    let before : outcomes ≡ map (outcome_of new) (keyed asks) =
-    told ∙ ap (λ l. map (outcome_of l) (keyed asks)) after.log_is ∙ sym (outcomes_after (keyed asks) ask) ∙ ap (λ l. map (outcome_of l) (keyed asks)) (sym h) in
-    (λ j. before j ++ e j ∷ []) ∙ sym (map_push (outcome_of new) (keyed asks) ask) ∙ ap (map (outcome_of new)) (sym (keyed-push asks asked running log after))
+    let before : standings ≡ map (standing_of new) (keyed asks) =
+    told ∙ ap (λ l. map (standing_of l) (keyed asks)) after.log_is ∙ sym (standings_after (keyed asks) ask) ∙ ap (λ l. map (standing_of l) (keyed asks)) (sym h) in
+    (λ j. before j ++ e j ∷ []) ∙ sym (map_push (standing_of new) (keyed asks) ask) ∙ ap (map (standing_of new)) (sym (keyed-push asks asked running log after))
 
 -- before any line the log is empty
 pub log_of-nil : log_of [] ≡ []

@@ -26,7 +26,7 @@ use Rattle.cown_board.specs.declared.state.State.{State}
 use Rattle.cown_board.specs.declared.state.State.TheVariants.{Waiting, Out, Finished}
 use Rattle.cown_workers.specs.Draining.{NoneOut, Drains}
 use Rattle.sb_sequencer.specs.Numbering.{call_at}
-use Rattle.smallbank.specs.Execution.{IsPut, Tells}
+use Rattle.smallbank.specs.Execution.{IsCarriedOut, IsOneByOne, IsPut, Tells}
 use Rattle.smallbank.specs.Output.{calls_of}
 
 none_is_some : {A : Type 0} {x : A} → ◌≡◌ {A = Option A} None (Some x) → ⊥
@@ -243,3 +243,33 @@ told_at board replies place answer tells beside is told = elim (cases_lt place (
     by : (o : Option Reply) → answer ≡ o → IsSome answer → place < length board.log → answer ≡ slice_get replies place
     by None none some lt = absurd (true≢false (sym (subst IsSome none some)))
     by (Some reply) found some lt = found ∙ told_here board place answer reply tells.earlier found told ∙ sym (tells.each place lt)
+
+-- an idle board has a reply to each number of its log
+pub some_reply : (board : BoardOf Op) (number : ℕ) (answer : Option Reply) → open_of board ≡ 0 → board.earlier ≡ [] → length board.log ≡ length board.states
+    → 0 < number → number ≤ length board.log → answer ≡ reply_in board number → IsSome answer
+some_reply board number answer idle none beside counted few is =
+    let place : ℕ = number - 1 in
+    let next : number ≡ place + 1 = omega arith in
+    let state : answer ≡ option_and_then finished_reply (slice_get board.states place) = is ∙ ap (reply_in board) next ∙ reply_at board place none in
+    subst IsSome (sym state) (finished_some board.states place (omega (arith, beside)) (all_finished board.states place idle))
+
+-- and it is that of the log one by one
+pub told_of : (board : BoardOf Op) (replies : List Reply) (number : ℕ) (answer : Option Reply) → Tells board replies → length board.log ≡ length board.states → 0 < number
+    → answer ≡ reply_in board number
+    → IfSome answer (λ r. length board.earlier < number → reply_by_log declared_cowns effect_of (held_of board.opening) board.log (number - length board.earlier) ≡ Some r)
+    → answer ≡ slice_get replies (number - 1)
+told_of board replies number answer tells beside counted is told =
+    let next : number ≡ number - 1 + 1 = omega arith in
+    told_at board replies (number - 1) answer tells beside (is ∙ ap (reply_in board) next)
+    (subst (λ (n : ℕ). IfSome answer (λ r. length board.earlier < n → reply_by_log declared_cowns effect_of (held_of board.opening) board.log (n - length board.earlier) ≡ Some r)) next told)
+
+-- ops that were carried out are the calls that come to them, one by one
+pub one_by_one : (directory : List (List ℕ)) (b c : Balances) (calls : List Call) (ops : List Op) (board : BoardOf Op) → SameCustomers directory b → IsBalances c
+    → board.opening ≡ b → IsCarriedOut ops board → ops ≡ map (resolved directory) calls → IsAfterAll declared_cowns effect_of board c → IsOneByOne directory calls b c board
+one_by_one directory b c calls ops board same valid opening carried is after =
+    let rows = all_rows directory b c calls board same valid opening (carried.log ∙ is) after in
+    record {
+      replies = all_replies directory b calls board same opening (carried.log ∙ is) carried.idle carried.earlier;
+      rows = rows.1;
+      customers = rows.0;
+    }

@@ -3,6 +3,7 @@ use Rattle.std.proofs.Common.{◌≡◌, ℕ, zero, suc, ◌+◌, ◌≤◌, ℤ
 use Rattle.std.specs.FinMap.{get}
 use Rattle.std.specs.Option.{unwrap_or}
 use Rattle.std.proofs.lemmas.Grind.{flat_map-append}
+use Rattle.std.proofs.lemmas.Int.{ints}
 use Rattle.sb_amount.specs.Money.{money}
 use Rattle.sb_rows.specs.Balances.{Balances}
 use Rattle.sb_rows.specs.Customer.{Customer, customers_of}
@@ -11,6 +12,7 @@ use Rattle.sb_rows.specs.Opening.{customer_line}
 use Rattle.sb_rows.specs.Rows.{Rows, SameCustomers, rows_of}
 use Rattle.sb_rows.proofs.Places.{place_of_at}
 use Rattle.sb_rows.proofs.RowsLemmas.{get-rows_of}
+use Rattle.lane_audit.specs.Columns.{total}
 use Rattle.smallbank.specs.Output.{row_lines}
 use Rattle.sb_rows.specs.Text.{unlines}
 
@@ -44,12 +46,20 @@ lines_by_step out names b i name s c e f g =
     ∙ (append_assoc out (customer_line (customer name s c) ++ 10 ∷ []) (unlines (map customer_line (drop (i + 1) (customers_of names b))))
     ∙ ap (λ rest. out ++ unlines (map customer_line rest)) (ap (λ k. customer name s c ∷ drop k (customers_of names b)) (add-one i) ∙ sym (customers_step names b.savings b.checking i name s c e f g)))
 
--- the total from a place on is that customer's and the total after it
-pub total_by_step : (names : List (List ℕ)) (b : Balances) (i : ℕ) (name : List ℕ) (s c : ℤ)
-    → slice_get names i ≡ Some name → slice_get b.savings i ≡ Some s → slice_get b.checking i ≡ Some c
-    → (s +ℤ c) +ℤ total_of (drop (i + 1) (customers_of names b)) ≡ total_of (drop i (customers_of names b))
-total_by_step names b i name s c e f g =
-    ap total_of (ap (λ k. customer name s c ∷ drop k (customers_of names b)) (add-one i) ∙ sym (customers_step names b.savings b.checking i name s c e f g))
+-- the columns' totals are the customers'
+total_of_columns : (names : List (List ℕ)) (savings checking : List ℤ) → length savings ≡ length names → length checking ≡ length names
+    → total savings +ℤ total checking ≡ total_of (customers_of names (record { savings = savings; checking = checking }))
+total_of_columns [] [] [] e f = refl
+total_of_columns [] (s ∷ savings) checking e f = absurd (omega (arith, e))
+total_of_columns [] [] (c ∷ checking) e f = absurd (omega (arith, f))
+total_of_columns (x ∷ names) [] checking e f = absurd (omega (arith, e))
+total_of_columns (x ∷ names) (s ∷ savings) [] e f = absurd (omega (arith, f))
+total_of_columns (x ∷ names) (s ∷ savings) (c ∷ checking) e f =
+    let rest = total_of_columns names savings checking (omega (arith, e)) (omega (arith, f)) in
+    omega (arith, ints, rest)
+
+pub total_by_columns : (names : List (List ℕ)) (b : Balances) → SameCustomers names b → total b.savings +ℤ total b.checking ≡ total_of (customers_of names b)
+total_by_columns names b same = total_of_columns names b.savings b.checking same.places (sym same.balances.same ∙ same.places)
 
 -- past the last place there is no customer
 pub customers_end : (names : List (List ℕ)) (savings checking : List ℤ) (i : ℕ) → length savings ≤ i → drop i (customers_of names (record { savings = savings; checking = checking })) ≡ []
@@ -85,11 +95,11 @@ listed-rows_of names b same =
 pub row_lines_by_place : (out : List ℕ) (names : List (List ℕ)) (b : Balances) → SameCustomers names b
     → (out ++ unlines (map customer_line (customers_of names b))) ++ (codes "total " ++ money (total_of (customers_of names b))) ++ 10 ∷ [] ≡ out ++ unlines (row_lines names (rows_of names b))
 row_lines_by_place out names b same =
-    let total : List ℕ = codes "total " ++ money (total_of (customers_of names b)) in
+    let total_line : List ℕ = codes "total " ++ money (total_of (customers_of names b)) in
     let lines_of : List Customer → List (List ℕ) = λ customers. map customer_line customers ++ (codes "total " ++ money (total_of customers)) ∷ [] in
-    append_assoc (out ++ unlines (map customer_line (customers_of names b))) total (10 ∷ [])
-    ∙ (append_assoc out (unlines (map customer_line (customers_of names b))) (total ++ 10 ∷ [])
+    append_assoc (out ++ unlines (map customer_line (customers_of names b))) total_line (10 ∷ [])
+    ∙ (append_assoc out (unlines (map customer_line (customers_of names b))) (total_line ++ 10 ∷ [])
     ∙ ap (λ text. out ++ text) (
-    ap (λ text. unlines (map customer_line (customers_of names b)) ++ text) (sym (append-nil (total ++ 10 ∷ [])))
-    ∙ (sym (flat_map-append (λ line. line ++ 10 ∷ []) (map customer_line (customers_of names b)) (total ∷ []))
+    ap (λ text. unlines (map customer_line (customers_of names b)) ++ text) (sym (append-nil (total_line ++ 10 ∷ [])))
+    ∙ (sym (flat_map-append (λ line. line ++ 10 ∷ []) (map customer_line (customers_of names b)) (total_line ∷ []))
     ∙ ap (λ customers. unlines (lines_of customers)) (sym (listed-rows_of names b same)))))

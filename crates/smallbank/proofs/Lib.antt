@@ -2,6 +2,7 @@ pub mod Answered
 pub mod AskedLines
 pub mod Boards
 pub mod ByPlace
+pub mod ForGood
 pub mod Keyed
-pub mod Outcomes
+pub mod Standings
 pub mod Whole

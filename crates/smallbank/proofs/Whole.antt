@@ -1,5 +1,6 @@
 -- A whole output from its parts.
-use Rattle.std.proofs.Common.{◌≡◌, ℕ, ◌+◌, Result, Ok, Err, List, [], ◌∷◌, ◌++◌, length, map, drop, refl, sym, ap, ◌∙◌}
+use Rattle.std.proofs.Common.{◌≡◌, ℕ, ◌+◌, Result, Ok, Err, List, [], ◌∷◌, ◌++◌, length, map, drop, refl, sym, ap, subst, ◌∙◌}
+use Rattle.std.specs.List.{All}
 use Rattle.std.proofs.lemmas.Grind.{flat_map-append}
 use Rattle.sb_rows.specs.Opening.{OpeningText, opening_of, ◌>>=◌}
 use Rattle.sb_rows.specs.Rows.{Rows, rows_of}
@@ -13,32 +14,38 @@ use Rattle.sb_calls.specs.declared.fault.CallFault.{CallFault}
 use Rattle.smallbank.specs.Asking.{HasAsked, IsAsking}
 use Rattle.smallbank.specs.Asks.{keyed}
 use Rattle.smallbank.specs.Input.{InputText, asks_from, in_opening, in_call}
-use Rattle.smallbank.specs.Outcome.{outcome_of, outcome_line}
+use Rattle.smallbank.specs.Standing.{StandsAmong, standing_of, standing_line}
+use Rattle.smallbank.proofs.Standings.{all_among}
 use Rattle.smallbank.specs.Output.{log_of, calls_of, answer_lines, row_lines, output_lines, output_of}
-use Rattle.smallbank.specs.declared.asking.Outcome.{Outcome}
+use Rattle.smallbank.specs.declared.asking.Standing.{Standing}
 
 map_map : {A B C : Type 0} (f : B → C) (g : A → B) (xs : List A) → map f (map g xs) ≡ map (λ x. f (g x)) xs
 map_map f g [] = refl
 map_map f g (x ∷ xs) = ap (λ rest. f (g x) ∷ rest) (map_map f g xs)
 
--- the lines of the outcomes are the answers
-answers_are : (opening : Rows) (asks : List Asked) (log : List (Key × Call)) (outcomes : List Outcome) → HasAsked asks log outcomes
-    → map (outcome_line (replies_to opening (calls_of log))) outcomes ≡ answer_lines opening asks
+-- the lines of the standings are the answers
+answers_are : (opening : Rows) (asks : List Asked) (log : List (Key × Call)) (standings : List Standing) → HasAsked asks log standings
+    → map (standing_line (replies_to opening (calls_of log))) standings ≡ answer_lines opening asks
 unfolding answer_lines
-answers_are opening asks log outcomes h =
-    ap (map (outcome_line (replies_to opening (calls_of log)))) h.outcomes_are
-    ∙ map_map (outcome_line (replies_to opening (calls_of log))) (outcome_of log) (keyed asks)
-    ∙ ap (λ l. map (λ ask. outcome_line (replies_to opening (calls_of l)) (outcome_of l ask)) (keyed asks)) h.log_is
+answers_are opening asks log standings h =
+    ap (map (standing_line (replies_to opening (calls_of log)))) h.standings_are
+    ∙ map_map (standing_line (replies_to opening (calls_of log))) (standing_of log) (keyed asks)
+    ∙ ap (λ l. map (λ ask. standing_line (replies_to opening (calls_of l)) (standing_of l ask)) (keyed asks)) h.log_is
+
+-- each ask stands among the log's calls
+pub asked_stand : (read : Result (List Asked) (ℕ × CallFault)) (log : List (Key × Call)) (standings : List Standing) → IsAsking read log standings → All (StandsAmong (length log)) standings
+asked_stand (Ok asks) log standings h = subst (All (StandsAmong (length log))) (sym h.standings_are) (all_among log (keyed asks))
+asked_stand (Err fault) log standings h = absurd h
 
 -- what an opening, the asks after it, and their answers make
-pub output_is : (input : List ℕ) (opening : OpeningText) (log : List (Key × Call)) (outcomes : List Outcome) → opening_of input ≡ Ok opening
-    → IsAsking (asks_from (length opening.names + 2) [] (lines (drop opening.place input))) log outcomes
-    → output_of input ≡ Ok (unlines (map (outcome_line (replies_to (rows_of opening.names opening.balances) (calls_of log))) outcomes)
+pub output_is : (input : List ℕ) (opening : OpeningText) (log : List (Key × Call)) (standings : List Standing) → opening_of input ≡ Ok opening
+    → IsAsking (asks_from (length opening.names + 2) [] (lines (drop opening.place input))) log standings
+    → output_of input ≡ Ok (unlines (map (standing_line (replies_to (rows_of opening.names opening.balances) (calls_of log))) standings)
     ++ unlines (row_lines opening.names (rows_after (calls_of log) (rows_of opening.names opening.balances))))
-output_is input opening log outcomes e h = by (asks_from (length opening.names + 2) [] (lines (drop opening.place input))) refl h
+output_is input opening log standings e h = by (asks_from (length opening.names + 2) [] (lines (drop opening.place input))) refl h
   where
-    by : (read : Result (List Asked) (ℕ × CallFault)) → asks_from (length opening.names + 2) [] (lines (drop opening.place input)) ≡ read → IsAsking read log outcomes
-        → output_of input ≡ Ok (unlines (map (outcome_line (replies_to (rows_of opening.names opening.balances) (calls_of log))) outcomes)
+    by : (read : Result (List Asked) (ℕ × CallFault)) → asks_from (length opening.names + 2) [] (lines (drop opening.place input)) ≡ read → IsAsking read log standings
+        → output_of input ≡ Ok (unlines (map (standing_line (replies_to (rows_of opening.names opening.balances) (calls_of log))) standings)
         ++ unlines (row_lines opening.names (rows_after (calls_of log) (rows_of opening.names opening.balances))))
     by (Err fault) f k = absurd k
     by (Ok asks) f k =
@@ -49,4 +56,4 @@ output_is input opening log outcomes e h = by (asks_from (length opening.names +
         ∙ ap (λ (read : Result (List Asked) (ℕ × CallFault)). (in_call read >>= λ a. Ok (record { opening = opening; asks = a }))
         >>= λ (i : InputText). Ok (unlines (output_lines i))) f
         ∙ ap Ok (flat_map-append (λ line. line ++ 10 ∷ []) (answer_lines rows asks) (row_lines opening.names (rows_after (calls_of (log_of asks)) rows)))
-        ∙ sym (λ j. Ok (unlines (answers_are rows asks log outcomes k j) ++ unlines (row_lines opening.names (rows_after (calls_of (k.log_is j)) rows))))
+        ∙ sym (λ j. Ok (unlines (answers_are rows asks log standings k j) ++ unlines (row_lines opening.names (rows_after (calls_of (k.log_is j)) rows))))

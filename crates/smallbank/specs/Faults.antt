@@ -16,6 +16,12 @@ Blames (Input line fault) read = read ≡ Err (line, fault)
 Blames Device read = Unit {0}
 Blames OutOfMemory read = Unit {0}
 
+-- the same of a text that is in memory already: no device has a part in it
+abbrev pub BlamesText : {A : Type 0} → RunFault → Result A (ℕ × InputFault) → Type 0
+BlamesText (Input line fault) read = read ≡ Err (line, fault)
+BlamesText Device read = ⊥
+BlamesText OutOfMemory read = Unit {0}
+
 -- after an input fault nothing was written
 abbrev pub WritesNothing : RunFault → Option (List ℕ) → Option (List ℕ) → Type 0
 WritesNothing (Input line fault) old new = Keeps old new

@@ -3,5 +3,7 @@ pub mod Asks
 pub mod Execution
 pub mod Faults
 pub mod Input
-pub mod Outcome
+pub mod LogNumber
 pub mod Output
+pub mod Standing
+pub mod Words

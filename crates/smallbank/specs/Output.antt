@@ -12,7 +12,7 @@ use Rattle.sb_calls.specs.declared.call.Call.{Call}
 use Rattle.sb_sequencer.specs.Numbering.{first_asks}
 use Rattle.smallbank.specs.Asks.{keyed}
 use Rattle.smallbank.specs.Input.{InputText, input_of}
-use Rattle.smallbank.specs.Outcome.{outcome_of, outcome_line}
+use Rattle.smallbank.specs.Standing.{standing_of, standing_line}
 use Rattle.smallbank.specs.declared.fault.InputFault.{InputFault}
 
 -- the log: the first asks of each key, at most 1,000,000
@@ -26,7 +26,7 @@ calls_of log = map (λ entry. entry.1) log
 -- a line an asking line, by its number in the log and the replies to the log
 unfoldable pub answer_lines : Rows → List Asked → List (List ℕ)
 answer_lines opening asks =
-    map (λ ask. outcome_line (replies_to opening (calls_of (log_of asks))) (outcome_of (log_of asks) ask)) (keyed asks)
+    map (λ ask. standing_line (replies_to opening (calls_of (log_of asks))) (standing_of (log_of asks) ask)) (keyed asks)
 
 -- NAME SAVINGS CHECKING of each customer in opening order, then the total
 abbrev pub row_lines : List (List ℕ) → Rows → List (List ℕ)

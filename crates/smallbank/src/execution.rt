@@ -1,14 +1,13 @@
 //! Carrying out the ops of a log over a board.
-ghost use Rattle.std.specs.Prelude.{◌≡◌, ◌≢◌, ◌≤◌, ℕ, List, [], length, map, IfOk, OnOk, OnErr};
-ghost use Rattle.sb_rows.specs.Rows.{SameCustomers, rows_of};
+ghost use Rattle.std.specs.Prelude.{◌≡◌, ◌≢◌, ◌≤◌, ℕ, List, [], length, map, IfOk, OnOk};
+ghost use Rattle.sb_rows.specs.Rows.{SameCustomers};
 ghost use Rattle.sb_calls.specs.Behaviour.{declared_cowns};
 ghost use Rattle.sb_calls.specs.Cowns.{AreBelow, held_of};
-ghost use Rattle.sb_calls.specs.Log.{rows_after, replies_to};
 ghost use Rattle.sb_calls.specs.Op.{resolved};
 ghost use Rattle.sb_calls.specs.declared.call.Call.{Call as AnyCall};
 ghost use Rattle.cown_board.specs.Board.{length_of, open_of};
 ghost use Rattle.cown_workers.specs.Draining.{Drains, NoneOut};
-ghost use Rattle.smallbank.specs.Execution.{AreBelowCowns, IsPut, IsOpened, Tells};
+ghost use Rattle.smallbank.specs.Execution.{AreBelowCowns, IsCarriedOut, IsOneByOne, IsOpened, IsPut};
 
 use cown_board::{Board, SubmitFault};
 use cown_workers::{InlineCrew, drain};
@@ -16,30 +15,29 @@ use sb_calls::{LOG_CALLS, Op};
 use sb_rows::{CUSTOMERS, Columns};
 use std::alloc::{AllocError, Global};
 
-/// Carries out the ops of a log on these columns, each as soon as its cowns are free. The replies stay on
-/// the board that is answered. Where memory is refused the columns are as they were.
-pub fn carry_out(alloc: Global, ops: &[Op], columns: &mut Columns) -> Result<Board<Op>, AllocError>
+/// Carries out the ops of a log on these columns, each as soon as its cowns are free, and answers the
+/// board, which has the replies, and the columns after the last one.
+pub fn carry_out(
+    alloc: Global,
+    ops: &[Op],
+    columns: Columns,
+) -> Result<(Board<Op>, Columns), AllocError>
     requires few { length ops.now ≤ LOG_CALLS }
-    requires cowns { AreBelowCowns (length (held_of columns.old)) ops.now }
-    ensures idle { IfOk result (λ board. open_of board ≡ 0) }
-    ensures err { OnErr result (columns.new ≡ columns.old) }
-    // Where calls come to these ops, the replies and the rows are those of the calls one by one.
-    ensures replies { (directory : List (List ℕ)) (calls : List AnyCall) → SameCustomers directory columns.old → ops.now ≡ map (resolved directory) calls
-        → IfOk result (λ board. Tells board (replies_to (rows_of directory columns.old) calls)) }
-    ensures rows { (directory : List (List ℕ)) (calls : List AnyCall) → SameCustomers directory columns.old → ops.now ≡ map (resolved directory) calls
-        → IfOk result (λ board. rows_of directory columns.new ≡ rows_after calls (rows_of directory columns.old)) }
-    ensures customers { (directory : List (List ℕ)) (calls : List AnyCall) → SameCustomers directory columns.old → ops.now ≡ map (resolved directory) calls
-        → IfOk result (λ board. SameCustomers directory columns.new) }
+    requires cowns { AreBelowCowns (length (held_of columns)) ops.now }
+    ensures finished { IfOk result (λ done. IsCarriedOut ops.now done.0) }
+    // Where calls come to these ops, it is as if they were carried out one by one.
+    ensures one_by_one { IfOk result (λ done. (directory : List (List ℕ)) (calls : List AnyCall)
+        → SameCustomers directory columns → ops.now ≡ map (resolved directory) calls
+        → IsOneByOne directory calls columns done.1 done.0) }
 {
-    let mut board = Board::open(alloc, columns.copy()?, 0, Vec::new(alloc))?;
+    let mut board = Board::open(alloc, columns, 0, Vec::new(alloc))?;
     board.reserve(ops.len())?;
     submit_all(ops, &mut board)?;
     run_all(&mut board);
     let after = board.columns()?.unwrap();
     // They are the columns of a bank.
     prove!(after.customers() <= CUSTOMERS);
-    *columns = after;
-    Ok(board)
+    Ok((board, after))
 }
 
 // Submits each op.

@@ -2,12 +2,12 @@
 ghost use Rattle.std.specs.Prelude.{◌≡◌, ℕ, List, [], ◌∷◌, ◌++◌, map, codes, OnOk};
 ghost use Rattle.sb_amount.specs.Money.{money};
 ghost use Rattle.sb_rows.specs.Customer.{customers_of};
-ghost use Rattle.sb_rows.specs.Listing.{total_of};
 ghost use Rattle.sb_rows.specs.Opening.{customer_line};
 ghost use Rattle.sb_rows.specs.Rows.{SameCustomers, rows_of};
 ghost use Rattle.sb_rows.specs.Text.{unlines};
 ghost use Rattle.smallbank.specs.Output.{row_lines};
 
+use lane_audit::bank_total;
 use sb_amount::{Cents, print, print_total};
 use sb_rows::{Columns, Directory, Name};
 use std::alloc::AllocError;
@@ -22,7 +22,7 @@ pub fn list_rows(
     ensures { OnOk result (out.new.items ≡ out.old.items ++ unlines (row_lines directory.now (rows_of directory.now columns.now))) }
 {
     list_customers(directory, columns, out)?;
-    push_total(out, total(columns))?;
+    push_total(out, bank_total(columns))?;
     Ok(())
 }
 
@@ -63,17 +63,6 @@ fn push_customer(
     out.extend_from_slice(print(checking).as_str().as_bytes())?;
     out.push(b'\n')?;
     Ok(())
-}
-
-// All balances added up, in cents.
-fn total(columns: &Columns) -> i64
-    ensures { (directory : List (List ℕ)) → SameCustomers directory columns.now → result ≡ total_of (customers_of directory columns.now) }
-{
-    let mut total = 0;
-    for place in 0..columns.customers() as u32 {
-        total += columns.savings_of(place).value() + columns.checking_of(place).value();
-    }
-    total
 }
 
 // Writes the line of the total.

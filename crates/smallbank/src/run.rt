@@ -1,7 +1,7 @@
 //! A whole run: what is written is a stated function of what is read.
 ghost use Rattle.std.specs.Prelude.{◌≡◌, Ok, IfSome, IfErr, OnOk, MatchResult};
 ghost use Rattle.std.specs.Io.KnownBytes.{Appends};
-ghost use Rattle.smallbank.specs.Faults.{Writes, Blames, WritesNothing};
+ghost use Rattle.smallbank.specs.Faults.{Writes, Blames, BlamesText, WritesNothing};
 ghost use Rattle.smallbank.specs.Output.{output_of};
 
 use crate::answers::push_answers;
@@ -54,7 +54,9 @@ fn write_whole<W: Write>(writer: &mut W, text: &[u8]) -> io::Result<()>
 
 // The output of an input.
 fn output_text(alloc: Global, input: Vec<u8>) -> Result<Vec<u8>, RunFault>
-    ensures { MatchResult result (λ output. output_of input.items ≡ Ok output.items) (λ fault. Blames fault (output_of input.items)) }
+    ensures { MatchResult result
+        (λ output. output_of input.items ≡ Ok output.items)
+        (λ fault. BlamesText fault (output_of input.items)) }
 {
     let opening = match read_opening(alloc, &input) {
         Ok(opening) => opening,
@@ -71,13 +73,12 @@ fn output_text(alloc: Global, input: Vec<u8>) -> Result<Vec<u8>, RunFault>
     let ops = resolve_all(alloc, &asking.sequencer, &opening.directory)?;
     // The board may take the log's place in memory.
     drop(asking.sequencer);
-    let mut columns = opening.columns;
-    let board = carry_out(alloc, &ops, &mut columns)?;
+    let (board, columns) = carry_out(alloc, &ops, opening.columns)?;
     drop(ops);
     // The output takes the input's place in memory, whose pages are there already.
     let mut output = input;
     output.clear();
-    push_answers(&asking.outcomes, &board, &mut output)?;
+    push_answers(&asking.standings, &board, &mut output)?;
     list_rows(&opening.directory, &columns, &mut output)?;
     Ok(output)
 }

@@ -4,7 +4,7 @@ use Rattle.smallbank.specs.Asks.{running_after}
 use Rattle.smallbank.specs.Asking.{IsAsking}
 use Rattle.smallbank.specs.Input.{asks_from, in_call}
 use Rattle.smallbank.specs.declared.fault.InputFault.TheVariants as faults
-use Rattle.smallbank.proofs.AskedLines.{asks_from-line, asks_from-fault, asks_from-end, after_push, outcomes_push, log_of-nil, running_if_none, running_if_some, running_after_le}
+use Rattle.smallbank.proofs.AskedLines.{asks_from-line, asks_from-fault, asks_from-end, after_push, standings_push, log_of-nil, running_if_none, running_if_some, running_after_le}
 use Rattle.smallbank.proofs.asking.ask_lines.Goals as goal
 use Rattle.smallbank.proofs.asking.ask_lines.Goals.{then-is_none, else-is_none}
 
@@ -14,9 +14,9 @@ loop-line-init c = (
   record {
     all = refl;
     after = record { keys = tt; running_is = refl; log_is = c.in_ok-sequencer.ensures ∙ sym log_of-nil };
-    outcomes = c.in_ok-outcomes.ensures.items;
+    standings = c.in_ok-standings.ensures.items;
     room = omega arith;
-    count = ap length c.in_ok-outcomes.ensures.items;
+    count = ap length c.in_ok-standings.ensures.items;
     few = omega arith;
   },
 )
@@ -41,14 +41,14 @@ loop-line-preserved c =
     ] in
     let more = asks_from-line c.args.first_line asks c.in-Some.line.now (lines c.in-Some.rest.now) asked (sym c.in-Ok.ensures.exact) in
     let longer : length (asks ++ asked ∷ []) ≡ length asks + 1 = length-append asks (asked ∷ []) in
-    let told : length c.push.new.self.items ≡ length c.loop-line.outcomes.items + 1 = ap length c.in_ok-push.ensures.items ∙ length-append c.loop-line.outcomes.items (c.in_ok-ask.field-0 ∷ []) in
+    let told : length c.push.new.self.items ≡ length c.loop-line.standings.items + 1 = ap length c.in_ok-push.ensures.items ∙ length-append c.loop-line.standings.items (c.in_ok-ask.field-0 ∷ []) in
     let bound = running_after_le c.loop-line.running asked.key in (
       asks ++ asked ∷ [],
       record {
         all = sym more ∙ (ap (asks_from c.args.first_line asks) (sym c.in-Some.ensures.line) ∙ so_far.all);
         after = after_push asks asked c.loop-line.running c.if-is_none.running c.loop-line.sequencer c.ask.new.sequencer so_far.after c.in-Ok.ensures.spelled.0.0 next one.0;
-        outcomes = c.in_ok-push.ensures.items
-            ∙ outcomes_push asks asked c.loop-line.running c.loop-line.sequencer c.ask.new.sequencer c.loop-line.outcomes.items c.in_ok-ask.field-0 so_far.after one.0 one.1 so_far.outcomes;
+        standings = c.in_ok-push.ensures.items
+            ∙ standings_push asks asked c.loop-line.running c.loop-line.sequencer c.ask.new.sequencer c.loop-line.standings.items c.in_ok-ask.field-0 so_far.after one.0 one.1 so_far.standings;
         room = omega (arith, longer, so_far.room, c.in-Some.ensures.shorter);
         count = omega (arith, longer, told, so_far.count);
         few = omega (arith, longer, next, bound, so_far.few);
@@ -61,4 +61,4 @@ returns c =
     let so_far = c.loop-line.invariant.1 in
     let all : asks_from c.args.first_line [] (lines c.args.text.now) ≡ Ok asks =
     sym so_far.all ∙ (ap (asks_from c.args.first_line asks) c.in_default.ensures.line ∙ asks_from-end c.args.first_line asks) in
-    subst (λ read. IsAsking read c.loop-line.sequencer c.loop-line.outcomes.items) (sym all) (record { log_is = so_far.after.log_is; outcomes_are = so_far.outcomes })
+    subst (λ read. IsAsking read c.loop-line.sequencer c.loop-line.standings.items) (sym all) (record { log_is = so_far.after.log_is; standings_are = so_far.standings })

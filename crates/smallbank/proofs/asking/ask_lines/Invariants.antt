@@ -4,17 +4,17 @@ use Rattle.sb_rows.specs.Text.{lines}
 use Rattle.smallbank.specs.Asking.{IsAfter}
 use Rattle.smallbank.specs.Asks.{keyed}
 use Rattle.smallbank.specs.Input.{asks_from}
-use Rattle.smallbank.specs.Outcome.{outcome_of}
+use Rattle.smallbank.specs.Standing.{standing_of}
 use Rattle.smallbank.proofs.asking.ask_lines.Given as goal
 
--- there are the asks so far: with those of what is left they are all, and the log and the outcomes are theirs
+-- there are the asks so far: with those of what is left they are all, and the log and the standings are theirs
 abbrev pub invariant-loop-line : goal.invariant-loop-line
 invariant-loop-line l = (asks : List Asked) × record {
   all : asks_from l.first_line asks (lines l.left) ≡ asks_from l.first_line [] (lines l.text);
   after : IsAfter asks l.running l.sequencer;
-  outcomes : l.outcomes.items ≡ map (outcome_of l.sequencer) (keyed asks);
+  standings : l.standings.items ≡ map (standing_of l.sequencer) (keyed asks);
   room : length asks + length l.left ≤ length l.text;
-  count : length l.outcomes.items ≡ length asks;
+  count : length l.standings.items ≡ length asks;
   few : l.running ≤ length asks + 1;
 }
 

@@ -4,15 +4,15 @@ use Rattle.sb_amount.specs.Money.{money}
 use Rattle.sb_rows.specs.Customer.{customers_of}
 use Rattle.sb_rows.specs.Opening.{customer_line}
 use Rattle.sb_rows.specs.Text.{unlines}
-use Rattle.smallbank.proofs.ByPlace.{row_lines_by_place}
+use Rattle.smallbank.proofs.ByPlace.{row_lines_by_place, total_by_columns}
 use Rattle.smallbank.proofs.listing.list_rows.Goals as goal
 
 pub returns : goal.returns
 returns c =
     let names = c.args.directory.now in
     let b = c.args.columns.now in
-    let fits : FitsSigned w64 c.total.result = search rules in
+    let fits : FitsSigned w64 c.bank_total.result = search rules in
     c.in_ok-push_total.ensures
-    ∙ (ap (λ (out : List ℕ). out ++ (codes "total " ++ money (to_z w64 (of_z w64 c.total.result))) ++ 10 ∷ []) c.in_ok-list_customers.ensures
-    ∙ (ap (λ (total : ℤ). (c.args.out.now.items ++ unlines (map customer_line (customers_of names b))) ++ (codes "total " ++ money total) ++ 10 ∷ []) (to_z-of_z w64 c.total.result fits ∙ c.total.ensures names c.requires)
+    ∙ (ap (λ (out : List ℕ). out ++ (codes "total " ++ money (to_z w64 (of_z w64 c.bank_total.result))) ++ 10 ∷ []) c.in_ok-list_customers.ensures
+    ∙ (ap (λ (total : ℤ). (c.args.out.now.items ++ unlines (map customer_line (customers_of names b))) ++ (codes "total " ++ money total) ++ 10 ∷ []) (to_z-of_z w64 c.bank_total.result fits ∙ (c.bank_total.ensures.value ∙ total_by_columns names b c.requires))
     ∙ row_lines_by_place c.args.out.now.items names b c.requires))

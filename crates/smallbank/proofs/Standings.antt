@@ -1,13 +1,14 @@
--- What asks come to, by the log.
-use Rattle.std.proofs.Common.{◌≡◌, ℕ, ◌+◌, ◌<◌, Bool, true, false, ◌||◌, cond, if◌then◌else◌, nat_lt, Option, Some, None, is_some, List, [], ◌∷◌, ◌++◌, length, map, take, get_or, slice_get, refl, sym, ap, subst, ◌∙◌, arith, lt-ltb, append_assoc, inl, inr, Ok, Err}
-use Rattle.std.specs.Prelude.{◌≢◌}
+-- How asks stand in a log.
+use Rattle.std.proofs.Common.{◌≡◌, ℕ, ◌+◌, ◌<◌, ◌≤◌, Bool, true, false, ◌||◌, cond, if◌then◌else◌, nat_lt, Option, Some, None, is_some, List, [], ◌∷◌, ◌++◌, length, map, take, get_or, slice_get, refl, sym, ap, subst, ◌∙◌, arith, lt-ltb, append_assoc, inl, inr, Ok, Err}
+use Rattle.std.specs.Prelude.{◌≢◌, slice_index_or}
 use Rattle.std.specs.Ordering.{int_eq}
 use Rattle.std.specs.Str.{bytes_eq}
 use Rattle.std.specs.Cmp.Lexicographic.{bytes_decides}
-use Rattle.std.specs.List.{AllByRecursion, position_or_len}
+use Rattle.std.specs.List.{All, AllByRecursion, position_or_len}
 use Rattle.std.proofs.lemmas.Bool.{and_parts, and_from, cond-true, false_from_ne_true, cases_lt}
 use Rattle.std.proofs.lemmas.Bool.Decides.{Decides-int_eq}
 use Rattle.std.proofs.lemmas.List.{get_or_append_left, length_push, take_all, length-take-le}
+use Rattle.std.proofs.lemmas.List.Elements.{All-map}
 use Rattle.std.proofs.lemmas.List.Folds.{list_any-append}
 use Rattle.std.proofs.lemmas.List.Quantifiers.{position-Some}
 use Rattle.std.proofs.lemmas.List.Sums.{position_or_len_is}
@@ -25,8 +26,9 @@ use Rattle.sb_sequencer.specs.Numbering.{same_key, has_key, firsts_after, first_
 use Rattle.sb_sequencer.specs.declared.answer.AskFault.TheVariants as faults
 use Rattle.sb_sequencer.specs.declared.answer.Numbered.TheVariants as numbers
 use Rattle.sb_calls.specs.declared.call.TheConstants.{LOG_CALLS}
-use Rattle.smallbank.specs.Outcome.{same_call, numbered_outcome, outcome_at, outcome_of}
-use Rattle.smallbank.specs.declared.asking.Outcome.TheVariants.{Number, Mismatch, LogFull}
+use Rattle.smallbank.specs.Standing.{StandsAmong, same_call, numbered_standing, standing_at, standing_of}
+use Rattle.smallbank.specs.declared.asking.Standing.{Standing}
+use Rattle.smallbank.specs.declared.asking.Standing.TheVariants.{Number, Mismatch, LogFull}
 
 -- ---- calls
 
@@ -68,12 +70,12 @@ same_call_same (WriteCheck x v) (TransactSavings x' v') e = absurd cc
 same_call_same (WriteCheck x v) (Amalgamate x' u') e = absurd cc
 same_call_same (WriteCheck x v) (WriteCheck x' v') e = let p = and_parts (bytes_eq x x') (int_eq v v') e in let f : x ≡ x' = (bytes_decides x x').0 p.0 in let g : v ≡ v' = (Decides-int_eq v v').0 p.1 in λ j. WriteCheck (f j) (g j)
 
--- the outcome at an entry with the same call, and at one with another
-outcome_same : (n : ℕ) (ask : Key × Call) → numbered_outcome n ask.1 (Some ask) ≡ Number n
-outcome_same n ask = ap (λ same. if same then Number n else Mismatch n) (same_call_itself ask.1)
+-- the standing at an entry with the same call, and at one with another
+standing_same : (n : ℕ) (ask : Key × Call) → numbered_standing n ask.1 (Some ask) ≡ Number n
+standing_same n ask = ap (λ same. if same then Number n else Mismatch n) (same_call_itself ask.1)
 
-outcome_other : (n : ℕ) (call : Call) (entry : Key × Call) → entry.1 ≢ call → numbered_outcome n call (Some entry) ≡ Mismatch n
-outcome_other n call entry other = ap (λ same. if same then Number n else Mismatch n) (false_from_ne_true (same_call entry.1 call) (λ e. other (same_call_same entry.1 call e)))
+standing_other : (n : ℕ) (call : Call) (entry : Key × Call) → entry.1 ≢ call → numbered_standing n call (Some entry) ≡ Mismatch n
+standing_other n call entry other = ap (λ same. if same then Number n else Mismatch n) (false_from_ne_true (same_call entry.1 call) (λ e. other (same_call_same entry.1 call e)))
 
 -- ---- places in a log that grows
 
@@ -109,30 +111,30 @@ entry_kept log entry k l =
 entry_new : (log : List (Key × Call)) (entry : Key × Call) → slice_get (log ++ entry ∷ []) (length log) ≡ Some entry
 entry_new log entry = slice_get-get_or (log ++ entry ∷ []) (length log) entry (omega (arith, length_push log entry)) ∙ ap Some (get_or-append_seam log entry [] entry)
 
--- ---- outcomes in a log that grows
+-- ---- standings in a log that grows
 
--- an ask whose key has a number keeps its outcome
-outcome_kept : (log : List (Key × Call)) (entry ask : Key × Call) (k : ℕ) → place_of_key log ask.0 ≡ Some k → outcome_of (log ++ entry ∷ []) ask ≡ outcome_of log ask
-outcome_kept log entry ask k e =
+-- an ask whose key has a number keeps its standing
+standing_kept : (log : List (Key × Call)) (entry ask : Key × Call) (k : ℕ) → place_of_key log ask.0 ≡ Some k → standing_of (log ++ entry ∷ []) ask ≡ standing_of log ask
+standing_kept log entry ask k e =
     let within = (position-Some (λ (other : Key × Call). same_key ask.0 other.0) log k entry e).0 in
-    ap (outcome_at (log ++ entry ∷ []) ask.1) (place_kept log entry ask.0 k e)
-    ∙ ap (numbered_outcome (k + 1) ask.1) (entry_kept log entry k within)
-    ∙ sym (ap (outcome_at log ask.1) e)
+    ap (standing_at (log ++ entry ∷ []) ask.1) (place_kept log entry ask.0 k e)
+    ∙ ap (numbered_standing (k + 1) ask.1) (entry_kept log entry k within)
+    ∙ sym (ap (standing_at log ask.1) e)
 
 none_is_true : is_some {T = ℕ} None ≡ true → ⊥
 none_is_true e = cc
 
-outcome_known : (log : List (Key × Call)) (entry ask : Key × Call) → has_key log ask.0 ≡ true → outcome_of (log ++ entry ∷ []) ask ≡ outcome_of log ask
-outcome_known log entry ask known = by (place_of_key log ask.0) refl
+standing_known : (log : List (Key × Call)) (entry ask : Key × Call) → has_key log ask.0 ≡ true → standing_of (log ++ entry ∷ []) ask ≡ standing_of log ask
+standing_known log entry ask known = by (place_of_key log ask.0) refl
   where
-    by : (place : Option ℕ) → place_of_key log ask.0 ≡ place → outcome_of (log ++ entry ∷ []) ask ≡ outcome_of log ask
+    by : (place : Option ℕ) → place_of_key log ask.0 ≡ place → standing_of (log ++ entry ∷ []) ask ≡ standing_of log ask
     by None e = absurd (none_is_true (sym (has_key-place log ask.0 ∙ ap is_some e) ∙ known))
-    by (Some k) e = outcome_kept log entry ask k e
+    by (Some k) e = standing_kept log entry ask k e
 
-outcomes_known : (log : List (Key × Call)) (entry : Key × Call) (asks : List (Key × Call)) → AllByRecursion (λ ask. has_key log ask.0 ≡ true) asks
-    → map (outcome_of (log ++ entry ∷ [])) asks ≡ map (outcome_of log) asks
-outcomes_known log entry [] h = refl
-outcomes_known log entry (ask ∷ asks) h = λ j. outcome_known log entry ask h.0 j ∷ outcomes_known log entry asks h.1 j
+standings_known : (log : List (Key × Call)) (entry : Key × Call) (asks : List (Key × Call)) → AllByRecursion (λ ask. has_key log ask.0 ≡ true) asks
+    → map (standing_of (log ++ entry ∷ [])) asks ≡ map (standing_of log) asks
+standings_known log entry [] h = refl
+standings_known log entry (ask ∷ asks) h = λ j. standing_known log entry ask h.0 j ∷ standings_known log entry asks h.1 j
 
 -- each of these asks has its key among them
 all_known : (front asks : List (Key × Call)) → AllByRecursion (λ ask. has_key (front ++ asks) ask.0 ≡ true) asks
@@ -166,36 +168,56 @@ log_has : (asks rest : List (Key × Call)) → length (first_asks asks) < LOG_CA
 log_has asks [] l h = tt
 log_has asks (ask ∷ rest) l h = (has_key-first_asks asks ask.0 l ∙ h.0, log_has asks rest l h.1)
 
--- one more ask leaves the outcomes of those before
-pub outcomes_after : (asks : List (Key × Call)) (ask : Key × Call) → map (outcome_of (first_asks (asks ++ ask ∷ []))) asks ≡ map (outcome_of (first_asks asks)) asks
-outcomes_after asks ask = ap (λ log. map (outcome_of log) asks) (first_asks-push asks ask) ∙ by (place_of_key (first_asks asks) ask.0) refl
+-- one more ask leaves the standings of those before
+pub standings_after : (asks : List (Key × Call)) (ask : Key × Call) → map (standing_of (first_asks (asks ++ ask ∷ []))) asks ≡ map (standing_of (first_asks asks)) asks
+standings_after asks ask = ap (λ log. map (standing_of log) asks) (first_asks-push asks ask) ∙ by (place_of_key (first_asks asks) ask.0) refl
   where
-    by : (place : Option ℕ) → place_of_key (first_asks asks) ask.0 ≡ place → map (outcome_of (log_with (first_asks asks) ask)) asks ≡ map (outcome_of (first_asks asks)) asks
-    by (Some k) e = ap (λ log. map (outcome_of log) asks) (log_with-known (first_asks asks) ask k e)
+    by : (place : Option ℕ) → place_of_key (first_asks asks) ask.0 ≡ place → map (standing_of (log_with (first_asks asks) ask)) asks ≡ map (standing_of (first_asks asks)) asks
+    by (Some k) e = ap (λ log. map (standing_of log) asks) (log_with-known (first_asks asks) ask k e)
     by None e = elim (cases_lt (length (first_asks asks)) LOG_CALLS) [
-      | inl room ↦ ap (λ log. map (outcome_of log) asks) (log_with-new (first_asks asks) ask e room) ∙ outcomes_known (first_asks asks) ask asks (log_has asks asks room (all_known [] asks))
-      | inr full ↦ ap (λ log. map (outcome_of log) asks) (log_with-full (first_asks asks) ask full)
+      | inl room ↦ ap (λ log. map (standing_of log) asks) (log_with-new (first_asks asks) ask e room) ∙ standings_known (first_asks asks) ask asks (log_has asks asks room (all_known [] asks))
+      | inr full ↦ ap (λ log. map (standing_of log) asks) (log_with-full (first_asks asks) ask full)
     ]
 
 -- ---- what an answer comes to
 
-pub answered_new : (log : List (Key × Call)) (ask : Key × Call) (n : ℕ) → IsAnswered log ask (Ok (numbers.New n)) → Number n ≡ outcome_of (log ++ ask ∷ []) ask
+pub answered_new : (log : List (Key × Call)) (ask : Key × Call) (n : ℕ) → IsAnswered log ask (Ok (numbers.New n)) → Number n ≡ standing_of (log ++ ask ∷ []) ask
 answered_new log ask n h =
-    ap Number h.2 ∙ sym (outcome_same (length log + 1) ask)
-    ∙ sym (ap (outcome_at (log ++ ask ∷ []) ask.1) (place_new log ask h.0) ∙ ap (numbered_outcome (length log + 1) ask.1) (entry_new log ask))
+    ap Number h.2 ∙ sym (standing_same (length log + 1) ask)
+    ∙ sym (ap (standing_at (log ++ ask ∷ []) ask.1) (place_new log ask h.0) ∙ ap (numbered_standing (length log + 1) ask.1) (entry_new log ask))
 
-pub answered_repeat : (log : List (Key × Call)) (ask : Key × Call) (n : ℕ) → IsAnswered log ask (Ok (numbers.Repeat n)) → Number n ≡ outcome_of log ask
+pub answered_repeat : (log : List (Key × Call)) (ask : Key × Call) (n : ℕ) → IsAnswered log ask (Ok (numbers.Repeat n)) → Number n ≡ standing_of log ask
 answered_repeat log ask n h =
-    ap Number h.2 ∙ sym (outcome_same (h.0 + 1) ask) ∙ sym (ap (outcome_at log ask.1) h.1 ∙ ap (numbered_outcome (h.0 + 1) ask.1) h.3)
+    ap Number h.2 ∙ sym (standing_same (h.0 + 1) ask) ∙ sym (ap (standing_at log ask.1) h.1 ∙ ap (numbered_standing (h.0 + 1) ask.1) h.3)
 
-pub answered_mismatch : (log : List (Key × Call)) (ask : Key × Call) (n : ℕ) → IsAnswered log ask (Err (faults.Mismatch n)) → Mismatch n ≡ outcome_of log ask
+pub answered_mismatch : (log : List (Key × Call)) (ask : Key × Call) (n : ℕ) → IsAnswered log ask (Err (faults.Mismatch n)) → Mismatch n ≡ standing_of log ask
 answered_mismatch log ask n h =
     let at = position-Some (λ (other : Key × Call). same_key ask.0 other.0) log h.0 ask h.1 in
     let entry = get_or log h.0 ask in
     let stands : slice_get log h.0 ≡ Some entry = slice_get-get_or log h.0 ask at.0 in
     let key : ask.0 ≡ entry.0 = same_key_same ask.0 entry.0 at.1 in
-    ap Mismatch h.2 ∙ sym (outcome_other (h.0 + 1) ask.1 entry (λ e. h.3 (stands ∙ (λ j. Some (sym key j, e j)))))
-    ∙ sym (ap (outcome_at log ask.1) h.1 ∙ ap (numbered_outcome (h.0 + 1) ask.1) stands)
+    ap Mismatch h.2 ∙ sym (standing_other (h.0 + 1) ask.1 entry (λ e. h.3 (stands ∙ (λ j. Some (sym key j, e j)))))
+    ∙ sym (ap (standing_at log ask.1) h.1 ∙ ap (numbered_standing (h.0 + 1) ask.1) stands)
 
-pub answered_full : (log : List (Key × Call)) (ask : Key × Call) → place_of_key log ask.0 ≡ None → LogFull ≡ outcome_of log ask
-answered_full log ask e = sym (ap (outcome_at log ask.1) e)
+pub answered_full : (log : List (Key × Call)) (ask : Key × Call) → place_of_key log ask.0 ≡ None → LogFull ≡ standing_of log ask
+answered_full log ask e = sym (ap (standing_at log ask.1) e)
+
+-- ---- numbers of the log
+
+among_by_test : (n calls : ℕ) (same : Bool) → n ≤ calls → StandsAmong calls (if same then Number n else Mismatch n)
+among_by_test n calls true le = le
+among_by_test n calls false le = le
+
+among_at : (n calls : ℕ) (call : Call) (entry : Option (Key × Call)) → n ≤ calls → StandsAmong calls (numbered_standing n call entry)
+among_at n calls call None le = tt
+among_at n calls call (Some entry) le = among_by_test n calls (same_call entry.1 call) le
+
+pub stands_among : (log : List (Key × Call)) (ask : Key × Call) → StandsAmong (length log) (standing_of log ask)
+stands_among log ask = by (place_of_key log ask.0) refl
+  where
+    by : (place : Option ℕ) → place_of_key log ask.0 ≡ place → StandsAmong (length log) (standing_at log ask.1 place)
+    by None e = tt
+    by (Some k) e = among_at (k + 1) (length log) ask.1 (slice_get log k) (omega (arith, (position-Some (λ (other : Key × Call). same_key ask.0 other.0) log k ask e).0))
+
+pub all_among : (log asks : List (Key × Call)) → All (StandsAmong (length log)) (map (standing_of log) asks)
+all_among log asks = All-map (StandsAmong (length log)) (standing_of log) asks (λ k d lt. stands_among log (slice_index_or asks k d))
