@@ -30,22 +30,26 @@ pub asks_one : (asks old new : List (Key × Call)) (ask : Key × Call) (answer :
     → IsAnswered old ask answer → LogAfter old ask answer new → Numbers asks old ask answer new → AsksOne asks ask new (standing_of_answer answer)
 asks_one asks old new ask (Ok (New n)) e answered log numbered = (numbered e, by_same_log (λ l. standing_of l ask) log (answered_new old ask n answered))
 asks_one asks old new ask (Ok (Repeat n)) e answered log numbered = (numbered e, by_same_log (λ l. standing_of l ask) log (answered_repeat old ask n answered))
-asks_one asks old new ask (Err (faults.Mismatch n)) e answered log numbered = (numbered e, by_same_log (λ l. standing_of l ask) log (answered_mismatch old ask n answered))
-asks_one asks old new ask (Err faults.LogFull) e answered log numbered = (numbered e, by_same_log (λ l. standing_of l ask) log (answered_full old ask answered.0))
+asks_one asks old new ask (Err (faults.Mismatch n)) e answered log numbered =
+    (numbered e, by_same_log (λ l. standing_of l ask) log (answered_mismatch old ask n answered))
+asks_one asks old new ask (Err faults.LogFull) e answered log numbered =
+    (numbered e, by_same_log (λ l. standing_of l ask) log (answered_full old ask answered.0))
 asks_one asks old new ask (Err faults.OutOfMemory) e answered log numbered = refl
 
 -- a place of a key is one of the log
 place_within : (log : List (Key × Call)) (ask : Key × Call) (k : ℕ) → place_of_key log ask.0 ≡ Some k → k < length log
 place_within log ask k at = (position-Some (λ entry. same_key ask.0 entry.0) log k ask at).0
 
-kept : (old new : List (Key × Call)) (ask : Key × Call) (n k : ℕ) → length new ≤ LOG_CALLS → new ≡ old → place_of_key old ask.0 ≡ Some k → n ≡ k + 1 → IsLogNumber n
+kept : (old new : List (Key × Call)) (ask : Key × Call) (n k : ℕ) → length new ≤ LOG_CALLS → new ≡ old → place_of_key old ask.0 ≡ Some k → n ≡ k + 1
+    → IsLogNumber n
 kept old new ask n k few log at is = record {
   counted = omega (arith, is);
   few = omega (arith, ap {B = ℕ} length log, is, place_within old ask k at);
 }
 
 -- and so is the number that is answered
-pub number_within : (old new : List (Key × Call)) (ask : Key × Call) (answer : Result Numbered AskFault) → length new ≤ LOG_CALLS → IsAnswered old ask answer → LogAfter old ask answer new → IsOfLog answer
+pub number_within : (old new : List (Key × Call)) (ask : Key × Call) (answer : Result Numbered AskFault) → length new ≤ LOG_CALLS → IsAnswered old ask answer
+    → LogAfter old ask answer new → IsOfLog answer
 number_within old new ask (Ok (New n)) few answered log = record { counted = omega (arith, answered.2); few = omega (arith, answered.1, answered.2) }
 number_within old new ask (Ok (Repeat n)) few answered log = kept old new ask n answered.0 few log answered.1 answered.2
 number_within old new ask (Err (faults.Mismatch n)) few answered log = kept old new ask n answered.0 few log answered.1 answered.2
@@ -64,7 +68,8 @@ no_place log key e = by (place_of_key log key) refl
     by (Some k) f = absurd (some_is_false k (sym (has_key-place log key ∙ ap is_some f) ∙ e))
 
 -- past what a request can be, the log is full and has no such key
-pub asks_past_requests : (asks : List Asked) (running : ℕ) (asked : Asked) (log : List (Key × Call)) → IsAfter asks running log → asked.key ≡ None → 2 ^ 32 ≤ running
+pub asks_past_requests : (asks : List Asked) (running : ℕ) (asked : Asked) (log : List (Key × Call)) → IsAfter asks running log → asked.key ≡ None
+    → 2 ^ 32 ≤ running
     → AsksLine asks running asked log (Ok LogFull)
 asks_past_requests asks running asked log after none past =
     let first : List (Key × Call) = first_asks (keyed asks) in

@@ -41,7 +41,8 @@ keyed-push asks asked running log after =
 
 -- the state after one more line
 pub after_push : (asks : List Asked) (asked : Asked) (running next : ℕ) (log new : List (Key × Call)) → IsAfter asks running log → IsKey asked.key
-    → next ≡ running_after running asked.key → new ≡ first_asks (keyed asks ++ (key_of_line running asked.key, asked.call) ∷ []) → IsAfter (asks ++ asked ∷ []) next new
+    → next ≡ running_after running asked.key → new ≡ first_asks (keyed asks ++ (key_of_line running asked.key, asked.call) ∷ [])
+    → IsAfter (asks ++ asked ∷ []) next new
 after_push asks asked running next log new after key e h = record {
   keys = HaveKeys-push asks asked after.keys key;
   running_is = e ∙ ap (λ n. running_after n asked.key) after.running_is ∙ sym (running_from-push 1 asks asked);
@@ -53,13 +54,15 @@ map_push f [] x = refl
 map_push f (y ∷ xs) x = ap (λ rest. f y ∷ rest) (map_push f xs x)
 
 -- the standings with one more
-pub standings_push : (asks : List Asked) (asked : Asked) (running : ℕ) (log new : List (Key × Call)) (standings : List Standing) (standing : Standing) → IsAfter asks running log
+pub standings_push : (asks : List Asked) (asked : Asked) (running : ℕ) (log new : List (Key × Call)) (standings : List Standing) (standing : Standing)
+    → IsAfter asks running log
     → new ≡ first_asks (keyed asks ++ (key_of_line running asked.key, asked.call) ∷ []) → standing ≡ standing_of new (key_of_line running asked.key, asked.call)
     → standings ≡ map (standing_of log) (keyed asks) → standings ++ standing ∷ [] ≡ map (standing_of new) (keyed (asks ++ asked ∷ []))
 standings_push asks asked running log new standings standing after h e told =
     let ask : Key × Call = (key_of_line running asked.key, asked.call) in
     let before : standings ≡ map (standing_of new) (keyed asks) =
-    told ∙ ap (λ l. map (standing_of l) (keyed asks)) after.log_is ∙ sym (standings_after (keyed asks) ask) ∙ ap (λ l. map (standing_of l) (keyed asks)) (sym h) in
+    told ∙ ap (λ l. map (standing_of l) (keyed asks)) after.log_is ∙ sym (standings_after (keyed asks) ask)
+    ∙ ap (λ l. map (standing_of l) (keyed asks)) (sym h) in
     (λ j. before j ++ e j ∷ []) ∙ sym (map_push (standing_of new) (keyed asks) ask) ∙ ap (map (standing_of new)) (sym (keyed-push asks asked running log after))
 
 -- before any line the log is empty

@@ -77,7 +77,8 @@ op_below n (WriteCheck place amount) lt = (omega (arith, lt), (omega (arith, lt)
 op_below n NoCustomer lt = tt
 op_below n SameCustomer lt = tt
 
-pub declared_below : (directory : List (List ℕ)) (b : Balances) (op : Op) → SameCustomers directory b → IsOpWithin (length directory) op → AreBelow (length (held_of b)) (declared_cowns op)
+pub declared_below : (directory : List (List ℕ)) (b : Balances) (op : Op) → SameCustomers directory b → IsOpWithin (length directory) op
+    → AreBelow (length (held_of b)) (declared_cowns op)
 declared_below directory b op same within =
     let two : 2 * length directory ≡ length (held_of b) = (let n = length-held_of b same.balances.same in omega (arith, n, same.places)) in
     subst (λ n. AreBelow n (declared_cowns op)) two (op_below (length directory) op within)
@@ -93,7 +94,8 @@ none_out_more [] none (suc k) h = absurd (no_out h)
 none_out_more (s ∷ states) none zero h = none 0 h
 none_out_more (s ∷ states) none (suc k) h = none_out_more states (λ j. none (suc j)) k h
 
-pub put_after : (op : Op) (old new : BoardOf Op) → NoneOut old → new ≡ record old { log = old.log ++ op ∷ []; states = old.states ++ Waiting ∷ [] } → IsPut op old new
+pub put_after : (op : Op) (old new : BoardOf Op) → NoneOut old → new ≡ record old { log = old.log ++ op ∷ []; states = old.states ++ Waiting ∷ [] }
+    → IsPut op old new
 put_after op old new none is = record {
   opening = ap (λ (b : BoardOf Op). b.opening) is;
   earlier = ap (λ (b : BoardOf Op). b.earlier) is;
@@ -114,7 +116,8 @@ put_after_run op old same mid new is drained none put =
 
 -- ---- the log so far
 
-call_here : (log : List (Key × Call)) (k : ℕ) (call : Call) → call_at log (suc k) ≡ Some call → (entry : Key × Call) × (slice_get log k ≡ Some entry) × (entry.1 ≡ call)
+call_here : (log : List (Key × Call)) (k : ℕ) (call : Call) → call_at log (suc k) ≡ Some call → (entry : Key × Call) × (slice_get log k ≡ Some entry)
+    × (entry.1 ≡ call)
 call_here [] k call h = absurd (no_call h)
 call_here (entry ∷ log) zero call h = (entry, refl, some_call h)
 call_here (entry ∷ log) (suc k) call h = call_here log k call h
@@ -136,7 +139,8 @@ one_more_call f log k call h =
 
 -- ---- the replies
 
-finished_some : (states : List State) (k : ℕ) → k < length states → state_is is_open (slice_get states k) ≡ false → IsSome (option_and_then finished_reply (slice_get states k))
+finished_some : (states : List State) (k : ℕ) → k < length states → state_is is_open (slice_get states k) ≡ false
+    → IsSome (option_and_then finished_reply (slice_get states k))
 finished_some [] k lt closed = absurd (omega (arith, lt))
 finished_some (Waiting ∷ states) zero lt closed = absurd (true≢false closed)
 finished_some (Out ∷ states) zero lt closed = absurd (true≢false closed)
@@ -150,8 +154,10 @@ reply_at board k none =
     let after : (nat_le (k + 1) (length board.earlier)) ≡ false = lt-leb (k + 1) (length board.earlier) (omega (arith, ap length none)) in
     let differs : ((k + 1) == 0) ≡ false = ne_eqb (k + 1) 0 (λ same. omega (arith, same)) in
     let at : k + 1 - 1 - length board.earlier ≡ k = omega (arith, ap length none) in
-    ap (λ b. if b then None else (if nat_le (k + 1) (length board.earlier) then slice_get board.earlier (k + 1 - 1) else option_and_then finished_reply (slice_get board.states (k + 1 - 1 - length board.earlier)))) differs
-    ∙ ap (λ b. if b then slice_get board.earlier (k + 1 - 1) else option_and_then finished_reply (slice_get board.states (k + 1 - 1 - length board.earlier))) after
+    ap (λ b. if b then None else (if nat_le (k + 1) (length board.earlier) then slice_get board.earlier (k + 1 - 1) else option_and_then finished_reply
+    (slice_get board.states (k + 1 - 1 - length board.earlier)))) differs
+    ∙ ap (λ b. if b then slice_get board.earlier (k + 1 - 1) else option_and_then finished_reply (slice_get board.states (k + 1 - 1 - length board.earlier)))
+    after
     ∙ ap (λ n. option_and_then finished_reply (slice_get board.states n)) at
 
 past : {A : Type 0} (xs : List A) (k : ℕ) → length xs ≤ k → slice_get xs k ≡ None
@@ -165,7 +171,8 @@ length-replies : (rows : Rows) (calls : List Call) → length (replies_to rows c
 length-replies rows [] = refl
 length-replies rows (call ∷ calls) = ap suc (length-replies (procedure call rows).rows calls)
 
-pub all_replies : (directory : List (List ℕ)) (b : Balances) (calls : List Call) (board : BoardOf Op) → SameCustomers directory b → board.opening ≡ b → board.log ≡ map (resolved directory) calls
+pub all_replies : (directory : List (List ℕ)) (b : Balances) (calls : List Call) (board : BoardOf Op) → SameCustomers directory b → board.opening ≡ b
+    → board.log ≡ map (resolved directory) calls
     → open_of board ≡ 0 → board.earlier ≡ [] → Tells board (replies_to (rows_of directory b) calls)
 all_replies directory b calls board same opening log idle earlier =
     let run = log_by_cowns directory b calls same in
@@ -207,13 +214,15 @@ same_balances a b valid_a valid_b h =
     ap (λ s. balances_of s a.checking) parts.0 ∙ ap (balances_of b.savings) parts.1
 
 -- the columns of an idle board are those after the whole log
-pub all_rows : (directory : List (List ℕ)) (b c : Balances) (calls : List Call) (board : BoardOf Op) → SameCustomers directory b → IsBalances c → board.opening ≡ b → board.log ≡ map (resolved directory) calls
+pub all_rows : (directory : List (List ℕ)) (b c : Balances) (calls : List Call) (board : BoardOf Op) → SameCustomers directory b → IsBalances c
+    → board.opening ≡ b → board.log ≡ map (resolved directory) calls
     → IsAfterAll declared_cowns effect_of board c → SameCustomers directory c × (rows_of directory c ≡ rows_after calls (rows_of directory b))
 all_rows directory b c calls board same valid opening log after =
     let run = (log_by_cowns directory b calls same).rows (length calls) in
     let held : held_of c ≡ held_of run.0 =
     after ∙ ap (λ (o : Balances). held_after declared_cowns effect_of (held_of o) board.log) opening
-    ∙ ap (held_after declared_cowns effect_of (held_of b)) (log ∙ sym (take_all (length calls) (map (resolved directory) calls) (omega (arith, length-map calls (resolved directory)))))
+    ∙ ap (held_after declared_cowns effect_of (held_of b))
+    (log ∙ sym (take_all (length calls) (map (resolved directory) calls) (omega (arith, length-map calls (resolved directory)))))
     ∙ sym run.2 in
     let is : c ≡ run.0 = same_balances c run.0 valid run.1.balances held in (
       subst (SameCustomers directory) (sym is) run.1,
@@ -221,20 +230,27 @@ all_rows directory b c calls board same valid opening log after =
     )
 
 told_here : (board : BoardOf Op) (place : ℕ) (answer : Option Reply) (reply : Reply) → board.earlier ≡ [] → answer ≡ Some reply
-    → IfSome answer (λ r. length board.earlier < place + 1 → reply_by_log declared_cowns effect_of (held_of board.opening) board.log (place + 1 - length board.earlier) ≡ Some r)
+    → IfSome answer (λ r. length board.earlier < place + 1
+    → reply_by_log declared_cowns effect_of (held_of board.opening) board.log (place + 1 - length board.earlier) ≡ Some r)
     → Some reply ≡ reply_by_log declared_cowns effect_of (held_of board.opening) board.log (suc place)
 told_here board place answer reply none is told =
-    let known = subst (λ (o : Option Reply). IfSome o (λ r. length board.earlier < place + 1 → reply_by_log declared_cowns effect_of (held_of board.opening) board.log (place + 1 - length board.earlier) ≡ Some r)) is told in
+    let known = subst (λ (o : Option Reply). IfSome o
+    (λ r. length board.earlier < place + 1
+    → reply_by_log declared_cowns effect_of (held_of board.opening) board.log (place + 1 - length board.earlier) ≡ Some r)) is told in
     let at : place + 1 - length board.earlier ≡ suc place = omega (arith, ap length none) in
     sym (known (omega (arith, ap length none))) ∙ ap (reply_by_log declared_cowns effect_of (held_of board.opening) board.log) at
 
 -- what a board answers is the reply of the log one by one
-pub told_at : (board : BoardOf Op) (replies : List Reply) (place : ℕ) (answer : Option Reply) → Tells board replies → length board.log ≡ length board.states → answer ≡ reply_in board (place + 1)
-    → IfSome answer (λ r. length board.earlier < place + 1 → reply_by_log declared_cowns effect_of (held_of board.opening) board.log (place + 1 - length board.earlier) ≡ Some r)
+pub told_at : (board : BoardOf Op) (replies : List Reply) (place : ℕ) (answer : Option Reply) → Tells board replies → length board.log ≡ length board.states
+    → answer ≡ reply_in board (place + 1)
+    → IfSome answer (λ r. length board.earlier < place + 1
+    → reply_by_log declared_cowns effect_of (held_of board.opening) board.log (place + 1 - length board.earlier) ≡ Some r)
     → answer ≡ slice_get replies place
 told_at board replies place answer tells beside is told = elim (cases_lt place (length board.log)) [
-  | inl lt ↦ by answer refl (subst IsSome (sym state) (finished_some board.states place (omega (arith, lt, beside)) (all_finished board.states place tells.idle))) lt
-  | inr ge ↦ state ∙ ap (option_and_then finished_reply) (past board.states place (omega (arith, ge, beside))) ∙ sym (past replies place (omega (arith, ge, tells.all)))
+  | inl lt ↦ by answer refl (subst IsSome (sym state)
+      (finished_some board.states place (omega (arith, lt, beside)) (all_finished board.states place tells.idle))) lt
+  | inr ge ↦ state ∙ ap (option_and_then finished_reply) (past board.states place (omega (arith, ge, beside)))
+      ∙ sym (past replies place (omega (arith, ge, tells.all)))
 ]
   where
     state : answer ≡ option_and_then finished_reply (slice_get board.states place)
@@ -254,18 +270,24 @@ some_reply board number answer idle none beside counted few is =
     subst IsSome (sym state) (finished_some board.states place (omega (arith, beside)) (all_finished board.states place idle))
 
 -- and it is that of the log one by one
-pub told_of : (board : BoardOf Op) (replies : List Reply) (number : ℕ) (answer : Option Reply) → Tells board replies → length board.log ≡ length board.states → 0 < number
+pub told_of : (board : BoardOf Op) (replies : List Reply) (number : ℕ) (answer : Option Reply) → Tells board replies → length board.log ≡ length board.states
+    → 0 < number
     → answer ≡ reply_in board number
-    → IfSome answer (λ r. length board.earlier < number → reply_by_log declared_cowns effect_of (held_of board.opening) board.log (number - length board.earlier) ≡ Some r)
+    → IfSome answer (λ r. length board.earlier < number
+    → reply_by_log declared_cowns effect_of (held_of board.opening) board.log (number - length board.earlier) ≡ Some r)
     → answer ≡ slice_get replies (number - 1)
 told_of board replies number answer tells beside counted is told =
     let next : number ≡ number - 1 + 1 = omega arith in
     told_at board replies (number - 1) answer tells beside (is ∙ ap (reply_in board) next)
-    (subst (λ (n : ℕ). IfSome answer (λ r. length board.earlier < n → reply_by_log declared_cowns effect_of (held_of board.opening) board.log (n - length board.earlier) ≡ Some r)) next told)
+    (subst (λ (n : ℕ). IfSome answer
+    (λ r. length board.earlier < n → reply_by_log declared_cowns effect_of (held_of board.opening) board.log (n - length board.earlier) ≡ Some r)) next
+    told)
 
 -- ops that were carried out are the calls that come to them, one by one
-pub one_by_one : (directory : List (List ℕ)) (b c : Balances) (calls : List Call) (ops : List Op) (board : BoardOf Op) → SameCustomers directory b → IsBalances c
-    → board.opening ≡ b → IsCarriedOut ops board → ops ≡ map (resolved directory) calls → IsAfterAll declared_cowns effect_of board c → IsOneByOne directory calls b c board
+pub one_by_one : (directory : List (List ℕ)) (b c : Balances) (calls : List Call) (ops : List Op) (board : BoardOf Op) → SameCustomers directory b
+    → IsBalances c
+    → board.opening ≡ b → IsCarriedOut ops board → ops ≡ map (resolved directory) calls → IsAfterAll declared_cowns effect_of board c
+    → IsOneByOne directory calls b c board
 one_by_one directory b c calls ops board same valid opening carried is after =
     let rows = all_rows directory b c calls board same valid opening (carried.log ∙ is) after in
     record {

@@ -26,7 +26,8 @@ none_is_some e = cc
 -- the customers from place i on begin with the one there
 pub customers_step : (names : List (List ℕ)) (savings checking : List ℤ) (i : ℕ) (name : List ℕ) (s c : ℤ)
     → slice_get names i ≡ Some name → slice_get savings i ≡ Some s → slice_get checking i ≡ Some c
-    → drop i (customers_of names (record { savings = savings; checking = checking })) ≡ customer name s c ∷ drop (suc i) (customers_of names (record { savings = savings; checking = checking }))
+    → drop i (customers_of names (record { savings = savings; checking = checking }))
+    ≡ customer name s c ∷ drop (suc i) (customers_of names (record { savings = savings; checking = checking }))
 customers_step [] savings checking i name s c e f g = absurd (none_is_some e)
 customers_step (x ∷ names) [] checking i name s c e f g = absurd (none_is_some f)
 customers_step (x ∷ names) (y ∷ savings) [] i name s c e f g = absurd (none_is_some g)
@@ -40,11 +41,13 @@ customers_step (x ∷ names) (y ∷ savings) (z ∷ checking) (suc i) name s c e
 -- the line of a customer and the lines after it
 pub lines_by_step : (out : List ℕ) (names : List (List ℕ)) (b : Balances) (i : ℕ) (name : List ℕ) (s c : ℤ)
     → slice_get names i ≡ Some name → slice_get b.savings i ≡ Some s → slice_get b.checking i ≡ Some c
-    → (out ++ customer_line (customer name s c) ++ 10 ∷ []) ++ unlines (map customer_line (drop (i + 1) (customers_of names b))) ≡ out ++ unlines (map customer_line (drop i (customers_of names b)))
+    → (out ++ customer_line (customer name s c) ++ 10 ∷ []) ++ unlines (map customer_line (drop (i + 1) (customers_of names b))) ≡ out
+    ++ unlines (map customer_line (drop i (customers_of names b)))
 lines_by_step out names b i name s c e f g =
     ap (λ text. text ++ unlines (map customer_line (drop (i + 1) (customers_of names b)))) (append_assoc out (customer_line (customer name s c)) (10 ∷ []))
     ∙ (append_assoc out (customer_line (customer name s c) ++ 10 ∷ []) (unlines (map customer_line (drop (i + 1) (customers_of names b))))
-    ∙ ap (λ rest. out ++ unlines (map customer_line rest)) (ap (λ k. customer name s c ∷ drop k (customers_of names b)) (add-one i) ∙ sym (customers_step names b.savings b.checking i name s c e f g)))
+    ∙ ap (λ rest. out ++ unlines (map customer_line rest))
+    (ap (λ k. customer name s c ∷ drop k (customers_of names b)) (add-one i) ∙ sym (customers_step names b.savings b.checking i name s c e f g)))
 
 -- the columns' totals are the customers'
 total_of_columns : (names : List (List ℕ)) (savings checking : List ℤ) → length savings ≡ length names → length checking ≡ length names
@@ -62,7 +65,8 @@ pub total_by_columns : (names : List (List ℕ)) (b : Balances) → SameCustomer
 total_by_columns names b same = total_of_columns names b.savings b.checking same.places (sym same.balances.same ∙ same.places)
 
 -- past the last place there is no customer
-pub customers_end : (names : List (List ℕ)) (savings checking : List ℤ) (i : ℕ) → length savings ≤ i → drop i (customers_of names (record { savings = savings; checking = checking })) ≡ []
+pub customers_end : (names : List (List ℕ)) (savings checking : List ℤ) (i : ℕ) → length savings ≤ i
+    → drop i (customers_of names (record { savings = savings; checking = checking })) ≡ []
 customers_end [] savings checking zero h = refl
 customers_end [] savings checking (suc i) h = refl
 customers_end (x ∷ names) [] checking zero h = refl
@@ -74,13 +78,16 @@ customers_end (x ∷ names) (y ∷ savings) (z ∷ checking) (suc i) h = custome
 
 -- rows that have each name's balances by place list as the customers do
 listed_by : (rows : Rows) (names : List (List ℕ)) (savings checking : List ℤ) → length savings ≡ length names → length checking ≡ length names
-    → ((i : ℕ) (name : List ℕ) (s c : ℤ) → slice_get names i ≡ Some name → slice_get savings i ≡ Some s → slice_get checking i ≡ Some c → get rows name ≡ Some (s, c))
+    → ((i : ℕ) (name : List ℕ) (s c : ℤ) → slice_get names i ≡ Some name → slice_get savings i ≡ Some s → slice_get checking i ≡ Some c
+    → get rows name ≡ Some (s, c))
     → map (row_of rows) names ≡ customers_of names (record { savings = savings; checking = checking })
 listed_by rows [] savings checking e f h = refl
 listed_by rows (x ∷ names) [] checking e f h = absurd (omega (arith, e))
 listed_by rows (x ∷ names) (y ∷ savings) [] e f h = absurd (omega (arith, f))
 listed_by rows (x ∷ names) (y ∷ savings) (z ∷ checking) e f h =
-    let first : row_of rows x ≡ customer x y z = ap (λ (found : Option (ℤ × ℤ)). customer x (unwrap_or {T = ℤ × ℤ} found (pos 0, pos 0)).0 (unwrap_or {T = ℤ × ℤ} found (pos 0, pos 0)).1) (h zero x y z refl refl refl) in
+    let first : row_of rows x ≡ customer x y z =
+    ap (λ (found : Option (ℤ × ℤ)). customer x (unwrap_or {T = ℤ × ℤ} found (pos 0, pos 0)).0 (unwrap_or {T = ℤ × ℤ} found (pos 0, pos 0)).1)
+    (h zero x y z refl refl refl) in
     let others = listed_by rows names savings checking (omega (arith, e)) (omega (arith, f)) (λ i. h (suc i)) in
     λ j. first j ∷ others j
 
@@ -93,7 +100,8 @@ listed-rows_of names b same =
 
 -- the customers' lines and the total's are the lines of the rows
 pub row_lines_by_place : (out : List ℕ) (names : List (List ℕ)) (b : Balances) → SameCustomers names b
-    → (out ++ unlines (map customer_line (customers_of names b))) ++ (codes "total " ++ money (total_of (customers_of names b))) ++ 10 ∷ [] ≡ out ++ unlines (row_lines names (rows_of names b))
+    → (out ++ unlines (map customer_line (customers_of names b))) ++ (codes "total " ++ money (total_of (customers_of names b))) ++ 10 ∷ [] ≡ out
+    ++ unlines (row_lines names (rows_of names b))
 row_lines_by_place out names b same =
     let total_line : List ℕ = codes "total " ++ money (total_of (customers_of names b)) in
     let lines_of : List Customer → List (List ℕ) = λ customers. map customer_line customers ++ (codes "total " ++ money (total_of customers)) ∷ [] in

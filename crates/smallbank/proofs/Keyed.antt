@@ -39,7 +39,8 @@ keyed_from-push running [] asked = refl
 keyed_from-push running (first ∷ asks) asked =
     ap (λ rest. (key_of_line running first.key, first.call) ∷ rest) (keyed_from-push (running_after running first.key) asks asked)
 
-pub running_from-push : (running : ℕ) (asks : List Asked) (asked : Asked) → running_from running (asks ++ asked ∷ []) ≡ running_after (running_from running asks) asked.key
+pub running_from-push : (running : ℕ) (asks : List Asked) (asked : Asked)
+    → running_from running (asks ++ asked ∷ []) ≡ running_after (running_from running asks) asked.key
 running_from-push running [] asked = refl
 running_from-push running (first ∷ asks) asked = running_from-push (running_after running first.key) asks asked
 
@@ -56,7 +57,8 @@ other_request j k l = false_from_ne_true (same_key (own_key j) (own_key k)) (λ 
 
 -- so has another client
 other_client : (j : ℕ) (key : Key) → 1 ≤ key.client → same_key (own_key j) key ≡ false
-other_client j key l = false_from_ne_true (same_key (own_key j) key) (λ e. let same : 0 ≡ key.client = eqb-true 0 key.client (and_parts (0 == key.client) (j == key.request) e).0 in omega arith)
+other_client j key l = false_from_ne_true (same_key (own_key j) key) (λ e. let same : 0 ≡ key.client =
+    eqb-true 0 key.client (and_parts (0 == key.client) (j == key.request) e).0 in omega arith)
 
 -- no request from this number on has been asked by client 0
 abbrev pub IsFresh : ℕ → List (Key × Call) → Type 0
@@ -74,7 +76,8 @@ fresh_push running before (Some key) call k fresh j l =
     ∙ ap (λ b. b || false) (other_client j key k.0)
 
 -- one more first ask, where the test of its key fails
-longer : {X : Type 0} (skips : Bool) (x : X) (xs : List X) (n running : ℕ) → skips ≡ false → n ≤ (running + 1) + length xs → n ≤ running + length (if skips then xs else x ∷ xs)
+longer : {X : Type 0} (skips : Bool) (x : X) (xs : List X) (n running : ℕ) → skips ≡ false → n ≤ (running + 1) + length xs
+    → n ≤ running + length (if skips then xs else x ∷ xs)
 longer true x xs n running e l = absurd (true_is_false e)
 longer false x xs n running e l = omega arith
 
@@ -88,14 +91,17 @@ pub running_within : (running : ℕ) (before : List (Key × Call)) (asks : List 
     → running_from running asks ≤ running + length (firsts_after before (keyed_from running asks))
 running_within running before [] h fresh = omega arith
 running_within running before (asked ∷ asks) h fresh =
-    by asked.key (running_within (running_after running asked.key) (before ++ (key_of_line running asked.key, asked.call) ∷ []) asks h.1 (fresh_push running before asked.key asked.call h.0 fresh))
+    by asked.key (running_within (running_after running asked.key) (before ++ (key_of_line running asked.key, asked.call) ∷ []) asks h.1
+    (fresh_push running before asked.key asked.call h.0 fresh))
   where
     by : (key : Option Key) → running_from (running_after running key) asks
         ≤ running_after running key + length (firsts_after (before ++ (key_of_line running key, asked.call) ∷ []) (keyed_from (running_after running key) asks))
         → running_from (running_after running key) asks ≤ running + length (if has_key before (key_of_line running key)
         then firsts_after (before ++ (key_of_line running key, asked.call) ∷ []) (keyed_from (running_after running key) asks)
-        else (key_of_line running key, asked.call) ∷ firsts_after (before ++ (key_of_line running key, asked.call) ∷ []) (keyed_from (running_after running key) asks))
-    by None l = longer (has_key before (own_key running)) (own_key running, asked.call) _ (running_from (running + 1) asks) running (fresh running (omega arith)) l
+        else (key_of_line running key, asked.call) ∷ firsts_after (before ++ (key_of_line running key, asked.call) ∷ [])
+        (keyed_from (running_after running key) asks))
+    by None l = longer (has_key before (own_key running)) (own_key running, asked.call) _ (running_from (running + 1) asks) running
+        (fresh running (omega arith)) l
     by (Some key) l = as_long (has_key before key) (key, asked.call) _ (running_from running asks) running l
 
 -- a line without a key has a new one
@@ -103,8 +109,10 @@ pub fresh_after : (running : ℕ) (before : List (Key × Call)) (asks : List Ask
     → IsFresh (running_from running asks) (before ++ keyed_from running asks)
 fresh_after running before [] h fresh j l = ap (λ asks. has_key asks (own_key j)) (append-nil before) ∙ fresh j l
 fresh_after running before (asked ∷ asks) h fresh j l =
-    ap (λ asks. has_key asks (own_key j)) (sym (append_assoc before ((key_of_line running asked.key, asked.call) ∷ []) (keyed_from (running_after running asked.key) asks)))
-    ∙ fresh_after (running_after running asked.key) (before ++ (key_of_line running asked.key, asked.call) ∷ []) asks h.1 (fresh_push running before asked.key asked.call h.0 fresh) j l
+    ap (λ asks. has_key asks (own_key j))
+    (sym (append_assoc before ((key_of_line running asked.key, asked.call) ∷ []) (keyed_from (running_after running asked.key) asks)))
+    ∙ fresh_after (running_after running asked.key) (before ++ (key_of_line running asked.key, asked.call) ∷ []) asks h.1
+    (fresh_push running before asked.key asked.call h.0 fresh) j l
 
 -- and none of the log has it
 pub absent_from_log : (asks : List Asked) (running : ℕ) → HaveKeys asks → running ≡ running_from 1 asks → has_key (log_of asks) (own_key running) ≡ false

@@ -50,32 +50,37 @@ same_call_same (Balance x) (TransactSavings x' v') e = absurd cc
 same_call_same (Balance x) (Amalgamate x' u') e = absurd cc
 same_call_same (Balance x) (WriteCheck x' v') e = absurd cc
 same_call_same (DepositChecking x v) (Balance x') e = absurd cc
-same_call_same (DepositChecking x v) (DepositChecking x' v') e = let p = and_parts (bytes_eq x x') (int_eq v v') e in let f : x ≡ x' = (bytes_decides x x').0 p.0 in let g : v ≡ v' = (Decides-int_eq v v').0 p.1 in λ j. DepositChecking (f j) (g j)
+same_call_same (DepositChecking x v) (DepositChecking x' v') e = let p = and_parts (bytes_eq x x') (int_eq v v') e in let f : x ≡ x' =
+    (bytes_decides x x').0 p.0 in let g : v ≡ v' = (Decides-int_eq v v').0 p.1 in λ j. DepositChecking (f j) (g j)
 same_call_same (DepositChecking x v) (TransactSavings x' v') e = absurd cc
 same_call_same (DepositChecking x v) (Amalgamate x' u') e = absurd cc
 same_call_same (DepositChecking x v) (WriteCheck x' v') e = absurd cc
 same_call_same (TransactSavings x v) (Balance x') e = absurd cc
 same_call_same (TransactSavings x v) (DepositChecking x' v') e = absurd cc
-same_call_same (TransactSavings x v) (TransactSavings x' v') e = let p = and_parts (bytes_eq x x') (int_eq v v') e in let f : x ≡ x' = (bytes_decides x x').0 p.0 in let g : v ≡ v' = (Decides-int_eq v v').0 p.1 in λ j. TransactSavings (f j) (g j)
+same_call_same (TransactSavings x v) (TransactSavings x' v') e = let p = and_parts (bytes_eq x x') (int_eq v v') e in let f : x ≡ x' =
+    (bytes_decides x x').0 p.0 in let g : v ≡ v' = (Decides-int_eq v v').0 p.1 in λ j. TransactSavings (f j) (g j)
 same_call_same (TransactSavings x v) (Amalgamate x' u') e = absurd cc
 same_call_same (TransactSavings x v) (WriteCheck x' v') e = absurd cc
 same_call_same (Amalgamate x u) (Balance x') e = absurd cc
 same_call_same (Amalgamate x u) (DepositChecking x' v') e = absurd cc
 same_call_same (Amalgamate x u) (TransactSavings x' v') e = absurd cc
-same_call_same (Amalgamate x u) (Amalgamate x' u') e = let p = and_parts (bytes_eq x x') (bytes_eq u u') e in let f : x ≡ x' = (bytes_decides x x').0 p.0 in let g : u ≡ u' = (bytes_decides u u').0 p.1 in λ j. Amalgamate (f j) (g j)
+same_call_same (Amalgamate x u) (Amalgamate x' u') e = let p = and_parts (bytes_eq x x') (bytes_eq u u') e in let f : x ≡ x' = (bytes_decides x x').0 p.0 in
+    let g : u ≡ u' = (bytes_decides u u').0 p.1 in λ j. Amalgamate (f j) (g j)
 same_call_same (Amalgamate x u) (WriteCheck x' v') e = absurd cc
 same_call_same (WriteCheck x v) (Balance x') e = absurd cc
 same_call_same (WriteCheck x v) (DepositChecking x' v') e = absurd cc
 same_call_same (WriteCheck x v) (TransactSavings x' v') e = absurd cc
 same_call_same (WriteCheck x v) (Amalgamate x' u') e = absurd cc
-same_call_same (WriteCheck x v) (WriteCheck x' v') e = let p = and_parts (bytes_eq x x') (int_eq v v') e in let f : x ≡ x' = (bytes_decides x x').0 p.0 in let g : v ≡ v' = (Decides-int_eq v v').0 p.1 in λ j. WriteCheck (f j) (g j)
+same_call_same (WriteCheck x v) (WriteCheck x' v') e = let p = and_parts (bytes_eq x x') (int_eq v v') e in let f : x ≡ x' = (bytes_decides x x').0 p.0 in
+    let g : v ≡ v' = (Decides-int_eq v v').0 p.1 in λ j. WriteCheck (f j) (g j)
 
 -- the standing at an entry with the same call, and at one with another
 standing_same : (n : ℕ) (ask : Key × Call) → numbered_standing n ask.1 (Some ask) ≡ Number n
 standing_same n ask = ap (λ same. if same then Number n else Mismatch n) (same_call_itself ask.1)
 
 standing_other : (n : ℕ) (call : Call) (entry : Key × Call) → entry.1 ≢ call → numbered_standing n call (Some entry) ≡ Mismatch n
-standing_other n call entry other = ap (λ same. if same then Number n else Mismatch n) (false_from_ne_true (same_call entry.1 call) (λ e. other (same_call_same entry.1 call e)))
+standing_other n call entry other =
+    ap (λ same. if same then Number n else Mismatch n) (false_from_ne_true (same_call entry.1 call) (λ e. other (same_call_same entry.1 call e)))
 
 -- ---- places in a log that grows
 
@@ -101,7 +106,8 @@ place_new log entry e =
     (λ j l. ap test (get_or_append_left log (entry ∷ []) entry j l) ∙ absent j entry l)
     (λ l. ap test (get_or-append_seam log entry [] entry) ∙ same_key_itself entry.0) in
     ap (λ n. cond (nat_lt n (length (log ++ entry ∷ []))) (Some n) None) first
-    ∙ cond-true (nat_lt (length log) (length (log ++ entry ∷ []))) (Some (length log)) None (lt-ltb (length log) (length (log ++ entry ∷ [])) (omega (arith, longer)))
+    ∙ cond-true (nat_lt (length log) (length (log ++ entry ∷ []))) (Some (length log)) None
+    (lt-ltb (length log) (length (log ++ entry ∷ [])) (omega (arith, longer)))
 
 entry_kept : (log : List (Key × Call)) (entry : Key × Call) (k : ℕ) → k < length log → slice_get (log ++ entry ∷ []) k ≡ slice_get log k
 entry_kept log entry k l =
@@ -109,12 +115,14 @@ entry_kept log entry k l =
     ∙ ap Some (get_or_append_left log (entry ∷ []) entry k l) ∙ sym (slice_get-get_or log k entry l)
 
 entry_new : (log : List (Key × Call)) (entry : Key × Call) → slice_get (log ++ entry ∷ []) (length log) ≡ Some entry
-entry_new log entry = slice_get-get_or (log ++ entry ∷ []) (length log) entry (omega (arith, length_push log entry)) ∙ ap Some (get_or-append_seam log entry [] entry)
+entry_new log entry = slice_get-get_or (log ++ entry ∷ []) (length log) entry (omega (arith, length_push log entry))
+    ∙ ap Some (get_or-append_seam log entry [] entry)
 
 -- ---- standings in a log that grows
 
 -- an ask whose key has a number keeps its standing
-standing_kept : (log : List (Key × Call)) (entry ask : Key × Call) (k : ℕ) → place_of_key log ask.0 ≡ Some k → standing_of (log ++ entry ∷ []) ask ≡ standing_of log ask
+standing_kept : (log : List (Key × Call)) (entry ask : Key × Call) (k : ℕ) → place_of_key log ask.0 ≡ Some k
+    → standing_of (log ++ entry ∷ []) ask ≡ standing_of log ask
 standing_kept log entry ask k e =
     let within = (position-Some (λ (other : Key × Call). same_key ask.0 other.0) log k entry e).0 in
     ap (standing_at (log ++ entry ∷ []) ask.1) (place_kept log entry ask.0 k e)
@@ -140,7 +148,8 @@ standings_known log entry (ask ∷ asks) h = λ j. standing_known log entry ask 
 all_known : (front asks : List (Key × Call)) → AllByRecursion (λ ask. has_key (front ++ asks) ask.0 ≡ true) asks
 all_known front [] = tt
 all_known front (ask ∷ asks) = (
-  list_any-append (λ other. same_key ask.0 other.0) front (ask ∷ asks) ∙ or_known (has_key front ask.0) (same_key ask.0 ask.0) (has_key asks ask.0) (same_key_itself ask.0),
+  list_any-append (λ other. same_key ask.0 other.0) front (ask ∷ asks)
+      ∙ or_known (has_key front ask.0) (same_key ask.0 ask.0) (has_key asks ask.0) (same_key_itself ask.0),
   moved (append_assoc front (ask ∷ []) asks) (all_known (front ++ ask ∷ []) asks),
 )
   where
@@ -148,7 +157,8 @@ all_known front (ask ∷ asks) = (
     or_known true c d e = refl
     or_known false c d e = ap (λ t. t || d) e
 
-    moved : {known known' : List (Key × Call)} → known ≡ known' → AllByRecursion (λ other. has_key known other.0 ≡ true) asks → AllByRecursion (λ other. has_key known' other.0 ≡ true) asks
+    moved : {known known' : List (Key × Call)} → known ≡ known' → AllByRecursion (λ other. has_key known other.0 ≡ true) asks
+        → AllByRecursion (λ other. has_key known' other.0 ≡ true) asks
     moved e h = subst (λ known. AllByRecursion (λ other. has_key known other.0 ≡ true) asks) e h
 
 -- a list that is cut where it has room is whole
@@ -169,13 +179,16 @@ log_has asks [] l h = tt
 log_has asks (ask ∷ rest) l h = (has_key-first_asks asks ask.0 l ∙ h.0, log_has asks rest l h.1)
 
 -- one more ask leaves the standings of those before
-pub standings_after : (asks : List (Key × Call)) (ask : Key × Call) → map (standing_of (first_asks (asks ++ ask ∷ []))) asks ≡ map (standing_of (first_asks asks)) asks
+pub standings_after : (asks : List (Key × Call)) (ask : Key × Call)
+    → map (standing_of (first_asks (asks ++ ask ∷ []))) asks ≡ map (standing_of (first_asks asks)) asks
 standings_after asks ask = ap (λ log. map (standing_of log) asks) (first_asks-push asks ask) ∙ by (place_of_key (first_asks asks) ask.0) refl
   where
-    by : (place : Option ℕ) → place_of_key (first_asks asks) ask.0 ≡ place → map (standing_of (log_with (first_asks asks) ask)) asks ≡ map (standing_of (first_asks asks)) asks
+    by : (place : Option ℕ) → place_of_key (first_asks asks) ask.0 ≡ place
+        → map (standing_of (log_with (first_asks asks) ask)) asks ≡ map (standing_of (first_asks asks)) asks
     by (Some k) e = ap (λ log. map (standing_of log) asks) (log_with-known (first_asks asks) ask k e)
     by None e = elim (cases_lt (length (first_asks asks)) LOG_CALLS) [
-      | inl room ↦ ap (λ log. map (standing_of log) asks) (log_with-new (first_asks asks) ask e room) ∙ standings_known (first_asks asks) ask asks (log_has asks asks room (all_known [] asks))
+      | inl room ↦ ap (λ log. map (standing_of log) asks) (log_with-new (first_asks asks) ask e room)
+          ∙ standings_known (first_asks asks) ask asks (log_has asks asks room (all_known [] asks))
       | inr full ↦ ap (λ log. map (standing_of log) asks) (log_with-full (first_asks asks) ask full)
     ]
 
@@ -217,7 +230,8 @@ stands_among log ask = by (place_of_key log ask.0) refl
   where
     by : (place : Option ℕ) → place_of_key log ask.0 ≡ place → StandsAmong (length log) (standing_at log ask.1 place)
     by None e = tt
-    by (Some k) e = among_at (k + 1) (length log) ask.1 (slice_get log k) (omega (arith, (position-Some (λ (other : Key × Call). same_key ask.0 other.0) log k ask e).0))
+    by (Some k) e = among_at (k + 1) (length log) ask.1 (slice_get log k)
+        (omega (arith, (position-Some (λ (other : Key × Call). same_key ask.0 other.0) log k ask e).0))
 
 pub all_among : (log asks : List (Key × Call)) → All (StandsAmong (length log)) (map (standing_of log) asks)
 all_among log asks = All-map (StandsAmong (length log)) (standing_of log) asks (λ k d lt. stands_among log (slice_index_or asks k d))

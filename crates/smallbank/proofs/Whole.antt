@@ -33,7 +33,8 @@ answers_are opening asks log standings h =
     ∙ ap (λ l. map (λ ask. standing_line (replies_to opening (calls_of l)) (standing_of l ask)) (keyed asks)) h.log_is
 
 -- each ask stands among the log's calls
-pub asked_stand : (read : Result (List Asked) (ℕ × CallFault)) (log : List (Key × Call)) (standings : List Standing) → IsAsking read log standings → All (StandsAmong (length log)) standings
+pub asked_stand : (read : Result (List Asked) (ℕ × CallFault)) (log : List (Key × Call)) (standings : List Standing) → IsAsking read log standings
+    → All (StandsAmong (length log)) standings
 asked_stand (Ok asks) log standings h = subst (All (StandsAmong (length log))) (sym h.standings_are) (all_among log (keyed asks))
 asked_stand (Err fault) log standings h = absurd h
 
@@ -44,7 +45,8 @@ pub output_is : (input : List ℕ) (opening : OpeningText) (log : List (Key × C
     ++ unlines (row_lines opening.names (rows_after (calls_of log) (rows_of opening.names opening.balances))))
 output_is input opening log standings e h = by (asks_from (length opening.names + 2) [] (lines (drop opening.place input))) refl h
   where
-    by : (read : Result (List Asked) (ℕ × CallFault)) → asks_from (length opening.names + 2) [] (lines (drop opening.place input)) ≡ read → IsAsking read log standings
+    by : (read : Result (List Asked) (ℕ × CallFault)) → asks_from (length opening.names + 2) [] (lines (drop opening.place input)) ≡ read
+        → IsAsking read log standings
         → output_of input ≡ Ok (unlines (map (standing_line (replies_to (rows_of opening.names opening.balances) (calls_of log))) standings)
         ++ unlines (row_lines opening.names (rows_after (calls_of log) (rows_of opening.names opening.balances))))
     by (Err fault) f k = absurd k

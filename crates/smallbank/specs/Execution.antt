@@ -45,10 +45,12 @@ pub record Tells (board : BoardOf Op) (replies : List Reply) : Type 0 where
   pub idle : open_of board ≡ 0
   pub earlier : board.earlier ≡ []
   pub all : length replies ≡ length board.log
-  pub each : (k : ℕ) → k < length board.log → slice_get replies k ≡ reply_by_log declared_cowns effect_of (held_of board.opening) board.log (suc k)
+  pub each : (k : ℕ) → k < length board.log
+      → slice_get replies k ≡ reply_by_log declared_cowns effect_of (held_of board.opening) board.log (suc k)
 
 -- the replies on the board and the rows after are those of the calls one by one
-pub record IsOneByOne (directory : List (List ℕ)) (calls : List Call) (before after : Balances) (board : BoardOf Op) : Type 0 where
+pub record IsOneByOne (directory : List (List ℕ)) (calls : List Call) (before after : Balances)
+    (board : BoardOf Op) : Type 0 where
   pub replies : Tells board (replies_to (rows_of directory before) calls)
   pub rows : rows_of directory after ≡ rows_after calls (rows_of directory before)
   pub customers : SameCustomers directory after

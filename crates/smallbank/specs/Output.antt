@@ -26,11 +26,13 @@ calls_of log = map (λ entry. entry.1) log
 -- a line an asking line, by its number in the log and the replies to the log
 unfoldable pub answer_lines : Rows → List Asked → List (List ℕ)
 answer_lines opening asks =
-    map (λ ask. standing_line (replies_to opening (calls_of (log_of asks))) (standing_of (log_of asks) ask)) (keyed asks)
+    map (λ ask. standing_line (replies_to opening (calls_of (log_of asks))) (standing_of (log_of asks) ask))
+    (keyed asks)
 
 -- NAME SAVINGS CHECKING of each customer in opening order, then the total
 abbrev pub row_lines : List (List ℕ) → Rows → List (List ℕ)
-row_lines names rows = map customer_line (listed names rows) ++ (codes "total " ++ money (total_of (listed names rows))) ∷ []
+row_lines names rows = map customer_line (listed names rows) ++
+    (codes "total " ++ money (total_of (listed names rows))) ∷ []
 
 -- the answers, then the rows after the whole log and their total
 abbrev pub output_lines : InputText → List (List ℕ)

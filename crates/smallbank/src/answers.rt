@@ -25,7 +25,8 @@ pub fn push_answers(
     requires earlier { board.now.earlier ≡ [] }
     requires numbers { All (StandsAmong (length board.now.log)) standings.now }
     ensures { (replies : List AnyReply) → Tells board.now replies
-        → OnOk result (out.new.items ≡ out.old.items ++ unlines (map (standing_line replies) standings.now)) }
+        → OnOk result (out.new.items
+        ≡ out.old.items ++ unlines (map (standing_line replies) standings.now)) }
 {
     for standing in standings {
         push_answer(*standing, board, out)?;

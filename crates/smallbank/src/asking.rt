@@ -77,7 +77,8 @@ pub fn ask_lines(alloc: Global, text: &[u8], first_line: usize) -> Result<Asking
 // Asks for one line, where the next line without a key has this running number.
 fn ask(sequencer: &mut Sequencer, running: u64, asked: &Asked) -> Result<Standing, RunFault>
     requires { IsKey asked.now.key }
-    ensures { (asks : List AnyAsked) → IsAfter asks running sequencer.old → AsksLine asks running asked.now sequencer.new result }
+    ensures { (asks : List AnyAsked) → IsAfter asks running sequencer.old
+        → AsksLine asks running asked.now sequencer.new result }
 {
     match key_of(running, asked.key) {
         Some(key) => {
@@ -93,7 +94,9 @@ fn ask(sequencer: &mut Sequencer, running: u64, asked: &Asked) -> Result<Standin
 
 // The key of a line, or `None` where the running number passes what a request can be.
 fn key_of(running: u64, key: Option<Key>) -> Option<Key>
-    ensures { MatchOption result ((key ≡ None) × (2 ^ 32 ≤ running)) (λ found. found ≡ key_of_line running key) }
+    ensures { MatchOption result
+        ((key ≡ None) × (2 ^ 32 ≤ running))
+        (λ found. found ≡ key_of_line running key) }
 {
     match key {
         Some(key) => Some(key),

@@ -19,7 +19,8 @@ pub fn list_rows(
     out: &mut Vec<u8>,
 ) -> Result<(), AllocError>
     requires { SameCustomers directory.now columns.now }
-    ensures { OnOk result (out.new.items ≡ out.old.items ++ unlines (row_lines directory.now (rows_of directory.now columns.now))) }
+    ensures { OnOk result (out.new.items
+        ≡ out.old.items ++ unlines (row_lines directory.now (rows_of directory.now columns.now))) }
 {
     list_customers(directory, columns, out)?;
     push_total(out, bank_total(columns))?;
@@ -33,7 +34,8 @@ fn list_customers(
     out: &mut Vec<u8>,
 ) -> Result<(), AllocError>
     requires { SameCustomers directory.now columns.now }
-    ensures { OnOk result (out.new.items ≡ out.old.items ++ unlines (map customer_line (customers_of directory.now columns.now))) }
+    ensures { OnOk result (out.new.items
+        ≡ out.old.items ++ unlines (map customer_line (customers_of directory.now columns.now))) }
 {
     for place in 0..directory.len() as u32 {
         let name = directory.name(place).unwrap();
@@ -54,7 +56,8 @@ fn push_customer(
     savings: Cents,
     checking: Cents,
 ) -> Result<(), AllocError>
-    ensures { OnOk result (out.new.items ≡ out.old.items ++ customer_line (record { name = name.now; savings = savings; checking = checking }) ++ 10 ∷ []) }
+    ensures { let line = customer_line (record { name = name.now; savings = savings; checking = checking }) in
+        OnOk result (out.new.items ≡ out.old.items ++ line ++ 10 ∷ []) }
 {
     out.extend_from_slice(name.text())?;
     out.push(b' ')?;

@@ -32,9 +32,11 @@ pub fn run_text<R: Read, W: Write>(
     ensures done { OnOk result (IfSome (R.remaining reader.old) (λ input.
         Writes (output_of input) (W.contents writer.old) (W.contents writer.new))) }
     // An input fault is the first of what was read.
-    ensures first { IfErr result (λ fault. IfSome (R.remaining reader.old) (λ input. Blames fault (output_of input))) }
+    ensures first { IfErr result (λ fault. IfSome (R.remaining reader.old) (λ input.
+        Blames fault (output_of input))) }
     // After it nothing was written.
-    ensures unwritten { IfErr result (λ fault. WritesNothing fault (W.contents writer.old) (W.contents writer.new)) }
+    ensures unwritten { IfErr result (λ fault.
+        WritesNothing fault (W.contents writer.old) (W.contents writer.new)) }
 {
     let input = read_all(alloc, reader)?;
     let output = output_text(alloc, input)?;

@@ -23,16 +23,16 @@ fn no_customers(rt: HostRuntime) -> Result<(), Fail> {
 #[test]
 fn deposits_at_the_limit(rt: HostRuntime) -> Result<(), Fail> {
     let calls = b"deposit bob -0.01\ndeposit bob 9999999980.01\ndeposit bob 9999999980.00\n";
-    let output =
-        b"1 negative\n2 over limit\n3 done\nalice 100.00 50.00\nbob 0.00 10000000000.00\ncarol 10.00 0.00\ntotal 10000000160.00\n";
+    let output = b"1 negative\n2 over limit\n3 done\nalice 100.00 50.00\n\
+          bob 0.00 10000000000.00\ncarol 10.00 0.00\ntotal 10000000160.00\n";
     expect_after_opening(&rt, rt.alloc(), calls, output)
 }
 
 #[test]
 fn balances_see_the_calls_before(rt: HostRuntime) -> Result<(), Fail> {
     let calls = b"balance alice\ndeposit alice 1.00\nbalance alice\nbalance zed\n";
-    let output =
-        b"1 shown 150.00\n2 done\n3 shown 151.00\n4 no customer\nalice 100.00 51.00\nbob 0.00 20.00\ncarol 10.00 0.00\ntotal 181.00\n";
+    let output = b"1 shown 150.00\n2 done\n3 shown 151.00\n4 no customer\nalice 100.00 51.00\n\
+          bob 0.00 20.00\ncarol 10.00 0.00\ntotal 181.00\n";
     expect_after_opening(&rt, rt.alloc(), calls, output)
 }
 
@@ -76,10 +76,10 @@ fn as_a_plain_program(rt: HostRuntime) -> Result<(), Fail> {
 
 #[test]
 fn five_calls_one_by_one(rt: HostRuntime) -> Result<(), Fail> {
-    let calls =
-        b"balance alice\ndeposit bob 5.00\nsavings carol -10.00\ncheck alice 150.00\namalgamate alice bob\n";
-    let output =
-        b"1 shown 150.00\n2 done\n3 done\n4 done\n5 done\nalice 0.00 0.00\nbob 0.00 25.00\ncarol 0.00 0.00\ntotal 25.00\n";
+    let calls = b"balance alice\ndeposit bob 5.00\nsavings carol -10.00\ncheck alice 150.00\n\
+          amalgamate alice bob\n";
+    let output = b"1 shown 150.00\n2 done\n3 done\n4 done\n5 done\nalice 0.00 0.00\n\
+          bob 0.00 25.00\ncarol 0.00 0.00\ntotal 25.00\n";
     expect_after_opening(&rt, rt.alloc(), calls, output)
 }
 
@@ -99,8 +99,8 @@ fn an_overdraw_of_savings(rt: HostRuntime) -> Result<(), Fail> {
 
 #[test]
 fn unknown_and_equal_names(rt: HostRuntime) -> Result<(), Fail> {
-    let output =
-        b"1 no customer\n2 same customer\nalice 100.00 50.00\nbob 0.00 20.00\ncarol 10.00 0.00\ntotal 180.00\n";
+    let output = b"1 no customer\n2 same customer\nalice 100.00 50.00\nbob 0.00 20.00\n\
+          carol 10.00 0.00\ntotal 180.00\n";
     expect_after_opening(
         &rt,
         rt.alloc(),
@@ -112,16 +112,16 @@ fn unknown_and_equal_names(rt: HostRuntime) -> Result<(), Fail> {
 #[test]
 fn repeats_and_a_mismatch(rt: HostRuntime) -> Result<(), Fail> {
     let calls = b"ask 1 1 balance alice\nask 1 1 balance alice\nask 1 1 deposit alice 1.00\n";
-    let output =
-        b"1 shown 150.00\n1 shown 150.00\nmismatch 1\nalice 100.00 50.00\nbob 0.00 20.00\ncarol 10.00 0.00\ntotal 180.00\n";
+    let output = b"1 shown 150.00\n1 shown 150.00\nmismatch 1\nalice 100.00 50.00\n\
+          bob 0.00 20.00\ncarol 10.00 0.00\ntotal 180.00\n";
     expect_after_opening(&rt, rt.alloc(), calls, output)
 }
 
 #[test]
 fn keys_beside_lines_without_one(rt: HostRuntime) -> Result<(), Fail> {
-    let calls =
-        b"deposit alice 1.00\nask 7 1 deposit alice 2.00\ndeposit alice 1.00\nask 7 1 deposit alice 2.00\nask 7 2 balance alice\nask 8 1 balance alice\n";
-    let output =
-        b"1 done\n2 done\n3 done\n2 done\n4 shown 154.00\n5 shown 154.00\nalice 100.00 54.00\nbob 0.00 20.00\ncarol 10.00 0.00\ntotal 184.00\n";
+    let calls = b"deposit alice 1.00\nask 7 1 deposit alice 2.00\ndeposit alice 1.00\n\
+          ask 7 1 deposit alice 2.00\nask 7 2 balance alice\nask 8 1 balance alice\n";
+    let output = b"1 done\n2 done\n3 done\n2 done\n4 shown 154.00\n5 shown 154.00\n\
+          alice 100.00 54.00\nbob 0.00 20.00\ncarol 10.00 0.00\ntotal 184.00\n";
     expect_after_opening(&rt, rt.alloc(), calls, output)
 }

@@ -6,7 +6,8 @@ use Rattle.smallbank.proofs.Answered.{number_within, asks_one, asks_past_request
 use Rattle.smallbank.proofs.asking.ask.Goals as goal
 
 pub standing_of-requires : goal.standing_of-requires
-standing_of-requires c = number_within c.args.sequencer.now c.ask-answer.new.self (c.in-Some.key, c.args.asked.now.call) c.ask-answer.result c.length.ensures.valid.few c.ask-answer.ensures.answer c.ask-answer.ensures.log
+standing_of-requires c = number_within c.args.sequencer.now c.ask-answer.new.self
+    (c.in-Some.key, c.args.asked.now.call) c.ask-answer.result c.length.ensures.valid.few c.ask-answer.ensures.answer c.ask-answer.ensures.log
 
 pub returns-in-Some : goal.returns-in-Some
 returns-in-Some c asks after =

@@ -41,14 +41,17 @@ loop-line-preserved c =
     ] in
     let more = asks_from-line c.args.first_line asks c.in-Some.line.now (lines c.in-Some.rest.now) asked (sym c.in-Ok.ensures.exact) in
     let longer : length (asks ++ asked ∷ []) ≡ length asks + 1 = length-append asks (asked ∷ []) in
-    let told : length c.push.new.self.items ≡ length c.loop-line.standings.items + 1 = ap length c.in_ok-push.ensures.items ∙ length-append c.loop-line.standings.items (c.in_ok-ask.field-0 ∷ []) in
+    let told : length c.push.new.self.items ≡ length c.loop-line.standings.items + 1 =
+    ap length c.in_ok-push.ensures.items ∙ length-append c.loop-line.standings.items (c.in_ok-ask.field-0 ∷ []) in
     let bound = running_after_le c.loop-line.running asked.key in (
       asks ++ asked ∷ [],
       record {
         all = sym more ∙ (ap (asks_from c.args.first_line asks) (sym c.in-Some.ensures.line) ∙ so_far.all);
-        after = after_push asks asked c.loop-line.running c.if-is_none.running c.loop-line.sequencer c.ask.new.sequencer so_far.after c.in-Ok.ensures.spelled.0.0 next one.0;
+        after = after_push asks asked c.loop-line.running c.if-is_none.running c.loop-line.sequencer c.ask.new.sequencer so_far.after
+            c.in-Ok.ensures.spelled.0.0 next one.0;
         standings = c.in_ok-push.ensures.items
-            ∙ standings_push asks asked c.loop-line.running c.loop-line.sequencer c.ask.new.sequencer c.loop-line.standings.items c.in_ok-ask.field-0 so_far.after one.0 one.1 so_far.standings;
+            ∙ standings_push asks asked c.loop-line.running c.loop-line.sequencer c.ask.new.sequencer c.loop-line.standings.items c.in_ok-ask.field-0
+            so_far.after one.0 one.1 so_far.standings;
         room = omega (arith, longer, so_far.room, c.in-Some.ensures.shorter);
         count = omega (arith, longer, told, so_far.count);
         few = omega (arith, longer, next, bound, so_far.few);
@@ -61,4 +64,5 @@ returns c =
     let so_far = c.loop-line.invariant.1 in
     let all : asks_from c.args.first_line [] (lines c.args.text.now) ≡ Ok asks =
     sym so_far.all ∙ (ap (asks_from c.args.first_line asks) c.in_default.ensures.line ∙ asks_from-end c.args.first_line asks) in
-    subst (λ read. IsAsking read c.loop-line.sequencer c.loop-line.standings.items) (sym all) (record { log_is = so_far.after.log_is; standings_are = so_far.standings })
+    subst (λ read. IsAsking read c.loop-line.sequencer c.loop-line.standings.items) (sym all)
+    (record { log_is = so_far.after.log_is; standings_are = so_far.standings })

@@ -9,7 +9,8 @@ pub loop-place-preserved : goal.loop-place-preserved
 loop-place-preserved c =
     let left = unlines (map customer_line (drop (c.loop-place.place + 1) (customers_of c.args.directory.now c.args.columns.now))) in
     ap (λ text. text ++ left) c.in_ok-push_customer.ensures
-    ∙ (lines_by_step c.loop-place.out.items c.args.directory.now c.args.columns.now c.loop-place.place c.unwrap-name.result c.savings_of.result c.checking_of.result
+    ∙ (lines_by_step c.loop-place.out.items c.args.directory.now c.args.columns.now c.loop-place.place c.unwrap-name.result c.savings_of.result
+    c.checking_of.result
     (sym c.name.ensures ∙ c.unwrap-name.ensures) c.savings_of.ensures.value c.checking_of.ensures ∙ c.loop-place.invariant)
 
 pub returns : goal.returns

@@ -14,5 +14,6 @@ returns c =
     let fits : FitsSigned w64 c.bank_total.result = search rules in
     c.in_ok-push_total.ensures
     ∙ (ap (λ (out : List ℕ). out ++ (codes "total " ++ money (to_z w64 (of_z w64 c.bank_total.result))) ++ 10 ∷ []) c.in_ok-list_customers.ensures
-    ∙ (ap (λ (total : ℤ). (c.args.out.now.items ++ unlines (map customer_line (customers_of names b))) ++ (codes "total " ++ money total) ++ 10 ∷ []) (to_z-of_z w64 c.bank_total.result fits ∙ (c.bank_total.ensures.value ∙ total_by_columns names b c.requires))
+    ∙ (ap (λ (total : ℤ). (c.args.out.now.items ++ unlines (map customer_line (customers_of names b))) ++ (codes "total " ++ money total) ++ 10 ∷ [])
+    (to_z-of_z w64 c.bank_total.result fits ∙ (c.bank_total.ensures.value ∙ total_by_columns names b c.requires))
     ∙ row_lines_by_place c.args.out.now.items names b c.requires))

@@ -25,7 +25,8 @@ push_answers-requires c =
     let many : length c.in_ok-board.board.log ≡ length log =
     ap length c.in_ok-board.ensures.finished.log ∙ ap length (c.deref-3.ensures.value ∙ c.in_ok-ops.ensures.value)
     ∙ length-map (calls_of log) (resolved c.in-Ok.opening.directory) ∙ length-map log (λ entry. entry.1) in
-    let stand : All (StandsAmong (length log)) c.in_ok-asking.asking.standings.items = asked_stand _ log c.in_ok-asking.asking.standings.items c.in_ok-asking.ensures in
+    let stand : All (StandsAmong (length log)) c.in_ok-asking.asking.standings.items =
+    asked_stand _ log c.in_ok-asking.asking.standings.items c.in_ok-asking.ensures in
     record {
       idle = c.in_ok-board.ensures.finished.idle;
       earlier = c.in_ok-board.ensures.finished.earlier;
@@ -44,13 +45,15 @@ returns c =
     let asked : IsAsking (asks_from (length opening.names + 2) [] (lines (drop opening.place input))) log standings =
     subst (λ (n : ℕ). IsAsking (asks_from (n + 2) [] (lines (drop opening.place input))) log standings) c.len-first_line.ensures.value
     (subst (λ (text : List ℕ). IsAsking (asks_from (c.len-first_line.result + 2) [] (lines text)) log standings) rest
-    (subst (λ (text : List ℕ). IsAsking (asks_from (c.len-first_line.result + 2) [] (lines (take (length text - opening.place) (drop opening.place text)))) log standings)
+    (subst (λ (text : List ℕ). IsAsking
+    (asks_from (c.len-first_line.result + 2) [] (lines (take (length text - opening.place) (drop opening.place text)))) log standings)
     c.deref-2.ensures.value c.in_ok-asking.ensures)) in
     let carried : IsOneByOne opening.names (calls_of log) opening.balances c.in_ok-board.columns c.in_ok-board.board =
     c.in_ok-board.ensures.one_by_one opening.names (calls_of log) c.in-Ok.opening.same_customers (c.deref-3.ensures.value ∙ c.in_ok-ops.ensures.value) in
     let replies : List Reply = replies_to (rows_of opening.names opening.balances) (calls_of log) in
     let told : c.push_answers.new.out.items ≡ unlines (map (standing_line replies) standings) =
-    c.in_ok-push_answers.ensures replies carried.replies ∙ (λ j. c.clear.ensures.items j ++ unlines (map (standing_line replies) (c.deref-4.ensures.value j))) in
+    c.in_ok-push_answers.ensures replies carried.replies
+    ∙ (λ j. c.clear.ensures.items j ++ unlines (map (standing_line replies) (c.deref-4.ensures.value j))) in
     output_is input opening log standings (sym (ap opening_of c.deref.ensures.value) ∙ c.in-Ok.ensures.exact) asked
     ∙ ap Ok (sym (c.in_ok-list_rows.ensures ∙ λ j. told j ++ unlines (row_lines opening.names (carried.rows j))))
 
