@@ -9,7 +9,7 @@ pub mod Log
 pub mod Net
 pub mod OneByOne
 pub mod Op
-pub mod Performs
+pub mod FollowsProcedure
 pub mod Procedures
 pub mod Reply
 pub mod Touches

@@ -1,13 +1,16 @@
 //! What each procedure does to the values of its cowns.
-ghost use Rattle.std.specs.Prelude.{◌≡◌, ℤ, pos, SomeIff, ◌+ℤ◌, ◌≤ℤ◌, [], ◌∷◌};
+ghost use Rattle.std.specs.Prelude.{◌≡◌, ℤ, pos, SomeIff, ◌+ℤ◌, ◌≤ℤ◌, int_lt, if◌then◌else◌, [], ◌∷◌};
 ghost use Rattle.sb_amount.specs.Limit.{IsWithinLimit};
 ghost use Rattle.sb_calls.specs.Behaviour.{deposit_effect, savings_effect, check_effect, giver_first_effect, taker_first_effect};
+ghost use Rattle.sb_calls.specs.Procedures.{check_cost};
 ghost use Rattle.sb_calls.specs.declared.reply.Reply.TheVariants as replies;
 
-use crate::applying::cost_of_check;
 use crate::reply::Reply;
 use arrayvec::ArrayVec;
 use sb_amount::Cents;
+
+/// What a check costs more where savings and checking together are below its amount, in cents.
+pub const PENALTY: i64 = 100;
 
 // What a call replies, and what its cowns hold after it.
 pub(crate) type Effect = (Reply, ArrayVec<i64, 3>);
@@ -107,6 +110,19 @@ pub(crate) fn pay_check(amount: Cents, savings: Cents, checking: Cents) -> Effec
     match Cents::new(checking.value() - cost) {
         Some(left) => leaving_two(reply, savings, left),
         None => leaving_two(Reply::OverLimit, savings, checking),
+    }
+}
+
+// What a check takes from checking, and what is replied where it is paid.
+fn cost_of_check(savings: Cents, checking: Cents, amount: Cents) -> (i64, Reply)
+    ensures cost { result.0 ≡ check_cost savings checking amount }
+    ensures reply { result.1 ≡ if int_lt (savings +ℤ checking) amount then replies.Penalised else replies.Done }
+{
+    let available = savings.value() + checking.value();
+    if available < amount.value() {
+        (amount.value() + PENALTY, Reply::Penalised)
+    } else {
+        (amount.value(), Reply::Done)
     }
 }
 
