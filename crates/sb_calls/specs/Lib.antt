@@ -5,11 +5,12 @@ pub mod Bounds
 pub mod ByCowns
 pub mod Call
 pub mod Cowns
+pub mod Faults
+pub mod FollowsProcedure
 pub mod Log
 pub mod Net
 pub mod OneByOne
 pub mod Op
-pub mod FollowsProcedure
 pub mod Procedures
 pub mod Reply
 pub mod Touches

@@ -6,7 +6,7 @@ mod cown;
 mod effects;
 mod performing;
 
-pub use behaviour::{Behaviour, Performs};
+pub use behaviour::{BEHAVIOUR_COWNS, Behaviour, Performs};
 pub use by_cown::{read_cowns, write_cowns};
 pub use cown::Cown;
 pub use effects::PENALTY;

@@ -7,6 +7,9 @@ use super::cown::Cown;
 use crate::reply::Reply;
 use arrayvec::ArrayVec;
 
+/// How many cowns a behaviour declares at most: both of one customer's, and one of another's.
+pub const BEHAVIOUR_COWNS: usize = 3;
+
 /// What is spawned over a set of cowns and has these alone while it runs (When Concurrency Matters,
 /// OOPSLA 2023).
 ///
@@ -20,7 +23,7 @@ pub trait Behaviour: Copy + Eq {
     ghost effect: { Self → List ℤ → AnyReply × List ℤ };
 
     /// The cowns that it declares, in rising order.
-    fn cowns(self) -> ArrayVec<Cown, 3>
+    fn cowns(self) -> ArrayVec<Cown, BEHAVIOUR_COWNS>
         ensures { result.items ≡ touches self };
 
     /// The declared cowns rise, so each stands once.
@@ -40,7 +43,7 @@ pub trait Behaviour: Copy + Eq {
 pub trait Performs: Behaviour {
     /// The reply, and what its cowns hold after it, both in the order of the cowns. It changes nothing
     /// itself.
-    fn perform(self, inputs: &[i64]) -> (Reply, ArrayVec<i64, 3>)
+    fn perform(self, inputs: &[i64]) -> (Reply, ArrayVec<i64, BEHAVIOUR_COWNS>)
         requires { AreHeld (Self.touches self) inputs.now }
         ensures reply { result.0 ≡ (Self.effect self inputs.now).0 }
         ensures outputs { result.1.items ≡ (Self.effect self inputs.now).1 };

@@ -2,6 +2,7 @@
 ghost use Rattle.std.specs.Prelude.{◌≡◌, ◌<◌, ◌≤◌, length, pos, get_or, slice_set};
 ghost use Rattle.sb_calls.specs.Cowns.{AreBelow, AreHeld, IsHeld, held_of, read_cowns, write_cowns};
 
+use super::behaviour::BEHAVIOUR_COWNS;
 use super::cown::Cown;
 use super::effects::held;
 use arrayvec::ArrayVec;
@@ -9,7 +10,7 @@ use sb_amount::Cents;
 use sb_rows::{CUSTOMERS, Columns};
 
 /// What these cowns hold, in their order.
-pub fn read_cowns(columns: &Columns, cowns: &[Cown]) -> ArrayVec<i64, 3>
+pub fn read_cowns(columns: &Columns, cowns: &[Cown]) -> ArrayVec<i64, BEHAVIOUR_COWNS>
     requires few { length cowns.now ≤ 3 }
     requires cowns { AreBelow (length (held_of columns.now)) cowns.now }
     ensures { result.items ≡ read_cowns (held_of columns.now) cowns.now }

@@ -5,6 +5,7 @@ ghost use Rattle.sb_calls.specs.Behaviour.{deposit_effect, savings_effect, check
 ghost use Rattle.sb_calls.specs.Procedures.{check_cost};
 ghost use Rattle.sb_calls.specs.declared.reply.Reply.TheVariants as replies;
 
+use super::behaviour::BEHAVIOUR_COWNS;
 use crate::reply::Reply;
 use arrayvec::ArrayVec;
 use sb_amount::Cents;
@@ -13,7 +14,7 @@ use sb_amount::Cents;
 pub const PENALTY: i64 = 100;
 
 // What a call replies, and what its cowns hold after it.
-pub(crate) type Effect = (Reply, ArrayVec<i64, 3>);
+pub(crate) type Effect = (Reply, ArrayVec<i64, BEHAVIOUR_COWNS>);
 
 // What a cown holds.
 pub(crate) fn held(value: i64) -> Cents

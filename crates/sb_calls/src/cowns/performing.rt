@@ -8,7 +8,7 @@ ghost use Rattle.sb_calls.specs.ByCowns.{DeclaresTouched, PerformsByCowns};
 ghost use Rattle.sb_calls.specs.Cowns.{AreHeld, held_of, read_cowns};
 ghost use Rattle.sb_calls.specs.Op.{resolved};
 
-use super::behaviour::{Behaviour, Performs};
+use super::behaviour::{BEHAVIOUR_COWNS, Behaviour, Performs};
 use super::cown::Cown;
 use super::effects::{
     Effect, amalgamate_giver_first, amalgamate_taker_first, change_savings, deposit, held,
@@ -21,7 +21,7 @@ use arrayvec::ArrayVec;
 
 /// The cowns of the balances that a call touches, in rising order: none where a name isn't in the bank,
 /// or two names are one.
-pub fn cowns_of(op: Op) -> ArrayVec<Cown, 3>
+pub fn cowns_of(op: Op) -> ArrayVec<Cown, BEHAVIOUR_COWNS>
     ensures value { result.items ≡ declared_cowns op }
     ensures touched { (directory : List (List ℕ)) (b : Balances) (call : Call) → SameCustomers directory b → op ≡ resolved directory call
         → DeclaresTouched directory b call result.items }
@@ -30,7 +30,7 @@ pub fn cowns_of(op: Op) -> ArrayVec<Cown, 3>
 }
 
 // The cowns of the balances at the places of an op.
-fn declared_by(op: Op) -> ArrayVec<Cown, 3>
+fn declared_by(op: Op) -> ArrayVec<Cown, BEHAVIOUR_COWNS>
     ensures { result.items ≡ declared_cowns op }
 {
     let mut cowns = ArrayVec::new();
@@ -48,7 +48,7 @@ fn declared_by(op: Op) -> ArrayVec<Cown, 3>
 }
 
 // All of the customer that gives, and the checking balance of the one that takes.
-fn cowns_of_places(places: TwoPlaces) -> ArrayVec<Cown, 3>
+fn cowns_of_places(places: TwoPlaces) -> ArrayVec<Cown, BEHAVIOUR_COWNS>
     ensures { result.items ≡ cowns_of_two places.0 places.1 }
 {
     let from = places.from();
@@ -70,7 +70,7 @@ fn cowns_of_places(places: TwoPlaces) -> ArrayVec<Cown, 3>
 /// order of [`cowns_of`].
 ///
 /// A refusal leaves what they held.
-pub fn perform(op: Op, inputs: &[i64]) -> (Reply, ArrayVec<i64, 3>)
+pub fn perform(op: Op, inputs: &[i64]) -> (Reply, ArrayVec<i64, BEHAVIOUR_COWNS>)
     requires { AreHeld (declared_cowns op) inputs.now }
     ensures reply { result.0 ≡ (effect_of op inputs.now).0 }
     ensures outputs { result.1.items ≡ (effect_of op inputs.now).1 }
@@ -131,13 +131,13 @@ impl Behaviour for Op {
 
     ghost exact = { same_op };
 
-    fn cowns(self) -> ArrayVec<Cown, 3> {
+    fn cowns(self) -> ArrayVec<Cown, BEHAVIOUR_COWNS> {
         cowns_of(self)
     }
 }
 
 impl Performs for Op {
     fn perform(self, inputs: &[i64]) -> Effect {
-        perform(self, inputs)
+        crate::cowns::perform(self, inputs)
     }
 }

@@ -1,7 +1,8 @@
 //! Numbers below 2^32 in decimal.
 ghost use Rattle.std.specs.Prelude.{◌≡◌};
-ghost use Rattle.sb_amount.specs.Reading as money;
 ghost use Rattle.sb_calls.specs.Ask as spec;
+
+use sb_amount::is_canonical;
 
 /// The number that a text is, or `None` where the text isn't a number below 2^32 in decimal without
 /// leading zeros.
@@ -21,15 +22,4 @@ pub(crate) fn read_number(text: &[u8]) -> Option<u32>
             .saturating_add(u64::from(*byte - b'0'));
     }
     u32::try_from(number).ok()
-}
-
-// One byte, or several of which the first isn't `0`.
-fn is_canonical(text: &[u8]) -> bool
-    ensures { result ≡ money.is_canonical text.now }
-{
-    match text {
-        [] => false,
-        [_] => true,
-        [first, ..] => *first != b'0',
-    }
 }
