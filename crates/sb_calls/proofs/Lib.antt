@@ -1,6 +1,7 @@
 pub mod Amalgamation
 pub mod AppliedOps
 pub mod Asking
+pub mod Conflicts
 pub mod EffectCases
 pub mod EffectPerforms
 pub mod HeldLaws

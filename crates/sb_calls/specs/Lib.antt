@@ -4,6 +4,7 @@ pub mod BehaviourLaws
 pub mod Bounds
 pub mod ByCowns
 pub mod Call
+pub mod Conflicts
 pub mod Cowns
 pub mod Faults
 pub mod FollowsProcedure

@@ -4,6 +4,7 @@ ghost use Rattle.sb_calls.specs.declared.call.Call.{Call};
 ghost use Rattle.sb_calls.specs.Log.{replies_to, reply_to};
 ghost use Rattle.sb_calls.specs.Net.{TotalByNet};
 ghost use Rattle.sb_calls.specs.ByCowns.{LogsByCowns};
+ghost use Rattle.sb_calls.specs.Conflicts.{ConflictsByName};
 ghost use Rattle.sb_calls.specs.Touches.{Locality};
 ghost use Rattle.sb_rows.specs.Rows.{Rows};
 
@@ -39,4 +40,9 @@ pub fn calls_are_local()
 /// calls one by one.
 pub fn logs_by_cowns()
     ensures { LogsByCowns }
+{}
+
+/// Two calls declare a cown in common exactly where they touch a balance in common.
+pub fn conflicts_by_name()
+    ensures { ConflictsByName }
 {}

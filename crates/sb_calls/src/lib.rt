@@ -20,7 +20,9 @@ pub use call::{Call, LOG_CALLS};
 pub use cowns::{
     BEHAVIOUR_COWNS, Behaviour, Cown, PENALTY, Performs, cowns_of, perform, read_cowns, write_cowns,
 };
-pub use laws::{calls_are_local, limits, logs_by_cowns, replies_one_by_one, total_by_net};
+pub use laws::{
+    calls_are_local, conflicts_by_name, limits, logs_by_cowns, replies_one_by_one, total_by_net,
+};
 pub use net_change::net;
 pub use op::{Op, resolve};
 pub use reply::Reply;
