@@ -220,10 +220,6 @@ money_lacks byte other v small =
 pub money_keeps_clear : (v : ℤ) → IsWithinLimit v → list_all (λ c. not (c == 32)) (money v) ≡ true
 money_keeps_clear v h = let small = nat_abs-within v h in money_lacks 32 refl v (omega arith)
 
--- and no line feed
-pub money_keeps_one_line : (v : ℤ) → IsWithinLimit v → list_all (λ c. not (c == 10)) (money v) ≡ true
-money_keeps_one_line v h = let small = nat_abs-within v h in money_lacks 10 refl v (omega arith)
-
 -- the digits before the point, the point and two decimals
 length-unsigned_money : (n k : ℕ) → 0 < k → n / 100 < 10 ^ k → n / 100 < 2 ^ 64 → length (unsigned_money n) ≤ k + 3
 length-unsigned_money n k some fits small =
@@ -247,9 +243,3 @@ pub money_nonempty : (v : ℤ) → 0 < length (money v)
 unfolding money
 money_nonempty (pos n) = omega (arith, length-append (decimal (n / 100)) (46 ∷ (48 + n % 100 / 10) ∷ (48 + n % 100 % 10) ∷ []))
 money_nonempty (negsuc m) = grind (arith, common_steps)
-
--- two amounts with one money text are one amount
-pub money-injective : (v w : ℤ) → IsWithinLimit v → IsWithinLimit w → money v ≡ money w → v ≡ w
-money-injective v w v_within w_within same =
-    let both = sym (read_money-money v v_within) ∙ ap read_money same ∙ read_money-money w w_within in
-    cc

@@ -1,3 +1,4 @@
+pub mod Faults
 pub mod Limit
 pub mod Money
 pub mod Reading

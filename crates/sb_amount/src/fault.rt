@@ -1,4 +1,6 @@
 //! Why a text is no money text.
+ghost use Rattle.std.specs.Prelude.{◌≡◌};
+ghost use Rattle.sb_amount.specs.Faults.{money_fault_number};
 
 use thiserror::Error;
 
@@ -7,17 +9,32 @@ use thiserror::Error;
 pub enum MoneyFault {
     /// Nothing follows the optional `-`.
     #[error("empty")]
-    Empty = 1,
+    Empty,
     /// A byte is neither a digit nor a point.
     #[error("not a digit")]
-    NotDigit = 2,
+    NotDigit,
     /// There isn't exactly one point with exactly two digits after it.
     #[error("bad decimals")]
-    BadDecimals = 3,
+    BadDecimals,
     /// The whole part is empty or has a leading zero, or the text is `-0.00`.
     #[error("not canonical")]
-    NotCanonical = 4,
+    NotCanonical,
     /// The amount is above the limit in size.
     #[error("too large")]
-    TooLarge = 5,
+    TooLarge,
+}
+
+impl MoneyFault {
+    /// The number of the fault, from 1 to 5 in the order of the variants.
+    pub fn number(&self) -> u8
+        ensures { result ≡ money_fault_number self.now }
+    {
+        match self {
+            MoneyFault::Empty => 1,
+            MoneyFault::NotDigit => 2,
+            MoneyFault::BadDecimals => 3,
+            MoneyFault::NotCanonical => 4,
+            MoneyFault::TooLarge => 5,
+        }
+    }
 }

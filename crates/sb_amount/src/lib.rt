@@ -1,13 +1,17 @@
 //! Amounts of money in whole cents, and their text.
 #![tactic(auto)]
 
+mod canonical;
 mod cents;
 mod fault;
+mod laws;
 mod printing;
 mod reading;
 #[cfg(test)]
 mod tests;
 
+pub use canonical::is_canonical;
 pub use cents::{Cents, LIMIT};
 pub use fault::MoneyFault;
+pub use laws::limits;
 pub use printing::{print, print_total};

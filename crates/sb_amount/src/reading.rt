@@ -4,8 +4,9 @@ ghost use Rattle.std.specs.Char.{is_ascii_digit};
 ghost use Rattle.std.specs.List.{list_all, before_first};
 ghost use Rattle.sb_amount.specs.Limit.{IsWithinLimit};
 ghost use Rattle.sb_amount.specs.Money.{money};
-ghost use Rattle.sb_amount.specs.Reading.{read_money, is_point, is_negative, without_sign, has_two_decimals, is_canonical, cents_of_digits};
+ghost use Rattle.sb_amount.specs.Reading.{read_money, is_point, is_negative, without_sign, has_two_decimals, cents_of_digits};
 
+use crate::canonical::is_canonical;
 use crate::cents::{Cents, LIMIT};
 use crate::fault::MoneyFault;
 
@@ -83,16 +84,5 @@ fn whole_part(body: &[u8], points: usize) -> Option<&[u8]>
     match body {
         [whole @ .., b'.', _, _] if points == 1 => Some(whole),
         _ => None,
-    }
-}
-
-// One digit, or several of which the first isn't 0.
-fn is_canonical(whole: &[u8]) -> bool
-    ensures { result ≡ is_canonical whole.now }
-{
-    match whole {
-        [] => false,
-        [_] => true,
-        [first, ..] => *first != b'0',
     }
 }

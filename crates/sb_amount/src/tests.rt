@@ -89,7 +89,7 @@ fn numbers_and_words_of_the_faults(rt: HostRuntime) -> Result<(), Fail> {
         (MoneyFault::NotCanonical, 4, "not canonical"),
         (MoneyFault::TooLarge, 5, "too large"),
     ] {
-        assert_eq!(rt; fault as u8, number);
+        assert_eq!(rt; fault.number(), number);
         assert_eq!(rt; fault.to_string(rt.alloc())?.as_str(), words);
     }
     Ok(())

@@ -11,7 +11,7 @@ use Rattle.sb_rows.specs.Balances.{Balances}
 use Rattle.sb_rows.specs.Directory.{place_of}
 use Rattle.sb_rows.specs.Rows.{with_row, SameCustomers}
 use Rattle.sb_calls.proofs.Places.{HasRow, HasRow-other, with_checking, row_is, rows_of-with_both, rows_of-with_checking, SameCustomers-with_row, SameCustomers-with_checking}
-use Rattle.sb_calls.specs.Performs.{Performs}
+use Rattle.sb_calls.specs.FollowsProcedure.{FollowsProcedure}
 use Rattle.sb_calls.specs.declared.call.Call.TheVariants.{Amalgamate}
 use Rattle.sb_calls.specs.declared.reply.Reply.TheVariants.{Done, OverLimit}
 
@@ -34,7 +34,7 @@ different_names directory from to p q found_from found_to differs = false_from_n
 
 module _ {directory : List (List ℕ)} {b : Balances} {from to : List ℕ} {p q : ℕ} {s c s_to c_to : ℤ} (giver : HasRow directory b from p s c) (taker : HasRow directory b to q s_to c_to) (differs : p ≢ q) where
   -- one that would pass the limit
-  pub performs_amalgamate_over_limit : ¬ IsWithinLimit ((c_to +ℤ s) +ℤ c) → Performs directory (Amalgamate from to) b b OverLimit
+  pub performs_amalgamate_over_limit : ¬ IsWithinLimit ((c_to +ℤ s) +ℤ c) → FollowsProcedure directory (Amalgamate from to) b b OverLimit
   performs_amalgamate_over_limit past =
       let row_from = row_is giver in
       let row_to = row_is taker in
@@ -44,7 +44,7 @@ module _ {directory : List (List ℕ)} {b : Balances} {from to : List ℕ} {p q 
 
   -- one that is carried out
   pub performs_amalgamate : IsWithinLimit ((c_to +ℤ s) +ℤ c)
-      → Performs directory (Amalgamate from to) b (with_checking (with_row b p (pos 0) (pos 0)) q ((c_to +ℤ s) +ℤ c)) Done
+      → FollowsProcedure directory (Amalgamate from to) b (with_checking (with_row b p (pos 0) (pos 0)) q ((c_to +ℤ s) +ℤ c)) Done
   performs_amalgamate fits =
       let row_from = row_is giver in
       let row_to = row_is taker in

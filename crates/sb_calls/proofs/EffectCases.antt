@@ -1,5 +1,5 @@
 -- The effect of an op where its case is known.
-use Rattle.std.proofs.Common.{◌≡◌, ℕ, ◌<◌, ℤ, pos, neg_ℤ, ◌+ℤ◌, ◌-ℤ◌, ◌≤ℤ◌, Bool, true, false, cond, ◌==◌, List, [], ◌∷◌, get_or, refl, arith, to_z, of_z, w64}
+use Rattle.std.proofs.Common.{◌≡◌, ℕ, ◌<◌, ℤ, pos, neg_ℤ, ◌+ℤ◌, ◌-ℤ◌, ◌≤ℤ◌, Bool, true, false, cond, ◌==◌, List, [], ◌∷◌, get_or, refl, ◌∙◌, arith, to_z, of_z, w64}
 use Rattle.std.specs.Prelude.{int_lt, nat_lt}
 use Rattle.std.proofs.lemmas.Bool.Decides.{nat_tests}
 use Rattle.std.proofs.lemmas.Int.{ints}
@@ -33,6 +33,13 @@ cost_bounds s c amount = by (int_lt (s +ℤ c) amount)
     by : (overdrawn : Bool) → (amount ≤ℤ cond overdrawn (amount +ℤ pos 100) amount) × (cond overdrawn (amount +ℤ pos 100) amount ≤ℤ (amount +ℤ pos 100))
     by true = (omega (arith, ints), omega (arith, ints))
     by false = (omega (arith, ints), omega (arith, ints))
+
+-- what a check leaves of checking, as 64 bits have it
+pub left_of_check : (s c amount v k : ℤ) → IsWithinLimit c → IsWithinLimit amount → v ≡ c → k ≡ check_cost s c amount
+    → to_z w64 (of_z w64 (to_z w64 (of_z w64 v) -ℤ to_z w64 (of_z w64 k))) ≡ c -ℤ check_cost s c amount
+left_of_check s c amount v k has asks is costs =
+    let bounds = cost_bounds s c amount in
+    rw (is, costs) (omega (arith, ints, bounds.0, bounds.1, has.at_least, has.at_most, asks.at_least, asks.at_most))
 
 -- a check that is paid, and one that would pass the limit
 pub check_paid : (amount s c : ℤ) → int_lt amount (pos 0) ≡ false → IsWithinLimit (c -ℤ check_cost s c amount)
@@ -83,3 +90,20 @@ effect_taker_first from to inputs lt =
     let different : (from == to) ≡ false = grind (arith, nat_tests) in
     let after : nat_lt from to ≡ false = grind (arith, nat_tests) in
     rw (different, after) refl
+
+-- so it is on what was read of its cowns
+pub amalgamates_giver_first : (from to : ℕ) (inputs : List ℤ) (x y z : ℤ) → from < to → AreHeld (cowns_of_two from to) inputs
+    → x ≡ to_z w64 (of_z w64 (get_or inputs 0 (pos 0))) → y ≡ to_z w64 (of_z w64 (get_or inputs 1 (pos 0)))
+    → z ≡ to_z w64 (of_z w64 (get_or inputs 2 (pos 0))) → effect_of_two from to inputs ≡ giver_first_effect x y z
+amalgamates_giver_first from to inputs x y z lt held first second third =
+    let in_order = rw (cowns_giver_first from to lt) at held in
+    effect_giver_first from to inputs lt
+    ∙ on_three (savings_cown from) (checking_cown from) (checking_cown to) giver_first_effect inputs x y z in_order first second third
+
+pub amalgamates_taker_first : (from to : ℕ) (inputs : List ℤ) (x y z : ℤ) → to < from → AreHeld (cowns_of_two from to) inputs
+    → x ≡ to_z w64 (of_z w64 (get_or inputs 0 (pos 0))) → y ≡ to_z w64 (of_z w64 (get_or inputs 1 (pos 0)))
+    → z ≡ to_z w64 (of_z w64 (get_or inputs 2 (pos 0))) → effect_of_two from to inputs ≡ taker_first_effect x y z
+amalgamates_taker_first from to inputs x y z lt held first second third =
+    let in_order = rw (cowns_taker_first from to lt) at held in
+    effect_taker_first from to inputs lt
+    ∙ on_three (checking_cown to) (savings_cown from) (checking_cown from) taker_first_effect inputs x y z in_order first second third

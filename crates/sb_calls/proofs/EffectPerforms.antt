@@ -22,7 +22,7 @@ use Rattle.sb_calls.specs.Behaviour.{cowns_of_two, declared_cowns, deposit_effec
 use Rattle.sb_calls.specs.ByCowns.{PerformsByCowns}
 use Rattle.sb_calls.specs.Cowns.{savings_cown, checking_cown, held_of, read_cowns, write_cowns}
 use Rattle.sb_calls.specs.Op.{resolved}
-use Rattle.sb_calls.specs.Performs.{Performs}
+use Rattle.sb_calls.specs.FollowsProcedure.{FollowsProcedure}
 use Rattle.sb_calls.specs.Procedures.{check_cost}
 use Rattle.sb_calls.specs.declared.call.Call.{Call}
 use Rattle.sb_calls.specs.declared.call.Call.TheVariants.{Balance, DepositChecking, TransactSavings, Amalgamate, WriteCheck}
@@ -36,7 +36,7 @@ abbrev pub Effects : List (List ℕ) → Call → Balances → List ℕ → Repl
 Effects directory call b cowns effect = PerformsByCowns directory call b cowns effect.0 effect.1
 
 -- one that leaves what was held
-pub effect_leaves : (directory : List (List ℕ)) (call : Call) (b : Balances) (cowns : List ℕ) (reply : Reply) (held : List ℤ) → Performs directory call b b reply → held ≡ read_cowns (held_of b) cowns
+pub effect_leaves : (directory : List (List ℕ)) (call : Call) (b : Balances) (cowns : List ℕ) (reply : Reply) (held : List ℤ) → FollowsProcedure directory call b b reply → held ≡ read_cowns (held_of b) cowns
     → Effects directory call b cowns (reply, held)
 effect_leaves directory call b cowns reply held performs e = record { new = b; written = sym (ap (write_cowns (held_of b) cowns) e ∙ write-read (held_of b) cowns); performs = performs }
 

@@ -1,5 +1,5 @@
 -- Reading and writing a cown is reading and writing a column.
-use Rattle.std.proofs.Common.{◌≡◌, ◌*◌, ℕ, zero, suc, ℤ, pos, List, [], ◌∷◌, length, get_or, refl, ap, arith}
+use Rattle.std.proofs.Common.{◌≡◌, ◌*◌, ℕ, zero, suc, ℤ, pos, List, [], ◌∷◌, length, get_or, refl, ap, ◌∙◌, arith}
 use Rattle.std.specs.Prelude.{slice_set}
 use Rattle.std.proofs.lemmas.List.{set-get_or}
 use Rattle.sb_rows.specs.Balances.{Balances}
@@ -78,3 +78,29 @@ length-by_cown (s ∷ savings) (c ∷ checking) e = let rest = length-by_cown sa
 pub length-held_of : (b : Balances) → length b.savings ≡ length b.checking → length (held_of b) ≡ 2 * length b.savings
 unfolding held_of
 length-held_of b e = length-by_cown b.savings b.checking e
+
+-- ---- both ways
+
+by_cown-injective : (s c t d : List ℤ) → length s ≡ length c → length t ≡ length d → by_cown s c ≡ by_cown t d → (s ≡ t) × (c ≡ d)
+by_cown-injective [] [] [] [] long beside e = (refl, refl)
+by_cown-injective [] [] [] (w ∷ d) long beside e = absurd (omega (arith, beside))
+by_cown-injective [] [] (z ∷ t) [] long beside e = absurd (omega (arith, beside))
+by_cown-injective [] [] (z ∷ t) (w ∷ d) long beside e = absurd cc
+by_cown-injective [] (y ∷ c) t d long beside e = absurd (omega (arith, long))
+by_cown-injective (x ∷ s) [] t d long beside e = absurd (omega (arith, long))
+by_cown-injective (x ∷ s) (y ∷ c) [] [] long beside e = absurd cc
+by_cown-injective (x ∷ s) (y ∷ c) [] (w ∷ d) long beside e = absurd (omega (arith, beside))
+by_cown-injective (x ∷ s) (y ∷ c) (z ∷ t) [] long beside e = absurd (omega (arith, beside))
+by_cown-injective (x ∷ s) (y ∷ c) (z ∷ t) (w ∷ d) long beside e =
+    let rest : by_cown s c ≡ by_cown t d = cc in
+    let both = by_cown-injective s c t d (omega (arith, long)) (omega (arith, beside)) rest in
+    let savings : s ≡ t = both.0 in
+    let checking : c ≡ d = both.1 in
+    (cc, cc)
+
+-- balances whose cowns hold the same are the same
+pub held_of-injective : (a b : Balances) → length a.savings ≡ length a.checking → length b.savings ≡ length b.checking → held_of a ≡ held_of b → a ≡ b
+unfolding held_of
+held_of-injective a b a_same b_same e =
+    let both = by_cown-injective a.savings a.checking b.savings b.checking a_same b_same e in
+    ap (λ (xs : List ℤ). record { savings = xs; checking = a.checking }) both.0 ∙ ap (λ (xs : List ℤ). record { savings = b.savings; checking = xs }) both.1

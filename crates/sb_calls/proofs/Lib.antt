@@ -1,7 +1,10 @@
 pub mod Amalgamation
+pub mod AppliedOps
 pub mod Asking
+pub mod Conflicts
 pub mod EffectCases
 pub mod EffectPerforms
+pub mod HeldLaws
 pub mod Holding
 pub mod Local
 pub mod Log
@@ -11,6 +14,7 @@ pub mod OneByOneRuns
 pub mod Ops
 pub mod Places
 pub mod Procedures
+pub mod ReadingCowns
 pub mod Refusals
 pub mod Spelling
 pub mod Totals

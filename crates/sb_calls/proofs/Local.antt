@@ -19,7 +19,7 @@ use Rattle.sb_calls.specs.declared.reply.Reply.TheVariants as replies
 
 -- ---- a balance by its name and which of the two it is
 
-abbrev name_of : BalancePlace → List ℕ
+abbrev pub name_of : BalancePlace → List ℕ
 name_of (Savings name) = name
 name_of (Checking name) = name
 
@@ -51,10 +51,6 @@ record AreLocal (places : List BalancePlace) (a b : Rows) (on_a on_b : Outcome) 
   reply : on_a.reply ≡ on_b.reply
   balances : AgreeOn places on_a.rows on_b.rows
   others : (place : BalancePlace) → ¬ Contains places place → balance_at on_a.rows place ≡ balance_at a place
-
--- nothing agrees with everything
-agree_on_none : (a b : Rows) → AgreeOn [] a b
-agree_on_none a b place among = absurd (one_from_Contains [] place among)
 
 module _ {places : List BalancePlace} {a b : Rows} where
   -- two that leave the rows

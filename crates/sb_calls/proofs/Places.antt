@@ -18,16 +18,6 @@ pub record HasRow (directory : List (List ℕ)) (b : Balances) (name : List ℕ)
   pub savings : slice_get b.savings place ≡ Some s
   pub checking : slice_get b.checking place ≡ Some c
 
--- a customer whose checking balance was read has savings too
-pub HasRow-checking : (directory : List (List ℕ)) (b : Balances) (name : List ℕ) (place : ℕ) (c : ℤ) → SameCustomers directory b → place_of directory name ≡ Some place → place < length b.savings → slice_get b.checking place ≡ Some c
-    → HasRow directory b name place (get_or b.savings place (pos 0)) c
-HasRow-checking directory b name place c same found lt checking = record {
-  same = same;
-  found = found;
-  savings = slice_get-get_or b.savings place (pos 0) lt;
-  checking = checking;
-}
-
 -- a customer whose savings were read has a checking balance too
 pub HasRow-savings : (directory : List (List ℕ)) (b : Balances) (name : List ℕ) (place : ℕ) (s : ℤ) → SameCustomers directory b → place_of directory name ≡ Some place → slice_get b.savings place ≡ Some s
     → HasRow directory b name place s (get_or b.checking place (pos 0))

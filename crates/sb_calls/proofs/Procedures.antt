@@ -6,7 +6,7 @@ use Rattle.sb_amount.specs.Limit.{IsWithinLimit}
 use Rattle.sb_amount.specs.declared.cents.TheConstants.{LIMIT}
 use Rattle.sb_rows.specs.Balances.{Balances}
 use Rattle.sb_calls.proofs.Places.{HasRow, with_savings, with_checking, row_is, checking_within, rows_of-with_savings, rows_of-with_checking, SameCustomers-with_savings, SameCustomers-with_checking}
-use Rattle.sb_calls.specs.Performs.{Performs}
+use Rattle.sb_calls.specs.FollowsProcedure.{FollowsProcedure}
 use Rattle.sb_calls.specs.Procedures.{check_cost}
 use Rattle.sb_calls.specs.declared.call.Call.TheVariants.{Balance, DepositChecking, TransactSavings, WriteCheck}
 use Rattle.sb_calls.specs.declared.reply.Reply.TheVariants.{Shown, Done, Penalised, Negative, WouldOverdraw, OverLimit}
@@ -39,24 +39,24 @@ past_limit_downwards s c amount fits ge past = from (check_cost s c amount) (cos
 
 module _ {directory : List (List ℕ)} {b : Balances} {name : List ℕ} {place : ℕ} {s c : ℤ} (h : HasRow directory b name place s c) where
   -- a balance that is shown
-  pub performs_balance : Performs directory (Balance name) b b (Shown (s +ℤ c))
+  pub performs_balance : FollowsProcedure directory (Balance name) b b (Shown (s +ℤ c))
   performs_balance = let row = row_is h in record { rows = rw row refl; reply = rw row refl; customers = h.same }
 
   -- ---- deposits
 
   -- a deposit below 0
-  pub performs_negative : (amount : ℤ) → int_lt amount (pos 0) ≡ true → Performs directory (DepositChecking name amount) b b Negative
+  pub performs_negative : (amount : ℤ) → int_lt amount (pos 0) ≡ true → FollowsProcedure directory (DepositChecking name amount) b b Negative
   performs_negative amount lt = let row = row_is h in record { rows = rw (row, lt) refl; reply = rw (row, lt) refl; customers = h.same }
 
   -- a deposit that would pass the limit
-  pub performs_over_limit : (amount : ℤ) → int_lt amount (pos 0) ≡ false → ¬ IsWithinLimit (c +ℤ amount) → Performs directory (DepositChecking name amount) b b OverLimit
+  pub performs_over_limit : (amount : ℤ) → int_lt amount (pos 0) ≡ false → ¬ IsWithinLimit (c +ℤ amount) → FollowsProcedure directory (DepositChecking name amount) b b OverLimit
   performs_over_limit amount ge past =
       let row = row_is h in
       let lt = past_limit c amount (checking_within h) ge past in
       record { rows = rw (row, ge, lt) refl; reply = rw (row, ge, lt) refl; customers = h.same }
 
   -- a deposit that is carried out
-  pub performs_deposit : (amount : ℤ) → int_lt amount (pos 0) ≡ false → IsWithinLimit (c +ℤ amount) → Performs directory (DepositChecking name amount) b (with_checking b place (c +ℤ amount)) Done
+  pub performs_deposit : (amount : ℤ) → int_lt amount (pos 0) ≡ false → IsWithinLimit (c +ℤ amount) → FollowsProcedure directory (DepositChecking name amount) b (with_checking b place (c +ℤ amount)) Done
   performs_deposit amount ge fits =
       let row = row_is h in
       let le : int_lt LIMIT (c +ℤ amount) ≡ false = grind (arith, ints, fits.at_most) in
@@ -69,18 +69,18 @@ module _ {directory : List (List ℕ)} {b : Balances} {name : List ℕ} {place :
   -- ---- changes of savings
 
   -- one that would overdraw them
-  pub performs_overdraft : (amount : ℤ) → int_lt (s +ℤ amount) (pos 0) ≡ true → Performs directory (TransactSavings name amount) b b WouldOverdraw
+  pub performs_overdraft : (amount : ℤ) → int_lt (s +ℤ amount) (pos 0) ≡ true → FollowsProcedure directory (TransactSavings name amount) b b WouldOverdraw
   performs_overdraft amount lt = let row = row_is h in record { rows = rw (row, lt) refl; reply = rw (row, lt) refl; customers = h.same }
 
   -- one that would pass the limit
-  pub performs_savings_over_limit : (amount : ℤ) → int_lt (s +ℤ amount) (pos 0) ≡ false → ¬ IsWithinLimit (s +ℤ amount) → Performs directory (TransactSavings name amount) b b OverLimit
+  pub performs_savings_over_limit : (amount : ℤ) → int_lt (s +ℤ amount) (pos 0) ≡ false → ¬ IsWithinLimit (s +ℤ amount) → FollowsProcedure directory (TransactSavings name amount) b b OverLimit
   performs_savings_over_limit amount ge past =
       let row = row_is h in
       let lt = past_limit_upwards (s +ℤ amount) ge past in
       record { rows = rw (row, ge, lt) refl; reply = rw (row, ge, lt) refl; customers = h.same }
 
   -- one that is carried out
-  pub performs_savings : (amount : ℤ) → int_lt (s +ℤ amount) (pos 0) ≡ false → IsWithinLimit (s +ℤ amount) → Performs directory (TransactSavings name amount) b (with_savings b place (s +ℤ amount)) Done
+  pub performs_savings : (amount : ℤ) → int_lt (s +ℤ amount) (pos 0) ≡ false → IsWithinLimit (s +ℤ amount) → FollowsProcedure directory (TransactSavings name amount) b (with_savings b place (s +ℤ amount)) Done
   performs_savings amount ge fits =
       let row = row_is h in
       let le : int_lt LIMIT (s +ℤ amount) ≡ false = grind (arith, ints, fits.at_most) in
@@ -93,11 +93,11 @@ module _ {directory : List (List ℕ)} {b : Balances} {name : List ℕ} {place :
   -- ---- checks
 
   -- a check below 0
-  pub performs_check_negative : (amount : ℤ) → int_lt amount (pos 0) ≡ true → Performs directory (WriteCheck name amount) b b Negative
+  pub performs_check_negative : (amount : ℤ) → int_lt amount (pos 0) ≡ true → FollowsProcedure directory (WriteCheck name amount) b b Negative
   performs_check_negative amount lt = let row = row_is h in record { rows = rw (row, lt) refl; reply = rw (row, lt) refl; customers = h.same }
 
   -- a check that would pass the limit
-  pub performs_check_over_limit : (amount : ℤ) → int_lt amount (pos 0) ≡ false → ¬ IsWithinLimit (c -ℤ check_cost s c amount) → Performs directory (WriteCheck name amount) b b OverLimit
+  pub performs_check_over_limit : (amount : ℤ) → int_lt amount (pos 0) ≡ false → ¬ IsWithinLimit (c -ℤ check_cost s c amount) → FollowsProcedure directory (WriteCheck name amount) b b OverLimit
   performs_check_over_limit amount ge past =
       let row = row_is h in
       let lt = past_limit_downwards s c amount (checking_within h) ge past in
@@ -105,7 +105,7 @@ module _ {directory : List (List ℕ)} {b : Balances} {name : List ℕ} {place :
 
   -- a check that is paid
   pub performs_check : (amount : ℤ) → int_lt amount (pos 0) ≡ false → IsWithinLimit (c -ℤ check_cost s c amount)
-      → Performs directory (WriteCheck name amount) b (with_checking b place (c -ℤ check_cost s c amount)) (cond (int_lt (s +ℤ c) amount) Penalised Done)
+      → FollowsProcedure directory (WriteCheck name amount) b (with_checking b place (c -ℤ check_cost s c amount)) (cond (int_lt (s +ℤ c) amount) Penalised Done)
   performs_check amount ge fits =
       let row = row_is h in
       let le : int_lt (c -ℤ check_cost s c amount) (neg_ℤ LIMIT) ≡ false = grind (arith, ints, fits.at_least) in

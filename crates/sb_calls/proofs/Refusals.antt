@@ -11,7 +11,7 @@ use Rattle.sb_rows.specs.Rows.{Rows, rows_of, SameCustomers}
 use Rattle.sb_calls.proofs.Ops.{HasMissingName, comes_from}
 use Rattle.sb_calls.proofs.Places.{HasRow-unread, row_is}
 use Rattle.sb_calls.specs.Op.{resolved}
-use Rattle.sb_calls.specs.Performs.{Performs}
+use Rattle.sb_calls.specs.FollowsProcedure.{FollowsProcedure}
 use Rattle.sb_calls.specs.Procedures.{Outcome, procedure}
 use Rattle.sb_calls.specs.declared.call.Call.{Call}
 use Rattle.sb_calls.specs.declared.call.Call.TheVariants.{Balance, DepositChecking, TransactSavings, Amalgamate, WriteCheck}
@@ -20,7 +20,7 @@ use Rattle.sb_calls.specs.declared.reply.Reply.{Reply}
 use Rattle.sb_calls.specs.declared.reply.Reply.TheVariants.{NoCustomer, SameCustomer}
 
 -- a procedure that leaves the rows is performed by leaving the columns
-pub performs_refusal : (directory : List (List ℕ)) (call : Call) (b : Balances) (reply : Reply) → SameCustomers directory b → procedure call (rows_of directory b) ≡ record { rows = rows_of directory b; reply = reply } → Performs directory call b b reply
+pub performs_refusal : (directory : List (List ℕ)) (call : Call) (b : Balances) (reply : Reply) → SameCustomers directory b → procedure call (rows_of directory b) ≡ record { rows = rows_of directory b; reply = reply } → FollowsProcedure directory call b b reply
 performs_refusal directory call b reply same e = record {
   rows = sym (ap (λ (o : Outcome). o.rows) e);
   reply = sym (ap (λ (o : Outcome). o.reply) e);
@@ -45,7 +45,7 @@ missing_refuses directory (Amalgamate from to) b same (inr missing) = no_second 
 missing_refuses directory (WriteCheck name amount) b same missing = rw (get-rows_of_absent directory b name same missing) refl
 
 -- a call that resolves to NoCustomer
-pub performs_no_customer : (directory : List (List ℕ)) (call : Call) (b : Balances) → SameCustomers directory b → ops.NoCustomer ≡ resolved directory call → Performs directory call b b NoCustomer
+pub performs_no_customer : (directory : List (List ℕ)) (call : Call) (b : Balances) → SameCustomers directory b → ops.NoCustomer ≡ resolved directory call → FollowsProcedure directory call b b NoCustomer
 performs_no_customer directory call b same e = performs_refusal directory call b NoCustomer same (missing_refuses directory call b same (comes_from directory call ops.NoCustomer e))
 
 -- an amalgamation of a customer with itself
@@ -60,7 +60,7 @@ one_refuses directory from to place b same found_from found_to =
     rw (row_from, row_to, equal) refl
 
 -- a call that resolves to SameCustomer
-pub performs_same_customer : (directory : List (List ℕ)) (call : Call) (b : Balances) → SameCustomers directory b → ops.SameCustomer ≡ resolved directory call → Performs directory call b b SameCustomer
+pub performs_same_customer : (directory : List (List ℕ)) (call : Call) (b : Balances) → SameCustomers directory b → ops.SameCustomer ≡ resolved directory call → FollowsProcedure directory call b b SameCustomer
 performs_same_customer directory call b same e =
     let made = comes_from directory call ops.SameCustomer e in
     rw (made.3) (performs_refusal directory (Amalgamate made.0 made.1) b SameCustomer same (one_refuses directory made.0 made.1 made.2 b same made.4 made.5))

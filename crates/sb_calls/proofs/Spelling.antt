@@ -18,8 +18,8 @@ use Rattle.sb_rows.specs.Text.{is_space, words}
 use Rattle.sb_calls.specs.Call.{IsCall, call_line, call_of, call_of_words, of_name, of_name_and_amount, of_two_names, with_amount}
 use Rattle.sb_calls.specs.declared.call.Call.{Call}
 use Rattle.sb_calls.specs.declared.call.Call.TheVariants.{Balance, DepositChecking, TransactSavings, Amalgamate, WriteCheck}
-use Rattle.sb_calls.specs.declared.fault.CallFault.{CallFault}
-use Rattle.sb_calls.specs.declared.fault.CallFault.TheVariants.{UnknownVerb, BadName}
+use Rattle.sb_calls.specs.declared.text.fault.CallFault.{CallFault}
+use Rattle.sb_calls.specs.declared.text.fault.CallFault.TheVariants.{UnknownVerb, BadName}
 
 -- ---- what is read is spelled so
 

@@ -93,7 +93,7 @@ has_name-at directory b name place same found =
     ap (λ (o : Option (ℤ × ℤ)). is_some o) (row_is (HasRow-unread directory b name place same found (omega (arith, same.places))))
 
 -- a name without a place isn't
-has_name-absent : (directory : List (List ℕ)) (b : Balances) (name : List ℕ) → SameCustomers directory b → place_of directory name ≡ None → has_name (rows_of directory b) name ≡ false
+pub has_name-absent : (directory : List (List ℕ)) (b : Balances) (name : List ℕ) → SameCustomers directory b → place_of directory name ≡ None → has_name (rows_of directory b) name ≡ false
 has_name-absent directory b name same missing = ap (λ (o : Option (ℤ × ℤ)). is_some o) (get-rows_of_absent directory b name same missing)
 
 -- the cowns of a name at a place

@@ -10,8 +10,8 @@ use Rattle.sb_calls.specs.Call.{IsCall, call_line, call_of_words}
 use Rattle.sb_calls.specs.declared.ask.Asked.{Asked}
 use Rattle.sb_calls.specs.declared.ask.Key.{Key}
 use Rattle.sb_calls.specs.declared.call.Call.{Call}
-use Rattle.sb_calls.specs.declared.fault.CallFault.{CallFault}
-use Rattle.sb_calls.specs.declared.fault.CallFault.TheVariants.{WrongWords, BadNumber}
+use Rattle.sb_calls.specs.declared.text.fault.CallFault.{CallFault}
+use Rattle.sb_calls.specs.declared.text.fault.CallFault.TheVariants.{WrongWords, BadNumber}
 
 -- ---- how it is spelled
 

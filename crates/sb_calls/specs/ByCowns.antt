@@ -9,7 +9,7 @@ use Rattle.sb_calls.specs.Behaviour.{declared_cowns, effect_of}
 use Rattle.sb_calls.specs.Log.{rows_after_calls, reply_to}
 use Rattle.sb_calls.specs.OneByOne.{held_after_first, reply_by_log}
 use Rattle.sb_calls.specs.Op.{resolved}
-use Rattle.sb_calls.specs.Performs.{Performs}
+use Rattle.sb_calls.specs.FollowsProcedure.{FollowsProcedure}
 use Rattle.sb_calls.specs.Touches.{BalancePlace, Savings, Checking, touched}
 use Rattle.sb_calls.specs.declared.call.Call.{Call}
 use Rattle.sb_calls.specs.declared.reply.Reply.{Reply}
@@ -28,7 +28,7 @@ DeclaresTouched directory b call cowns =
 pub record PerformsByCowns (directory : List (List ℕ)) (call : Call) (old : Balances) (cowns : List ℕ) (answer : Reply) (outputs : List ℤ) : Type 0 where
   pub new : Balances
   pub written : held_of new ≡ write_cowns (held_of old) cowns outputs
-  pub performs : Performs directory call old new answer
+  pub performs : FollowsProcedure directory call old new answer
 
 -- a log of calls, looked up and run one by one on what the cowns hold: its replies are those of the calls, and what
 -- is held after its first k calls are balances of these customers, whose rows are those after the first k calls

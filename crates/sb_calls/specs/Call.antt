@@ -9,8 +9,8 @@ use Rattle.sb_rows.specs.Name.{is_name, IsName}
 use Rattle.sb_rows.specs.Text.{words}
 use Rattle.sb_calls.specs.declared.call.Call.{Call}
 use Rattle.sb_calls.specs.declared.call.Call.TheVariants.{Balance, DepositChecking, TransactSavings, Amalgamate, WriteCheck}
-use Rattle.sb_calls.specs.declared.fault.CallFault.{CallFault}
-use Rattle.sb_calls.specs.declared.fault.CallFault.TheVariants.{UnknownVerb, WrongWords, BadName, BadMoney}
+use Rattle.sb_calls.specs.declared.text.fault.CallFault.{CallFault}
+use Rattle.sb_calls.specs.declared.text.fault.CallFault.TheVariants.{UnknownVerb, WrongWords, BadName, BadMoney}
 
 -- ---- how it is spelled
 

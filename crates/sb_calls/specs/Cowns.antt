@@ -1,6 +1,6 @@
 -- Cowns, and what they hold (When Concurrency Matters, OOPSLA 2023).
 -- Cown 2i is the savings and cown 2i + 1 the checking balance of customer i.
-use Rattle.std.specs.Prelude.{◌≡◌, ℕ, ◌<◌, ◌*◌, ◌+◌, ◌%◌, ℤ, pos, ◌≤ℤ◌, List, [], ◌∷◌, map, slice_set, get_or}
+use Rattle.std.specs.Prelude.{◌≡◌, ℕ, ◌<◌, ◌*◌, ◌+◌, ◌%◌, ℤ, pos, ◌≤ℤ◌, List, [], ◌∷◌, length, map, slice_set, get_or}
 use Rattle.sb_amount.specs.Limit.{IsWithinLimit}
 use Rattle.sb_rows.specs.Balances.{Balances}
 
@@ -32,6 +32,10 @@ AreHeld [] [] = Unit {0}
 AreHeld [] (value ∷ values) = ⊥
 AreHeld (cown ∷ cowns) [] = ⊥
 AreHeld (cown ∷ cowns) (value ∷ values) = IsHeld cown value × AreHeld cowns values
+
+-- each cown holds what it may
+abbrev pub AllHeld : List ℤ → Type 0
+AllHeld held = (cown : ℕ) → cown < length held → IsHeld cown (get_or held cown (pos 0))
 
 -- the savings and checking balances of all customers, by cown
 abbrev pub by_cown : List ℤ → List ℤ → List ℤ

@@ -4,12 +4,14 @@ pub mod BehaviourLaws
 pub mod Bounds
 pub mod ByCowns
 pub mod Call
+pub mod Conflicts
 pub mod Cowns
+pub mod Faults
+pub mod FollowsProcedure
 pub mod Log
 pub mod Net
 pub mod OneByOne
 pub mod Op
-pub mod Performs
 pub mod Procedures
 pub mod Reply
 pub mod Touches

@@ -1,11 +1,23 @@
 //! What ties a log's replies to its calls, and its rows to their total.
-ghost use Rattle.std.specs.Prelude.{◌≡◌, ℕ, suc, List, slice_get};
+ghost use Rattle.std.specs.Prelude.{◌≡◌, ℕ, suc, pos, List, slice_get};
 ghost use Rattle.sb_calls.specs.declared.call.Call.{Call};
 ghost use Rattle.sb_calls.specs.Log.{replies_to, reply_to};
 ghost use Rattle.sb_calls.specs.Net.{TotalByNet};
 ghost use Rattle.sb_calls.specs.ByCowns.{LogsByCowns};
+ghost use Rattle.sb_calls.specs.Conflicts.{ConflictsByName};
 ghost use Rattle.sb_calls.specs.Touches.{Locality};
 ghost use Rattle.sb_rows.specs.Rows.{Rows};
+
+use crate::call::LOG_CALLS;
+use crate::cowns::{BEHAVIOUR_COWNS, PENALTY};
+
+/// A log takes a million calls, the penalty of a check is 100 cents, and a behaviour declares at most 3
+/// cowns.
+pub fn limits()
+    ensures calls { LOG_CALLS ≡ 1000000 }
+    ensures penalty { PENALTY ≡ pos 100 }
+    ensures cowns { BEHAVIOUR_COWNS ≡ 3 }
+{}
 
 /// The replies to a log in order are, number by number, the replies to its calls on the rows after
 /// the calls before.
@@ -28,4 +40,9 @@ pub fn calls_are_local()
 /// calls one by one.
 pub fn logs_by_cowns()
     ensures { LogsByCowns }
+{}
+
+/// Two calls declare a cown in common exactly where they touch a balance in common.
+pub fn conflicts_by_name()
+    ensures { ConflictsByName }
 {}

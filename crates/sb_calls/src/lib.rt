@@ -3,32 +3,28 @@
 
 mod applying;
 mod ask;
-mod behaviour;
 mod call;
-mod cown;
-mod effects;
-mod fault;
+mod cowns;
 mod laws;
 mod net_change;
-mod number;
 mod op;
-mod performing;
-mod reading;
 mod reply;
 #[cfg(test)]
 mod tests;
+mod text;
 mod two_places;
 
 pub use applying::apply;
-pub use ask::{Asked, Key, read_ask};
-pub use behaviour::{Behaviour, Performs};
+pub use ask::{Asked, Key};
 pub use call::{Call, LOG_CALLS};
-pub use cown::Cown;
-pub use fault::CallFault;
-pub use laws::{calls_are_local, logs_by_cowns, replies_one_by_one, total_by_net};
+pub use cowns::{
+    BEHAVIOUR_COWNS, Behaviour, Cown, PENALTY, Performs, cowns_of, perform, read_cowns, write_cowns,
+};
+pub use laws::{
+    calls_are_local, conflicts_by_name, limits, logs_by_cowns, replies_one_by_one, total_by_net,
+};
 pub use net_change::net;
 pub use op::{Op, resolve};
-pub use performing::{cowns_of, perform};
-pub use reading::read_call;
-pub use reply::{Reply, print_reply};
+pub use reply::Reply;
+pub use text::{CallFault, print_reply, read_ask, read_call};
 pub use two_places::TwoPlaces;

@@ -2,8 +2,8 @@
 ghost use Rattle.std.specs.Prelude.{◌≡◌};
 ghost use Rattle.sb_calls.specs.Net.{net_of, net_if_done, net_if_paid};
 
-use crate::applying::PENALTY;
 use crate::call::Call;
+use crate::cowns::PENALTY;
 use crate::reply::Reply;
 use sb_amount::Cents;
 

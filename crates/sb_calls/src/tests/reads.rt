@@ -63,7 +63,7 @@ fn numbers_and_words_of_the_faults(rt: HostRuntime) -> Result<(), Fail> {
         (CallFault::BadMoney, 4, "bad money"),
         (CallFault::BadNumber, 5, "bad number"),
     ] {
-        assert_eq!(rt; fault as u8, number);
+        assert_eq!(rt; fault.number(), number);
         assert_eq!(rt; fault.to_string(rt.alloc())?.as_str(), words);
     }
     Ok(())

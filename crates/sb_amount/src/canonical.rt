@@ -1,0 +1,16 @@
+//! Digits without leading zeros.
+ghost use Rattle.std.specs.Prelude.{◌≡◌};
+ghost use Rattle.sb_amount.specs.Reading.{is_canonical};
+
+/// Whether there is one byte, or several of which the first isn't `0`.
+///
+/// It doesn't test that they are digits.
+pub fn is_canonical(digits: &[u8]) -> bool
+    ensures { result ≡ is_canonical digits.now }
+{
+    match digits {
+        [] => false,
+        [_] => true,
+        [first, ..] => *first != b'0',
+    }
+}

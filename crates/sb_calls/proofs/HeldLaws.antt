@@ -1,0 +1,132 @@
+-- Reading and writing what cowns hold.
+use Rattle.std.proofs.Common.{◌≡◌, inl, inr, ℕ, suc, ◌+◌, ◌*◌, ◌/◌, ◌%◌, ◌<◌, ◌≤ℤ◌, ℤ, pos, true, false, List, [], ◌∷◌, length, get_or, refl, sym, ap, subst, ◌∙◌, arith}
+use Rattle.std.specs.Prelude.{◌==◌, slice_set}
+use Rattle.std.proofs.lemmas.Bool.{cases_Bool, or_cases, or_parts, or_left, or_right, eqb-true, eq-eqb, both_ways, true≢false, cases_eq}
+use Rattle.std.proofs.lemmas.List.{get_or-set_same, get_or-set_other, length-set}
+use Rattle.std.proofs.lemmas.List.Elements.{All-get_or}
+use Rattle.sb_amount.specs.Limit.{IsWithinLimit}
+use Rattle.sb_rows.specs.Balances.{Balances, IsBalances, IsSavings}
+use Rattle.sb_calls.proofs.Holding.{held_savings, held_checking, length-held_of}
+use Rattle.sb_calls.specs.Cowns.{AllHeld, AreBelow, held_of, AreHeld, IsHeld, read_cowns, write_cowns}
+use Rattle.sb_calls.specs.OneByOne.{is_among, share_cown}
+
+pub eqb-refl : (n : ℕ) → (n == n) ≡ true
+eqb-refl n = eq-eqb n n refl
+
+-- two lists that have a cown share it, and what is shared is in both
+pub share_from : (cown : ℕ) (xs ys : List ℕ) → is_among cown xs ≡ true → is_among cown ys ≡ true → share_cown xs ys ≡ true
+share_from cown [] ys in_a in_b = absurd (true≢false (sym in_a))
+share_from cown (x ∷ xs) ys in_a in_b = elim (or_cases (cown == x) (is_among cown xs) in_a) [
+  | inl same ↦ or_left (is_among x ys) (share_cown xs ys) (ap (λ c. is_among c ys) (sym (eqb-true cown x same)) ∙ in_b)
+  | inr later ↦ or_right (is_among x ys) (share_cown xs ys) (share_from cown xs ys later in_b)
+]
+
+pub shared_cown : (xs ys : List ℕ) → share_cown xs ys ≡ true → (cown : ℕ) × (is_among cown xs ≡ true) × (is_among cown ys ≡ true)
+shared_cown [] ys h = absurd (true≢false (sym h))
+shared_cown (x ∷ xs) ys h = elim (or_cases (is_among x ys) (share_cown xs ys) h) [
+  | inl here ↦ (x, or_left (x == x) (is_among x xs) (eqb-refl x), here)
+  | inr later ↦
+      let found = shared_cown xs ys later in
+      (found.0, or_right (found.0 == x) (is_among found.0 xs) found.1, found.2)
+]
+
+pub length-write : (held : List ℤ) (cowns : List ℕ) (values : List ℤ) → length (write_cowns held cowns values) ≡ length held
+length-write held [] values = refl
+length-write held (c ∷ cowns) [] = refl
+length-write held (c ∷ cowns) (v ∷ values) = length-write (slice_set held c v) cowns values ∙ length-set held c v
+
+-- a cown that isn't written holds what it held
+pub get-write_other : (held : List ℤ) (cowns : List ℕ) (values : List ℤ) (cown : ℕ) → is_among cown cowns ≡ false
+    → get_or (write_cowns held cowns values) cown (pos 0) ≡ get_or held cown (pos 0)
+get-write_other held [] values cown out = refl
+get-write_other held (c ∷ cowns) [] cown out = refl
+get-write_other held (c ∷ cowns) (v ∷ values) cown out =
+    let parts = or_parts (cown == c) (is_among cown cowns) out in
+    get-write_other (slice_set held c v) cowns values cown parts.1
+    ∙ get_or-set_other held c cown v (pos 0) (λ same. both_ways (cown == c) parts.0 (eq-eqb cown c same))
+
+-- one that is written holds the same, whatever was held before
+pub get-write_same : (a b : List ℤ) (cowns : List ℕ) (values : List ℤ) (cown : ℕ) → is_among cown cowns ≡ true → length values ≡ length cowns
+    → cown < length a → cown < length b
+    → get_or (write_cowns a cowns values) cown (pos 0) ≡ get_or (write_cowns b cowns values) cown (pos 0)
+get-write_same a b [] values cown among long lt_a lt_b = absurd (true≢false (sym among))
+get-write_same a b (c ∷ cowns) [] cown among long lt_a lt_b = absurd (omega (arith, long))
+get-write_same a b (c ∷ cowns) (v ∷ values) cown among long lt_a lt_b =
+    let in_a : cown < length (slice_set a c v) = omega (arith, lt_a, length-set a c v) in
+    let in_b : cown < length (slice_set b c v) = omega (arith, lt_b, length-set b c v) in
+    elim (cases_Bool (is_among cown cowns)) [
+      | inl later ↦ get-write_same (slice_set a c v) (slice_set b c v) cowns values cown later (omega (arith, long)) in_a in_b
+      | inr not_later ↦ elim (or_cases (cown == c) (is_among cown cowns) among) [
+        | inl same ↦
+            let here : cown ≡ c = eqb-true cown c same in
+            get-write_other (slice_set a c v) cowns values cown not_later
+            ∙ ap (λ k. get_or (slice_set a c v) k (pos 0)) here ∙ get_or-set_same a c v (pos 0) (omega (arith, here, lt_a))
+            ∙ sym (get-write_other (slice_set b c v) cowns values cown not_later
+            ∙ ap (λ k. get_or (slice_set b c v) k (pos 0)) here ∙ get_or-set_same b c v (pos 0) (omega (arith, here, lt_b)))
+        | inr later ↦ absurd (both_ways (is_among cown cowns) not_later later)
+      ]
+    ]
+
+-- what is read of these cowns depends on them alone
+pub read-agree : (a b : List ℤ) (cowns : List ℕ) → ((cown : ℕ) → is_among cown cowns ≡ true → get_or a cown (pos 0) ≡ get_or b cown (pos 0))
+    → read_cowns a cowns ≡ read_cowns b cowns
+read-agree a b [] h = refl
+read-agree a b (c ∷ cowns) h =
+    ap (λ v. v ∷ read_cowns a cowns) (h c (or_left (c == c) (is_among c cowns) (eqb-refl c)))
+    ∙ ap (λ vs. get_or b c (pos 0) ∷ vs) (read-agree a b cowns (λ cown among. h cown (or_right (cown == c) (is_among cown cowns) among)))
+
+-- where all cowns hold what they may, so do these
+pub AreHeld-read : (held : List ℤ) (cowns : List ℕ) → AllHeld held → ((cown : ℕ) → is_among cown cowns ≡ true → cown < length held) → AreHeld cowns (read_cowns held cowns)
+AreHeld-read held [] all in_range = tt
+AreHeld-read held (c ∷ cowns) all in_range = (
+  all c (in_range c (or_left (c == c) (is_among c cowns) (eqb-refl c))),
+  AreHeld-read held cowns all (λ cown among. in_range cown (or_right (cown == c) (is_among cown cowns) among)),
+)
+
+AllHeld-set : (held : List ℤ) (c : ℕ) (v : ℤ) → AllHeld held → IsHeld c v → AllHeld (slice_set held c v)
+AllHeld-set held c v all here cown lt =
+    let lt_held : cown < length held = omega (arith, lt, length-set held c v) in
+    elim (cases_eq cown c) [
+      | inl same ↦ subst (λ k. IsHeld k (get_or (slice_set held c v) k (pos 0))) (sym same)
+          (subst (IsHeld c) (sym (get_or-set_same held c v (pos 0) (omega (arith, same, lt_held)))) here)
+      | inr differs ↦ subst (IsHeld cown) (sym (get_or-set_other held c cown v (pos 0) differs)) (all cown lt_held)
+    ]
+
+pub AllHeld-write : (held : List ℤ) (cowns : List ℕ) (values : List ℤ) → AllHeld held → AreHeld cowns values → AllHeld (write_cowns held cowns values)
+AllHeld-write held [] values all fits = all
+AllHeld-write held (c ∷ cowns) [] all fits = all
+AllHeld-write held (c ∷ cowns) (v ∷ values) all fits = AllHeld-write (slice_set held c v) cowns values (AllHeld-set held c v all fits.0) fits.1
+
+-- as many values as cowns
+pub length-AreHeld : (cowns : List ℕ) (values : List ℤ) → AreHeld cowns values → length values ≡ length cowns
+length-AreHeld [] [] fits = refl
+length-AreHeld [] (v ∷ values) fits = absurd fits
+length-AreHeld (c ∷ cowns) [] fits = absurd fits
+length-AreHeld (c ∷ cowns) (v ∷ values) fits = ap suc (length-AreHeld cowns values fits.1)
+
+-- one of several cowns below a bound is below it
+pub below_among : (bound : ℕ) (cowns : List ℕ) (cown : ℕ) → AreBelow bound cowns → is_among cown cowns ≡ true → cown < bound
+below_among bound [] cown below among = absurd (true≢false (sym among))
+below_among bound (c ∷ cowns) cown below among = elim (or_cases (cown == c) (is_among cown cowns) among) [
+  | inl same ↦ omega (arith, eqb-true cown c same, below.0)
+  | inr later ↦ below_among bound cowns cown below.1 later
+]
+
+-- the columns of a bank hold what cowns may
+pub AllHeld-balances : (b : Balances) → IsBalances b → AllHeld (held_of b)
+AllHeld-balances b valid cown lt =
+    let two = length-held_of b valid.same in
+    elim (cases_eq (cown % 2) 0) [
+      | inl even ↦
+          let at : cown ≡ 2 * (cown / 2) = omega (arith, even) in
+          let saved : IsSavings (get_or b.savings (cown / 2) (pos 0)) = All-get_or IsSavings b.savings (cown / 2) (pos 0) (omega (arith, lt, two)) valid.savings in
+          let here : get_or b.savings (cown / 2) (pos 0) ≡ get_or (held_of b) cown (pos 0) =
+          sym (held_savings b (cown / 2) valid.same) ∙ ap (λ c. get_or (held_of b) c (pos 0)) (sym at) in
+          record { within = subst IsWithinLimit here saved.within; not_negative = λ _. subst (λ v. pos 0 ≤ℤ v) here saved.not_negative }
+      | inr odd ↦
+          let at : cown ≡ 2 * (cown / 2) + 1 = omega (arith, odd) in
+          let within : IsWithinLimit (get_or b.checking (cown / 2) (pos 0)) = All-get_or IsWithinLimit b.checking (cown / 2) (pos 0) (omega (arith, lt, two, valid.same)) valid.checking in
+          let here : get_or b.checking (cown / 2) (pos 0) ≡ get_or (held_of b) cown (pos 0) =
+          sym (held_checking b (cown / 2) valid.same) ∙ ap (λ c. get_or (held_of b) c (pos 0)) (sym at) in
+          record { within = subst IsWithinLimit here within; not_negative = λ even. absurd (odd even) }
+    ]

@@ -1,0 +1,43 @@
+use Rattle.std.proofs.Common.{◌≡◌, ℤ, List, length, sym, subst}
+use Rattle.sb_calls.proofs.AppliedOps.{declared_below, declared_held, applied_follows, applied_places}
+use Rattle.sb_calls.specs.Behaviour.{declared_cowns, effect_of}
+use Rattle.sb_calls.specs.BehaviourLaws.{effect_keeps}
+use Rattle.sb_calls.specs.Cowns.{AreBelow, AreHeld, held_of, read_cowns, write_cowns}
+use Rattle.sb_calls.specs.FollowsProcedure.{FollowsProcedure}
+use Rattle.sb_calls.proofs.applying.apply.Goals as goal
+
+pub read_cowns-inputs-requires-clause-cowns : goal.read_cowns-inputs-requires-clause-cowns
+read_cowns-inputs-requires-clause-cowns c =
+    let cowns : c.deref.result.now ≡ declared_cowns c.args.op = cc in
+    rw cowns (declared_below c.args.columns.now c.args.op c.customers.ensures.valid.same c.requires)
+
+pub perform-reply-requires : goal.perform-reply-requires
+perform-reply-requires c =
+    let inputs : c.deref-2.result.now ≡ read_cowns (held_of c.args.columns.now) (declared_cowns c.args.op) = cc in
+    rw inputs (declared_held c.args.columns.now c.args.op c.customers.ensures.valid c.requires)
+
+pub write_cowns-requires-clause-cowns : goal.write_cowns-requires-clause-cowns
+write_cowns-requires-clause-cowns c =
+    let cowns : c.deref-3.result.now ≡ declared_cowns c.args.op = cc in
+    rw cowns (declared_below c.args.columns.now c.args.op c.customers.ensures.valid.same c.requires)
+
+pub write_cowns-requires-clause-values : goal.write_cowns-requires-clause-values
+write_cowns-requires-clause-values c =
+    let inputs = read_cowns (held_of c.args.columns.now) (declared_cowns c.args.op) in
+    let cowns : c.deref-3.result.now ≡ declared_cowns c.args.op = cc in
+    let outputs : c.deref-4.result.now ≡ (effect_of c.args.op inputs).1 = cc in
+    rw (cowns, outputs) (effect_keeps c.args.op inputs (declared_held c.args.columns.now c.args.op c.customers.ensures.valid c.requires))
+
+-- what is held after it
+written : (c : goal.Else-prove-2) → let inputs = read_cowns (held_of c.args.columns.now) (declared_cowns c.args.op) in
+    held_of c.write_cowns.new.columns ≡ write_cowns (held_of c.args.columns.now) (declared_cowns c.args.op) (effect_of c.args.op inputs).1
+written c = cc
+
+pub returns-clause-procedure : goal.returns-clause-procedure
+returns-clause-procedure c directory call same e =
+    let reply : c.perform-reply.result.0 ≡ (effect_of c.args.op (read_cowns (held_of c.args.columns.now) (declared_cowns c.args.op))).0 = cc in
+    rw reply (applied_follows c.args.columns.now c.write_cowns.new.columns c.args.op (written c) directory call same e c.customers-2.ensures.valid.same)
+
+pub returns-clause-places : goal.returns-clause-places
+returns-clause-places c =
+    applied_places c.args.columns.now c.write_cowns.new.columns c.args.op (written c) c.customers.ensures.valid.same c.customers-2.ensures.valid.same

@@ -1,0 +1,50 @@
+//! What runs over declared cowns.
+ghost use Rattle.std.specs.Prelude.{◌≡◌, ◌≤◌, ◌↔◌, ℕ, ℤ, true, List, length};
+ghost use Rattle.sb_calls.specs.Cowns.{IsRising, AreHeld};
+ghost use Rattle.sb_calls.specs.declared.reply.Reply.{Reply as AnyReply};
+
+use super::cown::Cown;
+use crate::reply::Reply;
+use arrayvec::ArrayVec;
+
+/// How many cowns a behaviour declares at most: both of one customer's, and one of another's.
+pub const BEHAVIOUR_COWNS: usize = 3;
+
+/// What is spawned over a set of cowns and has these alone while it runs (When Concurrency Matters,
+/// OOPSLA 2023).
+///
+/// Whoever holds one can tell which cowns it needs, and not what it does to them: that stands in the
+/// contracts alone.
+pub trait Behaviour: Copy + Eq {
+    /// The numbers of the cowns that it declares.
+    ghost touches: { Self → List ℕ };
+
+    /// The reply, and what its cowns hold after it, by what they held before.
+    ghost effect: { Self → List ℤ → AnyReply × List ℤ };
+
+    /// The cowns that it declares, in rising order.
+    fn cowns(self) -> ArrayVec<Cown, BEHAVIOUR_COWNS>
+        ensures { result.items ≡ touches self };
+
+    /// The declared cowns rise, so each stands once.
+    ghost rising: { (behaviour : Self) → IsRising (touches behaviour) };
+
+    ghost few: { (behaviour : Self) → length (touches behaviour) ≤ 3 };
+
+    /// What it leaves in its cowns they may hold.
+    ghost keeps: { (behaviour : Self) (inputs : List ℤ) → AreHeld (touches behaviour) inputs
+        → AreHeld (touches behaviour) (effect behaviour inputs).1 };
+
+    /// Behaviours that compare alike are one.
+    ghost exact: { (a b : Self) → (Self.eq a b ≡ true) ↔ (a ≡ b) };
+}
+
+/// A behaviour that can be carried out.
+pub trait Performs: Behaviour {
+    /// The reply, and what its cowns hold after it, both in the order of the cowns. It changes nothing
+    /// itself.
+    fn perform(self, inputs: &[i64]) -> (Reply, ArrayVec<i64, BEHAVIOUR_COWNS>)
+        requires { AreHeld (Self.touches self) inputs.now }
+        ensures reply { result.0 ≡ (Self.effect self inputs.now).0 }
+        ensures outputs { result.1.items ≡ (Self.effect self inputs.now).1 };
+}

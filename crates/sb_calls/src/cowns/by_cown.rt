@@ -1,0 +1,68 @@
+//! Reading and writing balances by cown.
+ghost use Rattle.std.specs.Prelude.{◌≡◌, ◌<◌, ◌≤◌, length, pos, get_or, slice_set};
+ghost use Rattle.sb_calls.specs.Cowns.{AreBelow, AreHeld, IsHeld, held_of, read_cowns, write_cowns};
+
+use super::behaviour::BEHAVIOUR_COWNS;
+use super::cown::Cown;
+use super::effects::held;
+use arrayvec::ArrayVec;
+use sb_amount::Cents;
+use sb_rows::{CUSTOMERS, Columns};
+
+/// What these cowns hold, in their order.
+pub fn read_cowns(columns: &Columns, cowns: &[Cown]) -> ArrayVec<i64, BEHAVIOUR_COWNS>
+    requires few { length cowns.now ≤ 3 }
+    requires cowns { AreBelow (length (held_of columns.now)) cowns.now }
+    ensures { result.items ≡ read_cowns (held_of columns.now) cowns.now }
+{
+    let mut values = ArrayVec::new();
+    for cown in cowns {
+        values.push(read_cown(columns, *cown).value());
+    }
+    values
+}
+
+/// Replaces what these cowns hold, each by the value beside it.
+pub fn write_cowns(columns: &mut Columns, cowns: &[Cown], values: &[i64])
+    requires cowns { AreBelow (length (held_of columns.old)) cowns.now }
+    requires values { AreHeld cowns.now values.now }
+    ensures { held_of columns.new ≡ write_cowns (held_of columns.old) cowns.now values.now }
+{
+    for place in 0..cowns.len() {
+        write_cown(columns, cowns[place], held(values[place]));
+    }
+}
+
+// What a cown holds.
+#[tactic(auto, using(crate::proofs::ReadingCowns::place_in_range, crate::proofs::ReadingCowns::place_fits, crate::proofs::ReadingCowns::read_savings, crate::proofs::ReadingCowns::read_checking))]
+fn read_cown(columns: &Columns, cown: Cown) -> Cents
+    requires { cown < length (held_of columns.now) }
+    ensures { result ≡ get_or (held_of columns.now) cown (pos 0) }
+{
+    // They are the columns of a bank.
+    prove!(columns.customers() <= CUSTOMERS);
+    let number = cown.number();
+    let place = (number / 2) as u32;
+    if number % 2 == 0 {
+        columns.savings_of(place)
+    } else {
+        columns.checking_of(place)
+    }
+}
+
+// Replaces what a cown holds.
+#[tactic(auto, using(crate::proofs::ReadingCowns::place_in_range, crate::proofs::ReadingCowns::place_fits, crate::proofs::ReadingCowns::write_savings, crate::proofs::ReadingCowns::write_checking))]
+fn write_cown(columns: &mut Columns, cown: Cown, value: Cents)
+    requires cown { cown < length (held_of columns.old) }
+    requires value { IsHeld cown value }
+    ensures { held_of columns.new ≡ slice_set (held_of columns.old) cown value }
+{
+    prove!(columns.customers() <= CUSTOMERS);
+    let number = cown.number();
+    let place = (number / 2) as u32;
+    if number % 2 == 0 {
+        columns.set_savings(place, value);
+    } else {
+        columns.set_checking(place, value);
+    }
+}

@@ -1,0 +1,164 @@
+//! What each procedure does to the values of its cowns.
+ghost use Rattle.std.specs.Prelude.{◌≡◌, ℤ, pos, SomeIff, ◌+ℤ◌, ◌≤ℤ◌, int_lt, if◌then◌else◌, [], ◌∷◌};
+ghost use Rattle.sb_amount.specs.Limit.{IsWithinLimit};
+ghost use Rattle.sb_calls.specs.Behaviour.{deposit_effect, savings_effect, check_effect, giver_first_effect, taker_first_effect};
+ghost use Rattle.sb_calls.specs.Procedures.{check_cost};
+ghost use Rattle.sb_calls.specs.declared.reply.Reply.TheVariants as replies;
+
+use super::behaviour::BEHAVIOUR_COWNS;
+use crate::reply::Reply;
+use arrayvec::ArrayVec;
+use sb_amount::Cents;
+
+/// What a check costs more where savings and checking together are below its amount, in cents.
+pub const PENALTY: i64 = 100;
+
+// What a call replies, and what its cowns hold after it.
+pub(crate) type Effect = (Reply, ArrayVec<i64, BEHAVIOUR_COWNS>);
+
+// What a cown holds.
+pub(crate) fn held(value: i64) -> Cents
+    requires { IsWithinLimit value }
+    ensures { result ≡ value }
+{
+    Cents::new(value).unwrap()
+}
+
+// A reply, and one value that is left.
+fn leaving_one(reply: Reply, value: Cents) -> Effect
+    ensures reply { result.0 ≡ reply }
+    ensures outputs { result.1.items ≡ value ∷ [] }
+{
+    let mut values = ArrayVec::new();
+    values.push(value.value());
+    (reply, values)
+}
+
+// A reply, and two values that are left.
+fn leaving_two(reply: Reply, first: Cents, second: Cents) -> Effect
+    ensures reply { result.0 ≡ reply }
+    ensures outputs { result.1.items ≡ first ∷ second ∷ [] }
+{
+    let mut values = ArrayVec::new();
+    values.push(first.value());
+    values.push(second.value());
+    (reply, values)
+}
+
+// A reply, and three values that are left.
+fn leaving_three(reply: Reply, first: Cents, second: Cents, third: Cents) -> Effect
+    ensures reply { result.0 ≡ reply }
+    ensures outputs { result.1.items ≡ first ∷ second ∷ third ∷ [] }
+{
+    let mut values = ArrayVec::new();
+    values.push(first.value());
+    values.push(second.value());
+    values.push(third.value());
+    (reply, values)
+}
+
+// Shows savings and checking added up.
+pub(crate) fn show(savings: Cents, checking: Cents) -> Effect
+    ensures reply { result.0 ≡ replies.Shown (savings +ℤ checking) }
+    ensures outputs { result.1.items ≡ savings ∷ checking ∷ [] }
+{
+    leaving_two(
+        Reply::Shown(savings.value() + checking.value()),
+        savings,
+        checking,
+    )
+}
+
+// Adds an amount to checking.
+pub(crate) fn deposit(amount: Cents, checking: Cents) -> Effect
+    ensures reply { result.0 ≡ (deposit_effect amount checking).0 }
+    ensures outputs { result.1.items ≡ (deposit_effect amount checking).1 }
+{
+    if amount.value() < 0 {
+        return leaving_one(Reply::Negative, checking);
+    }
+    match checking.plus(amount) {
+        Some(sum) => leaving_one(Reply::Done, sum),
+        None => leaving_one(Reply::OverLimit, checking),
+    }
+}
+
+// Adds an amount, which may be negative, to savings.
+pub(crate) fn change_savings(amount: Cents, savings: Cents) -> Effect
+    requires { pos 0 ≤ℤ savings }
+    ensures reply { result.0 ≡ (savings_effect amount savings).0 }
+    ensures outputs { result.1.items ≡ (savings_effect amount savings).1 }
+{
+    let sum = savings.value() + amount.value();
+    if sum < 0 {
+        return leaving_one(Reply::WouldOverdraw, savings);
+    }
+    match Cents::new(sum) {
+        Some(sum) => leaving_one(Reply::Done, sum),
+        None => leaving_one(Reply::OverLimit, savings),
+    }
+}
+
+// Takes what a check costs from checking.
+pub(crate) fn pay_check(amount: Cents, savings: Cents, checking: Cents) -> Effect
+    ensures reply { result.0 ≡ (check_effect amount savings checking).0 }
+    ensures outputs { result.1.items ≡ (check_effect amount savings checking).1 }
+{
+    if amount.value() < 0 {
+        return leaving_two(Reply::Negative, savings, checking);
+    }
+    let (cost, reply) = cost_of_check(savings, checking, amount);
+    match Cents::new(checking.value() - cost) {
+        Some(left) => leaving_two(reply, savings, left),
+        None => leaving_two(Reply::OverLimit, savings, checking),
+    }
+}
+
+// What a check takes from checking, and what is replied where it is paid.
+fn cost_of_check(savings: Cents, checking: Cents, amount: Cents) -> (i64, Reply)
+    ensures cost { result.0 ≡ check_cost savings checking amount }
+    ensures reply { result.1 ≡ if int_lt (savings +ℤ checking) amount then replies.Penalised else replies.Done }
+{
+    let available = savings.value() + checking.value();
+    if available < amount.value() {
+        (amount.value() + PENALTY, Reply::Penalised)
+    } else {
+        (amount.value(), Reply::Done)
+    }
+}
+
+// All that two customers put together, or `None` where that is past the limit.
+fn all_of(received: Cents, savings: Cents, checking: Cents) -> Option<Cents>
+    ensures { SomeIff result (IsWithinLimit ((received +ℤ savings) +ℤ checking)) ((received +ℤ savings) +ℤ checking) }
+{
+    Cents::new(received.value() + savings.value() + checking.value())
+}
+
+// What is left where all was given away.
+fn nothing() -> Cents
+    ensures { result ≡ pos 0 }
+{
+    Cents::new(0).unwrap()
+}
+
+// Moves all of one customer to another, where the one that gives stands first.
+pub(crate) fn amalgamate_giver_first(savings: Cents, checking: Cents, received: Cents) -> Effect
+    ensures reply { result.0 ≡ (giver_first_effect savings checking received).0 }
+    ensures outputs { result.1.items ≡ (giver_first_effect savings checking received).1 }
+{
+    match all_of(received, savings, checking) {
+        Some(sum) => leaving_three(Reply::Done, nothing(), nothing(), sum),
+        None => leaving_three(Reply::OverLimit, savings, checking, received),
+    }
+}
+
+// Moves all of one customer to another, where the one that takes stands first.
+pub(crate) fn amalgamate_taker_first(received: Cents, savings: Cents, checking: Cents) -> Effect
+    ensures reply { result.0 ≡ (taker_first_effect received savings checking).0 }
+    ensures outputs { result.1.items ≡ (taker_first_effect received savings checking).1 }
+{
+    match all_of(received, savings, checking) {
+        Some(sum) => leaving_three(Reply::Done, sum, nothing(), nothing()),
+        None => leaving_three(Reply::OverLimit, received, savings, checking),
+    }
+}

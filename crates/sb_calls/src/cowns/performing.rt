@@ -1,0 +1,143 @@
+//! An op as a behaviour: the cowns that it declares, and what it does to them.
+ghost use Rattle.std.specs.Prelude.{◌≡◌, ℕ, List};
+ghost use Rattle.sb_rows.specs.Balances.{Balances};
+ghost use Rattle.sb_rows.specs.Rows.{SameCustomers};
+ghost use Rattle.sb_calls.specs.declared.call.Call.{Call};
+ghost use Rattle.sb_calls.specs.Behaviour.{declared_cowns, effect_of, cowns_of_two, effect_of_two};
+ghost use Rattle.sb_calls.specs.ByCowns.{DeclaresTouched, PerformsByCowns};
+ghost use Rattle.sb_calls.specs.Cowns.{AreHeld, held_of, read_cowns};
+ghost use Rattle.sb_calls.specs.Op.{resolved};
+
+use super::behaviour::{BEHAVIOUR_COWNS, Behaviour, Performs};
+use super::cown::Cown;
+use super::effects::{
+    Effect, amalgamate_giver_first, amalgamate_taker_first, change_savings, deposit, held,
+    pay_check, show,
+};
+use crate::op::Op;
+use crate::reply::Reply;
+use crate::two_places::TwoPlaces;
+use arrayvec::ArrayVec;
+
+/// The cowns of the balances that a call touches, in rising order: none where a name isn't in the bank,
+/// or two names are one.
+pub fn cowns_of(op: Op) -> ArrayVec<Cown, BEHAVIOUR_COWNS>
+    ensures value { result.items ≡ declared_cowns op }
+    ensures touched { (directory : List (List ℕ)) (b : Balances) (call : Call) → SameCustomers directory b → op ≡ resolved directory call
+        → DeclaresTouched directory b call result.items }
+{
+    declared_by(op)
+}
+
+// The cowns of the balances at the places of an op.
+fn declared_by(op: Op) -> ArrayVec<Cown, BEHAVIOUR_COWNS>
+    ensures { result.items ≡ declared_cowns op }
+{
+    let mut cowns = ArrayVec::new();
+    match op {
+        Op::Balance(place) | Op::WriteCheck(place, _) => {
+            cowns.push(Cown::savings(place));
+            cowns.push(Cown::checking(place));
+        }
+        Op::DepositChecking(place, _) => cowns.push(Cown::checking(place)),
+        Op::TransactSavings(place, _) => cowns.push(Cown::savings(place)),
+        Op::Amalgamate(places) => return cowns_of_places(places),
+        Op::NoCustomer | Op::SameCustomer => {}
+    }
+    cowns
+}
+
+// All of the customer that gives, and the checking balance of the one that takes.
+fn cowns_of_places(places: TwoPlaces) -> ArrayVec<Cown, BEHAVIOUR_COWNS>
+    ensures { result.items ≡ cowns_of_two places.0 places.1 }
+{
+    let from = places.from();
+    let to = places.to();
+    let mut cowns = ArrayVec::new();
+    if from < to {
+        cowns.push(Cown::savings(from));
+        cowns.push(Cown::checking(from));
+        cowns.push(Cown::checking(to));
+    } else {
+        cowns.push(Cown::checking(to));
+        cowns.push(Cown::savings(from));
+        cowns.push(Cown::checking(from));
+    }
+    cowns
+}
+
+/// What a call replies, and what its cowns hold after it, where they hold these inputs: both in the
+/// order of [`cowns_of`].
+///
+/// A refusal leaves what they held.
+pub fn perform(op: Op, inputs: &[i64]) -> (Reply, ArrayVec<i64, BEHAVIOUR_COWNS>)
+    requires { AreHeld (declared_cowns op) inputs.now }
+    ensures reply { result.0 ≡ (effect_of op inputs.now).0 }
+    ensures outputs { result.1.items ≡ (effect_of op inputs.now).1 }
+    // On all rows whose declared cowns hold these inputs it is the procedure.
+    ensures procedure { (directory : List (List ℕ)) (b : Balances) (call : Call) → SameCustomers directory b → op ≡ resolved directory call
+        → read_cowns (held_of b) (declared_cowns op) ≡ inputs.now
+        → PerformsByCowns directory call b (declared_cowns op) result.0 result.1.items }
+{
+    effect_on(op, inputs)
+}
+
+// The effect of an op on the values of its cowns.
+fn effect_on(op: Op, inputs: &[i64]) -> Effect
+    requires { AreHeld (declared_cowns op) inputs.now }
+    ensures reply { result.0 ≡ (effect_of op inputs.now).0 }
+    ensures outputs { result.1.items ≡ (effect_of op inputs.now).1 }
+{
+    match op {
+        Op::Balance(_) => show(held(inputs[0]), held(inputs[1])),
+        Op::DepositChecking(_, amount) => deposit(amount, held(inputs[0])),
+        Op::TransactSavings(_, amount) => change_savings(amount, held(inputs[0])),
+        Op::Amalgamate(places) => amalgamate(places, inputs),
+        Op::WriteCheck(_, amount) => pay_check(amount, held(inputs[0]), held(inputs[1])),
+        Op::NoCustomer => (Reply::NoCustomer, ArrayVec::new()),
+        Op::SameCustomer => (Reply::SameCustomer, ArrayVec::new()),
+    }
+}
+
+// Moves all of one customer to another, by the order of their cowns.
+fn amalgamate(places: TwoPlaces, inputs: &[i64]) -> Effect
+    requires { AreHeld (cowns_of_two places.0 places.1) inputs.now }
+    ensures reply { result.0 ≡ (effect_of_two places.0 places.1 inputs.now).0 }
+    ensures outputs { result.1.items ≡ (effect_of_two places.0 places.1 inputs.now).1 }
+{
+    let first = held(inputs[0]);
+    let second = held(inputs[1]);
+    let third = held(inputs[2]);
+    if places.from() < places.to() {
+        amalgamate_giver_first(first, second, third)
+    } else {
+        amalgamate_taker_first(first, second, third)
+    }
+}
+
+impl Behaviour for Op {
+    ghost use Rattle.sb_calls.specs.Behaviour.{declared_cowns, effect_of};
+    ghost use Rattle.sb_calls.specs.BehaviourLaws.{declared_rise, few_declared, effect_keeps, same_op};
+
+    ghost touches = { declared_cowns };
+
+    ghost effect = { effect_of };
+
+    ghost rising = { declared_rise };
+
+    ghost few = { few_declared };
+
+    ghost keeps = { effect_keeps };
+
+    ghost exact = { same_op };
+
+    fn cowns(self) -> ArrayVec<Cown, BEHAVIOUR_COWNS> {
+        cowns_of(self)
+    }
+}
+
+impl Performs for Op {
+    fn perform(self, inputs: &[i64]) -> Effect {
+        crate::cowns::perform(self, inputs)
+    }
+}

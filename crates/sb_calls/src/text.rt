@@ -1,0 +1,12 @@
+//! The text of calls and of replies.
+
+mod asking;
+mod fault;
+mod number;
+mod printing;
+mod reading;
+
+pub use asking::read_ask;
+pub use fault::CallFault;
+pub use printing::print_reply;
+pub use reading::read_call;

@@ -1,0 +1,40 @@
+//! Why a line is no call.
+ghost use Rattle.std.specs.Prelude.{◌≡◌};
+ghost use Rattle.sb_calls.specs.Faults.{call_fault_number};
+
+use thiserror::Error;
+
+/// What is wrong with a line that is no call: the first fault in this order.
+#[derive(Clone, Copy, Debug, PartialEq, Eq, Error)]
+pub enum CallFault {
+    /// The first word is no procedure's.
+    #[error("unknown verb")]
+    UnknownVerb,
+    /// The procedure takes another number of words.
+    #[error("wrong words")]
+    WrongWords,
+    /// A word in a name's place is no name.
+    #[error("bad name")]
+    BadName,
+    /// A word in an amount's place is no money text.
+    #[error("bad money")]
+    BadMoney,
+    /// A word in a client's or a request's place is no such number.
+    #[error("bad number")]
+    BadNumber,
+}
+
+impl CallFault {
+    /// The number of the fault, from 1 to 5 in the order of the variants.
+    pub fn number(&self) -> u8
+        ensures { result ≡ call_fault_number self.now }
+    {
+        match self {
+            CallFault::UnknownVerb => 1,
+            CallFault::WrongWords => 2,
+            CallFault::BadName => 3,
+            CallFault::BadMoney => 4,
+            CallFault::BadNumber => 5,
+        }
+    }
+}
