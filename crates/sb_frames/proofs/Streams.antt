@@ -6,7 +6,7 @@ use Rattle.std.proofs.lemmas.List.Concat.{flat_map-append}
 use Rattle.std.proofs.lemmas.List.Elements.{All-nil, All-append, All-drop}
 use Rattle.sb_frames.specs.Decoding.{decoded}
 use Rattle.sb_frames.specs.Grammar.{IsFrame, spelling}
-use Rattle.sb_frames.specs.Streaming.{StreamState, opened, StreamCall, Fed, Next, AreBytes, Feeds, next_by, next_of, Step, Runs, bytes_taken, all_taken, frames_given, all_given, FramesOfBytes}
+use Rattle.sb_frames.specs.Streaming.{StreamState, opened, StreamCall, Fed, Next, AreBytes, Feeds, next_by, next_of, Step, StepsTo, bytes_taken, all_taken, frames_given, all_given, FramesOfBytes}
 use Rattle.sb_frames.specs.declared.fault.FrameFault.{FrameFault}
 use Rattle.sb_frames.specs.declared.fault.FrameFault.TheVariants.{Short, BadLength, UnknownTag, BadName, BadAmount, BadReply, BadStatus}
 use Rattle.sb_frames.specs.declared.fault.StreamFault.{StreamFault}
@@ -83,14 +83,14 @@ then_keeps a b c s t f g p q =
       are = q.are;
     }
 
-runs_keep : (calls : List StreamCall) (old new : StreamState) → AreBytes old.unread → Runs old calls new → Keeps old.unread (all_taken calls) (all_given calls) new.unread
-runs_keep [] old new are h = nothing old.unread new.unread are (ap (λ (s : StreamState). s.unread) h)
-runs_keep (call ∷ calls) old new are h =
+steps_keep : (calls : List StreamCall) (old new : StreamState) → AreBytes old.unread → StepsTo old calls new → Keeps old.unread (all_taken calls) (all_given calls) new.unread
+steps_keep [] old new are h = nothing old.unread new.unread are (ap (λ (s : StreamState). s.unread) h)
+steps_keep (call ∷ calls) old new are h =
     let mid = h.0 in
     let first = step_keeps old call mid are h.1 in
-    then_keeps old.unread mid.unread new.unread (bytes_taken call) (all_taken calls) (frames_given call) (all_given calls) first (runs_keep calls mid new first.are h.2)
+    then_keeps old.unread mid.unread new.unread (bytes_taken call) (all_taken calls) (frames_given call) (all_given calls) first (steps_keep calls mid new first.are h.2)
 
 pub frames_of_bytes : FramesOfBytes
 frames_of_bytes calls end h =
-    let kept = runs_keep calls opened end (All-nil (λ byte. byte < 256)) h in
+    let kept = steps_keep calls opened end (All-nil (λ byte. byte < 256)) h in
     (kept.valid, kept.whole)
