@@ -31,35 +31,42 @@ byte = record { takes = one_byte_takes; again = λ n rest lt. refl }
 abbrev Framed : ℕ → List ℕ → Frame → List ℕ → Type 0
 Framed tag bytes frame rest = Behind IsFrame body tag bytes frame rest
 
-ask_takes : (tag : ℕ) (bytes : List ℕ) (frame : Frame) (rest : List ℕ) → AreBytes bytes → tag ≡ 1 → ask_at bytes ≡ Ok (frame, rest) → Framed tag bytes frame rest
+ask_takes : (tag : ℕ) (bytes : List ℕ) (frame : Frame) (rest : List ℕ) → AreBytes bytes → tag ≡ 1 → ask_at bytes ≡ Ok (frame, rest)
+    → Framed tag bytes frame rest
 unfolding ask_at
 ask_takes tag bytes frame rest are is e =
     let t = three_take number32 number32 call Ask bytes frame rest are e in
-    is_behind IsFrame body tag 1 bytes (number_field w32 t.0 ++ (number_field w32 t.1 ++ call_field t.2)) rest frame (Ask t.0 t.1 t.2) is t.6 t.7 (t.3, t.4, t.5) refl
+    is_behind IsFrame body tag 1 bytes (number_field w32 t.0 ++ (number_field w32 t.1 ++ call_field t.2)) rest frame (Ask t.0 t.1 t.2) is t.6 t.7
+    (t.3, t.4, t.5) refl
 
-entry_takes : (tag : ℕ) (bytes : List ℕ) (frame : Frame) (rest : List ℕ) → AreBytes bytes → tag ≡ 2 → entry_at bytes ≡ Ok (frame, rest) → Framed tag bytes frame rest
+entry_takes : (tag : ℕ) (bytes : List ℕ) (frame : Frame) (rest : List ℕ) → AreBytes bytes → tag ≡ 2 → entry_at bytes ≡ Ok (frame, rest)
+    → Framed tag bytes frame rest
 unfolding entry_at
 entry_takes tag bytes frame rest are is e =
     let t = two_take number64 call Entry bytes frame rest are e in
     is_behind IsFrame body tag 2 bytes (number_field w64 t.0 ++ call_field t.1) rest frame (Entry t.0 t.1) is t.4 t.5 (t.2, t.3) refl
 
-ack_takes : (tag : ℕ) (bytes : List ℕ) (frame : Frame) (rest : List ℕ) → AreBytes bytes → tag ≡ 3 → ack_at bytes ≡ Ok (frame, rest) → Framed tag bytes frame rest
+ack_takes : (tag : ℕ) (bytes : List ℕ) (frame : Frame) (rest : List ℕ) → AreBytes bytes → tag ≡ 3 → ack_at bytes ≡ Ok (frame, rest)
+    → Framed tag bytes frame rest
 unfolding ack_at
 ack_takes tag bytes frame rest are is e =
     let t = two_take byte number64 Ack bytes frame rest are e in
     is_behind IsFrame body tag 3 bytes (t.0 ∷ number_field w64 t.1) rest frame (Ack t.0 t.1) is t.4 t.5 (t.2, t.3) refl
 
-answer_takes : (tag : ℕ) (bytes : List ℕ) (frame : Frame) (rest : List ℕ) → AreBytes bytes → tag ≡ 4 → answer_at bytes ≡ Ok (frame, rest) → Framed tag bytes frame rest
+answer_takes : (tag : ℕ) (bytes : List ℕ) (frame : Frame) (rest : List ℕ) → AreBytes bytes → tag ≡ 4 → answer_at bytes ≡ Ok (frame, rest)
+    → Framed tag bytes frame rest
 unfolding answer_at
 answer_takes tag bytes frame rest are is e =
     let t = two_take number64 reply Answer bytes frame rest are e in
     is_behind IsFrame body tag 4 bytes (number_field w64 t.0 ++ reply_field t.1) rest frame (Answer t.0 t.1) is t.4 t.5 (t.2, t.3) refl
 
-outcome_frame_takes : (tag : ℕ) (bytes : List ℕ) (frame : Frame) (rest : List ℕ) → AreBytes bytes → tag ≡ 5 → outcome_frame_at bytes ≡ Ok (frame, rest) → Framed tag bytes frame rest
+outcome_frame_takes : (tag : ℕ) (bytes : List ℕ) (frame : Frame) (rest : List ℕ) → AreBytes bytes → tag ≡ 5 → outcome_frame_at bytes ≡ Ok (frame, rest)
+    → Framed tag bytes frame rest
 unfolding outcome_frame_at
 outcome_frame_takes tag bytes frame rest are is e =
     let t = three_take number32 number32 outcome Outcome bytes frame rest are e in
-    is_behind IsFrame body tag 5 bytes (number_field w32 t.0 ++ (number_field w32 t.1 ++ outcome_field t.2)) rest frame (Outcome t.0 t.1 t.2) is t.6 t.7 (t.3, t.4, t.5) refl
+    is_behind IsFrame body tag 5 bytes (number_field w32 t.0 ++ (number_field w32 t.1 ++ outcome_field t.2)) rest frame (Outcome t.0 t.1 t.2) is t.6 t.7
+    (t.3, t.4, t.5) refl
 
 flush_takes : (tag : ℕ) (bytes : List ℕ) (frame : Frame) (rest : List ℕ) → tag ≡ 6 → made Flush bytes ≡ made frame rest → Framed tag bytes frame rest
 flush_takes tag bytes frame rest is e =
@@ -83,7 +90,8 @@ tag_takes tag bytes frame rest are e =
     (λ e6. tagged Goal tag 6 (Ok (Flush, bytes)) none (frame, rest) e6 (flush_takes tag bytes frame rest)
     (λ last. absurd cc))))))
 
-tagged_takes : (bytes : List ℕ) (frame : Frame) (rest : List ℕ) → AreBytes bytes → tagged_at bytes ≡ Ok (frame, rest) → IsFrame frame × (bytes ≡ body frame ++ rest)
+tagged_takes : (bytes : List ℕ) (frame : Frame) (rest : List ℕ) → AreBytes bytes → tagged_at bytes ≡ Ok (frame, rest)
+    → IsFrame frame × (bytes ≡ body frame ++ rest)
 unfolding tagged_at
 tagged_takes bytes frame rest are e =
     let tag = first_step (byte_at bytes) (λ tag. of_tag tag.0 tag.1) (frame, rest) e in

@@ -19,20 +19,25 @@ use Rattle.sb_frames.proofs.Steps.{first_step, tagged, byte_takes, rest_bytes}
 abbrev Spelled : ℕ → List ℕ → Call → List ℕ → Type 0
 Spelled kind bytes call rest = Behind IsCall call_field kind bytes call rest
 
-balance_takes : (kind : ℕ) (bytes : List ℕ) (call : Call) (rest : List ℕ) → AreBytes bytes → kind ≡ 1 → one_name_at Balance bytes ≡ Ok (call, rest) → Spelled kind bytes call rest
+balance_takes : (kind : ℕ) (bytes : List ℕ) (call : Call) (rest : List ℕ) → AreBytes bytes → kind ≡ 1 → one_name_at Balance bytes ≡ Ok (call, rest)
+    → Spelled kind bytes call rest
 balance_takes kind bytes call rest are is e =
     let t = one_takes name Balance bytes call rest are e in
     is_behind IsCall call_field kind 1 bytes (name_field t.0) rest call (Balance t.0) is t.2 t.3 t.1 refl
 
 -- a kind that takes a name and an amount
-amount_takes : (kind n : ℕ) (make : List ℕ → ℤ → Call) → ((text : List ℕ) (cents : ℤ) → IsName text → IsWithinLimit cents → IsCall (make text cents) × (call_field (make text cents) ≡ n ∷ (name_field text ++ amount_field cents)))
-    → (bytes : List ℕ) (call : Call) (rest : List ℕ) → AreBytes bytes → kind ≡ n → name_and_amount_at make bytes ≡ Ok (call, rest) → Spelled kind bytes call rest
+amount_takes : (kind n : ℕ) (make : List ℕ → ℤ → Call)
+    → ((text : List ℕ) (cents : ℤ) → IsName text → IsWithinLimit cents
+    → IsCall (make text cents) × (call_field (make text cents) ≡ n ∷ (name_field text ++ amount_field cents)))
+    → (bytes : List ℕ) (call : Call) (rest : List ℕ) → AreBytes bytes → kind ≡ n → name_and_amount_at make bytes ≡ Ok (call, rest)
+    → Spelled kind bytes call rest
 amount_takes kind n make made bytes call rest are is e =
     let t = two_take name amount make bytes call rest are e in
     let m = made t.0 t.1 t.2 t.3 in
     is_behind IsCall call_field kind n bytes (name_field t.0 ++ amount_field t.1) rest call (make t.0 t.1) is t.4 t.5 m.0 m.1
 
-amalgamate_takes : (kind : ℕ) (bytes : List ℕ) (call : Call) (rest : List ℕ) → AreBytes bytes → kind ≡ 4 → two_names_at Amalgamate bytes ≡ Ok (call, rest) → Spelled kind bytes call rest
+amalgamate_takes : (kind : ℕ) (bytes : List ℕ) (call : Call) (rest : List ℕ) → AreBytes bytes → kind ≡ 4 → two_names_at Amalgamate bytes ≡ Ok (call, rest)
+    → Spelled kind bytes call rest
 amalgamate_takes kind bytes call rest are is e =
     let t = two_take name name Amalgamate bytes call rest are e in
     is_behind IsCall call_field kind 4 bytes (name_field t.0 ++ name_field t.1) rest call (Amalgamate t.0 t.1) is t.4 t.5 (t.2, t.3) refl
@@ -46,10 +51,13 @@ kind_takes kind bytes call rest are e =
     let three : Result (Call × List ℕ) FrameFault = cond (eqb kind 3) (name_and_amount_at TransactSavings bytes) four in
     let two : Result (Call × List ℕ) FrameFault = cond (eqb kind 2) (name_and_amount_at DepositChecking bytes) three in
     tagged Goal kind 1 (one_name_at Balance bytes) two (call, rest) e (balance_takes kind bytes call rest are)
-    (λ e2. tagged Goal kind 2 (name_and_amount_at DepositChecking bytes) three (call, rest) e2 (amount_takes kind 2 DepositChecking (λ text cents v w. ((v, w), refl)) bytes call rest are)
-    (λ e3. tagged Goal kind 3 (name_and_amount_at TransactSavings bytes) four (call, rest) e3 (amount_takes kind 3 TransactSavings (λ text cents v w. ((v, w), refl)) bytes call rest are)
+    (λ e2. tagged Goal kind 2 (name_and_amount_at DepositChecking bytes) three (call, rest) e2
+    (amount_takes kind 2 DepositChecking (λ text cents v w. ((v, w), refl)) bytes call rest are)
+    (λ e3. tagged Goal kind 3 (name_and_amount_at TransactSavings bytes) four (call, rest) e3
+    (amount_takes kind 3 TransactSavings (λ text cents v w. ((v, w), refl)) bytes call rest are)
     (λ e4. tagged Goal kind 4 (two_names_at Amalgamate bytes) five (call, rest) e4 (amalgamate_takes kind bytes call rest are)
-    (λ e5. tagged Goal kind 5 (name_and_amount_at WriteCheck bytes) last (call, rest) e5 (amount_takes kind 5 WriteCheck (λ text cents v w. ((v, w), refl)) bytes call rest are)
+    (λ e5. tagged Goal kind 5 (name_and_amount_at WriteCheck bytes) last (call, rest) e5
+    (amount_takes kind 5 WriteCheck (λ text cents v w. ((v, w), refl)) bytes call rest are)
     (λ none. absurd cc)))))
 
 call_takes : (bytes : List ℕ) (call : Call) (rest : List ℕ) → AreBytes bytes → call_at bytes ≡ Ok (call, rest) → IsCall call × (bytes ≡ call_field call ++ rest)

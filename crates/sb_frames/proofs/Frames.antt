@@ -37,8 +37,13 @@ with_length_takes size bytes frame k are e =
     let long = refused_not (ltb (length bytes) (2 + size)) Short rest (frame, k) sized.1 in
     let step = first_step (frame_of (take size (drop 2 bytes))) (λ f. Ok (f, 2 + size)) (frame, k) long.1 in
     let same = same_value (step.0, 2 + size) (frame, k) step.2 in
-    let read = frame_takes (take size (drop 2 bytes)) step.0 (All-take (λ byte. byte < 256) size (drop 2 bytes) (All-drop (λ byte. byte < 256) 2 bytes are)) step.1 in
-    (ap (λ (p : Frame × ℕ). p.1) (sym same), ltb-false (length bytes) (2 + size) long.0, subst IsFrame (ap (λ (p : Frame × ℕ). p.0) same) read.0, read.1 ∙ ap (λ (p : Frame × ℕ). body p.0) same)
+    let read = frame_takes (take size (drop 2 bytes)) step.0
+    (All-take (λ byte. byte < 256) size (drop 2 bytes) (All-drop (λ byte. byte < 256) 2 bytes are)) step.1 in (
+      ap (λ (p : Frame × ℕ). p.1) (sym same),
+      ltb-false (length bytes) (2 + size) long.0,
+      subst IsFrame (ap (λ (p : Frame × ℕ). p.0) same) read.0,
+      read.1 ∙ ap (λ (p : Frame × ℕ). body p.0) same,
+    )
 
 pub decoded_takes : (bytes : List ℕ) (frame : Frame) (k : ℕ) → AreBytes bytes → decoded bytes ≡ Ok (frame, k) → (k ≤ length bytes) × Spells frame (take k bytes)
 unfolding decoded
@@ -51,7 +56,8 @@ decoded_takes bytes frame k are e =
     let size_is : size ≡ length (body frame) = sym (length-take-le size (drop 2 bytes) behind) ∙ ap length read.3 in
     let front : take 2 bytes ≡ to_be_bytes w16 (length (body frame)) = sym (front_spells bytes are two_long) ∙ ap (to_be_bytes w16) size_is in
     let whole : take k bytes ≡ to_be_bytes w16 (length (body frame)) ++ body frame =
-    ap (λ n. take n bytes) read.0 ∙ take-add 2 size bytes ∙ ap (λ (xs : List ℕ). xs ++ take size (drop 2 bytes)) front ∙ ap (λ (xs : List ℕ). to_be_bytes w16 (length (body frame)) ++ xs) read.3 in
+    ap (λ n. take n bytes) read.0 ∙ take-add 2 size bytes ∙ ap (λ (xs : List ℕ). xs ++ take size (drop 2 bytes)) front
+    ∙ ap (λ (xs : List ℕ). to_be_bytes w16 (length (body frame)) ++ xs) read.3 in
     let short : k ≤ length bytes = omega (arith, read.0, read.1) in
     (short, record { valid = read.2; spelled = whole })
 
@@ -70,7 +76,8 @@ decoded_again frame rest valid =
     let parted : bytes ≡ front ++ (body frame ++ rest) = append_assoc front (body frame) rest in
     let two : ltb (length bytes) 2 ≡ false = le-ltb _ _ (omega arith) in
     let stated : from_be_bytes w16 (take 2 bytes) ≡ size =
-    ap (λ (xs : List ℕ). from_be_bytes w16 (take 2 xs)) parted ∙ ap (from_be_bytes w16) (take_at front (body frame ++ rest) 2 refl) ∙ from_be_bytes-to_be_bytes_2 size (omega (arith, sizes.1)) in
+    ap (λ (xs : List ℕ). from_be_bytes w16 (take 2 xs)) parted ∙ ap (from_be_bytes w16) (take_at front (body frame ++ rest) 2 refl)
+    ∙ from_be_bytes-to_be_bytes_2 size (omega (arith, sizes.1)) in
     let sized : (eqb size 0 || ltb MAX_BODY size) ≡ false = grind (arith, nat_tests, sizes.0, sizes.1) in
     let long : ltb (length bytes) (2 + size) ≡ false = le-ltb _ _ (omega (arith, length-append (body frame) rest)) in
     let behind : take size (drop 2 bytes) ≡ body frame = take_at (body frame) rest size refl in
@@ -97,7 +104,8 @@ one_frame f g a b x y h k e =
 
 -- ---- what decode answers
 
-pub found_is_spelled : (bytes : List ℕ) (result : Result (Frame × ℕ) FrameFault) → AreBytes bytes → result ≡ decoded bytes → IfOk result (λ found. (found.1 ≤ length bytes) × Spells found.0 (take found.1 bytes))
+pub found_is_spelled : (bytes : List ℕ) (result : Result (Frame × ℕ) FrameFault) → AreBytes bytes → result ≡ decoded bytes
+    → IfOk result (λ found. (found.1 ≤ length bytes) × Spells found.0 (take found.1 bytes))
 found_is_spelled bytes (Ok found) are e = decoded_takes bytes found.0 found.1 are (sym e)
 found_is_spelled bytes (Err fault) are e = tt
 
@@ -117,12 +125,14 @@ settled false after read more whole h k = rw (h refl) (k refl whole)
 still_enough : (bytes more : List ℕ) (n : ℕ) → ltb (length bytes) n ≡ false → ltb (length (bytes ++ more)) n ≡ false
 still_enough bytes more n h = let long = ltb-false (length bytes) n h in le-ltb _ _ (omega (arith, length-append bytes more))
 
-unless_bad : {A : Type 0} (bad : Bool) (read more : Result A FrameFault) → (cond bad (Err BadLength) read ≡ Err Short → ⊥) → ((read ≡ Err Short → ⊥) → more ≡ read)
+unless_bad : {A : Type 0} (bad : Bool) (read more : Result A FrameFault) → (cond bad (Err BadLength) read ≡ Err Short → ⊥)
+    → ((read ≡ Err Short → ⊥) → more ≡ read)
     → cond bad (Err BadLength) more ≡ cond bad (Err BadLength) read
 unless_bad true read more whole k = refl
 unless_bad false read more whole k = k whole
 
-with_length_settled : (size : ℕ) (bytes more : List ℕ) → 2 ≤ length bytes → (with_length size bytes ≡ Err Short → ⊥) → with_length size (bytes ++ more) ≡ with_length size bytes
+with_length_settled : (size : ℕ) (bytes more : List ℕ) → 2 ≤ length bytes → (with_length size bytes ≡ Err Short → ⊥)
+    → with_length size (bytes ++ more) ≡ with_length size bytes
 unfolding with_length
 with_length_settled size bytes more two whole =
     let out : Frame → Result (Frame × ℕ) FrameFault = λ frame. Ok (frame, 2 + size) in
@@ -130,15 +140,18 @@ with_length_settled size bytes more two whole =
     let same : ltb (length bytes) (2 + size) ≡ false → take size (drop 2 (bytes ++ more)) ≡ take size (drop 2 bytes) = λ h.
     let long : size ≤ length (drop 2 bytes) = omega (arith, ltb-false (length bytes) (2 + size) h, length-drop 2 bytes) in
     ap (take size) (drop-append-le 2 bytes more two) ∙ take-append-le size (drop 2 bytes) more long in
-    unless_bad (eqb size 0 || ltb MAX_BODY size) (cond (ltb (length bytes) (2 + size)) (Err Short) (found bytes)) (cond (ltb (length (bytes ++ more)) (2 + size)) (Err Short) (found (bytes ++ more))) whole
-    (λ enough. settled (ltb (length bytes) (2 + size)) (ltb (length (bytes ++ more)) (2 + size)) (found bytes) (found (bytes ++ more)) enough (still_enough bytes more (2 + size))
+    unless_bad (eqb size 0 || ltb MAX_BODY size) (cond (ltb (length bytes) (2 + size)) (Err Short) (found bytes))
+    (cond (ltb (length (bytes ++ more)) (2 + size)) (Err Short) (found (bytes ++ more))) whole
+    (λ enough. settled (ltb (length bytes) (2 + size)) (ltb (length (bytes ++ more)) (2 + size)) (found bytes) (found (bytes ++ more)) enough
+    (still_enough bytes more (2 + size))
     (λ h read. ap (λ (xs : List ℕ). frame_of xs >>= out) (same h)))
 
 -- what bytes are decoded as stays so when more come, unless they are short
 pub decoded_settled : (bytes more : List ℕ) → (decoded bytes ≡ Err Short → ⊥) → decoded (bytes ++ more) ≡ decoded bytes
 unfolding decoded stated_length
 decoded_settled bytes more whole =
-    settled (ltb (length bytes) 2) (ltb (length (bytes ++ more)) 2) (with_length (stated_length bytes) bytes) (with_length (stated_length (bytes ++ more)) (bytes ++ more)) whole (still_enough bytes more 2)
+    settled (ltb (length bytes) 2) (ltb (length (bytes ++ more)) 2) (with_length (stated_length bytes) bytes)
+    (with_length (stated_length (bytes ++ more)) (bytes ++ more)) whole (still_enough bytes more 2)
     (λ h read.
     let two = ltb-false (length bytes) 2 h in
     let stated : stated_length (bytes ++ more) ≡ stated_length bytes = ap (from_be_bytes w16) (take-append-le 2 bytes more two) in

@@ -1,6 +1,7 @@
 pub mod Bodies
 pub mod Calls
 pub mod Frames
+pub mod HandingOut
 pub mod Names
 pub mod Numbers
 pub mod Outcomes

@@ -29,7 +29,8 @@ is_within_limit cents h = let low = h.at_least in let high = h.at_most in grind 
 limit_fits : (cents : ℤ) → IsWithinLimit cents → FitsSigned w64 cents
 limit_fits cents h = let low = h.at_least in let high = h.at_most in omega (arith, ints)
 
-amount_takes : (bytes : List ℕ) (cents : ℤ) (rest : List ℕ) → AreBytes bytes → amount_at bytes ≡ Ok (cents, rest) → IsWithinLimit cents × (bytes ≡ amount_field cents ++ rest)
+amount_takes : (bytes : List ℕ) (cents : ℤ) (rest : List ℕ) → AreBytes bytes → amount_at bytes ≡ Ok (cents, rest)
+    → IsWithinLimit cents × (bytes ≡ amount_field cents ++ rest)
 unfolding amount_at
 amount_takes bytes cents rest h e =
     let step = first_step (signed_at bytes) (λ cents. cond (is_within LIMIT cents.0) (Ok cents) (Err BadAmount)) (cents, rest) e in
@@ -50,15 +51,19 @@ amount = record { takes = amount_takes; again = amount_again }
 -- a name has 1 to 20 bytes
 pub name_sizes : (name : List ℕ) → IsName name → (1 ≤ length name) × (length name ≤ NAME_BYTES)
 name_sizes name h =
-    let sizes = and_parts (nat_le 1 (length name)) (nat_le (length name) NAME_BYTES) (and_parts (nat_le 1 (length name) && nat_le (length name) NAME_BYTES) (list_all is_name_byte name) h).0 in
+    let sizes = and_parts (nat_le 1 (length name)) (nat_le (length name) NAME_BYTES)
+    (and_parts (nat_le 1 (length name) && nat_le (length name) NAME_BYTES) (list_all is_name_byte name) h).0 in
     (leb-true 1 (length name) sizes.0, leb-true (length name) NAME_BYTES sizes.1)
 
 name_takes : (bytes name rest : List ℕ) → AreBytes bytes → name_at bytes ≡ Ok (name, rest) → IsName name × (bytes ≡ name_field name ++ rest)
 unfolding name_at
 name_takes bytes name rest h e =
-    let step = first_step (byte_at bytes) (λ size. cond (eqb size.0 0 || ltb NAME_BYTES size.0) (Err BadName) (bytes_at size.0 size.1) >>= λ text. cond (is_name text.0) (Ok text) (Err BadName)) (name, rest) e in
+    let step = first_step (byte_at bytes)
+    (λ size. cond (eqb size.0 0 || ltb NAME_BYTES size.0) (Err BadName) (bytes_at size.0 size.1) >>= λ text. cond (is_name text.0) (Ok text)
+    (Err BadName)) (name, rest) e in
     let size = step.0.0 in
-    let text = first_step (cond (eqb size 0 || ltb NAME_BYTES size) (Err BadName) (bytes_at size step.0.1)) (λ text. cond (is_name text.0) (Ok text) (Err BadName)) (name, rest) step.2 in
+    let text = first_step (cond (eqb size 0 || ltb NAME_BYTES size) (Err BadName) (bytes_at size step.0.1))
+    (λ text. cond (is_name text.0) (Ok text) (Err BadName)) (name, rest) step.2 in
     let sized = refused_not (eqb size 0 || ltb NAME_BYTES size) BadName (bytes_at size step.0.1) text.0 text.1 in
     let test = accepted (is_name text.0.0) BadName text.0 (name, rest) text.2 in
     let read : bytes_at size step.0.1 ≡ Ok (name, rest) = sized.1 ∙ ap (λ (p : List ℕ × List ℕ). Ok p) test.1 in

@@ -30,8 +30,12 @@ bytes_take n bytes text rest e =
     let long = refused_not (ltb (length bytes) n) BadLength (Ok (take n bytes, drop n bytes)) (text, rest) e in
     let parts = same_value (take n bytes, drop n bytes) (text, rest) long.1 in
     let front : take n bytes ≡ text = ap (λ (p : List ℕ × List ℕ). p.0) parts in
-    let back : drop n bytes ≡ rest = ap (λ (p : List ℕ × List ℕ). p.1) parts in
-    (ap length (sym front) ∙ length-take-le n bytes (ltb-false _ _ long.0), sym front, sym (take-append-drop n bytes) ∙ ap (λ (xs : List ℕ). xs ++ drop n bytes) front ∙ ap (λ (xs : List ℕ). text ++ xs) back)
+    let back : drop n bytes ≡ rest = ap (λ (p : List ℕ × List ℕ). p.1) parts in (
+      ap length (sym front) ∙ length-take-le n bytes (ltb-false _ _ long.0),
+      sym front,
+      sym (take-append-drop n bytes)
+          ∙ ap (λ (xs : List ℕ). xs ++ drop n bytes) front ∙ ap (λ (xs : List ℕ). text ++ xs) back,
+    )
 
 pub bytes_again : (n : ℕ) (text rest : List ℕ) → length text ≡ n → bytes_at n (text ++ rest) ≡ Ok (text, rest)
 unfolding bytes_at
@@ -64,7 +68,8 @@ wide64 = record {
   below = λ cells h. let b = each_byte cells h in omega (arith, b 0, b 1, b 2, b 3, b 4, b 5, b 6, b 7);
 }
 
-number_takes : (w : Width) (limit : ℕ) (wide : IsWide w limit) (bytes : List ℕ) (n : ℕ) (rest : List ℕ) → AreBytes bytes → number_at w bytes ≡ Ok (n, rest) → (n < limit) × (bytes ≡ number_field w n ++ rest)
+number_takes : (w : Width) (limit : ℕ) (wide : IsWide w limit) (bytes : List ℕ) (n : ℕ) (rest : List ℕ) → AreBytes bytes → number_at w bytes ≡ Ok (n, rest)
+    → (n < limit) × (bytes ≡ number_field w n ++ rest)
 unfolding number_at number_field
 number_takes w limit wide bytes n rest h e =
     let step = first_step (bytes_at (byte_len w) bytes) (λ cells. Ok (from_be_bytes w cells.0, cells.1)) (n, rest) e in
@@ -74,8 +79,11 @@ number_takes w limit wide bytes n rest h e =
     let n_is : from_be_bytes w cells ≡ n = ap (λ (p : ℕ × List ℕ). p.0) parts in
     let rest_is : step.0.1 ≡ rest = ap (λ (p : ℕ × List ℕ). p.1) parts in
     let are : AreBytes cells = subst (λ xs. AreBytes xs) (sym part.1) (All-take (λ byte. byte < 256) (byte_len w) bytes h) in
-    let spelled : to_be_bytes w n ≡ cells = ap (to_be_bytes w) (sym n_is) ∙ wide.back cells part.0 are in
-    (subst (λ k. k < limit) n_is (wide.below cells are), part.2 ∙ ap (λ (xs : List ℕ). xs ++ step.0.1) (sym spelled) ∙ ap (λ (xs : List ℕ). to_be_bytes w n ++ xs) rest_is)
+    let spelled : to_be_bytes w n ≡ cells = ap (to_be_bytes w) (sym n_is) ∙ wide.back cells part.0 are in (
+      subst (λ k. k < limit) n_is (wide.below cells are),
+      part.2 ∙ ap (λ (xs : List ℕ). xs ++ step.0.1) (sym spelled)
+          ∙ ap (λ (xs : List ℕ). to_be_bytes w n ++ xs) rest_is,
+    )
 
 number_again : (w : Width) (limit : ℕ) (wide : IsWide w limit) (n : ℕ) (rest : List ℕ) → n < limit → number_at w (number_field w n ++ rest) ≡ Ok (n, rest)
 unfolding number_at number_field

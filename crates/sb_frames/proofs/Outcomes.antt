@@ -49,7 +49,8 @@ zero_is total h = (Decides-int_eq total (pos 0)).0 h
 abbrev Coded : ℕ → ℤ → Reply → Type 0
 Coded code total reply = IsReply reply × (code ∷ amount_field total ≡ reply_field reply)
 
-plain_takes_one : (code n : ℕ) (made reply : Reply) → code ≡ n → done made ≡ done reply → IsReply made → reply_field made ≡ n ∷ amount_field (pos 0) → Coded code (pos 0) reply
+plain_takes_one : (code n : ℕ) (made reply : Reply) → code ≡ n → done made ≡ done reply → IsReply made → reply_field made ≡ n ∷ amount_field (pos 0)
+    → Coded code (pos 0) reply
 plain_takes_one code n made reply is e valid spelled =
     let same = same_value made reply e in
     (subst IsReply same valid, ap (λ k. k ∷ amount_field (pos 0)) is ∙ sym spelled ∙ ap reply_field same)
@@ -73,7 +74,8 @@ plain_takes code reply e =
     (λ e7. tagged Goal code 7 (Ok OverLimit) none reply e7 (λ is f. plain_takes_one code 7 OverLimit reply is f tt refl)
     (λ last. absurd cc)))))))
 
-shown_takes : (code : ℕ) (total : ℤ) (reply : Reply) → code ≡ 0 → cond (is_within TOTAL_LIMIT total) (done (Shown total)) (Err BadReply) ≡ Ok reply → Coded code total reply
+shown_takes : (code : ℕ) (total : ℤ) (reply : Reply) → code ≡ 0 → cond (is_within TOTAL_LIMIT total) (done (Shown total)) (Err BadReply) ≡ Ok reply
+    → Coded code total reply
 shown_takes code total reply is e =
     let test = accepted (is_within TOTAL_LIMIT total) BadReply (Shown total) reply e in
     (subst IsReply test.1 (within_total total test.0), ap (λ k. k ∷ amount_field total) is ∙ ap reply_field test.1)
@@ -99,7 +101,8 @@ nine_take next bytes last are e =
     let behind = signed_takes code.0.1 total.0.0 total.0.1 (rest_bytes bytes (code.0.0 ∷ []) code.0.1 are front) total.1 in
     (code.0.0, total.0.0, total.0.1, front ∙ ap (λ (xs : List ℕ). code.0.0 ∷ xs) behind, total.2)
 
-reply_takes : (bytes : List ℕ) (reply : Reply) (rest : List ℕ) → AreBytes bytes → reply_at bytes ≡ Ok (reply, rest) → IsReply reply × (bytes ≡ reply_field reply ++ rest)
+reply_takes : (bytes : List ℕ) (reply : Reply) (rest : List ℕ) → AreBytes bytes → reply_at bytes ≡ Ok (reply, rest)
+    → IsReply reply × (bytes ≡ reply_field reply ++ rest)
 unfolding reply_at
 reply_takes bytes reply rest are e =
     let nine = nine_take (λ code total left. of_code code total >>= λ r. made r left) bytes (reply, rest) are e in
@@ -126,15 +129,19 @@ reply = record { takes = reply_takes; again = reply_again }
 
 -- ---- outcomes
 
-no_reply_takes : (outcome out : AskOutcome) (bytes rest : List ℕ) → AreBytes bytes → no_reply_at outcome bytes ≡ Ok (out, rest) → (out ≡ outcome) × (bytes ≡ no_reply_field ++ rest)
+no_reply_takes : (outcome out : AskOutcome) (bytes rest : List ℕ) → AreBytes bytes → no_reply_at outcome bytes ≡ Ok (out, rest)
+    → (out ≡ outcome) × (bytes ≡ no_reply_field ++ rest)
 unfolding no_reply_at
 no_reply_takes outcome out bytes rest are e =
     let nine = nine_take (λ code total left. cond (eqb code 0 && int_eq total (pos 0)) (made outcome left) (Err BadReply)) bytes (out, rest) are e in
     let left = nine.2 in
     let test = accepted (eqb nine.0 0 && int_eq nine.1 (pos 0)) BadReply (outcome, left) (out, rest) nine.4 in
     let zeros = and_parts (eqb nine.0 0) (int_eq nine.1 (pos 0)) test.0 in
-    let both = parts outcome out left rest (ap (λ (p : AskOutcome × List ℕ). made p.0 p.1) test.1) in
-    (both.0, nine.3 ∙ ap (λ k. k ∷ (amount_field nine.1 ++ left)) (eqb-true _ _ zeros.0) ∙ ap (λ t. 0 ∷ (amount_field t ++ left)) (zero_is nine.1 zeros.1) ∙ ap (λ (xs : List ℕ). no_reply_field ++ xs) both.1)
+    let both = parts outcome out left rest (ap (λ (p : AskOutcome × List ℕ). made p.0 p.1) test.1) in (
+      both.0,
+      nine.3 ∙ ap (λ k. k ∷ (amount_field nine.1 ++ left)) (eqb-true _ _ zeros.0) ∙ ap (λ t. 0 ∷ (amount_field t ++ left)) (zero_is nine.1 zeros.1)
+          ∙ ap (λ (xs : List ℕ). no_reply_field ++ xs) both.1,
+    )
 
 no_reply_again : (outcome : AskOutcome) (rest : List ℕ) → no_reply_at outcome (no_reply_field ++ rest) ≡ Ok (outcome, rest)
 unfolding no_reply_at
@@ -143,18 +150,21 @@ no_reply_again outcome rest = rw (zero_again rest) refl
 abbrev Told : ℕ → List ℕ → AskOutcome → List ℕ → Type 0
 Told status bytes outcome rest = Behind IsOutcome outcome_field status bytes outcome rest
 
-replied_takes : (status : ℕ) (bytes : List ℕ) (outcome : AskOutcome) (rest : List ℕ) → AreBytes bytes → status ≡ 0 → replied_at bytes ≡ Ok (outcome, rest) → Told status bytes outcome rest
+replied_takes : (status : ℕ) (bytes : List ℕ) (outcome : AskOutcome) (rest : List ℕ) → AreBytes bytes → status ≡ 0 → replied_at bytes ≡ Ok (outcome, rest)
+    → Told status bytes outcome rest
 replied_takes status bytes outcome rest are is e =
     let t = one_takes reply Replied bytes outcome rest are e in
     is_behind IsOutcome outcome_field status 0 bytes (reply_field t.0) rest outcome (Replied t.0) is t.2 t.3 t.1 refl
 
-refused_takes : (status n : ℕ) (made : AskOutcome) (bytes : List ℕ) (outcome : AskOutcome) (rest : List ℕ) → AreBytes bytes → IsOutcome made → outcome_field made ≡ n ∷ no_reply_field
+refused_takes : (status n : ℕ) (made : AskOutcome) (bytes : List ℕ) (outcome : AskOutcome) (rest : List ℕ) → AreBytes bytes → IsOutcome made
+    → outcome_field made ≡ n ∷ no_reply_field
     → status ≡ n → no_reply_at made bytes ≡ Ok (outcome, rest) → Told status bytes outcome rest
 refused_takes status n made bytes outcome rest are valid spelled is e =
     let t = no_reply_takes made outcome bytes rest are e in
     is_behind IsOutcome outcome_field status n bytes no_reply_field rest outcome made is t.0 t.1 valid spelled
 
-status_takes : (status : ℕ) (bytes : List ℕ) (outcome : AskOutcome) (rest : List ℕ) → AreBytes bytes → of_status status bytes ≡ Ok (outcome, rest) → Told status bytes outcome rest
+status_takes : (status : ℕ) (bytes : List ℕ) (outcome : AskOutcome) (rest : List ℕ) → AreBytes bytes → of_status status bytes ≡ Ok (outcome, rest)
+    → Told status bytes outcome rest
 status_takes status bytes outcome rest are e =
     let Goal = Told status bytes outcome rest in
     let none : Result (AskOutcome × List ℕ) FrameFault = Err BadStatus in
@@ -165,7 +175,8 @@ status_takes status bytes outcome rest are e =
     (λ e2. tagged Goal status 2 (no_reply_at LogFull bytes) none (outcome, rest) e2 (refused_takes status 2 LogFull bytes outcome rest are tt refl)
     (λ last. absurd cc)))
 
-outcome_takes : (bytes : List ℕ) (outcome : AskOutcome) (rest : List ℕ) → AreBytes bytes → outcome_at bytes ≡ Ok (outcome, rest) → IsOutcome outcome × (bytes ≡ outcome_field outcome ++ rest)
+outcome_takes : (bytes : List ℕ) (outcome : AskOutcome) (rest : List ℕ) → AreBytes bytes → outcome_at bytes ≡ Ok (outcome, rest)
+    → IsOutcome outcome × (bytes ≡ outcome_field outcome ++ rest)
 unfolding outcome_at
 outcome_takes bytes outcome rest are e =
     let status = first_step (byte_at bytes) (λ status. of_status status.0 status.1) (outcome, rest) e in

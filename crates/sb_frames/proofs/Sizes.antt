@@ -63,17 +63,33 @@ outcome_size LogFull = omega (arith, reply_size Done)
 pub body_size : (frame : Frame) → IsFrame frame → (1 ≤ length (body frame)) × (length (body frame) ≤ MAX_BODY)
 body_size (Ask client request call) v =
     let size : length (number_field w32 client ++ (number_field w32 request ++ call_field call)) ≤ 51 =
-    omega (arith, length-append (number_field w32 client) (number_field w32 request ++ call_field call), length-append (number_field w32 request) (call_field call), number_size32 client, number_size32 request, call_size call v.2) in
+    omega (
+      arith,
+      length-append (number_field w32 client) (number_field w32 request ++ call_field call),
+      length-append (number_field w32 request) (call_field call),
+      number_size32 client,
+      number_size32 request,
+      call_size call v.2,
+    ) in
     (omega arith, omega arith)
 body_size (Entry number call) v =
-    let size : length (number_field w64 number ++ call_field call) ≤ 51 = omega (arith, length-append (number_field w64 number) (call_field call), number_size64 number, call_size call v.1) in
+    let size : length (number_field w64 number ++ call_field call) ≤ 51 =
+    omega (arith, length-append (number_field w64 number) (call_field call), number_size64 number, call_size call v.1) in
     (omega arith, omega arith)
 body_size (Ack replica size) v = (omega arith, omega (arith, number_size64 size))
 body_size (Answer number reply) v =
-    let size : length (number_field w64 number ++ reply_field reply) ≤ 17 = omega (arith, length-append (number_field w64 number) (reply_field reply), number_size64 number, reply_size reply) in
+    let size : length (number_field w64 number ++ reply_field reply) ≤ 17 =
+    omega (arith, length-append (number_field w64 number) (reply_field reply), number_size64 number, reply_size reply) in
     (omega arith, omega arith)
 body_size (Outcome client request outcome) v =
     let size : length (number_field w32 client ++ (number_field w32 request ++ outcome_field outcome)) ≤ 18 =
-    omega (arith, length-append (number_field w32 client) (number_field w32 request ++ outcome_field outcome), length-append (number_field w32 request) (outcome_field outcome), number_size32 client, number_size32 request, outcome_size outcome) in
+    omega (
+      arith,
+      length-append (number_field w32 client) (number_field w32 request ++ outcome_field outcome),
+      length-append (number_field w32 request) (outcome_field outcome),
+      number_size32 client,
+      number_size32 request,
+      outcome_size outcome,
+    ) in
     (omega arith, omega arith)
 body_size Flush v = (omega arith, omega arith)

@@ -8,12 +8,14 @@ use Rattle.sb_frames.specs.Streaming.{AreBytes}
 use Rattle.sb_frames.specs.declared.fault.FrameFault.{FrameFault}
 
 -- a first step that was gone on from
-pub first_step : {A B : Type 0} (read : Result A FrameFault) (next : A → Result B FrameFault) (last : B) → (read >>= next) ≡ Ok last → (value : A) × (read ≡ Ok value) × (next value ≡ Ok last)
+pub first_step : {A B : Type 0} (read : Result A FrameFault) (next : A → Result B FrameFault) (last : B) → (read >>= next) ≡ Ok last
+    → (value : A) × (read ≡ Ok value) × (next value ≡ Ok last)
 first_step (Ok value) next last e = (value, refl, e)
 first_step (Err fault) next last e = absurd cc
 
 -- a test that would have been a fault
-pub refused_not : {A : Type 0} (test : Bool) (fault : FrameFault) (others : Result A FrameFault) (last : A) → cond test (Err fault) others ≡ Ok last → (test ≡ false) × (others ≡ Ok last)
+pub refused_not : {A : Type 0} (test : Bool) (fault : FrameFault) (others : Result A FrameFault) (last : A) → cond test (Err fault) others ≡ Ok last
+    → (test ≡ false) × (others ≡ Ok last)
 refused_not true fault others last e = absurd cc
 refused_not false fault others last e = (refl, e)
 
@@ -23,7 +25,8 @@ accepted true fault value last e = (refl, cc)
 accepted false fault value last e = absurd cc
 
 -- a test that had to hold before the others
-pub passed : {A : Type 0} (test : Bool) (fault : FrameFault) (others : Result A FrameFault) (last : A) → cond test others (Err fault) ≡ Ok last → (test ≡ true) × (others ≡ Ok last)
+pub passed : {A : Type 0} (test : Bool) (fault : FrameFault) (others : Result A FrameFault) (last : A) → cond test others (Err fault) ≡ Ok last
+    → (test ≡ true) × (others ≡ Ok last)
 passed true fault others last e = (refl, e)
 passed false fault others last e = absurd cc
 
@@ -34,10 +37,12 @@ pub same_value : {A : Type 0} (x y : A) → done x ≡ done y → x ≡ y
 same_value x y e = cc
 
 -- what a number stands for, or what the numbers after it do
-pub tagged : {A : Type 0} (P : Type 0) (tag n : ℕ) (first others : Result A FrameFault) (last : A) → cond (eqb tag n) first others ≡ Ok last → (tag ≡ n → first ≡ Ok last → P) → (others ≡ Ok last → P) → P
+pub tagged : {A : Type 0} (P : Type 0) (tag n : ℕ) (first others : Result A FrameFault) (last : A) → cond (eqb tag n) first others ≡ Ok last
+    → (tag ≡ n → first ≡ Ok last → P) → (others ≡ Ok last → P) → P
 tagged P tag n first others last e here there =
     let Goal : Bool → Type 0 = λ test. (eqb tag n ≡ test) → cond test first others ≡ Ok last → P in
-    let both : Goal (eqb tag n) = elim (eqb tag n) as (λ test. Goal test) [ true ↦ (λ is found. here (eqb-true tag n is) found) | false ↦ (λ other found. there found) ] in
+    let both : Goal (eqb tag n) = elim (eqb tag n) as
+    (λ test. Goal test) [ true ↦ (λ is found. here (eqb-true tag n is) found) | false ↦ (λ other found. there found) ] in
     both refl e
 
 -- the bytes behind a part are bytes

@@ -6,7 +6,7 @@ use Rattle.std.proofs.lemmas.List.Concat.{flat_map-append}
 use Rattle.std.proofs.lemmas.List.Elements.{All-nil, All-append, All-drop}
 use Rattle.sb_frames.specs.Decoding.{decoded}
 use Rattle.sb_frames.specs.Grammar.{IsFrame, spelling}
-use Rattle.sb_frames.specs.Streaming.{StreamState, opened, StreamCall, Fed, Next, AreBytes, Feeds, next_by, next_of, Step, Runs, bytes_taken, all_taken, frames_given, all_given, FramesOfBytes}
+use Rattle.sb_frames.specs.Streaming.{StreamState, opened, StreamCall, Fed, Next, AreBytes, Feeds, next_by, next_of, Step, StepsTo, bytes_taken, all_taken, frames_given, all_given, FramesOfBytes}
 use Rattle.sb_frames.specs.declared.fault.FrameFault.{FrameFault}
 use Rattle.sb_frames.specs.declared.fault.FrameFault.TheVariants.{Short, BadLength, UnknownTag, BadName, BadAmount, BadReply, BadStatus}
 use Rattle.sb_frames.specs.declared.fault.StreamFault.{StreamFault}
@@ -23,7 +23,8 @@ record Keeps (old : List ℕ) (taken : List ℕ) (given : List Frame) (new : Lis
 nothing : (old new : List ℕ) → AreBytes old → new ≡ old → Keeps old [] [] new
 nothing old new are same = record { valid = tt; whole = append-nil old ∙ sym same; are = subst (λ xs. AreBytes xs) (sym same) are }
 
-feed_keeps : (old : StreamState) (bytes : List ℕ) (answer : Result (Unit {0}) StreamFault) (new : StreamState) → AreBytes old.unread → AreBytes bytes → Feeds old bytes answer new
+feed_keeps : (old : StreamState) (bytes : List ℕ) (answer : Result (Unit {0}) StreamFault) (new : StreamState) → AreBytes old.unread → AreBytes bytes
+    → Feeds old bytes answer new
     → Keeps old.unread (bytes_taken (Fed bytes answer)) [] new.unread
 feed_keeps old bytes (Ok done) new are come h =
     let left : new.unread ≡ old.unread ++ bytes = ap (λ (s : StreamState). s.unread) h.1 in
@@ -47,7 +48,8 @@ by_keeps unread (Ok found) are e =
     let front = spelling_is found.0 (take found.1 unread) spelled in
     record {
       valid = (spelled.valid, tt);
-      whole = append-nil unread ∙ sym (take-append-drop found.1 unread) ∙ ap (λ (xs : List ℕ). xs ++ drop found.1 unread) (front ∙ sym (append-nil (spelling found.0)));
+      whole = append-nil unread ∙ sym (take-append-drop found.1 unread)
+          ∙ ap (λ (xs : List ℕ). xs ++ drop found.1 unread) (front ∙ sym (append-nil (spelling found.0)));
       are = All-drop (λ byte. byte < 256) found.1 unread are;
     }
 by_keeps unread (Err Short) are e = nothing unread unread are refl
@@ -63,7 +65,8 @@ of_keeps : (unread : List ℕ) (failed : Bool) → AreBytes unread → let old :
 of_keeps unread true are = nothing unread unread are refl
 of_keeps unread false are = by_keeps unread (decoded unread) are refl
 
-step_keeps : (old : StreamState) (call : StreamCall) (new : StreamState) → AreBytes old.unread → Step old call new → Keeps old.unread (bytes_taken call) (frames_given call) new.unread
+step_keeps : (old : StreamState) (call : StreamCall) (new : StreamState) → AreBytes old.unread → Step old call new
+    → Keeps old.unread (bytes_taken call) (frames_given call) new.unread
 step_keeps old (Fed bytes answer) new are h = feed_keeps old bytes answer new are h.0 h.1
 step_keeps old (Next answer) new are h = same_after old.unread (answer, new) (next_of old) h (of_keeps old.unread old.failed are)
 
@@ -83,14 +86,16 @@ then_keeps a b c s t f g p q =
       are = q.are;
     }
 
-runs_keep : (calls : List StreamCall) (old new : StreamState) → AreBytes old.unread → Runs old calls new → Keeps old.unread (all_taken calls) (all_given calls) new.unread
-runs_keep [] old new are h = nothing old.unread new.unread are (ap (λ (s : StreamState). s.unread) h)
-runs_keep (call ∷ calls) old new are h =
+steps_keep : (calls : List StreamCall) (old new : StreamState) → AreBytes old.unread → StepsTo old calls new
+    → Keeps old.unread (all_taken calls) (all_given calls) new.unread
+steps_keep [] old new are h = nothing old.unread new.unread are (ap (λ (s : StreamState). s.unread) h)
+steps_keep (call ∷ calls) old new are h =
     let mid = h.0 in
     let first = step_keeps old call mid are h.1 in
-    then_keeps old.unread mid.unread new.unread (bytes_taken call) (all_taken calls) (frames_given call) (all_given calls) first (runs_keep calls mid new first.are h.2)
+    then_keeps old.unread mid.unread new.unread (bytes_taken call) (all_taken calls) (frames_given call) (all_given calls) first
+    (steps_keep calls mid new first.are h.2)
 
 pub frames_of_bytes : FramesOfBytes
 frames_of_bytes calls end h =
-    let kept = runs_keep calls opened end (All-nil (λ byte. byte < 256)) h in
+    let kept = steps_keep calls opened end (All-nil (λ byte. byte < 256)) h in
     (kept.valid, kept.whole)

@@ -30,7 +30,8 @@ body (Ask client request call) = 1 ∷ (number_field w32 client ++ (number_field
 body (Entry number call) = 2 ∷ (number_field w64 number ++ call_field call)
 body (Ack replica size) = 3 ∷ replica ∷ number_field w64 size
 body (Answer number reply) = 4 ∷ (number_field w64 number ++ reply_field reply)
-body (Outcome client request outcome) = 5 ∷ (number_field w32 client ++ (number_field w32 request ++ outcome_field outcome))
+body (Outcome client request outcome) =
+    5 ∷ (number_field w32 client ++ (number_field w32 request ++ outcome_field outcome))
 body Flush = 6 ∷ []
 
 -- the length of the body in two bytes, and the body

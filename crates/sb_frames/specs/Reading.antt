@@ -15,14 +15,14 @@ abbrev pub ◌>>=◌ : {A B : Type 0} → Result A FrameFault → (A → Result 
 (Err fault) >>= next = Err fault
 
 -- a reader's answer, with the bytes that it leaves, is what is read
-abbrev pub Reads : {A : Type 0} → Result A FrameFault → List ℕ → Result (A × List ℕ) FrameFault → Type 0
-Reads (Ok value) rest read = read ≡ Ok (value, rest)
-Reads (Err fault) rest read = read ≡ Err fault
+abbrev pub TakesField : {A : Type 0} → Result A FrameFault → List ℕ → Result (A × List ℕ) FrameFault → Type 0
+TakesField (Ok value) rest read = read ≡ Ok (value, rest)
+TakesField (Err fault) rest read = read ≡ Err fault
 
 -- the same where the value is bytes in place
-abbrev pub ReadsBytes : Result (Bor (List ℕ)) FrameFault → List ℕ → Result (List ℕ × List ℕ) FrameFault → Type 0
-ReadsBytes (Ok bytes) rest read = read ≡ Ok (bytes.now, rest)
-ReadsBytes (Err fault) rest read = read ≡ Err fault
+abbrev pub TakesBytes : Result (Bor (List ℕ)) FrameFault → List ℕ → Result (List ℕ × List ℕ) FrameFault → Type 0
+TakesBytes (Ok bytes) rest read = read ≡ Ok (bytes.now, rest)
+TakesBytes (Err fault) rest read = read ≡ Err fault
 
 abbrev pub byte_at : List ℕ → Result (ℕ × List ℕ) FrameFault
 byte_at [] = Err BadLength

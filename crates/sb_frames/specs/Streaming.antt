@@ -1,8 +1,8 @@
 -- A stream of frames: what each call does to it, and what many calls do.
-use Rattle.std.specs.Prelude.{◌≡◌, ℕ, ◌<◌, Bool, true, false, if◌then◌else◌, Option, Some, None, Result, Ok, Err, List, [], ◌∷◌, ◌++◌, drop}
+use Rattle.std.specs.Prelude.{◌≡◌, ◌≢◌, ℕ, ◌<◌, Bool, true, false, if◌then◌else◌, Option, Some, None, Result, Ok, Err, List, [], ◌∷◌, ◌++◌, drop}
 use Rattle.std.specs.List.{All, AllByRecursion, flat_map}
 use Rattle.sb_frames.specs.Decoding.{decoded}
-use Rattle.sb_frames.specs.Grammar.{IsFrame, spelling}
+use Rattle.sb_frames.specs.Grammar.{IsFrame, Spells, spelling}
 use Rattle.sb_frames.specs.declared.fault.FrameFault.{FrameFault}
 use Rattle.sb_frames.specs.declared.fault.FrameFault.TheVariants.{Short}
 use Rattle.sb_frames.specs.declared.fault.StreamFault.{StreamFault}
@@ -51,6 +51,24 @@ next_by (Err fault) unread = (Err (Bad fault), record { unread = unread; failed 
 abbrev pub next_of : StreamState → Result (Option Frame) StreamFault × StreamState
 next_of old = if old.failed then (Err Failed, old) else next_by (decoded old.unread) old.unread
 
+-- a frame is handed out, and the bytes that were passed over are its spelling
+pub record HandsOut (old : StreamState) (frame : Frame) (new : StreamState) : Type 0 where
+  pub valid : IsFrame frame
+  pub spelled : (bytes : List ℕ) × Spells frame bytes × (old.unread ≡ bytes ++ new.unread)
+  pub going : new.failed ≡ false
+
+-- less than a whole frame is unread
+abbrev pub IsShort : StreamState → Type 0
+IsShort state = (state.failed ≡ false) × (decoded state.unread ≡ Err Short)
+
+-- why no frame is handed out
+abbrev pub FailsBy : StreamState → StreamFault → Type 0
+-- the unread bytes begin with no frame, however they go on
+FailsBy old (Bad fault) = (old.failed ≡ false) × (decoded old.unread ≡ Err fault) × (fault ≢ Short)
+-- a frame was at fault before
+FailsBy old Failed = old.failed ≡ true
+FailsBy old OutOfMemory = ⊥
+
 -- one call; what is fed are bytes
 abbrev pub Step : StreamState → StreamCall → StreamState → Type 0
 Step old (Fed bytes answer) new = AreBytes bytes × Feeds old bytes answer new
@@ -59,9 +77,9 @@ Step old (Next answer) new = (answer, new) ≡ next_of old
 -- ---- what many calls do
 
 -- these calls one after another
-abbrev pub Runs : StreamState → List StreamCall → StreamState → Type 0
-Runs old [] new = new ≡ old
-Runs old (call ∷ calls) new = (mid : StreamState) × Step old call mid × Runs mid calls new
+abbrev pub StepsTo : StreamState → List StreamCall → StreamState → Type 0
+StepsTo old [] new = new ≡ old
+StepsTo old (call ∷ calls) new = (mid : StreamState) × Step old call mid × StepsTo mid calls new
 
 -- the bytes that one call, or many calls, put into the stream
 abbrev pub bytes_taken : StreamCall → List ℕ
@@ -87,5 +105,5 @@ all_given (call ∷ calls) = frames_given call ++ all_given calls
 -- whatever calls there were, however the bytes were cut: the bytes that went in are the spellings of the
 -- frames that came out, in order, and then the unread bytes
 abbrev pub FramesOfBytes : Type 0
-FramesOfBytes = (calls : List StreamCall) (end : StreamState) → Runs opened calls end
+FramesOfBytes = (calls : List StreamCall) (end : StreamState) → StepsTo opened calls end
     → AllByRecursion IsFrame (all_given calls) × (all_taken calls ≡ flat_map spelling (all_given calls) ++ end.unread)

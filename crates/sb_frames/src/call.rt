@@ -1,6 +1,6 @@
 //! Calls in a frame, by their kind.
 ghost use Rattle.sb_frames.specs.Calls.{call_at};
-ghost use Rattle.sb_frames.specs.Reading.{Reads};
+ghost use Rattle.sb_frames.specs.Reading.{TakesField};
 
 use crate::fault::FrameFault;
 use crate::fields::Fields;
@@ -19,7 +19,7 @@ pub(crate) const WRITE_CHECK: u8 = 5;
 
 #[tactic(auto, unfolding(crate::specs::Calls::call_at))]
 pub(crate) fn read_call(fields: &mut Fields) -> Result<Call, FrameFault>
-    ensures { Reads result fields.new (call_at fields.old) }
+    ensures { TakesField result fields.new (call_at fields.old) }
 {
     match fields.byte()? {
         BALANCE => Ok(Call::Balance(fields.name()?)),

@@ -3,13 +3,13 @@ ghost use Rattle.std.specs.Prelude.{◌≡◌, ◌≢◌, ℕ, ◌≤◌, List, 
 ghost use Rattle.sb_frames.specs.Decoding as spec;
 ghost use Rattle.sb_frames.specs.Decoding.{decoded};
 ghost use Rattle.sb_frames.specs.Grammar.{Spells};
-ghost use Rattle.sb_frames.specs.Reading.{Reads};
+ghost use Rattle.sb_frames.specs.Reading.{TakesField};
 ghost use Rattle.sb_frames.specs.declared.frame.Frame.{Frame as AnyFrame};
 
 use crate::call::read_call;
 use crate::fault::FrameFault;
 use crate::fields::Fields;
-use crate::frame::{Frame, MAX_BODY};
+use crate::frame::{Frame, LENGTH_BYTES, MAX_BODY};
 use crate::outcome::{read_outcome, read_reply};
 use byteorder::{BigEndian, ByteOrder};
 
@@ -28,7 +28,7 @@ pub(crate) const FLUSH: u8 = 6;
 
 #[tactic(auto, unfolding(crate::specs::Decoding::ask_at))]
 fn read_ask(fields: &mut Fields) -> Result<Frame, FrameFault>
-    ensures { Reads result fields.new (spec.ask_at fields.old) }
+    ensures { TakesField result fields.new (spec.ask_at fields.old) }
 {
     Ok(Frame::Ask {
         client: fields.u32()?,
@@ -39,7 +39,7 @@ fn read_ask(fields: &mut Fields) -> Result<Frame, FrameFault>
 
 #[tactic(auto, unfolding(crate::specs::Decoding::entry_at))]
 fn read_entry(fields: &mut Fields) -> Result<Frame, FrameFault>
-    ensures { Reads result fields.new (spec.entry_at fields.old) }
+    ensures { TakesField result fields.new (spec.entry_at fields.old) }
 {
     Ok(Frame::Entry {
         number: fields.u64()?,
@@ -49,7 +49,7 @@ fn read_entry(fields: &mut Fields) -> Result<Frame, FrameFault>
 
 #[tactic(auto, unfolding(crate::specs::Decoding::ack_at))]
 fn read_ack(fields: &mut Fields) -> Result<Frame, FrameFault>
-    ensures { Reads result fields.new (spec.ack_at fields.old) }
+    ensures { TakesField result fields.new (spec.ack_at fields.old) }
 {
     Ok(Frame::Ack {
         replica: fields.byte()?,
@@ -59,7 +59,7 @@ fn read_ack(fields: &mut Fields) -> Result<Frame, FrameFault>
 
 #[tactic(auto, unfolding(crate::specs::Decoding::answer_at))]
 fn read_answer(fields: &mut Fields) -> Result<Frame, FrameFault>
-    ensures { Reads result fields.new (spec.answer_at fields.old) }
+    ensures { TakesField result fields.new (spec.answer_at fields.old) }
 {
     Ok(Frame::Answer {
         number: fields.u64()?,
@@ -69,7 +69,7 @@ fn read_answer(fields: &mut Fields) -> Result<Frame, FrameFault>
 
 #[tactic(auto, unfolding(crate::specs::Decoding::outcome_frame_at))]
 fn read_outcome_frame(fields: &mut Fields) -> Result<Frame, FrameFault>
-    ensures { Reads result fields.new (spec.outcome_frame_at fields.old) }
+    ensures { TakesField result fields.new (spec.outcome_frame_at fields.old) }
 {
     Ok(Frame::Outcome {
         client: fields.u32()?,
@@ -81,7 +81,7 @@ fn read_outcome_frame(fields: &mut Fields) -> Result<Frame, FrameFault>
 // The frame, by its tag.
 #[tactic(auto, unfolding(crate::specs::Decoding::tagged_at))]
 fn read_tagged(fields: &mut Fields) -> Result<Frame, FrameFault>
-    ensures { Reads result fields.new (spec.tagged_at fields.old) }
+    ensures { TakesField result fields.new (spec.tagged_at fields.old) }
 {
     match fields.byte()? {
         ASK => read_ask(fields),
@@ -110,7 +110,7 @@ fn frame_of(body: &[u8]) -> Result<Frame, FrameFault>
 
 // The length of the body that the first two bytes state.
 fn stated_length(bytes: &[u8]) -> usize
-    requires { 2 ≤ length bytes.now }
+    requires { LENGTH_BYTES ≤ length bytes.now }
     ensures { result ≡ spec.stated_length bytes.now }
 {
     usize::from(BigEndian::read_u16(bytes))
@@ -119,17 +119,17 @@ fn stated_length(bytes: &[u8]) -> usize
 // The frame whose body has this length, behind the two bytes that state it.
 #[tactic(auto, unfolding(crate::specs::Decoding::with_length))]
 fn with_length(size: usize, bytes: &[u8]) -> Result<(Frame, usize), FrameFault>
-    requires { 2 ≤ length bytes.now }
+    requires { LENGTH_BYTES ≤ length bytes.now }
     ensures { result ≡ spec.with_length size bytes.now }
 {
     if size == 0 || MAX_BODY < size {
         return Err(FrameFault::BadLength);
     }
-    let end = 2 + size;
+    let end = LENGTH_BYTES + size;
     if bytes.len() < end {
         return Err(FrameFault::Short);
     }
-    let frame = frame_of(&bytes[2..end])?;
+    let frame = frame_of(&bytes[LENGTH_BYTES..end])?;
     Ok((frame, end))
 }
 
@@ -138,7 +138,7 @@ fn with_length(size: usize, bytes: &[u8]) -> Result<(Frame, usize), FrameFault>
 fn first_frame(bytes: &[u8]) -> Result<(Frame, usize), FrameFault>
     ensures { result ≡ decoded bytes.now }
 {
-    if bytes.len() < 2 {
+    if bytes.len() < LENGTH_BYTES {
         return Err(FrameFault::Short);
     }
     with_length(stated_length(bytes), bytes)
@@ -151,13 +151,16 @@ fn first_frame(bytes: &[u8]) -> Result<(Frame, usize), FrameFault>
 /// beginning of a frame; with any other fault they are no frame's, whatever bytes follow.
 pub fn decode(bytes: &[u8]) -> Result<(Frame, usize), FrameFault>
     // What is decoded is spelled so.
-    ensures spelled { IfOk result (λ found. (found.1 ≤ length bytes.now) × Spells found.0 (take found.1 bytes.now)) }
+    ensures spelled { IfOk result (λ found.
+        (found.1 ≤ length bytes.now) × Spells found.0 (take found.1 bytes.now)) }
     // What is spelled so is decoded, whatever follows it.
-    ensures taken { (frame : AnyFrame) (k : ℕ) → k ≤ length bytes.now → Spells frame (take k bytes.now) → result ≡ Ok (frame, k) }
+    ensures taken { (frame : AnyFrame) (k : ℕ) → k ≤ length bytes.now
+        → Spells frame (take k bytes.now) → result ≡ Ok (frame, k) }
     // Which fault it is.
     ensures exact { result ≡ decoded bytes.now }
     // More bytes change nothing, unless these were too few.
-    ensures settled { (more : List ℕ) → result ≢ Err FrameFault.Short → decoded (bytes.now ++ more) ≡ result }
+    ensures settled { (more : List ℕ) → result ≢ Err FrameFault.Short
+        → decoded (bytes.now ++ more) ≡ result }
 {
     first_frame(bytes)
 }

@@ -4,7 +4,7 @@ ghost use Rattle.sb_frames.specs.Grammar as grammar;
 ghost use Rattle.sb_frames.specs.Grammar.{IsFrame, Spells};
 
 use crate::decoding::{ACK, ANSWER, ASK, ENTRY, FLUSH, OUTCOME};
-use crate::frame::Frame;
+use crate::frame::{Frame, MAX_FRAME};
 use crate::writing::{Body, put, put_call, put_outcome, put_reply};
 use arrayvec::ArrayVec;
 
@@ -56,7 +56,7 @@ fn body_of(frame: &Frame) -> Body
 }
 
 /// The bytes of a frame: the length of its body, its tag and its fields. It takes no memory.
-pub fn encode(frame: &Frame) -> ArrayVec<u8, 66>
+pub fn encode(frame: &Frame) -> ArrayVec<u8, MAX_FRAME>
     ensures { Spells frame.now result.items }
 {
     let body = body_of(frame);

@@ -2,7 +2,7 @@
 ghost use Rattle.std.specs.Prelude.{◌≡◌, ◌==◌, IfOk, length, Ok, Err};
 ghost use Rattle.std.specs.Int.{w32, w64};
 ghost use Rattle.sb_frames.specs.Reading as spec;
-ghost use Rattle.sb_frames.specs.Reading.{Reads, ReadsBytes};
+ghost use Rattle.sb_frames.specs.Reading.{TakesField, TakesBytes};
 
 use crate::fault::FrameFault;
 use sb_amount::Cents;
@@ -39,7 +39,7 @@ impl<'a> Fields<'a> {
     }
 
     pub(crate) fn byte(&mut self) -> Result<u8, FrameFault>
-        ensures { Reads result self.new (spec.byte_at self.old) }
+        ensures { TakesField result self.new (spec.byte_at self.old) }
     {
         match self.bytes {
             [] => Err(FrameFault::BadLength),
@@ -53,7 +53,7 @@ impl<'a> Fields<'a> {
     // This many bytes.
     #[tactic(auto, unfolding(crate::specs::Reading::bytes_at))]
     fn bytes(&mut self, count: usize) -> Result<&'a [u8], FrameFault>
-        ensures read { ReadsBytes result self.new (spec.bytes_at count self.old) }
+        ensures read { TakesBytes result self.new (spec.bytes_at count self.old) }
         ensures size { IfOk result (λ front. length front.now ≡ count) }
     {
         if self.bytes.len() < count {
@@ -66,7 +66,7 @@ impl<'a> Fields<'a> {
 
     #[tactic(auto, unfolding(crate::specs::Reading::number_at))]
     pub(crate) fn u32(&mut self) -> Result<u32, FrameFault>
-        ensures { Reads result self.new (spec.number_at w32 self.old) }
+        ensures { TakesField result self.new (spec.number_at w32 self.old) }
     {
         let cells = self.bytes(4)?;
         Ok(u32::from_be_bytes([cells[0], cells[1], cells[2], cells[3]]))
@@ -74,7 +74,7 @@ impl<'a> Fields<'a> {
 
     #[tactic(auto, unfolding(crate::specs::Reading::number_at))]
     pub(crate) fn u64(&mut self) -> Result<u64, FrameFault>
-        ensures { Reads result self.new (spec.number_at w64 self.old) }
+        ensures { TakesField result self.new (spec.number_at w64 self.old) }
     {
         let cells = self.bytes(8)?;
         Ok(u64::from_be_bytes([
@@ -84,21 +84,21 @@ impl<'a> Fields<'a> {
 
     #[tactic(auto, unfolding(crate::specs::Reading::signed_at))]
     pub(crate) fn i64(&mut self) -> Result<i64, FrameFault>
-        ensures { Reads result self.new (spec.signed_at self.old) }
+        ensures { TakesField result self.new (spec.signed_at self.old) }
     {
         Ok(self.u64()?.cast_signed())
     }
 
     #[tactic(auto, unfolding(crate::specs::Reading::amount_at))]
     pub(crate) fn amount(&mut self) -> Result<Cents, FrameFault>
-        ensures { Reads result self.new (spec.amount_at self.old) }
+        ensures { TakesField result self.new (spec.amount_at self.old) }
     {
         Cents::new(self.i64()?).ok_or(FrameFault::BadAmount)
     }
 
     #[tactic(auto, unfolding(crate::specs::Reading::name_at))]
     pub(crate) fn name(&mut self) -> Result<Name, FrameFault>
-        ensures { Reads result self.new (spec.name_at self.old) }
+        ensures { TakesField result self.new (spec.name_at self.old) }
     {
         let size = usize::from(self.byte()?);
         if size == 0 || NAME_BYTES < size {

@@ -6,6 +6,12 @@ use sb_calls::Call;
 /// The greatest length that a frame may state for its body, in bytes.
 pub const MAX_BODY: usize = 64;
 
+// How many bytes state the length of a body.
+pub(crate) const LENGTH_BYTES: usize = 2;
+
+/// The greatest length of a frame, in bytes.
+pub const MAX_FRAME: usize = LENGTH_BYTES + MAX_BODY;
+
 /// A message between a client, the sequencer and a replica.
 #[derive(Clone, Copy, Debug, PartialEq, Eq)]
 pub enum Frame {

@@ -1,20 +1,32 @@
 //! What the grammar and the stream are.
-ghost use Rattle.std.specs.Prelude.{◌≡◌, ℕ, List, ◌++◌, Ok, length};
+ghost use Rattle.std.specs.Prelude.{◌≡◌, ℕ, pos, List, ◌++◌, Ok, length};
 ghost use Rattle.sb_frames.specs.Decoding.{decoded};
 ghost use Rattle.sb_frames.specs.Grammar.{Spells};
 ghost use Rattle.sb_frames.specs.Streaming.{FramesOfBytes};
 ghost use Rattle.sb_frames.specs.declared.frame.Frame.{Frame as AnyFrame};
 
+use crate::frame::{MAX_BODY, MAX_FRAME};
+use crate::reply::TOTAL_LIMIT;
+
+/// The limits, as numbers.
+pub fn limits()
+    ensures body { MAX_BODY ≡ 64 }
+    ensures frame { MAX_FRAME ≡ 66 }
+    ensures total { TOTAL_LIMIT ≡ pos 2000000000000 }
+{}
+
 /// No spelling begins another, and each is of one frame: bytes that begin with a spelling begin with no
 /// other, and say one frame.
 pub fn one_spelling()
-    ensures { (f g : AnyFrame) (a b x y : List ℕ) → Spells f a → Spells g b → a ++ x ≡ b ++ y → (f ≡ g) × (a ≡ b) }
+    ensures { (f g : AnyFrame) (a b x y : List ℕ) → Spells f a → Spells g b
+        → a ++ x ≡ b ++ y → (f ≡ g) × (a ≡ b) }
 {}
 
 /// Bytes that begin with a frame's spelling are decoded as that frame, and take as many bytes as the
 /// spelling has.
 pub fn spelled_is_decoded()
-    ensures { (frame : AnyFrame) (front rest : List ℕ) → Spells frame front → decoded (front ++ rest) ≡ Ok (frame, length front) }
+    ensures { (frame : AnyFrame) (front rest : List ℕ) → Spells frame front
+        → decoded (front ++ rest) ≡ Ok (frame, length front) }
 {}
 
 /// After any calls on a new stream, the bytes that it took are the spellings of the frames that it

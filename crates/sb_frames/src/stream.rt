@@ -1,6 +1,7 @@
 //! A stream of bytes, read as frames.
-ghost use Rattle.std.specs.Prelude.{◌≡◌, ◌↔◌, [], IsTrue, false};
-ghost use Rattle.sb_frames.specs.Streaming.{StreamState, opened, Feeds, next_of, Step, Fed, Next};
+ghost use Rattle.std.specs.Prelude.{◌≡◌, ◌↔◌, [], Err, IsTrue, false, true, IfNone, IfOk, IfSome, OnErr};
+ghost use Rattle.sb_frames.specs.Streaming.{StreamState, opened, Feeds, next_of, Step, Fed, Next, HandsOut, IsShort, FailsBy};
+ghost use Rattle.sb_frames.specs.declared.fault.StreamFault.{StreamFault as AnyStreamFault};
 
 use crate::decoding::decode;
 use crate::fault::{FrameFault, StreamFault};
@@ -63,6 +64,14 @@ impl Stream {
     pub fn next(&mut self) -> Result<Option<Frame>, StreamFault>
         ensures state { (result, self.new) ≡ next_of self.old }
         ensures step { Step self.old (Next result) self.new }
+        // What the stream passed over is the frame's spelling.
+        ensures frame { IfOk result (λ next. IfSome next (λ frame. HandsOut self.old frame self.new)) }
+        // Nothing changes where there is none yet.
+        ensures short { IfOk result (λ next. IfNone next (IsShort self.old × (self.new ≡ self.old))) }
+        // Each fault comes exactly where it says; memory is never refused.
+        ensures fault { (fault : AnyStreamFault) → (result ≡ Err fault) ↔ FailsBy self.old fault }
+        // After a fault the stream has failed, and its unread bytes stay.
+        ensures failed { OnErr result (self.new ≡ record self.old { failed = true }) }
     {
         if self.broken {
             return Err(StreamFault::Failed);

@@ -14,10 +14,24 @@ use crate::reply::WireReply;
 use arrayvec::ArrayVec;
 use sb_amount::Cents;
 use sb_calls::Call;
-use sb_rows::Name;
+use sb_rows::{NAME_BYTES, Name};
 
 /// A frame's tag and fields.
 pub(crate) type Body = ArrayVec<u8, MAX_BODY>;
+
+// How many bytes each field takes at most: a name with its length, cents, a call of a name and an amount
+// with its kind, any call (two names are the most), a reply with its code, and an outcome with its status.
+const NAME_FIELD: usize = 1 + NAME_BYTES;
+
+const AMOUNT_FIELD: usize = 8;
+
+const NAME_AND_AMOUNT: usize = 1 + NAME_FIELD + AMOUNT_FIELD;
+
+const CALL_FIELD: usize = 1 + 2 * NAME_FIELD;
+
+const REPLY_FIELD: usize = 1 + AMOUNT_FIELD;
+
+const OUTCOME_FIELD: usize = 1 + REPLY_FIELD;
 
 /// Puts bytes last.
 pub(crate) fn put(body: &mut Body, bytes: &[u8])
@@ -27,11 +41,11 @@ pub(crate) fn put(body: &mut Body, bytes: &[u8])
     body.try_extend_from_slice(bytes).unwrap();
 }
 
-// At most 21 bytes.
+// At most `NAME_FIELD` bytes.
 fn put_name(body: &mut Body, name: &Name)
-    requires { length body.old.items + 21 ≤ MAX_BODY }
+    requires { length body.old.items + NAME_FIELD ≤ MAX_BODY }
     ensures spelled { body.new.items ≡ body.old.items ++ name_field name.now }
-    ensures room { length body.new.items ≤ length body.old.items + 21 }
+    ensures room { length body.new.items ≤ length body.old.items + NAME_FIELD }
     ensures valid { IsName name.now }
 {
     let text = name.text();
@@ -39,19 +53,19 @@ fn put_name(body: &mut Body, name: &Name)
     put(body, text);
 }
 
-// Eight bytes.
 #[tactic(auto, unfolding(crate::specs::Fields::number_field))]
 fn put_cents(body: &mut Body, cents: i64)
-    requires { length body.old.items + 8 ≤ MAX_BODY }
+    requires { length body.old.items + AMOUNT_FIELD ≤ MAX_BODY }
     ensures { body.new.items ≡ body.old.items ++ amount_field cents }
 {
     put(body, &cents.to_be_bytes());
 }
 
-// A call of a kind that takes a name and an amount: at most 30 bytes.
+// A call of a kind that takes a name and an amount.
 fn put_name_and_amount(body: &mut Body, kind: u8, name: &Name, amount: Cents)
-    requires { length body.old.items + 30 ≤ MAX_BODY }
-    ensures spelled { body.new.items ≡ body.old.items ++ (kind ∷ (name_field name.now ++ amount_field amount)) }
+    requires { length body.old.items + NAME_AND_AMOUNT ≤ MAX_BODY }
+    ensures spelled { body.new.items
+        ≡ body.old.items ++ (kind ∷ (name_field name.now ++ amount_field amount)) }
     ensures valid { IsName name.now × IsWithinLimit amount }
 {
     put(body, &[kind]);
@@ -59,9 +73,9 @@ fn put_name_and_amount(body: &mut Body, kind: u8, name: &Name, amount: Cents)
     put_cents(body, amount.value());
 }
 
-/// At most 43 bytes: a kind and two names.
+/// At most `CALL_FIELD` bytes.
 pub(crate) fn put_call(body: &mut Body, call: &Call)
-    requires { length body.old.items + 43 ≤ MAX_BODY }
+    requires { length body.old.items + CALL_FIELD ≤ MAX_BODY }
     ensures spelled { body.new.items ≡ body.old.items ++ call_field call.now }
     ensures valid { IsCall call.now }
 {
@@ -85,9 +99,9 @@ pub(crate) fn put_call(body: &mut Body, call: &Call)
     }
 }
 
-/// Nine bytes.
+/// A reply, in `REPLY_FIELD` bytes.
 pub(crate) fn put_reply(body: &mut Body, reply: WireReply)
-    requires { length body.old.items + 9 ≤ MAX_BODY }
+    requires { length body.old.items + REPLY_FIELD ≤ MAX_BODY }
     ensures spelled { body.new.items ≡ body.old.items ++ reply_field reply }
     ensures valid { IsReply reply }
 {
@@ -98,16 +112,16 @@ pub(crate) fn put_reply(body: &mut Body, reply: WireReply)
 
 // A status, and nine zeros in place of a reply.
 fn put_no_reply(body: &mut Body, status: u8)
-    requires { length body.old.items + 10 ≤ MAX_BODY }
+    requires { length body.old.items + OUTCOME_FIELD ≤ MAX_BODY }
     ensures { body.new.items ≡ body.old.items ++ (status ∷ no_reply_field) }
 {
     put(body, &[status, 0]);
     put_cents(body, 0);
 }
 
-/// Ten bytes.
+/// A status and a reply, in `OUTCOME_FIELD` bytes.
 pub(crate) fn put_outcome(body: &mut Body, outcome: AskOutcome)
-    requires { length body.old.items + 10 ≤ MAX_BODY }
+    requires { length body.old.items + OUTCOME_FIELD ≤ MAX_BODY }
     ensures spelled { body.new.items ≡ body.old.items ++ outcome_field outcome }
     ensures valid { IsOutcome outcome }
 {

@@ -8,4 +8,4 @@ pub mod Places
 pub mod Pushes
 pub mod RowsLemmas
 pub mod Spelling
-pub mod TextPlaces
+pub mod TextsLeft

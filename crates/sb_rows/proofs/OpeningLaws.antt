@@ -15,15 +15,15 @@ use Rattle.sb_rows.specs.Name.{IsName}
 use Rattle.sb_rows.specs.Opening.{◌>>=◌, OpeningText, customer_line, opening_lines, customers_from, customer_of, opening_of}
 use Rattle.sb_rows.specs.Reads.{Reads}
 use Rattle.sb_rows.specs.Rows.{SameCustomers}
-use Rattle.sb_rows.specs.Text.{lines, words, place_after, after_lines}
+use Rattle.sb_rows.specs.Text.{lines, words, bytes_of_lines, after_lines}
 use Rattle.sb_rows.specs.declared.fault.LineFault.{LineFault}
 use Rattle.sb_rows.specs.declared.fault.OpeningFault.{OpeningFault}
 use Rattle.sb_rows.specs.declared.fault.OpeningFault.TheVariants.{Line, OutOfMemory}
 use Rattle.sb_rows.specs.declared.opening.Opening.{Opening}
 use Rattle.sb_rows.proofs.Customers.{names_of-customers_of, balances_of-customers_of}
-use Rattle.sb_rows.proofs.OpeningSteps.{customers_from-begin, customers_from-more, customers_from-fault, customers_from-nil, with_place}
+use Rattle.sb_rows.proofs.OpeningSteps.{customers_from-begin, customers_from-more, customers_from-fault, customers_from-nil, with_consumed}
 use Rattle.sb_rows.proofs.Spelling.{IsNext, customer_of-customer_line, customer_line-begin, line_read}
-use Rattle.sb_rows.proofs.TextPlaces.{lines-after_lines, drop-place_after}
+use Rattle.sb_rows.proofs.TextsLeft.{lines-after_lines, drop-bytes_of_lines}
 
 -- ---- customers of a bank may come one after another
 
@@ -69,9 +69,9 @@ customers_from-opening before (c ∷ cs) rest bank =
 
 -- what a text says where it is spelled so
 opening_of-opening : (text : List ℕ) (customers : List Customer) (rest : List (List ℕ)) → IsBank customers → lines text ≡ opening_lines customers ++ rest
-    → opening_of text ≡ Ok (record { names = names_of customers; balances = balances_of customers; place = place_after (length customers + 1) text })
+    → opening_of text ≡ Ok (record { names = names_of customers; balances = balances_of customers; consumed = bytes_of_lines (length customers + 1) text })
 opening_of-opening text customers rest bank h =
-    ap (λ r. r >>= with_place text) (ap (customers_from []) h ∙ customers_from-opening [] customers rest bank)
+    ap (λ r. r >>= with_consumed text) (ap (customers_from []) h ∙ customers_from-opening [] customers rest bank)
 
 -- ---- what is read is spelled so
 
@@ -118,32 +118,32 @@ length-opening_lines customers =
 
 -- the lines that were read, and where the text goes on
 lines-opening : (text : List ℕ) (customers : List Customer) → customers_from [] (lines text) ≡ Ok customers
-    → lines text ≡ opening_lines customers ++ lines (drop (place_after (length customers + 1) text) text)
+    → lines text ≡ opening_lines customers ++ lines (drop (bytes_of_lines (length customers + 1) text) text)
 lines-opening text customers h =
     let got = IsRead-from [] (lines text) customers h in
     let spelled : lines text ≡ opening_lines customers ++ got.rest = got.spelled ∙ ap (λ cs. opening_lines cs ++ got.rest) (sym got.all) in
-    let there : lines (drop (place_after (length customers + 1) text) text) ≡ got.rest =
-    ap lines (drop-place_after (length customers + 1) text) ∙ ap (λ n. lines (after_lines n text)) (sym (length-opening_lines customers))
+    let there : lines (drop (bytes_of_lines (length customers + 1) text) text) ≡ got.rest =
+    ap lines (drop-bytes_of_lines (length customers + 1) text) ∙ ap (λ n. lines (after_lines n text)) (sym (length-opening_lines customers))
     ∙ lines-after_lines text (opening_lines customers) got.rest spelled in
     spelled ∙ ap (λ ls. opening_lines customers ++ ls) (sym there)
 
--- a text opens with these customers, and goes on at the place
+-- a text opens with these customers, and goes on behind these bytes
 abbrev IsSpelled : List ℕ → List Customer → ℕ → Type 0
-IsSpelled text customers place = lines text ≡ opening_lines customers ++ lines (drop place text)
+IsSpelled text customers consumed = lines text ≡ opening_lines customers ++ lines (drop consumed text)
 
 -- what a text says, it spells
-spelled_from_read : (text : List ℕ) (names : List (List ℕ)) (b : Balances) (place : ℕ) (r : Result (List Customer) (ℕ × LineFault))
-    → customers_from [] (lines text) ≡ r → opening_of text ≡ Ok (record { names = names; balances = b; place = place })
-    → IsSpelled text (customers_of names b) place
-spelled_from_read text names b place (Ok cs) e h =
-    let said : OpeningText = record { names = names; balances = b; place = place } in
-    let read : OpeningText = record { names = names_of cs; balances = balances_of cs; place = place_after (length cs + 1) text } in
-    let result : ◌≡◌ {A = Result OpeningText (ℕ × LineFault)} (Ok read) (Ok said) = sym (ap (λ r. r >>= with_place text) e) ∙ h in
+spelled_from_read : (text : List ℕ) (names : List (List ℕ)) (b : Balances) (consumed : ℕ) (r : Result (List Customer) (ℕ × LineFault))
+    → customers_from [] (lines text) ≡ r → opening_of text ≡ Ok (record { names = names; balances = b; consumed = consumed })
+    → IsSpelled text (customers_of names b) consumed
+spelled_from_read text names b consumed (Ok cs) e h =
+    let said : OpeningText = record { names = names; balances = b; consumed = consumed } in
+    let read : OpeningText = record { names = names_of cs; balances = balances_of cs; consumed = bytes_of_lines (length cs + 1) text } in
+    let result : ◌≡◌ {A = Result OpeningText (ℕ × LineFault)} (Ok read) (Ok said) = sym (ap (λ r. r >>= with_consumed text) e) ∙ h in
     let same : read ≡ said = cc in
     let customers : cs ≡ customers_of names b = sym (customers_back cs) ∙ (λ i. customers_of (same i).names (same i).balances) in
-    subst₂ (IsSpelled text) customers (ap (λ (o : OpeningText). o.place) same) (lines-opening text cs e)
-spelled_from_read text names b place (Err fault) e h =
-    let result : ◌≡◌ {A = Result OpeningText (ℕ × LineFault)} (Err fault) (Ok (record { names = names; balances = b; place = place })) = sym (ap (λ r. r >>= with_place text) e) ∙ h in cc
+    subst₂ (IsSpelled text) customers (ap (λ (o : OpeningText). o.consumed) same) (lines-opening text cs e)
+spelled_from_read text names b consumed (Err fault) e h =
+    let result : ◌≡◌ {A = Result OpeningText (ℕ × LineFault)} (Err fault) (Ok (record { names = names; balances = b; consumed = consumed })) = sym (ap (λ r. r >>= with_consumed text) e) ∙ h in cc
 
 -- names and balances of the same customers are those of a bank
 IsBank-customers_of : (names : List (List ℕ)) (b : Balances) → SameCustomers names b → IsBank (customers_of names b)
@@ -156,9 +156,9 @@ IsBank-customers_of names b h = record {
 
 -- what it reads is spelled so
 pub Reads-spelled : (text : List ℕ) (r : Result Opening OpeningFault) → Reads r (opening_of text)
-    → IfOk r (λ o. IsBank (customers_of o.directory o.columns) × IsSpelled text (customers_of o.directory o.columns) o.place)
+    → IfOk r (λ o. IsBank (customers_of o.directory o.columns) × IsSpelled text (customers_of o.directory o.columns) o.consumed)
 Reads-spelled text (Ok o) h =
-    (IsBank-customers_of o.directory o.columns o.same_customers, spelled_from_read text o.directory o.columns o.place (customers_from [] (lines text)) refl h)
+    (IsBank-customers_of o.directory o.columns o.same_customers, spelled_from_read text o.directory o.columns o.consumed (customers_from [] (lines text)) refl h)
 Reads-spelled text (Err fault) h = tt
 
 -- what is spelled so it reads, unless memory runs out
@@ -166,8 +166,8 @@ pub Reads-taken : (text : List ℕ) (r : Result Opening OpeningFault) → Reads 
     → (customers : List Customer) (rest : List (List ℕ)) → IsBank customers → lines text ≡ opening_lines customers ++ rest
     → MatchResult r (λ o. (o.directory ≡ names_of customers) × (o.columns ≡ balances_of customers)) (λ fault. fault ≡ OutOfMemory)
 Reads-taken text (Ok o) h customers rest bank e =
-    let read : OpeningText = record { names = names_of customers; balances = balances_of customers; place = place_after (length customers + 1) text } in
-    let said : OpeningText = record { names = o.directory; balances = o.columns; place = o.place } in
+    let read : OpeningText = record { names = names_of customers; balances = balances_of customers; consumed = bytes_of_lines (length customers + 1) text } in
+    let said : OpeningText = record { names = o.directory; balances = o.columns; consumed = o.consumed } in
     let result : ◌≡◌ {A = Result OpeningText (ℕ × LineFault)} (Ok said) (Ok read) = sym h ∙ opening_of-opening text customers rest bank e in
     let same : said ≡ read = cc in
     (ap (λ (x : OpeningText). x.names) same, ap (λ (x : OpeningText). x.balances) same)

@@ -5,7 +5,7 @@ use Rattle.sb_rows.specs.Customer.{Customer, customers_of, names_of, balances_of
 use Rattle.sb_rows.specs.Opening.{◌>>=◌, OpeningText, customers_from, customer_of, opening_of}
 use Rattle.sb_rows.specs.Reads.{Adds, Reads}
 use Rattle.sb_rows.specs.Rows.{SameCustomers}
-use Rattle.sb_rows.specs.Text.{lines, words, after_line, after_lines, place_after}
+use Rattle.sb_rows.specs.Text.{lines, words, after_line, after_lines, bytes_of_lines}
 use Rattle.sb_rows.specs.declared.fault.LineFault.{LineFault}
 use Rattle.sb_rows.specs.declared.fault.LineFault.TheVariants.{NoBegin}
 use Rattle.sb_rows.specs.declared.fault.OpeningFault.{OpeningFault}
@@ -43,23 +43,23 @@ after_lines-next (suc n) text = after_lines-next n (after_line text)
 -- ---- the whole opening
 
 -- what goes on with the customers
-abbrev pub with_place : List ℕ → List Customer → Result OpeningText (ℕ × LineFault)
-with_place text customers =
-    Ok (record { names = names_of customers; balances = balances_of customers; place = place_after (length customers + 1) text })
+abbrev pub with_consumed : List ℕ → List Customer → Result OpeningText (ℕ × LineFault)
+with_consumed text customers =
+    Ok (record { names = names_of customers; balances = balances_of customers; consumed = bytes_of_lines (length customers + 1) text })
 
 -- all customers were read
-pub opening_of-ok : (text : List ℕ) (names : List (List ℕ)) (b : Balances) (place : ℕ) → SameCustomers names b
-    → customers_from [] (lines text) ≡ Ok (customers_of names b) → place_after (length names + 1) text ≡ place
-    → opening_of text ≡ Ok (record { names = names; balances = b; place = place })
-opening_of-ok text names b place h e at =
-    let at_place : place_after (length (customers_of names b) + 1) text ≡ place = ap (λ n. place_after (n + 1) text) (length-customers_of names b h) ∙ at in
-    ap (λ r. r >>= with_place text) e
-    ∙ (λ i. Ok (record { names = names_of-customers_of names b h i; balances = balances_of-customers_of names b h i; place = at_place i }))
+pub opening_of-ok : (text : List ℕ) (names : List (List ℕ)) (b : Balances) (consumed : ℕ) → SameCustomers names b
+    → customers_from [] (lines text) ≡ Ok (customers_of names b) → bytes_of_lines (length names + 1) text ≡ consumed
+    → opening_of text ≡ Ok (record { names = names; balances = b; consumed = consumed })
+opening_of-ok text names b consumed h e at =
+    let at_byte : bytes_of_lines (length (customers_of names b) + 1) text ≡ consumed = ap (λ n. bytes_of_lines (n + 1) text) (length-customers_of names b h) ∙ at in
+    ap (λ r. r >>= with_consumed text) e
+    ∙ (λ i. Ok (record { names = names_of-customers_of names b h i; balances = balances_of-customers_of names b h i; consumed = at_byte i }))
 
 -- a line was at fault
 pub opening_of-fault : (text : List ℕ) (number : ℕ) (fault : LineFault) → customers_from [] (lines text) ≡ Err (number, fault)
     → opening_of text ≡ Err (number, fault)
-opening_of-fault text number fault e = ap (λ r. r >>= with_place text) e
+opening_of-fault text number fault e = ap (λ r. r >>= with_consumed text) e
 
 -- what stopped at a line stops the reading
 pub Reads-fault : (text : List ℕ) (before after : List Customer) (line : List ℕ) (ls : List (List ℕ)) (fault : OpeningFault)

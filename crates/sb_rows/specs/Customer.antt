@@ -19,7 +19,8 @@ balances_of customers = record { savings = map (λ c. c.savings) customers; chec
 -- the customers with these names and balances, by place
 abbrev pub customers_of : List (List ℕ) → Balances → List Customer
 customers_of names balances =
-    map (λ e. record { name = e.0; savings = e.1.0; checking = e.1.1 }) (zip names (zip balances.savings balances.checking))
+    map (λ e. record { name = e.0; savings = e.1.0; checking = e.1.1 })
+    (zip names (zip balances.savings balances.checking))
 
 -- customers that a bank may have: valid names, all different, at most 65,536; balances in their ranges
 pub record IsBank (customers : List Customer) : Type 0 where

@@ -26,10 +26,12 @@ pub record IsStored (cells : List ℕ) (size : ℕ) : Type 0 where
 
 -- the cells and the length of a name that is stored, from its text
 pub stored_back : (cells : List ℕ) (size : ℕ) → IsStored cells size
-    → (take size cells ++ replicate (NAME_BYTES - length (take size cells)) 0 ≡ cells) × (length (take size cells) ≡ size)
+    → (take size cells ++ replicate (NAME_BYTES - length (take size cells)) 0 ≡ cells)
+    × (length (take size cells) ≡ size)
 stored_back cells size h =
     let same : length (take size cells) ≡ size = length-take-le size cells (omega (arith, h.all, h.within)) in (
-      ap (λ n. take size cells ++ replicate (NAME_BYTES - n) 0) same ∙ ap (λ rest. take size cells ++ rest) (sym h.zeros) ∙ take-append-drop size cells,
+      ap (λ n. take size cells ++ replicate (NAME_BYTES - n) 0) same
+          ∙ ap (λ rest. take size cells ++ rest) (sym h.zeros) ∙ take-append-drop size cells,
       same,
     )
 

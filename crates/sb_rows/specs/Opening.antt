@@ -8,7 +8,7 @@ use Rattle.sb_amount.specs.declared.fault.MoneyFault.{MoneyFault}
 use Rattle.sb_rows.specs.Balances.{Balances}
 use Rattle.sb_rows.specs.Customer.{Customer, names_of, balances_of}
 use Rattle.sb_rows.specs.Name.{is_name}
-use Rattle.sb_rows.specs.Text.{lines, words, place_after}
+use Rattle.sb_rows.specs.Text.{lines, words, bytes_of_lines}
 use Rattle.sb_rows.specs.declared.columns.TheConstants.{CUSTOMERS}
 use Rattle.sb_rows.specs.declared.fault.LineFault.{LineFault}
 use Rattle.sb_rows.specs.declared.fault.LineFault.TheVariants.{BadLine, BadName, DoubleName, BadMoney, NegativeSavings, TooMany, NoBegin}
@@ -61,15 +61,20 @@ unfoldable pub customers_from : List Customer → List (List ℕ) → Result (Li
 customers_from before [] = Err (length before + 1, NoBegin)
 customers_from before (line ∷ ls) =
     if bytes_eq line (codes "begin") then Ok before
-    else (at_line (length before + 1) (customer_of before (words line)) >>= λ customer. customers_from (before ++ customer ∷ []) ls)
+    else (at_line (length before + 1) (customer_of before (words line)) >>= λ customer.
+    customers_from (before ++ customer ∷ []) ls)
 
 -- the names, the balances, and how many bytes the opening takes
 pub record OpeningText : Type 0 where
   pub names : List (List ℕ)
   pub balances : Balances
-  pub place : ℕ
+  pub consumed : ℕ
 
 -- what a text opens with, or its first line at fault with its fault
 abbrev pub opening_of : List ℕ → Result OpeningText (ℕ × LineFault)
 opening_of text = customers_from [] (lines text) >>= λ customers.
-    Ok (record { names = names_of customers; balances = balances_of customers; place = place_after (length customers + 1) text })
+    Ok (record {
+      names = names_of customers;
+      balances = balances_of customers;
+      consumed = bytes_of_lines (length customers + 1) text;
+    })

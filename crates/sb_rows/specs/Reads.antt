@@ -10,12 +10,14 @@ use Rattle.sb_rows.specs.declared.opening.Opening.{Opening}
 
 -- the opening as the text says it, or the first fault; memory may run out
 abbrev pub Reads : Result Opening OpeningFault → Result OpeningText (ℕ × LineFault) → Type 0
-Reads (Ok o) read = read ≡ Ok (record { names = o.directory; balances = o.columns; place = o.place })
+Reads (Ok o) read = read ≡ Ok (record { names = o.directory; balances = o.columns; consumed = o.consumed })
 Reads (Err (Line line fault)) read = read ≡ Err (line, fault)
 Reads (Err OutOfMemory) read = Unit {0}
 
 -- the customer of a line goes behind those before, or the line's number and first fault; memory may run out
 abbrev pub Adds : List Customer → List ℕ → List Customer → Result (Unit {0}) OpeningFault → Type 0
-Adds before line after (Ok _) = (customer : Customer) × (customer_of before (words line) ≡ Ok customer) × (after ≡ before ++ customer ∷ [])
-Adds before line after (Err (Line number fault)) = (number ≡ length before + 1) × (customer_of before (words line) ≡ Err fault)
+Adds before line after (Ok _) =
+    (customer : Customer) × (customer_of before (words line) ≡ Ok customer) × (after ≡ before ++ customer ∷ [])
+Adds before line after (Err (Line number fault)) =
+    (number ≡ length before + 1) × (customer_of before (words line) ≡ Err fault)
 Adds before line after (Err OutOfMemory) = Unit {0}

@@ -41,5 +41,5 @@ after_lines zero text = text
 after_lines (suc n) text = after_lines n (after_line text)
 
 -- how many bytes the first n lines of a text take
-abbrev pub place_after : ℕ → List ℕ → ℕ
-place_after n text = length text - length (after_lines n text)
+abbrev pub bytes_of_lines : ℕ → List ℕ → ℕ
+bytes_of_lines n text = length text - length (after_lines n text)

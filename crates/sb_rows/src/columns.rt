@@ -104,7 +104,10 @@ impl Columns {
     pub fn push(&mut self, savings: Cents, checking: Cents) -> Result<(), AllocError>
         requires room { length self.old.savings < CUSTOMERS }
         requires not_negative { pos 0 ≤ℤ savings }
-        ensures ok { OnOk result (self.new ≡ record { savings = self.old.savings ++ savings ∷ []; checking = self.old.checking ++ checking ∷ [] }) }
+        ensures ok { OnOk result (self.new ≡ record {
+          savings = self.old.savings ++ savings ∷ [];
+          checking = self.old.checking ++ checking ∷ [];
+        }) }
         ensures err { OnErr result (self.new ≡ self.old) }
         ensures valid { IsBalances self.new }
     {

@@ -25,7 +25,9 @@ pub(crate) struct CustomerLine {
 
 // The words of a line that has three.
 fn three_words(line: &[u8]) -> Option<(&[u8], &[u8], &[u8])>
-    ensures { MatchOption result (length (words line.now) ≢ 3) (λ w. words line.now ≡ w.0.now ∷ w.1.now ∷ w.2.now ∷ []) }
+    ensures { MatchOption result
+        (length (words line.now) ≢ 3)
+        (λ w. words line.now ≡ w.0.now ∷ w.1.now ∷ w.2.now ∷ []) }
 {
     let (first, rest) = next_word(line);
     let (second, rest) = next_word(rest?);
@@ -38,14 +40,18 @@ fn three_words(line: &[u8]) -> Option<(&[u8], &[u8], &[u8])>
 
 // One amount of a line.
 fn read_amount(text: &[u8]) -> Result<Cents, LineFault>
-    ensures { MatchResult result (λ v. read_money text.now ≡ Ok v) (λ fault. (fault ≡ LineFault.BadMoney) × IsErr (read_money text.now)) }
+    ensures { MatchResult result
+        (λ v. read_money text.now ≡ Ok v)
+        (λ fault. (fault ≡ LineFault.BadMoney) × IsErr (read_money text.now)) }
 {
     Cents::read(text).map_err(|_| LineFault::BadMoney)
 }
 
 // The name of a new customer.
 fn read_name(before: &Directory, word: &[u8]) -> Result<Name, LineFault>
-    ensures { MatchResult result (IsNewName before.now word.now) (λ fault. name_fault before.now word.now ≡ Some fault) }
+    ensures { MatchResult result
+        (IsNewName before.now word.now)
+        (λ fault. name_fault before.now word.now ≡ Some fault) }
 {
     let Some(name) = Name::new(word) else {
         return Err(LineFault::BadName);
@@ -58,8 +64,11 @@ fn read_name(before: &Directory, word: &[u8]) -> Result<Name, LineFault>
 
 // The savings and the checking balance of the customer at a place.
 fn read_amounts(place: usize, savings: &[u8], checking: &[u8]) -> Result<(Cents, Cents), LineFault>
-    ensures exact { (name : List ℕ) → let read = with_amounts place name (read_money savings.now) (read_money checking.now) in
-        MatchResult result (λ v. read ≡ Ok (record { name = name; savings = v.0; checking = v.1 })) (λ fault. read ≡ Err fault) }
+    ensures exact { (name : List ℕ)
+        → let read = with_amounts place name (read_money savings.now) (read_money checking.now) in
+        MatchResult result
+        (λ v. read ≡ Ok (record { name = name; savings = v.0; checking = v.1 }))
+        (λ fault. read ≡ Err fault) }
     ensures room { IfOk result (λ v. place < CUSTOMERS) }
     ensures not_negative { IfOk result (λ v. pos 0 ≤ℤ v.0) }
 {
@@ -77,7 +86,9 @@ fn read_amounts(place: usize, savings: &[u8], checking: &[u8]) -> Result<(Cents,
 // The customer of a line, or the line's first fault, where the customers of the lines before it are known.
 pub(crate) fn read_customer(before: &Directory, line: &[u8]) -> Result<CustomerLine, LineFault>
     ensures exact { (customers : List Customer) → names_of customers ≡ before.now
-        → MatchResult result (λ c. customer_of customers (words line.now) ≡ Ok (customer c)) (λ fault. customer_of customers (words line.now) ≡ Err fault) }
+        → MatchResult result
+        (λ c. customer_of customers (words line.now) ≡ Ok (customer c))
+        (λ fault. customer_of customers (words line.now) ≡ Err fault) }
     ensures new { IfOk result (λ c. place_of before.now c.name ≡ None) }
     ensures room { IfOk result (λ c. length before.now < CUSTOMERS) }
     ensures not_negative { IfOk result (λ c. pos 0 ≤ℤ c.savings) }

@@ -1,6 +1,6 @@
 //! Why an opening text is refused.
 ghost use Rattle.std.specs.Prelude.{◌≡◌};
-ghost use Rattle.sb_rows.specs.Fault.{opening_fault_number};
+ghost use Rattle.sb_rows.specs.Fault.{line_fault_number, opening_fault_number};
 ghost use Rattle.sb_rows.specs.declared.fault.OpeningFault.TheVariants.{OutOfMemory};
 
 use std::alloc::AllocError;
@@ -11,25 +11,42 @@ use thiserror::Error;
 pub enum LineFault {
     /// The line hasn't three words.
     #[error("bad line")]
-    BadLine = 1,
+    BadLine,
     /// The first word is no name.
     #[error("bad name")]
-    BadName = 2,
+    BadName,
     /// The name stood on a line before.
     #[error("double name")]
-    DoubleName = 3,
+    DoubleName,
     /// One of the amounts is no money text.
     #[error("bad money")]
-    BadMoney = 4,
+    BadMoney,
     /// The savings are below 0.
     #[error("negative savings")]
-    NegativeSavings = 5,
+    NegativeSavings,
     /// It is one customer more than a bank has.
     #[error("too many customers")]
-    TooMany = 6,
+    TooMany,
     /// The text has no line `begin`; the fault is at the line after the last.
     #[error("no begin")]
-    NoBegin = 7,
+    NoBegin,
+}
+
+impl LineFault {
+    /// The number of the fault, from 1 to 7 in the order of the variants.
+    pub fn number(&self) -> u8
+        ensures { result ≡ line_fault_number self.now }
+    {
+        match self {
+            LineFault::BadLine => 1,
+            LineFault::BadName => 2,
+            LineFault::DoubleName => 3,
+            LineFault::BadMoney => 4,
+            LineFault::NegativeSavings => 5,
+            LineFault::TooMany => 6,
+            LineFault::NoBegin => 7,
+        }
+    }
 }
 
 /// Why an opening text is refused.
@@ -62,7 +79,7 @@ impl OpeningFault {
         ensures { result ≡ opening_fault_number self.now }
     {
         match self {
-            OpeningFault::Line { fault, .. } => *fault as u8,
+            OpeningFault::Line { fault, .. } => fault.number(),
             OpeningFault::OutOfMemory => 8,
         }
     }

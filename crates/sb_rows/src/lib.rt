@@ -16,7 +16,7 @@ mod text;
 pub use columns::{CUSTOMERS, Columns};
 pub use directory::Directory;
 pub use fault::{LineFault, OpeningFault};
-pub use laws::rows_by_place;
+pub use laws::{limits, rows_by_place};
 pub use name::{NAME_BYTES, Name};
 pub use opening::Opening;
 pub use reading::read_opening;

@@ -19,12 +19,13 @@ pub struct Name {
     // The length stands first, where a refusal's one byte would: so the bytes are copied as one piece.
     len: u8,
     // The text, and zeros after it.
-    bytes: [u8; 20],
+    bytes: [u8; NAME_BYTES],
 }
 
 impl Model for Name {
     ghost use Rattle.std.specs.Prelude.{ℕ, ◌-◌, List, ◌++◌, take, length, replicate};
     ghost use Rattle.sb_rows.specs.Name.{IsStored, stored_back};
+    ghost use Rattle.sb_rows.specs.declared.name.TheConstants.{NAME_BYTES};
 
     ghost Value = { List ℕ };
 
@@ -32,9 +33,11 @@ impl Model for Name {
 
     ghost invariant = { λ n. IsStored n.bytes n.len };
 
-    ghost inverse = { λ text. record { bytes = text ++ replicate (20 - length text) 0; len = length text } };
+    ghost inverse = { λ text. record { bytes = text ++ replicate (NAME_BYTES - length text) 0; len = length text } };
 
-    ghost inverse_ok = { λ n h i. record { bytes = (stored_back n.bytes n.len h).0 i; len = (stored_back n.bytes n.len h).1 i } };
+    ghost inverse_ok = { λ n h i.
+        let back = stored_back n.bytes n.len h in
+        record { bytes = back.0 i; len = back.1 i } };
 }
 
 // Whether a byte may stand in a name. Most are letters, so these are tested first.

@@ -12,6 +12,6 @@ pub struct Opening {
     /// Their balances.
     pub columns: Columns,
     /// How many bytes the opening takes: what follows the line `begin` begins there.
-    pub place: usize,
+    pub consumed: usize,
     ghost same_customers: { SameCustomers directory columns },
 }

@@ -22,7 +22,8 @@ fn add_customer(
 ) -> Result<(), OpeningFault>
     requires { SameCustomers directory.old columns.old }
     ensures same { IfOk result (λ _. SameCustomers directory.new columns.new) }
-    ensures adds { Adds (customers_of directory.old columns.old) line.now (customers_of directory.new columns.new) result }
+    ensures adds { Adds (customers_of directory.old columns.old) line.now
+        (customers_of directory.new columns.new) result }
 {
     let number = directory.len() + 1;
     let customer = match read_customer(directory, line) {
@@ -42,7 +43,7 @@ fn add_customer(
 // What the text opens with, or the first line at fault.
 fn read_lines(alloc: Global, text: &[u8]) -> Result<Opening, OpeningFault>
     ensures exact { Reads result (opening_of text.now) }
-    ensures within { IfOk result (λ o. o.place ≤ length text.now) }
+    ensures within { IfOk result (λ o. o.consumed ≤ length text.now) }
 {
     let mut directory = Directory::new(alloc);
     let mut columns = Columns::new(alloc);
@@ -53,7 +54,7 @@ fn read_lines(alloc: Global, text: &[u8]) -> Result<Opening, OpeningFault>
             return Ok(Opening {
                 directory,
                 columns,
-                place: text.len() - rest.len(),
+                consumed: text.len() - rest.len(),
             });
         }
         add_customer(&mut directory, &mut columns, line)?;
@@ -69,16 +70,19 @@ fn read_lines(alloc: Global, text: &[u8]) -> Result<Opening, OpeningFault>
 /// Fails with the first line at fault and its first fault, in the order of [`crate::LineFault`]'s
 /// variants; a text without the line `begin` is at fault at the line after its last.
 pub fn read_opening(alloc: Global, text: &[u8]) -> Result<Opening, OpeningFault>
-    // What is read is spelled so, and the text goes on at the place.
+    // What is read is spelled so, and the text goes on behind the bytes that it takes.
     ensures spelled { IfOk result (λ o.
         IsBank (customers_of o.directory o.columns)
-        × (lines text.now ≡ opening_lines (customers_of o.directory o.columns) ++ lines (drop o.place text.now))) }
+        × (lines text.now ≡ opening_lines (customers_of o.directory o.columns) ++ lines (drop o.consumed text.now))) }
     // What is spelled so is read, unless memory runs out.
-    ensures taken { (customers : List Customer) (rest : List (List ℕ)) → IsBank customers → lines text.now ≡ opening_lines customers ++ rest
-        → MatchResult result (λ o. (o.directory ≡ names_of customers) × (o.columns ≡ balances_of customers)) (λ fault. fault ≡ OpeningFault.OutOfMemory) }
-    // The names, the balances and the place, or the first fault with its line.
+    ensures taken { (customers : List Customer) (rest : List (List ℕ)) → IsBank customers
+        → lines text.now ≡ opening_lines customers ++ rest
+        → MatchResult result
+        (λ o. (o.directory ≡ names_of customers) × (o.columns ≡ balances_of customers))
+        (λ fault. fault ≡ OpeningFault.OutOfMemory) }
+    // The names, the balances and the bytes taken, or the first fault with its line.
     ensures exact { Reads result (opening_of text.now) }
-    ensures within { IfOk result (λ o. o.place ≤ length text.now) }
+    ensures within { IfOk result (λ o. o.consumed ≤ length text.now) }
 {
     read_lines(alloc, text)
 }

@@ -30,7 +30,7 @@ fn fault_of(alloc: Global, text: &str) -> Result<Option<(usize, LineFault)>, Fai
 fn reads_an_opening(rt: HostRuntime) -> Result<(), Fail> {
     let text = "alice 100.00 50.00\nbob 0.00 20.00\ncarol 10.00 0.00\nbegin\nalice bob\n";
     let opening = read_opening(rt.alloc(), text.as_bytes())?;
-    assert_eq!(rt; opening.place, 57);
+    assert_eq!(rt; opening.consumed, 57);
     assert_eq!(rt; opening.columns.savings(), [10_000, 0, 1_000].as_slice());
     assert_eq!(rt; opening.columns.checking(), [5_000, 2_000, 0].as_slice());
     assert_eq!(rt; opening.directory.len(), 3);
@@ -45,7 +45,7 @@ fn reads_an_opening(rt: HostRuntime) -> Result<(), Fail> {
 
 #[test]
 fn reads_openings_at_their_edges(rt: HostRuntime) -> Result<(), Fail> {
-    for (text, customers, place) in [
+    for (text, customers, consumed) in [
         ("begin", 0, 5),
         ("begin\n", 0, 6),
         ("begin\nbegin\n", 0, 6),
@@ -57,7 +57,7 @@ fn reads_openings_at_their_edges(rt: HostRuntime) -> Result<(), Fail> {
         let opening = read_opening(rt.alloc(), text.as_bytes())?;
         assert_eq!(rt; opening.directory.len(), customers, "{text}");
         assert_eq!(rt; opening.columns.customers(), customers, "{text}");
-        assert_eq!(rt; opening.place, place, "{text}");
+        assert_eq!(rt; opening.consumed, consumed, "{text}");
     }
     Ok(())
 }
@@ -157,10 +157,29 @@ fn takes_as_many_customers_as_a_bank_has(rt: HostRuntime) -> Result<(), Fail> {
     );
     text.push_str("begin\n")?;
     let opening = read_opening(rt.alloc(), text.as_bytes())?;
-    assert_eq!(rt; opening.place, text.len());
+    assert_eq!(rt; opening.consumed, text.len());
     assert_eq!(rt; opening.directory.len(), 65_536);
     assert_eq!(rt; opening.columns.customers(), 65_536);
     assert_eq!(rt; opening.directory.place(&name("c65535")?), Some(65_535));
+    Ok(())
+}
+
+#[test]
+fn copies_as_many_customers_as_a_bank_has(rt: HostRuntime) -> Result<(), Fail> {
+    let mut text = many_lines(rt.alloc(), 65_536)?;
+    text.push_str("begin\n")?;
+    let opening = read_opening(rt.alloc(), text.as_bytes())?;
+    let names = opening.directory.copy()?;
+    assert_eq!(rt; names.len(), 65_536);
+    for place in 0..65_536 {
+        assert_eq!(rt; names.name(place), opening.directory.name(place), "{place}");
+    }
+    assert_eq!(rt; names.place(&name("c0")?), Some(0));
+    assert_eq!(rt; names.place(&name("c65535")?), Some(65_535));
+    let columns = opening.columns.copy()?;
+    assert_eq!(rt; columns.customers(), 65_536);
+    assert_eq!(rt; columns.savings(), opening.columns.savings());
+    assert_eq!(rt; columns.checking(), opening.columns.checking());
     Ok(())
 }
 

@@ -14,8 +14,10 @@ abbrev pub IsAnswered : List (Key × Call) → Key × Call → Result Numbered A
 -- a new key gets the next number
 IsAnswered log ask (Ok (New n)) = (place_of_key log ask.0 ≡ None) × (length log < LOG_CALLS) × (n ≡ length log + 1)
 -- a key that has a number keeps it, where the call is the same
-IsAnswered log ask (Ok (Repeat n)) = (k : ℕ) × (place_of_key log ask.0 ≡ Some k) × (n ≡ k + 1) × (slice_get log k ≡ Some ask)
-IsAnswered log ask (Err (Mismatch n)) = (k : ℕ) × (place_of_key log ask.0 ≡ Some k) × (n ≡ k + 1) × (slice_get log k ≢ Some ask)
+IsAnswered log ask (Ok (Repeat n)) =
+    (k : ℕ) × (place_of_key log ask.0 ≡ Some k) × (n ≡ k + 1) × (slice_get log k ≡ Some ask)
+IsAnswered log ask (Err (Mismatch n)) =
+    (k : ℕ) × (place_of_key log ask.0 ≡ Some k) × (n ≡ k + 1) × (slice_get log k ≢ Some ask)
 -- a new key at a full log
 IsAnswered log ask (Err LogFull) = (place_of_key log ask.0 ≡ None) × (LOG_CALLS ≤ length log)
 -- memory may run out for a new key alone
@@ -27,8 +29,10 @@ LogAfter old ask (Ok (New n)) new = new ≡ old ++ ask ∷ []
 LogAfter old ask (Ok (Repeat n)) new = new ≡ old
 LogAfter old ask (Err fault) new = new ≡ old
 
--- after asks whose first ones are the log, the log is the first ones of these and this; an ask that is refused for memory doesn't count
-abbrev pub Numbers : List (Key × Call) → List (Key × Call) → Key × Call → Result Numbered AskFault → List (Key × Call) → Type 0
+-- after asks whose first ones are the log, the log is the first ones of these and this; an ask that is
+-- refused for memory doesn't count
+abbrev pub Numbers : List (Key × Call) → List (Key × Call) → Key × Call → Result Numbered AskFault
+    → List (Key × Call) → Type 0
 Numbers asks old ask (Ok numbered) new = old ≡ first_asks asks → new ≡ first_asks (asks ++ ask ∷ [])
 Numbers asks old ask (Err (Mismatch n)) new = old ≡ first_asks asks → new ≡ first_asks (asks ++ ask ∷ [])
 Numbers asks old ask (Err LogFull) new = old ≡ first_asks asks → new ≡ first_asks (asks ++ ask ∷ [])

@@ -17,7 +17,8 @@ has_key asks key = list_any (λ ask. same_key key ask.0) asks
 abbrev pub firsts_after : List (Key × Call) → List (Key × Call) → List (Key × Call)
 firsts_after before [] = []
 firsts_after before (ask ∷ asks) =
-    if has_key before ask.0 then firsts_after (before ++ ask ∷ []) asks else ask ∷ firsts_after (before ++ ask ∷ []) asks
+    if has_key before ask.0 then firsts_after (before ++ ask ∷ []) asks
+    else ask ∷ firsts_after (before ++ ask ∷ []) asks
 
 -- the log: the first asks of each key, in order, at most 1,000,000
 unfoldable pub first_asks : List (Key × Call) → List (Key × Call)

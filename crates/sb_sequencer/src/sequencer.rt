@@ -43,8 +43,9 @@ fn same_call(a: &Call, b: &Call) -> bool
 // What a key comes to that stands at this place of a log with this call.
 fn answered(place: usize, numbered: &Call, call: &Call) -> Result<Numbered, AskFault>
     requires { place < LOG_CALLS }
-    ensures answer { (log : List (AnyKey × AnyCall)) → (key : AnyKey) → place_of_key log key ≡ Some place → slice_get log place ≡ Some (key, numbered.now) → IsAnswered log (key, call.now) result }
-    ensures log { (log : List (AnyKey × AnyCall)) → (ask : AnyKey × AnyCall) → LogAfter log ask result log }
+    ensures answer { (log : List (AnyKey × AnyCall)) (key : AnyKey) → place_of_key log key ≡ Some place
+        → slice_get log place ≡ Some (key, numbered.now) → IsAnswered log (key, call.now) result }
+    ensures log { (log : List (AnyKey × AnyCall)) (ask : AnyKey × AnyCall) → LogAfter log ask result log }
 {
     let number = place as u64 + 1;
     if same_call(numbered, call) {
@@ -141,9 +142,12 @@ impl Sequencer {
         // Only a new number changes the log.
         ensures log { LogAfter self.old (record { client = client; request = request }, call.now) result self.new }
         // Unless memory is refused, the log is the one that this ask makes of it.
-        ensures step { result ≢ Err AskFault.OutOfMemory → self.new ≡ log_with self.old (record { client = client; request = request }, call.now) }
+        ensures step { result ≢ Err AskFault.OutOfMemory
+            → self.new ≡ log_with self.old (record { client = client; request = request }, call.now) }
         // Whatever was asked before, the log is the first asks of each key.
-        ensures numbering { (asks : List (AnyKey × AnyCall)) → Numbers asks self.old (record { client = client; request = request }, call.now) result self.new }
+        ensures numbering { (asks : List (AnyKey × AnyCall))
+            → Numbers asks self.old (record { client = client; request = request }, call.now) result self.new }
+        ensures valid { IsLog self.new }
     {
         let key = Key { client, request };
         if self.is_full() {

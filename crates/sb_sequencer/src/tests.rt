@@ -1,6 +1,7 @@
 use super::*;
 use sb_calls::{Call, Key};
 use sb_rows::Name;
+use std::process::Abort;
 use std::test::Fail;
 
 // The call that shows the balance of the customer with this name.
@@ -62,14 +63,19 @@ fn shows_calls_by_number(rt: HostRuntime) -> Result<(), Fail> {
     Ok(())
 }
 
+// Asks an empty log for as many calls as it takes.
+fn fill(rt: &impl Abort, log: &mut Sequencer, call: &Call) {
+    for request in 0..1_000_000 {
+        let number = u64::from(request) + 1;
+        assert_eq!(rt; log.ask(1, request, call), Ok(Numbered::New(number)));
+    }
+}
+
 #[test]
 fn a_full_log_takes_repeats_alone(rt: HostRuntime) -> Result<(), Fail> {
     let mut log = Sequencer::open(rt.alloc());
     let alice = balance("alice")?;
-    for request in 0..1_000_000 {
-        let number = u64::from(request) + 1;
-        assert_eq!(rt; log.ask(1, request, &alice), Ok(Numbered::New(number)));
-    }
+    fill(&rt, &mut log, &alice);
     assert_eq!(rt; log.ask(1, 1_000_000, &alice), Err(AskFault::LogFull));
     assert_eq!(rt; log.ask(1, 0, &alice), Ok(Numbered::Repeat(1)));
     assert_eq!(rt; log.ask(1, 0, &balance("bob")?), Err(AskFault::Mismatch(1)));
@@ -80,6 +86,20 @@ fn a_full_log_takes_repeats_alone(rt: HostRuntime) -> Result<(), Fail> {
     assert_eq!(rt; log.length(), 1_000_000);
     assert_eq!(rt; log.call(1_000_000), Some(&alice));
     assert_eq!(rt; log.call(1_000_001), None);
+    Ok(())
+}
+
+#[test]
+fn room_for_more_calls_than_a_log_takes(rt: HostRuntime) -> Result<(), Fail> {
+    let mut log = Sequencer::with_capacity(rt.alloc(), 1_500_000)?;
+    let alice = balance("alice")?;
+    fill(&rt, &mut log, &alice);
+    assert_eq!(rt; log.ask(1, 1_000_000, &alice), Err(AskFault::LogFull));
+    assert_eq!(rt;
+        log.ask(1, 999_999, &alice),
+        Ok(Numbered::Repeat(1_000_000))
+    );
+    assert_eq!(rt; log.length(), 1_000_000);
     Ok(())
 }
 

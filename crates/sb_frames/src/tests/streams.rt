@@ -92,6 +92,33 @@ fn a_stream_has_ended_where_nothing_is_unread(rt: HostRuntime) -> Result<(), Fai
     Ok(())
 }
 
+// 10,008 bytes in pieces of 5,000, each cut within a frame.
+#[test]
+fn two_large_pieces_with_no_next_between(rt: HostRuntime) -> Result<(), Fail> {
+    let call = Call::Balance(name("alice")?);
+    let mut bytes = Vec::new(rt.alloc());
+    for number in 0..556 {
+        bytes.extend_from_slice(encode(&Frame::Entry { number, call }).as_slice())?;
+    }
+    let mut stream = Stream::new(rt.alloc());
+    let mut pieces = bytes.chunks(5_000);
+    for _ in 0..2 {
+        let piece = pieces.next().ok_or("too few bytes")?;
+        assert_eq!(rt; piece.len(), 5_000);
+        assert_eq!(rt; stream.feed(piece), Ok(()));
+    }
+    for number in 0..555 {
+        assert_eq!(rt; stream.next(), Ok(Some(Frame::Entry { number, call })));
+    }
+    assert_eq!(rt; stream.next(), Ok(None));
+    let last = pieces.next().ok_or("too few bytes")?;
+    assert_eq!(rt; stream.feed(last), Ok(()));
+    let entry = Frame::Entry { number: 555, call };
+    assert_eq!(rt; stream.next(), Ok(Some(entry)));
+    assert!(rt; stream.ended());
+    Ok(())
+}
+
 // 1,048,590 bytes: a stream that copied what is unread, or what was read, at each of them would take minutes.
 const ENTRIES: u64 = 58_255;
 

@@ -11,7 +11,7 @@ fn numbers_and_words_of_the_faults(rt: HostRuntime) -> Result<(), Fail> {
         (FrameFault::BadReply, 6, "bad reply"),
         (FrameFault::BadStatus, 7, "bad status"),
     ] {
-        assert_eq!(rt; fault as u8, number);
+        assert_eq!(rt; fault.number(), number);
         assert_eq!(rt; fault.to_string(rt.alloc())?.as_str(), words);
     }
     Ok(())

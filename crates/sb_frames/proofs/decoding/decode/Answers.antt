@@ -5,7 +5,8 @@ use Rattle.sb_frames.proofs.decoding.decode.Goals as goal
 
 pub returns-clause-spelled : goal.returns-clause-spelled
 returns-clause-spelled c =
-    found_is_spelled c.args.bytes.now c.first_frame.result (All-from_get_or (λ byte. byte < 256) c.args.bytes.now 0 (λ i lt. omega (arith, c.type_inv.bytes i))) c.first_frame.ensures
+    found_is_spelled c.args.bytes.now c.first_frame.result
+    (All-from_get_or (λ byte. byte < 256) c.args.bytes.now 0 (λ i lt. omega (arith, c.type_inv.bytes i))) c.first_frame.ensures
 
 pub returns-clause-taken : goal.returns-clause-taken
 returns-clause-taken c = λ frame k long h. c.first_frame.ensures ∙ spelled_is_found c.args.bytes.now frame k long h

@@ -25,3 +25,6 @@ returns-clause-step c other =
 
 pub returns-clause-numbering : goal.returns-clause-numbering
 returns-clause-numbering c asks = Numbers-from_step asks c.args.self.now c.ask_with_room.new.log.entries _ _ (returns-clause-step c)
+
+pub returns-clause-valid : goal.returns-clause-valid
+returns-clause-valid c = invariant_of-self c

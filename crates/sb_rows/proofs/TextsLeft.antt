@@ -1,9 +1,9 @@
--- Where a text goes on after some of its lines.
+-- What is left of a text after some of its lines.
 use Rattle.std.proofs.Common.{◌≡◌, ℕ, zero, suc, ◌+◌, ◌-◌, ◌≤◌, not, inl, inr, List, [], ◌∷◌, ◌++◌, length, take, drop, refl, sym, ap, ◌∙◌, arith, length-drop, drop-drop, drop_of_length-le, le_antisymm}
 use Rattle.std.specs.List.{position_or_len}
 use Rattle.std.proofs.lemmas.Bool.{cases_lt}
 use Rattle.std.proofs.lemmas.List.Sums.{prefix_len-le-length}
-use Rattle.sb_rows.specs.Text.{lines, is_line_feed, after_line, after_lines, place_after}
+use Rattle.sb_rows.specs.Text.{lines, is_line_feed, after_line, after_lines, bytes_of_lines}
 use Rattle.sb_rows.proofs.OpeningSteps.{after_lines-next}
 use Rattle.sb_rows.proofs.Parting.{lines-nil, lines-at, lines-one}
 
@@ -44,8 +44,8 @@ drop_back k xs =
           drop_of_length-le xs back ∙ sym (drop_of_length-le xs l)
     ]
 
--- it goes on at the place after the lines
-pub drop-place_after : (n : ℕ) (text : List ℕ) → drop (place_after n text) text ≡ after_lines n text
-drop-place_after n text =
+-- it goes on behind the bytes of the lines
+pub drop-bytes_of_lines : (n : ℕ) (text : List ℕ) → drop (bytes_of_lines n text) text ≡ after_lines n text
+drop-bytes_of_lines n text =
     let ends = after_lines-drop n text in
     ap (λ rest. drop (length text - length rest) text) ends.1 ∙ drop_back ends.0 text ∙ sym ends.1
