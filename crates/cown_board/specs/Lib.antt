@@ -1,4 +1,5 @@
 pub mod Board
+pub mod Faults
 pub mod Fronts
 pub mod Invariant
 pub mod Job

@@ -1,10 +1,12 @@
 //! The board.
 ghost use Rattle.std.specs.Prelude.{◌≡◌, ◌≢◌, ◌↔◌, ◌<◌, ◌≤◌, ◌-◌, ◌++◌, [], ◌∷◌, suc, length, slice_get, IsTrue, IfOk, remove, IfSome, OnOk, OnErr, IsErrOf, IsOk, Some, None, Ok, Err, MatchOption, MatchResult, vec_len, vec_capacity};
 ghost use Rattle.std.specs.VecDeque.{deque_len, deque_capacity};
+ghost use Rattle.sb_rows.specs.Balances.{IsBalances};
 ghost use Rattle.sb_calls.specs.Cowns.{AreBelow, AreHeld, IsRising, held_of, write_cowns};
 ghost use Rattle.sb_calls.specs.OneByOne.{reply_by_log};
 ghost use Rattle.cown_queue.specs.Queues.{IsInFront, Releases};
 ghost use Rattle.cown_board.specs.Board.{BoardOf, length_of, open_of, reply_in, Takes, Finishes, IsOutHere, IsAfterAll};
+ghost use Rattle.cown_board.specs.Faults.{submit_fault_number};
 ghost use Rattle.cown_board.specs.Played.{IsPlayed, Submitted, TakenAt, Returned};
 ghost use Rattle.cown_board.specs.Readiness.{ready_places};
 
@@ -37,6 +39,19 @@ pub enum SubmitFault {
     /// Memory was refused.
     #[error("out of memory")]
     OutOfMemory,
+}
+
+impl SubmitFault {
+    /// The number of the fault, from 1 to 3 in the order of the variants.
+    pub fn number(&self) -> u8
+        ensures { result ≡ submit_fault_number self.now }
+    {
+        match self {
+            SubmitFault::Busy => 1,
+            SubmitFault::LogFull => 2,
+            SubmitFault::OutOfMemory => 3,
+        }
+    }
 }
 
 /// A log of behaviours, of which those are handed out whose cowns are free.
@@ -237,7 +252,9 @@ impl<B: Behaviour> Board<B> {
 
     /// The columns after the whole log, or `None` while something is unfinished. Fails where memory is refused.
     pub fn columns(&self) -> Result<Option<Columns>, AllocError>
-        ensures value { IfOk result (λ columns. MatchOption columns (open_of self.now ≢ 0) (λ all. (open_of self.now ≡ 0) × IsAfterAll B.touches B.effect self.now all)) }
+        ensures value { IfOk result (λ columns. MatchOption columns (open_of self.now ≢ 0)
+            (λ all. (open_of self.now ≡ 0) × IsAfterAll B.touches B.effect self.now all)) }
+        ensures bank { IfOk result (λ columns. IfSome columns IsBalances) }
         ensures err { OnErr result (open_of self.now ≡ 0) }
     {
         if !self.idle() {

@@ -14,6 +14,6 @@ mod tests;
 
 pub use board::{Board, OPEN_BEHAVIOURS, SubmitFault};
 pub use job::{Done, Job};
-pub use laws::true_to_the_log;
+pub use laws::{limits, true_to_the_log};
 pub use runs::Runs;
 pub use state::State;

@@ -9,21 +9,32 @@ use crate::board::Board;
 use crate::job::{Done, Job};
 use sb_calls::{Op, Reply};
 
-/// Hands out ops that are ready, and takes back what they did.
+/// Hands out ops that are ready, and takes back what they did. What it has beside its board stays.
 pub trait Runs {
     /// The board that it owns.
     ghost board: { Self → BoardOf AnyOp };
 
+    /// What it may have beside its board, as names or a store.
+    ghost Beside: { Type 0 };
+
+    /// What it has beside its board.
+    ghost beside: { Self → Beside };
+
     /// Hands out the ready op that has this many ready ones before it, as [`Board::take_at`].
     fn take_at(&mut self, index: usize) -> Option<Job<Op>>
-        ensures { MatchOption result
-            ((length (ready_places declared_cowns (board self.old).log (board self.old).states) ≤ index) × (board self.new ≡ board self.old))
-            (λ job. Takes declared_cowns effect_of (board self.old) index job (board self.new)) };
+        ensures outcome { MatchOption result
+            ((length (ready_places declared_cowns (board self.old).log (board self.old).states) ≤ index)
+            × (board self.new ≡ board self.old))
+            (λ job. Takes declared_cowns effect_of (board self.old) index job (board self.new)) }
+        ensures beside { beside self.new ≡ beside self.old };
 
     /// Takes back what an op did, as [`Board::finish`].
     fn finish(&mut self, done: Done<Op>) -> Result<Reply, Done<Op>>
         ensures accepted { IsOk result ↔ IsOutHere declared_cowns effect_of (board self.old) done }
-        ensures outcome { MatchResult result (λ reply. Finishes declared_cowns effect_of (board self.old) done reply (board self.new)) (λ back. (back ≡ done) × (board self.new ≡ board self.old)) };
+        ensures outcome { MatchResult result
+            (λ reply. Finishes declared_cowns effect_of (board self.old) done reply (board self.new))
+            (λ back. (back ≡ done) × (board self.new ≡ board self.old)) }
+        ensures beside { beside self.new ≡ beside self.old };
 
     /// Whether nothing is unfinished.
     fn idle(&self) -> bool
@@ -32,18 +43,23 @@ pub trait Runs {
         ensures beside { length (board self.now).log ≡ length (board self.now).states };
 }
 
+// Each method is the board's own of that name. Beside it there is nothing.
 impl Runs for Board<Op> {
     ghost board = { λ board. board };
 
+    ghost Beside = { Unit {0} };
+
+    ghost beside = { λ board. tt };
+
     fn take_at(&mut self, index: usize) -> Option<Job<Op>> {
-        self.take_at(index)
+        Board::take_at(self, index)
     }
 
     fn finish(&mut self, done: Done<Op>) -> Result<Reply, Done<Op>> {
-        self.finish(done)
+        Board::finish(self, done)
     }
 
     fn idle(&self) -> bool {
-        self.idle()
+        Board::idle(self)
     }
 }

@@ -4,10 +4,10 @@ use Rattle.std.proofs.lemmas.Bool.{cases_eq, cases_lt, eqb-false, or_parts}
 use Rattle.std.proofs.lemmas.List.{get_or-map, get_or_past, length-map, map-set, set-get_or}
 use Rattle.std.specs.VecDeque.{deque_len, deque_capacity}
 use Rattle.std.specs.declared.collections.VecDeque.{VecDeque}
-use Rattle.sb_calls.specs.Cowns.{IsRising}
+use Rattle.sb_calls.specs.Cowns.{AreBelow, IsRising}
 use Rattle.sb_calls.specs.OneByOne.{is_among}
-use Rattle.cown_queue.specs.Queues.{list_of}
-use Rattle.cown_queue.specs.Rooms.{lists_of, rooms_of, room_at, HaveRoom, LoseNoRoom}
+use Rattle.cown_queue.specs.Queues.{list_of, IsInFront}
+use Rattle.cown_queue.specs.Rooms.{lists_of, rooms_of, room_at, HasRoomWithin, HaveRoom, HaveRoomWithin, LoseNoRoom}
 use Rattle.cown_queue.proofs.Changes.{is_among-rising}
 
 module _ {A : Type 0} where
@@ -78,11 +78,6 @@ module _ {A : Type 0} where
       there : other ≢ cown → room_at (rooms_of deques) other ≤ room_at (rooms_of (set deques cown new)) other
       there ne = omega (arith, room_at-set_other deques cown new other ne)
 
--- room that isn't lost stays
-pub HaveRoom-LoseNoRoom : (old new : List ℕ) (cowns : List ℕ) → LoseNoRoom old new → HaveRoom old cowns → HaveRoom new cowns
-HaveRoom-LoseNoRoom old new [] h have = tt
-HaveRoom-LoseNoRoom old new (cown ∷ cowns) h have = (omega (arith, h cown, have.0), HaveRoom-LoseNoRoom old new cowns h have.1)
-
 -- where room changes at one cown alone, the others have theirs
 HaveRoom-other : (old new : List ℕ) (cown : ℕ) (cowns : List ℕ) → is_among cown cowns ≡ false
     → ((other : ℕ) → other ≢ cown → room_at new other ≡ room_at old other) → HaveRoom old cowns → HaveRoom new cowns
@@ -98,6 +93,41 @@ HaveRoom-rest old new first cowns rising same have =
     HaveRoom-other old new first cowns (is_among-rising first cowns first rising (omega arith)) same have.1
 
 -- one cown more
-pub HaveRoom-push : (rooms : List ℕ) (cowns : List ℕ) (cown : ℕ) → HaveRoom rooms cowns → 0 < room_at rooms cown → HaveRoom rooms (cowns ++ cown ∷ [])
-HaveRoom-push rooms [] cown have l = (l, tt)
-HaveRoom-push rooms (first ∷ cowns) cown have l = (have.0, HaveRoom-push rooms cowns cown have.1 l)
+pub HaveRoomWithin-push : (rooms : List ℕ) (cowns : List ℕ) (cown : ℕ) → HaveRoomWithin rooms cowns → HasRoomWithin rooms cown
+    → HaveRoomWithin rooms (cowns ++ cown ∷ [])
+HaveRoomWithin-push rooms [] cown have one = (one, tt)
+HaveRoomWithin-push rooms (first ∷ cowns) cown have one = (have.0, HaveRoomWithin-push rooms cowns cown have.1 one)
+
+-- cowns that are there have room
+pub HaveRoom-Within : (rooms : List ℕ) (cowns : List ℕ) → AreBelow (length rooms) cowns → HaveRoomWithin rooms cowns → HaveRoom rooms cowns
+HaveRoom-Within rooms [] below have = tt
+HaveRoom-Within rooms (cown ∷ cowns) below have = (have.0 below.0, HaveRoom-Within rooms cowns below.1 have.1)
+
+-- room that isn't lost stays, also where there are cowns that aren't there
+HaveRoomWithin-LoseNoRoom : (old new : List ℕ) (cowns : List ℕ) → length new ≡ length old → LoseNoRoom old new → HaveRoomWithin old cowns → HaveRoomWithin new cowns
+HaveRoomWithin-LoseNoRoom old new [] same h have = tt
+HaveRoomWithin-LoseNoRoom old new (cown ∷ cowns) same h have = (
+  λ below. let before = have.0 (omega (arith, below, same)) in omega (arith, h cown, before),
+  HaveRoomWithin-LoseNoRoom old new cowns same h have.1,
+)
+
+module _ {A : Type 0} where
+  -- as many rooms as lists
+  pub length-rooms_of : (deques : List (VecDeque ℕ A)) → length (rooms_of deques) ≡ length (lists_of deques)
+  length-rooms_of deques = length-map deques room_in ∙ sym (length-lists_of deques)
+
+  pub HaveRoomWithin-stays : (old new : List (VecDeque ℕ A)) (cowns : List ℕ) → length (lists_of new) ≡ length (lists_of old)
+      → LoseNoRoom (rooms_of old) (rooms_of new) → HaveRoomWithin (rooms_of old) cowns → HaveRoomWithin (rooms_of new) cowns
+  HaveRoomWithin-stays old new cowns same h have =
+      HaveRoomWithin-LoseNoRoom (rooms_of old) (rooms_of new) cowns (length-rooms_of new ∙ same ∙ sym (length-rooms_of old)) h have
+
+-- a number in front at a cown is there
+pub IsInFront-below : (number : ℕ) (cowns : List ℕ) (lists : List (List ℕ)) → IsInFront number cowns lists → AreBelow (length lists) cowns
+IsInFront-below number [] lists front = tt
+IsInFront-below number (cown ∷ cowns) lists front = (within, IsInFront-below number cowns lists front.1)
+  where
+    within : cown < length lists
+    within = elim (cases_lt cown (length lists)) [
+      | inl below ↦ below
+      | inr past ↦ let none : number ∷ front.0.0 ≡ [] = sym front.0.1 ∙ get_or_past lists cown [] past in absurd (cc (none))
+    ]

@@ -1,5 +1,5 @@
 -- How much room the lists have, as numbers that each takes without memory.
-use Rattle.std.specs.Prelude.{ℕ, ◌<◌, ◌≤◌, ◌-◌, List, [], ◌∷◌, map, get_or}
+use Rattle.std.specs.Prelude.{ℕ, ◌<◌, ◌≤◌, ◌-◌, List, [], ◌∷◌, length, map, get_or}
 use Rattle.std.specs.VecDeque.{deque_len, deque_capacity}
 use Rattle.std.specs.declared.collections.VecDeque.{VecDeque}
 
@@ -20,6 +20,15 @@ room_at rooms cown = get_or rooms cown 0
 abbrev pub HaveRoom : List ℕ → List ℕ → Type 0
 HaveRoom rooms [] = Unit {0}
 HaveRoom rooms (cown ∷ cowns) = (0 < room_at rooms cown) × HaveRoom rooms cowns
+
+-- a cown has room for one number more, if it is there
+abbrev pub HasRoomWithin : List ℕ → ℕ → Type 0
+HasRoomWithin rooms cown = cown < length rooms → 0 < room_at rooms cown
+
+-- each of these cowns has that is there
+abbrev pub HaveRoomWithin : List ℕ → List ℕ → Type 0
+HaveRoomWithin rooms [] = Unit {0}
+HaveRoomWithin rooms (cown ∷ cowns) = HasRoomWithin rooms cown × HaveRoomWithin rooms cowns
 
 -- no cown has less room than before
 abbrev pub LoseNoRoom : List ℕ → List ℕ → Type 0

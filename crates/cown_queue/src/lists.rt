@@ -2,7 +2,7 @@
 ghost use Rattle.std.specs.Prelude.{◌≡◌, ◌≢◌, ◌<◌, ◌≤◌, ◌++◌, ℕ, [], ◌∷◌, drop, length, replicate, slice_set, slice_get, IfOk, OnOk};
 ghost use Rattle.sb_calls.specs.Cowns.{AreBelow, IsRising};
 ghost use Rattle.cown_queue.specs.Queues.{list_of, fronts_of, Appends, Releases};
-ghost use Rattle.cown_queue.specs.Rooms.{lists_of, rooms_of, room_at, HaveRoom, LoseNoRoom};
+ghost use Rattle.cown_queue.specs.Rooms.{lists_of, rooms_of, room_at, HasRoomWithin, HaveRoom, HaveRoomWithin, LoseNoRoom};
 
 use arrayvec::ArrayVec;
 use sb_calls::Cown;
@@ -20,14 +20,17 @@ pub(crate) fn empty_lists(alloc: Global, count: usize) -> Result<Vec<VecDeque<u6
     Ok(lists)
 }
 
-// Makes room for one number more at a cown. Where memory is refused nothing changes.
+// Makes room for one number more at a cown, if there is that cown. Where memory is refused nothing changes.
 fn reserve_at(lists: &mut Vec<VecDeque<u64>>, cown: Cown) -> Result<(), AllocError>
-    requires { cown < length (lists_of lists.old.items) }
     ensures lists { lists_of lists.new.items ≡ lists_of lists.old.items }
     ensures rooms { LoseNoRoom (rooms_of lists.old.items) (rooms_of lists.new.items) }
-    ensures ok { OnOk result (0 < room_at (rooms_of lists.new.items) cown) }
+    ensures ok { OnOk result (HasRoomWithin (rooms_of lists.new.items) cown) }
 {
-    lists[cown.number()].reserve(1)
+    let number = cown.number();
+    if number >= lists.len() {
+        return Ok(());
+    }
+    lists[number].reserve(1)
 }
 
 // Puts a number last at a cown that has room for it.
@@ -51,20 +54,19 @@ fn pop_at(lists: &mut Vec<VecDeque<u64>>, cown: Cown)
     lists[cown.number()].pop_front();
 }
 
-// The first number at a cown.
+// The first number at a cown. A cown that isn't there has none.
 pub(crate) fn front_at(lists: &[VecDeque<u64>], cown: Cown) -> Option<u64>
-    requires { cown < length (lists_of lists.now) }
     ensures { result ≡ slice_get (list_of (lists_of lists.now) cown) 0 }
 {
-    lists[cown.number()].front().copied()
+    lists.get(cown.number())?.front().copied()
 }
 
-// Makes room for one number more at each of these cowns. Where memory is refused some may have it.
+// Makes room for one number more at each of these cowns that is there. Where memory is refused some may
+// have it.
 pub(crate) fn reserve_each(lists: &mut Vec<VecDeque<u64>>, cowns: &[Cown]) -> Result<(), AllocError>
-    requires { AreBelow (length (lists_of lists.old.items)) cowns.now }
     ensures lists { lists_of lists.new.items ≡ lists_of lists.old.items }
     ensures rooms { LoseNoRoom (rooms_of lists.old.items) (rooms_of lists.new.items) }
-    ensures ok { OnOk result (HaveRoom (rooms_of lists.new.items) cowns.now) }
+    ensures ok { OnOk result (HaveRoomWithin (rooms_of lists.new.items) cowns.now) }
 {
     for cown in cowns {
         reserve_at(lists, *cown)?;
@@ -97,8 +99,7 @@ pub(crate) fn pop_each(lists: &mut Vec<VecDeque<u64>>, cowns: &[Cown])
 
 // The first numbers of those of these cowns that hold one, in order.
 pub(crate) fn fronts_at(lists: &[VecDeque<u64>], cowns: &[Cown]) -> ArrayVec<u64, 3>
-    requires few { length cowns.now ≤ 3 }
-    requires cowns { AreBelow (length (lists_of lists.now)) cowns.now }
+    requires { length cowns.now ≤ 3 }
     ensures { result.items ≡ fronts_of (lists_of lists.now) cowns.now }
 {
     let mut fronts = ArrayVec::new();

@@ -1,5 +1,5 @@
 //! A queue for each cown.
-ghost use Rattle.std.specs.Prelude.{◌≡◌, ◌≤◌, ◌<◌, ℕ, [], length, replicate, slice_get, IfOk, OnOk, OnErr};
+ghost use Rattle.std.specs.Prelude.{◌≡◌, ◌≤◌, ◌<◌, ℕ, [], length, replicate, slice_get, vec_capacity, IfOk, OnOk, OnErr};
 ghost use Rattle.sb_calls.specs.Cowns.{AreBelow, IsRising};
 ghost use Rattle.cown_queue.specs.Queues.{CownQueues, list_of, fronts_of, Appends, IsInFront, Releases};
 
@@ -14,20 +14,20 @@ use std::marker::Model;
 #[derive(Drop)]
 pub struct Queues {
     lists: Vec<VecDeque<u64>>,
-    // The cowns whose lists have room for one number more.
-    reserved: ArrayVec<Cown, 3>,
+    // The cowns whose lists have room for one number more, if they are there.
+    reserved: Vec<Cown>,
 }
 
 impl Model for Queues {
     ghost use Rattle.std.specs.Prelude.{map};
     ghost use Rattle.cown_queue.specs.Queues.{CownQueues};
-    ghost use Rattle.cown_queue.specs.Rooms.{rooms_of, HaveRoom};
+    ghost use Rattle.cown_queue.specs.Rooms.{rooms_of, HaveRoomWithin};
 
     ghost Value = { CownQueues };
 
     ghost view = { λ q. record { lists = map (λ d. d.items) q.lists.items; reserved = q.reserved.items } };
 
-    ghost invariant = { λ q. HaveRoom (rooms_of q.lists.items) q.reserved.items };
+    ghost invariant = { λ q. HaveRoomWithin (rooms_of q.lists.items) q.reserved.items };
 }
 
 impl Queues {
@@ -37,7 +37,7 @@ impl Queues {
     {
         Ok(Queues {
             lists: empty_lists(alloc, cowns)?,
-            reserved: ArrayVec::new(),
+            reserved: Vec::new(alloc),
         })
     }
 
@@ -50,13 +50,13 @@ impl Queues {
 
     /// Makes room for one number more at these cowns; before, other cowns may have had it. Where memory is
     /// refused nothing changes.
+    ///
+    /// It allocates only where a list or the reserved cowns outgrow the memory that they have.
     pub fn reserve(&mut self, cowns: &[Cown]) -> Result<(), AllocError>
-        requires few { length cowns.now ≤ 3 }
-        requires rising { IsRising cowns.now }
-        requires cowns { AreBelow (length self.old.lists) cowns.now }
         ensures ok { OnOk result (self.new ≡ record self.old { reserved = cowns.now }) }
         ensures err { OnErr result (self.new ≡ self.old) }
     {
+        self.reserved.reserve(cowns.len())?;
         reserve_each(&mut self.lists, cowns)?;
         keep(&mut self.reserved, cowns);
         Ok(())
@@ -72,7 +72,7 @@ impl Queues {
         ensures reserved { self.new.reserved ≡ [] }
     {
         push_each(&mut self.lists, number, cowns);
-        self.reserved = ArrayVec::new();
+        self.reserved.clear();
     }
 
     /// Takes a number from the front of these cowns, and answers the new fronts of those that still hold
@@ -80,7 +80,6 @@ impl Queues {
     pub fn release(&mut self, number: u64, cowns: &[Cown]) -> ArrayVec<u64, 3>
         requires few { length cowns.now ≤ 3 }
         requires rising { IsRising cowns.now }
-        requires cowns { AreBelow (length self.old.lists) cowns.now }
         requires front { IsInFront number cowns.now self.old.lists }
         ensures lists { Releases cowns.now self.old.lists self.new.lists }
         ensures reserved { self.new.reserved ≡ self.old.reserved }
@@ -90,23 +89,22 @@ impl Queues {
         fronts_at(&self.lists, cowns)
     }
 
-    /// The number in front at a cown, if it holds one.
+    /// The number in front at a cown, if it holds one. A cown that isn't there holds none.
     pub fn front(&self, cown: Cown) -> Option<u64>
-        requires { cown < length self.now.lists }
         ensures { result ≡ slice_get (list_of self.now.lists cown) 0 }
     {
         front_at(&self.lists, cown)
     }
 }
 
-// Keeps these cowns and no others. They are written where they stay: copied as a whole at once, they would be
-// read back before the queues' first touches are over.
-fn keep(kept: &mut ArrayVec<Cown, 3>, cowns: &[Cown])
-    requires { length cowns.now ≤ 3 }
+// Keeps these cowns and no others, in the memory that there is. They are written where they stay: copied as a
+// whole at once, they would be read back before the queues' first touches are over.
+fn keep(kept: &mut Vec<Cown>, cowns: &[Cown])
+    requires { length cowns.now ≤ vec_capacity kept.old }
     ensures { kept.new.items ≡ cowns.now }
 {
-    *kept = ArrayVec::new();
+    kept.clear();
     for cown in cowns {
-        kept.push(*cown);
+        kept.push_reserved(*cown);
     }
 }

@@ -28,7 +28,6 @@ fn may_declare(cowns: &[Cown], bound: usize) -> bool
 
 // Whether a number is in front at each of these cowns.
 fn is_in_front(queues: &Queues, number: u64, cowns: &[Cown]) -> bool
-    requires { AreBelow (length queues.now.lists) cowns.now }
     ensures { IsTrue result → IsInFront number cowns.now queues.now.lists }
 {
     for cown in cowns {
@@ -143,6 +142,53 @@ fn room_made_for_other_cowns_is_given_up(rt: HostRuntime) -> Result<(), Fail> {
         finish(&rt, &mut queues, u64::MAX, &[a]).as_slice(),
         [0].as_slice()
     );
+    Ok(())
+}
+
+#[test]
+fn a_cown_that_is_not_there_holds_nothing(rt: HostRuntime) -> Result<(), Fail> {
+    let (a, b) = (Cown::new(0), Cown::new(1));
+    let mut queues = Queues::open(rt.alloc(), 2)?;
+    assert_eq!(rt; queues.front(Cown::new(2)), None);
+    assert_eq!(rt; queues.front(Cown::new(usize::MAX)), None);
+    // Room is made where there is a cown, in whatever order they come.
+    queues.reserve(&[Cown::new(usize::MAX), b, a, b, Cown::new(2), a])?;
+    assert_eq!(rt; queues.front(b), None);
+    spawn(&rt, &mut queues, 1, &[a, b])?;
+    assert_eq!(rt; queues.front(b), Some(1));
+    assert_eq!(rt; queues.front(Cown::new(2)), None);
+    assert_eq!(rt;
+        finish(&rt, &mut queues, 1, &[a, b]).as_slice(),
+        [].as_slice()
+    );
+    Ok(())
+}
+
+// As many as the greatest bank has.
+#[test]
+fn each_of_131072_cowns_has_a_queue(rt: HostRuntime) -> Result<(), Fail> {
+    let last = Cown::new(131_071);
+    let mut queues = Queues::open(rt.alloc(), 131_072)?;
+    assert_eq!(rt; queues.cowns(), 131_072);
+    for number in 1..=1_000 {
+        spawn(
+            &rt,
+            &mut queues,
+            number,
+            &[Cown::new(131 * number as usize), last],
+        )?;
+    }
+    assert_eq!(rt; queues.front(Cown::new(0)), None);
+    assert_eq!(rt; queues.front(Cown::new(131_000)), Some(1_000));
+    assert_eq!(rt; queues.front(Cown::new(131_072)), None);
+    for number in 1..1_000 {
+        assert_eq!(rt; queues.front(last), Some(number));
+        let cowns = [Cown::new(131 * number as usize), last];
+        assert_eq!(rt;
+            finish(&rt, &mut queues, number, &cowns).as_slice(),
+            [number + 1].as_slice()
+        );
+    }
     Ok(())
 }
 

@@ -2,12 +2,13 @@
 use Rattle.std.proofs.Common.{◌≡◌, ℕ, ◌<◌, ℤ, false, Result, Ok, Err, List, sym, ap, ◌∙◌, arith}
 use Rattle.std.specs.Prelude.{◌↔◌, IsOk, is_ok, MatchResult}
 use Rattle.std.proofs.lemmas.Bool.{true≢false}
+use Rattle.sb_calls.specs.Behaviour.{declared_cowns, effect_of}
 use Rattle.sb_calls.specs.declared.op.Op.{Op}
 use Rattle.sb_calls.specs.declared.reply.Reply.{Reply}
 use Rattle.cown_board.specs.Board.{BoardOf, open_of, IsOutHere, Takes, Finishes}
 use Rattle.cown_board.specs.Job.{JobOf, DoneOf}
-use Rattle.cown_workers.proofs.Changing.{Drains_trans, IsOf, Takes-drains, Finishes-drains, Takes-counts, Finishes-counts, Takes-here, NoneOut-again}
-use Rattle.cown_workers.specs.Draining.{Drains, NoneOut, waiting_of}
+use Rattle.cown_workers.proofs.Changing.{Drains_trans, Takes-drains, Finishes-drains, Takes-counts, Finishes-counts, Takes-here, NoneOut-again}
+use Rattle.cown_workers.specs.Draining.{Drains, IsOf, NoneOut, RunsInPlace, waiting_of}
 
 -- what is accepted is not refused
 pub no_refusal : {A E : Type 0} (answer : Result A E) → IsOk answer → is_ok answer ≡ false → ⊥
@@ -27,7 +28,7 @@ module _ (touches : Op → List ℕ) (effect : Op → List ℤ → Reply × List
   accepts {old} {mid} {index} {job} {back} {done} answer takes same of accepted =
       accepted.1 (Takes-here touches effect done takes (of.0 ∙ ap (λ j. j.number) same, of.1 ∙ ap (λ j. j.behaviour) same, of.2 ∙ ap (λ j. j.inputs) same))
 
-  finishes_of : {mid new : BoardOf Op} {done : DoneOf Op} (answer : Result Reply (DoneOf Op)) → IsOk answer
+  pub finishes_of : {mid new : BoardOf Op} {done : DoneOf Op} (answer : Result Reply (DoneOf Op)) → IsOk answer
       → MatchResult answer (λ reply. Finishes touches effect mid done reply new) (λ back. (back ≡ done) × (new ≡ mid))
       → (reply : Reply) × Finishes touches effect mid done reply new
   finishes_of (Ok reply) ok outcome = (reply, outcome)
@@ -47,3 +48,19 @@ module _ (touches : Op → List ℕ) (effect : Op → List ℤ → Reply × List
         drains = Drains_trans (Takes-drains touches effect takes) (Finishes-drains touches effect finishes);
         none_out = NoneOut-again touches effect takes finishes;
       }
+
+-- with its job, where that came back
+pub ran_in_place : {old mid new : BoardOf Op} {job back : JobOf Op} {done : DoneOf Op} (answer : Result Reply (DoneOf Op))
+    → Takes declared_cowns effect_of old 0 job mid → back ≡ job → IsOf done back → (IsOk answer ↔ IsOutHere declared_cowns effect_of mid done)
+    → MatchResult answer (λ reply. Finishes declared_cowns effect_of mid done reply new) (λ back. (back ≡ done) × (new ≡ mid))
+    → RunsInPlace old job new
+ran_in_place {old} {mid} {new} {job} {back} {done} answer takes same of accepted outcome =
+    let (reply, finishes) = finishes_of declared_cowns effect_of answer (accepts declared_cowns effect_of answer takes same of accepted) outcome in
+    record {
+      taken = mid;
+      takes = takes;
+      done = done;
+      is_of = (of.0 ∙ ap (λ j. j.number) same, of.1 ∙ ap (λ j. j.behaviour) same, of.2 ∙ ap (λ j. j.inputs) same);
+      reply = reply;
+      finishes = finishes;
+    }

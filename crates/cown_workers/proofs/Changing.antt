@@ -14,7 +14,7 @@ use Rattle.cown_board.specs.State.{is_waiting, is_open, state_is}
 use Rattle.cown_board.specs.declared.state.State.{State}
 use Rattle.cown_board.specs.declared.state.State.TheVariants.{Waiting, Out, Finished}
 use Rattle.cown_workers.proofs.Counting.{count-set, injective}
-use Rattle.cown_workers.specs.Draining.{Drains, NoneOut, KeepsNothing, waiting_of}
+use Rattle.cown_workers.specs.Draining.{Drains, IsOf, NoneOut, KeepsNothing, waiting_of}
 
 pub Drains_trans : {a b c : BoardOf Op} → Drains a b → Drains b c → Drains a c
 Drains_trans first second = record {
@@ -52,10 +52,6 @@ waits_here None h = absurd (true≢false (sym h))
 waits_here (Some Waiting) h = refl
 waits_here (Some Out) h = absurd (true≢false (sym h))
 waits_here (Some (Finished reply)) h = absurd (true≢false (sym h))
-
--- what was done is that of a job
-abbrev pub IsOf : DoneOf Op → JobOf Op → Type 0
-IsOf done job = (done.number ≡ job.number) × (done.behaviour ≡ job.behaviour) × (done.inputs ≡ job.inputs)
 
 waiting_not_finished : (reply : Reply) → Waiting ≢ Finished reply
 waiting_not_finished reply h = cc

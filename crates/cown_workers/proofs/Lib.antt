@@ -1,4 +1,5 @@
 mod CarryingOut
 mod Changing
 mod Counting
+mod Exchanging
 mod Settled

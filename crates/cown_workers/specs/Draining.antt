@@ -1,19 +1,31 @@
--- What draining a board leaves as it was.
-use Rattle.std.specs.Prelude.{◌≡◌, ◌≢◌, ℕ, ◌≤◌, Bool, false, Some, length, slice_get, count_by}
-use Rattle.sb_calls.specs.Behaviour.{declared_cowns}
+-- Draining a board: its exchanges with a crew, and what it leaves as it was.
+use Rattle.std.specs.Prelude.{◌≡◌, ◌≢◌, ℕ, ◌≤◌, Bool, false, Option, Some, None, List, [], ◌∷◌, ◌++◌, length, slice_get, count_by}
+use Rattle.sb_calls.specs.Behaviour.{declared_cowns, effect_of}
 use Rattle.sb_calls.specs.declared.op.Op.{Op}
 use Rattle.sb_calls.specs.declared.reply.Reply.{Reply}
-use Rattle.cown_board.specs.Board.{BoardOf}
+use Rattle.cown_board.specs.Board.{BoardOf, open_of, IsOutHere, Takes, Finishes}
+use Rattle.cown_board.specs.Job.{JobOf, DoneOf}
 use Rattle.cown_board.specs.Readiness.{ready_places}
 use Rattle.cown_board.specs.State.{is_waiting}
 use Rattle.cown_board.specs.declared.state.State.TheVariants.{Out, Finished}
 
--- the log, and what was before it, stay; what was finished stays finished, with the same reply
-pub record Drains (old new : BoardOf Op) : Type 0 where
-  pub opening : new.opening ≡ old.opening
-  pub earlier : new.earlier ≡ old.earlier
-  pub log : new.log ≡ old.log
-  pub finished : (k : ℕ) (reply : Reply) → slice_get old.states k ≡ Some (Finished reply) → slice_get new.states k ≡ Some (Finished reply)
+-- one exchange with a crew: it was given a job, which it kept or which came back; or it was asked, and handed over what was done, if any
+pub data CrewStep : Type 0 where
+  Kept : (job : JobOf Op) → CrewStep
+  CameBack : (job : JobOf Op) → CrewStep
+  HandedOver : (answer : Option (DoneOf Op)) → CrewStep
+
+-- a crew did these steps one after another
+abbrev pub ActsAlong : {C : Type 0} → (C → CrewStep → C → Type 0) → C → List CrewStep → C → Type 0
+ActsAlong acts old [] new = new ≡ old
+ActsAlong {C} acts old (step ∷ steps) new = (mid : C) × acts old step mid × ActsAlong acts mid steps new
+
+-- the steps of a crew of nobody: each job comes back, and nothing is handed over
+abbrev pub KeepsNoJob : CrewStep → Type 0
+KeepsNoJob (Kept job) = ⊥
+KeepsNoJob (CameBack job) = Unit {0}
+KeepsNoJob (HandedOver None) = Unit {0}
+KeepsNoJob (HandedOver (Some done)) = ⊥
 
 -- no op is out
 abbrev pub NoneOut : BoardOf Op → Type 0
@@ -26,6 +38,70 @@ NoneReady board = length (ready_places declared_cowns board.log board.states) �
 -- how many wait
 abbrev pub waiting_of : BoardOf Op → ℕ
 waiting_of board = count_by is_waiting board.states
+
+-- nothing is ready, and something is unfinished: only the crew can go on
+pub record AwaitsCrew (board : BoardOf Op) : Type 0 where
+  pub none_ready : NoneReady board
+  pub unfinished : open_of board ≢ 0
+
+-- what was done is that of a job
+abbrev pub IsOf : DoneOf Op → JobOf Op → Type 0
+IsOf done job = (done.number ≡ job.number) × (done.behaviour ≡ job.behaviour) × (done.inputs ≡ job.inputs)
+
+-- the first ready op was taken off the board with this job, carried out in place, and finished
+pub record RunsInPlace (old : BoardOf Op) (job : JobOf Op) (new : BoardOf Op) : Type 0 where
+  pub taken : BoardOf Op
+  pub takes : Takes declared_cowns effect_of old 0 job taken
+  pub done : DoneOf Op
+  pub is_of : IsOf done job
+  pub reply : Reply
+  pub finishes : Finishes declared_cowns effect_of taken done reply new
+
+-- the board before and after an exchange. A job that is given is that of the first ready op, which is out where the crew keeps it.
+-- The crew is asked only where the board awaits it, and what it hands over is finished.
+abbrev pub Exchange : BoardOf Op → CrewStep → BoardOf Op → Type 0
+Exchange old (Kept job) new = Takes declared_cowns effect_of old 0 job new
+Exchange old (CameBack job) new = RunsInPlace old job new
+Exchange old (HandedOver None) new = ⊥
+Exchange old (HandedOver (Some done)) new = AwaitsCrew old × ((reply : Reply) × Finishes declared_cowns effect_of old done reply new)
+
+-- these exchanges one after another
+abbrev pub Exchanges : BoardOf Op → List CrewStep → BoardOf Op → Type 0
+Exchanges old [] new = new ≡ old
+Exchanges old (step ∷ steps) new = (mid : BoardOf Op) × Exchange old step mid × Exchanges mid steps new
+
+-- an exchange with which no board can go on: it awaits the crew, which hands over nothing, or what isn't out
+abbrev pub IsInVain : BoardOf Op → CrewStep → Type 0
+IsInVain board (Kept job) = ⊥
+IsInVain board (CameBack job) = ⊥
+IsInVain board (HandedOver None) = AwaitsCrew board
+IsInVain board (HandedOver (Some done)) = AwaitsCrew board × (¬ IsOutHere declared_cowns effect_of board done)
+
+-- all was carried out: these exchanges, and then nothing is unfinished
+pub record IsDrained (old : BoardOf Op) (steps : List CrewStep) (new : BoardOf Op) : Type 0 where
+  pub exchanges : Exchanges old steps new
+  pub idle : open_of new ≡ 0
+
+-- the crew is gone: exchanges, and then a last one in vain
+pub record IsGivenUp (old : BoardOf Op) (steps : List CrewStep) (new : BoardOf Op) : Type 0 where
+  pub before : List CrewStep
+  pub last : CrewStep
+  pub steps_are : steps ≡ before ++ last ∷ []
+  pub exchanges : Exchanges old before new
+  pub in_vain : IsInVain new last
+
+-- what a crew did, and what became of the board by it
+pub record Exchanged {C : Type 0} (acts : C → CrewStep → C → Type 0) (crew_old crew_new : C) (old new : BoardOf Op) : Type 0 where
+  pub steps : List CrewStep
+  pub crew : ActsAlong acts crew_old steps crew_new
+  pub board : Exchanges old steps new
+
+-- the log, and what was before it, stay; what was finished stays finished, with the same reply
+pub record Drains (old new : BoardOf Op) : Type 0 where
+  pub opening : new.opening ≡ old.opening
+  pub earlier : new.earlier ≡ old.earlier
+  pub log : new.log ≡ old.log
+  pub finished : (k : ℕ) (reply : Reply) → slice_get old.states k ≡ Some (Finished reply) → slice_get new.states k ≡ Some (Finished reply)
 
 -- a crew that keeps nothing before keeps nothing after; and then, where nothing was out, nothing is
 pub record KeepsNothing (keeps_old keeps_new : Bool) (old new : BoardOf Op) : Type 0 where

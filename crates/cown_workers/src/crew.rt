@@ -1,5 +1,6 @@
 //! Who carries ops out.
-ghost use Rattle.std.specs.Prelude.{◌≡◌, Bool, false, IfErr, IsErr};
+ghost use Rattle.std.specs.Prelude.{◌≡◌, Bool, false, IfErr, IsErr, MatchResult};
+ghost use Rattle.cown_workers.specs.Draining.{CrewStep, Kept, CameBack, HandedOver};
 
 use cown_board::{Done, Job};
 use sb_calls::Op;
@@ -18,6 +19,10 @@ pub trait Crew {
     /// Whether it may keep a job that it is given.
     ghost keeps: { Self → Bool };
 
+    /// What it may do at one exchange, from what it was before to what it is after. A crew of which nothing
+    /// is to be told says that it always holds.
+    ghost acts: { Self → CrewStep → Self → Type 0 };
+
     /// Whether it may keep a job that it is given. Where it may not it never will: each comes back.
     fn keeps(&self) -> bool
         ensures { result ≡ keeps self.now };
@@ -26,9 +31,13 @@ pub trait Crew {
     fn give(&mut self, job: Job<Op>) -> Result<(), Job<Op>>
         ensures same { IfErr result (λ back. back ≡ job) }
         ensures hands_back { keeps self.old ≡ false → IsErr result }
+        ensures acts { MatchResult result
+            (λ kept. acts self.old (Kept job) self.new)
+            (λ back. acts self.old (CameBack job) self.new) }
         ensures stays { keeps self.old ≡ false → keeps self.new ≡ false };
 
     /// One that is carried out, or `None` where no more comes.
     fn next(&mut self) -> Option<Done<Op>>
+        ensures acts { acts self.old (HandedOver result) self.new }
         ensures stays { keeps self.old ≡ false → keeps self.new ≡ false };
 }

@@ -1,7 +1,7 @@
 //! Carrying out all that a board has.
-ghost use Rattle.std.specs.Prelude.{◌≡◌, ◌≢◌, ◌<◌, ◌≤◌, true, false, IsOk, OnOk, OnErr};
+ghost use Rattle.std.specs.Prelude.{◌≡◌, ◌≢◌, ◌<◌, ◌≤◌, List, true, false, IsOk, OnOk, OnErr, MatchResult};
 ghost use Rattle.cown_board.specs.Board.{open_of};
-ghost use Rattle.cown_workers.specs.Draining.{Drains, NoneOut, NoneReady, waiting_of, KeepsNothing};
+ghost use Rattle.cown_workers.specs.Draining.{ActsAlong, AwaitsCrew, CrewStep, Drains, Exchanged, IsDrained, IsGivenUp, IsInVain, KeepsNothing, NoneOut, NoneReady, waiting_of};
 
 use crate::crew::{Crew, CrewGone};
 use cown_board::Runs;
@@ -9,15 +9,22 @@ use cown_board::Runs;
 /// Gives each ready op to the crew and takes back what is carried out, until nothing is unfinished. An op
 /// that the crew hands back is carried out here. It allocates nothing.
 ///
+/// The first ready op is given first. The crew is asked only once nothing is ready, and each that it hands
+/// over is finished.
+///
 /// Fails where something is unfinished and the crew has nothing more to hand over, or handed over what isn't
 /// out. What was finished by then stays finished, with its reply. A crew that keeps nothing never fails so,
 /// if nothing was out before.
 pub fn drain<R: Runs, C: Crew>(runs: &mut R, crew: &mut C) -> Result<(), CrewGone>
+    ensures exchanged { (steps : List CrewStep) × (ActsAlong C.acts crew.old steps crew.new × MatchResult result
+        (λ done. IsDrained (R.board runs.old) steps (R.board runs.new))
+        (λ gone. IsGivenUp (R.board runs.old) steps (R.board runs.new))) }
     ensures ok { OnOk result (open_of (R.board runs.new) ≡ 0) }
     ensures gone { OnErr result (open_of (R.board runs.new) ≢ 0) }
     ensures log { Drains (R.board runs.old) (R.board runs.new) }
     ensures sure { C.keeps crew.old ≡ false → NoneOut (R.board runs.old) → IsOk result }
     ensures stays { C.keeps crew.old ≡ false → C.keeps crew.new ≡ false }
+    ensures beside { R.beside runs.new ≡ R.beside runs.old }
 {
     loop {
         give_ready(runs, crew);
@@ -30,21 +37,25 @@ pub fn drain<R: Runs, C: Crew>(runs: &mut R, crew: &mut C) -> Result<(), CrewGon
 
 // Gives all that is ready, and what becomes ready by it.
 fn give_ready<R: Runs, C: Crew>(runs: &mut R, crew: &mut C)
+    ensures exchanged { Exchanged C.acts crew.old crew.new (R.board runs.old) (R.board runs.new) }
     ensures log { Drains (R.board runs.old) (R.board runs.new) }
     ensures unfinished { open_of (R.board runs.new) ≤ open_of (R.board runs.old) }
     ensures none_ready { NoneReady (R.board runs.new) }
     ensures nothing { KeepsNothing (C.keeps crew.old) (C.keeps crew.new) (R.board runs.old) (R.board runs.new) }
+    ensures beside { R.beside runs.new ≡ R.beside runs.old }
 {
     while give_first(runs, crew) {}
 }
 
 // Gives the first ready op, and answers whether there was one. Where it comes back it is carried out here.
 fn give_first<R: Runs, C: Crew>(runs: &mut R, crew: &mut C) -> bool
+    ensures exchanged { Exchanged C.acts crew.old crew.new (R.board runs.old) (R.board runs.new) }
     ensures given { result ≡ true → waiting_of (R.board runs.new) < waiting_of (R.board runs.old) }
     ensures none_ready { result ≡ false → NoneReady (R.board runs.new) }
     ensures log { Drains (R.board runs.old) (R.board runs.new) }
     ensures unfinished { open_of (R.board runs.new) ≤ open_of (R.board runs.old) }
     ensures nothing { KeepsNothing (C.keeps crew.old) (C.keeps crew.new) (R.board runs.old) (R.board runs.new) }
+    ensures beside { R.beside runs.new ≡ R.beside runs.old }
 {
     let Some(job) = runs.take_at(0) else {
         return false;
@@ -59,12 +70,19 @@ fn give_first<R: Runs, C: Crew>(runs: &mut R, crew: &mut C) -> bool
 
 // Takes one that is carried out from the crew, and finishes it.
 fn finish_next<R: Runs, C: Crew>(runs: &mut R, crew: &mut C) -> Result<(), CrewGone>
+    requires { AwaitsCrew (R.board runs.old) }
+    ensures exchanged { MatchResult result
+        (λ finished. Exchanged C.acts crew.old crew.new (R.board runs.old) (R.board runs.new))
+        (λ gone. (last : CrewStep) × (C.acts crew.old last crew.new × IsInVain (R.board runs.old) last)) }
     ensures ok { OnOk result (open_of (R.board runs.new) < open_of (R.board runs.old)) }
     ensures gone { OnErr result (R.board runs.new ≡ R.board runs.old) }
     ensures log { Drains (R.board runs.old) (R.board runs.new) }
     ensures nothing { KeepsNothing (C.keeps crew.old) (C.keeps crew.new) (R.board runs.old) (R.board runs.new) }
+    ensures beside { R.beside runs.new ≡ R.beside runs.old }
 {
-    let done = crew.next().ok_or(CrewGone)?;
+    let Some(done) = crew.next() else {
+        return Err(CrewGone);
+    };
     match runs.finish(done) {
         Ok(_) => Ok(()),
         Err(_) => Err(CrewGone),

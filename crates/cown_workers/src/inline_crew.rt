@@ -1,5 +1,6 @@
 //! The crew of one thread.
 ghost use Rattle.std.specs.Prelude.{false};
+ghost use Rattle.cown_workers.specs.Draining.{KeepsNoJob};
 
 use crate::crew::Crew;
 use cown_board::{Done, Job};
@@ -11,6 +12,8 @@ pub struct InlineCrew;
 
 impl Crew for InlineCrew {
     ghost keeps = { λ crew. false };
+
+    ghost acts = { λ old step new. KeepsNoJob step };
 
     fn keeps(&self) -> bool {
         false

@@ -11,6 +11,7 @@ use std::test::Fail;
 
 mod crews;
 mod drains;
+mod owners;
 
 const OPENING: &str = "alice 100.00 50.00\nbob 0.00 20.00\ncarol 10.00 0.00\nbegin\n";
 

@@ -19,6 +19,8 @@ impl Desk {
 impl Crew for Desk {
     ghost keeps = { λ desk. true };
 
+    ghost acts = { λ old step new. Unit {0} };
+
     fn keeps(&self) -> bool {
         true
     }
@@ -54,6 +56,8 @@ impl Keeper {
 
 impl Crew for Keeper {
     ghost keeps = { λ keeper. true };
+
+    ghost acts = { λ old step new. Unit {0} };
 
     fn keeps(&self) -> bool {
         true
@@ -95,6 +99,8 @@ impl Stranger {
 impl Crew for Stranger {
     ghost keeps = { λ stranger. true };
 
+    ghost acts = { λ old step new. Unit {0} };
+
     fn keeps(&self) -> bool {
         true
     }
@@ -106,5 +112,52 @@ impl Crew for Stranger {
 
     fn next(&mut self) -> Option<Done<Op>> {
         self.elsewhere.take()
+    }
+}
+
+// Carries each job out as it comes, and hands over last first what it did. It tells in which order.
+#[derive(Drop)]
+pub(super) struct Pile {
+    done: Vec<Done<Op>>,
+    handed_over: Vec<u64>,
+}
+
+impl Pile {
+    // One that holds as many as this, and tells of as many.
+    pub(super) fn of(alloc: Global, jobs: usize) -> Result<Pile, AllocError> {
+        Ok(Pile {
+            done: Vec::with_capacity(alloc, jobs)?,
+            handed_over: Vec::with_capacity(alloc, jobs)?,
+        })
+    }
+
+    pub(super) fn handed_over(&self) -> &[u64] {
+        self.handed_over.as_slice()
+    }
+}
+
+impl Crew for Pile {
+    ghost keeps = { λ pile. true };
+
+    ghost acts = { λ old step new. Unit {0} };
+
+    fn keeps(&self) -> bool {
+        true
+    }
+
+    fn give(&mut self, job: Job<Op>) -> Result<(), Job<Op>> {
+        if self.done.len() == self.done.capacity() {
+            return Err(job);
+        }
+        self.done.push_reserved(job.run());
+        Ok(())
+    }
+
+    fn next(&mut self) -> Option<Done<Op>> {
+        let done = self.done.pop()?;
+        if self.handed_over.len() < self.handed_over.capacity() {
+            self.handed_over.push_reserved(done.number());
+        }
+        Some(done)
     }
 }

@@ -1,4 +1,5 @@
-use super::crews::{Desk, Keeper, Stranger};
+use super::crews::{Desk, Keeper, Pile, Stranger};
+use super::owners::{Branch, number_drained};
 use super::*;
 
 // Three that share bob's checking, and one that shares nothing.
@@ -49,6 +50,26 @@ fn finishes_what_a_crew_hands_over(rt: HostRuntime) -> Result<(), Fail> {
     assert_eq!(rt; drain(&mut board, &mut Desk::new()), Ok(()));
     assert!(rt; replies(&board, &REPLIES));
     assert!(rt; holds(&board, [0, 0, 1_000], [0, 17_500, 0])?);
+    Ok(())
+}
+
+#[test]
+fn finishes_what_a_crew_hands_over_last_first(rt: HostRuntime) -> Result<(), Fail> {
+    let mut board = board_of(rt.alloc(), &CALLS)?;
+    let mut crew = Pile::of(rt.alloc(), 4)?;
+    assert_eq!(rt; drain(&mut board, &mut crew), Ok(()));
+    // The first and the fourth are ready at once; the others wait for one another.
+    assert_eq!(rt; crew.handed_over(), [4, 1, 2, 3].as_slice());
+    assert!(rt; replies(&board, &REPLIES));
+    assert!(rt; holds(&board, [0, 0, 1_000], [0, 17_500, 0])?);
+    Ok(())
+}
+
+#[test]
+fn what_stands_beside_a_board_stays(rt: HostRuntime) -> Result<(), Fail> {
+    let mut branch = Branch::over(7, board_of(rt.alloc(), &CALLS)?);
+    assert_eq!(rt; number_drained(&mut branch, &mut Desk::new()), Ok(7));
+    assert!(rt; replies(branch.board(), &REPLIES));
     Ok(())
 }
 

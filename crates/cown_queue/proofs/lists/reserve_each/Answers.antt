@@ -1,13 +1,8 @@
-use Rattle.std.proofs.Common.{◌<◌, length, take, ap, ◌∙◌, arith}
+use Rattle.std.proofs.Common.{◌<◌, length, take, ◌∙◌, ap, arith}
 use Rattle.cown_queue.specs.Rooms.{rooms_of}
-use Rattle.cown_queue.proofs.Changes.{AreBelow-at, take-cown}
-use Rattle.cown_queue.proofs.Rooms.{HaveRoom-LoseNoRoom, HaveRoom-push}
+use Rattle.cown_queue.proofs.Changes.{take-cown}
+use Rattle.cown_queue.proofs.Rooms.{HaveRoomWithin-push, HaveRoomWithin-stays}
 use Rattle.cown_queue.proofs.lists.reserve_each.Goals as goal
-
-pub reserve_at-requires : goal.reserve_at-requires
-reserve_at-requires c =
-    let below = AreBelow-at _ c.args.cowns.now c.loop-cown.cown-index c.cown-item.result c.requires (omega arith) c.cown-item.is in
-    omega (arith, below, ap length c.loop-cown.invariant.lists)
 
 pub loop-cown-preserved : goal.loop-cown-preserved
 loop-cown-preserved c =
@@ -17,7 +12,7 @@ loop-cown-preserved c =
       lists = c.reserve_at.ensures.lists ∙ before.lists;
       rooms = λ cown. omega (arith, before.rooms cown, c.reserve_at.ensures.rooms cown);
       made = rw (take-cown c.args.cowns.now c.loop-cown.cown-index c.cown-item.result within c.cown-item.is)
-          (HaveRoom-push (rooms_of c.reserve_at.new.lists.items) (take c.loop-cown.cown-index c.args.cowns.now) c.cown-item.result
-          (HaveRoom-LoseNoRoom (rooms_of c.loop-cown.lists.items) (rooms_of c.reserve_at.new.lists.items) _ c.reserve_at.ensures.rooms before.made)
+          (HaveRoomWithin-push (rooms_of c.reserve_at.new.lists.items) (take c.loop-cown.cown-index c.args.cowns.now) c.cown-item.result
+          (HaveRoomWithin-stays c.loop-cown.lists.items c.reserve_at.new.lists.items _ (ap length c.reserve_at.ensures.lists) c.reserve_at.ensures.rooms before.made)
           c.in_ok-reserve_at.ensures.ok);
     }

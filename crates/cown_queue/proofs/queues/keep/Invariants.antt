@@ -1,5 +1,10 @@
-use Rattle.std.proofs.Common.{◌≡◌, take}
+use Rattle.std.proofs.Common.{◌≡◌, ◌≤◌, length, take}
+use Rattle.std.specs.Prelude.{vec_len, vec_capacity}
 use Rattle.cown_queue.proofs.queues.keep.Given as goal
 
 abbrev pub invariant-loop-cown : goal.invariant-loop-cown
-invariant-loop-cown l = l.kept.items ≡ take l.cown-index l.cowns
+invariant-loop-cown l = record {
+  kept : l.kept.items ≡ take l.cown-index l.cowns;
+  count : vec_len l.kept ≡ l.cown-index;
+  room : length l.cowns ≤ vec_capacity l.kept;
+}

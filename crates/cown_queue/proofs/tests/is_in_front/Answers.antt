@@ -1,6 +1,6 @@
 use Rattle.std.proofs.Common.{◌≡◌, ℕ, ◌<◌, Some, slice_get, List, [], ◌∷◌, ◌++◌, length, take, sym, ap, ◌∙◌, arith}
 use Rattle.cown_queue.specs.Queues.{list_of, IsInFront}
-use Rattle.cown_queue.proofs.Changes.{AreBelow-at, take-cown}
+use Rattle.cown_queue.proofs.Changes.{take-cown}
 use Rattle.cown_queue.proofs.tests.is_in_front.Goals as goal
 
 -- a list begins with the number that it has in front
@@ -13,9 +13,6 @@ IsInFront-push : (number : ℕ) (cowns : List ℕ) (cown : ℕ) (lists : List (L
     → slice_get (list_of lists cown) 0 ≡ Some number → IsInFront number (cowns ++ cown ∷ []) lists
 IsInFront-push number [] cown lists front e = (front-is (list_of lists cown) number e, tt)
 IsInFront-push number (first ∷ cowns) cown lists front e = (front.0, IsInFront-push number cowns cown lists front.1 e)
-
-pub front-requires : goal.front-requires
-front-requires c = AreBelow-at _ c.args.cowns.now c.loop-cown.cown-index c.cown-item.result c.requires (omega arith) c.cown-item.is
 
 pub loop-cown-preserved : goal.loop-cown-preserved
 loop-cown-preserved c =

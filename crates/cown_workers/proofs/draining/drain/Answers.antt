@@ -1,8 +1,10 @@
 -- Where the crew keeps nothing and nothing was out, nothing is unfinished once nothing is ready.
 use Rattle.std.proofs.Common.{◌≡◌, sym, ◌∙◌}
 use Rattle.std.proofs.lemmas.Bool.{true≢false}
+use Rattle.std.proofs.lemmas.Result.{err_from_is_err_and}
 use Rattle.cown_board.specs.Board.{open_of}
 use Rattle.cown_workers.proofs.Changing.{Drains_trans, KeepsNothing_trans}
+use Rattle.cown_workers.proofs.Exchanging.{Exchanged_trans, drained, given_up}
 use Rattle.cown_workers.proofs.Settled.{nothing_left}
 use Rattle.cown_workers.proofs.draining.drain.Goals as goal
 
@@ -10,9 +12,25 @@ pub loop-runs-preserved : goal.loop-runs-preserved
 loop-runs-preserved g c =
     let before = c.loop-runs.invariant in
     record {
+      exchanged = Exchanged_trans g.C.Crew.acts before.exchanged
+          (Exchanged_trans g.C.Crew.acts c.give_ready.ensures.exchanged c.in_ok-finish_next.ensures.exchanged);
       drains = Drains_trans before.drains (Drains_trans c.give_ready.ensures.log c.finish_next.ensures.log);
       nothing = KeepsNothing_trans before.nothing (KeepsNothing_trans c.give_ready.ensures.nothing c.finish_next.ensures.nothing);
+      beside = c.finish_next.ensures.beside ∙ c.give_ready.ensures.beside ∙ before.beside;
     }
+
+pub returns-then-idle-clause-exchanged : goal.returns-then-idle-clause-exchanged
+returns-then-idle-clause-exchanged g c =
+    drained g.C.Crew.acts (Exchanged_trans g.C.Crew.acts c.loop-runs.invariant.exchanged c.give_ready.ensures.exchanged)
+    (c.idle.ensures.value.0 c.if-idle.true)
+
+pub returns-in_err-finish_next-clause-exchanged : goal.returns-in_err-finish_next-clause-exchanged
+returns-in_err-finish_next-clause-exchanged g c =
+    let (last, (acted, in_vain)) = c.in_err-finish_next.ensures.exchanged in
+    let exit = err_from_is_err_and c.from_residual.result c.from_residual.ensures.1 in
+    rw exit.1
+    (given_up g.C.Crew.acts (Exchanged_trans g.C.Crew.acts c.loop-runs.invariant.exchanged c.give_ready.ensures.exchanged)
+    last acted in_vain c.in_err-finish_next.ensures.gone)
 
 pub returns-in_err-finish_next-clause-sure : goal.returns-in_err-finish_next-clause-sure
 returns-in_err-finish_next-clause-sure g c = λ nothing none.

@@ -1,0 +1,20 @@
+-- One more was given.
+use Rattle.std.proofs.Common.{◌∙◌, arith}
+use Rattle.cown_workers.proofs.Changing.{Drains_trans, KeepsNothing_trans}
+use Rattle.cown_workers.proofs.Exchanging.{Exchanged_trans}
+use Rattle.cown_workers.proofs.draining.give_ready.Goals as goal
+
+pub loop-preserved : goal.loop-preserved
+loop-preserved g c =
+    let before = c.loop.invariant in
+    let given = c.give_first.ensures in
+    record {
+      exchanged = Exchanged_trans g.C.Crew.acts before.exchanged given.exchanged;
+      drains = Drains_trans before.drains given.log;
+      unfinished = omega arith;
+      nothing = KeepsNothing_trans before.nothing given.nothing;
+      beside = given.beside ∙ before.beside;
+    }
+
+pub returns-clause-exchanged : goal.returns-clause-exchanged
+returns-clause-exchanged g c = Exchanged_trans g.C.Crew.acts c.loop.invariant.exchanged c.give_first.ensures.exchanged
