@@ -5,7 +5,7 @@ use Rattle.sb_calls.specs.Ask.{asked_of, IsKey}
 use Rattle.sb_calls.specs.declared.ask.Asked.{Asked}
 use Rattle.sb_calls.specs.declared.ask.Key.{Key}
 use Rattle.sb_calls.specs.declared.call.Call.{Call}
-use Rattle.sb_calls.specs.declared.fault.CallFault.{CallFault}
+use Rattle.sb_calls.specs.declared.text.fault.CallFault.{CallFault}
 use Rattle.sb_sequencer.specs.Numbering.{first_asks}
 use Rattle.smallbank.specs.Asking.{IsAfter}
 use Rattle.smallbank.specs.Asks.{keyed, key_of_line, running_after}

@@ -10,7 +10,7 @@ use Rattle.sb_calls.specs.Log.{rows_after, replies_to}
 use Rattle.sb_calls.specs.declared.ask.Asked.{Asked}
 use Rattle.sb_calls.specs.declared.ask.Key.{Key}
 use Rattle.sb_calls.specs.declared.call.Call.{Call}
-use Rattle.sb_calls.specs.declared.fault.CallFault.{CallFault}
+use Rattle.sb_calls.specs.declared.text.fault.CallFault.{CallFault}
 use Rattle.smallbank.specs.Asking.{HasAsked, IsAsking}
 use Rattle.smallbank.specs.Asks.{keyed}
 use Rattle.smallbank.specs.Input.{InputText, asks_from, in_opening, in_call}
@@ -40,12 +40,12 @@ asked_stand (Err fault) log standings h = absurd h
 
 -- what an opening, the asks after it, and their answers make
 pub output_is : (input : List ℕ) (opening : OpeningText) (log : List (Key × Call)) (standings : List Standing) → opening_of input ≡ Ok opening
-    → IsAsking (asks_from (length opening.names + 2) [] (lines (drop opening.place input))) log standings
+    → IsAsking (asks_from (length opening.names + 2) [] (lines (drop opening.consumed input))) log standings
     → output_of input ≡ Ok (unlines (map (standing_line (replies_to (rows_of opening.names opening.balances) (calls_of log))) standings)
     ++ unlines (row_lines opening.names (rows_after (calls_of log) (rows_of opening.names opening.balances))))
-output_is input opening log standings e h = by (asks_from (length opening.names + 2) [] (lines (drop opening.place input))) refl h
+output_is input opening log standings e h = by (asks_from (length opening.names + 2) [] (lines (drop opening.consumed input))) refl h
   where
-    by : (read : Result (List Asked) (ℕ × CallFault)) → asks_from (length opening.names + 2) [] (lines (drop opening.place input)) ≡ read
+    by : (read : Result (List Asked) (ℕ × CallFault)) → asks_from (length opening.names + 2) [] (lines (drop opening.consumed input)) ≡ read
         → IsAsking read log standings
         → output_of input ≡ Ok (unlines (map (standing_line (replies_to (rows_of opening.names opening.balances) (calls_of log))) standings)
         ++ unlines (row_lines opening.names (rows_after (calls_of log) (rows_of opening.names opening.balances))))
@@ -53,7 +53,7 @@ output_is input opening log standings e h = by (asks_from (length opening.names 
     by (Ok asks) f k =
         let rows = rows_of opening.names opening.balances in
         ap (λ (read : Result OpeningText (ℕ × LineFault)). (in_opening read >>= λ o.
-        (in_call (asks_from (length o.names + 2) [] (lines (drop o.place input))) >>= λ a. Ok (record { opening = o; asks = a })))
+        (in_call (asks_from (length o.names + 2) [] (lines (drop o.consumed input))) >>= λ a. Ok (record { opening = o; asks = a })))
         >>= λ (i : InputText). Ok (unlines (output_lines i))) e
         ∙ ap (λ (read : Result (List Asked) (ℕ × CallFault)). (in_call read >>= λ a. Ok (record { opening = opening; asks = a }))
         >>= λ (i : InputText). Ok (unlines (output_lines i))) f

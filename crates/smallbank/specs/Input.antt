@@ -5,7 +5,7 @@ use Rattle.sb_rows.specs.Text.{lines}
 use Rattle.sb_rows.specs.declared.fault.LineFault.{LineFault}
 use Rattle.sb_calls.specs.Ask.{asked_of}
 use Rattle.sb_calls.specs.declared.ask.Asked.{Asked}
-use Rattle.sb_calls.specs.declared.fault.CallFault.{CallFault}
+use Rattle.sb_calls.specs.declared.text.fault.CallFault.{CallFault}
 use Rattle.smallbank.specs.declared.fault.InputFault.{InputFault}
 use Rattle.smallbank.specs.declared.fault.InputFault.TheVariants as faults
 
@@ -33,5 +33,5 @@ pub record InputText : Type 0 where
 -- what an input says, or its first line at fault with its fault
 abbrev pub input_of : List ℕ → Result InputText (ℕ × InputFault)
 input_of text = in_opening (opening_of text) >>= λ opening.
-    (in_call (asks_from (length opening.names + 2) [] (lines (drop opening.place text))) >>= λ asks.
+    (in_call (asks_from (length opening.names + 2) [] (lines (drop opening.consumed text))) >>= λ asks.
     Ok (record { opening = opening; asks = asks }))

@@ -71,7 +71,7 @@ fn output_text(alloc: Global, input: Vec<u8>) -> Result<Vec<u8>, RunFault>
         }
     };
     let first_line = opening.directory.len() + 2;
-    let asking = ask_lines(alloc, &input[opening.place..], first_line)?;
+    let asking = ask_lines(alloc, &input[opening.consumed..], first_line)?;
     let ops = resolve_all(alloc, &asking.sequencer, &opening.directory)?;
     // The board may take the log's place in memory.
     drop(asking.sequencer);

@@ -37,16 +37,16 @@ push_answers-requires c =
 pub returns : goal.returns
 returns c =
     let input = c.args.input.items in
-    let opening : OpeningText = record { names = c.in-Ok.opening.directory; balances = c.in-Ok.opening.columns; place = c.in-Ok.opening.place } in
+    let opening : OpeningText = record { names = c.in-Ok.opening.directory; balances = c.in-Ok.opening.columns; consumed = c.in-Ok.opening.consumed } in
     let log = c.in_ok-asking.asking.sequencer in
     let standings = c.in_ok-asking.asking.standings.items in
-    let rest : take (length input - opening.place) (drop opening.place input) ≡ drop opening.place input =
-    take_all (length input - opening.place) (drop opening.place input) (omega (arith, length-drop opening.place input)) in
-    let asked : IsAsking (asks_from (length opening.names + 2) [] (lines (drop opening.place input))) log standings =
-    subst (λ (n : ℕ). IsAsking (asks_from (n + 2) [] (lines (drop opening.place input))) log standings) c.len-first_line.ensures.value
+    let rest : take (length input - opening.consumed) (drop opening.consumed input) ≡ drop opening.consumed input =
+    take_all (length input - opening.consumed) (drop opening.consumed input) (omega (arith, length-drop opening.consumed input)) in
+    let asked : IsAsking (asks_from (length opening.names + 2) [] (lines (drop opening.consumed input))) log standings =
+    subst (λ (n : ℕ). IsAsking (asks_from (n + 2) [] (lines (drop opening.consumed input))) log standings) c.len-first_line.ensures.value
     (subst (λ (text : List ℕ). IsAsking (asks_from (c.len-first_line.result + 2) [] (lines text)) log standings) rest
     (subst (λ (text : List ℕ). IsAsking
-    (asks_from (c.len-first_line.result + 2) [] (lines (take (length text - opening.place) (drop opening.place text)))) log standings)
+    (asks_from (c.len-first_line.result + 2) [] (lines (take (length text - opening.consumed) (drop opening.consumed text)))) log standings)
     c.deref-2.ensures.value c.in_ok-asking.ensures)) in
     let carried : IsOneByOne opening.names (calls_of log) opening.balances c.in_ok-board.columns c.in_ok-board.board =
     c.in_ok-board.ensures.one_by_one opening.names (calls_of log) c.in-Ok.opening.same_customers (c.deref-3.ensures.value ∙ c.in_ok-ops.ensures.value) in
