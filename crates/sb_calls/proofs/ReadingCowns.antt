@@ -41,3 +41,8 @@ pub write_checking : (b : Balances) (cown number : ℕ) (v : ℤ) → number ≡
 write_checking b cown number v same odd =
     let at : 2 * (number / 2) + 1 ≡ cown = omega (arith, same, odd_cown number odd) in
     held_of-with_checking b (number / 2) v ∙ ap (λ c. slice_set (held_of b) c v) at
+
+-- what reading a cown takes, and what writing it takes
+pub ruleset reading_a_cown = (place_in_range, place_fits, read_savings, read_checking)
+
+pub ruleset writing_a_cown = (place_in_range, place_fits, write_savings, write_checking)
