@@ -56,11 +56,15 @@ has_two_decimals-body whole tens ones h =
 
 -- ---- the decimals, from how many points there are and the third byte from the end
 
-pub has_two_decimals-yes : (body : List ℕ) → 3 ≤ length body → get_or body (length body - 3) 0 ≡ 46 → count_by is_point body ≡ 1 → (has_two_decimals body ≡ true) × (take (length body - 3) body ≡ before_first is_point body)
+pub has_two_decimals-yes : (body : List ℕ) → 3 ≤ length body → get_or body (length body - 3) 0 ≡ 46 → count_by is_point body ≡ 1
+    → (has_two_decimals body ≡ true) × (take (length body - 3) body ≡ before_first is_point body)
 has_two_decimals-yes body long point one =
     let cut = IsCutAt-only is_point body (length body - 3) 0 (omega arith) (eq-eqb (get_or body (length body - 3) 0) 46 point) one in
-    let two : length (after_first is_point body) ≡ 2 = omega (arith, ap {B = ℕ} length cut.after, length-drop (length body - 3 + 1) body) in
-    (and_from (count_by is_point body == 1) (length (after_first is_point body) == 2) (eq-eqb (count_by is_point body) 1 one) (eq-eqb (length (after_first is_point body)) 2 two), cut.before)
+    let two : length (after_first is_point body) ≡ 2 = omega (arith, ap {B = ℕ} length cut.after, length-drop (length body - 3 + 1) body) in (
+      and_from (count_by is_point body == 1) (length (after_first is_point body) == 2) (eq-eqb (count_by is_point body) 1 one)
+          (eq-eqb (length (after_first is_point body)) 2 two),
+      cut.before,
+    )
 
 pub has_two_decimals-points : (body : List ℕ) → count_by is_point body ≢ 1 → has_two_decimals body ≡ false
 has_two_decimals-points body other = and_left (count_by is_point body == 1) (length (after_first is_point body) == 2) (ne_eqb (count_by is_point body) 1 other)
@@ -76,14 +80,17 @@ third_from_end body two =
 
 pub has_two_decimals-short : (body : List ℕ) → length body < 3 → has_two_decimals body ≡ false
 has_two_decimals-short body short =
-    and_right (count_by is_point body == 1) (length (after_first is_point body) == 2) (ne_eqb (length (after_first is_point body)) 2 (λ two. omega (arith, (third_from_end body two).0)))
+    and_right (count_by is_point body == 1) (length (after_first is_point body) == 2)
+    (ne_eqb (length (after_first is_point body)) 2 (λ two. omega (arith, (third_from_end body two).0)))
 
 pub has_two_decimals-other : (body : List ℕ) → get_or body (length body - 3) 0 ≢ 46 → has_two_decimals body ≡ false
 has_two_decimals-other body other =
-    and_right (count_by is_point body == 1) (length (after_first is_point body) == 2) (ne_eqb (length (after_first is_point body)) 2 (λ two. other (third_from_end body two).1))
+    and_right (count_by is_point body == 1) (length (after_first is_point body) == 2)
+    (ne_eqb (length (after_first is_point body)) 2 (λ two. other (third_from_end body two).1))
 
 -- two more digits
-digits_value-push_two : (ds : List ℕ) (tens ones : ℕ) → is_ascii_digit tens ≡ true → is_ascii_digit ones ≡ true → digits_value 10 (ds ++ tens ∷ ones ∷ []) ≡ digits_value 10 ds * 100 + (tens - 48) * 10 + (ones - 48)
+digits_value-push_two : (ds : List ℕ) (tens ones : ℕ) → is_ascii_digit tens ≡ true → is_ascii_digit ones ≡ true
+    → digits_value 10 (ds ++ tens ∷ ones ∷ []) ≡ digits_value 10 ds * 100 + (tens - 48) * 10 + (ones - 48)
 digits_value-push_two ds tens ones t o =
     let t_range : IsInRange 48 57 tens = digit_range tens t in
     let o_range : IsInRange 48 57 ones = digit_range ones o in
@@ -95,7 +102,8 @@ digits_value-push_two ds tens ones t o =
     omega (arith, apart, first, second, t_value, o_value)
 
 -- the number that a body spells
-pub cents_of_digits-body : (whole : List ℕ) (tens ones : ℕ) → HasDigits whole tens ones → cents_of_digits (body_of whole tens ones) ≡ digits_value 10 whole * 100 + (tens - 48) * 10 + (ones - 48)
+pub cents_of_digits-body : (whole : List ℕ) (tens ones : ℕ) → HasDigits whole tens ones
+    → cents_of_digits (body_of whole tens ones) ≡ digits_value 10 whole * 100 + (tens - 48) * 10 + (ones - 48)
 cents_of_digits-body whole tens ones h =
     let kept = filter-digits whole (46 ∷ tens ∷ ones ∷ []) h.whole_digits in
     let decimals : filter is_ascii_digit (46 ∷ tens ∷ ones ∷ []) ≡ tens ∷ ones ∷ [] = rw (h.tens_digit, h.ones_digit) in
@@ -123,7 +131,8 @@ two_elements (a ∷ b ∷ []) h = (a, b, refl)
 two_elements (a ∷ b ∷ c ∷ ys) h = absurd (omega arith)
 
 -- a text that passes the tests is a whole part, a point and two decimals
-pub body_parts : (body : List ℕ) → list_all is_body_byte body ≡ true → has_two_decimals body ≡ true → (whole : List ℕ) × (tens : ℕ) × (ones : ℕ) × (body ≡ body_of whole tens ones) × HasDigits whole tens ones
+pub body_parts : (body : List ℕ) → list_all is_body_byte body ≡ true → has_two_decimals body ≡ true
+    → (whole : List ℕ) × (tens : ℕ) × (ones : ℕ) × (body ≡ body_of whole tens ones) × HasDigits whole tens ones
 body_parts body bytes decimals =
     let both = and_parts (count_by is_point body == 1) (length (after_first is_point body) == 2) decimals in
     let one : count_by is_point body ≡ 1 = eqb-true (count_by is_point body) 1 both.0 in
@@ -137,7 +146,8 @@ body_parts body bytes decimals =
           let none : NonePasses is_point ys = NonePasses-from_count is_point ys (omega (arith, one, count)) in
           let after = ap (after_first is_point) cut.3 ∙ after_first-at is_point ws y ys cut.4 cut.5 in
           let ends = two_elements ys (ap {B = ℕ} length (sym after) ∙ two) in
-          let pieces = and_parts (list_all is_body_byte ws) (list_all is_body_byte (y ∷ ys)) (sym (list_all-append is_body_byte ws (y ∷ ys)) ∙ ap (list_all is_body_byte) (sym cut.3) ∙ bytes) in
+          let pieces = and_parts (list_all is_body_byte ws) (list_all is_body_byte (y ∷ ys))
+          (sym (list_all-append is_body_byte ws (y ∷ ys)) ∙ ap (list_all is_body_byte) (sym cut.3) ∙ bytes) in
           let rest = and_parts (is_body_byte y) (list_all is_body_byte ys) pieces.1 in
           let last : all_digits (ends.0 ∷ ends.1 ∷ []) ≡ true = ap all_digits (sym ends.2) ∙ all_digits-body_bytes ys rest.1 none in
           let first_of_last = and_parts (is_ascii_digit ends.0) (all_digits (ends.1 ∷ [])) last in
@@ -168,7 +178,8 @@ cents_of_digits-unsigned_money n small =
     omega (arith, spelled, whole)
 
 -- a canonical body is the text of the number that it spells
-pub unsigned_money-body : (whole : List ℕ) (tens ones : ℕ) → HasDigits whole tens ones → is_canonical whole ≡ true → cents_of_digits (body_of whole tens ones) < 2 ^ 64 → unsigned_money (cents_of_digits (body_of whole tens ones)) ≡ body_of whole tens ones
+pub unsigned_money-body : (whole : List ℕ) (tens ones : ℕ) → HasDigits whole tens ones → is_canonical whole ≡ true
+    → cents_of_digits (body_of whole tens ones) < 2 ^ 64 → unsigned_money (cents_of_digits (body_of whole tens ones)) ≡ body_of whole tens ones
 unsigned_money-body whole tens ones h canonical small =
     let n = cents_of_digits (body_of whole tens ones) in
     let spelled = cents_of_digits-body whole tens ones h in

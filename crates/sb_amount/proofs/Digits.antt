@@ -82,15 +82,19 @@ decimal-canonical ds digits canonical small =
     decimal-digits_value numerals ds digits (nonempty_from_canonical ds canonical) (one_from_zero ds canonical) small
 
 -- the number spelled so far, with one more byte: a digit adds to it
-pub cents_of_digits-more_digit : (body : List ℕ) (i : ℕ) → i < length body → is_ascii_digit (get_or body i 0) ≡ true → cents_of_digits (take (i + 1) body) ≡ cents_of_digits (take i body) * 10 + (get_or body i 0 - 48)
+pub cents_of_digits-more_digit : (body : List ℕ) (i : ℕ) → i < length body → is_ascii_digit (get_or body i 0) ≡ true
+    → cents_of_digits (take (i + 1) body) ≡ cents_of_digits (take i body) * 10 + (get_or body i 0 - 48)
 cents_of_digits-more_digit body i h digit =
     let range : IsInRange 48 57 (get_or body i 0) = digit_range (get_or body i 0) digit in
     let value = digit_value-digit (get_or body i 0) range.0 range.1 in
-    let kept : filter is_ascii_digit (take (i + 1) body) ≡ filter is_ascii_digit (take i body) ++ get_or body i 0 ∷ [] = filter_more is_ascii_digit body i 0 h ∙ rw digit in
+    let kept : filter is_ascii_digit (take (i + 1) body) ≡ filter is_ascii_digit (take i body) ++ get_or body i 0 ∷ [] = filter_more is_ascii_digit body i 0 h
+    ∙ rw digit in
     ap (digits_value 10) kept ∙ digits_value_push 10 (filter is_ascii_digit (take i body)) (get_or body i 0) ∙ rw value
 
 -- and any other byte doesn't
-pub cents_of_digits-more_other : (body : List ℕ) (i : ℕ) → i < length body → is_ascii_digit (get_or body i 0) ≡ false → cents_of_digits (take (i + 1) body) ≡ cents_of_digits (take i body)
+pub cents_of_digits-more_other : (body : List ℕ) (i : ℕ) → i < length body → is_ascii_digit (get_or body i 0) ≡ false
+    → cents_of_digits (take (i + 1) body) ≡ cents_of_digits (take i body)
 cents_of_digits-more_other body i h other =
-    let kept : filter is_ascii_digit (take (i + 1) body) ≡ filter is_ascii_digit (take i body) = filter_more is_ascii_digit body i 0 h ∙ rw other (append-nil (filter is_ascii_digit (take i body))) in
+    let kept : filter is_ascii_digit (take (i + 1) body) ≡ filter is_ascii_digit (take i body) = filter_more is_ascii_digit body i 0 h
+    ∙ rw other (append-nil (filter is_ascii_digit (take i body))) in
     ap (digits_value 10) kept

@@ -30,7 +30,8 @@ unfolding money_fault
 read_money-not_digit text body h other = rw (sym h.is, h.some, other)
 
 -- not one point with two bytes after it
-pub read_money-bad_decimals : (text body : List ℕ) → HasBody text body → list_all is_body_byte body ≡ true → has_two_decimals body ≡ false → read_money text ≡ Err BadDecimals
+pub read_money-bad_decimals : (text body : List ℕ) → HasBody text body → list_all is_body_byte body ≡ true → has_two_decimals body ≡ false
+    → read_money text ≡ Err BadDecimals
 unfolding money_fault
 read_money-bad_decimals text body h bytes bad = rw (sym h.is, h.some, bytes, bad)
 
@@ -41,12 +42,14 @@ pub record HasDecimals (text body : List ℕ) : Type 0 where
   pub decimals : has_two_decimals body ≡ true
 
 -- an amount that is spelled another way
-pub read_money-not_canonical : (text body : List ℕ) → HasDecimals text body → (not (is_canonical (before_first is_point body)) || bytes_eq text (codes "-0.00")) ≡ true → read_money text ≡ Err NotCanonical
+pub read_money-not_canonical : (text body : List ℕ) → HasDecimals text body
+    → (not (is_canonical (before_first is_point body)) || bytes_eq text (codes "-0.00")) ≡ true → read_money text ≡ Err NotCanonical
 unfolding money_fault
 read_money-not_canonical text body h other = rw (sym h.start.is, h.start.some, h.bytes, h.decimals, other)
 
 -- the amount that the digits spell, or that it is too large
-read_money-last : (text body : List ℕ) → HasDecimals text body → (not (is_canonical (before_first is_point body)) || bytes_eq text (codes "-0.00")) ≡ false → read_money text ≡ (if nat_lt 1000000000000 (cents_of_digits body) then Err TooLarge else Ok (amount_of text))
+read_money-last : (text body : List ℕ) → HasDecimals text body → (not (is_canonical (before_first is_point body)) || bytes_eq text (codes "-0.00")) ≡ false
+    → read_money text ≡ (if nat_lt 1000000000000 (cents_of_digits body) then Err TooLarge else Ok (amount_of text))
 unfolding money_fault
 read_money-last text body h canonical =
     elim (cases_Bool (nat_lt 1000000000000 (cents_of_digits body))) [
@@ -74,7 +77,9 @@ none_past None x h past = refl
 none_past (Some y) x h past = absurd (past h.0)
 
 -- the limit is tested on the size with its sign, where the size stops one above the limit
-pub read_money-sized : (text body : List ℕ) → HasDecimals text body → (not (is_canonical (before_first is_point body)) || bytes_eq text (codes "-0.00")) ≡ false → (x : ℤ) (o : Option ℤ) → x ≡ (if is_negative text then neg_ℤ (pos (min (cents_of_digits body) (nat_abs LIMIT + 1))) else pos (min (cents_of_digits body) (nat_abs LIMIT + 1))) → SomeIff o (IsWithinLimit x) x → ok_or o TooLarge ≡ read_money text
+pub read_money-sized : (text body : List ℕ) → HasDecimals text body → (not (is_canonical (before_first is_point body)) || bytes_eq text (codes "-0.00")) ≡ false
+    → (x : ℤ) (o : Option ℤ) → x ≡ (if is_negative text then neg_ℤ (pos (min (cents_of_digits body) (nat_abs LIMIT + 1)))
+    else pos (min (cents_of_digits body) (nat_abs LIMIT + 1))) → SomeIff o (IsWithinLimit x) x → ok_or o TooLarge ≡ read_money text
 unfolding amount_of
 read_money-sized text body h canonical x o signed limited =
     let n = cents_of_digits body in
@@ -91,7 +96,8 @@ read_money-sized text body h canonical x o signed limited =
           let least : min n (nat_abs LIMIT + 1) ≡ n = omega arith in
           let is : x ≡ (if minus then neg_ℤ (pos n) else pos n) = signed ∙ ap (λ k. if minus then neg_ℤ (pos k) else pos k) least in
           let read_small : read_money text ≡ Ok (if minus then neg_ℤ (pos n) else pos n) = read ∙ rw within (rw (sym h.start.is)) in
-          ap (λ found. ok_or found TooLarge) (some_within o x limited (subst IsWithinLimit (sym is) (signed_size-small n minus small))) ∙ ap Ok is ∙ sym read_small
+          ap (λ found. ok_or found TooLarge) (some_within o x limited (subst IsWithinLimit (sym is) (signed_size-small n minus small))) ∙ ap Ok is
+          ∙ sym read_small
     ]
 
 -- ---- the clauses on a result, from what it is

@@ -46,12 +46,15 @@ without_sign-unsigned (c ∷ cs) h = rw h
 
 is_negative-unsigned_money : (n : ℕ) → n / 100 < 2 ^ 64 → is_negative (unsigned_money n) ≡ false
 is_negative-unsigned_money n small =
-    is_negative-digits (decimal (n / 100)) (46 ∷ (48 + n % 100 / 10) ∷ (48 + n % 100 % 10) ∷ []) (decimal_nonempty (n / 100) small) (all_digits-decimal (n / 100) small)
+    is_negative-digits (decimal (n / 100)) (46 ∷ (48 + n % 100 / 10) ∷ (48 + n % 100 % 10) ∷ []) (decimal_nonempty (n / 100) small)
+    (all_digits-decimal (n / 100) small)
 
 -- ---- a text without a fault
 
 -- no test fails
-no_fault : (a b c d e : Bool) → (if a then Some Empty else if b then Some NotDigit else if c then Some BadDecimals else if d then Some NotCanonical else if e then Some TooLarge else None) ≡ None → (a ≡ false) × (b ≡ false) × (c ≡ false) × (d ≡ false) × (e ≡ false)
+no_fault : (a b c d e : Bool)
+    → (if a then Some Empty else if b then Some NotDigit else if c then Some BadDecimals else if d then Some NotCanonical else if e then Some TooLarge
+    else None) ≡ None → (a ≡ false) × (b ≡ false) × (c ≡ false) × (d ≡ false) × (e ≡ false)
 no_fault true b c d e h = cc
 no_fault false true c d e h = cc
 no_fault false false true d e h = cc
@@ -60,7 +63,8 @@ no_fault false false false false true h = cc
 no_fault false false false false false h = (refl, refl, refl, refl, refl)
 
 -- the text of a number within the limit has no fault
-money_fault-none : (text : List ℕ) (n : ℕ) → without_sign text ≡ unsigned_money n → n ≤ 1000000000000 → bytes_eq text (codes "-0.00") ≡ false → money_fault text ≡ None
+money_fault-none : (text : List ℕ) (n : ℕ) → without_sign text ≡ unsigned_money n → n ≤ 1000000000000 → bytes_eq text (codes "-0.00") ≡ false
+    → money_fault text ≡ None
 unfolding money_fault
 money_fault-none text n body small differs =
     let digits = HasDigits-unsigned_money n (omega arith) in
@@ -71,7 +75,8 @@ money_fault-none text n body small differs =
     let bytes = all_body_bytes-body whole tens ones digits in
     let decimals = has_two_decimals-body whole tens ones digits in
     let canonical = ap is_canonical (before_first-body whole tens ones digits) ∙ is_canonical-decimal (n / 100) (omega arith) in
-    let fits : nat_lt 1000000000000 (cents_of_digits (unsigned_money n)) ≡ false = rw (cents_of_digits-unsigned_money n (omega arith)) (le-ltb 1000000000000 n small) in
+    let fits : nat_lt 1000000000000 (cents_of_digits (unsigned_money n)) ≡ false =
+    rw (cents_of_digits-unsigned_money n (omega arith)) (le-ltb 1000000000000 n small) in
     rw (body, empty, bytes, decimals, canonical, differs, fits)
 
 -- the spelling of zero that is refused
@@ -115,11 +120,13 @@ read_money-money (negsuc m) h =
 -- ---- what is read is money text
 
 -- a body that passes the tests is the text of the number that it spells
-body_is : (body : List ℕ) → list_all is_body_byte body ≡ true → has_two_decimals body ≡ true → is_canonical (before_first is_point body) ≡ true → cents_of_digits body < 2 ^ 64 → unsigned_money (cents_of_digits body) ≡ body
+body_is : (body : List ℕ) → list_all is_body_byte body ≡ true → has_two_decimals body ≡ true → is_canonical (before_first is_point body) ≡ true
+    → cents_of_digits body < 2 ^ 64 → unsigned_money (cents_of_digits body) ≡ body
 body_is body bytes decimals canonical small =
     let parts = body_parts body bytes decimals in
     let whole = parts.0 in let tens = parts.1 in let ones = parts.2 in let digits = parts.4 in
-    let whole_is : is_canonical whole ≡ true = ap is_canonical (sym (before_first-body whole tens ones digits)) ∙ ap (λ cs. is_canonical (before_first is_point cs)) (sym parts.3) ∙ canonical in
+    let whole_is : is_canonical whole ≡ true = ap is_canonical (sym (before_first-body whole tens ones digits))
+    ∙ ap (λ cs. is_canonical (before_first is_point cs)) (sym parts.3) ∙ canonical in
     let size_is : cents_of_digits body ≡ cents_of_digits (body_of whole tens ones) = ap cents_of_digits parts.3 in
     ap unsigned_money size_is ∙ unsigned_money-body whole tens ones digits whole_is (omega (arith, size_is)) ∙ sym parts.3
 
@@ -134,18 +141,21 @@ without_fault : (text : List ℕ) → money_fault text ≡ None → IsWithoutFau
 unfolding money_fault
 without_fault text none =
     let body = without_sign text in
-    let tests = no_fault (length body == 0) (not (list_all is_body_byte body)) (not (has_two_decimals body)) (not (is_canonical (before_first is_point body)) || bytes_eq text (codes "-0.00")) (nat_lt (nat_abs LIMIT) (cents_of_digits body)) none in
+    let tests = no_fault (length body == 0) (not (list_all is_body_byte body)) (not (has_two_decimals body))
+    (not (is_canonical (before_first is_point body)) || bytes_eq text (codes "-0.00")) (nat_lt (nat_abs LIMIT) (cents_of_digits body)) none in
     let spelling = or_parts (not (is_canonical (before_first is_point body))) (bytes_eq text (codes "-0.00")) tests.3 in
     let small : cents_of_digits body ≤ 1000000000000 = ltb-false 1000000000000 (cents_of_digits body) tests.4 in
     record {
       some = tests.0;
-      body = body_is body (not-false (list_all is_body_byte body) tests.1) (not-false (has_two_decimals body) tests.2) (not-false (is_canonical (before_first is_point body)) spelling.0) (omega arith);
+      body = body_is body (not-false (list_all is_body_byte body) tests.1) (not-false (has_two_decimals body) tests.2)
+          (not-false (is_canonical (before_first is_point body)) spelling.0) (omega arith);
       differs = spelling.1;
       small = small;
     }
 
 -- such a text is the money text of the amount that it says, which is within the limit: first where there is a sign
-minus_amount : (n : ℕ) (cs : List ℕ) → unsigned_money n ≡ cs → n ≤ 1000000000000 → bytes_eq (45 ∷ cs) (codes "-0.00") ≡ false → (45 ∷ cs ≡ money (neg_ℤ (pos n))) × IsWithinLimit (neg_ℤ (pos n))
+minus_amount : (n : ℕ) (cs : List ℕ) → unsigned_money n ≡ cs → n ≤ 1000000000000 → bytes_eq (45 ∷ cs) (codes "-0.00") ≡ false
+    → (45 ∷ cs ≡ money (neg_ℤ (pos n))) × IsWithinLimit (neg_ℤ (pos n))
 unfolding money
 minus_amount zero cs e small differs =
     let spelled : unsigned_money 0 ≡ codes "0.00" = rw (decimal_digit 0 (omega arith)) in
@@ -214,7 +224,8 @@ money_bytes (negsuc m) small = unsigned_money_bytes (suc m) (omega arith)
 pub money_lacks : (byte : ℕ) → is_money_byte byte ≡ false → (v : ℤ) → nat_abs v < 2 ^ 64 → list_all (λ c. not (c == byte)) (money v) ≡ true
 money_lacks byte other v small =
     list_all-weaker is_money_byte (λ c. not (c == byte)) (λ c passes.
-    not_from_false (c == byte) (ne_eqb c byte (λ same. both_ways (is_money_byte byte) other (ap is_money_byte (sym same) ∙ passes)))) (money v) (money_bytes v small)
+    not_from_false (c == byte) (ne_eqb c byte (λ same. both_ways (is_money_byte byte) other (ap is_money_byte (sym same) ∙ passes)))) (money v)
+    (money_bytes v small)
 
 -- the money text of an amount has no space
 pub money_keeps_clear : (v : ℤ) → IsWithinLimit v → list_all (λ c. not (c == 32)) (money v) ≡ true
@@ -229,8 +240,10 @@ length-unsigned_money n k some fits small =
 -- the money text of an amount has at most 15 bytes
 pub money_length : (v : ℤ) → IsWithinLimit v → length (money v) ≤ 15
 unfolding money
-money_length (pos n) h = let small : n ≤ 1000000000000 = nat_abs-within (pos n) h in omega (arith, length-unsigned_money n 11 (omega arith) (omega arith) (omega arith))
-money_length (negsuc m) h = let small : suc m ≤ 1000000000000 = nat_abs-within (negsuc m) h in omega (arith, length-unsigned_money (suc m) 11 (omega arith) (omega arith) (omega arith))
+money_length (pos n) h =
+    let small : n ≤ 1000000000000 = nat_abs-within (pos n) h in omega (arith, length-unsigned_money n 11 (omega arith) (omega arith) (omega arith))
+money_length (negsuc m) h =
+    let small : suc m ≤ 1000000000000 = nat_abs-within (negsuc m) h in omega (arith, length-unsigned_money (suc m) 11 (omega arith) (omega arith) (omega arith))
 
 -- that of any total at most 22
 pub money_length_any : (v : ℤ) → nat_abs v < 2 ^ 64 → length (money v) ≤ 22

@@ -25,7 +25,8 @@ NonePasses-from_count p (x ∷ xs) h =
     (fails, NonePasses-from_count p xs (omega (arith, apart, h)))
 
 -- the first that passes stands after those that don't
-pub position_or_len-at : {X : Type 0} (p : X → Bool) (xs : List X) (y : X) (ys : List X) → NonePasses p xs → p y ≡ true → position_or_len p (xs ++ y ∷ ys) ≡ length xs
+pub position_or_len-at : {X : Type 0} (p : X → Bool) (xs : List X) (y : X) (ys : List X) → NonePasses p xs → p y ≡ true
+    → position_or_len p (xs ++ y ∷ ys) ≡ length xs
 position_or_len-at p [] y ys h e = rw e
 position_or_len-at p (x ∷ xs) y ys h e = rw (h.0, position_or_len-at p xs y ys h.1 e) (omega arith)
 
@@ -50,7 +51,8 @@ count_by-at p xs y ys h e =
     omega (arith, apart, first, none, ap {B = ℕ} (λ b. cond b 1 0) e)
 
 -- a list is one that no element passes, or it is cut at the first that does
-pub cut_at_first : {X : Type 0} (p : X → Bool) (xs : List X) → NonePasses p xs ⊎ ((ws : List X) × (y : X) × (ys : List X) × (xs ≡ ws ++ y ∷ ys) × NonePasses p ws × (p y ≡ true))
+pub cut_at_first : {X : Type 0} (p : X → Bool) (xs : List X)
+    → NonePasses p xs ⊎ ((ws : List X) × (y : X) × (ys : List X) × (xs ≡ ws ++ y ∷ ys) × NonePasses p ws × (p y ≡ true))
 cut_at_first p [] = inl tt
 cut_at_first {X} p (x ∷ xs) =
     let Cut : List X → Type 0 = λ zs. NonePasses p zs ⊎ ((ws : List X) × (y : X) × (ys : List X) × (zs ≡ ws ++ y ∷ ys) × NonePasses p ws × (p y ≡ true)) in

@@ -79,7 +79,8 @@ fn whole_part(body: &[u8], points: usize) -> Option<&[u8]>
     requires { points ≡ count_by is_point body.now }
     ensures { MatchOption result
         (has_two_decimals body.now ≡ false)
-        (λ whole. (has_two_decimals body.now ≡ true) × (whole.now ≡ before_first is_point body.now)) }
+        (λ whole. (has_two_decimals body.now ≡ true)
+        × (whole.now ≡ before_first is_point body.now)) }
 {
     match body {
         [whole @ .., b'.', _, _] if points == 1 => Some(whole),

@@ -19,20 +19,23 @@ use Rattle.sb_calls.specs.declared.reply.Reply.TheVariants.{Done, OverLimit}
 pub past_limit_either : (v : ℤ) → ¬ IsWithinLimit v → (int_lt LIMIT v || int_lt v (neg_ℤ LIMIT)) ≡ true
 past_limit_either v past =
     by_lt_z LIMIT v (λ above. or_left (int_lt LIMIT v) (int_lt v (neg_ℤ LIMIT)) (grind (arith, ints, above)))
-    (λ most. by_lt_z v (neg_ℤ LIMIT) (λ below. or_right (int_lt LIMIT v) (int_lt v (neg_ℤ LIMIT)) (grind (arith, ints, below))) (λ least. absurd (past (record { at_least = least; at_most = most }))))
+    (λ most. by_lt_z v (neg_ℤ LIMIT) (λ below. or_right (int_lt LIMIT v) (int_lt v (neg_ℤ LIMIT)) (grind (arith, ints, below)))
+    (λ least. absurd (past (record { at_least = least; at_most = most }))))
 
 -- and one that is within it is not
 pub within_limit : (v : ℤ) → IsWithinLimit v → (int_lt LIMIT v || int_lt v (neg_ℤ LIMIT)) ≡ false
 within_limit v fits = or_from (int_lt LIMIT v) (int_lt v (neg_ℤ LIMIT)) (grind (arith, ints, fits.at_most)) (grind (arith, ints, fits.at_least))
 
 -- names at different places are different
-pub different_names : (directory : List (List ℕ)) (from to : List ℕ) (p q : ℕ) → place_of directory from ≡ Some p → place_of directory to ≡ Some q → p ≢ q → bytes_eq from to ≡ false
+pub different_names : (directory : List (List ℕ)) (from to : List ℕ) (p q : ℕ) → place_of directory from ≡ Some p → place_of directory to ≡ Some q → p ≢ q
+    → bytes_eq from to ≡ false
 different_names directory from to p q found_from found_to differs = false_from_ne_true (bytes_eq from to) (λ same.
     let names : from ≡ to = (bytes_eq-Decides from to).0 same in
     let places : ◌≡◌ {A = Option ℕ} (Some p) (Some q) = sym found_from ∙ ap (place_of directory) names ∙ found_to in
     differs cc)
 
-module _ {directory : List (List ℕ)} {b : Balances} {from to : List ℕ} {p q : ℕ} {s c s_to c_to : ℤ} (giver : HasRow directory b from p s c) (taker : HasRow directory b to q s_to c_to) (differs : p ≢ q) where
+module _ {directory : List (List ℕ)} {b : Balances} {from to : List ℕ} {p q : ℕ} {s c s_to c_to : ℤ} (giver : HasRow directory b from p s c)
+    (taker : HasRow directory b to q s_to c_to) (differs : p ≢ q) where
   -- one that would pass the limit
   pub performs_amalgamate_over_limit : ¬ IsWithinLimit ((c_to +ℤ s) +ℤ c) → FollowsProcedure directory (Amalgamate from to) b b OverLimit
   performs_amalgamate_over_limit past =
@@ -51,7 +54,8 @@ module _ {directory : List (List ℕ)} {b : Balances} {from to : List ℕ} {p q 
       let names = different_names directory from to p q giver.found taker.found differs in
       let in_range = within_limit ((c_to +ℤ s) +ℤ c) fits in
       let zero_fits : IsWithinLimit (pos 0) = record { at_least = omega (arith, ints); at_most = omega (arith, ints) } in
-      let emptied : SameCustomers directory (with_row b p (pos 0) (pos 0)) = SameCustomers-with_row directory b p (pos 0) (pos 0) giver.same (record { not_negative = omega (arith, ints); within = zero_fits }) zero_fits in
+      let emptied : SameCustomers directory (with_row b p (pos 0) (pos 0)) =
+      SameCustomers-with_row directory b p (pos 0) (pos 0) giver.same (record { not_negative = omega (arith, ints); within = zero_fits }) zero_fits in
       let kept = HasRow-other directory b to p q s_to c_to (pos 0) (pos 0) taker (λ e. differs (sym e)) emptied in
       record {
         rows = rw (row_from, row_to, names, in_range, ← rows_of-with_both giver (pos 0) (pos 0)) (rows_of-with_checking kept ((c_to +ℤ s) +ℤ c));

@@ -19,7 +19,8 @@ two_below : (from to n : ℕ) → from < n → to < n → AreBelow (2 * n) (cown
 two_below from to n lt_from lt_to = by (from == to) (nat_lt from to)
   where
     by : (one before : Bool)
-        → AreBelow (2 * n) (cond one [] (cond before (savings_cown from ∷ checking_cown from ∷ checking_cown to ∷ []) (checking_cown to ∷ savings_cown from ∷ checking_cown from ∷ [])))
+        → AreBelow (2 * n) (cond one [] (cond before (savings_cown from ∷ checking_cown from ∷ checking_cown to ∷ [])
+        (checking_cown to ∷ savings_cown from ∷ checking_cown from ∷ [])))
     by true before = tt
     by false true = (omega (arith, lt_from), (omega (arith, lt_from), (omega (arith, lt_to), tt)))
     by false false = (omega (arith, lt_to), (omega (arith, lt_from), (omega (arith, lt_from), tt)))
@@ -34,19 +35,24 @@ op_below n (WriteCheck place amount) lt = (omega (arith, lt), (omega (arith, lt)
 op_below n NoCustomer lt = tt
 op_below n SameCustomer lt = tt
 
-pub declared_below : (b : Balances) (op : Op) → length b.savings ≡ length b.checking → IsOpWithin (length b.savings) op → AreBelow (length (held_of b)) (declared_cowns op)
+pub declared_below : (b : Balances) (op : Op) → length b.savings ≡ length b.checking → IsOpWithin (length b.savings) op
+    → AreBelow (length (held_of b)) (declared_cowns op)
 declared_below b op same within = subst (λ n. AreBelow n (declared_cowns op)) (sym (length-held_of b same)) (op_below (length b.savings) op within)
 
 -- so the cowns of an op hold what they may
-pub declared_held : (b : Balances) (op : Op) → IsBalances b → IsOpWithin (length b.savings) op → AreHeld (declared_cowns op) (read_cowns (held_of b) (declared_cowns op))
+pub declared_held : (b : Balances) (op : Op) → IsBalances b → IsOpWithin (length b.savings) op
+    → AreHeld (declared_cowns op) (read_cowns (held_of b) (declared_cowns op))
 declared_held b op valid within =
-    AreHeld-read (held_of b) (declared_cowns op) (AllHeld-balances b valid) (λ cown. below_among (length (held_of b)) (declared_cowns op) cown (declared_below b op valid.same within))
+    AreHeld-read (held_of b) (declared_cowns op) (AllHeld-balances b valid)
+    (λ cown. below_among (length (held_of b)) (declared_cowns op) cown (declared_below b op valid.same within))
 
 -- ---- what is written back
 
-module _ (old new : Balances) (op : Op) (written : held_of new ≡ write_cowns (held_of old) (declared_cowns op) (effect_of op (read_cowns (held_of old) (declared_cowns op))).1) where
+module _ (old new : Balances) (op : Op) (written : held_of new
+    ≡ write_cowns (held_of old) (declared_cowns op) (effect_of op (read_cowns (held_of old) (declared_cowns op))).1) where
   -- the rows follow the procedure
-  pub applied_follows : (directory : List (List ℕ)) (call : Call) → SameCustomers directory old → op ≡ resolved directory call → length new.savings ≡ length new.checking
+  pub applied_follows : (directory : List (List ℕ)) (call : Call) → SameCustomers directory old → op ≡ resolved directory call
+      → length new.savings ≡ length new.checking
       → FollowsProcedure directory call old new (effect_of op (read_cowns (held_of old) (declared_cowns op))).0
   applied_follows directory call same e beside =
       let made = effect_performs directory old call op same e in

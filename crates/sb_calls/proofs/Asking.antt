@@ -51,7 +51,8 @@ number_clear n below = without_spaces is_ascii_digit (decimal n) (λ c digit. gr
 -- ---- keys
 
 -- a key that was read has its two numbers, and its client is not 0
-key_made : (client request : Option ℕ) (key : Key) → key_of client request ≡ Some key → (client ≡ Some key.client) × (request ≡ Some key.request) × (1 ≤ key.client)
+key_made : (client request : Option ℕ) (key : Key) → key_of client request ≡ Some key
+    → (client ≡ Some key.client) × (request ≡ Some key.request) × (1 ≤ key.client)
 key_made None request key e = cc
 key_made (Some zero) request key e = cc
 key_made (Some (suc n)) None key e = cc
@@ -79,16 +80,19 @@ under_key_made key (Ok call) made e =
 under_key_made key (Err fault) made e = absurd cc
 
 -- the key that it was read under
-with_key_made : (key : Option Key) (rest : List (List ℕ)) (made : Asked) → with_key key rest ≡ Ok made → (k : Key) × (key ≡ Some k) × (under_key (Some k) (call_of_words rest) ≡ Ok made)
+with_key_made : (key : Option Key) (rest : List (List ℕ)) (made : Asked) → with_key key rest ≡ Ok made
+    → (k : Key) × (key ≡ Some k) × (under_key (Some k) (call_of_words rest) ≡ Ok made)
 with_key_made None rest made e = absurd cc
 with_key_made (Some key) rest made e = (key, refl, e)
 
 -- what was read under a key and spells a call spells both
-spells_both : (key : Option Key) (made : Asked) (line : List ℕ) → key ≡ made.key → IsKey key → IsCall made.call → line ≡ key_text key ++ call_line made.call → IsAsked made × (line ≡ ask_line made)
+spells_both : (key : Option Key) (made : Asked) (line : List ℕ) → key ≡ made.key → IsKey key → IsCall made.call → line ≡ key_text key ++ call_line made.call
+    → IsAsked made × (line ≡ ask_line made)
 spells_both key made line same valid h e = ((subst IsKey same valid, h), e ∙ ap (λ (k : Option Key). key_text k ++ call_line made.call) same)
 
 -- the two numbers of a key and what stands behind them
-key_text-numbers : (key : Key) (client request joined rest : List ℕ) → client ≡ decimal key.client → request ≡ decimal key.request → joined ≡ rest → codes "ask " ++ (client ++ (32 ∷ (request ++ 32 ∷ joined))) ≡ key_text (Some key) ++ rest
+key_text-numbers : (key : Key) (client request joined rest : List ℕ) → client ≡ decimal key.client → request ≡ decimal key.request → joined ≡ rest
+    → codes "ask " ++ (client ++ (32 ∷ (request ++ 32 ∷ joined))) ≡ key_text (Some key) ++ rest
 key_text-numbers key client request joined rest c r j = rw (c, r, j) (sym (key_text-append key rest))
 
 -- the words after `ask`, joined behind it
@@ -105,14 +109,16 @@ keyed_spells (client ∷ request ∷ word ∷ more) made e =
     let second = number_made request key.0.request numbers.1 in
     let under = under_key_made (Some key.0) (call_of_words (word ∷ more)) made key.2 in
     let call = words_spell (word ∷ more) made.call under.0 in
-    spells_both (Some key.0) made _ under.1 (numbers.2, first.1, second.1) call.0 (key_text-numbers key.0 client request (join_with_byte 32 (word ∷ more)) (call_line made.call) first.0 second.0 call.1)
+    spells_both (Some key.0) made _ under.1 (numbers.2, first.1, second.1) call.0
+    (key_text-numbers key.0 client request (join_with_byte 32 (word ∷ more)) (call_line made.call) first.0 second.0 call.1)
 
 -- the words of an asking line, joined by spaces, spell it
 asked_words_spell : (ws : List (List ℕ)) (made : Asked) → asked_of_words ws ≡ Ok made → IsAsked made × (join_with_byte 32 ws ≡ ask_line made)
 asked_words_spell [] made e = absurd cc
 asked_words_spell (verb ∷ rest) made e =
     elim (chosen (bytes_eq verb (codes "ask")) (after_ask rest) (under_key None (call_of_words (verb ∷ rest))) (Ok made) e) [
-      | inl ask ↦ subst (λ (v : List ℕ). IsAsked made × (join_with_byte 32 (v ∷ rest) ≡ ask_line made)) (sym ((bytes_eq-Decides verb (codes "ask")).0 ask.0)) (keyed_spells rest made ask.1)
+      | inl ask ↦ subst (λ (v : List ℕ). IsAsked made × (join_with_byte 32 (v ∷ rest) ≡ ask_line made)) (sym ((bytes_eq-Decides verb (codes "ask")).0 ask.0))
+          (keyed_spells rest made ask.1)
       | inr plain ↦
           let under = under_key_made None (call_of_words (verb ∷ rest)) made plain.1 in
           let call = words_spell (verb ∷ rest) made.call under.0 in
@@ -143,7 +149,8 @@ call_without_key (Amalgamate from to) = refl
 call_without_key (WriteCheck name amount) = refl
 
 -- the words of a line with a key
-words-key : (key : Key) (rest : List ℕ) → IsKey (Some key) → words (key_text (Some key) ++ rest) ≡ codes "ask" ∷ decimal key.client ∷ decimal key.request ∷ words rest
+words-key : (key : Key) (rest : List ℕ) → IsKey (Some key)
+    → words (key_text (Some key) ++ rest) ≡ codes "ask" ∷ decimal key.client ∷ decimal key.request ∷ words rest
 unfolding words
 words-key key rest h =
     let request = slice_split_at is_space (decimal key.request) 32 rest (number_clear key.request h.2) refl in

@@ -98,7 +98,8 @@ place_behind : (directory : List (List ℕ)) (cown_at : ℕ → ℕ) (name : Lis
     → (place : ℕ) × (place_of directory name ≡ Some place) × (cown_at place ≡ cown)
 place_behind directory cown_at name cown e = by (place_of directory name) refl e
   where
-    by : (o : Option ℕ) → place_of directory name ≡ o → option_map cown_at o ≡ Some cown → (place : ℕ) × (place_of directory name ≡ Some place) × (cown_at place ≡ cown)
+    by : (o : Option ℕ) → place_of directory name ≡ o → option_map cown_at o ≡ Some cown
+        → (place : ℕ) × (place_of directory name ≡ Some place) × (cown_at place ≡ cown)
     by None found none = absurd cc
     by (Some place) found same = (place, found, cc)
 
@@ -136,14 +137,17 @@ conflicts directory b first second same = (there, back)
     there : share_cown (cowns first) (cowns second) ≡ true → (place : BalancePlace) × Contains (balances first) place × Contains (balances second) place
     there shared =
         let cown = shared_cown (cowns first) (cowns second) shared in
-        let at = (declares_touched directory b first (resolved directory first) same refl cown.0).0 (Contains-from_one (cowns first) cown.0 (one_from_among cown.0 (cowns first) cown.1)) in
-        let beside = (declares_touched directory b second (resolved directory second) same refl cown.0).0 (Contains-from_one (cowns second) cown.0 (one_from_among cown.0 (cowns second) cown.2)) in
+        let at = (declares_touched directory b first (resolved directory first) same refl cown.0).0
+        (Contains-from_one (cowns first) cown.0 (one_from_among cown.0 (cowns first) cown.1)) in
+        let beside = (declares_touched directory b second (resolved directory second) same refl cown.0).0
+        (Contains-from_one (cowns second) cown.0 (one_from_among cown.0 (cowns second) cown.2)) in
         let one : beside.0 ≡ at.0 = cown_of-injective directory beside.0 at.0 cown.0 beside.2 at.2 in
         (at.0, at.1, subst (Contains (balances second)) one beside.1)
 
     back : (place : BalancePlace) × Contains (balances first) place × Contains (balances second) place → share_cown (cowns first) (cowns second) ≡ true
     back (place, of_first, of_second) =
-        let named = one_is_named (rows_of directory b) (balances first) place (touched_are_named (rows_of directory b) first) (one_from_Contains (balances first) place of_first) in
+        let named = one_is_named (rows_of directory b) (balances first) place (touched_are_named (rows_of directory b) first)
+        (one_from_Contains (balances first) place of_first) in
         let cown = cown_of_named directory b place same named in
         let in_first = (declares_touched directory b first (resolved directory first) same refl cown.0).1 (place, of_first, cown.1) in
         let in_second = (declares_touched directory b second (resolved directory second) same refl cown.0).1 (place, of_second, cown.1) in

@@ -48,7 +48,8 @@ check_paid amount s c ge fits =
     let le : int_lt (c -ℤ check_cost s c amount) (neg_ℤ LIMIT) ≡ false = grind (arith, ints, fits.at_least) in
     rw (ge, le) refl
 
-pub check_over_limit : (amount s c : ℤ) → IsWithinLimit c → int_lt amount (pos 0) ≡ false → ¬ IsWithinLimit (c -ℤ check_cost s c amount) → check_effect amount s c ≡ (OverLimit, s ∷ c ∷ [])
+pub check_over_limit : (amount s c : ℤ) → IsWithinLimit c → int_lt amount (pos 0) ≡ false → ¬ IsWithinLimit (c -ℤ check_cost s c amount)
+    → check_effect amount s c ≡ (OverLimit, s ∷ c ∷ [])
 check_over_limit amount s c within ge past = let lt = past_limit_downwards s c amount within ge past in rw (ge, lt) refl
 
 -- ---- on what the cowns hold
@@ -59,11 +60,13 @@ comes_back v within = omega (arith, ints, within.at_least, within.at_most)
 
 -- an effect on three values is on what was read of them
 pub on_three : (a b c : ℕ) (effect : ℤ → ℤ → ℤ → Reply × List ℤ) (inputs : List ℤ) (x y z : ℤ) → AreHeld (a ∷ b ∷ c ∷ []) inputs
-    → x ≡ to_z w64 (of_z w64 (get_or inputs 0 (pos 0))) → y ≡ to_z w64 (of_z w64 (get_or inputs 1 (pos 0))) → z ≡ to_z w64 (of_z w64 (get_or inputs 2 (pos 0))) → of_three effect inputs ≡ effect x y z
+    → x ≡ to_z w64 (of_z w64 (get_or inputs 0 (pos 0))) → y ≡ to_z w64 (of_z w64 (get_or inputs 1 (pos 0))) → z ≡ to_z w64 (of_z w64 (get_or inputs 2 (pos 0)))
+    → of_three effect inputs ≡ effect x y z
 on_three a b c effect [] x y z held first second third = absurd held
 on_three a b c effect (v ∷ []) x y z held first second third = absurd held.1
 on_three a b c effect (v ∷ w ∷ []) x y z held first second third = absurd held.1.1
-on_three a b c effect (v ∷ w ∷ u ∷ []) x y z held first second third = rw (first, second, third, comes_back v held.0.within, comes_back w held.1.0.within, comes_back u held.1.1.0.within) refl
+on_three a b c effect (v ∷ w ∷ u ∷ []) x y z held first second third =
+    rw (first, second, third, comes_back v held.0.within, comes_back w held.1.0.within, comes_back u held.1.1.0.within) refl
 on_three a b c effect (v ∷ w ∷ u ∷ t ∷ more) x y z held first second third = absurd held.1.1.1
 
 -- an amalgamation where the one that gives stands first, and where the other does

@@ -36,13 +36,16 @@ abbrev pub Effects : List (List ℕ) → Call → Balances → List ℕ → Repl
 Effects directory call b cowns effect = PerformsByCowns directory call b cowns effect.0 effect.1
 
 -- one that leaves what was held
-pub effect_leaves : (directory : List (List ℕ)) (call : Call) (b : Balances) (cowns : List ℕ) (reply : Reply) (held : List ℤ) → FollowsProcedure directory call b b reply → held ≡ read_cowns (held_of b) cowns
+pub effect_leaves : (directory : List (List ℕ)) (call : Call) (b : Balances) (cowns : List ℕ) (reply : Reply) (held : List ℤ)
+    → FollowsProcedure directory call b b reply → held ≡ read_cowns (held_of b) cowns
     → Effects directory call b cowns (reply, held)
-effect_leaves directory call b cowns reply held performs e = record { new = b; written = sym (ap (write_cowns (held_of b) cowns) e ∙ write-read (held_of b) cowns); performs = performs }
+effect_leaves directory call b cowns reply held performs e =
+    record { new = b; written = sym (ap (write_cowns (held_of b) cowns) e ∙ write-read (held_of b) cowns); performs = performs }
 
 -- one of two effects
 either_effect : (directory : List (List ℕ)) (call : Call) (b : Balances) (cowns : List ℕ) (test : Bool) (first second : Reply × List ℤ)
-    → (test ≡ true → Effects directory call b cowns first) → (test ≡ false → Effects directory call b cowns second) → Effects directory call b cowns (cond test first second)
+    → (test ≡ true → Effects directory call b cowns first) → (test ≡ false → Effects directory call b cowns second)
+    → Effects directory call b cowns (cond test first second)
 either_effect directory call b cowns true first second there elsewhere = there refl
 either_effect directory call b cowns false first second there elsewhere = elsewhere refl
 
@@ -62,7 +65,8 @@ deposit_within c amount within ge le = record { at_least = grind (arith, ints, g
 savings_within_limit : (v : ℤ) → int_lt v (pos 0) ≡ false → int_lt LIMIT v ≡ false → IsWithinLimit v
 savings_within_limit v ge le = record { at_least = grind (arith, ints, ge); at_most = grind (arith, ints, le) }
 
-check_within : (s c amount : ℤ) → IsWithinLimit c → int_lt amount (pos 0) ≡ false → int_lt (c -ℤ check_cost s c amount) (neg_ℤ LIMIT) ≡ false → IsWithinLimit (c -ℤ check_cost s c amount)
+check_within : (s c amount : ℤ) → IsWithinLimit c → int_lt amount (pos 0) ≡ false → int_lt (c -ℤ check_cost s c amount) (neg_ℤ LIMIT) ≡ false
+    → IsWithinLimit (c -ℤ check_cost s c amount)
 check_within s c amount within ge le =
     let not_negative : pos 0 ≤ℤ amount = grind (arith, ints, ge) in
     let bounds = cost_bounds s c amount in
@@ -88,14 +92,18 @@ module _ {directory : List (List ℕ)} {b : Balances} {name : List ℕ} {place :
   both = rw (savings_is, checking_is) refl
 
   pub balance_effects : Effects directory (Balance name) b (savings_cown place ∷ checking_cown place ∷ []) (replies.Shown (s +ℤ c), s ∷ c ∷ [])
-  balance_effects = effect_leaves directory (Balance name) b (savings_cown place ∷ checking_cown place ∷ []) (replies.Shown (s +ℤ c)) (s ∷ c ∷ []) (performs_balance h) both
+  balance_effects =
+      effect_leaves directory (Balance name) b (savings_cown place ∷ checking_cown place ∷ []) (replies.Shown (s +ℤ c)) (s ∷ c ∷ []) (performs_balance h) both
 
   pub deposit_effects : (amount : ℤ) → Effects directory (DepositChecking name amount) b (checking_cown place ∷ []) (deposit_effect amount c)
   deposit_effects amount =
       let call = DepositChecking name amount in
       let cowns = checking_cown place ∷ [] in
-      either_effect directory call b cowns (int_lt amount (pos 0)) _ _ (λ lt. effect_leaves directory call b cowns replies.Negative (c ∷ []) (performs_negative h amount lt) one_checking) (λ ge.
-      either_effect directory call b cowns (int_lt LIMIT (c +ℤ amount)) _ _ (λ past. effect_leaves directory call b cowns replies.OverLimit (c ∷ []) (performs_over_limit h amount ge (not_past (c +ℤ amount) past)) one_checking) (λ le. record {
+      either_effect directory call b cowns (int_lt amount (pos 0)) _ _
+      (λ lt. effect_leaves directory call b cowns replies.Negative (c ∷ []) (performs_negative h amount lt) one_checking) (λ ge.
+      either_effect directory call b cowns (int_lt LIMIT (c +ℤ amount)) _ _
+      (λ past. effect_leaves directory call b cowns replies.OverLimit (c ∷ []) (performs_over_limit h amount ge (not_past (c +ℤ amount) past)) one_checking)
+      (λ le. record {
         new = with_checking b place (c +ℤ amount);
         written = held_of-with_checking b place (c +ℤ amount);
         performs = performs_deposit h amount ge (deposit_within c amount (checking_within h) ge le);
@@ -105,8 +113,11 @@ module _ {directory : List (List ℕ)} {b : Balances} {name : List ℕ} {place :
   savings_effects amount =
       let call = TransactSavings name amount in
       let cowns = savings_cown place ∷ [] in
-      either_effect directory call b cowns (int_lt (s +ℤ amount) (pos 0)) _ _ (λ lt. effect_leaves directory call b cowns replies.WouldOverdraw (s ∷ []) (performs_overdraft h amount lt) one_savings) (λ ge.
-      either_effect directory call b cowns (int_lt LIMIT (s +ℤ amount)) _ _ (λ past. effect_leaves directory call b cowns replies.OverLimit (s ∷ []) (performs_savings_over_limit h amount ge (not_past (s +ℤ amount) past)) one_savings) (λ le. record {
+      either_effect directory call b cowns (int_lt (s +ℤ amount) (pos 0)) _ _
+      (λ lt. effect_leaves directory call b cowns replies.WouldOverdraw (s ∷ []) (performs_overdraft h amount lt) one_savings) (λ ge.
+      either_effect directory call b cowns (int_lt LIMIT (s +ℤ amount)) _ _
+      (λ past. effect_leaves directory call b cowns replies.OverLimit (s ∷ [])
+      (performs_savings_over_limit h amount ge (not_past (s +ℤ amount) past)) one_savings) (λ le. record {
         new = with_savings b place (s +ℤ amount);
         written = held_of-with_savings b place (s +ℤ amount);
         performs = performs_savings h amount ge (savings_within_limit (s +ℤ amount) ge le);
@@ -117,14 +128,18 @@ module _ {directory : List (List ℕ)} {b : Balances} {name : List ℕ} {place :
       let call = WriteCheck name amount in
       let cowns = savings_cown place ∷ checking_cown place ∷ [] in
       let left = c -ℤ check_cost s c amount in
-      either_effect directory call b cowns (int_lt amount (pos 0)) _ _ (λ lt. effect_leaves directory call b cowns replies.Negative (s ∷ c ∷ []) (performs_check_negative h amount lt) both) (λ ge.
-      either_effect directory call b cowns (int_lt left (neg_ℤ LIMIT)) _ _ (λ past. effect_leaves directory call b cowns replies.OverLimit (s ∷ c ∷ []) (performs_check_over_limit h amount ge (not_below left past)) both) (λ le. record {
+      either_effect directory call b cowns (int_lt amount (pos 0)) _ _
+      (λ lt. effect_leaves directory call b cowns replies.Negative (s ∷ c ∷ []) (performs_check_negative h amount lt) both) (λ ge.
+      either_effect directory call b cowns (int_lt left (neg_ℤ LIMIT)) _ _
+      (λ past. effect_leaves directory call b cowns replies.OverLimit (s ∷ c ∷ []) (performs_check_over_limit h amount ge (not_below left past)) both)
+      (λ le. record {
         new = with_checking b place left;
         written = held_of-with_checking b place left ∙ sym (savings_kept (checking_cown place ∷ []) (left ∷ []));
         performs = performs_check h amount ge (check_within s c amount (checking_within h) ge le);
       }))
     where
-      savings_kept : (cowns : List ℕ) (values : List ℤ) → write_cowns (held_of b) (savings_cown place ∷ cowns) (s ∷ values) ≡ write_cowns (held_of b) cowns values
+      savings_kept : (cowns : List ℕ) (values : List ℤ)
+          → write_cowns (held_of b) (savings_cown place ∷ cowns) (s ∷ values) ≡ write_cowns (held_of b) cowns values
       savings_kept cowns values =
           let same : slice_set (held_of b) (savings_cown place) s ≡ held_of b = rw (← savings_is) (set-get_or (held_of b) (savings_cown place) (pos 0)) in
           ap (λ (held : List ℤ). write_cowns held cowns values) same
@@ -132,8 +147,10 @@ module _ {directory : List (List ℕ)} {b : Balances} {name : List ℕ} {place :
 -- ---- two customers
 
 -- both balances of a place are written to its cowns
-held_of-with_row : (b : Balances) (place : ℕ) (s c : ℤ) → held_of (with_row b place s c) ≡ slice_set (slice_set (held_of b) (savings_cown place) s) (checking_cown place) c
-held_of-with_row b place s c = held_of-with_checking (with_savings b place s) place c ∙ ap (λ (held : List ℤ). slice_set held (checking_cown place) c) (held_of-with_savings b place s)
+held_of-with_row : (b : Balances) (place : ℕ) (s c : ℤ)
+    → held_of (with_row b place s c) ≡ slice_set (slice_set (held_of b) (savings_cown place) s) (checking_cown place) c
+held_of-with_row b place s c =
+    held_of-with_checking (with_savings b place s) place c ∙ ap (λ (held : List ℤ). slice_set held (checking_cown place) c) (held_of-with_savings b place s)
 
 -- the balances after an amalgamation
 abbrev amalgamated : Balances → ℕ → ℕ → ℤ → Balances
@@ -143,7 +160,8 @@ amalgamated b p q sum = with_checking (with_row b p (pos 0) (pos 0)) q sum
 written_giver_first : (b : Balances) (p q : ℕ) (sum : ℤ)
     → held_of (amalgamated b p q sum) ≡ slice_set (slice_set (slice_set (held_of b) (savings_cown p) (pos 0)) (checking_cown p) (pos 0)) (checking_cown q) sum
 written_giver_first b p q sum =
-    held_of-with_checking (with_row b p (pos 0) (pos 0)) q sum ∙ ap (λ (held : List ℤ). slice_set held (checking_cown q) sum) (held_of-with_row b p (pos 0) (pos 0))
+    held_of-with_checking (with_row b p (pos 0) (pos 0)) q sum
+    ∙ ap (λ (held : List ℤ). slice_set held (checking_cown q) sum) (held_of-with_row b p (pos 0) (pos 0))
 
 -- or the other way round: they are other cowns
 written_taker_first : (b : Balances) (p q : ℕ) (sum : ℤ) → p ≢ q
@@ -164,7 +182,8 @@ sum_within v e =
 sum_past : (v : ℤ) → takes_too_much v ≡ true → ¬ IsWithinLimit v
 sum_past v e fits = both_ways (takes_too_much v) (within_limit v fits) e
 
-module _ {directory : List (List ℕ)} {b : Balances} {from to : List ℕ} {p q : ℕ} {s c s_to c_to : ℤ} (giver : HasRow directory b from p s c) (taker : HasRow directory b to q s_to c_to) (differs : p ≢ q) where
+module _ {directory : List (List ℕ)} {b : Balances} {from to : List ℕ} {p q : ℕ} {s c s_to c_to : ℤ} (giver : HasRow directory b from p s c)
+    (taker : HasRow directory b to q s_to c_to) (differs : p ≢ q) where
   pub giver_first : s ∷ c ∷ c_to ∷ [] ≡ read_cowns (held_of b) (savings_cown p ∷ checking_cown p ∷ checking_cown q ∷ [])
   giver_first = rw (savings_is giver, checking_is giver, checking_is taker) refl
 
@@ -177,7 +196,8 @@ module _ {directory : List (List ℕ)} {b : Balances} {from to : List ℕ} {p q 
       let cowns = savings_cown p ∷ checking_cown p ∷ checking_cown q ∷ [] in
       let sum = (c_to +ℤ s) +ℤ c in
       either_effect directory call b cowns (takes_too_much sum) _ _
-      (λ past. effect_leaves directory call b cowns replies.OverLimit (s ∷ c ∷ c_to ∷ []) (performs_amalgamate_over_limit giver taker differs (sum_past sum past)) giver_first) (λ fits. record {
+      (λ past. effect_leaves directory call b cowns replies.OverLimit (s ∷ c ∷ c_to ∷ [])
+      (performs_amalgamate_over_limit giver taker differs (sum_past sum past)) giver_first) (λ fits. record {
         new = amalgamated b p q sum;
         written = written_giver_first b p q sum;
         performs = performs_amalgamate giver taker differs (sum_within sum fits);
@@ -189,14 +209,16 @@ module _ {directory : List (List ℕ)} {b : Balances} {from to : List ℕ} {p q 
       let cowns = checking_cown q ∷ savings_cown p ∷ checking_cown p ∷ [] in
       let sum = (c_to +ℤ s) +ℤ c in
       either_effect directory call b cowns (takes_too_much sum) _ _
-      (λ past. effect_leaves directory call b cowns replies.OverLimit (c_to ∷ s ∷ c ∷ []) (performs_amalgamate_over_limit giver taker differs (sum_past sum past)) taker_first) (λ fits. record {
+      (λ past. effect_leaves directory call b cowns replies.OverLimit (c_to ∷ s ∷ c ∷ [])
+      (performs_amalgamate_over_limit giver taker differs (sum_past sum past)) taker_first) (λ fits. record {
         new = amalgamated b p q sum;
         written = written_taker_first b p q sum differs;
         performs = performs_amalgamate giver taker differs (sum_within sum fits);
       })
 
   -- an amalgamation on these cowns and what they hold
-  at_cowns : (cowns : List ℕ) (values : List ℤ) → cowns_of_two p q ≡ cowns → values ≡ read_cowns (held_of b) cowns → Effects directory (Amalgamate from to) b cowns (effect_of_two p q values)
+  at_cowns : (cowns : List ℕ) (values : List ℤ) → cowns_of_two p q ≡ cowns → values ≡ read_cowns (held_of b) cowns
+      → Effects directory (Amalgamate from to) b cowns (effect_of_two p q values)
       → Effects directory (Amalgamate from to) b (cowns_of_two p q) (effect_of_two p q (read_cowns (held_of b) (cowns_of_two p q)))
   at_cowns cowns values is e effects =
       subst (λ (l : List ℕ). Effects directory (Amalgamate from to) b l (effect_of_two p q (read_cowns (held_of b) l))) (sym is)
@@ -224,7 +246,8 @@ row_at directory b name place same found =
     HasRow-unread directory b name place same found (omega (arith, same.places))
 
 -- the effect of an op on what its cowns hold, where it is on these values
-on_values : (directory : List (List ℕ)) (b : Balances) (call : Call) (op : Op) (values : List ℤ) → values ≡ read_cowns (held_of b) (declared_cowns op) → Effects directory call b (declared_cowns op) (effect_of op values)
+on_values : (directory : List (List ℕ)) (b : Balances) (call : Call) (op : Op) (values : List ℤ) → values ≡ read_cowns (held_of b) (declared_cowns op)
+    → Effects directory call b (declared_cowns op) (effect_of op values)
     → Effects directory call b (declared_cowns op) (effect_of op (read_cowns (held_of b) (declared_cowns op)))
 on_values directory b call op values e effects = subst (λ (held : List ℤ). Effects directory call b (declared_cowns op) (effect_of op held)) e effects
 
@@ -249,5 +272,7 @@ effect_performs directory b call (ops.WriteCheck place amount) same e =
     let made = comes_from directory call (ops.WriteCheck place amount) e in
     let row = row_at directory b made.0 place same made.2 in
     rw (made.1) (on_values directory b (WriteCheck made.0 amount) (ops.WriteCheck place amount) _ (both row) (check_effects row amount))
-effect_performs directory b call ops.NoCustomer same e = effect_leaves directory call b [] replies.NoCustomer [] (performs_no_customer directory call b same e) refl
-effect_performs directory b call ops.SameCustomer same e = effect_leaves directory call b [] replies.SameCustomer [] (performs_same_customer directory call b same e) refl
+effect_performs directory b call ops.NoCustomer same e =
+    effect_leaves directory call b [] replies.NoCustomer [] (performs_no_customer directory call b same e) refl
+effect_performs directory b call ops.SameCustomer same e =
+    effect_leaves directory call b [] replies.SameCustomer [] (performs_same_customer directory call b same e) refl

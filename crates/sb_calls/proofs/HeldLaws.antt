@@ -76,7 +76,8 @@ read-agree a b (c ∷ cowns) h =
     ∙ ap (λ vs. get_or b c (pos 0) ∷ vs) (read-agree a b cowns (λ cown among. h cown (or_right (cown == c) (is_among cown cowns) among)))
 
 -- where all cowns hold what they may, so do these
-pub AreHeld-read : (held : List ℤ) (cowns : List ℕ) → AllHeld held → ((cown : ℕ) → is_among cown cowns ≡ true → cown < length held) → AreHeld cowns (read_cowns held cowns)
+pub AreHeld-read : (held : List ℤ) (cowns : List ℕ) → AllHeld held → ((cown : ℕ) → is_among cown cowns ≡ true → cown < length held)
+    → AreHeld cowns (read_cowns held cowns)
 AreHeld-read held [] all in_range = tt
 AreHeld-read held (c ∷ cowns) all in_range = (
   all c (in_range c (or_left (c == c) (is_among c cowns) (eqb-refl c))),
@@ -119,13 +120,15 @@ AllHeld-balances b valid cown lt =
     elim (cases_eq (cown % 2) 0) [
       | inl even ↦
           let at : cown ≡ 2 * (cown / 2) = omega (arith, even) in
-          let saved : IsSavings (get_or b.savings (cown / 2) (pos 0)) = All-get_or IsSavings b.savings (cown / 2) (pos 0) (omega (arith, lt, two)) valid.savings in
+          let saved : IsSavings (get_or b.savings (cown / 2) (pos 0)) =
+          All-get_or IsSavings b.savings (cown / 2) (pos 0) (omega (arith, lt, two)) valid.savings in
           let here : get_or b.savings (cown / 2) (pos 0) ≡ get_or (held_of b) cown (pos 0) =
           sym (held_savings b (cown / 2) valid.same) ∙ ap (λ c. get_or (held_of b) c (pos 0)) (sym at) in
           record { within = subst IsWithinLimit here saved.within; not_negative = λ _. subst (λ v. pos 0 ≤ℤ v) here saved.not_negative }
       | inr odd ↦
           let at : cown ≡ 2 * (cown / 2) + 1 = omega (arith, odd) in
-          let within : IsWithinLimit (get_or b.checking (cown / 2) (pos 0)) = All-get_or IsWithinLimit b.checking (cown / 2) (pos 0) (omega (arith, lt, two, valid.same)) valid.checking in
+          let within : IsWithinLimit (get_or b.checking (cown / 2) (pos 0)) =
+          All-get_or IsWithinLimit b.checking (cown / 2) (pos 0) (omega (arith, lt, two, valid.same)) valid.checking in
           let here : get_or b.checking (cown / 2) (pos 0) ≡ get_or (held_of b) cown (pos 0) =
           sym (held_checking b (cown / 2) valid.same) ∙ ap (λ c. get_or (held_of b) c (pos 0)) (sym at) in
           record { within = subst IsWithinLimit here within; not_negative = λ even. absurd (odd even) }

@@ -16,13 +16,15 @@ one_further place = omega arith
 
 -- ---- reading
 
-get_or-by_cown_savings : (savings checking : List ℤ) (place : ℕ) → length savings ≡ length checking → get_or (by_cown savings checking) (savings_cown place) (pos 0) ≡ get_or savings place (pos 0)
+get_or-by_cown_savings : (savings checking : List ℤ) (place : ℕ) → length savings ≡ length checking
+    → get_or (by_cown savings checking) (savings_cown place) (pos 0) ≡ get_or savings place (pos 0)
 get_or-by_cown_savings [] checking place e = refl
 get_or-by_cown_savings (s ∷ savings) [] place e = absurd (omega arith)
 get_or-by_cown_savings (s ∷ savings) (c ∷ checking) zero e = refl
 get_or-by_cown_savings (s ∷ savings) (c ∷ checking) (suc place) e = rw two_further (get_or-by_cown_savings savings checking place (omega arith))
 
-get_or-by_cown_checking : (savings checking : List ℤ) (place : ℕ) → length savings ≡ length checking → get_or (by_cown savings checking) (suc (savings_cown place)) (pos 0) ≡ get_or checking place (pos 0)
+get_or-by_cown_checking : (savings checking : List ℤ) (place : ℕ) → length savings ≡ length checking
+    → get_or (by_cown savings checking) (suc (savings_cown place)) (pos 0) ≡ get_or checking place (pos 0)
 get_or-by_cown_checking [] [] place e = refl
 get_or-by_cown_checking [] (c ∷ checking) place e = absurd (omega arith)
 get_or-by_cown_checking (s ∷ savings) [] place e = absurd (omega arith)
@@ -30,29 +32,35 @@ get_or-by_cown_checking (s ∷ savings) (c ∷ checking) zero e = refl
 get_or-by_cown_checking (s ∷ savings) (c ∷ checking) (suc place) e = rw two_further (get_or-by_cown_checking savings checking place (omega arith))
 
 -- what a savings cown holds
-pub held_savings : (b : Balances) (place : ℕ) → length b.savings ≡ length b.checking → get_or (held_of b) (savings_cown place) (pos 0) ≡ get_or b.savings place (pos 0)
+pub held_savings : (b : Balances) (place : ℕ) → length b.savings ≡ length b.checking
+    → get_or (held_of b) (savings_cown place) (pos 0) ≡ get_or b.savings place (pos 0)
 unfolding held_of
 held_savings b place e = get_or-by_cown_savings b.savings b.checking place e
 
 -- and what a checking cown holds
-pub held_checking : (b : Balances) (place : ℕ) → length b.savings ≡ length b.checking → get_or (held_of b) (checking_cown place) (pos 0) ≡ get_or b.checking place (pos 0)
+pub held_checking : (b : Balances) (place : ℕ) → length b.savings ≡ length b.checking
+    → get_or (held_of b) (checking_cown place) (pos 0) ≡ get_or b.checking place (pos 0)
 unfolding held_of
 held_checking b place e = rw one_further (get_or-by_cown_checking b.savings b.checking place e)
 
 -- ---- writing
 
-set-by_cown_savings : (savings checking : List ℤ) (place : ℕ) (v : ℤ) → by_cown (slice_set savings place v) checking ≡ slice_set (by_cown savings checking) (savings_cown place) v
+set-by_cown_savings : (savings checking : List ℤ) (place : ℕ) (v : ℤ)
+    → by_cown (slice_set savings place v) checking ≡ slice_set (by_cown savings checking) (savings_cown place) v
 set-by_cown_savings [] checking place v = refl
 set-by_cown_savings (s ∷ savings) [] zero v = refl
 set-by_cown_savings (s ∷ savings) [] (suc place) v = refl
 set-by_cown_savings (s ∷ savings) (c ∷ checking) zero v = refl
-set-by_cown_savings (s ∷ savings) (c ∷ checking) (suc place) v = rw two_further (ap (λ (rest : List ℤ). s ∷ c ∷ rest) (set-by_cown_savings savings checking place v))
+set-by_cown_savings (s ∷ savings) (c ∷ checking) (suc place) v =
+    rw two_further (ap (λ (rest : List ℤ). s ∷ c ∷ rest) (set-by_cown_savings savings checking place v))
 
-set-by_cown_checking : (savings checking : List ℤ) (place : ℕ) (v : ℤ) → by_cown savings (slice_set checking place v) ≡ slice_set (by_cown savings checking) (suc (savings_cown place)) v
+set-by_cown_checking : (savings checking : List ℤ) (place : ℕ) (v : ℤ)
+    → by_cown savings (slice_set checking place v) ≡ slice_set (by_cown savings checking) (suc (savings_cown place)) v
 set-by_cown_checking [] checking place v = refl
 set-by_cown_checking (s ∷ savings) [] place v = refl
 set-by_cown_checking (s ∷ savings) (c ∷ checking) zero v = refl
-set-by_cown_checking (s ∷ savings) (c ∷ checking) (suc place) v = rw two_further (ap (λ (rest : List ℤ). s ∷ c ∷ rest) (set-by_cown_checking savings checking place v))
+set-by_cown_checking (s ∷ savings) (c ∷ checking) (suc place) v =
+    rw two_further (ap (λ (rest : List ℤ). s ∷ c ∷ rest) (set-by_cown_checking savings checking place v))
 
 -- savings written at a place are written to their cown
 pub held_of-with_savings : (b : Balances) (place : ℕ) (v : ℤ) → held_of (with_savings b place v) ≡ slice_set (held_of b) (savings_cown place) v

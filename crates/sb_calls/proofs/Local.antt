@@ -33,7 +33,8 @@ balance_is rows (Savings name) v e = ap (option_map (λ (balances : ℤ × ℤ).
 balance_is rows (Checking name) v e = ap (option_map (λ (balances : ℤ × ℤ). balances.1)) e
 
 -- a row that is written changes its balances alone
-balance_at-insert : (rows : Rows) (name : List ℕ) (v : ℤ × ℤ) (place : BalancePlace) → balance_at (insert rows name v) place ≡ cond (bytes_eq (name_of place) name) (Some (value_of place v)) (balance_at rows place)
+balance_at-insert : (rows : Rows) (name : List ℕ) (v : ℤ × ℤ) (place : BalancePlace)
+    → balance_at (insert rows name v) place ≡ cond (bytes_eq (name_of place) name) (Some (value_of place v)) (balance_at rows place)
 balance_at-insert rows name v (Savings q) = ap (option_map (λ (balances : ℤ × ℤ). balances.0)) (get-insert_name rows name v q) ∙ by (bytes_eq q name)
   where
     by : (test : Bool) → option_map (λ (balances : ℤ × ℤ). balances.0) (cond test (Some v) (get rows q)) ≡ cond test (Some v.0) (balance_at rows (Savings q))
@@ -58,7 +59,8 @@ module _ {places : List BalancePlace} {a b : Rows} where
   left_local reply agree = record { reply = refl; balances = agree; others = λ place other. refl }
 
   -- two by the same test
-  either_local : (test : Bool) (first_a second_a first_b second_b : Outcome) → AreLocal places a b first_a first_b → (test ≡ false → AreLocal places a b second_a second_b)
+  either_local : (test : Bool) (first_a second_a first_b second_b : Outcome) → AreLocal places a b first_a first_b
+      → (test ≡ false → AreLocal places a b second_a second_b)
       → AreLocal places a b (cond test first_a second_a) (cond test first_b second_b)
   either_local true first_a second_a first_b second_b first second = first
   either_local false first_a second_a first_b second_b first second = second refl
@@ -70,7 +72,8 @@ module _ {places : List BalancePlace} {a b : Rows} where
       → AreLocal places a b (record { rows = insert a name on_a; reply = reply }) (record { rows = insert b name on_b; reply = reply })
   written_local name old on_a on_b reply agree was alike kept = record {
     reply = refl;
-    balances = λ place among. balance_at-insert a name on_a place ∙ touched_alike place among (bytes_eq (name_of place) name) refl ∙ sym (balance_at-insert b name on_b place);
+    balances = λ place among. balance_at-insert a name on_a place ∙ touched_alike place among (bytes_eq (name_of place) name) refl
+        ∙ sym (balance_at-insert b name on_b place);
     others = λ place other. balance_at-insert a name on_a place ∙ other_kept place other (bytes_eq (name_of place) name) refl;
   }
     where
@@ -89,8 +92,10 @@ module _ {places : List BalancePlace} {a b : Rows} where
 -- ---- one customer
 
 -- where a name has rows in both or in neither
-local_one : (a b : Rows) (name : List ℕ) (outcome : Rows → ℤ → ℤ → Outcome) (places : List BalancePlace) → HaveSameNames a b → AgreeOn (if has_name a name then places else []) a b
-    → ((s c s_b c_b : ℤ) → get a name ≡ Some (s, c) → get b name ≡ Some (s_b, c_b) → AgreeOn places a b → AreLocal places a b (outcome a s c) (outcome b s_b c_b))
+local_one : (a b : Rows) (name : List ℕ) (outcome : Rows → ℤ → ℤ → Outcome) (places : List BalancePlace) → HaveSameNames a b
+    → AgreeOn (if has_name a name then places else []) a b
+    → ((s c s_b c_b : ℤ) → get a name ≡ Some (s, c) → get b name ≡ Some (s_b, c_b) → AgreeOn places a b
+    → AreLocal places a b (outcome a s c) (outcome b s_b c_b))
     → AreLocal (if has_name a name then places else []) a b (with_balances a (outcome a) (get a name)) (with_balances b (outcome b) (get b name))
 local_one a b name outcome places names agree there = by (get a name) (get b name) refl refl (names name) agree
   where
@@ -102,13 +107,16 @@ local_one a b name outcome places names agree there = by (get a name) (get b nam
     by (Some v) (Some w) e_a e_b same alike = there v.0 v.1 w.0 w.1 e_a e_b alike
 
 -- a balance on which both agree
-same_savings : (a b : Rows) (name : List ℕ) (s c s_b c_b : ℤ) → get a name ≡ Some (s, c) → get b name ≡ Some (s_b, c_b) → balance_at a (Savings name) ≡ balance_at b (Savings name) → s ≡ s_b
+same_savings : (a b : Rows) (name : List ℕ) (s c s_b c_b : ℤ) → get a name ≡ Some (s, c) → get b name ≡ Some (s_b, c_b)
+    → balance_at a (Savings name) ≡ balance_at b (Savings name) → s ≡ s_b
 same_savings a b name s c s_b c_b e_a e_b agree =
     let same : ◌≡◌ {A = Option ℤ} (Some s) (Some s_b) = sym (balance_is a (Savings name) (s, c) e_a) ∙ agree ∙ balance_is b (Savings name) (s_b, c_b) e_b in cc
 
-same_checking : (a b : Rows) (name : List ℕ) (s c s_b c_b : ℤ) → get a name ≡ Some (s, c) → get b name ≡ Some (s_b, c_b) → balance_at a (Checking name) ≡ balance_at b (Checking name) → c ≡ c_b
+same_checking : (a b : Rows) (name : List ℕ) (s c s_b c_b : ℤ) → get a name ≡ Some (s, c) → get b name ≡ Some (s_b, c_b)
+    → balance_at a (Checking name) ≡ balance_at b (Checking name) → c ≡ c_b
 same_checking a b name s c s_b c_b e_a e_b agree =
-    let same : ◌≡◌ {A = Option ℤ} (Some c) (Some c_b) = sym (balance_is a (Checking name) (s, c) e_a) ∙ agree ∙ balance_is b (Checking name) (s_b, c_b) e_b in cc
+    let same : ◌≡◌ {A = Option ℤ} (Some c) (Some c_b) = sym (balance_is a (Checking name) (s, c) e_a) ∙ agree ∙ balance_is b (Checking name) (s_b, c_b) e_b in
+    cc
 
 -- ---- the procedures of one customer
 
@@ -118,7 +126,8 @@ checking_alone name (Savings q) (inl e) v w same = absurd cc
 checking_alone name (Savings q) (inr none) v w same = absurd none
 checking_alone name (Checking q) one v w same = same
 
-savings_left : (name : List ℕ) (place : BalancePlace) → ¬ IsOneOf (Checking name ∷ []) place → name_of place ≡ name → (v w : ℤ × ℤ) → v.0 ≡ w.0 → value_of place v ≡ value_of place w
+savings_left : (name : List ℕ) (place : BalancePlace) → ¬ IsOneOf (Checking name ∷ []) place → name_of place ≡ name → (v w : ℤ × ℤ) → v.0 ≡ w.0
+    → value_of place v ≡ value_of place w
 savings_left name (Savings q) other is v w same = same
 savings_left name (Checking q) other is v w same = absurd (other (inl (ap Checking (sym is))))
 
@@ -127,7 +136,8 @@ savings_alone name (Savings q) one v w same = same
 savings_alone name (Checking q) (inl e) v w same = absurd cc
 savings_alone name (Checking q) (inr none) v w same = absurd none
 
-checking_left : (name : List ℕ) (place : BalancePlace) → ¬ IsOneOf (Savings name ∷ []) place → name_of place ≡ name → (v w : ℤ × ℤ) → v.1 ≡ w.1 → value_of place v ≡ value_of place w
+checking_left : (name : List ℕ) (place : BalancePlace) → ¬ IsOneOf (Savings name ∷ []) place → name_of place ≡ name → (v w : ℤ × ℤ) → v.1 ≡ w.1
+    → value_of place v ≡ value_of place w
 checking_left name (Savings q) other is v w same = absurd (other (inl (ap Savings (sym is))))
 checking_left name (Checking q) other is v w same = same
 
@@ -163,7 +173,9 @@ paid name amount rows savings checking =
 
 module _ (a b : Rows) (name : List ℕ) (names : HaveSameNames a b) where
   -- both balances agree where both are touched
-  on_both : (outcome : Rows → ℤ → ℤ → Outcome) → ((s c : ℤ) → get a name ≡ Some (s, c) → AgreeOn (both_of name) a b → AreLocal (both_of name) a b (outcome a s c) (outcome b s c)) → AgreeOn (if has_name a name then both_of name else []) a b
+  on_both : (outcome : Rows → ℤ → ℤ → Outcome)
+      → ((s c : ℤ) → get a name ≡ Some (s, c) → AgreeOn (both_of name) a b → AreLocal (both_of name) a b (outcome a s c) (outcome b s c))
+      → AgreeOn (if has_name a name then both_of name else []) a b
       → AreLocal (if has_name a name then both_of name else []) a b (with_balances a (outcome a) (get a name)) (with_balances b (outcome b) (get b name))
   on_both outcome there agree = local_one a b name outcome (both_of name) names agree (λ s c s_b c_b e_a e_b alike.
       let same_s = same_savings a b name s c s_b c_b e_a e_b (alike (Savings name) (Contains-from_one (both_of name) (Savings name) (inl refl))) in
@@ -218,7 +230,8 @@ none_left_of_giver from to (Savings q) other is = other (inl (ap Savings (sym is
 none_left_of_giver from to (Checking q) other is = other (inr (inl (ap Checking (sym is))))
 
 -- of the one that takes, savings are left, and checking alone is touched
-taker_touched : (from to : List ℕ) (place : BalancePlace) → bytes_eq from to ≡ false → IsOneOf (three_of from to) place → name_of place ≡ to → (v w : ℤ × ℤ) → v.1 ≡ w.1 → value_of place v ≡ value_of place w
+taker_touched : (from to : List ℕ) (place : BalancePlace) → bytes_eq from to ≡ false → IsOneOf (three_of from to) place → name_of place ≡ to → (v w : ℤ × ℤ)
+    → v.1 ≡ w.1 → value_of place v ≡ value_of place w
 taker_touched from to (Savings q) differs (inl e) is v w same =
     let one : from ≡ to = ap name_of e ∙ is in absurd (both_ways (bytes_eq from to) differs ((bytes_eq-Decides from to).1 one))
 taker_touched from to (Savings q) differs (inr (inl e)) is v w same = absurd cc
@@ -226,7 +239,8 @@ taker_touched from to (Savings q) differs (inr (inr (inl e))) is v w same = absu
 taker_touched from to (Savings q) differs (inr (inr (inr none))) is v w same = absurd none
 taker_touched from to (Checking q) differs one is v w same = same
 
-taker_left : (from to : List ℕ) (place : BalancePlace) → ¬ IsOneOf (three_of from to) place → name_of place ≡ to → (v w : ℤ × ℤ) → v.0 ≡ w.0 → value_of place v ≡ value_of place w
+taker_left : (from to : List ℕ) (place : BalancePlace) → ¬ IsOneOf (three_of from to) place → name_of place ≡ to → (v w : ℤ × ℤ) → v.0 ≡ w.0
+    → value_of place v ≡ value_of place w
 taker_left from to (Savings q) other is v w same = same
 taker_left from to (Checking q) other is v w same = absurd (other (inr (inr (inl (ap Checking (sym is))))))
 
@@ -234,13 +248,17 @@ taker_left from to (Checking q) other is v w same = absurd (other (inr (inr (inl
 abbrev moved : List ℕ → List ℕ → Rows → ℤ → ℤ → Rows
 moved from to rows savings_to sum = insert (insert rows from (pos 0, pos 0)) to (savings_to, sum)
 
-moved_local : (a b : Rows) (from to : List ℕ) (s c s_to c_to s_to_b sum : ℤ) → bytes_eq from to ≡ false → AgreeOn (three_of from to) a b → get a from ≡ Some (s, c) → get a to ≡ Some (s_to, c_to)
-    → AreLocal (three_of from to) a b (record { rows = moved from to a s_to sum; reply = replies.Done }) (record { rows = moved from to b s_to_b sum; reply = replies.Done })
+moved_local : (a b : Rows) (from to : List ℕ) (s c s_to c_to s_to_b sum : ℤ) → bytes_eq from to ≡ false → AgreeOn (three_of from to) a b
+    → get a from ≡ Some (s, c) → get a to ≡ Some (s_to, c_to)
+    → AreLocal (three_of from to) a b (record { rows = moved from to a s_to sum; reply = replies.Done })
+    (record { rows = moved from to b s_to_b sum; reply = replies.Done })
 moved_local a b from to s c s_to c_to s_to_b sum differs agree is_from is_to =
-    let first = written_local {places = three_of from to} {a = a} {b = b} from (s, c) (pos 0, pos 0) (pos 0, pos 0) replies.Done agree is_from (λ place one is. refl) (λ place other is. absurd (none_left_of_giver from to place other is)) in
+    let first = written_local {places = three_of from to} {a = a} {b = b} from (s, c) (pos 0, pos 0) (pos 0, pos 0) replies.Done agree is_from
+    (λ place one is. refl) (λ place other is. absurd (none_left_of_giver from to place other is)) in
     let kept : get (insert a from (pos 0, pos 0)) to ≡ Some (s_to, c_to) =
     get-insert_name a from (pos 0, pos 0) to ∙ ap (λ t. cond t (Some (pos 0, pos 0)) (get a to)) (other_name from to differs) ∙ is_to in
-    let second = written_local {places = three_of from to} {a = insert a from (pos 0, pos 0)} {b = insert b from (pos 0, pos 0)} to (s_to, c_to) (s_to, sum) (s_to_b, sum) replies.Done first.balances kept
+    let second = written_local {places = three_of from to} {a = insert a from (pos 0, pos 0)} {b = insert b from (pos 0, pos 0)} to (s_to, c_to) (s_to, sum)
+    (s_to_b, sum) replies.Done first.balances kept
     (λ place one is. taker_touched from to place differs one is (s_to, sum) (s_to_b, sum) refl)
     (λ place other is. taker_left from to place other is (s_to, sum) (s_to, c_to) refl) in
     record { reply = refl; balances = second.balances; others = λ place other. second.others place other ∙ first.others place other }
@@ -249,17 +267,21 @@ moved_local a b from to s c s_to c_to s_to_b sum differs agree is_from is_to =
 abbrev amalgamated : List ℕ → List ℕ → Rows → Bool → Option (ℤ × ℤ) → Option (ℤ × ℤ) → Outcome
 amalgamated from to rows one on_from on_to = with_balances rows (λ savings checking. with_balances rows (λ savings_to checking_to.
     if one then record { rows = rows; reply = replies.SameCustomer }
-    else if int_lt LIMIT ((checking_to +ℤ savings) +ℤ checking) || int_lt ((checking_to +ℤ savings) +ℤ checking) (neg_ℤ LIMIT) then record { rows = rows; reply = replies.OverLimit }
+    else if int_lt LIMIT ((checking_to +ℤ savings) +ℤ checking) || int_lt ((checking_to +ℤ savings) +ℤ checking)
+    (neg_ℤ LIMIT) then record { rows = rows; reply = replies.OverLimit }
     else record { rows = moved from to rows savings_to ((checking_to +ℤ savings) +ℤ checking); reply = replies.Done }) on_to) on_from
 
 -- where both names have rows and are not one
 both_there : (a b : Rows) (from to : List ℕ) (s c s_b c_b s_to c_to s_to_b c_to_b : ℤ) → bytes_eq from to ≡ false → AgreeOn (three_of from to) a b
     → get a from ≡ Some (s, c) → get b from ≡ Some (s_b, c_b) → get a to ≡ Some (s_to, c_to) → get b to ≡ Some (s_to_b, c_to_b)
-    → AreLocal (three_of from to) a b (amalgamated from to a false (Some (s, c)) (Some (s_to, c_to))) (amalgamated from to b false (Some (s_b, c_b)) (Some (s_to_b, c_to_b)))
+    → AreLocal (three_of from to) a b (amalgamated from to a false (Some (s, c)) (Some (s_to, c_to)))
+    (amalgamated from to b false (Some (s_b, c_b)) (Some (s_to_b, c_to_b)))
 both_there a b from to s c s_b c_b s_to c_to s_to_b c_to_b differs alike a_from b_from a_to b_to =
     let same_s = same_savings a b from s c s_b c_b a_from b_from (alike (Savings from) (Contains-from_one (three_of from to) (Savings from) (inl refl))) in
-    let same_c = same_checking a b from s c s_b c_b a_from b_from (alike (Checking from) (Contains-from_one (three_of from to) (Checking from) (inr (inl refl)))) in
-    let same_to = same_checking a b to s_to c_to s_to_b c_to_b a_to b_to (alike (Checking to) (Contains-from_one (three_of from to) (Checking to) (inr (inr (inl refl))))) in
+    let same_c = same_checking a b from s c s_b c_b a_from b_from
+    (alike (Checking from) (Contains-from_one (three_of from to) (Checking from) (inr (inl refl)))) in
+    let same_to = same_checking a b to s_to c_to s_to_b c_to_b a_to b_to
+    (alike (Checking to) (Contains-from_one (three_of from to) (Checking to) (inr (inr (inl refl))))) in
     let sum = (c_to +ℤ s) +ℤ c in
     let on_a = amalgamated from to a false (Some (s, c)) (Some (s_to, c_to)) in
     subst (λ (v : ℤ). AreLocal (three_of from to) a b on_a (amalgamated from to b false (Some (v, c_b)) (Some (s_to_b, c_to_b)))) same_s
@@ -268,13 +290,17 @@ both_there a b from to s c s_b c_b s_to c_to s_to_b c_to_b differs alike a_from 
     (either_local (int_lt LIMIT sum || int_lt sum (neg_ℤ LIMIT)) _ _ _ _ (left_local replies.OverLimit alike) (λ fits.
     moved_local a b from to s c s_to c_to s_to_b sum differs alike a_from a_to))))
 
-amalgamate_local : (a b : Rows) (from to : List ℕ) → HaveSameNames a b → AgreeOn (touched a (Amalgamate from to)) a b → AreLocal (touched a (Amalgamate from to)) a b (procedure (Amalgamate from to) a) (procedure (Amalgamate from to) b)
-amalgamate_local a b from to names agree = by (bytes_eq from to) (get a from) (get b from) (get a to) (get b to) refl refl refl refl refl (names from) (names to) agree
+amalgamate_local : (a b : Rows) (from to : List ℕ) → HaveSameNames a b → AgreeOn (touched a (Amalgamate from to)) a b
+    → AreLocal (touched a (Amalgamate from to)) a b (procedure (Amalgamate from to) a) (procedure (Amalgamate from to) b)
+amalgamate_local a b from to names agree =
+    by (bytes_eq from to) (get a from) (get b from) (get a to) (get b to) refl refl refl refl refl (names from) (names to) agree
   where
-    by : (one : Bool) (a_from b_from a_to b_to : Option (ℤ × ℤ)) → bytes_eq from to ≡ one → get a from ≡ a_from → get b from ≡ b_from → get a to ≡ a_to → get b to ≡ b_to
+    by : (one : Bool) (a_from b_from a_to b_to : Option (ℤ × ℤ)) → bytes_eq from to ≡ one → get a from ≡ a_from → get b from ≡ b_from → get a to ≡ a_to
+        → get b to ≡ b_to
         → is_some a_from ≡ is_some b_from → is_some a_to ≡ is_some b_to
         → AgreeOn (if is_some a_from && is_some a_to && not one then three_of from to else []) a b
-        → AreLocal (if is_some a_from && is_some a_to && not one then three_of from to else []) a b (amalgamated from to a one a_from a_to) (amalgamated from to b one b_from b_to)
+        → AreLocal (if is_some a_from && is_some a_to && not one then three_of from to else []) a b (amalgamated from to a one a_from a_to)
+        (amalgamated from to b one b_from b_to)
     by one None (Some w) a_to b_to e ea eb fa fb same_from same_to alike = absurd cc
     by one (Some v) None a_to b_to e ea eb fa fb same_from same_to alike = absurd cc
     by one None None a_to b_to e ea eb fa fb same_from same_to alike = left_local replies.NoCustomer alike
@@ -282,11 +308,13 @@ amalgamate_local a b from to names agree = by (bytes_eq from to) (get a from) (g
     by one (Some v) (Some w) (Some x) None e ea eb fa fb same_from same_to alike = absurd cc
     by one (Some v) (Some w) None None e ea eb fa fb same_from same_to alike = left_local replies.NoCustomer alike
     by true (Some v) (Some w) (Some x) (Some y) e ea eb fa fb same_from same_to alike = left_local replies.SameCustomer alike
-    by false (Some v) (Some w) (Some x) (Some y) e ea eb fa fb same_from same_to alike = both_there a b from to v.0 v.1 w.0 w.1 x.0 x.1 y.0 y.1 e alike ea eb fa fb
+    by false (Some v) (Some w) (Some x) (Some y) e ea eb fa fb same_from same_to alike =
+        both_there a b from to v.0 v.1 w.0 w.1 x.0 x.1 y.0 y.1 e alike ea eb fa fb
 
 -- ---- any call
 
-procedure_local : (call : Call) (a b : Rows) → HaveSameNames a b → AgreeOn (touched a call) a b → AreLocal (touched a call) a b (procedure call a) (procedure call b)
+procedure_local : (call : Call) (a b : Rows) → HaveSameNames a b → AgreeOn (touched a call) a b
+    → AreLocal (touched a call) a b (procedure call a) (procedure call b)
 procedure_local (Balance name) a b names agree = balance_local a b name names agree
 procedure_local (DepositChecking name amount) a b names agree = deposit_local a b name names amount agree
 procedure_local (TransactSavings name amount) a b names agree = savings_local a b name names amount agree

@@ -38,12 +38,15 @@ module _ {directory : List (List ℕ)} {rows : Rows} (net : Reply → ℤ) (h : 
   }
 
   -- one of two outcomes
-  either_adds : (test : Bool) (first second : Outcome) → AddsNet directory rows net first → (test ≡ false → AddsNet directory rows net second) → AddsNet directory rows net (cond test first second)
+  either_adds : (test : Bool) (first second : Outcome) → AddsNet directory rows net first → (test ≡ false → AddsNet directory rows net second)
+      → AddsNet directory rows net (cond test first second)
   either_adds true first second a b = a
   either_adds false first second a b = b refl
 
   -- an outcome by what a name has
-  with_balances_adds : (name : List ℕ) (outcome : ℤ → ℤ → Outcome) → net NoCustomer ≡ pos 0 → ((s c : ℤ) → get rows name ≡ Some (s, c) → AddsNet directory rows net (outcome s c)) → AddsNet directory rows net (with_balances rows outcome (get rows name))
+  with_balances_adds : (name : List ℕ) (outcome : ℤ → ℤ → Outcome) → net NoCustomer ≡ pos 0
+      → ((s c : ℤ) → get rows name ≡ Some (s, c) → AddsNet directory rows net (outcome s c))
+      → AddsNet directory rows net (with_balances rows outcome (get rows name))
   with_balances_adds name outcome none there = by (get rows name) refl
     where
       by : (balances : Option (ℤ × ℤ)) → get rows name ≡ balances → AddsNet directory rows net (with_balances rows outcome balances)
@@ -51,12 +54,14 @@ module _ {directory : List (List ℕ)} {rows : Rows} (net : Reply → ℤ) (h : 
       by (Some balances) e = there balances.0 balances.1 e
 
 -- what a paid check takes from its row
-paid_worth : (s c amount : ℤ) (overdrawn : Bool) → net_if_paid amount (cond overdrawn Penalised Done) ≡ (s +ℤ (c -ℤ cond overdrawn (amount +ℤ pos 100) amount)) -ℤ (s +ℤ c)
+paid_worth : (s c amount : ℤ) (overdrawn : Bool)
+    → net_if_paid amount (cond overdrawn Penalised Done) ≡ (s +ℤ (c -ℤ cond overdrawn (amount +ℤ pos 100) amount)) -ℤ (s +ℤ c)
 paid_worth s c amount true = omega (arith, ints)
 paid_worth s c amount false = omega (arith, ints)
 
 -- what an amalgamation leaves: two rows are replaced, and nothing is added
-amalgamated : (directory : List (List ℕ)) (rows : Rows) (from to : List ℕ) (s c s_to c_to : ℤ) → HasNames directory rows → get rows from ≡ Some (s, c) → get rows to ≡ Some (s_to, c_to) → bytes_eq from to ≡ false
+amalgamated : (directory : List (List ℕ)) (rows : Rows) (from to : List ℕ) (s c s_to c_to : ℤ) → HasNames directory rows → get rows from ≡ Some (s, c)
+    → get rows to ≡ Some (s_to, c_to) → bytes_eq from to ≡ false
     → AddsNet directory rows (λ reply. pos 0) (record { rows = insert (insert rows from (pos 0, pos 0)) to (s_to, (c_to +ℤ s) +ℤ c); reply = Done })
 amalgamated directory rows from to s c s_to c_to h is_from is_to differs =
     let emptied = HasNames-insert from h is_from (pos 0, pos 0) in
@@ -70,7 +75,8 @@ amalgamated directory rows from to s c s_to c_to h is_from is_to differs =
     }
 
 -- each procedure adds the net change of its call
-pub procedure_adds : (directory : List (List ℕ)) (call : Call) (rows : Rows) → HasNames directory rows → AddsNet directory rows (net_of call) (procedure call rows)
+pub procedure_adds : (directory : List (List ℕ)) (call : Call) (rows : Rows) → HasNames directory rows
+    → AddsNet directory rows (net_of call) (procedure call rows)
 procedure_adds directory (Balance name) rows h =
     with_balances_adds (net_of (Balance name)) h name _ refl (λ s c is. left_as_is (net_of (Balance name)) h (Shown (s +ℤ c)) refl)
 procedure_adds directory (DepositChecking name amount) rows h =

@@ -39,7 +39,8 @@ slice_get-map f (x ∷ xs) (suc k) = slice_get-map f xs k
 
 -- the reply to a call, where there is one
 same_reply : (directory : List (List ℕ)) (b : Balances) (call : Option Call) → SameCustomers directory b
-    → option_map (reply_of declared_cowns effect_of (held_of b)) (option_map (resolved directory) call) ≡ option_map (λ c. (procedure c (rows_of directory b)).reply) call
+    → option_map (reply_of declared_cowns effect_of (held_of b)) (option_map (resolved directory) call)
+    ≡ option_map (λ c. (procedure c (rows_of directory b)).reply) call
 same_reply directory b None same = refl
 same_reply directory b (Some call) same = let one = effect_performs directory b call (resolved directory call) same refl in ap Some one.performs.reply
 

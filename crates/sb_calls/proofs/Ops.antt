@@ -22,19 +22,23 @@ ComesFrom directory (Balance place) call = (name : List ℕ) × (call ≡ calls.
 ComesFrom directory (DepositChecking place amount) call = (name : List ℕ) × (call ≡ calls.DepositChecking name amount) × (place_of directory name ≡ Some place)
 ComesFrom directory (TransactSavings place amount) call = (name : List ℕ) × (call ≡ calls.TransactSavings name amount) × (place_of directory name ≡ Some place)
 ComesFrom directory (Amalgamate places) call =
-    (from : List ℕ) × (to : List ℕ) × (call ≡ calls.Amalgamate from to) × (place_of directory from ≡ Some places.0) × (place_of directory to ≡ Some places.1) × (places.0 ≢ places.1)
+    (from : List ℕ) × (to : List ℕ) × (call ≡ calls.Amalgamate from to) × (place_of directory from ≡ Some places.0) × (place_of directory to ≡ Some places.1)
+    × (places.0 ≢ places.1)
 ComesFrom directory (WriteCheck place amount) call = (name : List ℕ) × (call ≡ calls.WriteCheck name amount) × (place_of directory name ≡ Some place)
 ComesFrom directory NoCustomer call = HasMissingName directory call
 ComesFrom directory SameCustomer call =
-    (from : List ℕ) × (to : List ℕ) × (place : ℕ) × (call ≡ calls.Amalgamate from to) × (place_of directory from ≡ Some place) × (place_of directory to ≡ Some place)
+    (from : List ℕ) × (to : List ℕ) × (place : ℕ) × (call ≡ calls.Amalgamate from to) × (place_of directory from ≡ Some place)
+    × (place_of directory to ≡ Some place)
 
 -- an op made at one place, where a place gives a fact of its own and no place another
-made_at_place : (P : Op → Type 0) (op : ℕ → Op) (place : Option ℕ) → ((p : ℕ) → place ≡ Some p → P (op p)) → (place ≡ None → P NoCustomer) → P (at_place op place)
+made_at_place : (P : Op → Type 0) (op : ℕ → Op) (place : Option ℕ) → ((p : ℕ) → place ≡ Some p → P (op p)) → (place ≡ None → P NoCustomer)
+    → P (at_place op place)
 made_at_place P op None there nowhere = nowhere refl
 made_at_place P op (Some p) there nowhere = there p refl
 
 -- an op made at two places, likewise
-made_at_two_places : (P : Op → Type 0) (from to : Option ℕ) → ((p q : ℕ) → from ≡ Some p → to ≡ Some q → p ≢ q → P (Amalgamate (p, q))) → ((p : ℕ) → from ≡ Some p → to ≡ Some p → P SameCustomer)
+made_at_two_places : (P : Op → Type 0) (from to : Option ℕ) → ((p q : ℕ) → from ≡ Some p → to ≡ Some q → p ≢ q → P (Amalgamate (p, q)))
+    → ((p : ℕ) → from ≡ Some p → to ≡ Some p → P SameCustomer)
     → ((from ≡ None) ⊎ (to ≡ None) → P NoCustomer) → P (at_two_places from to)
 made_at_two_places P None to there one nowhere = nowhere (inl refl)
 made_at_two_places P (Some p) None there one nowhere = nowhere (inr refl)
@@ -47,16 +51,21 @@ made_at_two_places P (Some p) (Some q) there one nowhere = by (p == q) refl
 -- each call is one that its op comes from
 resolved_from : (directory : List (List ℕ)) (call : Call) → ComesFrom directory (resolved directory call) call
 resolved_from directory (calls.Balance name) =
-    made_at_place (λ op. ComesFrom directory op (calls.Balance name)) Balance (place_of directory name) (λ place found. (name, refl, found)) (λ missing. missing)
+    made_at_place (λ op. ComesFrom directory op (calls.Balance name)) Balance (place_of directory name) (λ place found. (name, refl, found))
+    (λ missing. missing)
 resolved_from directory (calls.DepositChecking name amount) =
-    made_at_place (λ op. ComesFrom directory op (calls.DepositChecking name amount)) (λ place. DepositChecking place amount) (place_of directory name) (λ place found. (name, refl, found)) (λ missing. missing)
+    made_at_place (λ op. ComesFrom directory op (calls.DepositChecking name amount)) (λ place. DepositChecking place amount) (place_of directory name)
+    (λ place found. (name, refl, found)) (λ missing. missing)
 resolved_from directory (calls.TransactSavings name amount) =
-    made_at_place (λ op. ComesFrom directory op (calls.TransactSavings name amount)) (λ place. TransactSavings place amount) (place_of directory name) (λ place found. (name, refl, found)) (λ missing. missing)
+    made_at_place (λ op. ComesFrom directory op (calls.TransactSavings name amount)) (λ place. TransactSavings place amount) (place_of directory name)
+    (λ place found. (name, refl, found)) (λ missing. missing)
 resolved_from directory (calls.Amalgamate from to) =
     made_at_two_places (λ op. ComesFrom directory op (calls.Amalgamate from to)) (place_of directory from) (place_of directory to)
-    (λ p q found_from found_to differs. (from, to, refl, found_from, found_to, differs)) (λ p found_from found_to. (from, to, p, refl, found_from, found_to)) (λ missing. missing)
+    (λ p q found_from found_to differs. (from, to, refl, found_from, found_to, differs)) (λ p found_from found_to. (from, to, p, refl, found_from, found_to))
+    (λ missing. missing)
 resolved_from directory (calls.WriteCheck name amount) =
-    made_at_place (λ op. ComesFrom directory op (calls.WriteCheck name amount)) (λ place. WriteCheck place amount) (place_of directory name) (λ place found. (name, refl, found)) (λ missing. missing)
+    made_at_place (λ op. ComesFrom directory op (calls.WriteCheck name amount)) (λ place. WriteCheck place amount) (place_of directory name)
+    (λ place found. (name, refl, found)) (λ missing. missing)
 
 -- what an op says of the call that resolves to it
 pub comes_from : (directory : List (List ℕ)) (call : Call) (op : Op) → op ≡ resolved directory call → ComesFrom directory op call

@@ -19,7 +19,8 @@ pub record HasRow (directory : List (List ℕ)) (b : Balances) (name : List ℕ)
   pub checking : slice_get b.checking place ≡ Some c
 
 -- a customer whose savings were read has a checking balance too
-pub HasRow-savings : (directory : List (List ℕ)) (b : Balances) (name : List ℕ) (place : ℕ) (s : ℤ) → SameCustomers directory b → place_of directory name ≡ Some place → slice_get b.savings place ≡ Some s
+pub HasRow-savings : (directory : List (List ℕ)) (b : Balances) (name : List ℕ) (place : ℕ) (s : ℤ) → SameCustomers directory b
+    → place_of directory name ≡ Some place → slice_get b.savings place ≡ Some s
     → HasRow directory b name place s (get_or b.checking place (pos 0))
 HasRow-savings directory b name place s same found savings =
     let lt : place < length b.savings = slice_get_within b.savings place s savings in
@@ -31,7 +32,8 @@ HasRow-savings directory b name place s same found savings =
     }
 
 -- a customer of whom nothing was read has both balances
-pub HasRow-unread : (directory : List (List ℕ)) (b : Balances) (name : List ℕ) (place : ℕ) → SameCustomers directory b → place_of directory name ≡ Some place → place < length b.savings
+pub HasRow-unread : (directory : List (List ℕ)) (b : Balances) (name : List ℕ) (place : ℕ) → SameCustomers directory b → place_of directory name ≡ Some place
+    → place < length b.savings
     → HasRow directory b name place (get_or b.savings place (pos 0)) (get_or b.checking place (pos 0))
 HasRow-unread directory b name place same found lt =
     HasRow-savings directory b name place (get_or b.savings place (pos 0)) same found (slice_get-get_or b.savings place (pos 0) lt)
@@ -45,7 +47,8 @@ abbrev pub with_checking : Balances → ℕ → ℤ → Balances
 with_checking b place c = record b { checking = slice_set b.checking place c }
 
 -- a row in its ranges leaves the customers the same
-pub SameCustomers-with_row : (directory : List (List ℕ)) (b : Balances) (place : ℕ) (s c : ℤ) → SameCustomers directory b → IsSavings s → IsWithinLimit c → SameCustomers directory (with_row b place s c)
+pub SameCustomers-with_row : (directory : List (List ℕ)) (b : Balances) (place : ℕ) (s c : ℤ) → SameCustomers directory b → IsSavings s → IsWithinLimit c
+    → SameCustomers directory (with_row b place s c)
 SameCustomers-with_row directory b place s c h saved fits = record {
   names = h.names;
   balances = record {
@@ -69,7 +72,8 @@ other_set xs place other x y differs e =
     ∙ ap Some (get_or-set_other xs place other x (pos 0) differs ∙ get_or_from_slice_get xs other y (pos 0) e)
 
 -- a customer at another place keeps its row
-pub HasRow-other : (directory : List (List ℕ)) (b : Balances) (name : List ℕ) (place other : ℕ) (s c s_new c_new : ℤ) → HasRow directory b name other s c → other ≢ place → SameCustomers directory (with_row b place s_new c_new)
+pub HasRow-other : (directory : List (List ℕ)) (b : Balances) (name : List ℕ) (place other : ℕ) (s c s_new c_new : ℤ) → HasRow directory b name other s c
+    → other ≢ place → SameCustomers directory (with_row b place s_new c_new)
     → HasRow directory (with_row b place s_new c_new) name other s c
 HasRow-other directory b name place other s c s_new c_new h differs same = record {
   same = same;
@@ -101,11 +105,13 @@ module _ {directory : List (List ℕ)} {b : Balances} {name : List ℕ} {place :
 
   -- the savings alone are written with the checking balance that is there
   with_savings_is : (amount : ℤ) → with_savings b place amount ≡ with_row b place amount c
-  with_savings_is amount = ap (λ (xs : List ℤ). record { savings = slice_set b.savings place amount; checking = xs }) (sym (same_set b.checking place c h.checking))
+  with_savings_is amount =
+      ap (λ (xs : List ℤ). record { savings = slice_set b.savings place amount; checking = xs }) (sym (same_set b.checking place c h.checking))
 
   -- and the other way round
   with_checking_is : (amount : ℤ) → with_checking b place amount ≡ with_row b place s amount
-  with_checking_is amount = ap (λ (xs : List ℤ). record { savings = xs; checking = slice_set b.checking place amount }) (sym (same_set b.savings place s h.savings))
+  with_checking_is amount =
+      ap (λ (xs : List ℤ). record { savings = xs; checking = slice_set b.checking place amount }) (sym (same_set b.savings place s h.savings))
 
   -- other savings at the place are those in the row
   pub rows_of-with_savings : (amount : ℤ) → rows_of directory (with_savings b place amount) ≡ insert (rows_of directory b) name (amount, c)
@@ -117,8 +123,10 @@ module _ {directory : List (List ℕ)} {b : Balances} {name : List ℕ} {place :
 
   -- other savings in their range leave the customers the same
   pub SameCustomers-with_savings : (amount : ℤ) → IsSavings amount → SameCustomers directory (with_savings b place amount)
-  SameCustomers-with_savings amount saved = subst (SameCustomers directory) (sym (with_savings_is amount)) (SameCustomers-with_row directory b place amount c h.same saved checking_within)
+  SameCustomers-with_savings amount saved =
+      subst (SameCustomers directory) (sym (with_savings_is amount)) (SameCustomers-with_row directory b place amount c h.same saved checking_within)
 
   -- and so does another checking balance in its range
   pub SameCustomers-with_checking : (amount : ℤ) → IsWithinLimit amount → SameCustomers directory (with_checking b place amount)
-  SameCustomers-with_checking amount fits = subst (SameCustomers directory) (sym (with_checking_is amount)) (SameCustomers-with_row directory b place s amount h.same savings_within fits)
+  SameCustomers-with_checking amount fits =
+      subst (SameCustomers directory) (sym (with_checking_is amount)) (SameCustomers-with_row directory b place s amount h.same savings_within fits)

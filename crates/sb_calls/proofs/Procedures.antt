@@ -29,13 +29,15 @@ cost_of_amount s c amount = by (int_lt (s +ℤ c) amount)
     by false = omega (arith, ints)
 
 -- so a balance within the limit passes it only downwards by a check
-pub past_limit_downwards : (s c amount : ℤ) → IsWithinLimit c → int_lt amount (pos 0) ≡ false → ¬ IsWithinLimit (c -ℤ check_cost s c amount) → int_lt (c -ℤ check_cost s c amount) (neg_ℤ LIMIT) ≡ true
+pub past_limit_downwards : (s c amount : ℤ) → IsWithinLimit c → int_lt amount (pos 0) ≡ false → ¬ IsWithinLimit (c -ℤ check_cost s c amount)
+    → int_lt (c -ℤ check_cost s c amount) (neg_ℤ LIMIT) ≡ true
 past_limit_downwards s c amount fits ge past = from (check_cost s c amount) (cost_of_amount s c amount) past
   where
     from : (cost : ℤ) → amount ≤ℤ cost → ¬ IsWithinLimit (c -ℤ cost) → int_lt (c -ℤ cost) (neg_ℤ LIMIT) ≡ true
     from cost more out =
         let not_negative : pos 0 ≤ℤ amount = grind (arith, ints) in
-        by_lt_z (c -ℤ cost) (neg_ℤ LIMIT) (λ lt. grind (arith, ints, lt)) (λ le. absurd (out (record { at_least = le; at_most = omega (arith, ints, fits.at_most) })))
+        by_lt_z (c -ℤ cost) (neg_ℤ LIMIT) (λ lt. grind (arith, ints, lt))
+        (λ le. absurd (out (record { at_least = le; at_most = omega (arith, ints, fits.at_most) })))
 
 module _ {directory : List (List ℕ)} {b : Balances} {name : List ℕ} {place : ℕ} {s c : ℤ} (h : HasRow directory b name place s c) where
   -- a balance that is shown
@@ -49,14 +51,16 @@ module _ {directory : List (List ℕ)} {b : Balances} {name : List ℕ} {place :
   performs_negative amount lt = let row = row_is h in record { rows = rw (row, lt) refl; reply = rw (row, lt) refl; customers = h.same }
 
   -- a deposit that would pass the limit
-  pub performs_over_limit : (amount : ℤ) → int_lt amount (pos 0) ≡ false → ¬ IsWithinLimit (c +ℤ amount) → FollowsProcedure directory (DepositChecking name amount) b b OverLimit
+  pub performs_over_limit : (amount : ℤ) → int_lt amount (pos 0) ≡ false → ¬ IsWithinLimit (c +ℤ amount)
+      → FollowsProcedure directory (DepositChecking name amount) b b OverLimit
   performs_over_limit amount ge past =
       let row = row_is h in
       let lt = past_limit c amount (checking_within h) ge past in
       record { rows = rw (row, ge, lt) refl; reply = rw (row, ge, lt) refl; customers = h.same }
 
   -- a deposit that is carried out
-  pub performs_deposit : (amount : ℤ) → int_lt amount (pos 0) ≡ false → IsWithinLimit (c +ℤ amount) → FollowsProcedure directory (DepositChecking name amount) b (with_checking b place (c +ℤ amount)) Done
+  pub performs_deposit : (amount : ℤ) → int_lt amount (pos 0) ≡ false → IsWithinLimit (c +ℤ amount)
+      → FollowsProcedure directory (DepositChecking name amount) b (with_checking b place (c +ℤ amount)) Done
   performs_deposit amount ge fits =
       let row = row_is h in
       let le : int_lt LIMIT (c +ℤ amount) ≡ false = grind (arith, ints, fits.at_most) in
@@ -73,14 +77,16 @@ module _ {directory : List (List ℕ)} {b : Balances} {name : List ℕ} {place :
   performs_overdraft amount lt = let row = row_is h in record { rows = rw (row, lt) refl; reply = rw (row, lt) refl; customers = h.same }
 
   -- one that would pass the limit
-  pub performs_savings_over_limit : (amount : ℤ) → int_lt (s +ℤ amount) (pos 0) ≡ false → ¬ IsWithinLimit (s +ℤ amount) → FollowsProcedure directory (TransactSavings name amount) b b OverLimit
+  pub performs_savings_over_limit : (amount : ℤ) → int_lt (s +ℤ amount) (pos 0) ≡ false → ¬ IsWithinLimit (s +ℤ amount)
+      → FollowsProcedure directory (TransactSavings name amount) b b OverLimit
   performs_savings_over_limit amount ge past =
       let row = row_is h in
       let lt = past_limit_upwards (s +ℤ amount) ge past in
       record { rows = rw (row, ge, lt) refl; reply = rw (row, ge, lt) refl; customers = h.same }
 
   -- one that is carried out
-  pub performs_savings : (amount : ℤ) → int_lt (s +ℤ amount) (pos 0) ≡ false → IsWithinLimit (s +ℤ amount) → FollowsProcedure directory (TransactSavings name amount) b (with_savings b place (s +ℤ amount)) Done
+  pub performs_savings : (amount : ℤ) → int_lt (s +ℤ amount) (pos 0) ≡ false → IsWithinLimit (s +ℤ amount)
+      → FollowsProcedure directory (TransactSavings name amount) b (with_savings b place (s +ℤ amount)) Done
   performs_savings amount ge fits =
       let row = row_is h in
       let le : int_lt LIMIT (s +ℤ amount) ≡ false = grind (arith, ints, fits.at_most) in
@@ -97,7 +103,8 @@ module _ {directory : List (List ℕ)} {b : Balances} {name : List ℕ} {place :
   performs_check_negative amount lt = let row = row_is h in record { rows = rw (row, lt) refl; reply = rw (row, lt) refl; customers = h.same }
 
   -- a check that would pass the limit
-  pub performs_check_over_limit : (amount : ℤ) → int_lt amount (pos 0) ≡ false → ¬ IsWithinLimit (c -ℤ check_cost s c amount) → FollowsProcedure directory (WriteCheck name amount) b b OverLimit
+  pub performs_check_over_limit : (amount : ℤ) → int_lt amount (pos 0) ≡ false → ¬ IsWithinLimit (c -ℤ check_cost s c amount)
+      → FollowsProcedure directory (WriteCheck name amount) b b OverLimit
   performs_check_over_limit amount ge past =
       let row = row_is h in
       let lt = past_limit_downwards s c amount (checking_within h) ge past in
@@ -105,7 +112,8 @@ module _ {directory : List (List ℕ)} {b : Balances} {name : List ℕ} {place :
 
   -- a check that is paid
   pub performs_check : (amount : ℤ) → int_lt amount (pos 0) ≡ false → IsWithinLimit (c -ℤ check_cost s c amount)
-      → FollowsProcedure directory (WriteCheck name amount) b (with_checking b place (c -ℤ check_cost s c amount)) (cond (int_lt (s +ℤ c) amount) Penalised Done)
+      → FollowsProcedure directory (WriteCheck name amount) b (with_checking b place (c -ℤ check_cost s c amount))
+      (cond (int_lt (s +ℤ c) amount) Penalised Done)
   performs_check amount ge fits =
       let row = row_is h in
       let le : int_lt (c -ℤ check_cost s c amount) (neg_ℤ LIMIT) ≡ false = grind (arith, ints, fits.at_least) in

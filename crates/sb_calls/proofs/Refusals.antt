@@ -20,7 +20,8 @@ use Rattle.sb_calls.specs.declared.reply.Reply.{Reply}
 use Rattle.sb_calls.specs.declared.reply.Reply.TheVariants.{NoCustomer, SameCustomer}
 
 -- a procedure that leaves the rows is performed by leaving the columns
-pub performs_refusal : (directory : List (List ℕ)) (call : Call) (b : Balances) (reply : Reply) → SameCustomers directory b → procedure call (rows_of directory b) ≡ record { rows = rows_of directory b; reply = reply } → FollowsProcedure directory call b b reply
+pub performs_refusal : (directory : List (List ℕ)) (call : Call) (b : Balances) (reply : Reply) → SameCustomers directory b
+    → procedure call (rows_of directory b) ≡ record { rows = rows_of directory b; reply = reply } → FollowsProcedure directory call b b reply
 performs_refusal directory call b reply same e = record {
   rows = sym (ap (λ (o : Outcome). o.rows) e);
   reply = sym (ap (λ (o : Outcome). o.reply) e);
@@ -36,7 +37,8 @@ no_second from to rows none = by (get rows from) refl
     by (Some balances) e = rw (e, none) refl
 
 -- a call with a name that has no place has no customer
-missing_refuses : (directory : List (List ℕ)) (call : Call) (b : Balances) → SameCustomers directory b → HasMissingName directory call → procedure call (rows_of directory b) ≡ record { rows = rows_of directory b; reply = NoCustomer }
+missing_refuses : (directory : List (List ℕ)) (call : Call) (b : Balances) → SameCustomers directory b → HasMissingName directory call
+    → procedure call (rows_of directory b) ≡ record { rows = rows_of directory b; reply = NoCustomer }
 missing_refuses directory (Balance name) b same missing = rw (get-rows_of_absent directory b name same missing) refl
 missing_refuses directory (DepositChecking name amount) b same missing = rw (get-rows_of_absent directory b name same missing) refl
 missing_refuses directory (TransactSavings name amount) b same missing = rw (get-rows_of_absent directory b name same missing) refl
@@ -45,14 +47,18 @@ missing_refuses directory (Amalgamate from to) b same (inr missing) = no_second 
 missing_refuses directory (WriteCheck name amount) b same missing = rw (get-rows_of_absent directory b name same missing) refl
 
 -- a call that resolves to NoCustomer
-pub performs_no_customer : (directory : List (List ℕ)) (call : Call) (b : Balances) → SameCustomers directory b → ops.NoCustomer ≡ resolved directory call → FollowsProcedure directory call b b NoCustomer
-performs_no_customer directory call b same e = performs_refusal directory call b NoCustomer same (missing_refuses directory call b same (comes_from directory call ops.NoCustomer e))
+pub performs_no_customer : (directory : List (List ℕ)) (call : Call) (b : Balances) → SameCustomers directory b → ops.NoCustomer ≡ resolved directory call
+    → FollowsProcedure directory call b b NoCustomer
+performs_no_customer directory call b same e =
+    performs_refusal directory call b NoCustomer same (missing_refuses directory call b same (comes_from directory call ops.NoCustomer e))
 
 -- an amalgamation of a customer with itself
-one_refuses : (directory : List (List ℕ)) (from to : List ℕ) (place : ℕ) (b : Balances) → SameCustomers directory b → place_of directory from ≡ Some place → place_of directory to ≡ Some place
+one_refuses : (directory : List (List ℕ)) (from to : List ℕ) (place : ℕ) (b : Balances) → SameCustomers directory b → place_of directory from ≡ Some place
+    → place_of directory to ≡ Some place
     → procedure (Amalgamate from to) (rows_of directory b) ≡ record { rows = rows_of directory b; reply = SameCustomer }
 one_refuses directory from to place b same found_from found_to =
-    let one : ◌≡◌ {A = Option (List ℕ)} (Some from) (Some to) = sym (place_of_found directory from place found_from) ∙ place_of_found directory to place found_to in
+    let one : ◌≡◌ {A = Option (List ℕ)} (Some from) (Some to) = sym (place_of_found directory from place found_from)
+    ∙ place_of_found directory to place found_to in
     let equal : bytes_eq from to ≡ true = (bytes_eq-Decides from to).1 cc in
     let lt = place_of_within directory from place found_from in
     let row_from = row_is (HasRow-unread directory b from place same found_from (omega (arith, same.places))) in
@@ -60,7 +66,8 @@ one_refuses directory from to place b same found_from found_to =
     rw (row_from, row_to, equal) refl
 
 -- a call that resolves to SameCustomer
-pub performs_same_customer : (directory : List (List ℕ)) (call : Call) (b : Balances) → SameCustomers directory b → ops.SameCustomer ≡ resolved directory call → FollowsProcedure directory call b b SameCustomer
+pub performs_same_customer : (directory : List (List ℕ)) (call : Call) (b : Balances) → SameCustomers directory b → ops.SameCustomer ≡ resolved directory call
+    → FollowsProcedure directory call b b SameCustomer
 performs_same_customer directory call b same e =
     let made = comes_from directory call ops.SameCustomer e in
     rw (made.3) (performs_refusal directory (Amalgamate made.0 made.1) b SameCustomer same (one_refuses directory made.0 made.1 made.2 b same made.4 made.5))

@@ -24,7 +24,8 @@ use Rattle.sb_calls.specs.declared.text.fault.CallFault.TheVariants.{UnknownVerb
 -- ---- what is read is spelled so
 
 -- of two results to choose from, the one that is read
-pub chosen : {T : Type 0} (test : Bool) (first second read : T) → cond test first second ≡ read → ((test ≡ true) × (first ≡ read)) ⊎ ((test ≡ false) × (second ≡ read))
+pub chosen : {T : Type 0} (test : Bool) (first second read : T) → cond test first second ≡ read
+    → ((test ≡ true) × (first ≡ read)) ⊎ ((test ≡ false) × (second ≡ read))
 chosen true first second read e = inl (refl, e)
 chosen false first second read e = inr (refl, e)
 
@@ -34,7 +35,8 @@ tested true call made e = (refl, e)
 tested false call made e = absurd cc
 
 -- a call that was read with an amount has it
-amount_made : (call : ℤ → Call) (read : Result ℤ MoneyFault) (made : Call) → with_amount call read ≡ Ok made → (amount : ℤ) × (read ≡ Ok amount) × (made ≡ call amount)
+amount_made : (call : ℤ → Call) (read : Result ℤ MoneyFault) (made : Call) → with_amount call read ≡ Ok made
+    → (amount : ℤ) × (read ≡ Ok amount) × (made ≡ call amount)
 amount_made call (Ok amount) made e = (amount, refl, cc)
 amount_made call (Err fault) made e = absurd cc
 
@@ -49,7 +51,9 @@ spells_name verb call spelled (name ∷ []) made e =
 spells_name verb call spelled (a ∷ b ∷ more) made e = absurd cc
 
 -- a verb that takes a name and an amount, likewise
-spells_name_and_amount : (verb : List ℕ) (call : List ℕ → ℤ → Call) → ((name : List ℕ) (amount : ℤ) → IsName name → IsWithinLimit amount → IsCall (call name amount) × (verb ++ (32 ∷ (name ++ (32 ∷ money amount))) ≡ call_line (call name amount)))
+spells_name_and_amount : (verb : List ℕ) (call : List ℕ → ℤ → Call)
+    → ((name : List ℕ) (amount : ℤ) → IsName name → IsWithinLimit amount
+    → IsCall (call name amount) × (verb ++ (32 ∷ (name ++ (32 ∷ money amount))) ≡ call_line (call name amount)))
     → (rest : List (List ℕ)) (made : Call) → of_name_and_amount call rest ≡ Ok made → IsCall made × (join_with_byte 32 (verb ∷ rest) ≡ call_line made)
 spells_name_and_amount verb call spelled [] made e = absurd cc
 spells_name_and_amount verb call spelled (a ∷ []) made e = absurd cc
@@ -62,7 +66,8 @@ spells_name_and_amount verb call spelled (name ∷ text ∷ []) made e =
 spells_name_and_amount verb call spelled (a ∷ b ∷ c ∷ more) made e = absurd cc
 
 -- a verb that takes two names, likewise
-spells_two_names : (verb : List ℕ) (call : List ℕ → List ℕ → Call) → ((from to : List ℕ) → IsName from → IsName to → IsCall (call from to) × (verb ++ (32 ∷ (from ++ (32 ∷ to))) ≡ call_line (call from to)))
+spells_two_names : (verb : List ℕ) (call : List ℕ → List ℕ → Call)
+    → ((from to : List ℕ) → IsName from → IsName to → IsCall (call from to) × (verb ++ (32 ∷ (from ++ (32 ∷ to))) ≡ call_line (call from to)))
     → (rest : List (List ℕ)) (made : Call) → of_two_names call rest ≡ Ok made → IsCall made × (join_with_byte 32 (verb ∷ rest) ≡ call_line made)
 spells_two_names verb call spelled [] made e = absurd cc
 spells_two_names verb call spelled (a ∷ []) made e = absurd cc
@@ -89,8 +94,10 @@ abbrev if_deposit : List ℕ → List (List ℕ) → Result Call CallFault
 if_deposit verb rest = cond (bytes_eq verb (codes "deposit")) (of_name_and_amount DepositChecking rest) (if_savings verb rest)
 
 -- what is read as a call behind one verb or behind the others spells it, where each of the two does
-spells_either : (verb word : List ℕ) (rest : List (List ℕ)) (first others : Result Call CallFault) (made : Call) → cond (bytes_eq verb word) first others ≡ Ok made
-    → (first ≡ Ok made → IsCall made × (join_with_byte 32 (word ∷ rest) ≡ call_line made)) → (others ≡ Ok made → IsCall made × (join_with_byte 32 (verb ∷ rest) ≡ call_line made))
+spells_either : (verb word : List ℕ) (rest : List (List ℕ)) (first others : Result Call CallFault) (made : Call)
+    → cond (bytes_eq verb word) first others ≡ Ok made
+    → (first ≡ Ok made → IsCall made × (join_with_byte 32 (word ∷ rest) ≡ call_line made))
+    → (others ≡ Ok made → IsCall made × (join_with_byte 32 (verb ∷ rest) ≡ call_line made))
     → IsCall made × (join_with_byte 32 (verb ∷ rest) ≡ call_line made)
 spells_either verb word rest first others made e here there =
     elim (chosen (bytes_eq verb word) first others (Ok made) e) [
@@ -99,25 +106,29 @@ spells_either verb word rest first others made e here there =
     ]
 
 -- the words of a call of the last verb, joined by spaces, spell it
-amalgamate_spells : (verb : List ℕ) (rest : List (List ℕ)) (made : Call) → if_amalgamate verb rest ≡ Ok made → IsCall made × (join_with_byte 32 (verb ∷ rest) ≡ call_line made)
+amalgamate_spells : (verb : List ℕ) (rest : List (List ℕ)) (made : Call) → if_amalgamate verb rest ≡ Ok made
+    → IsCall made × (join_with_byte 32 (verb ∷ rest) ≡ call_line made)
 amalgamate_spells verb rest made e =
     spells_either verb (codes "amalgamate") rest (of_two_names Amalgamate rest) (Err UnknownVerb) made e
     (spells_two_names (codes "amalgamate") Amalgamate (λ from to giver taker. ((giver, taker), refl)) rest made) (λ unknown. absurd cc)
 
 -- the words of a call of the verbs from `check` on, joined by spaces, spell it
-check_spells : (verb : List ℕ) (rest : List (List ℕ)) (made : Call) → if_check verb rest ≡ Ok made → IsCall made × (join_with_byte 32 (verb ∷ rest) ≡ call_line made)
+check_spells : (verb : List ℕ) (rest : List (List ℕ)) (made : Call) → if_check verb rest ≡ Ok made
+    → IsCall made × (join_with_byte 32 (verb ∷ rest) ≡ call_line made)
 check_spells verb rest made e =
     spells_either verb (codes "check") rest (of_name_and_amount WriteCheck rest) (if_amalgamate verb rest) made e
     (spells_name_and_amount (codes "check") WriteCheck (λ name amount valid within. ((valid, within), refl)) rest made) (amalgamate_spells verb rest made)
 
 -- the words of a call of the verbs from `savings` on, joined by spaces, spell it
-savings_spells : (verb : List ℕ) (rest : List (List ℕ)) (made : Call) → if_savings verb rest ≡ Ok made → IsCall made × (join_with_byte 32 (verb ∷ rest) ≡ call_line made)
+savings_spells : (verb : List ℕ) (rest : List (List ℕ)) (made : Call) → if_savings verb rest ≡ Ok made
+    → IsCall made × (join_with_byte 32 (verb ∷ rest) ≡ call_line made)
 savings_spells verb rest made e =
     spells_either verb (codes "savings") rest (of_name_and_amount TransactSavings rest) (if_check verb rest) made e
     (spells_name_and_amount (codes "savings") TransactSavings (λ name amount valid within. ((valid, within), refl)) rest made) (check_spells verb rest made)
 
 -- the words of a call of the verbs from `deposit` on, joined by spaces, spell it
-deposit_spells : (verb : List ℕ) (rest : List (List ℕ)) (made : Call) → if_deposit verb rest ≡ Ok made → IsCall made × (join_with_byte 32 (verb ∷ rest) ≡ call_line made)
+deposit_spells : (verb : List ℕ) (rest : List (List ℕ)) (made : Call) → if_deposit verb rest ≡ Ok made
+    → IsCall made × (join_with_byte 32 (verb ∷ rest) ≡ call_line made)
 deposit_spells verb rest made e =
     spells_either verb (codes "deposit") rest (of_name_and_amount DepositChecking rest) (if_savings verb rest) made e
     (spells_name_and_amount (codes "deposit") DepositChecking (λ name amount valid within. ((valid, within), refl)) rest made) (savings_spells verb rest made)
@@ -144,7 +155,8 @@ read_is_spelled line (Err fault) e = tt
 -- ---- what is spelled so is read
 
 -- a text that keeps clear of spaces, by a test that each of its bytes passes
-pub without_spaces : (test : ℕ → Bool) (text : List ℕ) → ((c : ℕ) → test c ≡ true → is_space c ≡ false) → list_all test text ≡ true → All (λ c. is_space c ≡ false) text
+pub without_spaces : (test : ℕ → Bool) (text : List ℕ) → ((c : ℕ) → test c ≡ true → is_space c ≡ false) → list_all test text ≡ true
+    → All (λ c. is_space c ≡ false) text
 without_spaces test [] clear h = All-nil (λ c. is_space c ≡ false)
 without_spaces test (c ∷ text) clear h =
     let both = and_parts (test c) (list_all test text) h in
@@ -155,16 +167,19 @@ name_byte_clear c h = grind (arith, nat_tests)
 
 -- a name has no space
 name_clear : (name : List ℕ) → IsName name → All (λ c. is_space c ≡ false) name
-name_clear name h = without_spaces is_name_byte name name_byte_clear (and_parts (nat_le 1 (length name) && nat_le (length name) 20) (list_all is_name_byte name) h).1
+name_clear name h =
+    without_spaces is_name_byte name name_byte_clear (and_parts (nat_le 1 (length name) && nat_le (length name) 20) (list_all is_name_byte name) h).1
 
 -- nor does money text
 money_clear : (amount : ℤ) → IsWithinLimit amount → All (λ c. is_space c ≡ false) (money amount)
 money_clear amount h = without_spaces (λ c. not (is_space c)) (money amount) (λ c. not-true (is_space c)) (money_keeps_clear amount h)
 
 -- the words of a name and an amount, or of two names
-words-name_and_amount : (name : List ℕ) (amount : ℤ) → IsName name → IsWithinLimit amount → slice_split is_space (name ++ 32 ∷ money amount) ≡ name ∷ money amount ∷ []
+words-name_and_amount : (name : List ℕ) (amount : ℤ) → IsName name → IsWithinLimit amount
+    → slice_split is_space (name ++ 32 ∷ money amount) ≡ name ∷ money amount ∷ []
 words-name_and_amount name amount valid within =
-    slice_split_at is_space name 32 (money amount) (name_clear name valid) refl ∙ ap (λ ws. name ∷ ws) (slice_split_none is_space (money amount) (money_clear amount within))
+    slice_split_at is_space name 32 (money amount) (name_clear name valid) refl
+    ∙ ap (λ ws. name ∷ ws) (slice_split_none is_space (money amount) (money_clear amount within))
 
 words-two_names : (from to : List ℕ) → IsName from → IsName to → slice_split is_space (from ++ 32 ∷ to) ≡ from ∷ to ∷ []
 words-two_names from to giver taker =

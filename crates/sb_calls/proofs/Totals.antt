@@ -35,10 +35,13 @@ different_rest : (n : List ℕ) (ns : List (List ℕ)) → AllPairs (λ a b. a �
 different_rest n ns h i j d lt within = h (suc i) (suc j) d (omega arith) (omega arith)
 
 first_is_none : (n : List ℕ) (ns : List (List ℕ)) → AllPairs (λ a b. a ≢ b) (n ∷ ns) → list_any (bytes_eq n) ns ≡ false
-first_is_none n ns h = list_any_none (bytes_eq n) ns (λ k d lt. false_from_ne_true (bytes_eq n _) (λ same. h 0 (suc k) d (omega arith) (omega arith) ((bytes_eq-Decides n _).0 same)))
+first_is_none n ns h =
+    list_any_none (bytes_eq n) ns (λ k d lt. false_from_ne_true (bytes_eq n _)
+    (λ same. h 0 (suc k) d (omega arith) (omega arith) ((bytes_eq-Decides n _).0 same)))
 
 -- a row of another name leaves the total
-total_without : (ns : List (List ℕ)) (name : List ℕ) (v : ℤ × ℤ) (rows : Rows) → list_any (bytes_eq name) ns ≡ false → total_of (map (row_of (insert rows name v)) ns) ≡ total_of (map (row_of rows) ns)
+total_without : (ns : List (List ℕ)) (name : List ℕ) (v : ℤ × ℤ) (rows : Rows) → list_any (bytes_eq name) ns ≡ false
+    → total_of (map (row_of (insert rows name v)) ns) ≡ total_of (map (row_of rows) ns)
 total_without [] name v rows h = refl
 total_without (n ∷ ns) name v rows h =
     let both = or_parts (bytes_eq name n) (list_any (bytes_eq name) ns) h in
@@ -46,13 +49,16 @@ total_without (n ∷ ns) name v rows h =
     rw (kept, total_without ns name v rows both.1) refl
 
 -- a row of one of the names changes it by the difference
-total_with : (ns : List (List ℕ)) (name : List ℕ) (rows : Rows) (s c s_new c_new : ℤ) → AllPairs (λ a b. a ≢ b) ns → list_any (bytes_eq name) ns ≡ true → get rows name ≡ Some (s, c)
+total_with : (ns : List (List ℕ)) (name : List ℕ) (rows : Rows) (s c s_new c_new : ℤ) → AllPairs (λ a b. a ≢ b) ns → list_any (bytes_eq name) ns ≡ true
+    → get rows name ≡ Some (s, c)
     → total_of (map (row_of (insert rows name (s_new, c_new))) ns) ≡ total_of (map (row_of rows) ns) +ℤ ((s_new +ℤ c_new) -ℤ (s +ℤ c))
 total_with [] name rows s c s_new c_new different some is = absurd cc
-total_with (n ∷ ns) name rows s c s_new c_new different some is = by (bytes_eq name n) refl (λ later. total_with ns name rows s c s_new c_new (different_rest n ns different) later is)
+total_with (n ∷ ns) name rows s c s_new c_new different some is =
+    by (bytes_eq name n) refl (λ later. total_with ns name rows s c s_new c_new (different_rest n ns different) later is)
   where
     by : (test : Bool) → bytes_eq name n ≡ test
-        → (list_any (bytes_eq name) ns ≡ true → total_of (map (row_of (insert rows name (s_new, c_new))) ns) ≡ total_of (map (row_of rows) ns) +ℤ ((s_new +ℤ c_new) -ℤ (s +ℤ c)))
+        → (list_any (bytes_eq name) ns ≡ true → total_of (map (row_of (insert rows name (s_new, c_new))) ns)
+        ≡ total_of (map (row_of rows) ns) +ℤ ((s_new +ℤ c_new) -ℤ (s +ℤ c)))
         → total_of (map (row_of (insert rows name (s_new, c_new))) (n ∷ ns)) ≡ total_of (map (row_of rows) (n ∷ ns)) +ℤ ((s_new +ℤ c_new) -ℤ (s +ℤ c))
     by true e more =
         let here : name ≡ n = (bytes_eq-Decides name n).0 e in
@@ -62,13 +68,15 @@ total_with (n ∷ ns) name rows s c s_new c_new different some is = by (bytes_eq
         let rest = total_without ns name (s_new, c_new) rows (ap (λ (q : List ℕ). list_any (bytes_eq q) ns) here ∙ first_is_none n ns different) in
         rw (written, before, rest) (omega (arith, ints))
     by false e more =
-        let kept : get (insert rows name (s_new, c_new)) n ≡ get rows n = get-insert_name rows name (s_new, c_new) n ∙ ap (λ t. cond t (Some (s_new, c_new)) (get rows n)) (other_name name n e) in
+        let kept : get (insert rows name (s_new, c_new)) n ≡ get rows n = get-insert_name rows name (s_new, c_new) n
+        ∙ ap (λ t. cond t (Some (s_new, c_new)) (get rows n)) (other_name name n e) in
         let rest = more (rw e at some) in
         rw (kept, rest) (omega (arith, ints))
 
 module _ {directory : List (List ℕ)} {rows : Rows} {s c : ℤ} (name : List ℕ) (h : HasNames directory rows) (is : get rows name ≡ Some (s, c)) where
   -- replacing a row changes the total by the difference of the two
-  pub total_of-insert : (s_new c_new : ℤ) → total_of (listed directory (insert rows name (s_new, c_new))) ≡ total_of (listed directory rows) +ℤ ((s_new +ℤ c_new) -ℤ (s +ℤ c))
+  pub total_of-insert : (s_new c_new : ℤ)
+      → total_of (listed directory (insert rows name (s_new, c_new))) ≡ total_of (listed directory rows) +ℤ ((s_new +ℤ c_new) -ℤ (s +ℤ c))
   unfolding listed
   total_of-insert s_new c_new =
       let some : list_any (bytes_eq name) directory ≡ true = sym (has_place directory name) ∙ sym (h.same name) ∙ ap (λ (o : Option (ℤ × ℤ)). is_some o) is in

@@ -40,9 +40,11 @@ cown_has_place directory [] [] cown are one = absurd one
 cown_has_place directory [] (c ∷ cowns) cown are one = absurd are
 cown_has_place directory (place ∷ places) [] cown are one = absurd are
 cown_has_place directory (place ∷ places) (c ∷ cowns) cown are (inl is) = (place, inl refl, are.0 ∙ ap Some is)
-cown_has_place directory (place ∷ places) (c ∷ cowns) cown are (inr one) = let rest = cown_has_place directory places cowns cown are.1 one in (rest.0, inr rest.1, rest.2)
+cown_has_place directory (place ∷ places) (c ∷ cowns) cown are (inr one) =
+    let rest = cown_has_place directory places cowns cown are.1 one in (rest.0, inr rest.1, rest.2)
 
-place_has_cown : (directory : List (List ℕ)) (places : List BalancePlace) (cowns : List ℕ) (cown : ℕ) (place : BalancePlace) → AreCownsOf directory places cowns → IsOneOf places place → cown_of directory place ≡ Some cown
+place_has_cown : (directory : List (List ℕ)) (places : List BalancePlace) (cowns : List ℕ) (cown : ℕ) (place : BalancePlace) → AreCownsOf directory places cowns
+    → IsOneOf places place → cown_of directory place ≡ Some cown
     → IsOneOf cowns cown
 place_has_cown directory [] cowns cown place are one e = absurd one
 place_has_cown directory (p ∷ places) [] cown place are one e = absurd are
@@ -60,7 +62,8 @@ declares : (directory : List (List ℕ)) (b : Balances) (call : Call) (places : 
 declares directory b call places cowns same are cown = (
   (λ c. let at = cown_has_place directory places cowns cown are (one_from_Contains cowns cown c) in
       (at.0, Contains-from_one (touched (rows_of directory b) call) at.0 ((same at.0).1 at.1), at.2)),
-  (λ at. Contains-from_one cowns cown (place_has_cown directory places cowns cown at.0 are ((same at.0).0 (one_from_Contains (touched (rows_of directory b) call) at.0 at.1)) at.2)),
+  (λ at. Contains-from_one cowns cown (place_has_cown directory places cowns cown at.0 are
+      ((same at.0).0 (one_from_Contains (touched (rows_of directory b) call) at.0 at.1)) at.2)),
 )
 
 -- what a call touches, beside its cowns
@@ -87,20 +90,24 @@ turned a b c place = (to, from)
 -- ---- names
 
 -- a name at a place is in the rows
-has_name-at : (directory : List (List ℕ)) (b : Balances) (name : List ℕ) (place : ℕ) → SameCustomers directory b → place_of directory name ≡ Some place → has_name (rows_of directory b) name ≡ true
+has_name-at : (directory : List (List ℕ)) (b : Balances) (name : List ℕ) (place : ℕ) → SameCustomers directory b → place_of directory name ≡ Some place
+    → has_name (rows_of directory b) name ≡ true
 has_name-at directory b name place same found =
     let lt = place_of_within directory name place found in
     ap (λ (o : Option (ℤ × ℤ)). is_some o) (row_is (HasRow-unread directory b name place same found (omega (arith, same.places))))
 
 -- a name without a place isn't
-pub has_name-absent : (directory : List (List ℕ)) (b : Balances) (name : List ℕ) → SameCustomers directory b → place_of directory name ≡ None → has_name (rows_of directory b) name ≡ false
+pub has_name-absent : (directory : List (List ℕ)) (b : Balances) (name : List ℕ) → SameCustomers directory b → place_of directory name ≡ None
+    → has_name (rows_of directory b) name ≡ false
 has_name-absent directory b name same missing = ap (λ (o : Option (ℤ × ℤ)). is_some o) (get-rows_of_absent directory b name same missing)
 
 -- the cowns of a name at a place
-savings_at : (directory : List (List ℕ)) (name : List ℕ) (place : ℕ) → place_of directory name ≡ Some place → cown_of directory (Savings name) ≡ Some (savings_cown place)
+savings_at : (directory : List (List ℕ)) (name : List ℕ) (place : ℕ) → place_of directory name ≡ Some place
+    → cown_of directory (Savings name) ≡ Some (savings_cown place)
 savings_at directory name place found = rw found refl
 
-checking_at : (directory : List (List ℕ)) (name : List ℕ) (place : ℕ) → place_of directory name ≡ Some place → cown_of directory (Checking name) ≡ Some (checking_cown place)
+checking_at : (directory : List (List ℕ)) (name : List ℕ) (place : ℕ) → place_of directory name ≡ Some place
+    → cown_of directory (Checking name) ≡ Some (checking_cown place)
 checking_at directory name place found = rw found refl
 
 -- ---- calls
@@ -111,22 +118,30 @@ none_of_three true c = refl
 none_of_three false c = refl
 
 -- a call with a name that has no place touches nothing
-nothing_touched : (directory : List (List ℕ)) (b : Balances) (call : Call) → SameCustomers directory b → HasMissingName directory call → touched (rows_of directory b) call ≡ []
+nothing_touched : (directory : List (List ℕ)) (b : Balances) (call : Call) → SameCustomers directory b → HasMissingName directory call
+    → touched (rows_of directory b) call ≡ []
 nothing_touched directory b (calls.Balance name) same missing = rw (has_name-absent directory b name same missing) refl
 nothing_touched directory b (calls.DepositChecking name amount) same missing = rw (has_name-absent directory b name same missing) refl
 nothing_touched directory b (calls.TransactSavings name amount) same missing = rw (has_name-absent directory b name same missing) refl
 nothing_touched directory b (calls.Amalgamate from to) same (inl missing) = rw (has_name-absent directory b from same missing) refl
-nothing_touched directory b (calls.Amalgamate from to) same (inr missing) = rw (has_name-absent directory b to same missing, none_of_three (has_name (rows_of directory b) from) (not (bytes_eq from to))) refl
+nothing_touched directory b (calls.Amalgamate from to) same (inr missing) =
+    rw (has_name-absent directory b to same missing, none_of_three (has_name (rows_of directory b) from) (not (bytes_eq from to))) refl
 nothing_touched directory b (calls.WriteCheck name amount) same missing = rw (has_name-absent directory b name same missing) refl
 
 -- two names at different places
-two_touched : (directory : List (List ℕ)) (b : Balances) (from to : List ℕ) (p q : ℕ) → SameCustomers directory b → place_of directory from ≡ Some p → place_of directory to ≡ Some q → p ≢ q
+two_touched : (directory : List (List ℕ)) (b : Balances) (from to : List ℕ) (p q : ℕ) → SameCustomers directory b → place_of directory from ≡ Some p
+    → place_of directory to ≡ Some q → p ≢ q
     → touched (rows_of directory b) (calls.Amalgamate from to) ≡ Savings from ∷ Checking from ∷ Checking to ∷ []
 two_touched directory b from to p q same found_from found_to differs =
-    rw (has_name-at directory b from p same found_from, has_name-at directory b to q same found_to, different_names directory from to p q found_from found_to differs) refl
+    rw (
+      has_name-at directory b from p same found_from,
+      has_name-at directory b to q same found_to,
+      different_names directory from to p q found_from found_to differs,
+    ) refl
 
 -- so their cowns are declared, whoever is first
-two_declared : (directory : List (List ℕ)) (b : Balances) (from to : List ℕ) (p q : ℕ) → SameCustomers directory b → place_of directory from ≡ Some p → place_of directory to ≡ Some q → p ≢ q
+two_declared : (directory : List (List ℕ)) (b : Balances) (from to : List ℕ) (p q : ℕ) → SameCustomers directory b → place_of directory from ≡ Some p
+    → place_of directory to ≡ Some q → p ≢ q
     → DeclaresTouched directory b (calls.Amalgamate from to) (cowns_of_two p q)
 two_declared directory b from to p q same found_from found_to differs = by (cases_lt p q)
   where
@@ -135,42 +150,55 @@ two_declared directory b from to p q same found_from found_to differs = by (case
 
     by : (p < q) ⊎ (q ≤ p) → DeclaresTouched directory b (calls.Amalgamate from to) (cowns_of_two p q)
     by (inl lt) = rw (cowns_giver_first p q lt)
-        (declares_in_order directory b (calls.Amalgamate from to) (Savings from ∷ Checking from ∷ Checking to ∷ []) (savings_cown p ∷ checking_cown p ∷ checking_cown q ∷ []) there
+        (declares_in_order directory b (calls.Amalgamate from to) (Savings from ∷ Checking from ∷ Checking to ∷ [])
+        (savings_cown p ∷ checking_cown p ∷ checking_cown q ∷ []) there
         (savings_at directory from p found_from, (checking_at directory from p found_from, (checking_at directory to q found_to, tt))))
     by (inr le) = rw (cowns_taker_first p q (omega (arith, differs)))
-        (declares directory b (calls.Amalgamate from to) (Checking to ∷ Savings from ∷ Checking from ∷ []) (checking_cown q ∷ savings_cown p ∷ checking_cown p ∷ [])
+        (declares directory b (calls.Amalgamate from to) (Checking to ∷ Savings from ∷ Checking from ∷ [])
+        (checking_cown q ∷ savings_cown p ∷ checking_cown p ∷ [])
         (rw there (turned (Savings from) (Checking from) (Checking to)))
         (checking_at directory to q found_to, (savings_at directory from p found_from, (checking_at directory from p found_from, tt))))
 
 -- a name with itself
-one_untouched : (directory : List (List ℕ)) (b : Balances) (from to : List ℕ) (place : ℕ) → SameCustomers directory b → place_of directory from ≡ Some place → place_of directory to ≡ Some place
+one_untouched : (directory : List (List ℕ)) (b : Balances) (from to : List ℕ) (place : ℕ) → SameCustomers directory b → place_of directory from ≡ Some place
+    → place_of directory to ≡ Some place
     → touched (rows_of directory b) (calls.Amalgamate from to) ≡ []
 one_untouched directory b from to place same found_from found_to =
-    let one : ◌≡◌ {A = Option (List ℕ)} (Some from) (Some to) = sym (place_of_found directory from place found_from) ∙ place_of_found directory to place found_to in
+    let one : ◌≡◌ {A = Option (List ℕ)} (Some from) (Some to) = sym (place_of_found directory from place found_from)
+    ∙ place_of_found directory to place found_to in
     let equal : bytes_eq from to ≡ true = (bytes_eq-Decides from to).1 cc in
     rw (has_name-at directory b from place same found_from, has_name-at directory b to place same found_to, equal) refl
 
 -- the cowns of an op are those of what its call touches
-pub declares_touched : (directory : List (List ℕ)) (b : Balances) (call : Call) (op : Op) → SameCustomers directory b → op ≡ resolved directory call → DeclaresTouched directory b call (declared_cowns op)
+pub declares_touched : (directory : List (List ℕ)) (b : Balances) (call : Call) (op : Op) → SameCustomers directory b → op ≡ resolved directory call
+    → DeclaresTouched directory b call (declared_cowns op)
 declares_touched directory b call (Balance place) same e =
     let made = comes_from directory call (Balance place) e in
-    let there : touched (rows_of directory b) (calls.Balance made.0) ≡ Savings made.0 ∷ Checking made.0 ∷ [] = rw (has_name-at directory b made.0 place same made.2) refl in
-    rw (made.1) (declares_in_order directory b (calls.Balance made.0) (Savings made.0 ∷ Checking made.0 ∷ []) (declared_cowns (Balance place)) there (savings_at directory made.0 place made.2, (checking_at directory made.0 place made.2, tt)))
+    let there : touched (rows_of directory b) (calls.Balance made.0) ≡ Savings made.0 ∷ Checking made.0 ∷ [] =
+    rw (has_name-at directory b made.0 place same made.2) refl in
+    rw (made.1) (declares_in_order directory b (calls.Balance made.0) (Savings made.0 ∷ Checking made.0 ∷ []) (declared_cowns (Balance place)) there
+    (savings_at directory made.0 place made.2, (checking_at directory made.0 place made.2, tt)))
 declares_touched directory b call (DepositChecking place amount) same e =
     let made = comes_from directory call (DepositChecking place amount) e in
-    let there : touched (rows_of directory b) (calls.DepositChecking made.0 amount) ≡ Checking made.0 ∷ [] = rw (has_name-at directory b made.0 place same made.2) refl in
-    rw (made.1) (declares_in_order directory b (calls.DepositChecking made.0 amount) (Checking made.0 ∷ []) (declared_cowns (DepositChecking place amount)) there (checking_at directory made.0 place made.2, tt))
+    let there : touched (rows_of directory b) (calls.DepositChecking made.0 amount) ≡ Checking made.0 ∷ [] =
+    rw (has_name-at directory b made.0 place same made.2) refl in
+    rw (made.1) (declares_in_order directory b (calls.DepositChecking made.0 amount) (Checking made.0 ∷ [])
+    (declared_cowns (DepositChecking place amount)) there (checking_at directory made.0 place made.2, tt))
 declares_touched directory b call (TransactSavings place amount) same e =
     let made = comes_from directory call (TransactSavings place amount) e in
-    let there : touched (rows_of directory b) (calls.TransactSavings made.0 amount) ≡ Savings made.0 ∷ [] = rw (has_name-at directory b made.0 place same made.2) refl in
-    rw (made.1) (declares_in_order directory b (calls.TransactSavings made.0 amount) (Savings made.0 ∷ []) (declared_cowns (TransactSavings place amount)) there (savings_at directory made.0 place made.2, tt))
+    let there : touched (rows_of directory b) (calls.TransactSavings made.0 amount) ≡ Savings made.0 ∷ [] =
+    rw (has_name-at directory b made.0 place same made.2) refl in
+    rw (made.1) (declares_in_order directory b (calls.TransactSavings made.0 amount) (Savings made.0 ∷ []) (declared_cowns (TransactSavings place amount)) there
+    (savings_at directory made.0 place made.2, tt))
 declares_touched directory b call (Amalgamate places) same e =
     let made = comes_from directory call (Amalgamate places) e in
     rw (made.2) (two_declared directory b made.0 made.1 places.0 places.1 same made.3 made.4 made.5)
 declares_touched directory b call (WriteCheck place amount) same e =
     let made = comes_from directory call (WriteCheck place amount) e in
-    let there : touched (rows_of directory b) (calls.WriteCheck made.0 amount) ≡ Savings made.0 ∷ Checking made.0 ∷ [] = rw (has_name-at directory b made.0 place same made.2) refl in
-    rw (made.1) (declares_in_order directory b (calls.WriteCheck made.0 amount) (Savings made.0 ∷ Checking made.0 ∷ []) (declared_cowns (WriteCheck place amount)) there (savings_at directory made.0 place made.2, (checking_at directory made.0 place made.2, tt)))
+    let there : touched (rows_of directory b) (calls.WriteCheck made.0 amount) ≡ Savings made.0 ∷ Checking made.0 ∷ [] =
+    rw (has_name-at directory b made.0 place same made.2) refl in
+    rw (made.1) (declares_in_order directory b (calls.WriteCheck made.0 amount) (Savings made.0 ∷ Checking made.0 ∷ [])
+    (declared_cowns (WriteCheck place amount)) there (savings_at directory made.0 place made.2, (checking_at directory made.0 place made.2, tt)))
 declares_touched directory b call NoCustomer same e =
     declares_in_order directory b call [] [] (nothing_touched directory b call same (comes_from directory call NoCustomer e)) tt
 declares_touched directory b call SameCustomer same e =

@@ -64,7 +64,8 @@ after_ask (client ∷ request ∷ rest) = with_key (key_of (read_number client) 
 
 abbrev pub asked_of_words : List (List ℕ) → Result Asked CallFault
 asked_of_words [] = under_key None (call_of_words [])
-asked_of_words (verb ∷ rest) = if bytes_eq verb (codes "ask") then after_ask rest else under_key None (call_of_words (verb ∷ rest))
+asked_of_words (verb ∷ rest) =
+    if bytes_eq verb (codes "ask") then after_ask rest else under_key None (call_of_words (verb ∷ rest))
 
 -- what an asking line says, or its first fault
 unfoldable pub asked_of : List ℕ → Result Asked CallFault

@@ -44,8 +44,12 @@ savings_effect amount savings =
 abbrev pub check_effect : ℤ → ℤ → ℤ → Reply × List ℤ
 check_effect amount savings checking =
     if int_lt amount (pos 0) then (replies.Negative, savings ∷ checking ∷ [])
-    else if int_lt (checking -ℤ check_cost savings checking amount) (neg_ℤ LIMIT) then (replies.OverLimit, savings ∷ checking ∷ [])
-    else (if int_lt (savings +ℤ checking) amount then replies.Penalised else replies.Done, savings ∷ (checking -ℤ check_cost savings checking amount) ∷ [])
+    else if int_lt (checking -ℤ check_cost savings checking amount) (neg_ℤ LIMIT)
+    then (replies.OverLimit, savings ∷ checking ∷ [])
+    else (
+      if int_lt (savings +ℤ checking) amount then replies.Penalised else replies.Done,
+      savings ∷ (checking -ℤ check_cost savings checking amount) ∷ [],
+    )
 
 -- whether the one that takes would pass the limit
 abbrev pub takes_too_much : ℤ → Bool
@@ -82,7 +86,8 @@ effect_of_two from to held =
     else of_three taker_first_effect held
 
 abbrev pub effect_of : Op → List ℤ → Reply × List ℤ
-effect_of (Balance place) held = of_two (λ savings checking. (replies.Shown (savings +ℤ checking), savings ∷ checking ∷ [])) held
+effect_of (Balance place) held =
+    of_two (λ savings checking. (replies.Shown (savings +ℤ checking), savings ∷ checking ∷ [])) held
 effect_of (DepositChecking place amount) held = of_one (deposit_effect amount) held
 effect_of (TransactSavings place amount) held = of_one (savings_effect amount) held
 effect_of (Amalgamate places) held = effect_of_two places.0 places.1 held

@@ -72,16 +72,22 @@ made_alike op p q a b e = ap (λ (x : ℕ). op x a) e.0 ∙ ap (op q) e.1
 
 -- ops that compare alike are one
 pub same_op : (a b : Op) → (same.ghosts.eq a b ≡ true) ↔ (a ≡ b)
-same_op (Balance p) (Balance q) = Decides-like {P = p ≡ q} {Q = Balance p ≡ Balance q} (p == q) (λ e. ap Balance e) (λ e. ap place_in e) (Decides-eqb p q)
+same_op (Balance p) (Balance q) =
+    Decides-like {P = p ≡ q} {Q = Balance p ≡ Balance q} (p == q) (λ e. ap Balance e) (λ e. ap place_in e)
+    (Decides-eqb p q)
 same_op (DepositChecking p a) (DepositChecking q b) =
-    Decides-like {P = (p ≡ q) × (a ≡ b)} {Q = DepositChecking p a ≡ DepositChecking q b} ((p == q) && int_eq a b) (made_alike DepositChecking p q a b) (λ e. (ap place_in e, ap amount_in e)) (place_and_amount p q a b)
+    Decides-like {P = (p ≡ q) × (a ≡ b)} {Q = DepositChecking p a ≡ DepositChecking q b} ((p == q) && int_eq a b)
+    (made_alike DepositChecking p q a b) (λ e. (ap place_in e, ap amount_in e)) (place_and_amount p q a b)
 same_op (TransactSavings p a) (TransactSavings q b) =
-    Decides-like {P = (p ≡ q) × (a ≡ b)} {Q = TransactSavings p a ≡ TransactSavings q b} ((p == q) && int_eq a b) (made_alike TransactSavings p q a b) (λ e. (ap place_in e, ap amount_in e)) (place_and_amount p q a b)
+    Decides-like {P = (p ≡ q) × (a ≡ b)} {Q = TransactSavings p a ≡ TransactSavings q b} ((p == q) && int_eq a b)
+    (made_alike TransactSavings p q a b) (λ e. (ap place_in e, ap amount_in e)) (place_and_amount p q a b)
 same_op (WriteCheck p a) (WriteCheck q b) =
-    Decides-like {P = (p ≡ q) × (a ≡ b)} {Q = WriteCheck p a ≡ WriteCheck q b} ((p == q) && int_eq a b) (made_alike WriteCheck p q a b) (λ e. (ap place_in e, ap amount_in e)) (place_and_amount p q a b)
+    Decides-like {P = (p ≡ q) × (a ≡ b)} {Q = WriteCheck p a ≡ WriteCheck q b} ((p == q) && int_eq a b)
+    (made_alike WriteCheck p q a b) (λ e. (ap place_in e, ap amount_in e)) (place_and_amount p q a b)
 same_op (Amalgamate p) (Amalgamate q) =
     Decides-like {P = (p.0 ≡ q.0) × (p.1 ≡ q.1)} {Q = Amalgamate p ≡ Amalgamate q} ((p.0 == q.0) && (p.1 == q.1))
-    (λ e. ap Amalgamate (ap (λ x. (x, p.1)) e.0 ∙ ap (λ y. (q.0, y)) e.1)) (λ e. (ap (λ op. (places_in op).0) e, ap (λ op. (places_in op).1) e)) (two_places p q)
+    (λ e. ap Amalgamate (ap (λ x. (x, p.1)) e.0 ∙ ap (λ y. (q.0, y)) e.1))
+    (λ e. (ap (λ op. (places_in op).0) e, ap (λ op. (places_in op).1) e)) (two_places p q)
 same_op NoCustomer NoCustomer = ((λ e. refl), (λ e. refl))
 same_op SameCustomer SameCustomer = ((λ e. refl), (λ e. refl))
 same_op a b = ((λ e. absurd (both_ways false refl e)), (λ e. sym (ap (λ op. kind_of a == kind_of op) e)))
@@ -93,7 +99,8 @@ two_rise : (from to : ℕ) → IsRising (cowns_of_two from to)
 two_rise from to = by (from == to) (nat_lt from to) refl refl
   where
     by : (one before : Bool) → (from == to) ≡ one → nat_lt from to ≡ before
-        → IsRising (if one then [] else if before then savings_cown from ∷ checking_cown from ∷ checking_cown to ∷ [] else checking_cown to ∷ savings_cown from ∷ checking_cown from ∷ [])
+        → IsRising (if one then [] else if before then savings_cown from ∷ checking_cown from ∷ checking_cown to ∷ []
+        else checking_cown to ∷ savings_cown from ∷ checking_cown from ∷ [])
     by true before e l = tt
     by false true e l = (next_above (savings_cown from), (taker_above from to l, tt))
     by false false e l = (giver_above from to e l, (next_above (savings_cown from), tt))
@@ -112,7 +119,8 @@ few_of_two : (from to : ℕ) → length (cowns_of_two from to) ≤ 3
 few_of_two from to = by (from == to) (nat_lt from to)
   where
     by : (one before : Bool)
-        → length (if one then [] else if before then savings_cown from ∷ checking_cown from ∷ checking_cown to ∷ [] else checking_cown to ∷ savings_cown from ∷ checking_cown from ∷ []) ≤ 3
+        → length (if one then [] else if before then savings_cown from ∷ checking_cown from ∷ checking_cown to ∷ []
+        else checking_cown to ∷ savings_cown from ∷ checking_cown from ∷ []) ≤ 3
     by true before = lit≤ tt
     by false true = lit≤ tt
     by false false = lit≤ tt
@@ -135,14 +143,16 @@ of_one_keeps a effect h [] held = absurd held
 of_one_keeps a effect h (v ∷ []) held = h v held.0
 of_one_keeps a effect h (v ∷ w ∷ more) held = absurd held.1
 
-of_two_keeps : (a b : ℕ) (effect : ℤ → ℤ → Reply × List ℤ) → ((v w : ℤ) → IsHeld a v → IsHeld b w → AreHeld (a ∷ b ∷ []) (effect v w).1)
+of_two_keeps : (a b : ℕ) (effect : ℤ → ℤ → Reply × List ℤ)
+    → ((v w : ℤ) → IsHeld a v → IsHeld b w → AreHeld (a ∷ b ∷ []) (effect v w).1)
     → (inputs : List ℤ) → AreHeld (a ∷ b ∷ []) inputs → AreHeld (a ∷ b ∷ []) (of_two effect inputs).1
 of_two_keeps a b effect h [] held = absurd held
 of_two_keeps a b effect h (v ∷ []) held = absurd held.1
 of_two_keeps a b effect h (v ∷ w ∷ []) held = h v w held.0 held.1.0
 of_two_keeps a b effect h (v ∷ w ∷ x ∷ more) held = absurd held.1.1
 
-of_three_keeps : (a b c : ℕ) (effect : ℤ → ℤ → ℤ → Reply × List ℤ) → ((v w x : ℤ) → IsHeld a v → IsHeld b w → IsHeld c x → AreHeld (a ∷ b ∷ c ∷ []) (effect v w x).1)
+of_three_keeps : (a b c : ℕ) (effect : ℤ → ℤ → ℤ → Reply × List ℤ)
+    → ((v w x : ℤ) → IsHeld a v → IsHeld b w → IsHeld c x → AreHeld (a ∷ b ∷ c ∷ []) (effect v w x).1)
     → (inputs : List ℤ) → AreHeld (a ∷ b ∷ c ∷ []) inputs → AreHeld (a ∷ b ∷ c ∷ []) (of_three effect inputs).1
 of_three_keeps a b c effect h [] held = absurd held
 of_three_keeps a b c effect h (v ∷ []) held = absurd held.1
@@ -151,7 +161,8 @@ of_three_keeps a b c effect h (v ∷ w ∷ x ∷ []) held = h v w x held.0 held.
 of_three_keeps a b c effect h (v ∷ w ∷ x ∷ y ∷ more) held = absurd held.1.1.1
 
 -- one of two effects
-either_keeps : (cowns : List ℕ) (test : Bool) (first second : Reply × List ℤ) → AreHeld cowns first.1 → (test ≡ false → AreHeld cowns second.1) → AreHeld cowns (if test then first else second).1
+either_keeps : (cowns : List ℕ) (test : Bool) (first second : Reply × List ℤ) → AreHeld cowns first.1
+    → (test ≡ false → AreHeld cowns second.1) → AreHeld cowns (if test then first else second).1
 either_keeps cowns true first second a b = a
 either_keeps cowns false first second a b = b refl
 
@@ -161,34 +172,61 @@ checking_held place v within = record { within = within; not_negative = λ even.
 
 -- savings from 0 to the limit may be held
 savings_held : (place : ℕ) (v : ℤ) → int_lt v (pos 0) ≡ false → int_lt LIMIT v ≡ false → IsHeld (savings_cown place) v
-savings_held place v ge le = record { within = record { at_least = not_negative_above v _ ge; at_most = at_least v LIMIT le }; not_negative = λ even. at_least (pos 0) v ge }
+savings_held place v ge le =
+    record {
+      within = record { at_least = not_negative_above v _ ge; at_most = at_least v LIMIT le };
+      not_negative =
+          λ even. at_least (pos 0) v ge;
+    }
 
-deposit_keeps : (place : ℕ) (amount checking : ℤ) → IsHeld (checking_cown place) checking → AreHeld (checking_cown place ∷ []) (deposit_effect amount checking).1
+deposit_keeps : (place : ℕ) (amount checking : ℤ) → IsHeld (checking_cown place) checking
+    → AreHeld (checking_cown place ∷ []) (deposit_effect amount checking).1
 deposit_keeps place amount checking h =
     either_keeps (checking_cown place ∷ []) (int_lt amount (pos 0)) _ _ (h, tt) (λ ge.
-    either_keeps (checking_cown place ∷ []) (int_lt LIMIT (checking +ℤ amount)) _ _ (h, tt) (λ le.
-    (checking_held place (checking +ℤ amount) (record { at_least = grown_by (neg_ℤ LIMIT) checking amount ge h.within.at_least; at_most = at_least (checking +ℤ amount) LIMIT le }), tt)))
+    either_keeps (checking_cown place ∷ []) (int_lt LIMIT (checking +ℤ amount)) _ _ (h, tt) (λ le. (
+      checking_held place (checking +ℤ amount)
+          (record {
+            at_least = grown_by (neg_ℤ LIMIT) checking amount ge h.within.at_least;
+            at_most =
+                at_least (checking +ℤ amount) LIMIT le;
+          }),
+      tt,
+    )))
 
-savings_keeps : (place : ℕ) (amount savings : ℤ) → IsHeld (savings_cown place) savings → AreHeld (savings_cown place ∷ []) (savings_effect amount savings).1
+savings_keeps : (place : ℕ) (amount savings : ℤ) → IsHeld (savings_cown place) savings
+    → AreHeld (savings_cown place ∷ []) (savings_effect amount savings).1
 savings_keeps place amount savings h =
     either_keeps (savings_cown place ∷ []) (int_lt (savings +ℤ amount) (pos 0)) _ _ (h, tt) (λ ge.
     either_keeps (savings_cown place ∷ []) (int_lt LIMIT (savings +ℤ amount)) _ _ (h, tt) (λ le.
     (savings_held place (savings +ℤ amount) ge le, tt)))
 
 -- a check never raises a balance
-check_lowers : (savings checking amount : ℤ) → IsWithinLimit checking → int_lt amount (pos 0) ≡ false → (checking -ℤ check_cost savings checking amount) ≤ℤ LIMIT
+check_lowers : (savings checking amount : ℤ) → IsWithinLimit checking → int_lt amount (pos 0) ≡ false
+    → (checking -ℤ check_cost savings checking amount) ≤ℤ LIMIT
 check_lowers savings checking amount within ge = by (int_lt (savings +ℤ checking) amount)
   where
     by : (overdrawn : Bool) → (checking -ℤ (if overdrawn then amount +ℤ pos 100 else amount)) ≤ℤ LIMIT
     by true = fallen_by LIMIT checking (amount +ℤ pos 100) (more_not_negative amount 100 ge) within.at_most
     by false = fallen_by LIMIT checking amount ge within.at_most
 
-check_keeps : (place : ℕ) (amount savings checking : ℤ) → IsHeld (savings_cown place) savings → IsHeld (checking_cown place) checking
+check_keeps : (place : ℕ) (amount savings checking : ℤ) → IsHeld (savings_cown place) savings
+    → IsHeld (checking_cown place) checking
     → AreHeld (savings_cown place ∷ checking_cown place ∷ []) (check_effect amount savings checking).1
 check_keeps place amount savings checking s c =
     either_keeps (savings_cown place ∷ checking_cown place ∷ []) (int_lt amount (pos 0)) _ _ (s, (c, tt)) (λ ge.
-    either_keeps (savings_cown place ∷ checking_cown place ∷ []) (int_lt (checking -ℤ check_cost savings checking amount) (neg_ℤ LIMIT)) _ _ (s, (c, tt)) (λ le.
-    (s, (checking_held place (checking -ℤ check_cost savings checking amount) (record { at_least = at_least (neg_ℤ LIMIT) (checking -ℤ check_cost savings checking amount) le; at_most = check_lowers savings checking amount c.within ge }), tt))))
+    either_keeps (savings_cown place ∷ checking_cown place ∷ [])
+    (int_lt (checking -ℤ check_cost savings checking amount) (neg_ℤ LIMIT)) _ _ (s, (c, tt)) (λ le. (
+      s,
+      (
+        checking_held place (checking -ℤ check_cost savings checking amount)
+            (record {
+              at_least = at_least (neg_ℤ LIMIT) (checking -ℤ check_cost savings checking amount) le;
+              at_most =
+                  check_lowers savings checking amount c.within ge;
+            }),
+        tt,
+      ),
+    )))
 
 -- a sum that isn't too much is within the limit
 sum_within : (v : ℤ) → takes_too_much v ≡ false → IsWithinLimit v
@@ -198,38 +236,65 @@ sum_within v e =
 
 -- 0 may be held everywhere
 nothing_held : (cown : ℕ) → IsHeld cown (pos 0)
-nothing_held cown = record { within = record { at_least = le_z_yes tt; at_most = le_z_yes tt }; not_negative = λ even. le_z_yes tt }
+nothing_held cown =
+    record { within = record { at_least = le_z_yes tt; at_most = le_z_yes tt }; not_negative = λ even. le_z_yes tt }
 
-giver_first_keeps : (from to : ℕ) (savings checking received : ℤ) → IsHeld (savings_cown from) savings → IsHeld (checking_cown from) checking → IsHeld (checking_cown to) received
-    → AreHeld (savings_cown from ∷ checking_cown from ∷ checking_cown to ∷ []) (giver_first_effect savings checking received).1
+giver_first_keeps : (from to : ℕ) (savings checking received : ℤ) → IsHeld (savings_cown from) savings
+    → IsHeld (checking_cown from) checking → IsHeld (checking_cown to) received
+    → AreHeld (savings_cown from ∷ checking_cown from ∷ checking_cown to ∷ [])
+    (giver_first_effect savings checking received).1
 giver_first_keeps from to savings checking received s c r =
     let sum = (received +ℤ savings) +ℤ checking in
-    either_keeps (savings_cown from ∷ checking_cown from ∷ checking_cown to ∷ []) (takes_too_much sum) _ _ (s, (c, (r, tt))) (λ e.
-    (nothing_held (savings_cown from), (nothing_held (checking_cown from), (checking_held to sum (sum_within sum e), tt))))
+    either_keeps (savings_cown from ∷ checking_cown from ∷ checking_cown to ∷ []) (takes_too_much sum) _ _
+    (s, (c, (r, tt))) (λ e. (
+      nothing_held (savings_cown from),
+      (
+        nothing_held (checking_cown from),
+        (checking_held to sum (sum_within sum e), tt),
+      ),
+    ))
 
-taker_first_keeps : (from to : ℕ) (received savings checking : ℤ) → IsHeld (checking_cown to) received → IsHeld (savings_cown from) savings → IsHeld (checking_cown from) checking
-    → AreHeld (checking_cown to ∷ savings_cown from ∷ checking_cown from ∷ []) (taker_first_effect received savings checking).1
+taker_first_keeps : (from to : ℕ) (received savings checking : ℤ) → IsHeld (checking_cown to) received
+    → IsHeld (savings_cown from) savings → IsHeld (checking_cown from) checking
+    → AreHeld (checking_cown to ∷ savings_cown from ∷ checking_cown from ∷ [])
+    (taker_first_effect received savings checking).1
 taker_first_keeps from to received savings checking r s c =
     let sum = (received +ℤ savings) +ℤ checking in
-    either_keeps (checking_cown to ∷ savings_cown from ∷ checking_cown from ∷ []) (takes_too_much sum) _ _ (r, (s, (c, tt))) (λ e.
-    (checking_held to sum (sum_within sum e), (nothing_held (savings_cown from), (nothing_held (checking_cown from), tt))))
+    either_keeps (checking_cown to ∷ savings_cown from ∷ checking_cown from ∷ []) (takes_too_much sum) _ _
+    (r, (s, (c, tt))) (λ e. (
+      checking_held to sum (sum_within sum e),
+      (nothing_held (savings_cown from), (nothing_held (checking_cown from), tt)),
+    ))
 
-two_keep : (from to : ℕ) (inputs : List ℤ) → AreHeld (cowns_of_two from to) inputs → AreHeld (cowns_of_two from to) (effect_of_two from to inputs).1
+two_keep : (from to : ℕ) (inputs : List ℤ) → AreHeld (cowns_of_two from to) inputs
+    → AreHeld (cowns_of_two from to) (effect_of_two from to inputs).1
 two_keep from to inputs = by (from == to) (nat_lt from to)
   where
     by : (one before : Bool)
-        → AreHeld (if one then [] else if before then savings_cown from ∷ checking_cown from ∷ checking_cown to ∷ [] else checking_cown to ∷ savings_cown from ∷ checking_cown from ∷ []) inputs
-        → AreHeld (if one then [] else if before then savings_cown from ∷ checking_cown from ∷ checking_cown to ∷ [] else checking_cown to ∷ savings_cown from ∷ checking_cown from ∷ [])
-        (if one then (replies.SameCustomer, inputs) else if before then of_three giver_first_effect inputs else of_three taker_first_effect inputs).1
+        → AreHeld (if one then [] else if before then savings_cown from ∷ checking_cown from ∷ checking_cown to ∷ []
+        else checking_cown to ∷ savings_cown from ∷ checking_cown from ∷ []) inputs
+        → AreHeld (if one then [] else if before then savings_cown from ∷ checking_cown from ∷ checking_cown to ∷ []
+        else checking_cown to ∷ savings_cown from ∷ checking_cown from ∷ [])
+        (if one then (replies.SameCustomer, inputs) else if before then of_three giver_first_effect inputs
+        else of_three taker_first_effect inputs).1
     by true before held = held
-    by false true held = of_three_keeps (savings_cown from) (checking_cown from) (checking_cown to) giver_first_effect (giver_first_keeps from to) inputs held
-    by false false held = of_three_keeps (checking_cown to) (savings_cown from) (checking_cown from) taker_first_effect (taker_first_keeps from to) inputs held
+    by false true held =
+        of_three_keeps (savings_cown from) (checking_cown from) (checking_cown to) giver_first_effect
+        (giver_first_keeps from to) inputs held
+    by false false held =
+        of_three_keeps (checking_cown to) (savings_cown from) (checking_cown from) taker_first_effect
+        (taker_first_keeps from to) inputs held
 
-pub effect_keeps : (op : Op) (inputs : List ℤ) → AreHeld (declared_cowns op) inputs → AreHeld (declared_cowns op) (effect_of op inputs).1
-effect_keeps (Balance place) inputs held = of_two_keeps (savings_cown place) (checking_cown place) _ (λ v w s c. (s, (c, tt))) inputs held
-effect_keeps (DepositChecking place amount) inputs held = of_one_keeps (checking_cown place) (deposit_effect amount) (deposit_keeps place amount) inputs held
-effect_keeps (TransactSavings place amount) inputs held = of_one_keeps (savings_cown place) (savings_effect amount) (savings_keeps place amount) inputs held
+pub effect_keeps : (op : Op) (inputs : List ℤ) → AreHeld (declared_cowns op) inputs
+    → AreHeld (declared_cowns op) (effect_of op inputs).1
+effect_keeps (Balance place) inputs held =
+    of_two_keeps (savings_cown place) (checking_cown place) _ (λ v w s c. (s, (c, tt))) inputs held
+effect_keeps (DepositChecking place amount) inputs held =
+    of_one_keeps (checking_cown place) (deposit_effect amount) (deposit_keeps place amount) inputs held
+effect_keeps (TransactSavings place amount) inputs held =
+    of_one_keeps (savings_cown place) (savings_effect amount) (savings_keeps place amount) inputs held
 effect_keeps (Amalgamate places) inputs held = two_keep places.0 places.1 inputs held
-effect_keeps (WriteCheck place amount) inputs held = of_two_keeps (savings_cown place) (checking_cown place) (check_effect amount) (check_keeps place amount) inputs held
+effect_keeps (WriteCheck place amount) inputs held =
+    of_two_keeps (savings_cown place) (checking_cown place) (check_effect amount) (check_keeps place amount) inputs held
 effect_keeps NoCustomer inputs held = held
 effect_keeps SameCustomer inputs held = held

@@ -1,4 +1,5 @@
--- Sums, differences and cowns against a bound. The laws of an impl stand on specs/ alone, so this is shown step by step.
+-- Sums, differences and cowns against a bound.
+-- The laws of an impl stand on specs/ alone, so this is shown step by step.
 use Rattle.std.specs.Prelude.{◌≡◌, ◌≢◌, ℕ, zero, suc, ◌<◌, ◌+◌, ◌%◌, ◌==◌, nat_lt, ℤ, pos, negsuc, neg_ℤ, ◌+ℤ◌, ◌-ℤ◌, ◌≤ℤ◌, int_lt, Bool, true, false, not, T, ◌⊎◌, refl}
 use Rattle.std.specs.Int.Signed.{le_z_yes, lt_z_no}
 use Rattle.std.proofs.Common.{ap, sym, subst, ◌∙◌, inl, inr}
@@ -41,7 +42,8 @@ grown a v (suc n) h = subst (λ (x : ℤ). a ≤ℤ x) (sym (+ℤ-suc_ℤ v (pos
 fallen : (a v : ℤ) (n : ℕ) → v ≤ℤ a → (v -ℤ pos n) ≤ℤ a
 fallen a v zero h = subst (λ (x : ℤ). x ≤ℤ a) (sym (+ℤ_idr v)) h
 fallen a v (suc n) h =
-    subst (λ (x : ℤ). x ≤ℤ a) (sym (ap (λ (x : ℤ). v +ℤ x) (neg_ℤ-suc_ℤ (pos n)) ∙ +ℤ-pred_ℤ v (neg_ℤ (pos n)))) (above_last a (v -ℤ pos n) (fallen a v n h))
+    subst (λ (x : ℤ). x ≤ℤ a) (sym (ap (λ (x : ℤ). v +ℤ x) (neg_ℤ-suc_ℤ (pos n)) ∙ +ℤ-pred_ℤ v (neg_ℤ (pos n))))
+    (above_last a (v -ℤ pos n) (fallen a v n h))
 
 -- by an amount that isn't negative
 pub grown_by : (a v amount : ℤ) → int_lt amount (pos 0) ≡ false → a ≤ℤ v → a ≤ℤ (v +ℤ amount)
@@ -79,7 +81,8 @@ giver_above from to different after = by (cases_order from to)
     by : (from ≡ to) ⊎ ((from < to) ⊎ (to < from)) → checking_cown to < savings_cown from
     by (inl e) = absurd (both_ways (from == to) different (eq-eqb from to e))
     by (inr (inl lt)) = absurd (both_ways (nat_lt from to) after (lt-ltb from to lt))
-    by (inr (inr lt)) = subst (λ (x : ℕ). x + 1 < savings_cown from) (mul_comm to 2) (mul-add-lt to 2 1 from lt (lit≤ tt))
+    by (inr (inr lt)) =
+        subst (λ (x : ℕ). x + 1 < savings_cown from) (mul_comm to 2) (mul-add-lt to 2 1 from lt (lit≤ tt))
 
 -- a checking cown is odd
 pub odd : (place : ℕ) → checking_cown place % 2 ≢ 0

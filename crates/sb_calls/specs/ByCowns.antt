@@ -22,10 +22,13 @@ cown_of directory (Checking name) = option_map checking_cown (place_of directory
 -- the cowns are those of the balances that the call touches, and no others
 abbrev pub DeclaresTouched : List (List ℕ) → Balances → Call → List ℕ → Type 0
 DeclaresTouched directory b call cowns =
-    (cown : ℕ) → Contains cowns cown ↔ ((place : BalancePlace) × Contains (touched (rows_of directory b) call) place × (cown_of directory place ≡ Some cown))
+    (cown : ℕ) → Contains cowns cown
+    ↔ ((place : BalancePlace) × Contains (touched (rows_of directory b) call) place
+    × (cown_of directory place ≡ Some cown))
 
 -- with these outputs written to the declared cowns, the rows are those after the procedure, and the reply is its
-pub record PerformsByCowns (directory : List (List ℕ)) (call : Call) (old : Balances) (cowns : List ℕ) (answer : Reply) (outputs : List ℤ) : Type 0 where
+pub record PerformsByCowns (directory : List (List ℕ)) (call : Call) (old : Balances) (cowns : List ℕ)
+    (answer : Reply) (outputs : List ℤ) : Type 0 where
   pub new : Balances
   pub written : held_of new ≡ write_cowns (held_of old) cowns outputs
   pub performs : FollowsProcedure directory call old new answer
@@ -33,10 +36,13 @@ pub record PerformsByCowns (directory : List (List ℕ)) (call : Call) (old : Ba
 -- a log of calls, looked up and run one by one on what the cowns hold: its replies are those of the calls, and what
 -- is held after its first k calls are balances of these customers, whose rows are those after the first k calls
 pub record RunsAsCalls (directory : List (List ℕ)) (b : Balances) (calls : List Call) : Type 0 where
-  pub replies : (n : ℕ) → reply_by_log declared_cowns effect_of (held_of b) (map (resolved directory) calls) n ≡ reply_to (rows_of directory b) calls n
+  pub replies : (n : ℕ)
+      → reply_by_log declared_cowns effect_of (held_of b) (map (resolved directory) calls) n
+      ≡ reply_to (rows_of directory b) calls n
   pub rows : (k : ℕ) → (after : Balances) × SameCustomers directory after
       × (held_of after ≡ held_after_first declared_cowns effect_of (held_of b) (map (resolved directory) calls) k)
       × (rows_of directory after ≡ rows_after_calls (rows_of directory b) calls k)
 
 abbrev pub LogsByCowns : Type 0
-LogsByCowns = (directory : List (List ℕ)) (b : Balances) (calls : List Call) → SameCustomers directory b → RunsAsCalls directory b calls
+LogsByCowns = (directory : List (List ℕ)) (b : Balances) (calls : List Call) → SameCustomers directory b
+    → RunsAsCalls directory b calls

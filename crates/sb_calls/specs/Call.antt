@@ -44,7 +44,8 @@ of_name call (a ∷ b ∷ more) = Err WrongWords
 
 -- the words after a verb that takes a name and an amount
 abbrev pub of_name_and_amount : (List ℕ → ℤ → Call) → List (List ℕ) → Result Call CallFault
-of_name_and_amount call (name ∷ amount ∷ []) = if is_name name then with_amount (call name) (read_money amount) else Err BadName
+of_name_and_amount call (name ∷ amount ∷ []) =
+    if is_name name then with_amount (call name) (read_money amount) else Err BadName
 of_name_and_amount call [] = Err WrongWords
 of_name_and_amount call (a ∷ []) = Err WrongWords
 of_name_and_amount call (a ∷ b ∷ c ∷ more) = Err WrongWords

@@ -10,13 +10,13 @@ savings_cown place = 2 * place
 abbrev pub checking_cown : ℕ → ℕ
 checking_cown place = 2 * place + 1
 
--- a list of cowns, each above the one before
+-- a list of cowns, each above the one before (by recursion, since proofs go by its cases)
 abbrev pub IsRising : List ℕ → Type 0
 IsRising [] = Unit {0}
 IsRising (cown ∷ []) = Unit {0}
 IsRising (first ∷ second ∷ more) = (first < second) × IsRising (second ∷ more)
 
--- each is below a bound
+-- each is below a bound (by recursion, likewise)
 abbrev pub AreBelow : ℕ → List ℕ → Type 0
 AreBelow bound [] = Unit {0}
 AreBelow bound (cown ∷ cowns) = (cown < bound) × AreBelow bound cowns

@@ -7,7 +7,8 @@ use Rattle.sb_calls.specs.declared.call.Call.{Call}
 use Rattle.sb_calls.specs.declared.reply.Reply.{Reply}
 
 -- the rows went from those of old to those of new, and the answer was given, as the procedure has it
-pub record FollowsProcedure (directory : List (List ℕ)) (call : Call) (old new : Balances) (answer : Reply) : Type 0 where
+pub record FollowsProcedure (directory : List (List ℕ)) (call : Call)
+    (old new : Balances) (answer : Reply) : Type 0 where
   pub rows : rows_of directory new ≡ (procedure call (rows_of directory old)).rows
   pub reply : answer ≡ (procedure call (rows_of directory old)).reply
   pub customers : SameCustomers directory new

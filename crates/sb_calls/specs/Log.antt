@@ -18,7 +18,8 @@ rows_after_calls opening log k = rows_after (take k log) opening
 -- the reply to call n of a log, counted from 1, where there is one
 abbrev pub reply_to : Rows → List Call → ℕ → Option Reply
 reply_to opening log zero = None
-reply_to opening log (suc k) = option_map (λ call. (procedure call (rows_after_calls opening log k)).reply) (slice_get log k)
+reply_to opening log (suc k) =
+    option_map (λ call. (procedure call (rows_after_calls opening log k)).reply) (slice_get log k)
 
 -- the replies to all calls of a log, in order
 abbrev pub replies_to : Rows → List Call → List Reply

@@ -54,4 +54,5 @@ pub record HasNames (directory : List (List ℕ)) (rows : Rows) : Type 0 where
 -- the total after k calls is the opening's, and the net changes of these calls
 abbrev pub TotalByNet : Type 0
 TotalByNet = (directory : List (List ℕ)) (opening : Rows) (log : List Call) (k : ℕ) → HasNames directory opening
-    → total_of (listed directory (rows_after_calls opening log k)) ≡ total_of (listed directory opening) +ℤ net_sum (take k log) (take k (replies_to opening log))
+    → total_of (listed directory (rows_after_calls opening log k))
+    ≡ total_of (listed directory opening) +ℤ net_sum (take k log) (take k (replies_to opening log))

@@ -3,7 +3,7 @@ use Rattle.std.specs.Prelude.{ℕ, zero, suc, ℤ, Bool, false, ◌||◌, ◌==�
 use Rattle.sb_calls.specs.Cowns.{read_cowns, write_cowns}
 use Rattle.sb_calls.specs.declared.reply.Reply.{Reply}
 
--- whether a cown is one of these, and whether two lists share one
+-- whether a cown is one of these, and whether two lists share one (by recursion, since proofs go by its cases)
 abbrev pub is_among : ℕ → List ℕ → Bool
 is_among cown [] = false
 is_among cown (c ∷ cowns) = (cown == c) || is_among cown cowns

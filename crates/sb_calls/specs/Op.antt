@@ -20,10 +20,13 @@ at_two_places (Some from) (Some to) = if from == to then SameCustomer else Amalg
 -- the op of a call, where these are the names by place
 abbrev pub resolved : List (List ℕ) → Call → Op
 resolved directory (calls.Balance name) = at_place Balance (place_of directory name)
-resolved directory (calls.DepositChecking name amount) = at_place (λ place. DepositChecking place amount) (place_of directory name)
-resolved directory (calls.TransactSavings name amount) = at_place (λ place. TransactSavings place amount) (place_of directory name)
+resolved directory (calls.DepositChecking name amount) =
+    at_place (λ place. DepositChecking place amount) (place_of directory name)
+resolved directory (calls.TransactSavings name amount) =
+    at_place (λ place. TransactSavings place amount) (place_of directory name)
 resolved directory (calls.Amalgamate from to) = at_two_places (place_of directory from) (place_of directory to)
-resolved directory (calls.WriteCheck name amount) = at_place (λ place. WriteCheck place amount) (place_of directory name)
+resolved directory (calls.WriteCheck name amount) =
+    at_place (λ place. WriteCheck place amount) (place_of directory name)
 
 -- its places are below the number of customers
 abbrev pub IsOpWithin : ℕ → Op → Type 0

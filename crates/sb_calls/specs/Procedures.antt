@@ -1,4 +1,5 @@
--- What each procedure does to the rows, and what it replies (SmallBank, ICDE 2008; the exact effects are this project's).
+-- What each procedure does to the rows, and what it replies (SmallBank, ICDE 2008).
+-- The exact effects are this project's.
 -- The cases stand in their order: the first that holds counts. A refusal leaves the rows.
 use Rattle.std.specs.Prelude.{ℕ, ℤ, pos, neg_ℤ, ◌+ℤ◌, ◌-ℤ◌, int_lt, ◌||◌, if◌then◌else◌, Option, Some, None, List}
 use Rattle.std.specs.FinMap.{get, insert}
@@ -43,10 +44,16 @@ transact_savings name amount rows = with_balances rows (λ savings checking.
 abbrev pub amalgamate : List ℕ → List ℕ → Rows → Outcome
 amalgamate from to rows = with_balances rows (λ savings checking. with_balances rows (λ savings_to checking_to.
     if bytes_eq from to then record { rows = rows; reply = SameCustomer }
-    else if int_lt LIMIT ((checking_to +ℤ savings) +ℤ checking) || int_lt ((checking_to +ℤ savings) +ℤ checking) (neg_ℤ LIMIT) then record { rows = rows; reply = OverLimit }
-    else record { rows = insert (insert rows from (pos 0, pos 0)) to (savings_to, (checking_to +ℤ savings) +ℤ checking); reply = Done }) (get rows to)) (get rows from)
+    else if int_lt LIMIT ((checking_to +ℤ savings) +ℤ checking)
+    || int_lt ((checking_to +ℤ savings) +ℤ checking) (neg_ℤ LIMIT)
+    then record { rows = rows; reply = OverLimit }
+    else record {
+      rows = insert (insert rows from (pos 0, pos 0)) to (savings_to, (checking_to +ℤ savings) +ℤ checking);
+      reply = Done;
+    }) (get rows to)) (get rows from)
 
--- what a check takes from checking: its amount, and a penalty of 100 cents where savings and checking together are below it
+-- what a check takes from checking: its amount, and a penalty of 100 cents where savings and checking together are
+-- below it
 abbrev pub check_cost : ℤ → ℤ → ℤ → ℤ
 check_cost savings checking amount = if int_lt (savings +ℤ checking) amount then amount +ℤ pos 100 else amount
 
@@ -54,7 +61,8 @@ check_cost savings checking amount = if int_lt (savings +ℤ checking) amount th
 abbrev pub write_check : List ℕ → ℤ → Rows → Outcome
 write_check name amount rows = with_balances rows (λ savings checking.
     if int_lt amount (pos 0) then record { rows = rows; reply = Negative }
-    else if int_lt (checking -ℤ check_cost savings checking amount) (neg_ℤ LIMIT) then record { rows = rows; reply = OverLimit }
+    else if int_lt (checking -ℤ check_cost savings checking amount) (neg_ℤ LIMIT)
+    then record { rows = rows; reply = OverLimit }
     else record {
       rows = insert rows name (savings, checking -ℤ check_cost savings checking amount);
       reply = if int_lt (savings +ℤ checking) amount then Penalised else Done;

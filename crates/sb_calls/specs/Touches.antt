@@ -31,7 +31,8 @@ touched rows (Balance name) = if has_name rows name then both_of name else []
 touched rows (DepositChecking name amount) = if has_name rows name then Checking name ∷ [] else []
 touched rows (TransactSavings name amount) = if has_name rows name then Savings name ∷ [] else []
 touched rows (Amalgamate from to) =
-    if has_name rows from && has_name rows to && not (bytes_eq from to) then Savings from ∷ Checking from ∷ Checking to ∷ [] else []
+    if has_name rows from && has_name rows to && not (bytes_eq from to)
+    then Savings from ∷ Checking from ∷ Checking to ∷ [] else []
 touched rows (WriteCheck name amount) = if has_name rows name then both_of name else []
 
 abbrev pub HaveSameNames : Rows → Rows → Type 0
@@ -45,7 +46,8 @@ AgreeOn places a b = (place : BalancePlace) → Contains places place → balanc
 pub record IsLocal (call : Call) (a b : Rows) : Type 0 where
   pub reply : (procedure call a).reply ≡ (procedure call b).reply
   pub balances : AgreeOn (touched a call) (procedure call a).rows (procedure call b).rows
-  pub others : (place : BalancePlace) → ¬ Contains (touched a call) place → balance_at (procedure call a).rows place ≡ balance_at a place
+  pub others : (place : BalancePlace) → ¬ Contains (touched a call) place
+      → balance_at (procedure call a).rows place ≡ balance_at a place
 
 -- the reply and the new balances of what a call touches depend on these alone, and it leaves all others
 abbrev pub Locality : Type 0

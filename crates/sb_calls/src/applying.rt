@@ -19,14 +19,16 @@ use sb_rows::{CUSTOMERS, Columns};
 pub fn apply(columns: &mut Columns, op: Op) -> Reply
     requires { IsOpWithin (length columns.old.savings) op }
     // On the rows it is the procedure, whatever the customers are called.
-    ensures procedure { (directory : List (List ℕ)) (call : Call) → SameCustomers directory columns.old
-        → op ≡ resolved directory call → FollowsProcedure directory call columns.old columns.new result }
+    ensures procedure { (directory : List (List ℕ)) (call : Call)
+        → SameCustomers directory columns.old → op ≡ resolved directory call
+        → FollowsProcedure directory call columns.old columns.new result }
     ensures places { length columns.new.savings ≡ length columns.old.savings }
     ensures ranges { IsBalances columns.new }
     // Of every op: its effect on what its cowns hold.
     ensures effect { let inputs = read_cowns (held_of columns.old) (declared_cowns op) in
         (result ≡ (effect_of op inputs).0)
-        × (held_of columns.new ≡ write_cowns (held_of columns.old) (declared_cowns op) (effect_of op inputs).1) }
+        × (held_of columns.new
+        ≡ write_cowns (held_of columns.old) (declared_cowns op) (effect_of op inputs).1) }
 {
     // They are the columns of a bank.
     prove!(columns.customers() <= CUSTOMERS);

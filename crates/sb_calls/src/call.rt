@@ -17,7 +17,7 @@ pub enum Call {
     TransactSavings(Name, Cents),
     /// Moves all that the first customer has to the second one's checking balance.
     Amalgamate(Name, Name),
-    /// Takes an amount, which may not be negative, from a customer's checking balance, and a penalty
-    /// of 100 cents more where savings and checking together are below the amount.
+    /// Takes an amount, which may not be negative, from a customer's checking balance, and a
+    /// penalty of 100 cents more where savings and checking together are below the amount.
     WriteCheck(Name, Cents),
 }

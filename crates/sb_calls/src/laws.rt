@@ -11,8 +11,8 @@ ghost use Rattle.sb_rows.specs.Rows.{Rows};
 use crate::call::LOG_CALLS;
 use crate::cowns::{BEHAVIOUR_COWNS, PENALTY};
 
-/// A log takes a million calls, the penalty of a check is 100 cents, and a behaviour declares at most 3
-/// cowns.
+/// A log takes a million calls, the penalty of a check is 100 cents, and a behaviour declares at
+/// most 3 cowns.
 pub fn limits()
     ensures calls { LOG_CALLS ≡ 1000000 }
     ensures penalty { PENALTY ≡ pos 100 }
@@ -22,22 +22,24 @@ pub fn limits()
 /// The replies to a log in order are, number by number, the replies to its calls on the rows after
 /// the calls before.
 pub fn replies_one_by_one()
-    ensures { (opening : Rows) (log : List Call) (k : ℕ) → slice_get (replies_to opening log) k ≡ reply_to opening log (suc k) }
+    ensures { (opening : Rows) (log : List Call) (k : ℕ)
+        → slice_get (replies_to opening log) k ≡ reply_to opening log (suc k) }
 {}
 
-/// The bank's total after the first calls of a log is the opening's, and the net changes of these calls.
+/// The bank's total after the first calls of a log is the opening's, and the net changes of these
+/// calls.
 pub fn total_by_net()
     ensures { TotalByNet }
 {}
 
-/// What a call replies, and the new balances of those that it touches, depend on these balances alone.
-/// It leaves all others.
+/// What a call replies, and the new balances of those that it touches, depend on these balances
+/// alone. It leaves all others.
 pub fn calls_are_local()
     ensures { Locality }
 {}
 
-/// A log of calls, looked up and run one by one over their cowns, gives the replies and the rows of the
-/// calls one by one.
+/// A log of calls, looked up and run one by one over their cowns, gives the replies and the rows of
+/// the calls one by one.
 pub fn logs_by_cowns()
     ensures { LogsByCowns }
 {}

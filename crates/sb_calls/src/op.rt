@@ -51,7 +51,8 @@ pub fn resolve(directory: &Directory, call: &Call) -> Op
 
 // The op of an amalgamation, or `None` where the directory hasn't got one of the names.
 fn amalgamation(directory: &Directory, from: &Name, to: &Name) -> Option<Op>
-    ensures value { unwrap_or result Op.NoCustomer ≡ at_two_places (place_of directory.now from.now) (place_of directory.now to.now) }
+    ensures value { unwrap_or result Op.NoCustomer
+        ≡ at_two_places (place_of directory.now from.now) (place_of directory.now to.now) }
     ensures within { IfSome result (IsOpWithin (length directory.now)) }
 {
     let from = directory.place(from)?;

@@ -13,8 +13,8 @@ pub const BEHAVIOUR_COWNS: usize = 3;
 /// What is spawned over a set of cowns and has these alone while it runs (When Concurrency Matters,
 /// OOPSLA 2023).
 ///
-/// Whoever holds one can tell which cowns it needs, and not what it does to them: that stands in the
-/// contracts alone.
+/// Whoever holds one can tell which cowns it needs, and not what it does to them: that stands in
+/// the contracts alone.
 pub trait Behaviour: Copy + Eq {
     /// The numbers of the cowns that it declares.
     ghost touches: { Self → List ℕ };
@@ -41,8 +41,8 @@ pub trait Behaviour: Copy + Eq {
 
 /// A behaviour that can be carried out.
 pub trait Performs: Behaviour {
-    /// The reply, and what its cowns hold after it, both in the order of the cowns. It changes nothing
-    /// itself.
+    /// The reply, and what its cowns hold after it, both in the order of the cowns. It changes
+    /// nothing itself.
     fn perform(self, inputs: &[i64]) -> (Reply, ArrayVec<i64, BEHAVIOUR_COWNS>)
         requires { AreHeld (Self.touches self) inputs.now }
         ensures reply { result.0 ≡ (Self.effect self inputs.now).0 }

@@ -34,7 +34,7 @@ pub fn write_cowns(columns: &mut Columns, cowns: &[Cown], values: &[i64])
 }
 
 // What a cown holds.
-#[tactic(auto, using(crate::proofs::ReadingCowns::place_in_range, crate::proofs::ReadingCowns::place_fits, crate::proofs::ReadingCowns::read_savings, crate::proofs::ReadingCowns::read_checking))]
+#[tactic(auto, using(crate::proofs::ReadingCowns::reading_a_cown))]
 fn read_cown(columns: &Columns, cown: Cown) -> Cents
     requires { cown < length (held_of columns.now) }
     ensures { result ≡ get_or (held_of columns.now) cown (pos 0) }
@@ -51,7 +51,7 @@ fn read_cown(columns: &Columns, cown: Cown) -> Cents
 }
 
 // Replaces what a cown holds.
-#[tactic(auto, using(crate::proofs::ReadingCowns::place_in_range, crate::proofs::ReadingCowns::place_fits, crate::proofs::ReadingCowns::write_savings, crate::proofs::ReadingCowns::write_checking))]
+#[tactic(auto, using(crate::proofs::ReadingCowns::writing_a_cown))]
 fn write_cown(columns: &mut Columns, cown: Cown, value: Cents)
     requires cown { cown < length (held_of columns.old) }
     requires value { IsHeld cown value }

@@ -117,7 +117,8 @@ pub(crate) fn pay_check(amount: Cents, savings: Cents, checking: Cents) -> Effec
 // What a check takes from checking, and what is replied where it is paid.
 fn cost_of_check(savings: Cents, checking: Cents, amount: Cents) -> (i64, Reply)
     ensures cost { result.0 ≡ check_cost savings checking amount }
-    ensures reply { result.1 ≡ if int_lt (savings +ℤ checking) amount then replies.Penalised else replies.Done }
+    ensures reply { result.1
+        ≡ if int_lt (savings +ℤ checking) amount then replies.Penalised else replies.Done }
 {
     let available = savings.value() + checking.value();
     if available < amount.value() {
@@ -129,7 +130,8 @@ fn cost_of_check(savings: Cents, checking: Cents, amount: Cents) -> (i64, Reply)
 
 // All that two customers put together, or `None` where that is past the limit.
 fn all_of(received: Cents, savings: Cents, checking: Cents) -> Option<Cents>
-    ensures { SomeIff result (IsWithinLimit ((received +ℤ savings) +ℤ checking)) ((received +ℤ savings) +ℤ checking) }
+    ensures { let sum = (received +ℤ savings) +ℤ checking in
+        SomeIff result (IsWithinLimit sum) sum }
 {
     Cents::new(received.value() + savings.value() + checking.value())
 }

@@ -19,11 +19,12 @@ use crate::reply::Reply;
 use crate::two_places::TwoPlaces;
 use arrayvec::ArrayVec;
 
-/// The cowns of the balances that a call touches, in rising order: none where a name isn't in the bank,
-/// or two names are one.
+/// The cowns of the balances that a call touches, in rising order: none where a name isn't in the
+/// bank, or two names are one.
 pub fn cowns_of(op: Op) -> ArrayVec<Cown, BEHAVIOUR_COWNS>
     ensures value { result.items ≡ declared_cowns op }
-    ensures touched { (directory : List (List ℕ)) (b : Balances) (call : Call) → SameCustomers directory b → op ≡ resolved directory call
+    ensures touched { (directory : List (List ℕ)) (b : Balances) (call : Call)
+        → SameCustomers directory b → op ≡ resolved directory call
         → DeclaresTouched directory b call result.items }
 {
     declared_by(op)
@@ -75,7 +76,8 @@ pub fn perform(op: Op, inputs: &[i64]) -> (Reply, ArrayVec<i64, BEHAVIOUR_COWNS>
     ensures reply { result.0 ≡ (effect_of op inputs.now).0 }
     ensures outputs { result.1.items ≡ (effect_of op inputs.now).1 }
     // On all rows whose declared cowns hold these inputs it is the procedure.
-    ensures procedure { (directory : List (List ℕ)) (b : Balances) (call : Call) → SameCustomers directory b → op ≡ resolved directory call
+    ensures procedure { (directory : List (List ℕ)) (b : Balances) (call : Call)
+        → SameCustomers directory b → op ≡ resolved directory call
         → read_cowns (held_of b) (declared_cowns op) ≡ inputs.now
         → PerformsByCowns directory call b (declared_cowns op) result.0 result.1.items }
 {

@@ -15,13 +15,15 @@ use sb_rows::next_word;
 /// What an asking line says.
 ///
 /// Fails with the first fault of the line: where its first word is `ask`, `WrongWords` if there are
-/// fewer than three words, `BadNumber` if one of the two numbers is none (the client's is from 1, both
-/// are below 2^32, in decimal without leading zeros), and then the faults of the call that is left.
+/// fewer than three words, `BadNumber` if one of the two numbers is none (the client's is from 1,
+/// both are below 2^32, in decimal without leading zeros), and then the faults of the call that is
+/// left.
 pub fn read_ask(line: &[u8]) -> Result<Asked, CallFault>
     // What is read is spelled so.
     ensures spelled { IfOk result (λ asked. IsAsked asked × (line.now ≡ ask_line asked)) }
     // What is spelled so is read.
-    ensures taken { (asked : AnyAsked) → IsAsked asked → line.now ≡ ask_line asked → result ≡ Ok asked }
+    ensures taken { (asked : AnyAsked) → IsAsked asked → line.now ≡ ask_line asked
+        → result ≡ Ok asked }
     // Which fault it is.
     ensures exact { result ≡ asked_of line.now }
 {
@@ -31,7 +33,8 @@ pub fn read_ask(line: &[u8]) -> Result<Asked, CallFault>
 
 // What a line says that begins with this word, and what follows the word.
 fn asked_with(verb: &[u8], rest: Option<&[u8]>) -> Result<Asked, CallFault>
-    ensures { result ≡ asked_of_words (verb.now ∷ words_left (option_map (λ text. text.now) rest.entry)) }
+    ensures { result
+        ≡ asked_of_words (verb.now ∷ words_left (option_map (λ text. text.now) rest.entry)) }
 {
     if verb == b"ask".as_slice() {
         return keyed(rest);

@@ -30,7 +30,8 @@ pub fn read_call(line: &[u8]) -> Result<Call, CallFault>
 
 // The call with a verb, and what follows the verb.
 pub(crate) fn call_with(verb: &[u8], rest: Option<&[u8]>) -> Result<Call, CallFault>
-    ensures { result ≡ call_of_words (verb.now ∷ words_left (option_map (λ text. text.now) rest.entry)) }
+    ensures { result
+        ≡ call_of_words (verb.now ∷ words_left (option_map (λ text. text.now) rest.entry)) }
 {
     if verb == b"balance".as_slice() {
         return one_name(rest).map(Call::Balance);
@@ -57,7 +58,8 @@ pub(crate) fn call_with(verb: &[u8], rest: Option<&[u8]>) -> Result<Call, CallFa
 // The one name that is left, whatever call it is for.
 #[inline]
 fn one_name(rest: Option<&[u8]>) -> Result<Name, CallFault>
-    ensures { (call : List ℕ → AnyCall) → result_map_both call (λ fault. fault) result ≡ of_name call (words_left (option_map (λ text. text.now) rest.entry)) }
+    ensures { (call : List ℕ → AnyCall) → result_map_both call (λ fault. fault) result
+        ≡ of_name call (words_left (option_map (λ text. text.now) rest.entry)) }
 {
     name_of(one_word(rest)?)
 }
@@ -65,7 +67,9 @@ fn one_name(rest: Option<&[u8]>) -> Result<Name, CallFault>
 // The name and the amount that are left, whatever call they are for.
 #[inline]
 fn name_and_amount(rest: Option<&[u8]>) -> Result<(Name, Cents), CallFault>
-    ensures { (call : List ℕ → ℤ → AnyCall) → result_map_both (λ both. call both.0 both.1) (λ fault. fault) result ≡ of_name_and_amount call (words_left (option_map (λ text. text.now) rest.entry)) }
+    ensures { (call : List ℕ → ℤ → AnyCall)
+        → result_map_both (λ both. call both.0 both.1) (λ fault. fault) result
+        ≡ of_name_and_amount call (words_left (option_map (λ text. text.now) rest.entry)) }
 {
     let (name, amount) = two_words(rest)?;
     Ok((name_of(name)?, amount_of(amount)?))
@@ -74,7 +78,9 @@ fn name_and_amount(rest: Option<&[u8]>) -> Result<(Name, Cents), CallFault>
 // The two names that are left, whatever call they are for.
 #[inline]
 fn two_names(rest: Option<&[u8]>) -> Result<(Name, Name), CallFault>
-    ensures { (call : List ℕ → List ℕ → AnyCall) → result_map_both (λ both. call both.0 both.1) (λ fault. fault) result ≡ of_two_names call (words_left (option_map (λ text. text.now) rest.entry)) }
+    ensures { (call : List ℕ → List ℕ → AnyCall)
+        → result_map_both (λ both. call both.0 both.1) (λ fault. fault) result
+        ≡ of_two_names call (words_left (option_map (λ text. text.now) rest.entry)) }
 {
     let (from, to) = two_words(rest)?;
     Ok((name_of(from)?, name_of(to)?))
@@ -99,7 +105,8 @@ fn one_word(rest: Option<&[u8]>) -> Result<&[u8], CallFault>
 fn two_words(rest: Option<&[u8]>) -> Result<(&[u8], &[u8]), CallFault>
     ensures { let left = words_left (option_map (λ text. text.now) rest.entry) in MatchResult result
         (λ two. left ≡ two.0.now ∷ two.1.now ∷ [])
-        (λ fault. (fault ≡ CallFault.WrongWords) × ((first second : List ℕ) → left ≢ first ∷ second ∷ [])) }
+        (λ fault. (fault ≡ CallFault.WrongWords)
+        × ((first second : List ℕ) → left ≢ first ∷ second ∷ [])) }
 {
     let (first, rest) = next_word(rest.ok_or(CallFault::WrongWords)?);
     Ok((first, one_word(rest)?))
@@ -116,7 +123,8 @@ fn name_of(word: &[u8]) -> Result<Name, CallFault>
 // The amount that a word is.
 #[inline]
 fn amount_of(word: &[u8]) -> Result<Cents, CallFault>
-    ensures { (call : ℤ → AnyCall) → result_map_both call (λ fault. fault) result ≡ with_amount call (read_money word.now) }
+    ensures { (call : ℤ → AnyCall)
+        → result_map_both call (λ fault. fault) result ≡ with_amount call (read_money word.now) }
 {
     Cents::read(word).map_err(|_| CallFault::BadMoney)
 }

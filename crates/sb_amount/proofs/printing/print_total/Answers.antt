@@ -7,7 +7,8 @@ use Rattle.sb_amount.proofs.printing.print_total.Goals as goal
 use Rattle.sb_amount.proofs.printing.print_total.Goals.{then-cents-lt0, else-cents-lt0}
 
 -- what stands before the digits, and the three pieces that are pushed behind it
-pushed : (front whole pointed ended : List ℕ) (n : ℕ) → whole ≡ front ++ decimal (n / 100) → pointed ≡ whole ++ 46 ∷ [] → ended ≡ pointed ++ two_digits (n % 100) → ended ≡ front ++ unsigned_money n
+pushed : (front whole pointed ended : List ℕ) (n : ℕ) → whole ≡ front ++ decimal (n / 100) → pointed ≡ whole ++ 46 ∷ []
+    → ended ≡ pointed ++ two_digits (n % 100) → ended ≡ front ++ unsigned_money n
 pushed front whole pointed ended n a b c =
     c ∙ ap (λ cs. cs ++ two_digits (n % 100)) (b ∙ ap (λ cs. cs ++ 46 ∷ []) a) ∙ simp append_assoc
 
@@ -22,7 +23,8 @@ returns c =
     let written = pushed front c.push_str.new.self.bytes c.push-2.new.self.bytes c.push_two_digits.new.text.bytes n whole pointed ended in
     elim c.if-cents-lt0.branch [
       | then-cents-lt0 w ↦
-          let minus : front ≡ 45 ∷ [] = ap (λ (text : ArrayString). text.bytes) w.text-is ∙ w.push.ensures.ascii (lit< tt) ∙ ap (λ cs. cs ++ 45 ∷ []) c.new-text.ensures in
+          let minus : front ≡ 45 ∷ [] = ap (λ (text : ArrayString). text.bytes) w.text-is ∙ w.push.ensures.ascii (lit< tt)
+          ∙ ap (λ cs. cs ++ 45 ∷ []) c.new-text.ensures in
           written ∙ ap (λ cs. cs ++ unsigned_money n) minus ∙ sym (money-negative c.args.cents (search rules))
       | else-cents-lt0 w ↦
           let none : front ≡ [] = ap (λ (text : ArrayString). text.bytes) w.text-is ∙ c.new-text.ensures in

@@ -18,13 +18,15 @@ returns-then-is_empty c =
 
 pub returns-in_default : goal.returns-in_default
 returns-in_default c =
-    let start : HasBody c.args.text.now c.split_sign-is_negative.result.1.now = record { is = c.split_sign-is_negative.ensures.body; some = sym c.is_empty.ensures ∙ c.if-is_empty.false } in
+    let start : HasBody c.args.text.now c.split_sign-is_negative.result.1.now =
+    record { is = c.split_sign-is_negative.ensures.body; some = sym c.is_empty.ensures ∙ c.if-is_empty.false } in
     let read = read_money-not_digit c.args.text.now _ start c.in_default.ensures in
     record { spelled = tt; taken = taken_from_read c.args.text.now _ (sym read); exact = sym read }
 
 pub returns-in_default-whole_part : goal.returns-in_default-whole_part
 returns-in_default-whole_part c =
-    let start : HasBody c.args.text.now c.split_sign-is_negative.result.1.now = record { is = c.split_sign-is_negative.ensures.body; some = sym c.is_empty.ensures ∙ c.if-is_empty.false } in
+    let start : HasBody c.args.text.now c.split_sign-is_negative.result.1.now =
+    record { is = c.split_sign-is_negative.ensures.body; some = sym c.is_empty.ensures ∙ c.if-is_empty.false } in
     let read = read_money-bad_decimals c.args.text.now _ start c.in-Some.ensures.0 c.in_default-whole_part.ensures in
     record { spelled = tt; taken = taken_from_read c.args.text.now _ (sym read); exact = sym read }
 
@@ -38,11 +40,13 @@ returns-then-not-is_canonical c =
     let whole : is_canonical (before_first is_point body) ≡ c.is_canonical.result = ap is_canonical (sym parts.1) ∙ sym c.is_canonical.ensures in
     elim c.then-not-is_canonical.branch [
       | then-not-is_canonical-via-then-not-is_canonical w ↦
-          let read = read_money-not_canonical text body passed (or_left (not (is_canonical (before_first is_point body))) (bytes_eq text (codes "-0.00")) (ap not (whole ∙ w.if-not-is_canonical.true))) in
+          let read = read_money-not_canonical text body passed
+          (or_left (not (is_canonical (before_first is_point body))) (bytes_eq text (codes "-0.00")) (ap not (whole ∙ w.if-not-is_canonical.true))) in
           record { spelled = tt; taken = taken_from_read text _ (sym read); exact = sym read }
       | then-not-is_canonical-via-else-not-is_canonical+then-eq w ↦
           let same : bytes_eq text (codes "-0.00") ≡ true = ap (bytes_eq text) (sym w.as_slice.ensures) ∙ sym w.eq.ensures ∙ w.if-eq.true in
-          let read = read_money-not_canonical text body passed (or_right (not (is_canonical (before_first is_point body))) (bytes_eq text (codes "-0.00")) same) in
+          let read = read_money-not_canonical text body passed
+          (or_right (not (is_canonical (before_first is_point body))) (bytes_eq text (codes "-0.00")) same) in
           record { spelled = tt; taken = taken_from_read text _ (sym read); exact = sym read }
     ]
 
@@ -62,7 +66,8 @@ returns c =
     let passed : HasDecimals text body = record { start = start; bytes = c.in-Some.ensures.0; decimals = parts.0 } in
     let whole : is_canonical (before_first is_point body) ≡ c.is_canonical.result = ap is_canonical (sym parts.1) ∙ sym c.is_canonical.ensures in
     let differs : bytes_eq text (codes "-0.00") ≡ false = ap (bytes_eq text) (sym c.as_slice.ensures) ∙ sym c.eq.ensures ∙ c.if-eq.false in
-    let canonical = or_from (not (is_canonical (before_first is_point body))) (bytes_eq text (codes "-0.00")) (ap not (whole ∙ c.if-not-is_canonical.false)) differs in
+    let canonical = or_from (not (is_canonical (before_first is_point body))) (bytes_eq text (codes "-0.00"))
+    (ap not (whole ∙ c.if-not-is_canonical.false)) differs in
     let n = min (cents_of_digits body) (nat_abs LIMIT + 1) in
     let size : c.in-Some.size ≡ pos n = c.in-Some.size-is ∙ c.in-Some.ensures.1 in
     let x = to_z w64 c.if-is_negative.cents-bits in

@@ -18,6 +18,7 @@ loop-byte-preserved c =
     let more = digits_value_more 10 text i c.loop-byte-test.true in
     let value = digit_value-digit (get_or text i 0) range.0 range.1 in
     record {
-      digits = list_all_more is_ascii_digit text i 0 c.loop-byte-test.true ∙ and_from (list_all is_ascii_digit (take i text)) (is_ascii_digit (get_or text i 0)) c.loop-byte.invariant.digits digit;
+      digits = list_all_more is_ascii_digit text i 0 c.loop-byte-test.true
+          ∙ and_from (list_all is_ascii_digit (take i text)) (is_ascii_digit (get_or text i 0)) c.loop-byte.invariant.digits digit;
       value = omega (arith, more, value);
     }
