@@ -80,7 +80,8 @@ net_sum-suc (c ∷ cs) [] i d e left right = absurd (omega (arith, right))
 net_sum-suc (c ∷ cs) (r ∷ rs) zero d e left right = omega (arith, ints)
 net_sum-suc (c ∷ cs) (r ∷ rs) (suc i) d e left right = omega (arith, ints, net_sum-suc cs rs i d e (omega (arith, left)) (omega (arith, right)))
 
-pub net_sum_more : (calls : List Call) (replies : List Reply) (i : ℕ) (call : Call) (e : Reply) {one : ℤ} → i < length calls → i < length replies → call ≡ get_or calls i call → one ≡ net_of call (get_or replies i e)
+pub net_sum_more : (calls : List Call) (replies : List Reply) (i : ℕ) (call : Call) (e : Reply) {one : ℤ} → i < length calls → i < length replies
+    → call ≡ get_or calls i call → one ≡ net_of call (get_or replies i e)
     → net_sum (take i calls) (take i replies) +ℤ one ≡ net_sum (take (i + 1) calls) (take (i + 1) replies)
 net_sum_more calls replies i call e left right here is =
     let next : suc i ≡ i + 1 = omega arith in

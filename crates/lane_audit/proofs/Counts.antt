@@ -18,7 +18,8 @@ one_below low value = cond (int_lt value low) 1 0
 abbrev pub counted : ℤ → List ℕ → List ℤ → List ℕ
 counted low counts xs = zip2 (λ count value. (count + one_below low value) % 2 ^ 64) counts xs
 
-sum-counted : (low : ℤ) (counts : List ℕ) (xs : List ℤ) → length counts ≡ length xs → sum_l (counted low counts xs) % 2 ^ 64 ≡ (sum_l counts + count_below xs low) % 2 ^ 64
+sum-counted : (low : ℤ) (counts : List ℕ) (xs : List ℤ) → length counts ≡ length xs
+    → sum_l (counted low counts xs) % 2 ^ 64 ≡ (sum_l counts + count_below xs low) % 2 ^ 64
 sum-counted low [] [] long = refl
 sum-counted low [] (x ∷ xs) long = absurd (omega (arith, long))
 sum-counted low (n ∷ ns) [] long = absurd (omega (arith, long))
@@ -37,7 +38,8 @@ pub record CountsAre (low : ℤ) (counts : List ℕ) (front : List ℤ) : Type 0
 pub CountsAre_none : (low : ℤ) → CountsAre low (replicate 8 0) []
 CountsAre_none low = record { lanes = refl; same = refl }
 
-pub CountsAre_more : (low : ℤ) (counts : List ℕ) (front block : List ℤ) → length block ≡ 8 → CountsAre low counts front → CountsAre low (counted low counts block) (front ++ block)
+pub CountsAre_more : (low : ℤ) (counts : List ℕ) (front block : List ℤ) → length block ≡ 8 → CountsAre low counts front
+    → CountsAre low (counted low counts block) (front ++ block)
 CountsAre_more low counts front block long h =
     let level : length counts ≡ length block = h.lanes ∙ sym long in
     record {
@@ -53,14 +55,17 @@ reduced m [] small = omega (arith, small)
 reduced m (n ∷ ns) small =
     reduced ((m + n) % 2 ^ 64) ns (mod_below (m + n) (2 ^ 64) (omega arith)) ∙ mod-add-mod (m + n) (2 ^ 64) (sum_l ns) ∙ ap (λ k. k % 2 ^ 64) (omega arith)
 
-pub reduce_sum_is : (low : ℤ) (counts : List ℕ) (front : List ℤ) → CountsAre low counts front → fold_l (λ a b. (a + b) % 2 ^ 64) 0 counts ≡ count_below front low % 2 ^ 64
+pub reduce_sum_is : (low : ℤ) (counts : List ℕ) (front : List ℤ) → CountsAre low counts front
+    → fold_l (λ a b. (a + b) % 2 ^ 64) 0 counts ≡ count_below front low % 2 ^ 64
 reduce_sum_is low counts front h = reduced 0 counts (omega arith) ∙ ap (λ m. m % 2 ^ 64) (omega arith) ∙ h.same
 
 -- the count of the whole blocks of a column
-pub front_count : (values : List ℤ) (low : ℤ) (blocks : List (List ℤ)) (count : ℕ) → length values < 2 ^ 64 → blocks ≡ first_chunks 8 (length values / 8) values → count ≡ count_below (joined blocks) low % 2 ^ 64
+pub front_count : (values : List ℤ) (low : ℤ) (blocks : List (List ℤ)) (count : ℕ) → length values < 2 ^ 64
+    → blocks ≡ first_chunks 8 (length values / 8) values → count ≡ count_below (joined blocks) low % 2 ^ 64
     → count ≡ count_below (take (length values / 8 * 8 + 0) values) low
 front_count values low blocks count few are is =
     let front = length values / 8 * 8 in
-    let small : count_below (take front values) low < 2 ^ 64 = omega (arith, few, count_by-le-length (λ value. int_lt value low) (take front values), length-take front values) in
+    let small : count_below (take front values) low < 2 ^ 64 =
+    omega (arith, few, count_by-le-length (λ value. int_lt value low) (take front values), length-take front values) in
     is ∙ ap (λ bs. count_below (joined bs) low % 2 ^ 64) are ∙ ap (λ xs. count_below xs low % 2 ^ 64) (joined-first_chunks 8 (length values / 8) values)
     ∙ mod-eq_of_lt small ∙ ap (λ n. count_below (take n values) low) (omega arith)

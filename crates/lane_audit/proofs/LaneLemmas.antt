@@ -39,24 +39,29 @@ added_lanes (x ∷ xs) (y ∷ ys) = ap (λ zs. int_wrapping_add w64 x y ∷ zs) 
 module _ (low : ℤ) (low_fits : FitsSigned w64 low) where
   -- adding 1 where a mask is set counts the values below
   pub counted_lanes : (counts : List ℕ) (xs : List ℤ) (n : ℕ) → length xs ≡ n → Each1 (FitsSigned w64) xs
-      → zip2 (λ a b. (a + b) % 2 ^ 64) counts (sel_l (map (top 63) (zip2 (λ a b. mask_of (lt_bits a b)) (map (of_z w64) xs) (replicate n (of_z w64 low)))) (replicate n 1) (replicate n 0))
+      → zip2 (λ a b. (a + b) % 2 ^ 64) counts
+      (sel_l (map (top 63) (zip2 (λ a b. mask_of (lt_bits a b)) (map (of_z w64) xs) (replicate n (of_z w64 low)))) (replicate n 1) (replicate n 0))
       ≡ zip2 (λ count value. (count + cond (int_lt value low) 1 0) % 2 ^ 64) counts xs
   counted_lanes [] xs n long fits = refl
   counted_lanes (count ∷ counts) [] n long fits = refl
   counted_lanes (count ∷ counts) (x ∷ xs) zero long fits = absurd (omega (arith, long))
   counted_lanes (count ∷ counts) (x ∷ xs) (suc n) long fits =
-      ap₂ (λ b rest. ((count + cond b 1 0) % 2 ^ 64) ∷ rest) (top-mask_of _ ∙ lt_bits_is x low fits.0 low_fits) (counted_lanes counts xs n (omega (arith, long)) fits.1)
+      ap₂ (λ b rest. ((count + cond b 1 0) % 2 ^ 64) ∷ rest) (top-mask_of _ ∙ lt_bits_is x low fits.0 low_fits)
+      (counted_lanes counts xs n (omega (arith, long)) fits.1)
 
   module _ (high : ℤ) (high_fits : FitsSigned w64 high) where
     -- the lanes at which one of two masks is set are those outside
     pub outside_lanes : (xs : List ℤ) (n : ℕ) → length xs ≡ n → Each1 (FitsSigned w64) xs
-        → map (top 63) (zip2 bit_or (zip2 (λ a b. mask_of (lt_bits a b)) (map (of_z w64) xs) (replicate n (of_z w64 low))) (zip2 (λ a b. mask_of (lt_bits a b)) (replicate n (of_z w64 high)) (map (of_z w64) xs)))
+        → map (top 63) (zip2 bit_or (zip2 (λ a b. mask_of (lt_bits a b)) (map (of_z w64) xs) (replicate n (of_z w64 low)))
+        (zip2 (λ a b. mask_of (lt_bits a b)) (replicate n (of_z w64 high)) (map (of_z w64) xs)))
         ≡ map (is_outside low high) xs
     outside_lanes [] zero long fits = refl
     outside_lanes [] (suc n) long fits = refl
     outside_lanes (x ∷ xs) zero long fits = absurd (omega (arith, long))
     outside_lanes (x ∷ xs) (suc n) long fits =
-        ap₂ (λ b (rest : List Bool). b ∷ rest) (top-either_mask _ _ ∙ ap₂ (λ a b. a || b) (lt_bits_is x low fits.0 low_fits) (lt_bits_is high x high_fits fits.0)) (outside_lanes xs n (omega (arith, long)) fits.1)
+        ap₂ (λ b (rest : List Bool). b ∷ rest)
+        (top-either_mask _ _ ∙ ap₂ (λ a b. a || b) (lt_bits_is x low fits.0 low_fits) (lt_bits_is high x high_fits fits.0))
+        (outside_lanes xs n (omega (arith, long)) fits.1)
 
 -- the lanes of two vectors that differ
 abbrev pub unequal_lanes : List ℤ → List ℤ → List Bool
@@ -68,14 +73,16 @@ length-unequal_lanes (x ∷ xs) [] = omega arith
 length-unequal_lanes (x ∷ xs) (y ∷ ys) = omega (arith, length-unequal_lanes xs ys)
 
 -- where no lane differs, the values are the same, and conversely
-same_without_unequal : (xs ys : List ℤ) → length xs ≡ length ys → Each1 (FitsSigned w64) xs → Each1 (FitsSigned w64) ys → list_any (λ b. b) (unequal_lanes xs ys) ≡ false → xs ≡ ys
+same_without_unequal : (xs ys : List ℤ) → length xs ≡ length ys → Each1 (FitsSigned w64) xs → Each1 (FitsSigned w64) ys
+    → list_any (λ b. b) (unequal_lanes xs ys) ≡ false → xs ≡ ys
 same_without_unequal [] [] long f g none = refl
 same_without_unequal [] (y ∷ ys) long f g none = absurd (omega (arith, long))
 same_without_unequal (x ∷ xs) [] long f g none = absurd (omega (arith, long))
 same_without_unequal (x ∷ xs) (y ∷ ys) long f g none =
     let parts = or_parts _ _ none in
     let bits = eqb-true _ _ (not-false _ (sym (top-mask_of _) ∙ parts.0)) in
-    ap₂ (λ z (zs : List ℤ). z ∷ zs) (sym (to_z-of_z w64 x f.0) ∙ ap (to_z w64) bits ∙ to_z-of_z w64 y g.0) (same_without_unequal xs ys (omega (arith, long)) f.1 g.1 parts.1)
+    ap₂ (λ z (zs : List ℤ). z ∷ zs) (sym (to_z-of_z w64 x f.0) ∙ ap (to_z w64) bits ∙ to_z-of_z w64 y g.0)
+    (same_without_unequal xs ys (omega (arith, long)) f.1 g.1 parts.1)
 
 no_unequal : (xs : List ℤ) → list_any (λ b. b) (unequal_lanes xs xs) ≡ false
 no_unequal [] = refl

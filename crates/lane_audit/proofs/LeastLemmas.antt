@@ -30,7 +30,8 @@ module _ (left right : List ℤ) (long : length left ≡ length right) where
   at_pair k inside = get_or-zip left right k (pos 0, pos 0) inside (omega arith)
 
   -- a pair that does not differ
-  same_at : (k : ℕ) → k < length left → not (int_eq (get_or (zip left right) k (pos 0, pos 0)).0 (get_or (zip left right) k (pos 0, pos 0)).1) ≡ false → get_or left k (pos 0) ≡ get_or right k (pos 0)
+  same_at : (k : ℕ) → k < length left → not (int_eq (get_or (zip left right) k (pos 0, pos 0)).0 (get_or (zip left right) k (pos 0, pos 0)).1) ≡ false
+      → get_or left k (pos 0) ≡ get_or right k (pos 0)
   same_at k inside none =
       (Decides-int_eq _ _).0 (not-false _ (sym (ap (λ (p : ℤ × ℤ). not (int_eq p.0 p.1)) (at_pair k inside)) ∙ none))
 
@@ -40,7 +41,8 @@ module _ (left right : List ℤ) (long : length left ≡ length right) where
       let inside : place < length left = omega (arith, facts.0, length-pairs) in (
         take_same place left right long (λ k h. same_at k (omega arith) (facts.2 k h)),
         λ same.
-            let values : Some (get_or left place (pos 0)) ≡ Some (get_or right place (pos 0)) = sym (slice_get-get_or left place (pos 0) inside) ∙ same ∙ slice_get-get_or right place (pos 0) (omega arith) in
+            let values : Some (get_or left place (pos 0)) ≡ Some (get_or right place (pos 0)) =
+            sym (slice_get-get_or left place (pos 0) inside) ∙ same ∙ slice_get-get_or right place (pos 0) (omega arith) in
             let equal : get_or left place (pos 0) ≡ get_or right place (pos 0) = cc in
             both_ways _ (ap (λ (p : ℤ × ℤ). not (int_eq p.0 p.1)) (at_pair place inside) ∙ not_from_true _ ((Decides-int_eq _ _).1 equal)) facts.1,
       )
@@ -50,10 +52,12 @@ module _ (left right : List ℤ) (long : length left ≡ length right) where
       let p = λ (e : ℤ × ℤ). not (int_eq e.0 e.1) in
       elim (cases_lt (position_or_len p (zip left right)) (length (zip left right))) [
         | inl before ↦
-            let some : Some (position_or_len p (zip left right)) ≡ None = sym (cond-true _ _ _ (lt-ltb (position_or_len p (zip left right)) (length (zip left right)) before)) ∙ none in
+            let some : Some (position_or_len p (zip left right)) ≡ None =
+            sym (cond-true _ _ _ (lt-ltb (position_or_len p (zip left right)) (length (zip left right)) before)) ∙ none in
             absurd (cc)
         | inr behind ↦
-            let whole = take_same (length left) left right long (λ k h. same_at k h (fails_before_first p (zip left right) k (pos 0, pos 0) (omega (arith, behind, length-pairs)))) in
+            let whole = take_same (length left) left right long
+            (λ k h. same_at k h (fails_before_first p (zip left right) k (pos 0, pos 0) (omega (arith, behind, length-pairs)))) in
             sym (take_all (length left) left (omega arith)) ∙ whole ∙ take_all (length left) right (omega arith)
       ]
 

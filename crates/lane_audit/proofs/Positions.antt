@@ -34,7 +34,8 @@ module _ (xs ys : List ℤ) (same_length : length xs ≡ length ys) where
   length-pairs : length (zip xs ys) ≡ length xs
   length-pairs = omega (arith, length-zip xs ys)
 
-  same_pair : (n : ℕ) → n ≤ length xs → SameBelow xs ys n → (k : ℕ) → k < n → not (int_eq (get_or (zip xs ys) k (pos 0, pos 0)).0 (get_or (zip xs ys) k (pos 0, pos 0)).1) ≡ false
+  same_pair : (n : ℕ) → n ≤ length xs → SameBelow xs ys n → (k : ℕ) → k < n
+      → not (int_eq (get_or (zip xs ys) k (pos 0, pos 0)).0 (get_or (zip xs ys) k (pos 0, pos 0)).1) ≡ false
   same_pair n within same k below =
       ap (λ (p : ℤ × ℤ). not (int_eq p.0 p.1)) (at_pair k (omega arith)) ∙ not_from_true _ ((Decides-int_eq _ _).1 (same k below))
 
@@ -62,12 +63,14 @@ same_block_more xs ys at below same k h =
       | inr behind ↦ sym (in_block xs at k behind h) ∙ ap (λ zs. get_or zs (k - at) (pos 0)) same ∙ in_block ys at k behind h
     ]
 
-pub failing_block_more : (p : ℤ → Bool) (xs : List ℤ) (at : ℕ) → at + 8 ≤ length xs → ((k : ℕ) → k < at → p (get_or xs k (pos 0)) ≡ false) → list_any p (take 8 (drop at xs)) ≡ false
+pub failing_block_more : (p : ℤ → Bool) (xs : List ℤ) (at : ℕ) → at + 8 ≤ length xs → ((k : ℕ) → k < at → p (get_or xs k (pos 0)) ≡ false)
+    → list_any p (take 8 (drop at xs)) ≡ false
     → (k : ℕ) → k < at + 8 → p (get_or xs k (pos 0)) ≡ false
 failing_block_more p xs at room below none k h =
     elim (cases_lt k at) [
       | inl before ↦ below k before
       | inr behind ↦
           false_from_ne_true _
-          (λ passes. both_ways _ none (list_any_at p (take 8 (drop at xs)) (k - at) (pos 0) (omega (arith, length-chunk at 8 xs room)) (ap p (in_block xs at k behind h) ∙ passes)))
+          (λ passes. both_ways _ none (list_any_at p (take 8 (drop at xs)) (k - at) (pos 0) (omega (arith, length-chunk at 8 xs room))
+          (ap p (in_block xs at k behind h) ∙ passes)))
     ]

@@ -77,7 +77,8 @@ pub record SumsAre (n : ℕ) (sums front : List ℤ) : Type 0 where
   pub bounded : Each1 (IsBounded n) sums
   pub same : total sums ≡ total front
 
-SumsAre_more : (n : ℕ) (sums front block : List ℤ) → length block ≡ 8 → Each1 IsWithinLimit block → SumsAre n sums front → SumsAre (suc n) (zip2 (λ x y. x +ℤ y) sums block) (front ++ block)
+SumsAre_more : (n : ℕ) (sums front block : List ℤ) → length block ≡ 8 → Each1 IsWithinLimit block → SumsAre n sums front
+    → SumsAre (suc n) (zip2 (λ x y. x +ℤ y) sums block) (front ++ block)
 SumsAre_more n sums front block long within h =
     let level : length sums ≡ length block = h.lanes ∙ sym long in
     let added = total-added sums block level in
@@ -126,37 +127,55 @@ reduced m (x ∷ xs) small fits =
     ∙ ap (λ z. int_wrap w64 (z +ℤ total xs)) (wrapping_add_onto w64 m x small fits.0)
     ∙ int_wrap-add_left w64 (to_z w64 m +ℤ x) (total xs) ∙ ap (int_wrap w64) (omega (arith, ints))
 
-pub reduce_sum_is : (n : ℕ) (sums front : List ℤ) → n ≤ 8192 → SumsAre n sums front → to_z w64 (fold_l (λ a b. (a + b) % 2 ^ 64) 0 (map (of_z w64) sums)) ≡ total front
+pub reduce_sum_is : (n : ℕ) (sums front : List ℤ) → n ≤ 8192 → SumsAre n sums front
+    → to_z w64 (fold_l (λ a b. (a + b) % 2 ^ 64) 0 (map (of_z w64) sums)) ≡ total front
 reduce_sum_is n sums front few h =
     let all = sums_bounded n sums h.bounded in
     reduced 0 sums (omega arith) (fits_from_bounded n sums (omega (arith, few)) h.bounded) ∙ ap (int_wrap w64) (omega (arith, ints))
-    ∙ int_wrap_fits w64 (total sums) (bounded_fits (bound_of n sums) (total sums) (let small = bound_small n sums few in omega (arith, small, h.lanes)) all) ∙ h.same
+    ∙ int_wrap_fits w64 (total sums)
+    (bounded_fits (bound_of n sums) (total sums) (let small = bound_small n sums few in omega (arith, small, h.lanes)) all) ∙ h.same
 
 -- the bits of such lanes
 abbrev pub BitsAre : ℕ → List ℕ → List ℤ → Type 0
 BitsAre n bits front = (sums : List ℤ) × (bits ≡ map (of_z w64) sums) × SumsAre n sums front
 
 pub BitsAre_none : BitsAre 0 (replicate 8 0) []
-BitsAre_none = (replicate 8 (pos 0), refl, record { lanes = refl; bounded = Each1-replicate (IsBounded 0) 8 (pos 0) (record { at_least = omega (arith, ints); at_most = omega (arith, ints) }); same = refl })
+BitsAre_none = (
+  replicate 8 (pos 0),
+  refl,
+  record {
+    lanes = refl;
+    bounded = Each1-replicate (IsBounded 0) 8 (pos 0)
+        (record { at_least = omega (arith, ints); at_most = omega (arith, ints) });
+    same = refl;
+  },
+)
 
 pub bits_fit : (n : ℕ) (bits : List ℕ) (front block : List ℤ) → suc n ≤ 65536 → All IsWithinLimit block → BitsAre n bits front
     → Each2 (λ x y. (FitsSigned w64 x) × (FitsSigned w64 y) × (FitsSigned w64 (x +ℤ y))) (map (to_z w64) bits) block
 bits_fit n bits front block few within h =
     let read : map (to_z w64) bits ≡ h.0 = ap (map (to_z w64)) h.1 ∙ read_back h.0 (fits_from_bounded n h.0 (omega (arith, few)) h.2.bounded) in
-    subst (λ xs. Each2 (λ x y. (FitsSigned w64 x) × (FitsSigned w64 y) × (FitsSigned w64 (x +ℤ y))) xs block) (sym read) (lanes_fit n h.0 block few h.2.bounded (within_each block within))
+    subst (λ xs. Each2 (λ x y. (FitsSigned w64 x) × (FitsSigned w64 y) × (FitsSigned w64 (x +ℤ y))) xs block) (sym read)
+    (lanes_fit n h.0 block few h.2.bounded (within_each block within))
 
 pub BitsAre_more : (n : ℕ) (bits : List ℕ) (front block result : List ℤ) → suc n ≤ 65536 → length block ≡ 8 → All IsWithinLimit block → BitsAre n bits front
     → result ≡ zip2 (λ x y. x +ℤ y) (map (to_z w64) bits) block → BitsAre (n + 1) (map (of_z w64) result) (front ++ block)
 BitsAre_more n bits front block result few long within h is =
     let read : map (to_z w64) bits ≡ h.0 = ap (map (to_z w64)) h.1 ∙ read_back h.0 (fits_from_bounded n h.0 (omega (arith, few)) h.2.bounded) in
     let more : suc n ≡ n + 1 = omega arith in
-    subst (λ m. BitsAre m (map (of_z w64) result) (front ++ block)) more (result, refl, subst (λ sums. SumsAre (suc n) sums (front ++ block)) (sym (is ∙ ap (λ xs. zip2 (λ x y. x +ℤ y) xs block) read)) (SumsAre_more n h.0 front block long (within_each block within) h.2))
+    subst (λ m. BitsAre m (map (of_z w64) result) (front ++ block)) more (
+      result,
+      refl,
+      subst (λ sums. SumsAre (suc n) sums (front ++ block)) (sym (is ∙ ap (λ xs. zip2 (λ x y. x +ℤ y) xs block) read))
+          (SumsAre_more n h.0 front block long (within_each block within) h.2),
+    )
 
 -- ---- a column's front and the values after it, one by one
 
 module _ (values : List ℤ) (few : length values ≤ 65536) (within : All IsWithinLimit values) where
   pub part_fits : (n : ℕ) → FitsSigned w64 (total (take n values))
-  part_fits n = bounded_fits (length (take n values)) _ (omega (arith, length-take n values)) (total-within (take n values) (All-take IsWithinLimit n values within))
+  part_fits n = bounded_fits (length (take n values)) _ (omega (arith, length-take n values))
+      (total-within (take n values) (All-take IsWithinLimit n values within))
 
   -- the whole blocks
   pub front_total : (blocks : List (List ℤ)) (sum : ℤ) → blocks ≡ first_chunks 8 (length values / 8) values → sum ≡ total (joined blocks)
@@ -165,7 +184,8 @@ module _ (values : List ℤ) (few : length values ≤ 65536) (within : All IsWit
       is ∙ ap (λ bs. total (joined bs)) are ∙ ap total (joined-first_chunks 8 (length values / 8) values) ∙ ap (λ n. total (take n values)) (omega arith)
 
 -- one value of the rest
-pub rest_total : (values rest : List ℤ) (n i : ℕ) → rest ≡ drop n values → i < length rest → total (take (n + i) values) +ℤ get_or rest i (pos 0) ≡ total (take (n + (i + 1)) values)
+pub rest_total : (values rest : List ℤ) (n i : ℕ) → rest ≡ drop n values → i < length rest
+    → total (take (n + i) values) +ℤ get_or rest i (pos 0) ≡ total (take (n + (i + 1)) values)
 rest_total values rest n i is inside =
     let here : n + i < length values = omega (arith, ap length is, length-drop n values) in
     let value = ap (λ xs. get_or xs i (pos 0)) is ∙ get_or-drop n values i (pos 0) in

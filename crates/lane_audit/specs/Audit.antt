@@ -8,7 +8,8 @@ use Rattle.lane_audit.specs.Columns.{total}
 
 -- all savings and checking balances of some bank added up
 abbrev pub IsBankTotal : ℤ → Type 0
-IsBankTotal cents = (opening : Balances) × IsBalances opening × (cents ≡ total opening.savings +ℤ total opening.checking)
+IsBankTotal cents =
+    (opening : Balances) × IsBalances opening × (cents ≡ total opening.savings +ℤ total opening.checking)
 
 -- what n calls may add: each at most the limit and the penalty, up or down
 pub record IsNetOf (n : ℕ) (cents : ℤ) : Type 0 where

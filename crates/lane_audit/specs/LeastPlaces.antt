@@ -4,7 +4,8 @@ use Rattle.lane_audit.specs.Columns.{first_difference}
 
 -- columns of one length are the same below the place, and not at it
 abbrev pub LeastDifference : Type 0
-LeastDifference = (left right : List ℤ) (place : ℕ) → length left ≡ length right → first_difference left right ≡ Some place
+LeastDifference = (left right : List ℤ) (place : ℕ) → length left ≡ length right
+    → first_difference left right ≡ Some place
     → (take place left ≡ take place right) × (slice_get left place ≢ slice_get right place)
 
 -- without such a place they are equal

@@ -4,8 +4,8 @@ ghost use Rattle.sb_calls.specs.Net.{net_of, net_sum};
 ghost use Rattle.lane_audit.specs.Audit.{HasAmountWithin, IsBankTotal, IsNetOf};
 ghost use Rattle.lane_audit.specs.Columns.{count_below, total};
 
+use crate::books::Audit;
 use crate::counting::count_below;
-use crate::report::Audit;
 use crate::summing::sum;
 use sb_calls::{Call, LOG_CALLS, Reply, net};
 use sb_rows::Columns;

@@ -13,7 +13,9 @@ pub(crate) const LANES: usize = 8;
 // Each lane with the block's value added. No lane overflows.
 #[inline(always)]
 pub(crate) fn with_block(sums: i64x8, block: &[i64; LANES]) -> i64x8
-    requires { Each2 (λ sum value. (FitsSigned w64 sum) × (FitsSigned w64 value) × (FitsSigned w64 (sum +ℤ value))) sums block.now }
+    requires { Each2
+        (λ sum value. FitsSigned w64 sum × FitsSigned w64 value × FitsSigned w64 (sum +ℤ value))
+        sums block.now }
     ensures { result ≡ zip2 (λ sum value. sum +ℤ value) sums block.now }
 {
     sums + i64x8::from_array(*block)
@@ -23,7 +25,8 @@ pub(crate) fn with_block(sums: i64x8, block: &[i64; LANES]) -> i64x8
 #[inline(always)]
 pub(crate) fn with_counts(counts: u64x8, block: &[i64; LANES], low: i64) -> u64x8
     requires { All (FitsSigned w64) block.now }
-    ensures { result ≡ zip2 (λ count value. (count + (if int_lt value low then 1 else 0)) % 2 ^ 64) counts block.now }
+    ensures { result ≡ zip2
+        (λ count value. (count + (if int_lt value low then 1 else 0)) % 2 ^ 64) counts block.now }
 {
     let is_below = i64x8::from_array(*block).simd_lt(i64x8::splat(low));
     counts + is_below.select(u64x8::splat(1), u64x8::splat(0))

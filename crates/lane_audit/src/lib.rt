@@ -2,20 +2,20 @@
 #![tactic(auto)]
 
 mod auditing;
+mod books;
 mod counting;
 mod differences;
 mod lanes;
 mod laws;
 mod ranges;
-mod report;
 mod summing;
 #[cfg(test)]
 mod tests;
 
 pub use auditing::{audit, bank_total};
+pub use books::Audit;
 pub use counting::count_below;
 pub use differences::first_difference;
 pub use laws::least_difference;
 pub use ranges::first_outside;
-pub use report::Audit;
 pub use summing::sum;

@@ -25,13 +25,14 @@ fn column(
 fn sum_of(rt: &impl Abort, values: &[i64]) -> i64 {
     assert!(rt; values.len() <= CUSTOMERS);
     for value in values {
-        assert!(rt; -LIMIT <= *value && *value <= LIMIT);
+        assert!(rt; -LIMIT <= *value);
+        assert!(rt; *value <= LIMIT);
     }
     sum(values)
 }
 
 // Where two columns of one length differ first.
 fn difference_of(rt: &impl Abort, left: &[i64], right: &[i64]) -> Option<usize> {
-    assert_eq!(rt; left.len(), right.len());
+    assert!(rt; left.len() == right.len());
     first_difference(left, right)
 }

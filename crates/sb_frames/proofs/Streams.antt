@@ -3,10 +3,10 @@ use Rattle.std.proofs.Common.{◌≡◌, ℕ, ◌<◌, Bool, true, false, Option
 use Rattle.std.specs.List.{AllByRecursion, flat_map}
 use Rattle.std.proofs.lemmas.List.{append-nil, take-append-drop}
 use Rattle.std.proofs.lemmas.List.Concat.{flat_map-append}
-use Rattle.std.proofs.lemmas.List.Elements.{All-nil, All-append, All-drop}
+use Rattle.std.proofs.lemmas.List.Elements.{All-nil, All-append, All-drop, All-from_recursion}
 use Rattle.sb_frames.specs.Decoding.{decoded}
 use Rattle.sb_frames.specs.Grammar.{IsFrame, spelling}
-use Rattle.sb_frames.specs.Streaming.{StreamState, opened, StreamCall, Fed, Next, AreBytes, Feeds, next_by, next_of, Step, StepsTo, bytes_taken, all_taken, frames_given, all_given, FramesOfBytes}
+use Rattle.sb_frames.specs.Streaming.{StreamState, opened, StreamCall, Fed, Next, AreBytes, Feeds, next_by, next_of, Step, StepsTo, bytes_taken, frames_given, FramesOfBytes}
 use Rattle.sb_frames.specs.declared.fault.FrameFault.{FrameFault}
 use Rattle.sb_frames.specs.declared.fault.FrameFault.TheVariants.{Short, BadLength, UnknownTag, BadName, BadAmount, BadReply, BadStatus}
 use Rattle.sb_frames.specs.declared.fault.StreamFault.{StreamFault}
@@ -87,15 +87,15 @@ then_keeps a b c s t f g p q =
     }
 
 steps_keep : (calls : List StreamCall) (old new : StreamState) → AreBytes old.unread → StepsTo old calls new
-    → Keeps old.unread (all_taken calls) (all_given calls) new.unread
+    → Keeps old.unread (flat_map bytes_taken calls) (flat_map frames_given calls) new.unread
 steps_keep [] old new are h = nothing old.unread new.unread are (ap (λ (s : StreamState). s.unread) h)
 steps_keep (call ∷ calls) old new are h =
     let mid = h.0 in
     let first = step_keeps old call mid are h.1 in
-    then_keeps old.unread mid.unread new.unread (bytes_taken call) (all_taken calls) (frames_given call) (all_given calls) first
+    then_keeps old.unread mid.unread new.unread (bytes_taken call) (flat_map bytes_taken calls) (frames_given call) (flat_map frames_given calls) first
     (steps_keep calls mid new first.are h.2)
 
 pub frames_of_bytes : FramesOfBytes
 frames_of_bytes calls end h =
     let kept = steps_keep calls opened end (All-nil (λ byte. byte < 256)) h in
-    (kept.valid, kept.whole)
+    (All-from_recursion IsFrame (flat_map frames_given calls) kept.valid, kept.whole)

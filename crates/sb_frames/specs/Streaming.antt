@@ -1,6 +1,6 @@
 -- A stream of frames: what each call does to it, and what many calls do.
 use Rattle.std.specs.Prelude.{◌≡◌, ◌≢◌, ℕ, ◌<◌, Bool, true, false, if◌then◌else◌, Option, Some, None, Result, Ok, Err, List, [], ◌∷◌, ◌++◌, drop}
-use Rattle.std.specs.List.{All, AllByRecursion, flat_map}
+use Rattle.std.specs.List.{All, flat_map}
 use Rattle.sb_frames.specs.Decoding.{decoded}
 use Rattle.sb_frames.specs.Grammar.{IsFrame, Spells, spelling}
 use Rattle.sb_frames.specs.declared.fault.FrameFault.{FrameFault}
@@ -81,29 +81,22 @@ abbrev pub StepsTo : StreamState → List StreamCall → StreamState → Type 0
 StepsTo old [] new = new ≡ old
 StepsTo old (call ∷ calls) new = (mid : StreamState) × Step old call mid × StepsTo mid calls new
 
--- the bytes that one call, or many calls, put into the stream
+-- the bytes that a call put into the stream
 abbrev pub bytes_taken : StreamCall → List ℕ
 bytes_taken (Fed bytes (Ok done)) = bytes
 bytes_taken (Fed bytes (Err fault)) = []
 bytes_taken (Next answer) = []
 
-abbrev pub all_taken : List StreamCall → List ℕ
-all_taken [] = []
-all_taken (call ∷ calls) = bytes_taken call ++ all_taken calls
-
--- the frames that one call, or many calls, handed out
+-- the frames that a call handed out
 abbrev pub frames_given : StreamCall → List Frame
 frames_given (Fed bytes answer) = []
 frames_given (Next (Ok (Some frame))) = frame ∷ []
 frames_given (Next (Ok None)) = []
 frames_given (Next (Err fault)) = []
 
-abbrev pub all_given : List StreamCall → List Frame
-all_given [] = []
-all_given (call ∷ calls) = frames_given call ++ all_given calls
-
 -- whatever calls there were, however the bytes were cut: the bytes that went in are the spellings of the
 -- frames that came out, in order, and then the unread bytes
 abbrev pub FramesOfBytes : Type 0
 FramesOfBytes = (calls : List StreamCall) (end : StreamState) → StepsTo opened calls end
-    → AllByRecursion IsFrame (all_given calls) × (all_taken calls ≡ flat_map spelling (all_given calls) ++ end.unread)
+    → let given = flat_map frames_given calls in
+    All IsFrame given × (flat_map bytes_taken calls ≡ flat_map spelling given ++ end.unread)

@@ -15,14 +15,16 @@ names_back (n ∷ ns) [] cs h k = absurd (omega arith)
 names_back (n ∷ ns) (s ∷ ss) [] h k = absurd (omega arith)
 names_back (n ∷ ns) (s ∷ ss) (c ∷ cs) h k = ap (λ names. n ∷ names) (names_back ns ss cs (omega arith) (omega arith))
 
-savings_back : (ns : List (List ℕ)) (ss cs : List ℤ) → length ss ≡ length ns → length ss ≡ length cs → map (λ c. c.savings) (customers_of ns (columns ss cs)) ≡ ss
+savings_back : (ns : List (List ℕ)) (ss cs : List ℤ) → length ss ≡ length ns → length ss ≡ length cs
+    → map (λ c. c.savings) (customers_of ns (columns ss cs)) ≡ ss
 savings_back [] [] cs h k = refl
 savings_back [] (s ∷ ss) cs h k = absurd (omega arith)
 savings_back (n ∷ ns) [] cs h k = absurd (omega arith)
 savings_back (n ∷ ns) (s ∷ ss) [] h k = absurd (omega arith)
 savings_back (n ∷ ns) (s ∷ ss) (c ∷ cs) h k = ap (λ l. s ∷ l) (savings_back ns ss cs (omega arith) (omega arith))
 
-checking_back : (ns : List (List ℕ)) (ss cs : List ℤ) → length ss ≡ length ns → length ss ≡ length cs → map (λ c. c.checking) (customers_of ns (columns ss cs)) ≡ cs
+checking_back : (ns : List (List ℕ)) (ss cs : List ℤ) → length ss ≡ length ns → length ss ≡ length cs
+    → map (λ c. c.checking) (customers_of ns (columns ss cs)) ≡ cs
 checking_back [] [] [] h k = refl
 checking_back [] [] (c ∷ cs) h k = absurd (omega arith)
 checking_back [] (s ∷ ss) cs h k = absurd (omega arith)
@@ -32,13 +34,15 @@ checking_back (n ∷ ns) (s ∷ ss) (c ∷ cs) h k = ap (λ l. c ∷ l) (checkin
 
 -- the customers after one more name and one more balance in each column
 pushed : (ns : List (List ℕ)) (ss cs : List ℤ) (name : List ℕ) (s c : ℤ) → length ss ≡ length ns → length ss ≡ length cs
-    → customers_of (ns ++ name ∷ []) (columns (ss ++ s ∷ []) (cs ++ c ∷ [])) ≡ customers_of ns (columns ss cs) ++ record { name = name; savings = s; checking = c } ∷ []
+    → customers_of (ns ++ name ∷ []) (columns (ss ++ s ∷ []) (cs ++ c ∷ [])) ≡ customers_of ns
+    (columns ss cs) ++ record { name = name; savings = s; checking = c } ∷ []
 pushed [] [] [] name s c h k = refl
 pushed [] [] (y ∷ cs) name s c h k = absurd (omega arith)
 pushed [] (x ∷ ss) cs name s c h k = absurd (omega arith)
 pushed (n ∷ ns) [] cs name s c h k = absurd (omega arith)
 pushed (n ∷ ns) (x ∷ ss) [] name s c h k = absurd (omega arith)
-pushed (n ∷ ns) (x ∷ ss) (y ∷ cs) name s c h k = ap (λ l. record { name = n; savings = x; checking = y } ∷ l) (pushed ns ss cs name s c (omega arith) (omega arith))
+pushed (n ∷ ns) (x ∷ ss) (y ∷ cs) name s c h k =
+    ap (λ l. record { name = n; savings = x; checking = y } ∷ l) (pushed ns ss cs name s c (omega arith) (omega arith))
 
 -- they have these names
 pub names_of-customers_of : (names : List (List ℕ)) (b : Balances) → SameCustomers names b → names_of (customers_of names b) ≡ names

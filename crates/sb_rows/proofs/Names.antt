@@ -19,7 +19,12 @@ stored text h =
     let fits = name_fits text h in
     let rest : drop {A = ℕ} (length text) (replicate NAME_BYTES 0) ≡ replicate (NAME_BYTES - length text) 0 = drop-replicate (length text) NAME_BYTES 0 in
     record {
-      all = omega (arith, length-append text (drop (length text) (replicate NAME_BYTES 0)), length-drop {A = ℕ} (length text) (replicate NAME_BYTES 0), length-replicate {A = ℕ} NAME_BYTES 0);
+      all = omega (
+        arith,
+        length-append text (drop (length text) (replicate NAME_BYTES 0)),
+        length-drop {A = ℕ} (length text) (replicate NAME_BYTES 0),
+        length-replicate {A = ℕ} NAME_BYTES 0,
+      );
       within = fits;
       valid = rw take-append_seam h;
       zeros = drop-append_seam text (drop (length text) (replicate NAME_BYTES 0)) ∙ rest;

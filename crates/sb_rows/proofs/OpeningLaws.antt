@@ -143,7 +143,8 @@ spelled_from_read text names b consumed (Ok cs) e h =
     let customers : cs ≡ customers_of names b = sym (customers_back cs) ∙ (λ i. customers_of (same i).names (same i).balances) in
     subst₂ (IsSpelled text) customers (ap (λ (o : OpeningText). o.consumed) same) (lines-opening text cs e)
 spelled_from_read text names b consumed (Err fault) e h =
-    let result : ◌≡◌ {A = Result OpeningText (ℕ × LineFault)} (Err fault) (Ok (record { names = names; balances = b; consumed = consumed })) = sym (ap (λ r. r >>= with_consumed text) e) ∙ h in cc
+    let result : ◌≡◌ {A = Result OpeningText (ℕ × LineFault)} (Err fault) (Ok (record { names = names; balances = b; consumed = consumed })) =
+    sym (ap (λ r. r >>= with_consumed text) e) ∙ h in cc
 
 -- names and balances of the same customers are those of a bank
 IsBank-customers_of : (names : List (List ℕ)) (b : Balances) → SameCustomers names b → IsBank (customers_of names b)
@@ -157,8 +158,10 @@ IsBank-customers_of names b h = record {
 -- what it reads is spelled so
 pub Reads-spelled : (text : List ℕ) (r : Result Opening OpeningFault) → Reads r (opening_of text)
     → IfOk r (λ o. IsBank (customers_of o.directory o.columns) × IsSpelled text (customers_of o.directory o.columns) o.consumed)
-Reads-spelled text (Ok o) h =
-    (IsBank-customers_of o.directory o.columns o.same_customers, spelled_from_read text o.directory o.columns o.consumed (customers_from [] (lines text)) refl h)
+Reads-spelled text (Ok o) h = (
+  IsBank-customers_of o.directory o.columns o.same_customers,
+  spelled_from_read text o.directory o.columns o.consumed (customers_from [] (lines text)) refl h,
+)
 Reads-spelled text (Err fault) h = tt
 
 -- what is spelled so it reads, unless memory runs out

@@ -52,7 +52,8 @@ pub opening_of-ok : (text : List ℕ) (names : List (List ℕ)) (b : Balances) (
     → customers_from [] (lines text) ≡ Ok (customers_of names b) → bytes_of_lines (length names + 1) text ≡ consumed
     → opening_of text ≡ Ok (record { names = names; balances = b; consumed = consumed })
 opening_of-ok text names b consumed h e at =
-    let at_byte : bytes_of_lines (length (customers_of names b) + 1) text ≡ consumed = ap (λ n. bytes_of_lines (n + 1) text) (length-customers_of names b h) ∙ at in
+    let at_byte : bytes_of_lines (length (customers_of names b) + 1) text ≡ consumed =
+    ap (λ n. bytes_of_lines (n + 1) text) (length-customers_of names b h) ∙ at in
     ap (λ r. r >>= with_consumed text) e
     ∙ (λ i. Ok (record { names = names_of-customers_of names b h i; balances = balances_of-customers_of names b h i; consumed = at_byte i }))
 

@@ -66,7 +66,8 @@ pub record IsNext (before : List Customer) (c : Customer) : Type 0 where
 -- the words of its line
 pub words-customer_line : (before : List Customer) (c : Customer) → IsNext before c → words (customer_line c) ≡ c.name ∷ money c.savings ∷ money c.checking ∷ []
 words-customer_line before c h =
-    words-three c.name (money c.savings) (money c.checking) (name_clear c.name h.valid) (money_clear c.savings h.savings.within) (money_clear c.checking h.checking)
+    words-three c.name (money c.savings) (money c.checking) (name_clear c.name h.valid) (money_clear c.savings h.savings.within)
+    (money_clear c.checking h.checking)
 
 -- an amount from 0 on passes the test of its sign
 not_negative : (s : ℤ) → pos 0 ≤ℤ s → int_lt s (pos 0) ≡ false
@@ -87,7 +88,8 @@ pub customer_line-begin : (before : List Customer) (c : Customer) → IsNext bef
 unfolding words
 customer_line-begin before c h = false_from_ne_true _ (λ same.
     let three = words-customer_line before c h in
-    let one : slice_split is_space (customer_line c) ≡ slice_split is_space (codes "begin") = ap (slice_split is_space) ((bytes_decides (customer_line c) (codes "begin")).0 same) in
+    let one : slice_split is_space (customer_line c) ≡ slice_split is_space (codes "begin") =
+    ap (slice_split is_space) ((bytes_decides (customer_line c) (codes "begin")).0 same) in
     let count : length (slice_split is_space (codes "begin")) ≡ 1 = refl in
     omega (arith, ap length three, ap length one, count))
 

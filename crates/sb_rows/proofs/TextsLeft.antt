@@ -32,8 +32,11 @@ after_lines-drop : (n : ℕ) (text : List ℕ) → (k : ℕ) × (after_lines n t
 after_lines-drop zero text = (0, refl)
 after_lines-drop (suc n) text =
     let before = after_lines-drop n text in
-    let rest = drop before.0 text in
-    (before.0 + (position_or_len is_line_feed rest + 1), after_lines-next n text ∙ ap after_line before.1 ∙ drop-drop (position_or_len is_line_feed rest + 1) before.0 text)
+    let rest = drop before.0 text in (
+      before.0 + (position_or_len is_line_feed rest + 1),
+      after_lines-next n text ∙ ap after_line before.1
+          ∙ drop-drop (position_or_len is_line_feed rest + 1) before.0 text,
+    )
 
 -- an end of a list begins where its length says
 drop_back : (k : ℕ) (xs : List ℕ) → drop (length xs - length (drop k xs)) xs ≡ drop k xs

@@ -9,12 +9,18 @@ const OPENING: &str = "alice 100.00 50.00\nbob 0.00 20.00\ncarol 10.00 0.00\nbeg
 // The same bank after the calls of the test.
 const CLOSING: &str = "alice 90.00 60.00\nbob 0.00 -1.01\ncarol 0.00 0.00\nbegin\n";
 
-fn name(text: &str) -> Result<Name, &'static str> {
-    Name::new(text.as_bytes()).ok_or("not a name")
+fn name(text: &str) -> Result<Name, Fail> {
+    match Name::new(text.as_bytes()) {
+        Some(name) => Ok(name),
+        None => Err(Fail::new("no name")),
+    }
 }
 
-fn amount(cents: i64) -> Result<Cents, &'static str> {
-    Cents::new(cents).ok_or("past the limit")
+fn amount(cents: i64) -> Result<Cents, Fail> {
+    match Cents::new(cents) {
+        Some(amount) => Ok(amount),
+        None => Err(Fail::new("past the limit")),
+    }
 }
 
 // The opening's total, and the audit of the bank of this text, which was the opening's before six calls.

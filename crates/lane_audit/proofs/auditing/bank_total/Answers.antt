@@ -13,7 +13,8 @@ pub overflow_add-result : goal.overflow_add-result
 overflow_add-result c = (read_sum c.sum.result c.sum-2.result (record { sfits = c.sum.type_inv }) (record { sfits = c.sum-2.type_inv }) (fits c)).0
 
 pub returns-clause-value : goal.returns-clause-value
-returns-clause-value c = (read_sum c.sum.result c.sum-2.result (record { sfits = c.sum.type_inv }) (record { sfits = c.sum-2.type_inv }) (fits c)).1 ∙ is_total c
+returns-clause-value c = (read_sum c.sum.result c.sum-2.result (record { sfits = c.sum.type_inv }) (record { sfits = c.sum-2.type_inv }) (fits c)).1
+    ∙ is_total c
 
 pub returns-clause-bank : goal.returns-clause-bank
 returns-clause-bank c = (c.args.columns.now, c.customers-customers.ensures.valid, returns-clause-value c)

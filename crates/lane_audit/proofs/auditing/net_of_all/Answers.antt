@@ -10,7 +10,8 @@ loop-place-preserved c =
     let added = to_z w64 c.loop-place.added-bits in
     let one = c.net_of_one-added.result in
     let plain : to_z w64 (of_z w64 one) ≡ one = to_z-of_z w64 one (record { sfits = c.net_of_one-added.type_inv }) in
-    let within : IsNetOf (i + 1) (added +ℤ to_z w64 (of_z w64 one)) = within_more i added (to_z w64 (of_z w64 one)) c.loop-place.invariant.within (subst (IsNetOf 1) (sym plain) c.net_of_one-added.ensures.within) in
+    let within : IsNetOf (i + 1) (added +ℤ to_z w64 (of_z w64 one)) =
+    within_more i added (to_z w64 (of_z w64 one)) c.loop-place.invariant.within (subst (IsNetOf 1) (sym plain) c.net_of_one-added.ensures.within) in
     let back = to_z-of_z w64 (added +ℤ to_z w64 (of_z w64 one)) (net_fits (i + 1) _ (omega arith) within) in
     record {
       same = back ∙ ap₂ (λ a b. a +ℤ b) c.loop-place.invariant.same plain

@@ -6,4 +6,5 @@ use Rattle.lane_audit.proofs.auditing.net_of_one.Goals as goal
 
 pub returns-clause-within : goal.returns-clause-within
 returns-clause-within c =
-    subst (IsNetOf 1) (sym (to_z-of_z w64 c.net.result (record { sfits = c.net.type_inv }) ∙ c.net.ensures)) (net_within c.args.call.now c.args.reply c.amount_within.ensures)
+    subst (IsNetOf 1) (sym (to_z-of_z w64 c.net.result (record { sfits = c.net.type_inv }) ∙ c.net.ensures))
+    (net_within c.args.call.now c.args.reply c.amount_within.ensures)

@@ -9,7 +9,8 @@ pub returns-then-values-place : goal.returns-then-values-place
 returns-then-values-place c =
     let low : FitsSigned w64 c.args.low = c.ranges.low in
     let high : FitsSigned w64 c.args.high = c.ranges.high in
-    position_at (is_outside c.args.low c.args.high) c.args.values.now (pos 0) c.loop-place.place c.loop-place-test.true (simp to_z-of_z at c.loop-place.invariant)
+    position_at (is_outside c.args.low c.args.high) c.args.values.now (pos 0) c.loop-place.place c.loop-place-test.true
+    (simp to_z-of_z at c.loop-place.invariant)
     (elim c.then-values-place.branch [
       | then-values-place-via-then-values-place w ↦ grind (arith, ints)
       | then-values-place-via-else-values-place+then-high-values w ↦ grind (arith, ints)

@@ -12,7 +12,8 @@ sum_of_blocks-sum-requires c =
     let blocks = length (c.as_chunks.result.0.now) in
     record {
       few = omega (arith, c.requires.few, ap length c.as_chunks.ensures.front, length-first_chunks 8 (length c.args.values.now / 8) c.args.values.now);
-      within = subst (All (All IsWithinLimit)) (sym c.as_chunks.ensures.front) (blocks_fit IsWithinLimit 8 (length c.args.values.now / 8) c.args.values.now c.requires.within);
+      within = subst (All (All IsWithinLimit)) (sym c.as_chunks.ensures.front)
+          (blocks_fit IsWithinLimit 8 (length c.args.values.now / 8) c.args.values.now c.requires.within);
     }
 
 pub loop-value-init : goal.loop-value-init
@@ -33,7 +34,8 @@ next c =
 
 pub overflow_add-sum : goal.overflow_add-sum
 overflow_add-sum c =
-    subst (FitsSigned w64) (sym (next c)) (part_fits c.args.values.now c.requires.few c.requires.within (length c.args.values.now / 8 * 8 + (c.loop-value.value-index + 1)))
+    subst (FitsSigned w64) (sym (next c))
+    (part_fits c.args.values.now c.requires.few c.requires.within (length c.args.values.now / 8 * 8 + (c.loop-value.value-index + 1)))
 
 pub loop-value-preserved : goal.loop-value-preserved
 loop-value-preserved c = to_z-of_z w64 _ (overflow_add-sum c) ∙ next c

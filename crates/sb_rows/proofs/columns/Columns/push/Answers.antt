@@ -12,7 +12,9 @@ invariant_of-self-2 c =
     let checked : c.push_reserved-2.new.self.items ≡ checking ++ c.args.checking ∷ [] = search rules in
     let same : length savings ≡ length c.args.self.now.savings = ap (λ (b : Balances). length b.savings) c.self.view_is in
     let room : length savings < CUSTOMERS = omega (arith, same, c.requires.room) in
-    rw (saved, checked) (IsBalances-push savings checking c.args.savings c.args.checking c.self.invariant room c.requires.not_negative c.value.ensures.within c.value-2.ensures.within)
+    rw (saved, checked)
+    (IsBalances-push savings checking c.args.savings c.args.checking c.self.invariant room c.requires.not_negative
+    c.value.ensures.within c.value-2.ensures.within)
 
 pub returns-clause-valid : goal.returns-clause-valid
 returns-clause-valid c = invariant_of-self-2 c
