@@ -17,7 +17,7 @@ use Rattle.cown_board.proofs.Queued.{queues_submitted, queues_taken, queues_fini
 use Rattle.cown_board.proofs.States.{state-append, state-last, state-set_same, state-set_other, state_here}
 use Rattle.cown_board.proofs.Submitting.{keeps_submitted}
 use Rattle.cown_board.proofs.Taking.{keeps_taken}
-use Rattle.cown_board.specs.Invariant.{IsBoard, open_at, waiting_at}
+use Rattle.cown_board.specs.Invariant.{BoardInside, IsBoard, open_at, waiting_at}
 use Rattle.cown_board.specs.Places.{places}
 use Rattle.cown_board.specs.Readiness.{conflict_at}
 use Rattle.cown_board.specs.State.{is_open, is_waiting}
@@ -54,66 +54,76 @@ waiting_finished states m k reply out =
     ])
 
 module _ {B : Type 0} (touches : B → List ℕ) (effect : B → List ℤ → Reply × List ℤ)
-    {opening now : Balances} {base : ℕ} {earlier : List Reply} {log : List B} {states : List State} {lists : List (List ℕ)} {waiting : List ℕ} {unfinished : ℕ}
-    (board : IsBoard touches effect opening now base earlier log states lists waiting unfinished) where
-  pub IsBoard-submitted : (b : B) (new : List (List ℕ)) → AreBelow (length (held_of opening)) (touches b) → Appends (length log) (touches b) lists new
-      → unfinished < OPEN_BEHAVIOURS → base + length log < LOG_CALLS
-      → IsBoard touches effect opening now base earlier (log ++ b ∷ []) (states ++ Waiting ∷ []) new (waiting ++ length log ∷ []) (unfinished + 1)
+    {inside : BoardInside B} (board : IsBoard touches effect inside) where
+  pub IsBoard-submitted : (b : B) (new : List (List ℕ)) → AreBelow (length (held_of inside.opening)) (touches b) → Appends (length inside.log) (touches b) inside.lists new
+      → inside.unfinished < OPEN_BEHAVIOURS → inside.base + length inside.log < LOG_CALLS
+      → IsBoard touches effect (record inside {
+        log = inside.log ++ b ∷ [];
+        states = inside.states ++ Waiting ∷ [];
+        lists = new;
+        waiting = inside.waiting ++ length inside.log ∷ [];
+        unfinished = inside.unfinished + 1;
+      })
   IsBoard-submitted b new below appended few room =
-      let longer : length (log ++ b ∷ []) ≡ suc (length log) = length-append log (b ∷ []) ∙ omega arith in
-      let same : length log ≡ length states = board.keeps.beside in
+      let longer : length (inside.log ++ b ∷ []) ≡ suc (length inside.log) = length-append inside.log (b ∷ []) ∙ omega arith in
+      let same : length inside.log ≡ length inside.states = board.keeps.beside in
       record {
         based = board.based;
-        keeps = keeps_submitted touches effect board.keeps b (λ cown among. below_among (length (held_of opening)) (touches b) cown below among);
-        queues = queues_submitted touches effect log states b lists new (length (held_of opening)) same board.queues appended;
-        rest = ap (λ w. w ++ length log ∷ []) (board.rest ∙ ap (places (waiting_at states)) same) ∙ ap (λ n. places (waiting_at states) (length states) ++ n ∷ []) same
-            ∙ sym (ap (places (waiting_at (states ++ Waiting ∷ []))) (longer ∙ ap suc same) ∙ waiting_submitted states);
-        unfinished = let count = count-append states Waiting in omega (arith, count, board.unfinished);
+        keeps = keeps_submitted touches effect board.keeps b (λ cown among. below_among (length (held_of inside.opening)) (touches b) cown below among);
+        queues = queues_submitted touches effect inside.log inside.states b inside.lists new (length (held_of inside.opening)) same board.queues appended;
+        rest = ap (λ w. w ++ length inside.log ∷ []) (board.rest ∙ ap (places (waiting_at inside.states)) same) ∙ ap (λ n. places (waiting_at inside.states) (length inside.states) ++ n ∷ []) same
+            ∙ sym (ap (places (waiting_at (inside.states ++ Waiting ∷ []))) (longer ∙ ap suc same) ∙ waiting_submitted inside.states);
+        unfinished = let count = count-append inside.states Waiting in omega (arith, count, board.unfinished);
         few_open = omega (arith, few);
         few_numbers = omega (arith, room, longer, board.based);
       }
 
-  pub IsBoard-taken : (p k : ℕ) → slice_get waiting p ≡ Some k → slice_get states k ≡ Some Waiting
-      → ((j : ℕ) → j < k → conflict_at touches log j k ≡ true → open_at states j ≡ false)
-      → IsBoard touches effect opening now base earlier log (slice_set states k Out) lists (remove waiting p) unfinished
+  pub IsBoard-taken : (p k : ℕ) → slice_get inside.waiting p ≡ Some k → slice_get inside.states k ≡ Some Waiting
+      → ((j : ℕ) → j < k → conflict_at touches inside.log j k ≡ true → open_at inside.states j ≡ false)
+      → IsBoard touches effect (record inside { states = slice_set inside.states k Out; waiting = remove inside.waiting p })
   IsBoard-taken p k at here clear = record {
     based = board.based;
     keeps = keeps_taken touches effect board.keeps k here clear;
-    queues = queues_taken touches effect log states lists (length (held_of opening)) k here board.queues;
+    queues = queues_taken touches effect inside.log inside.states inside.lists (length (held_of inside.opening)) k here board.queues;
     rest = ap (λ w. remove w p) board.rest
-        ∙ sym (waiting_taken states (length log) p k (omega (arith, board.keeps.beside)) (ap (λ w. slice_get w p) (sym board.rest) ∙ at) (slice_get_within states k Waiting here));
-    unfinished = let count = count-set states k Waiting Out here in omega (arith, count, board.unfinished);
+        ∙ sym (waiting_taken inside.states (length inside.log) p k (omega (arith, board.keeps.beside)) (ap (λ w. slice_get w p) (sym board.rest) ∙ at) (slice_get_within inside.states k Waiting here));
+    unfinished = let count = count-set inside.states k Waiting Out here in omega (arith, count, board.unfinished);
     few_open = board.few_open;
     few_numbers = board.few_numbers;
   }
 
-  pub IsBoard-finished : (k : ℕ) (b : B) (reply : Reply) (outputs : List ℤ) (after : Balances) (new : List (List ℕ)) → slice_get log k ≡ Some b → slice_get states k ≡ Some Out
+  pub IsBoard-finished : (k : ℕ) (b : B) (reply : Reply) (outputs : List ℤ) (after : Balances) (new : List (List ℕ)) → slice_get inside.log k ≡ Some b → slice_get inside.states k ≡ Some Out
       → length outputs ≡ length (touches b)
-      → reply ≡ reply_of touches effect (held_after_first touches effect (held_of opening) log k) b
-      → outputs ≡ (effect b (inputs_of touches effect (held_after_first touches effect (held_of opening) log k) b)).1
-      → held_of after ≡ write_cowns (held_of now) (touches b) outputs
-      → Releases (touches b) lists new
-      → IsBoard touches effect opening after base earlier log (slice_set states k (Finished reply)) new waiting (unfinished - 1)
+      → reply ≡ reply_of touches effect (held_after_first touches effect (held_of inside.opening) inside.log k) b
+      → outputs ≡ (effect b (inputs_of touches effect (held_after_first touches effect (held_of inside.opening) inside.log k) b)).1
+      → held_of after ≡ write_cowns (held_of inside.now) (touches b) outputs
+      → Releases (touches b) inside.lists new
+      → IsBoard touches effect (record inside {
+        now = after;
+        states = slice_set inside.states k (Finished reply);
+        lists = new;
+        unfinished = inside.unfinished - 1;
+      })
   IsBoard-finished k b reply outputs after new here out long replied left written released = record {
     based = board.based;
     keeps = rw written (keeps_finished touches effect board.keeps k b here out reply outputs long replied left);
-    queues = queues_finished touches effect log states b lists new (length (held_of opening)) k reply board.keeps.beside here (state_here is_open states k Out out)
+    queues = queues_finished touches effect inside.log inside.states b inside.lists new (length (held_of inside.opening)) k reply board.keeps.beside here (state_here is_open inside.states k Out out)
         (clear_of_out touches effect board.keeps k b here out) board.queues released;
-    rest = board.rest ∙ sym (waiting_finished states (length log) k reply out);
+    rest = board.rest ∙ sym (waiting_finished inside.states (length inside.log) k reply out);
     unfinished =
-        let count = count-set states k Out (Finished reply) out in
-        let some = count_some states k Out out refl in
+        let count = count-set inside.states k Out (Finished reply) out in
+        let some = count_some inside.states k Out out refl in
         omega (arith, count, some, board.unfinished);
     few_open = omega (arith, board.few_open);
     few_numbers = board.few_numbers;
   }
 
   -- the same, of lists that were changed in place
-  pub IsBoard-pushed : (b : B) (place : ℕ) (log' : List B) (states' : List State) (new : List (List ℕ)) (waiting' : List ℕ) → AreBelow (length (held_of opening)) (touches b)
-      → place ≡ length log → Appends place (touches b) lists new
-      → log' ≡ log ++ b ∷ [] → states' ≡ states ++ Waiting ∷ [] → waiting' ≡ waiting ++ place ∷ []
-      → (unfinished ≡ OPEN_BEHAVIOURS → ⊥) → (base + length log ≡ LOG_CALLS → ⊥)
-      → IsBoard touches effect opening now base earlier log' states' new waiting' (unfinished + 1)
+  pub IsBoard-pushed : (b : B) (place : ℕ) (log' : List B) (states' : List State) (new : List (List ℕ)) (waiting' : List ℕ) → AreBelow (length (held_of inside.opening)) (touches b)
+      → place ≡ length inside.log → Appends place (touches b) inside.lists new
+      → log' ≡ inside.log ++ b ∷ [] → states' ≡ inside.states ++ Waiting ∷ [] → waiting' ≡ inside.waiting ++ place ∷ []
+      → (inside.unfinished ≡ OPEN_BEHAVIOURS → ⊥) → (inside.base + length inside.log ≡ LOG_CALLS → ⊥)
+      → IsBoard touches effect (record inside { log = log'; states = states'; lists = new; waiting = waiting'; unfinished = inside.unfinished + 1 })
   IsBoard-pushed b place log' states' new waiting' below here appended is_log is_states is_waiting few room =
-      rw (is_log, is_states, is_waiting, here) (IsBoard-submitted b new below (subst (λ n. Appends n (touches b) lists new) here appended)
+      rw (is_log, is_states, is_waiting, here) (IsBoard-submitted b new below (subst (λ n. Appends n (touches b) inside.lists new) here appended)
       (omega (arith, few, board.few_open)) (omega (arith, room, board.based, board.few_numbers)))

@@ -19,7 +19,7 @@ use Rattle.cown_board.proofs.Queued.{fronts_from_clear, in_front_from}
 use Rattle.cown_board.proofs.States.{state_here}
 use Rattle.cown_board.proofs.TakenJob.{inputs_held}
 use Rattle.cown_board.specs.Board.{BoardOf, IsOutAt, IsOutHere, Finishes}
-use Rattle.cown_board.specs.Invariant.{IsBoard, open_at}
+use Rattle.cown_board.specs.Invariant.{BoardInside, IsBoard, open_at}
 use Rattle.cown_board.specs.Job.{DoneOf}
 use Rattle.cown_board.specs.Readiness.{touched_by}
 use Rattle.cown_board.specs.State.{is_open}
@@ -27,102 +27,106 @@ use Rattle.cown_board.specs.declared.state.State.{State}
 use Rattle.cown_board.specs.declared.state.State.TheVariants.{Out, Finished}
 
 module _ {B : Type 0} (touches : B → List ℕ) (effect : B → List ℤ → Reply × List ℤ)
-    {opening now : Balances} {base : ℕ} {earlier : List Reply} {log : List B} {states : List State} {lists : List (List ℕ)} {waiting : List ℕ} {unfinished : ℕ}
-    (board : IsBoard touches effect opening now base earlier log states lists waiting unfinished) where
+    {inside : BoardInside B} (board : IsBoard touches effect inside) where
   -- what callers see of the board
   abbrev pub seen : BoardOf B
-  seen = record { opening = opening; earlier = earlier; log = log; states = states }
+  seen = record { opening = inside.opening; earlier = inside.earlier; log = inside.log; states = inside.states }
 
   -- the cowns of one that is out hold what it was handed out with
-  out_inputs : (k : ℕ) (b : B) → slice_get log k ≡ Some b → slice_get states k ≡ Some Out
-      → read_cowns (held_of now) (touches b) ≡ inputs_of touches effect (held_after_first touches effect (held_of opening) log k) b
+  out_inputs : (k : ℕ) (b : B) → slice_get inside.log k ≡ Some b → slice_get inside.states k ≡ Some Out
+      → read_cowns (held_of inside.now) (touches b) ≡ inputs_of touches effect (held_after_first touches effect (held_of inside.opening) inside.log k) b
   out_inputs k b here out =
-      holds_inputs touches effect board.keeps k (state_here is_open states k Out out) (clear_of_out touches effect board.keeps k b here out) b here
-      (let lt = slice_get_within log k b here in omega (arith, lt))
+      holds_inputs touches effect board.keeps k (state_here is_open inside.states k Out out) (clear_of_out touches effect board.keeps k b here out) b here
+      (let lt = slice_get_within inside.log k b here in omega (arith, lt))
 
   -- what was tested, as what callers see
   abbrev IsOutInside : ℕ → DoneOf B → Type 0
-  IsOutInside k done = (slice_get states k ≡ Some Out) × (slice_get log k ≡ Some done.behaviour) × (done.inputs ≡ read_cowns (held_of now) (touches done.behaviour))
+  IsOutInside k done = (slice_get inside.states k ≡ Some Out) × (slice_get inside.log k ≡ Some done.behaviour) × (done.inputs ≡ read_cowns (held_of inside.now) (touches done.behaviour))
 
-  pub out_from : (k : ℕ) (done : DoneOf B) → done.number ≡ suc (base + k) → IsOutInside k done → IsOutAt touches effect seen done k
-  out_from k done numbered inside = record {
+  pub out_from : (k : ℕ) (done : DoneOf B) → done.number ≡ suc (inside.base + k) → IsOutInside k done → IsOutAt touches effect seen done k
+  out_from k done numbered tested = record {
     number = omega (arith, numbered, board.based);
-    out = inside.0;
-    behaviour = inside.1;
-    inputs = inside.2 ∙ out_inputs k done.behaviour inside.1 inside.0;
+    out = tested.0;
+    behaviour = tested.1;
+    inputs = tested.2 ∙ out_inputs k done.behaviour tested.1 tested.0;
   }
 
-  pub out_to : (k : ℕ) (done : DoneOf B) → IsOutAt touches effect seen done k → (done.number ≡ suc (base + k)) × (k < length log) × IsOutInside k done
+  pub out_to : (k : ℕ) (done : DoneOf B) → IsOutAt touches effect seen done k → (done.number ≡ suc (inside.base + k)) × (k < length inside.log) × IsOutInside k done
   out_to k done out = (
     omega (arith, out.number, board.based),
-    slice_get_within log k done.behaviour out.behaviour,
+    slice_get_within inside.log k done.behaviour out.behaviour,
     (out.out, out.behaviour, out.inputs ∙ sym (out_inputs k done.behaviour out.behaviour out.out)),
   )
 
   -- a number that is none of the log's, or isn't out, is refused
-  pub not_numbered : (done : DoneOf B) → ((k : ℕ) → k < length log → done.number ≢ suc (base + k)) → ¬ IsOutHere touches effect seen done
+  pub not_numbered : (done : DoneOf B) → ((k : ℕ) → k < length inside.log → done.number ≢ suc (inside.base + k)) → ¬ IsOutHere touches effect seen done
   not_numbered done none out = let found = out_to out.0 done out.1 in none out.0 found.1 found.0
 
-  pub not_inside : (k : ℕ) (done : DoneOf B) → done.number ≡ suc (base + k) → ¬ IsOutInside k done → ¬ IsOutHere touches effect seen done
+  pub not_inside : (k : ℕ) (done : DoneOf B) → done.number ≡ suc (inside.base + k) → ¬ IsOutInside k done → ¬ IsOutHere touches effect seen done
   not_inside k done numbered not out =
       let found = out_to out.0 done out.1 in
       let same : out.0 ≡ k = omega (arith, numbered, found.0) in
       not (subst (λ j. IsOutInside j done) same found.2)
 
-  module _ (k : ℕ) (done : DoneOf B) (numbered : done.number ≡ suc (base + k)) (inside : IsOutInside k done) where
-    pub released_in_front : IsInFront k (touches done.behaviour) lists
+  module _ (k : ℕ) (done : DoneOf B) (numbered : done.number ≡ suc (inside.base + k)) (tested : IsOutInside k done) where
+    pub released_in_front : IsInFront k (touches done.behaviour) inside.lists
     released_in_front =
-        let cowns = length (held_of opening) in
-        in_front_from touches effect log states lists cowns board.queues k done.behaviour inside.1 (touches done.behaviour)
-        (fronts_from_clear touches effect log states lists cowns board.queues k done.behaviour inside.1 (state_here is_open states k Out inside.0)
-        (clear_of_out touches effect board.keeps k done.behaviour inside.1 inside.0) (touches done.behaviour)
-        (λ cown among. (among, board.keeps.in_range k cown (ap (λ o. is_among cown (touched_by touches o)) inside.1 ∙ among))))
+        let cowns = length (held_of inside.opening) in
+        in_front_from touches effect inside.log inside.states inside.lists cowns board.queues k done.behaviour tested.1 (touches done.behaviour)
+        (fronts_from_clear touches effect inside.log inside.states inside.lists cowns board.queues k done.behaviour tested.1 (state_here is_open inside.states k Out tested.0)
+        (clear_of_out touches effect board.keeps k done.behaviour tested.1 tested.0) (touches done.behaviour)
+        (λ cown among. (among, board.keeps.in_range k cown (ap (λ o. is_among cown (touched_by touches o)) tested.1 ∙ among))))
 
-    pub some_unfinished : 1 ≤ unfinished
-    some_unfinished = let some = count_some states k Out inside.0 refl in omega (arith, some, board.unfinished)
+    pub some_unfinished : 1 ≤ inside.unfinished
+    some_unfinished = let some = count_some inside.states k Out tested.0 refl in omega (arith, some, board.unfinished)
 
-    pub inputs_are : done.inputs ≡ inputs_of touches effect (held_after_first touches effect (held_of opening) log k) done.behaviour
-    inputs_are = inside.2 ∙ out_inputs k done.behaviour inside.1 inside.0
+    pub inputs_are : done.inputs ≡ inputs_of touches effect (held_after_first touches effect (held_of inside.opening) inside.log k) done.behaviour
+    inputs_are = tested.2 ∙ out_inputs k done.behaviour tested.1 tested.0
 
     pub outputs_held : ((b : B) (inputs : List ℤ) → AreHeld (touches b) inputs → AreHeld (touches b) (effect b inputs).1)
         → (outputs : List ℤ) → outputs ≡ (effect done.behaviour done.inputs).1 → AreHeld (touches done.behaviour) outputs
     outputs_held keeps outputs left =
         subst (AreHeld (touches done.behaviour)) (sym left)
-        (keeps done.behaviour done.inputs (subst (AreHeld (touches done.behaviour)) (sym inputs_are) (inputs_held touches effect board keeps k k done.behaviour inside.1)))
+        (keeps done.behaviour done.inputs (subst (AreHeld (touches done.behaviour)) (sym inputs_are) (inputs_held touches effect board keeps k k done.behaviour tested.1)))
 
     pub board_finished : ((b : B) (inputs : List ℤ) → AreHeld (touches b) inputs → AreHeld (touches b) (effect b inputs).1)
         → (reply : Reply) (outputs : List ℤ) (after : Balances) (new : List (List ℕ)) → reply ≡ (effect done.behaviour done.inputs).0 → outputs ≡ (effect done.behaviour done.inputs).1
-        → held_of after ≡ write_cowns (held_of now) (touches done.behaviour) outputs → Releases (touches done.behaviour) lists new
-        → IsBoard touches effect opening after base earlier log (slice_set states k (Finished reply)) new waiting (unfinished - 1)
+        → held_of after ≡ write_cowns (held_of inside.now) (touches done.behaviour) outputs → Releases (touches done.behaviour) inside.lists new
+        → IsBoard touches effect (record inside {
+          now = after;
+          states = slice_set inside.states k (Finished reply);
+          lists = new;
+          unfinished = inside.unfinished - 1;
+        })
     board_finished keeps reply outputs after new replied left written released =
-        IsBoard-finished touches effect board k done.behaviour reply outputs after new inside.1 inside.0
+        IsBoard-finished touches effect board k done.behaviour reply outputs after new tested.1 tested.0
         (length-AreHeld (touches done.behaviour) outputs (outputs_held keeps outputs left))
         (replied ∙ ap (λ i. (effect done.behaviour i).0) inputs_are)
         (left ∙ ap (λ i. (effect done.behaviour i).1) inputs_are) written released
 
     pub finishes_from : (reply : Reply) → reply ≡ (effect done.behaviour done.inputs).0
-        → Finishes touches effect seen done reply (record { opening = opening; earlier = earlier; log = log; states = slice_set states k (Finished reply) })
+        → Finishes touches effect seen done reply (record { opening = inside.opening; earlier = inside.earlier; log = inside.log; states = slice_set inside.states k (Finished reply) })
     finishes_from reply replied = record {
       place = k;
-      here = out_from k done numbered inside;
-      by_log = ap (option_map (reply_of touches effect (held_after_first touches effect (held_of opening) log k))) inside.1
+      here = out_from k done numbered tested;
+      by_log = ap (option_map (reply_of touches effect (held_after_first touches effect (held_of inside.opening) inside.log k))) tested.1
           ∙ ap (λ r. Some r) (ap (λ i. (effect done.behaviour i).0) (sym inputs_are) ∙ sym replied);
       finished = refl;
     }
 
   -- the columns after all of the log
-  pub after_all : unfinished ≡ 0 → held_of now ≡ held_after touches effect (held_of opening) log
+  pub after_all : inside.unfinished ≡ 0 → held_of inside.now ≡ held_after touches effect (held_of inside.opening) inside.log
   after_all idle =
-      let none : (j : ℕ) → open_at states j ≡ false = λ j. all_finished states j (sym board.unfinished ∙ idle) in
-      ext_get_or (pos 0) (held_of now) (held_after touches effect (held_of opening) log)
-      (board.keeps.cowns_stay ∙ sym (length-after touches effect (held_of opening) log))
-      (λ cown lt. board.keeps.settled cown (length log) (omega arith) (record {
+      let none : (j : ℕ) → open_at inside.states j ≡ false = λ j. all_finished inside.states j (sym board.unfinished ∙ idle) in
+      ext_get_or (pos 0) (held_of inside.now) (held_after touches effect (held_of inside.opening) inside.log)
+      (board.keeps.cowns_stay ∙ sym (length-after touches effect (held_of inside.opening) inside.log))
+      (λ cown lt. board.keeps.settled cown (length inside.log) (omega arith) (record {
         before = λ j _ _. none j;
-        after = λ j ge among. absurd (let within = touched_within touches effect log cown j among in omega (arith, within, ge));
-      }) ∙ ap (λ l. get_or (held_after touches effect (held_of opening) l) cown (pos 0)) (take_all (length log) log (omega arith)))
+        after = λ j ge among. absurd (let within = touched_within touches effect inside.log cown j among in omega (arith, within, ge));
+      }) ∙ ap (λ l. get_or (held_after touches effect (held_of inside.opening) l) cown (pos 0)) (take_all (length inside.log) inside.log (omega arith)))
 
   pub refused_done : (done : DoneOf B) → ¬ IsOutHere touches effect seen done → (false ≡ true → IsOutHere touches effect seen done) × (IsOutHere touches effect seen done → false ≡ true)
   refused_done done not = (λ h. absurd (false≢true h), λ out. absurd (not out))
 
-  pub accepted_done : (k : ℕ) (done : DoneOf B) → done.number ≡ suc (base + k) → IsOutInside k done → (true ≡ true → IsOutHere touches effect seen done) × (IsOutHere touches effect seen done → true ≡ true)
-  accepted_done k done numbered inside = (λ h. (k, out_from k done numbered inside), λ out. refl)
+  pub accepted_done : (k : ℕ) (done : DoneOf B) → done.number ≡ suc (inside.base + k) → IsOutInside k done → (true ≡ true → IsOutHere touches effect seen done) × (IsOutHere touches effect seen done → true ≡ true)
+  accepted_done k done numbered tested = (λ h. (k, out_from k done numbered tested), λ out. refl)

@@ -7,6 +7,7 @@ mod FrontLaws
 mod HeldLaws
 mod Inputs
 mod LogLaws
+mod MadeCalls
 mod Opening
 pub mod PlacesLaws
 mod PlayedCalls

@@ -37,7 +37,17 @@ module _ {B : Type 0} (touches : B → List ℕ) (effect : B → List ℤ → Re
   -- nothing is submitted, and the cowns hold what the columns say
   pub IsBoard-opened : (opening now : Balances) (base : ℕ) (earlier : List Reply) (lists : List (List ℕ)) → IsBalances opening → now ≡ opening
       → length earlier ≡ base → base ≤ LOG_CALLS → lists ≡ replicate (2 * length opening.savings) []
-      → IsBoard touches effect opening now base earlier [] [] lists [] 0
+      → IsBoard touches effect (record {
+        opening = opening;
+        now = now;
+        base = base;
+        earlier = earlier;
+        log = [];
+        states = [];
+        lists = lists;
+        waiting = [];
+        unfinished = 0;
+      })
   IsBoard-opened opening now base earlier lists valid same based few empty =
       let two = length-held_of opening valid.same in
       record {

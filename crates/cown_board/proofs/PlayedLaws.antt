@@ -16,7 +16,7 @@ use Rattle.cown_board.proofs.Taking.{not_out}
 use Rattle.cown_board.proofs.Finishing.{same_reply}
 use Rattle.cown_board.specs.Board.{BoardOf}
 use Rattle.cown_board.specs.Invariant.{open_at, waiting_at}
-use Rattle.cown_board.specs.Played.{BoardCall, Submitted, TakenAt, Returned, Makes, Plays, IsPlayed, BoardLaw, opened_with, put_by, put_by_all}
+use Rattle.cown_board.specs.Played.{BoardCall, Submitted, TakenAt, Returned, Makes, Plays, StaysTrueToLog, BoardLaw, opened_with, put_by, put_by_all}
 use Rattle.cown_board.specs.Readiness.{conflict_at, is_clear_at, is_ready_at}
 use Rattle.cown_board.specs.State.{is_open, is_waiting, state_is}
 use Rattle.cown_board.specs.declared.board.SubmitFault.TheVariants.{Busy, LogFull, OutOfMemory}
@@ -131,8 +131,7 @@ module _ {B : Type 0} (touches : B → List ℕ) (effect : B → List ℤ → Re
   plays_more old mid new [] call played made = (new, subst (λ board. Makes touches effect board call new) played made, refl)
   plays_more old mid new (first ∷ calls) call played made = (played.0, played.1, plays_more played.0 mid new calls call played.2 made)
 
-  pub played_by : (old new : BoardOf B) (call : BoardCall B) → Makes touches effect old call new → IsPlayed touches effect old call new
+  pub played_by : (old new : BoardOf B) (call : BoardCall B) → Makes touches effect old call new → StaysTrueToLog touches effect old call new
   played_by old new call made = record {
-    made = made;
     law = λ columns earlier calls before. board_law columns earlier (calls ++ call ∷ []) new (plays_more (opened_with columns earlier) old new calls call before made);
   }

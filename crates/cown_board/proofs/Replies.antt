@@ -9,7 +9,7 @@ use Rattle.sb_calls.specs.OneByOne.{reply_by_log}
 use Rattle.sb_calls.specs.declared.reply.Reply.{Reply}
 use Rattle.cown_board.proofs.LogLaws.{injective, no_some}
 use Rattle.cown_board.specs.Board.{BoardOf, reply_in}
-use Rattle.cown_board.specs.Invariant.{IsBoard}
+use Rattle.cown_board.specs.Invariant.{BoardInside, IsBoard}
 use Rattle.cown_board.specs.State.{finished_reply}
 use Rattle.cown_board.specs.declared.state.State.{State}
 use Rattle.cown_board.specs.declared.state.State.TheVariants.{Waiting, Out, Finished}
@@ -55,14 +55,13 @@ module _ {B : Type 0} (board : BoardOf B) where
       sym (ap (option_and_then finished_reply) (slice_get_past board.states place past)) ∙ number_after number place here
 
 module _ {B : Type 0} (touches : B → List ℕ) (effect : B → List ℤ → Reply × List ℤ)
-    {opening now : Balances} {base : ℕ} {earlier : List Reply} {log : List B} {states : List State} {lists : List (List ℕ)} {waiting : List ℕ} {unfinished : ℕ}
-    (board : IsBoard touches effect opening now base earlier log states lists waiting unfinished) where
+    {inside : BoardInside B} (board : IsBoard touches effect inside) where
   -- what a finished behaviour was answered is the log's
-  pub reply_is_by_log : (number place : ℕ) (s : State) (answer : Option Reply) → number ≡ suc (base + place) → slice_get states place ≡ Some s → answer ≡ finished_reply s
-      → IfSome answer (λ reply. length earlier < number → reply_by_log touches effect (held_of opening) log (number - length earlier) ≡ Some reply)
+  pub reply_is_by_log : (number place : ℕ) (s : State) (answer : Option Reply) → number ≡ suc (inside.base + place) → slice_get inside.states place ≡ Some s → answer ≡ finished_reply s
+      → IfSome answer (λ reply. length inside.earlier < number → reply_by_log touches effect (held_of inside.opening) inside.log (number - length inside.earlier) ≡ Some reply)
   reply_is_by_log number place s None here state is = tt
   reply_is_by_log number place s (Some reply) here state is = λ after.
-      let at : number - length earlier ≡ suc place = omega (arith, here, board.based) in
+      let at : number - length inside.earlier ≡ suc place = omega (arith, here, board.based) in
       let finished : s ≡ Finished reply = finished_with s reply (sym is) in
-      ap (reply_by_log touches effect (held_of opening) log) at
+      ap (reply_by_log touches effect (held_of inside.opening) inside.log) at
       ∙ board.keeps.replies place reply (state ∙ ap (λ x. Some x) finished)

@@ -18,7 +18,7 @@ use Rattle.cown_board.proofs.Queued.{fronts_from_clear, clear_from_fronts}
 use Rattle.cown_board.proofs.States.{waiting_is_open}
 use Rattle.cown_board.specs.Board.{Takes}
 use Rattle.cown_board.specs.Fronts.{are_fronts, is_front_at}
-use Rattle.cown_board.specs.Invariant.{IsBoard, open_at, waiting_at}
+use Rattle.cown_board.specs.Invariant.{BoardInside, IsBoard, open_at, waiting_at}
 use Rattle.cown_board.specs.Places.{places}
 use Rattle.cown_board.specs.Readiness.{touched_by, conflict_at, is_clear_at, is_ready_at, ready_places}
 use Rattle.cown_board.specs.State.{is_waiting, state_is}
@@ -39,104 +39,103 @@ some_at (x ∷ xs) zero lt = (x, refl)
 some_at (x ∷ xs) (suc j) lt = some_at xs j (omega (arith, lt))
 
 module _ {B : Type 0} (touches : B → List ℕ) (effect : B → List ℤ → Reply × List ℤ)
-    {opening now : Balances} {base : ℕ} {earlier : List Reply} {log : List B} {states : List State} {lists : List (List ℕ)} {waiting : List ℕ} {unfinished : ℕ}
-    (board : IsBoard touches effect opening now base earlier log states lists waiting unfinished) where
+    {inside : BoardInside B} (board : IsBoard touches effect inside) where
   -- the cowns of each behaviour are cowns
-  pub declared_below : (k : ℕ) (b : B) → slice_get log k ≡ Some b → AreBelow (length (held_of opening)) (touches b)
-  declared_below k b here = below_from (length (held_of opening)) (touches b) (λ cown among.
+  pub declared_below : (k : ℕ) (b : B) → slice_get inside.log k ≡ Some b → AreBelow (length (held_of inside.opening)) (touches b)
+  declared_below k b here = below_from (length (held_of inside.opening)) (touches b) (λ cown among.
       board.keeps.in_range k cown (ap (λ o. is_among cown (touched_by touches o)) here ∙ among))
 
-  pub declared_in_queues : (k : ℕ) (b : B) → slice_get log k ≡ Some b → AreBelow (length lists) (touches b)
+  pub declared_in_queues : (k : ℕ) (b : B) → slice_get inside.log k ≡ Some b → AreBelow (length inside.lists) (touches b)
   declared_in_queues k b here = rw board.queues.one_each (declared_below k b here)
 
-  pub declared_in_held : (k : ℕ) (b : B) → slice_get log k ≡ Some b → AreBelow (length (held_of now)) (touches b)
+  pub declared_in_held : (k : ℕ) (b : B) → slice_get inside.log k ≡ Some b → AreBelow (length (held_of inside.now)) (touches b)
   declared_in_held k b here = rw board.keeps.cowns_stay (declared_below k b here)
 
   -- what is clear, as a fact
-  clear_fact : (k : ℕ) → is_clear_at touches log states k ≡ true → (j : ℕ) → j < k → conflict_at touches log j k ≡ true → open_at states j ≡ false
-  clear_fact k clear j lt conflict = false_from_ne_true (open_at states j) (λ unfinished.
-      both_ways (open_at states j && conflict_at touches log j k) (none_below_at (λ i. open_at states i && conflict_at touches log i k) k j clear lt)
-      (and_from (open_at states j) (conflict_at touches log j k) unfinished conflict))
+  clear_fact : (k : ℕ) → is_clear_at touches inside.log inside.states k ≡ true → (j : ℕ) → j < k → conflict_at touches inside.log j k ≡ true → open_at inside.states j ≡ false
+  clear_fact k clear j lt conflict = false_from_ne_true (open_at inside.states j) (λ still_open.
+      both_ways (open_at inside.states j && conflict_at touches inside.log j k) (none_below_at (λ i. open_at inside.states i && conflict_at touches inside.log i k) k j clear lt)
+      (and_from (open_at inside.states j) (conflict_at touches inside.log j k) still_open conflict))
 
-  clear_test : (k : ℕ) → ((j : ℕ) → j < k → conflict_at touches log j k ≡ true → open_at states j ≡ false) → is_clear_at touches log states k ≡ true
-  clear_test k clear = none_below_from (λ j. open_at states j && conflict_at touches log j k) k (λ j lt.
-      false_from_ne_true (open_at states j && conflict_at touches log j k) (λ both.
-      let parts = and_parts (open_at states j) (conflict_at touches log j k) both in
+  clear_test : (k : ℕ) → ((j : ℕ) → j < k → conflict_at touches inside.log j k ≡ true → open_at inside.states j ≡ false) → is_clear_at touches inside.log inside.states k ≡ true
+  clear_test k clear = none_below_from (λ j. open_at inside.states j && conflict_at touches inside.log j k) k (λ j lt.
+      false_from_ne_true (open_at inside.states j && conflict_at touches inside.log j k) (λ both.
+      let parts = and_parts (open_at inside.states j) (conflict_at touches inside.log j k) both in
       true≢false (sym parts.0 ∙ clear j lt parts.1)))
 
   -- of those that wait the ones in front at all their cowns are the clear ones
-  front_is_clear : (k : ℕ) (b : B) → slice_get log k ≡ Some b → waiting_at states k ≡ true → is_front_at touches log lists k ≡ is_clear_at touches log states k
+  front_is_clear : (k : ℕ) (b : B) → slice_get inside.log k ≡ Some b → waiting_at inside.states k ≡ true → is_front_at touches inside.log inside.lists k ≡ is_clear_at touches inside.log inside.states k
   front_is_clear k b here waits =
-      let at : touched_by touches (slice_get log k) ≡ touches b = ap (touched_by touches) here in
-      let cowns = length (held_of opening) in
+      let at : touched_by touches (slice_get inside.log k) ≡ touches b = ap (touched_by touches) here in
+      let cowns = length (held_of inside.opening) in
       let in_range = λ (cown : ℕ) (among : is_among cown (touches b) ≡ true). board.keeps.in_range k cown (ap (λ o. is_among cown (touched_by touches o)) here ∙ among) in
-      same_tests (is_front_at touches log lists k) (is_clear_at touches log states k)
-      (λ front. clear_test k (clear_from_fronts touches effect log states lists cowns board.queues k b here
-      (fronts_fact k lists (touches b) (sym (ap (are_fronts k lists) at) ∙ front)) in_range))
-      (λ clear. ap (are_fronts k lists) at ∙ fronts_test k lists (touches b)
-      (fronts_from_clear touches effect log states lists cowns board.queues k b here (waiting_is_open states k waits) (clear_fact k clear) (touches b)
+      same_tests (is_front_at touches inside.log inside.lists k) (is_clear_at touches inside.log inside.states k)
+      (λ front. clear_test k (clear_from_fronts touches effect inside.log inside.states inside.lists cowns board.queues k b here
+      (fronts_fact k inside.lists (touches b) (sym (ap (are_fronts k inside.lists) at) ∙ front)) in_range))
+      (λ clear. ap (are_fronts k inside.lists) at ∙ fronts_test k inside.lists (touches b)
+      (fronts_from_clear touches effect inside.log inside.states inside.lists cowns board.queues k b here (waiting_is_open inside.states k waits) (clear_fact k clear) (touches b)
       (λ cown among. (among, in_range cown among))))
 
   -- so they are the ready ones
-  pub fronts_are_ready : filter (is_front_at touches log lists) waiting ≡ ready_places touches log states
+  pub fronts_are_ready : filter (is_front_at touches inside.log inside.lists) inside.waiting ≡ ready_places touches inside.log inside.states
   unfolding ready_places
   fronts_are_ready =
-      ap (filter (is_front_at touches log lists)) board.rest
-      ∙ places-filter (waiting_at states) (is_front_at touches log lists) (length log)
-      ∙ places-agree (λ j. waiting_at states j && is_front_at touches log lists j) (is_ready_at touches log states) (length log)
-      (λ j lt. elim (cases_Bool (waiting_at states j)) [
-        | inl waits ↦ let found = some_at log j lt in ap (λ x. waiting_at states j && x) (front_is_clear j found.0 found.1 waits)
-        | inr not_waiting ↦ and_left (waiting_at states j) (is_front_at touches log lists j) not_waiting ∙ sym (and_left (waiting_at states j) (is_clear_at touches log states j) not_waiting)
+      ap (filter (is_front_at touches inside.log inside.lists)) board.rest
+      ∙ places-filter (waiting_at inside.states) (is_front_at touches inside.log inside.lists) (length inside.log)
+      ∙ places-agree (λ j. waiting_at inside.states j && is_front_at touches inside.log inside.lists j) (is_ready_at touches inside.log inside.states) (length inside.log)
+      (λ j lt. elim (cases_Bool (waiting_at inside.states j)) [
+        | inl waits ↦ let found = some_at inside.log j lt in ap (λ x. waiting_at inside.states j && x) (front_is_clear j found.0 found.1 waits)
+        | inr not_waiting ↦ and_left (waiting_at inside.states j) (is_front_at touches inside.log inside.lists j) not_waiting ∙ sym (and_left (waiting_at inside.states j) (is_clear_at touches inside.log inside.states j) not_waiting)
       ])
 
   -- what is known of a place that is ready
   pub record IsTakable (k : ℕ) (b : B) : Type 0 where
-    pub waits : slice_get states k ≡ Some Waiting
-    pub clear : (j : ℕ) → j < k → conflict_at touches log j k ≡ true → open_at states j ≡ false
-    pub inputs : read_cowns (held_of now) (touches b) ≡ inputs_of touches effect (held_after_first touches effect (held_of opening) log k) b
+    pub waits : slice_get inside.states k ≡ Some Waiting
+    pub clear : (j : ℕ) → j < k → conflict_at touches inside.log j k ≡ true → open_at inside.states j ≡ false
+    pub inputs : read_cowns (held_of inside.now) (touches b) ≡ inputs_of touches effect (held_after_first touches effect (held_of inside.opening) inside.log k) b
 
-  pub takable : (index k : ℕ) (b : B) → slice_get (ready_places touches log states) index ≡ Some k → slice_get log k ≡ Some b → IsTakable k b
+  pub takable : (index k : ℕ) (b : B) → slice_get (ready_places touches inside.log inside.states) index ≡ Some k → slice_get inside.log k ≡ Some b → IsTakable k b
   unfolding ready_places
   takable index k b ready here =
-      let found = place_is (is_ready_at touches log states) (length log) index k ready in
-      let parts = and_parts (waiting_at states k) (is_clear_at touches log states k) found.1 in
+      let found = place_is (is_ready_at touches inside.log inside.states) (length inside.log) index k ready in
+      let parts = and_parts (waiting_at inside.states k) (is_clear_at touches inside.log inside.states k) found.1 in
       record {
-        waits = is_that (slice_get states k) parts.0;
+        waits = is_that (slice_get inside.states k) parts.0;
         clear = clear_fact k parts.1;
-        inputs = holds_inputs touches effect board.keeps k (waiting_is_open states k parts.0) (clear_fact k parts.1) b here (omega (arith, found.0));
+        inputs = holds_inputs touches effect board.keeps k (waiting_is_open inside.states k parts.0) (clear_fact k parts.1) b here (omega (arith, found.0));
       }
 
-  pub ready_within : (index k : ℕ) → slice_get (ready_places touches log states) index ≡ Some k → k < length log
+  pub ready_within : (index k : ℕ) → slice_get (ready_places touches inside.log inside.states) index ≡ Some k → k < length inside.log
   unfolding ready_places
-  ready_within index k ready = (place_is (is_ready_at touches log states) (length log) index k ready).0
+  ready_within index k ready = (place_is (is_ready_at touches inside.log inside.states) (length inside.log) index k ready).0
 
   -- what a behaviour's cowns hold after the first k they may hold
   pub inputs_held : ((b : B) (inputs : List ℤ) → AreHeld (touches b) inputs → AreHeld (touches b) (effect b inputs).1)
-      → (k place : ℕ) (b : B) → slice_get log place ≡ Some b → AreHeld (touches b) (inputs_of touches effect (held_after_first touches effect (held_of opening) log k) b)
+      → (k place : ℕ) (b : B) → slice_get inside.log place ≡ Some b → AreHeld (touches b) (inputs_of touches effect (held_after_first touches effect (held_of inside.opening) inside.log k) b)
   inputs_held keeps k place b here =
-      let before = held_after_first touches effect (held_of opening) log k in
-      AreHeld-read before (touches b) (AllHeld-after_first touches effect keeps (held_of opening) log k board.keeps.opened board.keeps.in_range) (λ cown among.
+      let before = held_after_first touches effect (held_of inside.opening) inside.log k in
+      AreHeld-read before (touches b) (AllHeld-after_first touches effect keeps (held_of inside.opening) inside.log k board.keeps.opened board.keeps.in_range) (λ cown among.
       let lt = board.keeps.in_range place cown (ap (λ o. is_among cown (touched_by touches o)) here ∙ among) in
-      omega (arith, lt, length-after touches effect (held_of opening) (take k log)))
+      omega (arith, lt, length-after touches effect (held_of inside.opening) (take k inside.log)))
 
   -- the waiting places are places of the log
-  pub waiting_below : (k d : ℕ) → k < length waiting → get_or waiting k d < length log
+  pub waiting_below : (k d : ℕ) → k < length inside.waiting → get_or inside.waiting k d < length inside.log
   waiting_below k d lt =
-      let here : slice_get (places (waiting_at states) (length log)) k ≡ Some (get_or waiting k d) = ap (λ w. slice_get w k) (sym board.rest) ∙ slice_get-get_or waiting k d lt in
-      (place_is (waiting_at states) (length log) k (get_or waiting k d) here).0
+      let here : slice_get (places (waiting_at inside.states) (length inside.log)) k ≡ Some (get_or inside.waiting k d) = ap (λ w. slice_get w k) (sym board.rest) ∙ slice_get-get_or inside.waiting k d lt in
+      (place_is (waiting_at inside.states) (length inside.log) k (get_or inside.waiting k d) here).0
 
-  pub ready_from : (index k : ℕ) → slice_get (filter (is_front_at touches log lists) waiting) index ≡ Some k → slice_get (ready_places touches log states) index ≡ Some k
+  pub ready_from : (index k : ℕ) → slice_get (filter (is_front_at touches inside.log inside.lists) inside.waiting) index ≡ Some k → slice_get (ready_places touches inside.log inside.states) index ≡ Some k
   ready_from index k h = sym (ap (λ xs. slice_get xs index) fronts_are_ready) ∙ h
 
-  pub few_from : (index : ℕ) → length (filter (is_front_at touches log lists) waiting) ≤ index → length (ready_places touches log states) ≤ index
+  pub few_from : (index : ℕ) → length (filter (is_front_at touches inside.log inside.lists) inside.waiting) ≤ index → length (ready_places touches inside.log inside.states) ≤ index
   few_from index h = subst (λ xs. length xs ≤ index) fronts_are_ready h
 
-  pub number_below : (k : ℕ) → k < length log → base + k + 1 ≤ 1000000
+  pub number_below : (k : ℕ) → k < length inside.log → inside.base + k + 1 ≤ 1000000
   number_below k lt = omega (arith, lt, board.based, board.few_numbers)
 
-  pub takes_from : (index k : ℕ) (b : B) (inputs : List ℤ) → slice_get (ready_places touches log states) index ≡ Some k → slice_get log k ≡ Some b → inputs ≡ read_cowns (held_of now) (touches b)
-      → Takes touches effect (record { opening = opening; earlier = earlier; log = log; states = states }) index (record { number = base + k + 1; behaviour = b; inputs = inputs })
-      (record { opening = opening; earlier = earlier; log = log; states = slice_set states k Out })
+  pub takes_from : (index k : ℕ) (b : B) (inputs : List ℤ) → slice_get (ready_places touches inside.log inside.states) index ≡ Some k → slice_get inside.log k ≡ Some b → inputs ≡ read_cowns (held_of inside.now) (touches b)
+      → Takes touches effect (record { opening = inside.opening; earlier = inside.earlier; log = inside.log; states = inside.states }) index (record { number = inside.base + k + 1; behaviour = b; inputs = inputs })
+      (record { opening = inside.opening; earlier = inside.earlier; log = inside.log; states = slice_set inside.states k Out })
   takes_from index k b inputs ready here read = record {
     place = k;
     ready = ready;
@@ -147,12 +146,12 @@ module _ {B : Type 0} (touches : B → List ℕ) (effect : B → List ℤ → Re
   }
 
   pub taken_inputs_held : ((b : B) (inputs : List ℤ) → AreHeld (touches b) inputs → AreHeld (touches b) (effect b inputs).1)
-      → (index k : ℕ) (b : B) (inputs : List ℤ) → slice_get (ready_places touches log states) index ≡ Some k → slice_get log k ≡ Some b → inputs ≡ read_cowns (held_of now) (touches b) → AreHeld (touches b) inputs
+      → (index k : ℕ) (b : B) (inputs : List ℤ) → slice_get (ready_places touches inside.log inside.states) index ≡ Some k → slice_get inside.log k ≡ Some b → inputs ≡ read_cowns (held_of inside.now) (touches b) → AreHeld (touches b) inputs
   taken_inputs_held keeps index k b inputs ready here read = subst (AreHeld (touches b)) (sym (read ∙ (takable index k b ready here).inputs)) (inputs_held keeps k k b here)
 
-  pub board_taken : (index p k : ℕ) → slice_get waiting p ≡ Some k → slice_get (ready_places touches log states) index ≡ Some k
-      → IsBoard touches effect opening now base earlier log (slice_set states k Out) lists (remove waiting p) unfinished
+  pub board_taken : (index p k : ℕ) → slice_get inside.waiting p ≡ Some k → slice_get (ready_places touches inside.log inside.states) index ≡ Some k
+      → IsBoard touches effect (record inside { states = slice_set inside.states k Out; waiting = remove inside.waiting p })
   board_taken index p k at ready =
-      let found = some_at log k (ready_within index k ready) in
+      let found = some_at inside.log k (ready_within index k ready) in
       let known = takable index k found.0 ready found.1 in
       IsBoard-taken touches effect board p k at known.waits known.clear

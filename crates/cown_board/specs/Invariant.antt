@@ -23,6 +23,19 @@ waiting_at states k = state_is is_waiting (slice_get states k)
 abbrev pub AllHeld : List ℤ → Type 0
 AllHeld held = (cown : ℕ) → cown < length held → IsHeld cown (get_or held cown (pos 0))
 
+-- what a board has inside: beside what its callers see the columns as they are now, how many numbers there were before it, the queue of
+-- each cown, the places of the waiting ones, and how many are unfinished
+pub record BoardInside (B : Type 0) : Type 0 where
+  pub opening : Balances
+  pub now : Balances
+  pub base : ℕ
+  pub earlier : List Reply
+  pub log : List B
+  pub states : List State
+  pub lists : List (List ℕ)
+  pub waiting : List ℕ
+  pub unfinished : ℕ
+
 module _ {B : Type 0} (touches : B → List ℕ) (effect : B → List ℤ → Reply × List ℤ) where
   -- whether the behaviour at a place declares a cown
   abbrev pub touches_at : List B → ℕ → ℕ → Bool
@@ -57,11 +70,11 @@ module _ {B : Type 0} (touches : B → List ℕ) (effect : B → List ℤ → Re
     pub each : (cown : ℕ) → cown < cowns → list_of lists cown ≡ places (is_queued log states cown) (length log)
 
   -- all that a board keeps
-  pub record IsBoard (opening now : Balances) (base : ℕ) (earlier : List Reply) (log : List B) (states : List State) (lists : List (List ℕ)) (waiting : List ℕ) (open_count : ℕ) : Type 0 where
-    pub based : length earlier ≡ base
-    pub keeps : Keeps (held_of opening) log states (held_of now)
-    pub queues : QueuesAre log states lists (length (held_of opening))
-    pub rest : waiting ≡ places (waiting_at states) (length log)
-    pub unfinished : open_count ≡ count_by is_open states
-    pub few_open : open_count ≤ OPEN_BEHAVIOURS
-    pub few_numbers : length earlier + length log ≤ LOG_CALLS
+  pub record IsBoard (inside : BoardInside B) : Type 0 where
+    pub based : length inside.earlier ≡ inside.base
+    pub keeps : Keeps (held_of inside.opening) inside.log inside.states (held_of inside.now)
+    pub queues : QueuesAre inside.log inside.states inside.lists (length (held_of inside.opening))
+    pub rest : inside.waiting ≡ places (waiting_at inside.states) (length inside.log)
+    pub unfinished : inside.unfinished ≡ count_by is_open inside.states
+    pub few_open : inside.unfinished ≤ OPEN_BEHAVIOURS
+    pub few_numbers : length inside.earlier + length inside.log ≤ LOG_CALLS

@@ -71,8 +71,7 @@ module _ {B : Type 0} (touches : B → List ℕ) (effect : B → List ℤ → Re
   BoardLaw = (columns : Balances) (earlier : List Reply) (calls : List (BoardCall B)) (board : BoardOf B)
       → Plays (opened_with columns earlier) calls board → IsTrueToLog columns earlier calls board
 
-  -- a call, and the board that it leaves, which is true to its log whatever the calls before it were
-  pub record IsPlayed (old : BoardOf B) (call : BoardCall B) (new : BoardOf B) : Type 0 where
-    pub made : Makes old call new
+  -- after any calls, and then this one, the board is true to its log
+  pub record StaysTrueToLog (old : BoardOf B) (call : BoardCall B) (new : BoardOf B) : Type 0 where
     pub law : (columns : Balances) (earlier : List Reply) (calls : List (BoardCall B))
         → Plays (opened_with columns earlier) calls old → IsTrueToLog columns earlier (calls ++ call ∷ []) new

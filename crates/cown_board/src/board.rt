@@ -7,7 +7,7 @@ ghost use Rattle.sb_calls.specs.OneByOne.{reply_by_log};
 ghost use Rattle.cown_queue.specs.Queues.{IsInFront, Releases};
 ghost use Rattle.cown_board.specs.Board.{BoardOf, length_of, open_of, reply_in, Takes, Finishes, IsOutHere, IsAfterAll};
 ghost use Rattle.cown_board.specs.Faults.{submit_fault_number};
-ghost use Rattle.cown_board.specs.Played.{IsPlayed, Submitted, TakenAt, Returned};
+ghost use Rattle.cown_board.specs.Played.{StaysTrueToLog, Submitted, TakenAt, Returned};
 ghost use Rattle.cown_board.specs.Readiness.{ready_places};
 
 use crate::accepting::{is_out_at, place_of};
@@ -82,7 +82,17 @@ impl<B: Behaviour> Model for Board<B> {
 
     ghost view = { λ b. record { opening = b.opening; earlier = b.earlier.items; log = b.log.items; states = b.states.items } };
 
-    ghost invariant = { λ b. IsBoard B.touches B.effect b.opening b.columns b.base b.earlier.items b.log.items b.states.items b.queues.lists b.waiting.items b.unfinished };
+    ghost invariant = { λ b. IsBoard B.touches B.effect (record {
+      opening = b.opening;
+      now = b.columns;
+      base = b.base;
+      earlier = b.earlier.items;
+      log = b.log.items;
+      states = b.states.items;
+      lists = b.queues.lists;
+      waiting = b.waiting.items;
+      unfinished = b.unfinished;
+    }) };
 }
 
 impl<B: Behaviour> Board<B> {
@@ -152,8 +162,8 @@ impl<B: Behaviour> Board<B> {
         ensures full { IsErrOf result SubmitFault.LogFull ↔ ((open_of self.old ≢ OPEN_BEHAVIOURS) × (length_of self.old ≡ LOG_CALLS)) }
         // After any calls, with this one too, the board is true to its log.
         ensures played { MatchResult result
-            (λ number. IsPlayed B.touches B.effect self.old (Submitted behaviour (Ok number)) self.new)
-            (λ fault. IsPlayed B.touches B.effect self.old (Submitted behaviour (Err fault)) self.new) }
+            (λ number. StaysTrueToLog B.touches B.effect self.old (Submitted behaviour (Ok number)) self.new)
+            (λ fault. StaysTrueToLog B.touches B.effect self.old (Submitted behaviour (Err fault)) self.new) }
     {
         if self.unfinished == OPEN_BEHAVIOURS {
             return Err(SubmitFault::Busy);
@@ -192,8 +202,8 @@ impl<B: Behaviour> Board<B> {
             (λ job. Takes B.touches B.effect self.old index job self.new) }
         // After any calls, with this one too, the board is true to its log.
         ensures played { MatchOption result
-            (IsPlayed B.touches B.effect self.old (TakenAt index None) self.new)
-            (λ job. IsPlayed B.touches B.effect self.old (TakenAt index (Some job)) self.new) }
+            (StaysTrueToLog B.touches B.effect self.old (TakenAt index None) self.new)
+            (λ job. StaysTrueToLog B.touches B.effect self.old (TakenAt index (Some job)) self.new) }
     {
         let (position, place) = nth_front(&self.log, &self.queues, &self.waiting, index)?;
         take_out(&mut self.waiting, position);
@@ -211,8 +221,8 @@ impl<B: Behaviour> Board<B> {
         ensures outcome { MatchResult result (λ reply. Finishes B.touches B.effect self.old done reply self.new) (λ back. (back ≡ done) × (self.new ≡ self.old)) }
         // After any calls, with this one too, the board is true to its log.
         ensures played { MatchResult result
-            (λ reply. IsPlayed B.touches B.effect self.old (Returned done (Ok reply)) self.new)
-            (λ back. IsPlayed B.touches B.effect self.old (Returned done (Err back)) self.new) }
+            (λ reply. StaysTrueToLog B.touches B.effect self.old (Returned done (Ok reply)) self.new)
+            (λ back. StaysTrueToLog B.touches B.effect self.old (Returned done (Err back)) self.new) }
     {
         let Some(place) = place_of(self.base, self.log.len(), done.number()) else {
             return Err(done);

@@ -11,9 +11,11 @@ mod runs;
 mod state;
 #[cfg(test)]
 mod tests;
+mod turn;
 
 pub use board::{Board, OPEN_BEHAVIOURS, SubmitFault};
 pub use job::{Done, Job};
 pub use laws::{limits, true_to_the_log};
 pub use runs::Runs;
 pub use state::State;
+pub use turn::{Turn, take_turn};

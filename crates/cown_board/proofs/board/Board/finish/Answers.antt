@@ -9,7 +9,7 @@ use Rattle.cown_board.proofs.TakenJob.{declared_in_queues, declared_in_held}
 use Rattle.cown_board.proofs.LogLaws.{injective}
 use Rattle.cown_board.proofs.PlayedCalls.{played_refused, played_finished}
 use Rattle.cown_board.specs.Board.{BoardOf, IsOutHere}
-use Rattle.cown_board.specs.Played.{IsPlayed, Returned}
+use Rattle.cown_board.specs.Played.{StaysTrueToLog, Returned}
 use Rattle.cown_board.proofs.board.Board.finish.Goals as goal
 
 pub returns-in_default-clause-accepted : goal.returns-in_default-clause-accepted
@@ -112,7 +112,7 @@ returns-in_default-clause-played g c =
     let effect = g.B.Behaviour.effect in
     let board = c.self.invariant in
     let done = c.args.done in
-    subst (λ (v : BoardOf g.row.B.Denot). IsPlayed touches effect v (Returned done (Err done)) v) c.self.view_is
+    subst (λ (v : BoardOf g.row.B.Denot). StaysTrueToLog touches effect v (Returned done (Err done)) v) c.self.view_is
     (played_refused touches effect (seen touches effect board) done (not_numbered touches effect board done (λ k lt same.
     c.in_default.ensures k (omega (arith, lt, c.len.ensures, c.self.inside.log.ok)) (c.number.ensures ∙ same))))
 
@@ -122,7 +122,7 @@ returns-then-not-is_out_at-clause-played g c =
     let effect = g.B.Behaviour.effect in
     let board = c.self.invariant in
     let done = c.args.done in
-    subst (λ (v : BoardOf g.row.B.Denot). IsPlayed touches effect v (Returned done (Err done)) v) c.self.view_is
+    subst (λ (v : BoardOf g.row.B.Denot). StaysTrueToLog touches effect v (Returned done (Err done)) v) c.self.view_is
     (played_refused touches effect (seen touches effect board) done (not_inside touches effect board c.in-Some.place done (sym c.number.ensures ∙ c.in-Some.ensures.1)
     (λ inside. both_ways c.is_out_at.result c.if-not-is_out_at.true (c.is_out_at.ensures.1 inside))))
 

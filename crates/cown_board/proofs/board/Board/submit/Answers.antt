@@ -4,7 +4,7 @@ use Rattle.cown_board.specs.Board.{BoardOf}
 use Rattle.cown_queue.specs.Queues.{Appends}
 use Rattle.cown_board.proofs.Changes.{IsBoard-pushed}
 use Rattle.cown_board.proofs.PlayedCalls.{played_busy, played_full, played_no_memory, played_put}
-use Rattle.cown_board.specs.Played.{IsPlayed, Submitted}
+use Rattle.cown_board.specs.Played.{StaysTrueToLog, Submitted}
 use Rattle.cown_board.specs.declared.board.SubmitFault.TheVariants.{Busy, LogFull}
 use Rattle.cown_board.specs.declared.state.State.TheVariants.{Waiting}
 use Rattle.cown_board.proofs.board.Board.submit.Goals as goal
@@ -30,14 +30,14 @@ pub returns-then-self-eq-OPEN_BEHAVIOURS-clause-played : goal.returns-then-self-
 returns-then-self-eq-OPEN_BEHAVIOURS-clause-played g c =
     let touches = g.B.Behaviour.touches in
     let effect = g.B.Behaviour.effect in
-    subst (λ (v : BoardOf g.row.B.Denot). IsPlayed touches effect v (Submitted c.args.behaviour (Err Busy)) v) c.self.view_is
+    subst (λ (v : BoardOf g.row.B.Denot). StaysTrueToLog touches effect v (Submitted c.args.behaviour (Err Busy)) v) c.self.view_is
     (played_busy touches effect c.self.invariant c.args.behaviour c.if-self-eq-OPEN_BEHAVIOURS.true)
 
 pub returns-then-self-len-eq-LOG_CALLS-clause-played : goal.returns-then-self-len-eq-LOG_CALLS-clause-played
 returns-then-self-len-eq-LOG_CALLS-clause-played g c =
     let touches = g.B.Behaviour.touches in
     let effect = g.B.Behaviour.effect in
-    subst (λ (v : BoardOf g.row.B.Denot). IsPlayed touches effect v (Submitted c.args.behaviour (Err LogFull)) v) c.self.view_is
+    subst (λ (v : BoardOf g.row.B.Denot). StaysTrueToLog touches effect v (Submitted c.args.behaviour (Err LogFull)) v) c.self.view_is
     (played_full touches effect c.self.invariant c.args.behaviour c.if-self-eq-OPEN_BEHAVIOURS.false
     (omega (arith, c.if-self-len-eq-LOG_CALLS.true, c.len.ensures, c.self.inside.log.ok)))
 
