@@ -12,7 +12,7 @@ use Rattle.cown_queue.specs.Queues.{IsInFront, Releases}
 use Rattle.cown_board.proofs.Changes.{IsBoard-finished}
 use Rattle.cown_board.proofs.Counts.{count_some, all_finished}
 use Rattle.cown_board.proofs.Finishing.{clear_of_out}
-use Rattle.cown_board.proofs.HeldLaws.{length-AreHeld}
+use Rattle.sb_calls.proofs.HeldLaws.{length-AreHeld}
 use Rattle.cown_board.proofs.Inputs.{holds_inputs, touched_within}
 use Rattle.cown_board.proofs.LogLaws.{length-after}
 use Rattle.cown_board.proofs.Queued.{fronts_from_clear, in_front_from}

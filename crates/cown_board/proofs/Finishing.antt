@@ -7,7 +7,7 @@ use Rattle.std.proofs.lemmas.Option.{slice_get_within}
 use Rattle.sb_calls.specs.Cowns.{write_cowns}
 use Rattle.sb_calls.specs.OneByOne.{is_among, inputs_of, held_after_first, reply_of}
 use Rattle.sb_calls.specs.declared.reply.Reply.{Reply}
-use Rattle.cown_board.proofs.HeldLaws.{length-write, get-write_other, get-write_same}
+use Rattle.sb_calls.proofs.HeldLaws.{length-write, get-write_other, get-write_same}
 use Rattle.cown_board.proofs.Inputs.{touched_within, conflict_from}
 use Rattle.cown_board.proofs.LogLaws.{injective, after_one_more, after_untouched, length-after}
 use Rattle.cown_board.proofs.States.{state-set_same, state-set_other, state_here, slice_get-set_same, slice_get-set_other, waiting_is_open}

@@ -4,7 +4,6 @@ mod CownLists
 mod FinishedJob
 mod Finishing
 mod FrontLaws
-mod HeldLaws
 mod Inputs
 mod LogLaws
 mod MadeCalls
@@ -13,7 +12,6 @@ pub mod PlacesLaws
 mod PlayedCalls
 mod PlayedLaws
 mod Queued
-mod ReadingCowns
 mod Replies
 pub mod States
 mod Submitting

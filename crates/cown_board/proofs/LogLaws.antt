@@ -2,12 +2,12 @@
 use Rattle.std.proofs.Common.{◌≡◌, ℕ, zero, suc, ◌+◌, ◌<◌, ◌≤◌, ℤ, pos, true, false, Option, Some, None, List, [], ◌∷◌, ◌++◌, length, get_or, take, refl, sym, ap, ◌∙◌, arith}
 use Rattle.std.specs.Prelude.{slice_get}
 use Rattle.std.proofs.lemmas.Bool.{true≢false}
-use Rattle.sb_calls.specs.Cowns.{AreHeld, write_cowns}
+use Rattle.sb_calls.specs.Cowns.{AllHeld, AreHeld, write_cowns}
 use Rattle.sb_calls.specs.OneByOne.{is_among, inputs_of, held_after, held_after_one, held_after_first}
 use Rattle.sb_calls.specs.declared.reply.Reply.{Reply}
-use Rattle.cown_board.proofs.HeldLaws.{length-write, get-write_other, AreHeld-read, AllHeld-write}
+use Rattle.sb_calls.proofs.HeldLaws.{length-write, get-write_other, AreHeld-read, AllHeld-write}
 use Rattle.cown_board.specs.Readiness.{touched_by}
-use Rattle.cown_board.specs.Invariant.{AllHeld, touches_at}
+use Rattle.cown_board.specs.Invariant.{touches_at}
 
 pub injective : {A : Type 0} {x y : A} → ◌≡◌ {A = Option A} (Some x) (Some y) → x ≡ y
 injective h = cc

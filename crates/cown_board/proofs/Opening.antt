@@ -6,32 +6,14 @@ use Rattle.std.proofs.lemmas.List.Elements.{All-get_or}
 use Rattle.sb_amount.specs.Limit.{IsWithinLimit}
 use Rattle.sb_rows.specs.Balances.{Balances, IsBalances, IsSavings}
 use Rattle.sb_calls.proofs.Holding.{held_savings, held_checking, length-held_of}
+use Rattle.sb_calls.proofs.HeldLaws.{AllHeld-balances}
 use Rattle.sb_calls.specs.Cowns.{held_of}
 use Rattle.sb_calls.specs.declared.call.TheConstants.{LOG_CALLS}
 use Rattle.sb_calls.specs.declared.reply.Reply.{Reply}
 use Rattle.sb_calls.specs.OneByOne.{held_after_first}
 use Rattle.cown_board.proofs.LogLaws.{no_some}
 use Rattle.cown_queue.specs.Queues.{list_of}
-use Rattle.cown_board.specs.Invariant.{AllHeld, IsBoard}
-
--- the columns of a bank hold what cowns may
-pub AllHeld-balances : (b : Balances) → IsBalances b → AllHeld (held_of b)
-AllHeld-balances b valid cown lt =
-    let two = length-held_of b valid.same in
-    elim (cases_eq (cown % 2) 0) [
-      | inl even ↦
-          let at : cown ≡ 2 * (cown / 2) = omega (arith, even) in
-          let saved : IsSavings (get_or b.savings (cown / 2) (pos 0)) = All-get_or IsSavings b.savings (cown / 2) (pos 0) (omega (arith, lt, two)) valid.savings in
-          let here : get_or b.savings (cown / 2) (pos 0) ≡ get_or (held_of b) cown (pos 0) =
-          sym (held_savings b (cown / 2) valid.same) ∙ ap (λ c. get_or (held_of b) c (pos 0)) (sym at) in
-          record { within = subst IsWithinLimit here saved.within; not_negative = λ _. subst (λ v. pos 0 ≤ℤ v) here saved.not_negative }
-      | inr odd ↦
-          let at : cown ≡ 2 * (cown / 2) + 1 = omega (arith, odd) in
-          let within : IsWithinLimit (get_or b.checking (cown / 2) (pos 0)) = All-get_or IsWithinLimit b.checking (cown / 2) (pos 0) (omega (arith, lt, two, valid.same)) valid.checking in
-          let here : get_or b.checking (cown / 2) (pos 0) ≡ get_or (held_of b) cown (pos 0) =
-          sym (held_checking b (cown / 2) valid.same) ∙ ap (λ c. get_or (held_of b) c (pos 0)) (sym at) in
-          record { within = subst IsWithinLimit here within; not_negative = λ even. absurd (odd even) }
-    ]
+use Rattle.cown_board.specs.Invariant.{IsBoard}
 
 module _ {B : Type 0} (touches : B → List ℕ) (effect : B → List ℤ → Reply × List ℤ) where
   -- nothing is submitted, and the cowns hold what the columns say

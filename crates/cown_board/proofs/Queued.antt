@@ -6,7 +6,7 @@ use Rattle.std.proofs.lemmas.Option.{slice_get_within}
 use Rattle.sb_calls.specs.OneByOne.{is_among}
 use Rattle.sb_calls.specs.declared.reply.Reply.{Reply}
 use Rattle.cown_queue.specs.Queues.{list_of, Appends, Releases, IsInFront}
-use Rattle.cown_board.proofs.HeldLaws.{shared_cown, eqb-refl}
+use Rattle.sb_calls.proofs.HeldLaws.{shared_cown, eqb-refl}
 use Rattle.cown_board.proofs.LogLaws.{injective, no_some}
 use Rattle.cown_board.proofs.Inputs.{conflict_from}
 use Rattle.cown_board.proofs.PlacesLaws.{append_nothing, places-agree, places-remove, place_first, none_before_first, none_below_at, none_below_from, but, but_other, but_same, slice_get-left, slice_get-right}

@@ -10,7 +10,7 @@ use Rattle.sb_calls.specs.declared.reply.Reply.{Reply}
 use Rattle.cown_board.proofs.Changes.{IsBoard-taken}
 use Rattle.cown_board.proofs.CownLists.{below_from}
 use Rattle.cown_board.proofs.FrontLaws.{same_tests, fronts_test, fronts_fact}
-use Rattle.cown_board.proofs.HeldLaws.{AreHeld-read}
+use Rattle.sb_calls.proofs.HeldLaws.{AreHeld-read}
 use Rattle.cown_board.proofs.Inputs.{holds_inputs}
 use Rattle.cown_board.proofs.LogLaws.{AllHeld-after_first, length-after}
 use Rattle.cown_board.proofs.PlacesLaws.{places-agree, places-filter, place_is, none_below_at, none_below_from}

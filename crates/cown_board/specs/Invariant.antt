@@ -1,7 +1,7 @@
 -- What a board keeps, whatever is submitted, taken and finished.
 use Rattle.std.specs.Prelude.{◌≡◌, ℕ, ◌<◌, ◌≤◌, ◌+◌, ℤ, pos, Bool, true, false, ◌&&◌, Some, List, length, get_or, slice_get, option_map, count_by}
 use Rattle.sb_rows.specs.Balances.{Balances}
-use Rattle.sb_calls.specs.Cowns.{IsHeld, held_of}
+use Rattle.sb_calls.specs.Cowns.{AllHeld, held_of}
 use Rattle.sb_calls.specs.OneByOne.{is_among, held_after_first, reply_of}
 use Rattle.sb_calls.specs.declared.reply.Reply.{Reply}
 use Rattle.sb_calls.specs.declared.call.TheConstants.{LOG_CALLS}
@@ -18,10 +18,6 @@ open_at states k = state_is is_open (slice_get states k)
 
 abbrev pub waiting_at : List State → ℕ → Bool
 waiting_at states k = state_is is_waiting (slice_get states k)
-
--- each value is one that its cown may hold
-abbrev pub AllHeld : List ℤ → Type 0
-AllHeld held = (cown : ℕ) → cown < length held → IsHeld cown (get_or held cown (pos 0))
 
 -- what a board has inside: beside what its callers see the columns as they are now, how many numbers there were before it, the queue of
 -- each cown, the places of the waiting ones, and how many are unfinished

@@ -3,10 +3,9 @@ ghost use Rattle.std.specs.Prelude.{◌≡◌, ◌≢◌, ◌<◌, ◌+◌, ◌�
 ghost use Rattle.sb_calls.specs.Cowns.{AreBelow, held_of, read_cowns};
 ghost use Rattle.cown_board.specs.State as spec;
 
-use crate::held::read_all;
 use crate::job::Done;
 use crate::state::State;
-use sb_calls::Behaviour;
+use sb_calls::{Behaviour, read_cowns};
 use sb_rows::Columns;
 
 // The place in the log of a number, if it has one.
@@ -63,6 +62,6 @@ pub(crate) fn is_out_at<B: Behaviour>(
     if !is_out(states[place as usize]) || !same_behaviour(behaviour, done.behaviour()) {
         return false;
     }
-    let inputs = read_all(columns, behaviour.cowns().as_slice());
+    let inputs = read_cowns(columns, behaviour.cowns().as_slice());
     same_values(done.inputs(), inputs.as_slice())
 }

@@ -12,12 +12,11 @@ ghost use Rattle.cown_board.specs.Readiness.{ready_places};
 
 use crate::accepting::{is_out_at, place_of};
 use crate::fronts::nth_front;
-use crate::held::{read_all, write_all};
 use crate::job::{Done, Job};
 use crate::state::State;
 use arrayvec::ArrayVec;
 use cown_queue::Queues;
-use sb_calls::{Behaviour, Cown, LOG_CALLS, Reply};
+use sb_calls::{Behaviour, Cown, LOG_CALLS, Reply, read_cowns, write_cowns};
 use sb_rows::Columns;
 use std::alloc::{AllocError, Global};
 use std::collections::VecDeque;
@@ -209,7 +208,7 @@ impl<B: Behaviour> Board<B> {
         take_out(&mut self.waiting, position);
         let behaviour = self.log[place as usize];
         self.states[place as usize] = State::Out;
-        let inputs = read_all(&self.columns, behaviour.cowns().as_slice());
+        let inputs = read_cowns(&self.columns, behaviour.cowns().as_slice());
         Some(Job::new(self.base + place + 1, behaviour, inputs))
     }
 
@@ -313,7 +312,7 @@ fn settle(queues: &mut Queues, columns: &mut Columns, place: u64, cowns: &[Cown]
     ensures written { held_of columns.new ≡ write_cowns (held_of columns.old) cowns.now outputs.now }
 {
     queues.release(place, cowns);
-    write_all(columns, cowns, outputs);
+    write_cowns(columns, cowns, outputs);
 }
 
 // Takes a position out of the waiting places. Where all are run in place it is the first.

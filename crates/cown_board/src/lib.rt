@@ -4,7 +4,6 @@
 mod accepting;
 mod board;
 mod fronts;
-mod held;
 mod job;
 mod laws;
 mod runs;

@@ -39,8 +39,8 @@ index_mut-requires g c =
     let lt = ready_within touches effect c.self.invariant c.args.index c.in_ok-position.place (ready_from touches effect c.self.invariant c.args.index c.in_ok-position.place c.in_ok-position.ensures.1) in
     omega (arith, lt, c.self.inside.states.ok, c.self.invariant.keeps.beside)
 
-pub read_all-inputs-requires-clause-cowns : goal.read_all-inputs-requires-clause-cowns
-read_all-inputs-requires-clause-cowns g c =
+pub read_cowns-inputs-requires-clause-cowns : goal.read_cowns-inputs-requires-clause-cowns
+read_cowns-inputs-requires-clause-cowns g c =
     let touches = g.B.Behaviour.touches in
     let effect = g.B.Behaviour.effect in
     let log = c.self.inside.log.items in
@@ -72,9 +72,9 @@ new-requires g c =
     let ready = ready_from touches effect c.self.invariant c.args.index c.in_ok-position.place c.in_ok-position.ensures.1 in
     let lt = ready_within touches effect c.self.invariant c.args.index c.in_ok-position.place ready in
     let here : slice_get log c.in_ok-position.place ≡ Some c.index-behaviour.result.now = slice_get_read log (length log) c.in_ok-position.place c.index-behaviour.result.now refl lt c.index-behaviour.ensures in
-    let read : c.read_all-inputs.result.items ≡ read_cowns (held_of c.self.inside.columns) (touches c.index-behaviour.result.now) =
-    c.read_all-inputs.ensures ∙ ap (read_cowns (held_of c.self.inside.columns)) (c.as_slice.ensures.value ∙ c.cowns.ensures) in
-    taken_inputs_held touches effect c.self.invariant g.met.B.Behaviour.keeps c.args.index c.in_ok-position.place c.index-behaviour.result.now c.read_all-inputs.result.items ready here read
+    let read : c.read_cowns-inputs.result.items ≡ read_cowns (held_of c.self.inside.columns) (touches c.index-behaviour.result.now) =
+    c.read_cowns-inputs.ensures ∙ ap (read_cowns (held_of c.self.inside.columns)) (c.as_slice.ensures.value ∙ c.cowns.ensures) in
+    taken_inputs_held touches effect c.self.invariant g.met.B.Behaviour.keeps c.args.index c.in_ok-position.place c.index-behaviour.result.now c.read_cowns-inputs.result.items ready here read
 
 pub take_out-requires : goal.take_out-requires
 take_out-requires g c = slice_get_within c.self.inside.waiting.items c.in_ok-position.position c.in_ok-position.place c.in_ok-position.ensures.0
@@ -94,9 +94,9 @@ returns-clause-outcome g c =
     let ready = ready_from touches effect c.self.invariant c.args.index c.in_ok-position.place c.in_ok-position.ensures.1 in
     let lt = ready_within touches effect c.self.invariant c.args.index c.in_ok-position.place ready in
     let here : slice_get log c.in_ok-position.place ≡ Some c.index-behaviour.result.now = slice_get_read log (length log) c.in_ok-position.place c.index-behaviour.result.now refl lt c.index-behaviour.ensures in
-    let read : c.read_all-inputs.result.items ≡ read_cowns (held_of c.self.inside.columns) (touches c.index-behaviour.result.now) =
-    c.read_all-inputs.ensures ∙ ap (read_cowns (held_of c.self.inside.columns)) (c.as_slice.ensures.value ∙ c.cowns.ensures) in
-    let takes = takes_from touches effect c.self.invariant c.args.index c.in_ok-position.place c.index-behaviour.result.now c.read_all-inputs.result.items ready here read in
+    let read : c.read_cowns-inputs.result.items ≡ read_cowns (held_of c.self.inside.columns) (touches c.index-behaviour.result.now) =
+    c.read_cowns-inputs.ensures ∙ ap (read_cowns (held_of c.self.inside.columns)) (c.as_slice.ensures.value ∙ c.cowns.ensures) in
+    let takes = takes_from touches effect c.self.invariant c.args.index c.in_ok-position.place c.index-behaviour.result.now c.read_cowns-inputs.result.items ready here read in
     rw (c.new.ensures, sym c.self.view_is) takes
 
 pub returns-clause-played : goal.returns-clause-played
@@ -107,7 +107,7 @@ returns-clause-played g c =
     let ready = ready_from touches effect c.self.invariant c.args.index c.in_ok-position.place c.in_ok-position.ensures.1 in
     let lt = ready_within touches effect c.self.invariant c.args.index c.in_ok-position.place ready in
     let here : slice_get log c.in_ok-position.place ≡ Some c.index-behaviour.result.now = slice_get_read log (length log) c.in_ok-position.place c.index-behaviour.result.now refl lt c.index-behaviour.ensures in
-    let read : c.read_all-inputs.result.items ≡ read_cowns (held_of c.self.inside.columns) (touches c.index-behaviour.result.now) =
-    c.read_all-inputs.ensures ∙ ap (read_cowns (held_of c.self.inside.columns)) (c.as_slice.ensures.value ∙ c.cowns.ensures) in
-    let takes = takes_from touches effect c.self.invariant c.args.index c.in_ok-position.place c.index-behaviour.result.now c.read_all-inputs.result.items ready here read in
+    let read : c.read_cowns-inputs.result.items ≡ read_cowns (held_of c.self.inside.columns) (touches c.index-behaviour.result.now) =
+    c.read_cowns-inputs.ensures ∙ ap (read_cowns (held_of c.self.inside.columns)) (c.as_slice.ensures.value ∙ c.cowns.ensures) in
+    let takes = takes_from touches effect c.self.invariant c.args.index c.in_ok-position.place c.index-behaviour.result.now c.read_cowns-inputs.result.items ready here read in
     rw (c.new.ensures, sym c.self.view_is) (played_taken touches effect takes)
