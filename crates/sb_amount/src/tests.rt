@@ -53,6 +53,20 @@ fn names_the_first_of_two_faults(rt: HostRuntime) {
 }
 
 #[test]
+fn tells_canonical_digits(rt: HostRuntime) {
+    for (digits, canonical) in [
+        ("", false),
+        ("0", true),
+        ("7", true),
+        ("10", true),
+        ("00", false),
+        ("01", false),
+    ] {
+        assert_eq!(rt; is_canonical(digits.as_bytes()), canonical, "{digits}");
+    }
+}
+
+#[test]
 fn prints_amounts(rt: HostRuntime) {
     for (number, text) in [
         (0, "0.00"),

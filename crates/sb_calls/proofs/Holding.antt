@@ -87,6 +87,8 @@ pub length-held_of : (b : Balances) → length b.savings ≡ length b.checking �
 unfolding held_of
 length-held_of b e = length-by_cown b.savings b.checking e
 
+pub ruleset two_cowns_a_customer = (length-held_of)
+
 -- ---- both ways
 
 by_cown-injective : (s c t d : List ℤ) → length s ≡ length c → length t ≡ length d → by_cown s c ≡ by_cown t d → (s ≡ t) × (c ≡ d)

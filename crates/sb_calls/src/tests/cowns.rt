@@ -1,4 +1,5 @@
 use super::*;
+use sb_rows::read_opening;
 use std::test::Fail;
 
 // The last place that a bank of 65,536 customers has.
@@ -64,4 +65,20 @@ fn names_cowns(rt: HostRuntime) {
         cowns_of(Op::Balance(1)).as_slice(),
         [Cown::savings(1), Cown::checking(1)].as_slice()
     );
+}
+
+#[test]
+#[tactic(auto, using(crate::proofs::Holding::two_cowns_a_customer))]
+fn reads_and_writes_balances_by_cown(rt: HostRuntime) -> Result<(), Fail> {
+    let mut columns = read_opening(rt.alloc(), OPENING.as_bytes())?.columns;
+    assert_eq!(rt; columns.customers(), 3);
+    let cowns = [Cown::savings(0), Cown::checking(1), Cown::checking(2)];
+    assert_eq!(rt;
+        read_cowns(&columns, &cowns).as_slice(),
+        [10_000, 2_000, 0].as_slice()
+    );
+    write_cowns(&mut columns, &cowns, &[1, 2, -3]);
+    assert_eq!(rt; columns.savings(), [1, 0, 1_000].as_slice());
+    assert_eq!(rt; columns.checking(), [5_000, 2, -3].as_slice());
+    Ok(())
 }

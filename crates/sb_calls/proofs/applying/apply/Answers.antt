@@ -1,9 +1,8 @@
-use Rattle.std.proofs.Common.{◌≡◌, ℤ, List, length, sym, subst}
+use Rattle.std.proofs.Common.{◌≡◌}
 use Rattle.sb_calls.proofs.AppliedOps.{declared_below, declared_held, applied_follows, applied_places}
 use Rattle.sb_calls.specs.Behaviour.{declared_cowns, effect_of}
 use Rattle.sb_calls.specs.BehaviourLaws.{effect_keeps}
-use Rattle.sb_calls.specs.Cowns.{AreBelow, AreHeld, held_of, read_cowns, write_cowns}
-use Rattle.sb_calls.specs.FollowsProcedure.{FollowsProcedure}
+use Rattle.sb_calls.specs.Cowns.{held_of, read_cowns, write_cowns}
 use Rattle.sb_calls.proofs.applying.apply.Goals as goal
 
 pub read_cowns-inputs-requires-clause-cowns : goal.read_cowns-inputs-requires-clause-cowns
