@@ -21,13 +21,15 @@ AllHeld-balances b valid cown lt =
     elim (cases_eq (cown % 2) 0) [
       | inl even ↦
           let at : cown ≡ 2 * (cown / 2) = omega (arith, even) in
-          let saved : IsSavings (get_or b.savings (cown / 2) (pos 0)) = All-get_or IsSavings b.savings (cown / 2) (pos 0) (omega (arith, lt, two)) valid.savings in
+          let saved : IsSavings (get_or b.savings (cown / 2) (pos 0)) =
+          All-get_or IsSavings b.savings (cown / 2) (pos 0) (omega (arith, lt, two)) valid.savings in
           let here : get_or b.savings (cown / 2) (pos 0) ≡ get_or (held_of b) cown (pos 0) =
           sym (held_savings b (cown / 2) valid.same) ∙ ap (λ c. get_or (held_of b) c (pos 0)) (sym at) in
           record { within = subst IsWithinLimit here saved.within; not_negative = λ _. subst (λ v. pos 0 ≤ℤ v) here saved.not_negative }
       | inr odd ↦
           let at : cown ≡ 2 * (cown / 2) + 1 = omega (arith, odd) in
-          let within : IsWithinLimit (get_or b.checking (cown / 2) (pos 0)) = All-get_or IsWithinLimit b.checking (cown / 2) (pos 0) (omega (arith, lt, two, valid.same)) valid.checking in
+          let within : IsWithinLimit (get_or b.checking (cown / 2) (pos 0)) =
+          All-get_or IsWithinLimit b.checking (cown / 2) (pos 0) (omega (arith, lt, two, valid.same)) valid.checking in
           let here : get_or b.checking (cown / 2) (pos 0) ≡ get_or (held_of b) cown (pos 0) =
           sym (held_checking b (cown / 2) valid.same) ∙ ap (λ c. get_or (held_of b) c (pos 0)) (sym at) in
           record { within = subst IsWithinLimit here within; not_negative = λ even. absurd (odd even) }
@@ -60,7 +62,8 @@ module _ {B : Type 0} (touches : B → List ℕ) (effect : B → List ℤ → Re
           ordered = λ j k before within unfinished conflict. absurd (omega (arith, within));
           settled = λ cown k le settled.
               let none : k ≡ 0 = omega (arith, le) in
-              ap (λ b. get_or (held_of b) cown (pos 0)) same ∙ sym (ap (λ n. get_or (held_after_first touches effect (held_of opening) [] n) cown (pos 0)) none);
+              ap (λ b. get_or (held_of b) cown (pos 0)) same
+              ∙ sym (ap (λ n. get_or (held_after_first touches effect (held_of opening) [] n) cown (pos 0)) none);
           replies = λ k reply finished. absurd (no_some finished);
         };
         queues = record {
