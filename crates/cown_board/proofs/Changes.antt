@@ -26,7 +26,8 @@ use Rattle.cown_board.specs.declared.state.State.{State}
 use Rattle.cown_board.specs.declared.state.State.TheVariants.{Waiting, Out, Finished}
 
 -- the places of the waiting ones, where one more waits
-waiting_submitted : (states : List State) → places (waiting_at (states ++ Waiting ∷ [])) (suc (length states)) ≡ places (waiting_at states) (length states) ++ length states ∷ []
+waiting_submitted : (states : List State)
+    → places (waiting_at (states ++ Waiting ∷ [])) (suc (length states)) ≡ places (waiting_at states) (length states) ++ length states ∷ []
 waiting_submitted states =
     ap (λ t. t ++ (if waiting_at (states ++ Waiting ∷ []) (length states) then length states ∷ [] else []))
     (places-agree (waiting_at (states ++ Waiting ∷ [])) (waiting_at states) (length states) (λ j lt. state-append is_waiting states Waiting j lt))
@@ -55,7 +56,8 @@ waiting_finished states m k reply out =
 
 module _ {B : Type 0} (touches : B → List ℕ) (effect : B → List ℤ → Reply × List ℤ)
     {inside : BoardInside B} (board : IsBoard touches effect inside) where
-  pub IsBoard-submitted : (b : B) (new : List (List ℕ)) → AreBelow (length (held_of inside.opening)) (touches b) → Appends (length inside.log) (touches b) inside.lists new
+  pub IsBoard-submitted : (b : B) (new : List (List ℕ)) → AreBelow (length (held_of inside.opening)) (touches b)
+      → Appends (length inside.log) (touches b) inside.lists new
       → inside.unfinished < OPEN_BEHAVIOURS → inside.base + length inside.log < LOG_CALLS
       → IsBoard touches effect (record inside {
         log = inside.log ++ b ∷ [];
@@ -71,7 +73,8 @@ module _ {B : Type 0} (touches : B → List ℕ) (effect : B → List ℤ → Re
         based = board.based;
         keeps = keeps_submitted touches effect board.keeps b (λ cown among. below_among (length (held_of inside.opening)) (touches b) cown below among);
         queues = queues_submitted touches effect inside.log inside.states b inside.lists new (length (held_of inside.opening)) same board.queues appended;
-        rest = ap (λ w. w ++ length inside.log ∷ []) (board.rest ∙ ap (places (waiting_at inside.states)) same) ∙ ap (λ n. places (waiting_at inside.states) (length inside.states) ++ n ∷ []) same
+        rest = ap (λ w. w ++ length inside.log ∷ []) (board.rest ∙ ap (places (waiting_at inside.states)) same)
+            ∙ ap (λ n. places (waiting_at inside.states) (length inside.states) ++ n ∷ []) same
             ∙ sym (ap (places (waiting_at (inside.states ++ Waiting ∷ []))) (longer ∙ ap suc same) ∙ waiting_submitted inside.states);
         unfinished = let count = count-append inside.states Waiting in omega (arith, count, board.unfinished);
         few_open = omega (arith, few);
@@ -86,13 +89,15 @@ module _ {B : Type 0} (touches : B → List ℕ) (effect : B → List ℤ → Re
     keeps = keeps_taken touches effect board.keeps k here clear;
     queues = queues_taken touches effect inside.log inside.states inside.lists (length (held_of inside.opening)) k here board.queues;
     rest = ap (λ w. remove w p) board.rest
-        ∙ sym (waiting_taken inside.states (length inside.log) p k (omega (arith, board.keeps.beside)) (ap (λ w. slice_get w p) (sym board.rest) ∙ at) (slice_get_within inside.states k Waiting here));
+        ∙ sym (waiting_taken inside.states (length inside.log) p k (omega (arith, board.keeps.beside)) (ap (λ w. slice_get w p) (sym board.rest) ∙ at)
+        (slice_get_within inside.states k Waiting here));
     unfinished = let count = count-set inside.states k Waiting Out here in omega (arith, count, board.unfinished);
     few_open = board.few_open;
     few_numbers = board.few_numbers;
   }
 
-  pub IsBoard-finished : (k : ℕ) (b : B) (reply : Reply) (outputs : List ℤ) (after : Balances) (new : List (List ℕ)) → slice_get inside.log k ≡ Some b → slice_get inside.states k ≡ Some Out
+  pub IsBoard-finished : (k : ℕ) (b : B) (reply : Reply) (outputs : List ℤ) (after : Balances) (new : List (List ℕ)) → slice_get inside.log k ≡ Some b
+      → slice_get inside.states k ≡ Some Out
       → length outputs ≡ length (touches b)
       → reply ≡ reply_of touches effect (held_after_first touches effect (held_of inside.opening) inside.log k) b
       → outputs ≡ (effect b (inputs_of touches effect (held_after_first touches effect (held_of inside.opening) inside.log k) b)).1
@@ -107,7 +112,8 @@ module _ {B : Type 0} (touches : B → List ℕ) (effect : B → List ℤ → Re
   IsBoard-finished k b reply outputs after new here out long replied left written released = record {
     based = board.based;
     keeps = rw written (keeps_finished touches effect board.keeps k b here out reply outputs long replied left);
-    queues = queues_finished touches effect inside.log inside.states b inside.lists new (length (held_of inside.opening)) k reply board.keeps.beside here (state_here is_open inside.states k Out out)
+    queues = queues_finished touches effect inside.log inside.states b inside.lists new (length (held_of inside.opening)) k reply board.keeps.beside here
+        (state_here is_open inside.states k Out out)
         (clear_of_out touches effect board.keeps k b here out) board.queues released;
     rest = board.rest ∙ sym (waiting_finished inside.states (length inside.log) k reply out);
     unfinished =
@@ -119,7 +125,8 @@ module _ {B : Type 0} (touches : B → List ℕ) (effect : B → List ℤ → Re
   }
 
   -- the same, of lists that were changed in place
-  pub IsBoard-pushed : (b : B) (place : ℕ) (log' : List B) (states' : List State) (new : List (List ℕ)) (waiting' : List ℕ) → AreBelow (length (held_of inside.opening)) (touches b)
+  pub IsBoard-pushed : (b : B) (place : ℕ) (log' : List B) (states' : List State) (new : List (List ℕ)) (waiting' : List ℕ)
+      → AreBelow (length (held_of inside.opening)) (touches b)
       → place ≡ length inside.log → Appends place (touches b) inside.lists new
       → log' ≡ inside.log ++ b ∷ [] → states' ≡ inside.states ++ Waiting ∷ [] → waiting' ≡ inside.waiting ++ place ∷ []
       → (inside.unfinished ≡ OPEN_BEHAVIOURS → ⊥) → (inside.base + length inside.log ≡ LOG_CALLS → ⊥)

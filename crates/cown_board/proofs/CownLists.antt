@@ -15,5 +15,8 @@ below_among bound (c ∷ cowns) cown below among = elim (or_cases (cown == c) (i
 
 pub below_from : (bound : ℕ) (cowns : List ℕ) → ((cown : ℕ) → is_among cown cowns ≡ true → cown < bound) → AreBelow bound cowns
 below_from bound [] h = tt
-below_from bound (c ∷ cowns) h =
-    (h c (or_left (c == c) (is_among c cowns) (eq-eqb c c refl)), below_from bound cowns (λ cown among. h cown (or_right (cown == c) (is_among cown cowns) among)))
+below_from bound (c ∷ cowns) h = (
+  h c (or_left (c == c) (is_among c cowns) (eq-eqb c c refl)),
+  below_from bound cowns
+      (λ cown among. h cown (or_right (cown == c) (is_among cown cowns) among)),
+)

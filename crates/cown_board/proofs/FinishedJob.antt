@@ -23,7 +23,6 @@ use Rattle.cown_board.specs.Invariant.{BoardInside, IsBoard, open_at}
 use Rattle.cown_board.specs.Job.{DoneOf}
 use Rattle.cown_board.specs.Readiness.{touched_by}
 use Rattle.cown_board.specs.State.{is_open}
-use Rattle.cown_board.specs.declared.state.State.{State}
 use Rattle.cown_board.specs.declared.state.State.TheVariants.{Out, Finished}
 
 module _ {B : Type 0} (touches : B → List ℕ) (effect : B → List ℤ → Reply × List ℤ)
@@ -41,7 +40,8 @@ module _ {B : Type 0} (touches : B → List ℕ) (effect : B → List ℤ → Re
 
   -- what was tested, as what callers see
   abbrev IsOutInside : ℕ → DoneOf B → Type 0
-  IsOutInside k done = (slice_get inside.states k ≡ Some Out) × (slice_get inside.log k ≡ Some done.behaviour) × (done.inputs ≡ read_cowns (held_of inside.now) (touches done.behaviour))
+  IsOutInside k done = (slice_get inside.states k ≡ Some Out) × (slice_get inside.log k ≡ Some done.behaviour) ×
+      (done.inputs ≡ read_cowns (held_of inside.now) (touches done.behaviour))
 
   pub out_from : (k : ℕ) (done : DoneOf B) → done.number ≡ suc (inside.base + k) → IsOutInside k done → IsOutAt touches effect seen done k
   out_from k done numbered tested = record {
@@ -51,7 +51,8 @@ module _ {B : Type 0} (touches : B → List ℕ) (effect : B → List ℤ → Re
     inputs = tested.2 ∙ out_inputs k done.behaviour tested.1 tested.0;
   }
 
-  pub out_to : (k : ℕ) (done : DoneOf B) → IsOutAt touches effect seen done k → (done.number ≡ suc (inside.base + k)) × (k < length inside.log) × IsOutInside k done
+  pub out_to : (k : ℕ) (done : DoneOf B) → IsOutAt touches effect seen done k
+      → (done.number ≡ suc (inside.base + k)) × (k < length inside.log) × IsOutInside k done
   out_to k done out = (
     omega (arith, out.number, board.based),
     slice_get_within inside.log k done.behaviour out.behaviour,
@@ -73,7 +74,8 @@ module _ {B : Type 0} (touches : B → List ℕ) (effect : B → List ℤ → Re
     released_in_front =
         let cowns = length (held_of inside.opening) in
         in_front_from touches effect inside.log inside.states inside.lists cowns board.queues k done.behaviour tested.1 (touches done.behaviour)
-        (fronts_from_clear touches effect inside.log inside.states inside.lists cowns board.queues k done.behaviour tested.1 (state_here is_open inside.states k Out tested.0)
+        (fronts_from_clear touches effect inside.log inside.states inside.lists cowns board.queues k done.behaviour tested.1
+        (state_here is_open inside.states k Out tested.0)
         (clear_of_out touches effect board.keeps k done.behaviour tested.1 tested.0) (touches done.behaviour)
         (λ cown among. (among, board.keeps.in_range k cown (ap (λ o. is_among cown (touched_by touches o)) tested.1 ∙ among))))
 
@@ -87,10 +89,12 @@ module _ {B : Type 0} (touches : B → List ℕ) (effect : B → List ℤ → Re
         → (outputs : List ℤ) → outputs ≡ (effect done.behaviour done.inputs).1 → AreHeld (touches done.behaviour) outputs
     outputs_held keeps outputs left =
         subst (AreHeld (touches done.behaviour)) (sym left)
-        (keeps done.behaviour done.inputs (subst (AreHeld (touches done.behaviour)) (sym inputs_are) (inputs_held touches effect board keeps k k done.behaviour tested.1)))
+        (keeps done.behaviour done.inputs (subst (AreHeld (touches done.behaviour)) (sym inputs_are)
+        (inputs_held touches effect board keeps k k done.behaviour tested.1)))
 
     pub board_finished : ((b : B) (inputs : List ℤ) → AreHeld (touches b) inputs → AreHeld (touches b) (effect b inputs).1)
-        → (reply : Reply) (outputs : List ℤ) (after : Balances) (new : List (List ℕ)) → reply ≡ (effect done.behaviour done.inputs).0 → outputs ≡ (effect done.behaviour done.inputs).1
+        → (reply : Reply) (outputs : List ℤ) (after : Balances) (new : List (List ℕ)) → reply ≡ (effect done.behaviour done.inputs).0
+        → outputs ≡ (effect done.behaviour done.inputs).1
         → held_of after ≡ write_cowns (held_of inside.now) (touches done.behaviour) outputs → Releases (touches done.behaviour) inside.lists new
         → IsBoard touches effect (record inside {
           now = after;
@@ -105,7 +109,8 @@ module _ {B : Type 0} (touches : B → List ℕ) (effect : B → List ℤ → Re
         (left ∙ ap (λ i. (effect done.behaviour i).1) inputs_are) written released
 
     pub finishes_from : (reply : Reply) → reply ≡ (effect done.behaviour done.inputs).0
-        → Finishes touches effect seen done reply (record { opening = inside.opening; earlier = inside.earlier; log = inside.log; states = slice_set inside.states k (Finished reply) })
+        → Finishes touches effect seen done reply
+        (record { opening = inside.opening; earlier = inside.earlier; log = inside.log; states = slice_set inside.states k (Finished reply) })
     finishes_from reply replied = record {
       place = k;
       here = out_from k done numbered tested;
@@ -125,8 +130,10 @@ module _ {B : Type 0} (touches : B → List ℕ) (effect : B → List ℤ → Re
         after = λ j ge among. absurd (let within = touched_within touches effect inside.log cown j among in omega (arith, within, ge));
       }) ∙ ap (λ l. get_or (held_after touches effect (held_of inside.opening) l) cown (pos 0)) (take_all (length inside.log) inside.log (omega arith)))
 
-  pub refused_done : (done : DoneOf B) → ¬ IsOutHere touches effect seen done → (false ≡ true → IsOutHere touches effect seen done) × (IsOutHere touches effect seen done → false ≡ true)
+  pub refused_done : (done : DoneOf B) → ¬ IsOutHere touches effect seen done
+      → (false ≡ true → IsOutHere touches effect seen done) × (IsOutHere touches effect seen done → false ≡ true)
   refused_done done not = (λ h. absurd (false≢true h), λ out. absurd (not out))
 
-  pub accepted_done : (k : ℕ) (done : DoneOf B) → done.number ≡ suc (inside.base + k) → IsOutInside k done → (true ≡ true → IsOutHere touches effect seen done) × (IsOutHere touches effect seen done → true ≡ true)
+  pub accepted_done : (k : ℕ) (done : DoneOf B) → done.number ≡ suc (inside.base + k) → IsOutInside k done
+      → (true ≡ true → IsOutHere touches effect seen done) × (IsOutHere touches effect seen done → true ≡ true)
   accepted_done k done numbered tested = (λ h. (k, out_from k done numbered tested), λ out. refl)

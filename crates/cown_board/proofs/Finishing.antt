@@ -73,11 +73,15 @@ module _ {B : Type 0} (touches : B → List ℕ) (effect : B → List ℤ → Re
             ]) in
             let before = held_after_first touches effect opening log k in
             let in_range : cown < length opening = kept.in_range k cown at_k in
-            get-write_same held before (touches b) outputs cown among long (omega (arith, in_range, kept.cowns_stay)) (omega (arith, in_range, length-after touches effect opening (take k log)))
+            get-write_same held before (touches b) outputs cown among long (omega (arith, in_range, kept.cowns_stay))
+            (omega (arith, in_range, length-after touches effect opening (take k log)))
             ∙ ap (λ vs. get_or (write_cowns before (touches b) vs) cown (pos 0)) left
             ∙ ap (λ h. get_or h cown (pos 0)) (sym (after_one_more touches effect opening log k b here))
-            ∙ sym (after_untouched touches effect opening log cown (suc k) (i - suc k) i (omega (arith, after_k)) (λ j ge lt. false_from_ne_true (touches_at touches effect log cown j) (λ at_j.
-            let waits : waiting_at states j ≡ true = kept.ordered k j (omega (arith, ge)) (touched_within touches effect log cown j at_j) is_unfinished (conflict_from touches effect log cown k j at_k at_j) in
+            ∙ sym (after_untouched touches effect opening log cown (suc k) (i - suc k) i (omega (arith, after_k))
+            (λ j ge lt. false_from_ne_true (touches_at touches effect log cown j) (λ at_j.
+            let waits : waiting_at states j ≡ true =
+            kept.ordered k j (omega (arith, ge)) (touched_within touches effect log cown j at_j) is_unfinished
+            (conflict_from touches effect log cown k j at_k at_j) in
             let differs : j ≢ k = λ same. omega (arith, same, ge) in
             true≢false (sym (open-finished_other j differs ∙ waiting_is_open states j waits) ∙ settled.before j lt at_j))))
         | inr apart ↦
@@ -101,7 +105,8 @@ module _ {B : Type 0} (touches : B → List ℕ) (effect : B → List ℤ → Re
         settled = settled_finished;
         replies = λ i r finished. elim (cases_eq i k) [
           | inl same ↦
-              let is_reply : reply ≡ r = same_reply (sym (slice_get-set_same states k (Finished reply) lt_states) ∙ ap (slice_get (slice_set states k (Finished reply))) (sym same) ∙ finished) in
+              let is_reply : reply ≡ r = same_reply (sym (slice_get-set_same states k (Finished reply) lt_states)
+              ∙ ap (slice_get (slice_set states k (Finished reply))) (sym same) ∙ finished) in
               ap (λ n. option_map (reply_of touches effect (held_after_first touches effect opening log n)) (slice_get log n)) same
               ∙ ap (option_map (reply_of touches effect (held_after_first touches effect opening log k))) here
               ∙ ap (λ x. Some x) (sym replied ∙ is_reply)

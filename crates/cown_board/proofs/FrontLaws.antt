@@ -17,7 +17,8 @@ first_to (x ∷ xs) n h = ap (λ y. Some y) (eqb-true x n h)
 
 pub fronts_test : (n : ℕ) (lists : List (List ℕ)) (cowns : List ℕ) → AreFronts n lists cowns → are_fronts n lists cowns ≡ true
 fronts_test n lists [] h = refl
-fronts_test n lists (c ∷ cowns) h = and_from (is_first n (list_of lists c)) (are_fronts n lists cowns) (first_from (list_of lists c) n h.0) (fronts_test n lists cowns h.1)
+fronts_test n lists (c ∷ cowns) h = and_from (is_first n (list_of lists c)) (are_fronts n lists cowns) (first_from (list_of lists c) n h.0)
+    (fronts_test n lists cowns h.1)
 
 pub fronts_fact : (n : ℕ) (lists : List (List ℕ)) (cowns : List ℕ) → are_fronts n lists cowns ≡ true → AreFronts n lists cowns
 fronts_fact n lists [] h = tt
@@ -37,7 +38,8 @@ count_more f (y ∷ xs) zero x here passes =
     ap (λ b. length (cond b (y ∷ []) [])) (ap f (injective here) ∙ passes)
 count_more f (y ∷ xs) (suc p) x here passes =
     let rest = count_more f xs p x here passes in
-    elim (f y) as (λ b. length (cond b (y ∷ filter f (take (suc p) xs)) (filter f (take (suc p) xs))) ≡ length (cond b (y ∷ filter f (take p xs)) (filter f (take p xs))) + 1)
+    elim (f y) as (λ b. length (cond b (y ∷ filter f (take (suc p) xs)) (filter f (take (suc p) xs))) ≡ length
+    (cond b (y ∷ filter f (take p xs)) (filter f (take p xs))) + 1)
     [ true ↦ omega (arith, rest) | false ↦ rest ]
 
 pub count_same : {A : Type 0} (f : A → Bool) (xs : List A) (p : ℕ) (x : A) → slice_get xs p ≡ Some x → f x ≡ false
@@ -47,7 +49,8 @@ count_same f (y ∷ xs) zero x here fails =
     ap (λ b. length (cond b (y ∷ []) [])) (ap f (injective here) ∙ fails)
 count_same f (y ∷ xs) (suc p) x here fails =
     let rest = count_same f xs p x here fails in
-    elim (f y) as (λ b. length (cond b (y ∷ filter f (take (suc p) xs)) (filter f (take (suc p) xs))) ≡ length (cond b (y ∷ filter f (take p xs)) (filter f (take p xs))))
+    elim (f y) as (λ b. length (cond b (y ∷ filter f (take (suc p) xs)) (filter f (take (suc p) xs))) ≡ length
+    (cond b (y ∷ filter f (take p xs)) (filter f (take p xs))))
     [ true ↦ omega (arith, rest) | false ↦ rest ]
 
 -- one that passes stands behind those before it that do
@@ -68,7 +71,8 @@ same_tests false true to from = from refl
 same_tests false false to from = refl
 
 -- the fact of a list of cowns decides the test at the place of a behaviour that declares them
-pub front_at_place : {B : Type 0} (touches : B → List ℕ) (log : List B) (lists : List (List ℕ)) (place : ℕ) (b : B) (cowns : List ℕ) (answer : Bool) → slice_get log place ≡ Some b → cowns ≡ touches b
+pub front_at_place : {B : Type 0} (touches : B → List ℕ) (log : List B) (lists : List (List ℕ)) (place : ℕ) (b : B) (cowns : List ℕ) (answer : Bool)
+    → slice_get log place ≡ Some b → cowns ≡ touches b
     → (answer ≡ true → AreFronts place lists cowns) → (AreFronts place lists cowns → answer ≡ true) → answer ≡ is_front_at touches log lists place
 front_at_place touches log lists place b cowns answer here declared to from =
     let at : touched_by touches (slice_get log place) ≡ cowns = ap (touched_by touches) here ∙ sym declared in

@@ -21,7 +21,8 @@ module _ {B : Type 0} (touches : B → List ℕ) (effect : B → List ℤ → Re
   ]
 
   -- two that declare a cown share it
-  pub conflict_from : (log : List B) (cown j k : ℕ) → touches_at touches effect log cown j ≡ true → touches_at touches effect log cown k ≡ true → conflict_at touches log j k ≡ true
+  pub conflict_from : (log : List B) (cown j k : ℕ) → touches_at touches effect log cown j ≡ true → touches_at touches effect log cown k ≡ true
+      → conflict_at touches log j k ≡ true
   conflict_from log cown j k at_j at_k = share_from cown (touched_by touches (slice_get log j)) (touched_by touches (slice_get log k)) at_j at_k
 
   module _ {opening : List ℤ} {log : List B} {states : List State} {held : List ℤ} (kept : Keeps touches effect opening log states held)
@@ -40,6 +41,7 @@ module _ {B : Type 0} (touches : B → List ℕ) (effect : B → List ℤ → Re
     }
 
     -- so they hold what the log one by one gives it
-    pub holds_inputs : (b : B) → slice_get log k ≡ Some b → k ≤ length log → read_cowns held (touches b) ≡ inputs_of touches effect (held_after_first touches effect opening log k) b
+    pub holds_inputs : (b : B) → slice_get log k ≡ Some b → k ≤ length log
+        → read_cowns held (touches b) ≡ inputs_of touches effect (held_after_first touches effect opening log k) b
     holds_inputs b here le = read-agree held (held_after_first touches effect opening log k) (touches b) (λ cown among.
         kept.settled cown k le (settled_at cown (ap (λ o. is_among cown (touched_by touches o)) here ∙ among)))

@@ -45,7 +45,8 @@ module _ {B : Type 0} (touches : B → List ℕ) (effect : B → List ℤ → Re
 
   pub length-after : (opening : List ℤ) (log : List B) → length (held_after touches effect opening log) ≡ length opening
   length-after opening [] = refl
-  length-after opening (b ∷ log) = length-after (held_after_one touches effect opening b) log ∙ length-write opening (touches b) (effect b (inputs_of touches effect opening b)).1
+  length-after opening (b ∷ log) = length-after (held_after_one touches effect opening b) log
+      ∙ length-write opening (touches b) (effect b (inputs_of touches effect opening b)).1
 
   -- a cown that one doesn't declare holds after it what it held
   untouched_by : (opening : List ℤ) (log : List B) (cown k : ℕ) (o : Option B) → slice_get log k ≡ o → is_among cown (touched_by touches o) ≡ false
@@ -57,7 +58,8 @@ module _ {B : Type 0} (touches : B → List ℕ) (effect : B → List ℤ → Re
       ∙ get-write_other before (touches b) (effect b (inputs_of touches effect before b)).1 cown out
 
   -- a cown that none from i on below k declares holds after k what it holds after i
-  pub after_untouched : (opening : List ℤ) (log : List B) (cown i n k : ℕ) → k ≡ i + n → ((j : ℕ) → i ≤ j → j < k → touches_at touches effect log cown j ≡ false)
+  pub after_untouched : (opening : List ℤ) (log : List B) (cown i n k : ℕ) → k ≡ i + n
+      → ((j : ℕ) → i ≤ j → j < k → touches_at touches effect log cown j ≡ false)
       → get_or (held_after_first touches effect opening log k) cown (pos 0) ≡ get_or (held_after_first touches effect opening log i) cown (pos 0)
   after_untouched opening log cown i zero k e h =
       let same : k ≡ i = omega (arith, e) in
@@ -76,7 +78,8 @@ module _ {B : Type 0} (touches : B → List ℕ) (effect : B → List ℤ → Re
       let outputs = (effect b (inputs_of touches effect opening b)).1 in
       let long : length (write_cowns opening (touches b) outputs) ≡ length opening = length-write opening (touches b) outputs in
       AllHeld-after keeps (held_after_one touches effect opening b) log
-      (AllHeld-write opening (touches b) outputs all (keeps b (inputs_of touches effect opening b) (AreHeld-read opening (touches b) all (λ cown among. in_range 0 cown among))))
+      (AllHeld-write opening (touches b) outputs all
+      (keeps b (inputs_of touches effect opening b) (AreHeld-read opening (touches b) all (λ cown among. in_range 0 cown among))))
       (λ k cown among. let lt = in_range (suc k) cown among in omega (arith, lt, long))
 
   in_range_take : (log : List B) (n bound : ℕ) → ((k cown : ℕ) → touches_at touches effect log cown k ≡ true → cown < bound)

@@ -13,7 +13,7 @@ use Rattle.sb_calls.specs.declared.reply.Reply.{Reply}
 use Rattle.sb_calls.specs.OneByOne.{held_after_first}
 use Rattle.cown_board.proofs.LogLaws.{no_some}
 use Rattle.cown_queue.specs.Queues.{list_of}
-use Rattle.cown_board.specs.Invariant.{IsBoard}
+use Rattle.cown_board.specs.Invariant.{AllHeld, IsBoard}
 
 module _ {B : Type 0} (touches : B → List ℕ) (effect : B → List ℤ → Reply × List ℤ) where
   -- nothing is submitted, and the cowns hold what the columns say
@@ -42,7 +42,8 @@ module _ {B : Type 0} (touches : B → List ℕ) (effect : B → List ℤ → Re
           ordered = λ j k before within unfinished conflict. absurd (omega (arith, within));
           settled = λ cown k le settled.
               let none : k ≡ 0 = omega (arith, le) in
-              ap (λ b. get_or (held_of b) cown (pos 0)) same ∙ sym (ap (λ n. get_or (held_after_first touches effect (held_of opening) [] n) cown (pos 0)) none);
+              ap (λ b. get_or (held_of b) cown (pos 0)) same
+              ∙ sym (ap (λ n. get_or (held_after_first touches effect (held_of opening) [] n) cown (pos 0)) none);
           replies = λ k reply finished. absurd (no_some finished);
         };
         queues = record {

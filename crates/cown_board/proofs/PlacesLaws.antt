@@ -44,7 +44,8 @@ places-false f m e = ap (λ b. places f m ++ (if b then m ∷ [] else [])) e ∙
 pub places-agree : (f g : ℕ → Bool) (m : ℕ) → ((j : ℕ) → j < m → f j ≡ g j) → places f m ≡ places g m
 places-agree f g zero h = refl
 places-agree f g (suc m) h =
-    ap (λ b. places f m ++ (if b then m ∷ [] else [])) (h m (omega arith)) ∙ ap (λ t. t ++ (if g m then m ∷ [] else [])) (places-agree f g m (λ j lt. h j (omega (arith, lt))))
+    ap (λ b. places f m ++ (if b then m ∷ [] else [])) (h m (omega arith))
+    ∙ ap (λ t. t ++ (if g m then m ∷ [] else [])) (places-agree f g m (λ j lt. h j (omega (arith, lt))))
 
 pub none_below-agree : (f g : ℕ → Bool) (m : ℕ) → ((j : ℕ) → j < m → f j ≡ g j) → none_below f m ≡ none_below g m
 none_below-agree f g zero h = refl

@@ -1,6 +1,5 @@
 -- Each call of a board, as a call that is played.
 use Rattle.std.proofs.Common.{◌≡◌, ◌≢◌, ℕ, ◌+◌, ◌≤◌, ℤ, Some, None, Ok, Err, List, [], ◌∷◌, ◌++◌, length, refl, sym, ◌∙◌, arith}
-use Rattle.sb_rows.specs.Balances.{Balances}
 use Rattle.sb_calls.specs.declared.call.TheConstants.{LOG_CALLS}
 use Rattle.sb_calls.specs.declared.reply.Reply.{Reply}
 use Rattle.cown_board.proofs.FinishedJob.{seen}
@@ -12,20 +11,23 @@ use Rattle.cown_board.specs.Played.{Submitted, TakenAt, Returned, StaysTrueToLog
 use Rattle.cown_board.specs.Readiness.{ready_places}
 use Rattle.cown_board.specs.declared.board.SubmitFault.TheVariants.{Busy, LogFull, OutOfMemory}
 use Rattle.cown_board.specs.declared.board.TheConstants.{OPEN_BEHAVIOURS}
-use Rattle.cown_board.specs.declared.state.State.{State}
 use Rattle.cown_board.specs.declared.state.State.TheVariants.{Waiting}
 
 module _ {B : Type 0} (touches : B → List ℕ) (effect : B → List ℤ → Reply × List ℤ) where
-  pub played_none : (old : BoardOf B) (index : ℕ) → length (ready_places touches old.log old.states) ≤ index → StaysTrueToLog touches effect old (TakenAt index None) old
+  pub played_none : (old : BoardOf B) (index : ℕ) → length (ready_places touches old.log old.states) ≤ index
+      → StaysTrueToLog touches effect old (TakenAt index None) old
   played_none old index few = played_by touches effect old old (TakenAt index None) (few, refl)
 
-  pub played_taken : {old new : BoardOf B} {index : ℕ} {job : JobOf B} → Takes touches effect old index job new → StaysTrueToLog touches effect old (TakenAt index (Some job)) new
+  pub played_taken : {old new : BoardOf B} {index : ℕ} {job : JobOf B} → Takes touches effect old index job new
+      → StaysTrueToLog touches effect old (TakenAt index (Some job)) new
   played_taken {old} {new} {index} {job} takes = played_by touches effect old new (TakenAt index (Some job)) takes
 
-  pub played_finished : {old new : BoardOf B} {done : DoneOf B} {reply : Reply} → Finishes touches effect old done reply new → StaysTrueToLog touches effect old (Returned done (Ok reply)) new
+  pub played_finished : {old new : BoardOf B} {done : DoneOf B} {reply : Reply} → Finishes touches effect old done reply new
+      → StaysTrueToLog touches effect old (Returned done (Ok reply)) new
   played_finished {old} {new} {done} {reply} finishes = played_by touches effect old new (Returned done (Ok reply)) finishes
 
-  pub played_refused : (old : BoardOf B) (done : DoneOf B) → ¬ IsOutHere touches effect old done → StaysTrueToLog touches effect old (Returned done (Err done)) old
+  pub played_refused : (old : BoardOf B) (done : DoneOf B) → ¬ IsOutHere touches effect old done
+      → StaysTrueToLog touches effect old (Returned done (Err done)) old
   played_refused old done not = played_by touches effect old old (Returned done (Err done)) (not, refl, refl)
 
   module _ {inside : BoardInside B} (board : IsBoard touches effect inside) where
@@ -46,10 +48,12 @@ module _ {B : Type 0} (touches : B → List ℕ) (effect : B → List ℤ → Re
         played_by touches effect (seen touches effect board) (seen touches effect board) (Submitted behaviour (Err OutOfMemory))
         (λ busy. some (board.unfinished ∙ busy), λ full. room (omega (arith, full, board.based)), refl)
 
-    pub played_put : (behaviour : B) (number : ℕ) → inside.unfinished ≢ OPEN_BEHAVIOURS → inside.base + length inside.log ≢ LOG_CALLS → number ≡ inside.base + length inside.log + 1
+    pub played_put : (behaviour : B) (number : ℕ) → inside.unfinished ≢ OPEN_BEHAVIOURS → inside.base + length inside.log ≢ LOG_CALLS
+        → number ≡ inside.base + length inside.log + 1
         → StaysTrueToLog touches effect (seen touches effect board) (Submitted behaviour (Ok number))
         (record { opening = inside.opening; earlier = inside.earlier; log = inside.log ++ behaviour ∷ []; states = inside.states ++ Waiting ∷ [] })
     played_put behaviour number some room is =
-        played_by touches effect (seen touches effect board) (record { opening = inside.opening; earlier = inside.earlier; log = inside.log ++ behaviour ∷ []; states = inside.states ++ Waiting ∷ [] })
+        played_by touches effect (seen touches effect board)
+        (record { opening = inside.opening; earlier = inside.earlier; log = inside.log ++ behaviour ∷ []; states = inside.states ++ Waiting ∷ [] })
         (Submitted behaviour (Ok number))
         (λ busy. some (board.unfinished ∙ busy), λ full. room (omega (arith, full, board.based)), omega (arith, is, board.based), refl)

@@ -44,7 +44,8 @@ module _ {B : Type 0} (touches : B → List ℕ) (effect : B → List ℤ → Re
       → (is_ready_at touches board.log board.states k ≡ true) ⊎ (slice_get board.states k ≡ Some Out)
   least_of board k unfinished none = elim (waits_or_out (slice_get board.states k) unfinished) [
     | inl waits ↦ inl (and_from (waiting_at board.states k) (is_clear_at touches board.log board.states k) (ap (state_is is_waiting) waits)
-        (none_below_from (λ j. open_at board.states j && conflict_at touches board.log j k) k (λ j lt. false_from_ne_true (open_at board.states j && conflict_at touches board.log j k) (λ both.
+        (none_below_from (λ j. open_at board.states j && conflict_at touches board.log j k) k
+        (λ j lt. false_from_ne_true (open_at board.states j && conflict_at touches board.log j k) (λ both.
         true≢false (sym (and_parts (open_at board.states j) (conflict_at touches board.log j k) both).0 ∙ none j lt)))))
     | inr out ↦ inr out
   ]
@@ -61,14 +62,17 @@ module _ {B : Type 0} (touches : B → List ℕ) (effect : B → List ℤ → Re
         let lt = slice_get_within (old.states ++ Waiting ∷ []) k (Finished reply) finished in
         elim (cases_lt k (length old.states)) [
           | inl before ↦
-              ap (λ h. option_map (reply_of touches effect h) (slice_get (old.log ++ b ∷ []) k)) (after-append touches effect (held_of columns) old.log (b ∷ []) k (omega (arith, before, good.beside)))
-              ∙ ap (option_map (reply_of touches effect (held_after_first touches effect (held_of columns) old.log k))) (slice_get-left old.log (b ∷ []) k (omega (arith, before, good.beside)))
+              ap (λ h. option_map (reply_of touches effect h) (slice_get (old.log ++ b ∷ []) k))
+              (after-append touches effect (held_of columns) old.log (b ∷ []) k (omega (arith, before, good.beside)))
+              ∙ ap (option_map (reply_of touches effect (held_after_first touches effect (held_of columns) old.log k)))
+              (slice_get-left old.log (b ∷ []) k (omega (arith, before, good.beside)))
               ∙ good.replies k reply (sym (slice_get-left old.states (Waiting ∷ []) k before) ∙ finished)
           | inr last ↦ absurd (not_waiting (injective (sym (slice_get-right old.states (Waiting ∷ []) k 0 (omega (arith, lt, more, last))) ∙ finished)))
         ];
   }
 
-  good_set : (columns : Balances) (earlier : List Reply) (log : List B) (old : BoardOf B) (k : ℕ) (s : State) → IsGood columns earlier log old → k < length old.states
+  good_set : (columns : Balances) (earlier : List Reply) (log : List B) (old : BoardOf B) (k : ℕ) (s : State) → IsGood columns earlier log old
+      → k < length old.states
       → ((reply : Reply) → s ≡ Finished reply → reply_by_log touches effect (held_of columns) old.log (suc k) ≡ Some reply)
       → IsGood columns earlier log (record old { states = slice_set old.states k s })
   good_set columns earlier log old k s good lt told = record {
@@ -84,29 +88,35 @@ module _ {B : Type 0} (touches : B → List ℕ) (effect : B → List ℤ → Re
     ];
   }
 
-  unchanged : (columns : Balances) (earlier : List Reply) (log : List B) (old new : BoardOf B) → new ≡ old → IsGood columns earlier log old → IsGood columns earlier (log ++ []) new
+  unchanged : (columns : Balances) (earlier : List Reply) (log : List B) (old new : BoardOf B) → new ≡ old → IsGood columns earlier log old
+      → IsGood columns earlier (log ++ []) new
   unchanged columns earlier log old new same good =
       subst (λ board. IsGood columns earlier (log ++ []) board) (sym same) (subst (λ l. IsGood columns earlier l old) (sym (append_nothing log)) good)
 
   good_call : (columns : Balances) (earlier : List Reply) (log : List B) (old new : BoardOf B) (call : BoardCall B) → Makes touches effect old call new
       → IsGood columns earlier log old → IsGood columns earlier (log ++ put_by call) new
-  good_call columns earlier log old new (Submitted b (Ok number)) made good = subst (IsGood columns earlier (log ++ b ∷ [])) (sym made.3) (good_submitted columns earlier log old b good)
+  good_call columns earlier log old new (Submitted b (Ok number)) made good =
+      subst (IsGood columns earlier (log ++ b ∷ [])) (sym made.3) (good_submitted columns earlier log old b good)
   good_call columns earlier log old new (Submitted b (Err Busy)) made good = unchanged columns earlier log old new made.1 good
   good_call columns earlier log old new (Submitted b (Err LogFull)) made good = unchanged columns earlier log old new made.2 good
   good_call columns earlier log old new (Submitted b (Err OutOfMemory)) made good = unchanged columns earlier log old new made.2 good
   good_call columns earlier log old new (TakenAt index None) made good = unchanged columns earlier log old new made.1 good
   good_call columns earlier log old new (TakenAt index (Some job)) made good =
       let lt = slice_get_within old.log made.place job.behaviour made.behaviour in
-      subst (IsGood columns earlier (log ++ [])) (sym made.out) (subst (λ l. IsGood columns earlier l (record old { states = slice_set old.states made.place Out })) (sym (append_nothing log))
+      subst (IsGood columns earlier (log ++ [])) (sym made.out)
+      (subst (λ l. IsGood columns earlier l (record old { states = slice_set old.states made.place Out })) (sym (append_nothing log))
       (good_set columns earlier log old made.place Out good (omega (arith, lt, good.beside)) (λ reply out. absurd (not_out out))))
   good_call columns earlier log old new (Returned done (Ok reply)) made good =
       let lt = slice_get_within old.states made.place Out made.here.out in
-      subst (IsGood columns earlier (log ++ [])) (sym made.finished) (subst (λ l. IsGood columns earlier l (record old { states = slice_set old.states made.place (Finished reply) })) (sym (append_nothing log))
+      subst (IsGood columns earlier (log ++ [])) (sym made.finished)
+      (subst (λ l. IsGood columns earlier l (record old { states = slice_set old.states made.place (Finished reply) })) (sym (append_nothing log))
       (good_set columns earlier log old made.place (Finished reply) good lt (λ r is.
-      ap (λ opening. reply_by_log touches effect (held_of opening) old.log (suc made.place)) (sym good.opening) ∙ made.by_log ∙ ap (λ x. Some x) (same_reply (ap (λ s. Some s) is)))))
+      ap (λ opening. reply_by_log touches effect (held_of opening) old.log (suc made.place)) (sym good.opening) ∙ made.by_log
+      ∙ ap (λ x. Some x) (same_reply (ap (λ s. Some s) is)))))
   good_call columns earlier log old new (Returned done (Err back)) made good = unchanged columns earlier log old new made.2 good
 
-  good_calls : (columns : Balances) (earlier : List Reply) (log : List B) (old new : BoardOf B) (calls : List (BoardCall B)) → Plays touches effect old calls new
+  good_calls : (columns : Balances) (earlier : List Reply) (log : List B) (old new : BoardOf B) (calls : List (BoardCall B))
+      → Plays touches effect old calls new
       → IsGood columns earlier log old → IsGood columns earlier (log ++ put_by_all calls) new
   good_calls columns earlier log old new [] played good = unchanged columns earlier log old new played good
   good_calls columns earlier log old new (call ∷ calls) played good =
@@ -126,12 +136,14 @@ module _ {B : Type 0} (touches : B → List ℕ) (effect : B → List ℤ → Re
       }
 
   -- these calls, and one more
-  plays_more : (old mid new : BoardOf B) (calls : List (BoardCall B)) (call : BoardCall B) → Plays touches effect old calls mid → Makes touches effect mid call new
+  plays_more : (old mid new : BoardOf B) (calls : List (BoardCall B)) (call : BoardCall B) → Plays touches effect old calls mid
+      → Makes touches effect mid call new
       → Plays touches effect old (calls ++ call ∷ []) new
   plays_more old mid new [] call played made = (new, subst (λ board. Makes touches effect board call new) played made, refl)
   plays_more old mid new (first ∷ calls) call played made = (played.0, played.1, plays_more played.0 mid new calls call played.2 made)
 
   pub played_by : (old new : BoardOf B) (call : BoardCall B) → Makes touches effect old call new → StaysTrueToLog touches effect old call new
   played_by old new call made = record {
-    law = λ columns earlier calls before. board_law columns earlier (calls ++ call ∷ []) new (plays_more (opened_with columns earlier) old new calls call before made);
+    law = λ columns earlier calls before. board_law columns earlier (calls ++ call ∷ []) new
+        (plays_more (opened_with columns earlier) old new calls call before made);
   }

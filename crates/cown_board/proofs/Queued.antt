@@ -49,7 +49,8 @@ module _ {B : Type 0} (touches : B → List ℕ) (effect : B → List ℤ → Re
     each = λ cown lt.
         let f = is_queued touches effect (log ++ b ∷ []) (states ++ Waiting ∷ []) cown in
         let before : places f (length log) ≡ list_of old cown =
-        places-agree f (is_queued touches effect log states cown) (length log) (λ j lt. queued_before log states b cown j same lt) ∙ sym (queued.each cown lt) in
+        places-agree f (is_queued touches effect log states cown) (length log) (λ j lt. queued_before log states b cown j same lt)
+        ∙ sym (queued.each cown lt) in
         let longer : length (log ++ b ∷ []) ≡ suc (length log) = length-append log (b ∷ []) ∙ omega arith in
         let changed = appended.each cown (omega (arith, lt, queued.one_each)) in
         sym (ap (places f) longer ∙ ap (λ t. t ++ (if f (length log) then length log ∷ [] else [])) before
@@ -72,7 +73,8 @@ module _ {B : Type 0} (touches : B → List ℕ) (effect : B → List ℤ → Re
       → ((j : ℕ) → j < k → conflict_at touches log j k ≡ true → open_at states j ≡ false)
       → slice_get (places (is_queued touches effect log states cown) (length log)) 0 ≡ Some k
   first_queued log states cown k lt unfinished among clear =
-      place_first (is_queued touches effect log states cown) (length log) k lt (and_from (open_at states k) (touches_at touches effect log cown k) unfinished among)
+      place_first (is_queued touches effect log states cown) (length log) k lt
+      (and_from (open_at states k) (touches_at touches effect log cown k) unfinished among)
       (none_below_from (is_queued touches effect log states cown) k (λ j below. false_from_ne_true (is_queued touches effect log states cown j) (λ queued.
       let parts = and_parts (open_at states j) (touches_at touches effect log cown j) queued in
       true≢false (sym parts.0 ∙ clear j below (conflict_from touches effect log cown j k parts.1 among)))))
@@ -124,12 +126,15 @@ module _ {B : Type 0} (touches : B → List ℕ) (effect : B → List ℤ → Re
     in_front_from [] fronts = tt
     in_front_from (c ∷ part) fronts = (first_rest (list_of lists c) k fronts.0, in_front_from part fronts.1)
 
-  queued_finished : (log : List B) (states : List State) (cown k j : ℕ) (b : B) (reply : Reply) → k < length states → slice_get log k ≡ Some b → is_among cown (touches b) ≡ false
+  queued_finished : (log : List B) (states : List State) (cown k j : ℕ) (b : B) (reply : Reply) → k < length states → slice_get log k ≡ Some b
+      → is_among cown (touches b) ≡ false
       → is_queued touches effect log (slice_set states k (Finished reply)) cown j ≡ is_queued touches effect log states cown j
   queued_finished log states cown k j b reply lt here apart = elim (cases_eq j k) [
     | inl same ↦
-        let out : touches_at touches effect log cown j ≡ false = ap (touches_at touches effect log cown) same ∙ ap (λ o. is_among cown (touched_by touches o)) here ∙ apart in
-        and_right (open_at (slice_set states k (Finished reply)) j) (touches_at touches effect log cown j) out ∙ sym (and_right (open_at states j) (touches_at touches effect log cown j) out)
+        let out : touches_at touches effect log cown j ≡ false = ap (touches_at touches effect log cown) same
+        ∙ ap (λ o. is_among cown (touched_by touches o)) here ∙ apart in
+        and_right (open_at (slice_set states k (Finished reply)) j) (touches_at touches effect log cown j) out
+        ∙ sym (and_right (open_at states j) (touches_at touches effect log cown j) out)
     | inr differs ↦ ap (λ x. x && touches_at touches effect log cown j) (state-set_other is_open states k j (Finished reply) differs)
   ]
 

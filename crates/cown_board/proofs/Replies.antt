@@ -3,7 +3,6 @@ use Rattle.std.proofs.Common.{◌≡◌, ◌≢◌, inl, inr, ℕ, suc, ◌+◌,
 use Rattle.std.specs.Prelude.{◌==◌, nat_le, if◌then◌else◌, slice_get, option_and_then, IfSome}
 use Rattle.std.proofs.lemmas.Bool.{eq-eqb, ne_eqb, le-leb, lt-leb, cases_lt}
 use Rattle.std.proofs.lemmas.Option.{slice_get_past}
-use Rattle.sb_rows.specs.Balances.{Balances}
 use Rattle.sb_calls.specs.Cowns.{held_of}
 use Rattle.sb_calls.specs.OneByOne.{reply_by_log}
 use Rattle.sb_calls.specs.declared.reply.Reply.{Reply}
@@ -32,22 +31,27 @@ module _ {B : Type 0} (board : BoardOf B) where
       let differs : (number == 0) ≡ false = ne_eqb number 0 (λ same. omega (arith, same, some)) in
       sym (ap (λ b. if b then None else (if nat_le number (length board.earlier) then slice_get board.earlier (number - 1)
       else option_and_then finished_reply (slice_get board.states (number - 1 - length board.earlier)))) differs
-      ∙ ap (λ b. if b then slice_get board.earlier (number - 1) else option_and_then finished_reply (slice_get board.states (number - 1 - length board.earlier))) (le-leb number (length board.earlier) before))
+      ∙ ap (λ b. if b then slice_get board.earlier (number - 1) else option_and_then finished_reply
+      (slice_get board.states (number - 1 - length board.earlier))) (le-leb number (length board.earlier) before))
 
-  number_after : (number place : ℕ) → number ≡ suc (length board.earlier + place) → option_and_then finished_reply (slice_get board.states place) ≡ reply_in board number
+  number_after : (number place : ℕ) → number ≡ suc (length board.earlier + place)
+      → option_and_then finished_reply (slice_get board.states place) ≡ reply_in board number
   unfolding reply_in
   number_after number place here =
       let differs : (number == 0) ≡ false = ne_eqb number 0 (λ same. omega (arith, same, here)) in
       let at : number - 1 - length board.earlier ≡ place = omega (arith, here) in
       sym (ap (λ b. if b then None else (if nat_le number (length board.earlier) then slice_get board.earlier (number - 1)
       else option_and_then finished_reply (slice_get board.states (number - 1 - length board.earlier)))) differs
-      ∙ ap (λ b. if b then slice_get board.earlier (number - 1) else option_and_then finished_reply (slice_get board.states (number - 1 - length board.earlier))) (lt-leb number (length board.earlier) (omega (arith, here)))
+      ∙ ap (λ b. if b then slice_get board.earlier (number - 1) else option_and_then finished_reply
+      (slice_get board.states (number - 1 - length board.earlier))) (lt-leb number (length board.earlier) (omega (arith, here)))
       ∙ ap (λ k. option_and_then finished_reply (slice_get board.states k)) at)
 
-  pub reply_at_place : (number place : ℕ) (s : State) → number ≡ suc (length board.earlier + place) → slice_get board.states place ≡ Some s → finished_reply s ≡ reply_in board number
+  pub reply_at_place : (number place : ℕ) (s : State) → number ≡ suc (length board.earlier + place) → slice_get board.states place ≡ Some s
+      → finished_reply s ≡ reply_in board number
   reply_at_place number place s here state = sym (ap (option_and_then finished_reply) state) ∙ number_after number place here
 
-  pub past_numbers : (number : ℕ) → (number ≤ length board.earlier → ⊥) → ((place : ℕ) → place < length board.states → number ≢ suc (length board.earlier + place)) → None ≡ reply_in board number
+  pub past_numbers : (number : ℕ) → (number ≤ length board.earlier → ⊥)
+      → ((place : ℕ) → place < length board.states → number ≢ suc (length board.earlier + place)) → None ≡ reply_in board number
   past_numbers number after none =
       let place : ℕ = number - 1 - length board.earlier in
       let here : number ≡ suc (length board.earlier + place) = omega (arith, after) in
@@ -57,8 +61,10 @@ module _ {B : Type 0} (board : BoardOf B) where
 module _ {B : Type 0} (touches : B → List ℕ) (effect : B → List ℤ → Reply × List ℤ)
     {inside : BoardInside B} (board : IsBoard touches effect inside) where
   -- what a finished behaviour was answered is the log's
-  pub reply_is_by_log : (number place : ℕ) (s : State) (answer : Option Reply) → number ≡ suc (inside.base + place) → slice_get inside.states place ≡ Some s → answer ≡ finished_reply s
-      → IfSome answer (λ reply. length inside.earlier < number → reply_by_log touches effect (held_of inside.opening) inside.log (number - length inside.earlier) ≡ Some reply)
+  pub reply_is_by_log : (number place : ℕ) (s : State) (answer : Option Reply) → number ≡ suc (inside.base + place) → slice_get inside.states place ≡ Some s
+      → answer ≡ finished_reply s
+      → IfSome answer (λ reply. length inside.earlier < number
+      → reply_by_log touches effect (held_of inside.opening) inside.log (number - length inside.earlier) ≡ Some reply)
   reply_is_by_log number place s None here state is = tt
   reply_is_by_log number place s (Some reply) here state is = λ after.
       let at : number - length inside.earlier ≡ suc place = omega (arith, here, board.based) in

@@ -38,13 +38,16 @@ state_past test states k past = ap (state_is test) (slice_get_past states k past
 pub state_here : (test : State → Bool) (states : List State) (k : ℕ) (s : State) → slice_get states k ≡ Some s → state_is test (slice_get states k) ≡ test s
 state_here test states k s h = ap (state_is test) h
 
-pub state-set_same : (test : State → Bool) (states : List State) (k : ℕ) (s : State) → k < length states → state_is test (slice_get (slice_set states k s) k) ≡ test s
+pub state-set_same : (test : State → Bool) (states : List State) (k : ℕ) (s : State) → k < length states
+    → state_is test (slice_get (slice_set states k s) k) ≡ test s
 state-set_same test states k s lt = ap (state_is test) (slice_get-set_same states k s lt)
 
-pub state-set_other : (test : State → Bool) (states : List State) (k j : ℕ) (s : State) → j ≢ k → state_is test (slice_get (slice_set states k s) j) ≡ state_is test (slice_get states j)
+pub state-set_other : (test : State → Bool) (states : List State) (k j : ℕ) (s : State) → j ≢ k
+    → state_is test (slice_get (slice_set states k s) j) ≡ state_is test (slice_get states j)
 state-set_other test states k j s differs = ap (state_is test) (slice_get-set_other states k j s differs)
 
-pub state-append : (test : State → Bool) (states : List State) (s : State) (j : ℕ) → j < length states → state_is test (slice_get (states ++ s ∷ []) j) ≡ state_is test (slice_get states j)
+pub state-append : (test : State → Bool) (states : List State) (s : State) (j : ℕ) → j < length states
+    → state_is test (slice_get (states ++ s ∷ []) j) ≡ state_is test (slice_get states j)
 state-append test states s j lt = ap (state_is test) (slice_get-left states (s ∷ []) j lt)
 
 pub state-last : (test : State → Bool) (states : List State) (s : State) (j : ℕ) → j ≡ length states → state_is test (slice_get (states ++ s ∷ []) j) ≡ test s

@@ -21,7 +21,8 @@ not_waiting {reply = reply} h = true≢false (ap is_open h)
 
 module _ {B : Type 0} (touches : B → List ℕ) (effect : B → List ℤ → Reply × List ℤ) where
   -- those before it declare what they declared
-  touches-append : (log : List B) (b : B) (cown k : ℕ) → k < length log → touches_at touches effect (log ++ b ∷ []) cown k ≡ touches_at touches effect log cown k
+  touches-append : (log : List B) (b : B) (cown k : ℕ) → k < length log
+      → touches_at touches effect (log ++ b ∷ []) cown k ≡ touches_at touches effect log cown k
   touches-append log b cown k lt = ap (λ o. is_among cown (touched_by touches o)) (slice_get-left log (b ∷ []) k lt)
 
   conflict-append : (log : List B) (b : B) (j k : ℕ) → j < length log → k < length log → conflict_at touches (log ++ b ∷ []) j k ≡ conflict_at touches log j k
@@ -55,7 +56,8 @@ module _ {B : Type 0} (touches : B → List ℕ) (effect : B → List ℤ → Re
             } in
             kept.settled cown (length log) (omega arith) before
             ∙ ap (λ h. get_or h cown (pos 0)) (sym (after-append touches effect opening log (b ∷ []) (length log) (omega arith)))
-            ∙ sym (after_untouched touches effect opening (log ++ b ∷ []) cown (length log) 1 i all (λ j ge lt. false_from_ne_true (touches_at touches effect (log ++ b ∷ []) cown j) (λ among.
+            ∙ sym (after_untouched touches effect opening (log ++ b ∷ []) cown (length log) 1 i all
+            (λ j ge lt. false_from_ne_true (touches_at touches effect (log ++ b ∷ []) cown j) (λ among.
             let here : j ≡ length states = omega (arith, ge, lt, all, kept.beside) in
             true≢false (sym (state-last is_open states Waiting j here) ∙ settled.before j lt among))))
         | inr old ↦
@@ -93,8 +95,10 @@ module _ {B : Type 0} (touches : B → List ℕ) (effect : B → List ℤ → Re
             let lt : i < length states + 1 = (let w = slice_get_within (states ++ Waiting ∷ []) i (Finished reply) finished in omega (arith, w, more)) in
             elim (cases_lt i (length states)) [
               | inl old ↦
-                  ap (λ h. option_map (reply_of touches effect h) (slice_get (log ++ b ∷ []) i)) (after-append touches effect opening log (b ∷ []) i (omega (arith, old, kept.beside)))
-                  ∙ ap (option_map (reply_of touches effect (held_after_first touches effect opening log i))) (slice_get-left log (b ∷ []) i (omega (arith, old, kept.beside)))
+                  ap (λ h. option_map (reply_of touches effect h) (slice_get (log ++ b ∷ []) i))
+                  (after-append touches effect opening log (b ∷ []) i (omega (arith, old, kept.beside)))
+                  ∙ ap (option_map (reply_of touches effect (held_after_first touches effect opening log i)))
+                  (slice_get-left log (b ∷ []) i (omega (arith, old, kept.beside)))
                   ∙ kept.replies i reply (sym (slice_get-left states (Waiting ∷ []) i old) ∙ finished)
               | inr new ↦ absurd (not_waiting (injective (sym (slice_get-right states (Waiting ∷ []) i 0 (omega (arith, lt, new))) ∙ finished)))
             ];

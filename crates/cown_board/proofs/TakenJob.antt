@@ -3,7 +3,6 @@ use Rattle.std.proofs.Common.{◌≡◌, inl, inr, ℕ, zero, suc, ◌+◌, ◌<
 use Rattle.std.specs.Prelude.{slice_get, slice_set, filter, remove}
 use Rattle.std.proofs.lemmas.Bool.{cases_Bool, and_parts, and_from, and_left, true≢false, both_ways, false_from_ne_true}
 use Rattle.std.proofs.lemmas.Option.{slice_get-get_or}
-use Rattle.sb_rows.specs.Balances.{Balances}
 use Rattle.sb_calls.specs.Cowns.{AreBelow, AreHeld, held_of, read_cowns}
 use Rattle.sb_calls.specs.OneByOne.{is_among, inputs_of, held_after_first}
 use Rattle.sb_calls.specs.declared.reply.Reply.{Reply}
@@ -52,28 +51,34 @@ module _ {B : Type 0} (touches : B → List ℕ) (effect : B → List ℤ → Re
   declared_in_held k b here = rw board.keeps.cowns_stay (declared_below k b here)
 
   -- what is clear, as a fact
-  clear_fact : (k : ℕ) → is_clear_at touches inside.log inside.states k ≡ true → (j : ℕ) → j < k → conflict_at touches inside.log j k ≡ true → open_at inside.states j ≡ false
+  clear_fact : (k : ℕ) → is_clear_at touches inside.log inside.states k ≡ true → (j : ℕ) → j < k → conflict_at touches inside.log j k ≡ true
+      → open_at inside.states j ≡ false
   clear_fact k clear j lt conflict = false_from_ne_true (open_at inside.states j) (λ still_open.
-      both_ways (open_at inside.states j && conflict_at touches inside.log j k) (none_below_at (λ i. open_at inside.states i && conflict_at touches inside.log i k) k j clear lt)
+      both_ways (open_at inside.states j && conflict_at touches inside.log j k)
+      (none_below_at (λ i. open_at inside.states i && conflict_at touches inside.log i k) k j clear lt)
       (and_from (open_at inside.states j) (conflict_at touches inside.log j k) still_open conflict))
 
-  clear_test : (k : ℕ) → ((j : ℕ) → j < k → conflict_at touches inside.log j k ≡ true → open_at inside.states j ≡ false) → is_clear_at touches inside.log inside.states k ≡ true
+  clear_test : (k : ℕ) → ((j : ℕ) → j < k → conflict_at touches inside.log j k ≡ true → open_at inside.states j ≡ false)
+      → is_clear_at touches inside.log inside.states k ≡ true
   clear_test k clear = none_below_from (λ j. open_at inside.states j && conflict_at touches inside.log j k) k (λ j lt.
       false_from_ne_true (open_at inside.states j && conflict_at touches inside.log j k) (λ both.
       let parts = and_parts (open_at inside.states j) (conflict_at touches inside.log j k) both in
       true≢false (sym parts.0 ∙ clear j lt parts.1)))
 
   -- of those that wait the ones in front at all their cowns are the clear ones
-  front_is_clear : (k : ℕ) (b : B) → slice_get inside.log k ≡ Some b → waiting_at inside.states k ≡ true → is_front_at touches inside.log inside.lists k ≡ is_clear_at touches inside.log inside.states k
+  front_is_clear : (k : ℕ) (b : B) → slice_get inside.log k ≡ Some b → waiting_at inside.states k ≡ true
+      → is_front_at touches inside.log inside.lists k ≡ is_clear_at touches inside.log inside.states k
   front_is_clear k b here waits =
       let at : touched_by touches (slice_get inside.log k) ≡ touches b = ap (touched_by touches) here in
       let cowns = length (held_of inside.opening) in
-      let in_range = λ (cown : ℕ) (among : is_among cown (touches b) ≡ true). board.keeps.in_range k cown (ap (λ o. is_among cown (touched_by touches o)) here ∙ among) in
+      let in_range = λ (cown : ℕ) (among : is_among cown (touches b) ≡ true). board.keeps.in_range k cown
+      (ap (λ o. is_among cown (touched_by touches o)) here ∙ among) in
       same_tests (is_front_at touches inside.log inside.lists k) (is_clear_at touches inside.log inside.states k)
       (λ front. clear_test k (clear_from_fronts touches effect inside.log inside.states inside.lists cowns board.queues k b here
       (fronts_fact k inside.lists (touches b) (sym (ap (are_fronts k inside.lists) at) ∙ front)) in_range))
       (λ clear. ap (are_fronts k inside.lists) at ∙ fronts_test k inside.lists (touches b)
-      (fronts_from_clear touches effect inside.log inside.states inside.lists cowns board.queues k b here (waiting_is_open inside.states k waits) (clear_fact k clear) (touches b)
+      (fronts_from_clear touches effect inside.log inside.states inside.lists cowns board.queues k b here (waiting_is_open inside.states k waits)
+      (clear_fact k clear) (touches b)
       (λ cown among. (among, in_range cown among))))
 
   -- so they are the ready ones
@@ -82,19 +87,23 @@ module _ {B : Type 0} (touches : B → List ℕ) (effect : B → List ℤ → Re
   fronts_are_ready =
       ap (filter (is_front_at touches inside.log inside.lists)) board.rest
       ∙ places-filter (waiting_at inside.states) (is_front_at touches inside.log inside.lists) (length inside.log)
-      ∙ places-agree (λ j. waiting_at inside.states j && is_front_at touches inside.log inside.lists j) (is_ready_at touches inside.log inside.states) (length inside.log)
+      ∙ places-agree (λ j. waiting_at inside.states j && is_front_at touches inside.log inside.lists j) (is_ready_at touches inside.log inside.states)
+      (length inside.log)
       (λ j lt. elim (cases_Bool (waiting_at inside.states j)) [
         | inl waits ↦ let found = some_at inside.log j lt in ap (λ x. waiting_at inside.states j && x) (front_is_clear j found.0 found.1 waits)
-        | inr not_waiting ↦ and_left (waiting_at inside.states j) (is_front_at touches inside.log inside.lists j) not_waiting ∙ sym (and_left (waiting_at inside.states j) (is_clear_at touches inside.log inside.states j) not_waiting)
+        | inr not_waiting ↦ and_left (waiting_at inside.states j) (is_front_at touches inside.log inside.lists j) not_waiting
+            ∙ sym (and_left (waiting_at inside.states j) (is_clear_at touches inside.log inside.states j) not_waiting)
       ])
 
   -- what is known of a place that is ready
   pub record IsTakable (k : ℕ) (b : B) : Type 0 where
     pub waits : slice_get inside.states k ≡ Some Waiting
     pub clear : (j : ℕ) → j < k → conflict_at touches inside.log j k ≡ true → open_at inside.states j ≡ false
-    pub inputs : read_cowns (held_of inside.now) (touches b) ≡ inputs_of touches effect (held_after_first touches effect (held_of inside.opening) inside.log k) b
+    pub inputs : read_cowns (held_of inside.now) (touches b) ≡ inputs_of touches effect
+        (held_after_first touches effect (held_of inside.opening) inside.log k) b
 
-  pub takable : (index k : ℕ) (b : B) → slice_get (ready_places touches inside.log inside.states) index ≡ Some k → slice_get inside.log k ≡ Some b → IsTakable k b
+  pub takable : (index k : ℕ) (b : B) → slice_get (ready_places touches inside.log inside.states) index ≡ Some k → slice_get inside.log k ≡ Some b
+      → IsTakable k b
   unfolding ready_places
   takable index k b ready here =
       let found = place_is (is_ready_at touches inside.log inside.states) (length inside.log) index k ready in
@@ -111,30 +120,37 @@ module _ {B : Type 0} (touches : B → List ℕ) (effect : B → List ℤ → Re
 
   -- what a behaviour's cowns hold after the first k they may hold
   pub inputs_held : ((b : B) (inputs : List ℤ) → AreHeld (touches b) inputs → AreHeld (touches b) (effect b inputs).1)
-      → (k place : ℕ) (b : B) → slice_get inside.log place ≡ Some b → AreHeld (touches b) (inputs_of touches effect (held_after_first touches effect (held_of inside.opening) inside.log k) b)
+      → (k place : ℕ) (b : B) → slice_get inside.log place ≡ Some b
+      → AreHeld (touches b) (inputs_of touches effect (held_after_first touches effect (held_of inside.opening) inside.log k) b)
   inputs_held keeps k place b here =
       let before = held_after_first touches effect (held_of inside.opening) inside.log k in
-      AreHeld-read before (touches b) (AllHeld-after_first touches effect keeps (held_of inside.opening) inside.log k board.keeps.opened board.keeps.in_range) (λ cown among.
+      AreHeld-read before (touches b) (AllHeld-after_first touches effect keeps
+      (held_of inside.opening) inside.log k board.keeps.opened board.keeps.in_range) (λ cown among.
       let lt = board.keeps.in_range place cown (ap (λ o. is_among cown (touched_by touches o)) here ∙ among) in
       omega (arith, lt, length-after touches effect (held_of inside.opening) (take k inside.log)))
 
   -- the waiting places are places of the log
   pub waiting_below : (k d : ℕ) → k < length inside.waiting → get_or inside.waiting k d < length inside.log
   waiting_below k d lt =
-      let here : slice_get (places (waiting_at inside.states) (length inside.log)) k ≡ Some (get_or inside.waiting k d) = ap (λ w. slice_get w k) (sym board.rest) ∙ slice_get-get_or inside.waiting k d lt in
+      let here : slice_get (places (waiting_at inside.states) (length inside.log)) k ≡ Some (get_or inside.waiting k d) =
+      ap (λ w. slice_get w k) (sym board.rest) ∙ slice_get-get_or inside.waiting k d lt in
       (place_is (waiting_at inside.states) (length inside.log) k (get_or inside.waiting k d) here).0
 
-  pub ready_from : (index k : ℕ) → slice_get (filter (is_front_at touches inside.log inside.lists) inside.waiting) index ≡ Some k → slice_get (ready_places touches inside.log inside.states) index ≡ Some k
+  pub ready_from : (index k : ℕ) → slice_get (filter (is_front_at touches inside.log inside.lists) inside.waiting) index ≡ Some k
+      → slice_get (ready_places touches inside.log inside.states) index ≡ Some k
   ready_from index k h = sym (ap (λ xs. slice_get xs index) fronts_are_ready) ∙ h
 
-  pub few_from : (index : ℕ) → length (filter (is_front_at touches inside.log inside.lists) inside.waiting) ≤ index → length (ready_places touches inside.log inside.states) ≤ index
+  pub few_from : (index : ℕ) → length (filter (is_front_at touches inside.log inside.lists) inside.waiting) ≤ index
+      → length (ready_places touches inside.log inside.states) ≤ index
   few_from index h = subst (λ xs. length xs ≤ index) fronts_are_ready h
 
   pub number_below : (k : ℕ) → k < length inside.log → inside.base + k + 1 ≤ 1000000
   number_below k lt = omega (arith, lt, board.based, board.few_numbers)
 
-  pub takes_from : (index k : ℕ) (b : B) (inputs : List ℤ) → slice_get (ready_places touches inside.log inside.states) index ≡ Some k → slice_get inside.log k ≡ Some b → inputs ≡ read_cowns (held_of inside.now) (touches b)
-      → Takes touches effect (record { opening = inside.opening; earlier = inside.earlier; log = inside.log; states = inside.states }) index (record { number = inside.base + k + 1; behaviour = b; inputs = inputs })
+  pub takes_from : (index k : ℕ) (b : B) (inputs : List ℤ) → slice_get (ready_places touches inside.log inside.states) index ≡ Some k
+      → slice_get inside.log k ≡ Some b → inputs ≡ read_cowns (held_of inside.now) (touches b)
+      → Takes touches effect (record { opening = inside.opening; earlier = inside.earlier; log = inside.log; states = inside.states }) index
+      (record { number = inside.base + k + 1; behaviour = b; inputs = inputs })
       (record { opening = inside.opening; earlier = inside.earlier; log = inside.log; states = slice_set inside.states k Out })
   takes_from index k b inputs ready here read = record {
     place = k;
@@ -146,8 +162,10 @@ module _ {B : Type 0} (touches : B → List ℕ) (effect : B → List ℤ → Re
   }
 
   pub taken_inputs_held : ((b : B) (inputs : List ℤ) → AreHeld (touches b) inputs → AreHeld (touches b) (effect b inputs).1)
-      → (index k : ℕ) (b : B) (inputs : List ℤ) → slice_get (ready_places touches inside.log inside.states) index ≡ Some k → slice_get inside.log k ≡ Some b → inputs ≡ read_cowns (held_of inside.now) (touches b) → AreHeld (touches b) inputs
-  taken_inputs_held keeps index k b inputs ready here read = subst (AreHeld (touches b)) (sym (read ∙ (takable index k b ready here).inputs)) (inputs_held keeps k k b here)
+      → (index k : ℕ) (b : B) (inputs : List ℤ) → slice_get (ready_places touches inside.log inside.states) index ≡ Some k → slice_get inside.log k ≡ Some b
+      → inputs ≡ read_cowns (held_of inside.now) (touches b) → AreHeld (touches b) inputs
+  taken_inputs_held keeps index k b inputs ready here read =
+      subst (AreHeld (touches b)) (sym (read ∙ (takable index k b ready here).inputs)) (inputs_held keeps k k b here)
 
   pub board_taken : (index p k : ℕ) → slice_get inside.waiting p ≡ Some k → slice_get (ready_places touches inside.log inside.states) index ≡ Some k
       → IsBoard touches effect (record inside { states = slice_set inside.states k Out; waiting = remove inside.waiting p })

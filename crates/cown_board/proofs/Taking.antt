@@ -46,7 +46,8 @@ module _ {B : Type 0} (touches : B → List ℕ) (effect : B → List ℤ → Re
       after = λ j ge among. sym (open-taken states k j here) ∙ settled.after j ge among;
     });
     replies = λ i reply finished. elim (cases_eq i k) [
-      | inl same ↦ absurd (not_out (injective (sym (slice_get-set_same states k Out (slice_get_within states k Waiting here)) ∙ ap (slice_get (slice_set states k Out)) (sym same) ∙ finished)))
+      | inl same ↦ absurd (not_out (injective (sym (slice_get-set_same states k Out (slice_get_within states k Waiting here))
+          ∙ ap (slice_get (slice_set states k Out)) (sym same) ∙ finished)))
       | inr differs ↦ kept.replies i reply (sym (slice_get-set_other states k i Out differs) ∙ finished)
     ];
   }

@@ -39,7 +39,8 @@ reply_in board number =
 module _ {B : Type 0} (touches : B → List ℕ) (effect : B → List ℤ → Reply × List ℤ) where
   -- what the behaviour at a place is given: what its cowns hold after those before it
   abbrev pub inputs_at : BoardOf B → ℕ → B → List ℤ
-  inputs_at board place behaviour = inputs_of touches effect (held_after_first touches effect (held_of board.opening) board.log place) behaviour
+  inputs_at board place behaviour =
+      inputs_of touches effect (held_after_first touches effect (held_of board.opening) board.log place) behaviour
 
   -- it is that of the behaviour at a place, which is out, on its inputs
   pub record IsOutAt (board : BoardOf B) (done : DoneOf B) (place : ℕ) : Type 0 where

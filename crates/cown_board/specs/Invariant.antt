@@ -19,8 +19,8 @@ open_at states k = state_is is_open (slice_get states k)
 abbrev pub waiting_at : List State → ℕ → Bool
 waiting_at states k = state_is is_waiting (slice_get states k)
 
--- what a board has inside: beside what its callers see the columns as they are now, how many numbers there were before it, the queue of
--- each cown, the places of the waiting ones, and how many are unfinished
+-- what a board has inside: what its callers see, the columns as they are now, how many numbers there were
+-- before it, the queue of each cown, the places of the waiting ones, and how many are unfinished
 pub record BoardInside (B : Type 0) : Type 0 where
   pub opening : Balances
   pub now : Balances
@@ -49,12 +49,14 @@ module _ {B : Type 0} (touches : B → List ℕ) (effect : B → List ℤ → Re
     pub opened : AllHeld opening
     pub in_range : (k cown : ℕ) → touches_at log cown k ≡ true → cown < length opening
     -- of two that share a cown the later one waits until the earlier one is finished
-    pub ordered : (j k : ℕ) → j < k → k < length log → open_at states j ≡ true → conflict_at touches log j k ≡ true → waiting_at states k ≡ true
+    pub ordered : (j k : ℕ) → j < k → k < length log → open_at states j ≡ true
+        → conflict_at touches log j k ≡ true → waiting_at states k ≡ true
     -- where a cown is settled up to k it holds what the first k leave
     pub settled : (cown k : ℕ) → k ≤ length log → IsSettled log states cown k
         → get_or held cown (pos 0) ≡ get_or (held_after_first touches effect opening log k) cown (pos 0)
     pub replies : (k : ℕ) (reply : Reply) → slice_get states k ≡ Some (Finished reply)
-        → option_map (reply_of touches effect (held_after_first touches effect opening log k)) (slice_get log k) ≡ Some reply
+        → option_map (reply_of touches effect (held_after_first touches effect opening log k)) (slice_get log k)
+        ≡ Some reply
 
   -- whether the behaviour at a place is unfinished and declares a cown
   abbrev pub is_queued : List B → List State → ℕ → ℕ → Bool

@@ -42,8 +42,10 @@ module _ {B : Type 0} (touches : B → List ℕ) (effect : B → List ℤ → Re
       (open_of old ≢ OPEN_BEHAVIOURS) × (length_of old ≢ LOG_CALLS) × (number ≡ suc (length_of old))
       × (new ≡ record old { log = old.log ++ behaviour ∷ []; states = old.states ++ Waiting ∷ [] })
   Makes old (Submitted behaviour (Err Busy)) new = (open_of old ≡ OPEN_BEHAVIOURS) × (new ≡ old)
-  Makes old (Submitted behaviour (Err LogFull)) new = (open_of old ≢ OPEN_BEHAVIOURS) × (length_of old ≡ LOG_CALLS) × (new ≡ old)
-  Makes old (Submitted behaviour (Err OutOfMemory)) new = (open_of old ≢ OPEN_BEHAVIOURS) × (length_of old ≢ LOG_CALLS) × (new ≡ old)
+  Makes old (Submitted behaviour (Err LogFull)) new =
+      (open_of old ≢ OPEN_BEHAVIOURS) × (length_of old ≡ LOG_CALLS) × (new ≡ old)
+  Makes old (Submitted behaviour (Err OutOfMemory)) new =
+      (open_of old ≢ OPEN_BEHAVIOURS) × (length_of old ≢ LOG_CALLS) × (new ≡ old)
   Makes old (TakenAt index None) new = (length (ready_places touches old.log old.states) ≤ index) × (new ≡ old)
   Makes old (TakenAt index (Some job)) new = Takes touches effect old index job new
   Makes old (Returned done (Ok reply)) new = Finishes touches effect old done reply new
@@ -55,7 +57,8 @@ module _ {B : Type 0} (touches : B → List ℕ) (effect : B → List ℤ → Re
   Plays old (call ∷ calls) new = (mid : BoardOf B) × Makes old call mid × Plays mid calls new
 
   -- a board after these calls on one that was opened with these columns and replies
-  pub record IsTrueToLog (columns : Balances) (earlier : List Reply) (calls : List (BoardCall B)) (board : BoardOf B) : Type 0 where
+  pub record IsTrueToLog (columns : Balances) (earlier : List Reply) (calls : List (BoardCall B))
+      (board : BoardOf B) : Type 0 where
     pub opening : board.opening ≡ columns
     pub before : board.earlier ≡ earlier
     pub log : board.log ≡ put_by_all calls

@@ -10,7 +10,9 @@ use sb_rows::Columns;
 
 // The place in the log of a number, if it has one.
 pub(crate) fn place_of(base: u64, numbers: usize, number: u64) -> Option<u64>
-    ensures { MatchOption result ((place : ℕ) → place < numbers → number ≢ suc (base + place)) (λ place. (place < numbers) × (number ≡ suc (base + place))) }
+    ensures { MatchOption result
+        ((place : ℕ) → place < numbers → number ≢ suc (base + place))
+        (λ place. (place < numbers) × (number ≡ suc (base + place))) }
 {
     if number <= base {
         return None;
@@ -54,9 +56,11 @@ pub(crate) fn is_out_at<B: Behaviour>(
 ) -> bool
     requires place { place < length log.now.items }
     requires beside { length log.now.items ≡ length states.now.items }
-    requires cowns { (k : ℕ) (behaviour : B) → slice_get log.now.items k ≡ Some behaviour → AreBelow (length (held_of columns.now)) (B.touches behaviour) }
-    ensures { IsTrue result ↔ ((slice_get states.now.items place ≡ Some State.Out) × (slice_get log.now.items place ≡ Some done.now.behaviour)
-        × (done.now.inputs ≡ read_cowns (held_of columns.now) (B.touches done.now.behaviour))) }
+    requires cowns { (k : ℕ) (behaviour : B) → slice_get log.now.items k ≡ Some behaviour →
+        AreBelow (length (held_of columns.now)) (B.touches behaviour) }
+    ensures { IsTrue result ↔ ((slice_get states.now.items place ≡ Some State.Out) ×
+        (slice_get log.now.items place ≡ Some done.now.behaviour) ×
+        (done.now.inputs ≡ read_cowns (held_of columns.now) (B.touches done.now.behaviour))) }
 {
     let behaviour = log[place as usize];
     if !is_out(states[place as usize]) || !same_behaviour(behaviour, done.behaviour()) {

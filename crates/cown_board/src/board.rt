@@ -104,7 +104,8 @@ impl<B: Behaviour> Board<B> {
     ) -> Result<Board<B>, AllocError>
         requires replies { length replies.items ≡ base }
         requires few { base ≤ LOG_CALLS }
-        ensures { IfOk result (λ board. board ≡ record { opening = columns; earlier = replies.items; log = []; states = [] }) }
+        ensures { IfOk result (λ board. board ≡
+            record { opening = columns; earlier = replies.items; log = []; states = [] }) }
     {
         let opening = columns.copy()?;
         let queues = Queues::open(alloc, 2 * columns.customers())?;
@@ -155,10 +156,14 @@ impl<B: Behaviour> Board<B> {
     pub fn submit(&mut self, behaviour: B) -> Result<u64, SubmitFault>
         requires { AreBelow (length (held_of self.old.opening)) (B.touches behaviour) }
         ensures number { IfOk result (λ number. number ≡ suc (length_of self.old)) }
-        ensures ok { OnOk result (self.new ≡ record self.old { log = self.old.log ++ behaviour ∷ []; states = self.old.states ++ State.Waiting ∷ [] }) }
+        ensures ok { OnOk result (self.new ≡ record self.old {
+          log = self.old.log ++ behaviour ∷ [];
+          states = self.old.states ++ State.Waiting ∷ [];
+        }) }
         ensures err { OnErr result (self.new ≡ self.old) }
         ensures busy { IsErrOf result SubmitFault.Busy ↔ (open_of self.old ≡ OPEN_BEHAVIOURS) }
-        ensures full { IsErrOf result SubmitFault.LogFull ↔ ((open_of self.old ≢ OPEN_BEHAVIOURS) × (length_of self.old ≡ LOG_CALLS)) }
+        ensures full { IsErrOf result SubmitFault.LogFull ↔
+            ((open_of self.old ≢ OPEN_BEHAVIOURS) × (length_of self.old ≡ LOG_CALLS)) }
         // After any calls, with this one too, the board is true to its log.
         ensures played { MatchResult result
             (λ number. StaysTrueToLog B.touches B.effect self.old (Submitted behaviour (Ok number)) self.new)
@@ -217,7 +222,9 @@ impl<B: Behaviour> Board<B> {
     /// with, comes back, and nothing changes.
     pub fn finish(&mut self, done: Done<B>) -> Result<Reply, Done<B>>
         ensures accepted { IsOk result ↔ IsOutHere B.touches B.effect self.old done }
-        ensures outcome { MatchResult result (λ reply. Finishes B.touches B.effect self.old done reply self.new) (λ back. (back ≡ done) × (self.new ≡ self.old)) }
+        ensures outcome { MatchResult result
+            (λ reply. Finishes B.touches B.effect self.old done reply self.new)
+            (λ back. (back ≡ done) × (self.new ≡ self.old)) }
         // After any calls, with this one too, the board is true to its log.
         ensures played { MatchResult result
             (λ reply. StaysTrueToLog B.touches B.effect self.old (Returned done (Ok reply)) self.new)
@@ -248,8 +255,9 @@ impl<B: Behaviour> Board<B> {
     pub fn reply(&self, number: u64) -> Option<Reply>
         ensures value { result ≡ reply_in self.now number }
         // It is that of the log run one by one.
-        ensures by_log { IfSome result (λ reply. length self.now.earlier < number
-            → reply_by_log B.touches B.effect (held_of self.now.opening) self.now.log (number - length self.now.earlier) ≡ Some reply) }
+        ensures by_log { IfSome result (λ reply. length self.now.earlier < number →
+            reply_by_log B.touches B.effect (held_of self.now.opening) self.now.log
+            (number - length self.now.earlier) ≡ Some reply) }
     {
         if number <= self.base {
             let place = number.checked_sub(1)?;

@@ -23,7 +23,8 @@ pub(crate) fn is_in_front(queues: &Queues, number: u64, cowns: &[Cown]) -> bool
 // Whether the behaviour at a place of a log is in front at all its cowns.
 fn is_front<B: Behaviour>(log: &Vec<B>, queues: &Queues, place: u64) -> bool
     requires place { place < length log.now.items }
-    requires cowns { (k : ℕ) (behaviour : B) → slice_get log.now.items k ≡ Some behaviour → AreBelow (length queues.now.lists) (B.touches behaviour) }
+    requires cowns { (k : ℕ) (behaviour : B) → slice_get log.now.items k ≡ Some behaviour →
+        AreBelow (length queues.now.lists) (B.touches behaviour) }
     ensures { result ≡ is_front_at B.touches log.now.items queues.now.lists place }
 {
     let cowns = log[place as usize].cowns();
@@ -39,11 +40,13 @@ pub(crate) fn nth_front<B: Behaviour>(
     index: usize,
 ) -> Option<(usize, u64)>
     requires places { All (λ place. place < length log.now.items) waiting.now.items }
-    requires cowns { (place : ℕ) (behaviour : B) → slice_get log.now.items place ≡ Some behaviour → AreBelow (length queues.now.lists) (B.touches behaviour) }
+    requires cowns { (place : ℕ) (behaviour : B) → slice_get log.now.items place ≡ Some behaviour →
+        AreBelow (length queues.now.lists) (B.touches behaviour) }
     ensures { MatchOption result
         (length (filter (is_front_at B.touches log.now.items queues.now.lists) waiting.now.items) ≤ index)
-        (λ found. (slice_get waiting.now.items found.0 ≡ Some found.1)
-        × (slice_get (filter (is_front_at B.touches log.now.items queues.now.lists) waiting.now.items) index ≡ Some found.1)) }
+        (λ found. (slice_get waiting.now.items found.0 ≡ Some found.1) ×
+        (slice_get (filter (is_front_at B.touches log.now.items queues.now.lists) waiting.now.items) index ≡
+        Some found.1)) }
 {
     let mut before = 0;
     for position in 0..waiting.len() {

@@ -50,7 +50,8 @@ impl<B: Behaviour> Job<B> {
 impl<B: Performs> Job<B> {
     /// Carries the behaviour out.
     pub fn run(self) -> Done<B>
-        ensures job { (result.number ≡ self.number) × (result.behaviour ≡ self.behaviour) × (result.inputs ≡ self.inputs) }
+        ensures job { (result.number ≡ self.number) × (result.behaviour ≡ self.behaviour) ×
+            (result.inputs ≡ self.inputs) }
     {
         let Job {
             number,
@@ -85,9 +86,16 @@ impl<B: Behaviour> Model for Done<B> {
 
     ghost Value = { DoneOf B };
 
-    ghost view = { λ d. record { number = d.number; behaviour = d.behaviour; inputs = d.inputs.items; reply = d.reply; outputs = d.outputs.items } };
+    ghost view = { λ d. record {
+      number = d.number;
+      behaviour = d.behaviour;
+      inputs = d.inputs.items;
+      reply = d.reply;
+      outputs = d.outputs.items;
+    } };
 
-    ghost invariant = { λ d. (d.reply ≡ (B.effect d.behaviour d.inputs.items).0) × (d.outputs.items ≡ (B.effect d.behaviour d.inputs.items).1) };
+    ghost invariant = { λ d. (d.reply ≡ (B.effect d.behaviour d.inputs.items).0) ×
+        (d.outputs.items ≡ (B.effect d.behaviour d.inputs.items).1) };
 }
 
 impl<B: Behaviour> Done<B> {

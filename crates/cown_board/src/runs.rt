@@ -23,8 +23,8 @@ pub trait Runs {
     /// Hands out the ready op that has this many ready ones before it, as [`Board::take_at`].
     fn take_at(&mut self, index: usize) -> Option<Job<Op>>
         ensures outcome { MatchOption result
-            ((length (ready_places declared_cowns (board self.old).log (board self.old).states) ≤ index)
-            × (board self.new ≡ board self.old))
+            ((length (ready_places declared_cowns (board self.old).log (board self.old).states) ≤ index) ×
+            (board self.new ≡ board self.old))
             (λ job. Takes declared_cowns effect_of (board self.old) index job (board self.new)) }
         ensures beside { beside self.new ≡ beside self.old };
 

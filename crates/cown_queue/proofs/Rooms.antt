@@ -104,7 +104,8 @@ HaveRoom-Within rooms [] below have = tt
 HaveRoom-Within rooms (cown ∷ cowns) below have = (have.0 below.0, HaveRoom-Within rooms cowns below.1 have.1)
 
 -- room that isn't lost stays, also where there are cowns that aren't there
-HaveRoomWithin-LoseNoRoom : (old new : List ℕ) (cowns : List ℕ) → length new ≡ length old → LoseNoRoom old new → HaveRoomWithin old cowns → HaveRoomWithin new cowns
+HaveRoomWithin-LoseNoRoom : (old new : List ℕ) (cowns : List ℕ) → length new ≡ length old → LoseNoRoom old new → HaveRoomWithin old cowns
+    → HaveRoomWithin new cowns
 HaveRoomWithin-LoseNoRoom old new [] same h have = tt
 HaveRoomWithin-LoseNoRoom old new (cown ∷ cowns) same h have = (
   λ below. let before = have.0 (omega (arith, below, same)) in omega (arith, h cown, before),

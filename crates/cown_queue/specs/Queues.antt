@@ -14,17 +14,20 @@ list_of lists cown = get_or lists cown []
 -- the lists of these cowns have the number last; all others are as they were
 pub record Appends (number : ℕ) (cowns : List ℕ) (old new : List (List ℕ)) : Type 0 where
   pub cowns_stay : length new ≡ length old
-  pub each : (cown : ℕ) → cown < length old → list_of new cown ≡ (if is_among cown cowns then list_of old cown ++ number ∷ [] else list_of old cown)
+  pub each : (cown : ℕ) → cown < length old
+      → list_of new cown ≡ (if is_among cown cowns then list_of old cown ++ number ∷ [] else list_of old cown)
 
 -- the lists of these cowns begin with the number
 abbrev pub IsInFront : ℕ → List ℕ → List (List ℕ) → Type 0
 IsInFront number [] lists = Unit {0}
-IsInFront number (cown ∷ cowns) lists = ((rest : List ℕ) × (list_of lists cown ≡ number ∷ rest)) × IsInFront number cowns lists
+IsInFront number (cown ∷ cowns) lists =
+    ((rest : List ℕ) × (list_of lists cown ≡ number ∷ rest)) × IsInFront number cowns lists
 
 -- the lists of these cowns are without their first number; all others are as they were
 pub record Releases (cowns : List ℕ) (old new : List (List ℕ)) : Type 0 where
   pub cowns_stay : length new ≡ length old
-  pub each : (cown : ℕ) → cown < length old → list_of new cown ≡ (if is_among cown cowns then drop 1 (list_of old cown) else list_of old cown)
+  pub each : (cown : ℕ) → cown < length old
+      → list_of new cown ≡ (if is_among cown cowns then drop 1 (list_of old cown) else list_of old cown)
 
 -- the first number of each of these cowns that has one, in the order of the cowns
 abbrev pub fronts_of : List (List ℕ) → List ℕ → List ℕ

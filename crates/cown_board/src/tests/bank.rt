@@ -157,4 +157,13 @@ impl<B: Behaviour> Bank<B> {
         let Bank { board } = self;
         board
     }
+
+    // The board after a turn, and what it answered.
+    pub(super) fn into_turn(self, behaviour: B, done: Done<B>) -> (Board<B>, Turn<B>)
+        requires { AreBelow 6 (B.touches behaviour) }
+    {
+        let Bank { mut board } = self;
+        let turn = take_turn(&mut board, behaviour, done);
+        (board, turn)
+    }
 }

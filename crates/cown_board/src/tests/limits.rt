@@ -76,12 +76,13 @@ fn a_log_of_a_million_is_full(rt: HostRuntime) -> Result<(), Fail> {
 }
 
 #[test]
-fn words_of_the_faults(rt: HostRuntime) -> Result<(), Fail> {
-    for (fault, words) in [
-        (SubmitFault::Busy, "busy"),
-        (SubmitFault::LogFull, "log full"),
-        (SubmitFault::OutOfMemory, "out of memory"),
+fn numbers_and_words_of_the_faults(rt: HostRuntime) -> Result<(), Fail> {
+    for (fault, number, words) in [
+        (SubmitFault::Busy, 1, "busy"),
+        (SubmitFault::LogFull, 2, "log full"),
+        (SubmitFault::OutOfMemory, 3, "out of memory"),
     ] {
+        assert_eq!(rt; fault.number(), number);
         assert_eq!(rt; fault.to_string(rt.alloc())?.as_str(), words);
     }
     Ok(())

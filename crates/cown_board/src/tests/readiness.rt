@@ -47,3 +47,19 @@ fn there_are_no_columns_while_something_is_unfinished(rt: HostRuntime) -> Result
     bank.finishes(&rt, job.run(), Reply::Shown(15_000));
     bank.ends_with(&rt, [10_000, 0, 1_000], [5_000, 2_000, 0])
 }
+
+#[test]
+fn a_turn_submits_takes_and_gives_back(rt: HostRuntime) -> Result<(), Fail> {
+    let mut bank = open(rt.alloc())?;
+    bank.submits(&rt, 1, Op::DepositChecking(ALICE, amount(100)?));
+    let first = bank.takes(&rt, 0, 1)?;
+    // The second waits for nothing, and is ready before the first is given back.
+    let (board, turn) = bank.into_turn(Op::Balance(BOB), first.run());
+    assert_eq!(rt; turn.submitted, Ok(2));
+    assert_eq!(rt; turn.job.map(|job| job.number()), Some(2));
+    assert_eq!(rt; turn.finished.ok(), Some(Reply::Done));
+    assert_eq!(rt; board.reply(1), Some(Reply::Done));
+    assert_eq!(rt; board.reply(2), None);
+    assert!(rt; !board.idle());
+    Ok(())
+}

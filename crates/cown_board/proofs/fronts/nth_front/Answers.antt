@@ -10,6 +10,11 @@ returns-then-before-index g c =
     let waiting = c.args.waiting.now.items in
     let passes = is_front_at g.B.Behaviour.touches c.args.log.now.items c.args.queues.now.lists in
     let here : slice_get waiting c.loop-position.position ≡ Some c.index-place.result.now =
-    slice_get_read waiting (length waiting) c.loop-position.position c.index-place.result.now refl (omega (arith, c.loop-position-test.true, c.len-position-end.ensures, c.args.waiting.now.ok)) c.index-place.ensures in
-    let before : length (filter passes (take c.loop-position.position waiting)) ≡ c.args.index = sym c.loop-position.invariant.counted ∙ c.if-before-index.true in
-    (here, ap (slice_get (filter passes waiting)) (sym before) ∙ passing_at passes waiting c.loop-position.position c.index-place.result.now here (sym c.is_front.ensures ∙ c.if-is_front.true))
+    slice_get_read waiting (length waiting) c.loop-position.position c.index-place.result.now refl
+    (omega (arith, c.loop-position-test.true, c.len-position-end.ensures, c.args.waiting.now.ok)) c.index-place.ensures in
+    let before : length (filter passes (take c.loop-position.position waiting)) ≡ c.args.index = sym c.loop-position.invariant.counted
+    ∙ c.if-before-index.true in (
+      here,
+      ap (slice_get (filter passes waiting)) (sym before)
+          ∙ passing_at passes waiting c.loop-position.position c.index-place.result.now here (sym c.is_front.ensures ∙ c.if-is_front.true),
+    )

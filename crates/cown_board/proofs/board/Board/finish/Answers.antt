@@ -39,15 +39,20 @@ pub settle-requires-clause-queued : goal.settle-requires-clause-queued
 settle-requires-clause-queued g c =
     let touches = g.B.Behaviour.touches in
     let log = c.self.inside.log.items in
-    let here : slice_get log c.in-Some.place ≡ Some c.index.result.now = slice_get_read log (length log) c.in-Some.place c.index.result.now refl (omega (arith, c.in-Some.ensures.0, c.len.ensures, c.self.inside.log.ok)) c.index.ensures in
-    subst (AreBelow (length c.self.inside.queues.lists)) (sym (c.as_slice.ensures.value ∙ c.cowns-cowns.ensures)) (declared_in_queues touches g.B.Behaviour.effect c.self.invariant c.in-Some.place c.index.result.now here)
+    let here : slice_get log c.in-Some.place ≡ Some c.index.result.now =
+    slice_get_read log (length log) c.in-Some.place c.index.result.now refl
+    (omega (arith, c.in-Some.ensures.0, c.len.ensures, c.self.inside.log.ok)) c.index.ensures in
+    subst (AreBelow (length c.self.inside.queues.lists)) (sym (c.as_slice.ensures.value ∙ c.cowns-cowns.ensures))
+    (declared_in_queues touches g.B.Behaviour.effect c.self.invariant c.in-Some.place c.index.result.now here)
 
 pub settle-requires-clause-front : goal.settle-requires-clause-front
 settle-requires-clause-front g c =
     let touches = g.B.Behaviour.touches in
     let log = c.self.inside.log.items in
     let inside = c.is_out_at.ensures.0 c.if-not-is_out_at.false in
-    let here : slice_get log c.in-Some.place ≡ Some c.index.result.now = slice_get_read log (length log) c.in-Some.place c.index.result.now refl (omega (arith, c.in-Some.ensures.0, c.len.ensures, c.self.inside.log.ok)) c.index.ensures in
+    let here : slice_get log c.in-Some.place ≡ Some c.index.result.now =
+    slice_get_read log (length log) c.in-Some.place c.index.result.now refl
+    (omega (arith, c.in-Some.ensures.0, c.len.ensures, c.self.inside.log.ok)) c.index.ensures in
     let same : c.index.result.now ≡ c.args.done.behaviour = injective (sym here ∙ inside.1) in
     subst (λ cowns. IsInFront c.in-Some.place cowns c.self.inside.queues.lists) (sym (c.as_slice.ensures.value ∙ c.cowns-cowns.ensures ∙ ap touches same))
     (released_in_front touches g.B.Behaviour.effect c.self.invariant c.in-Some.place c.args.done (sym c.number.ensures ∙ c.in-Some.ensures.1) inside)
@@ -56,18 +61,24 @@ pub settle-requires-clause-held : goal.settle-requires-clause-held
 settle-requires-clause-held g c =
     let touches = g.B.Behaviour.touches in
     let log = c.self.inside.log.items in
-    let here : slice_get log c.in-Some.place ≡ Some c.index.result.now = slice_get_read log (length log) c.in-Some.place c.index.result.now refl (omega (arith, c.in-Some.ensures.0, c.len.ensures, c.self.inside.log.ok)) c.index.ensures in
-    subst (AreBelow (length (held_of c.self.inside.columns))) (sym (c.as_slice.ensures.value ∙ c.cowns-cowns.ensures)) (declared_in_held touches g.B.Behaviour.effect c.self.invariant c.in-Some.place c.index.result.now here)
+    let here : slice_get log c.in-Some.place ≡ Some c.index.result.now =
+    slice_get_read log (length log) c.in-Some.place c.index.result.now refl
+    (omega (arith, c.in-Some.ensures.0, c.len.ensures, c.self.inside.log.ok)) c.index.ensures in
+    subst (AreBelow (length (held_of c.self.inside.columns))) (sym (c.as_slice.ensures.value ∙ c.cowns-cowns.ensures))
+    (declared_in_held touches g.B.Behaviour.effect c.self.invariant c.in-Some.place c.index.result.now here)
 
 pub settle-requires-clause-outputs : goal.settle-requires-clause-outputs
 settle-requires-clause-outputs g c =
     let touches = g.B.Behaviour.touches in
     let log = c.self.inside.log.items in
     let inside = c.is_out_at.ensures.0 c.if-not-is_out_at.false in
-    let here : slice_get log c.in-Some.place ≡ Some c.index.result.now = slice_get_read log (length log) c.in-Some.place c.index.result.now refl (omega (arith, c.in-Some.ensures.0, c.len.ensures, c.self.inside.log.ok)) c.index.ensures in
+    let here : slice_get log c.in-Some.place ≡ Some c.index.result.now =
+    slice_get_read log (length log) c.in-Some.place c.index.result.now refl
+    (omega (arith, c.in-Some.ensures.0, c.len.ensures, c.self.inside.log.ok)) c.index.ensures in
     let same : c.index.result.now ≡ c.args.done.behaviour = injective (sym here ∙ inside.1) in
     subst (λ cowns. AreHeld cowns c.as_slice-2.result.now) (sym (c.as_slice.ensures.value ∙ c.cowns-cowns.ensures ∙ ap touches same))
-    (outputs_held touches g.B.Behaviour.effect c.self.invariant c.in-Some.place c.args.done (sym c.number.ensures ∙ c.in-Some.ensures.1) inside g.met.B.Behaviour.keeps
+    (outputs_held touches g.B.Behaviour.effect c.self.invariant c.in-Some.place c.args.done
+    (sym c.number.ensures ∙ c.in-Some.ensures.1) inside g.met.B.Behaviour.keeps
     c.as_slice-2.result.now (c.as_slice-2.ensures.value ∙ c.into_effect-reply.ensures.outputs))
 
 pub overflow_sub-self : goal.overflow_sub-self
@@ -80,10 +91,13 @@ invariant_of-self g c =
     let touches = g.B.Behaviour.touches in
     let log = c.self.inside.log.items in
     let inside = c.is_out_at.ensures.0 c.if-not-is_out_at.false in
-    let here : slice_get log c.in-Some.place ≡ Some c.index.result.now = slice_get_read log (length log) c.in-Some.place c.index.result.now refl (omega (arith, c.in-Some.ensures.0, c.len.ensures, c.self.inside.log.ok)) c.index.ensures in
+    let here : slice_get log c.in-Some.place ≡ Some c.index.result.now =
+    slice_get_read log (length log) c.in-Some.place c.index.result.now refl
+    (omega (arith, c.in-Some.ensures.0, c.len.ensures, c.self.inside.log.ok)) c.index.ensures in
     let same : c.index.result.now ≡ c.args.done.behaviour = injective (sym here ∙ inside.1) in
     let declared : c.as_slice.result.now ≡ touches c.args.done.behaviour = c.as_slice.ensures.value ∙ c.cowns-cowns.ensures ∙ ap touches same in
-    board_finished touches g.B.Behaviour.effect c.self.invariant c.in-Some.place c.args.done (sym c.number.ensures ∙ c.in-Some.ensures.1) inside g.met.B.Behaviour.keeps
+    board_finished touches g.B.Behaviour.effect c.self.invariant c.in-Some.place c.args.done
+    (sym c.number.ensures ∙ c.in-Some.ensures.1) inside g.met.B.Behaviour.keeps
     c.into_effect-reply.result.0 c.as_slice-2.result.now c.settle.new.columns c.settle.new.queues.lists
     c.into_effect-reply.ensures.reply (c.as_slice-2.ensures.value ∙ c.into_effect-reply.ensures.outputs)
     (c.settle.ensures.written ∙ ap (λ cowns. write_cowns (held_of c.self.inside.columns) cowns c.as_slice-2.result.now) declared)
@@ -103,7 +117,8 @@ returns-clause-outcome g c =
     let touches = g.B.Behaviour.touches in
     let effect = g.B.Behaviour.effect in
     let inside = c.is_out_at.ensures.0 c.if-not-is_out_at.false in
-    let finished = finishes_from touches effect c.self.invariant c.in-Some.place c.args.done (sym c.number.ensures ∙ c.in-Some.ensures.1) inside c.into_effect-reply.result.0 c.into_effect-reply.ensures.reply in
+    let finished = finishes_from touches effect c.self.invariant c.in-Some.place c.args.done
+    (sym c.number.ensures ∙ c.in-Some.ensures.1) inside c.into_effect-reply.result.0 c.into_effect-reply.ensures.reply in
     rw (sym c.self.view_is) finished
 
 pub returns-in_default-clause-played : goal.returns-in_default-clause-played
@@ -123,7 +138,8 @@ returns-then-not-is_out_at-clause-played g c =
     let board = c.self.invariant in
     let done = c.args.done in
     subst (λ (v : BoardOf g.row.B.Denot). StaysTrueToLog touches effect v (Returned done (Err done)) v) c.self.view_is
-    (played_refused touches effect (seen touches effect board) done (not_inside touches effect board c.in-Some.place done (sym c.number.ensures ∙ c.in-Some.ensures.1)
+    (played_refused touches effect (seen touches effect board) done
+    (not_inside touches effect board c.in-Some.place done (sym c.number.ensures ∙ c.in-Some.ensures.1)
     (λ inside. both_ways c.is_out_at.result c.if-not-is_out_at.true (c.is_out_at.ensures.1 inside))))
 
 pub returns-clause-played : goal.returns-clause-played
@@ -131,5 +147,6 @@ returns-clause-played g c =
     let touches = g.B.Behaviour.touches in
     let effect = g.B.Behaviour.effect in
     let inside = c.is_out_at.ensures.0 c.if-not-is_out_at.false in
-    let finished = finishes_from touches effect c.self.invariant c.in-Some.place c.args.done (sym c.number.ensures ∙ c.in-Some.ensures.1) inside c.into_effect-reply.result.0 c.into_effect-reply.ensures.reply in
+    let finished = finishes_from touches effect c.self.invariant c.in-Some.place c.args.done
+    (sym c.number.ensures ∙ c.in-Some.ensures.1) inside c.into_effect-reply.result.0 c.into_effect-reply.ensures.reply in
     rw (sym c.self.view_is) (played_finished touches effect finished)

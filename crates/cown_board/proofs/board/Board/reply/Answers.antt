@@ -20,7 +20,9 @@ returns-then-number-self-clause-value g c =
     let place = c.in_ok-place.place in
     let some : 1 ≤ c.args.number = c.in_ok-place.ensures.0 in
     let is_before : place ≡ c.args.number - 1 = c.in_ok-place.ensures.1 in
-    let here : slice_get earlier place ≡ Some c.index.result.now = slice_get_read earlier (length earlier) place c.index.result.now refl (omega (arith, some, is_before, c.if-number-self.true, board.based)) c.index.ensures in
+    let here : slice_get earlier place ≡ Some c.index.result.now =
+    slice_get_read earlier (length earlier) place c.index.result.now refl
+    (omega (arith, some, is_before, c.if-number-self.true, board.based)) c.index.ensures in
     subst (λ (v : BoardOf g.row.B.Denot). ◌≡◌ {A = Option Reply} (Some c.index.result.now) (reply_in v c.args.number)) c.self.view_is
     (sym here ∙ ap (slice_get earlier) is_before
     ∙ number_before (seen g.B.Behaviour.touches g.B.Behaviour.effect board) c.args.number some (omega (arith, c.if-number-self.true, board.based)))
@@ -31,17 +33,20 @@ returns-in_err-place-2-clause-value g c =
     c.from_residual-in_err-place-2.ensures
     ∙ subst (λ (v : BoardOf g.row.B.Denot). None ≡ reply_in v c.args.number) c.self.view_is
     (past_numbers (seen g.B.Behaviour.touches g.B.Behaviour.effect board) c.args.number (λ le. omega (arith, le, board.based, c.if-number-self.false))
-    (λ place lt same. c.in_err-place-2.ensures place (omega (arith, lt, c.len.ensures, c.self.inside.log.ok, board.keeps.beside)) (omega (arith, same, board.based))))
+    (λ place lt same. c.in_err-place-2.ensures place (omega (arith, lt, c.len.ensures, c.self.inside.log.ok, board.keeps.beside))
+    (omega (arith, same, board.based))))
 
 pub returns-clause-value : goal.returns-clause-value
 returns-clause-value g c =
     let board = c.self.invariant in
     let states = c.self.inside.states.items in
-    let state : slice_get states c.in_ok-place-2.place ≡ Some c.index-2.result.now = slice_get_read states (length states) c.in_ok-place-2.place c.index-2.result.now refl
+    let state : slice_get states c.in_ok-place-2.place ≡ Some c.index-2.result.now =
+    slice_get_read states (length states) c.in_ok-place-2.place c.index-2.result.now refl
     (omega (arith, c.in_ok-place-2.ensures.0, c.len.ensures, c.self.inside.log.ok, board.keeps.beside)) c.index-2.ensures in
     c.reply.ensures
     ∙ subst (λ (v : BoardOf g.row.B.Denot). finished_reply c.index-2.result.now ≡ reply_in v c.args.number) c.self.view_is
-    (reply_at_place (seen g.B.Behaviour.touches g.B.Behaviour.effect board) c.args.number c.in_ok-place-2.place c.index-2.result.now (omega (arith, c.in_ok-place-2.ensures.1, board.based)) state)
+    (reply_at_place (seen g.B.Behaviour.touches g.B.Behaviour.effect board) c.args.number c.in_ok-place-2.place c.index-2.result.now
+    (omega (arith, c.in_ok-place-2.ensures.1, board.based)) state)
 
 pub returns-clause-by_log : goal.returns-clause-by_log
 returns-clause-by_log g c =
@@ -49,7 +54,10 @@ returns-clause-by_log g c =
     let effect = g.B.Behaviour.effect in
     let board = c.self.invariant in
     let states = c.self.inside.states.items in
-    let state : slice_get states c.in_ok-place-2.place ≡ Some c.index-2.result.now = slice_get_read states (length states) c.in_ok-place-2.place c.index-2.result.now refl
+    let state : slice_get states c.in_ok-place-2.place ≡ Some c.index-2.result.now =
+    slice_get_read states (length states) c.in_ok-place-2.place c.index-2.result.now refl
     (omega (arith, c.in_ok-place-2.ensures.0, c.len.ensures, c.self.inside.log.ok, board.keeps.beside)) c.index-2.ensures in
-    subst (λ (v : BoardOf g.row.B.Denot). IfSome c.reply.result (λ reply. length v.earlier < c.args.number → reply_by_log touches effect (held_of v.opening) v.log (c.args.number - length v.earlier) ≡ Some reply)) c.self.view_is
+    subst (λ (v : BoardOf g.row.B.Denot). IfSome c.reply.result
+    (λ reply. length v.earlier < c.args.number
+    → reply_by_log touches effect (held_of v.opening) v.log (c.args.number - length v.earlier) ≡ Some reply)) c.self.view_is
     (reply_is_by_log touches effect board c.args.number c.in_ok-place-2.place c.index-2.result.now c.reply.result c.in_ok-place-2.ensures.1 state c.reply.ensures)

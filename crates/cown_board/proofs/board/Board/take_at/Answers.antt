@@ -17,7 +17,11 @@ nth_front-requires-clause-cowns g c k b here = declared_in_queues g.B.Behaviour.
 pub returns-in_err-position-clause-outcome : goal.returns-in_err-position-clause-outcome
 returns-in_err-position-clause-outcome g c =
     let few = few_from g.B.Behaviour.touches g.B.Behaviour.effect c.self.invariant c.args.index c.in_err-position.ensures in
-    rw c.from_residual.ensures (subst (λ (v : BoardOf g.row.B.Denot). length (ready_places g.B.Behaviour.touches v.log v.states) ≤ c.args.index) c.self.view_is few, refl)
+    rw c.from_residual.ensures (
+      subst (λ (v : BoardOf g.row.B.Denot). length
+          (ready_places g.B.Behaviour.touches v.log v.states) ≤ c.args.index) c.self.view_is few,
+      refl,
+    )
 
 pub returns-in_err-position-clause-played : goal.returns-in_err-position-clause-played
 returns-in_err-position-clause-played g c =
@@ -29,14 +33,16 @@ pub index-behaviour-requires : goal.index-behaviour-requires
 index-behaviour-requires g c =
     let touches = g.B.Behaviour.touches in
     let effect = g.B.Behaviour.effect in
-    let lt = ready_within touches effect c.self.invariant c.args.index c.in_ok-position.place (ready_from touches effect c.self.invariant c.args.index c.in_ok-position.place c.in_ok-position.ensures.1) in
+    let lt = ready_within touches effect c.self.invariant c.args.index c.in_ok-position.place
+    (ready_from touches effect c.self.invariant c.args.index c.in_ok-position.place c.in_ok-position.ensures.1) in
     omega (arith, lt, c.self.inside.log.ok)
 
 pub index_mut-requires : goal.index_mut-requires
 index_mut-requires g c =
     let touches = g.B.Behaviour.touches in
     let effect = g.B.Behaviour.effect in
-    let lt = ready_within touches effect c.self.invariant c.args.index c.in_ok-position.place (ready_from touches effect c.self.invariant c.args.index c.in_ok-position.place c.in_ok-position.ensures.1) in
+    let lt = ready_within touches effect c.self.invariant c.args.index c.in_ok-position.place
+    (ready_from touches effect c.self.invariant c.args.index c.in_ok-position.place c.in_ok-position.ensures.1) in
     omega (arith, lt, c.self.inside.states.ok, c.self.invariant.keeps.beside)
 
 pub read_cowns-inputs-requires-clause-cowns : goal.read_cowns-inputs-requires-clause-cowns
@@ -44,15 +50,19 @@ read_cowns-inputs-requires-clause-cowns g c =
     let touches = g.B.Behaviour.touches in
     let effect = g.B.Behaviour.effect in
     let log = c.self.inside.log.items in
-    let lt = ready_within touches effect c.self.invariant c.args.index c.in_ok-position.place (ready_from touches effect c.self.invariant c.args.index c.in_ok-position.place c.in_ok-position.ensures.1) in
-    let here : slice_get log c.in_ok-position.place ≡ Some c.index-behaviour.result.now = slice_get_read log (length log) c.in_ok-position.place c.index-behaviour.result.now refl lt c.index-behaviour.ensures in
-    subst (AreBelow (length (held_of c.self.inside.columns))) (sym (c.as_slice.ensures.value ∙ c.cowns.ensures)) (declared_in_held touches effect c.self.invariant c.in_ok-position.place c.index-behaviour.result.now here)
+    let lt = ready_within touches effect c.self.invariant c.args.index c.in_ok-position.place
+    (ready_from touches effect c.self.invariant c.args.index c.in_ok-position.place c.in_ok-position.ensures.1) in
+    let here : slice_get log c.in_ok-position.place ≡ Some c.index-behaviour.result.now =
+    slice_get_read log (length log) c.in_ok-position.place c.index-behaviour.result.now refl lt c.index-behaviour.ensures in
+    subst (AreBelow (length (held_of c.self.inside.columns))) (sym (c.as_slice.ensures.value ∙ c.cowns.ensures))
+    (declared_in_held touches effect c.self.invariant c.in_ok-position.place c.index-behaviour.result.now here)
 
 pub overflow_add-self-inside : goal.overflow_add-self-inside
 overflow_add-self-inside g c =
     let touches = g.B.Behaviour.touches in
     let effect = g.B.Behaviour.effect in
-    let lt = ready_within touches effect c.self.invariant c.args.index c.in_ok-position.place (ready_from touches effect c.self.invariant c.args.index c.in_ok-position.place c.in_ok-position.ensures.1) in
+    let lt = ready_within touches effect c.self.invariant c.args.index c.in_ok-position.place
+    (ready_from touches effect c.self.invariant c.args.index c.in_ok-position.place c.in_ok-position.ensures.1) in
     let few = number_below touches effect c.self.invariant c.in_ok-position.place lt in
     record { fits = omega (arith, few) }
 
@@ -60,7 +70,8 @@ pub overflow_add-self-inside-2 : goal.overflow_add-self-inside-2
 overflow_add-self-inside-2 g c =
     let touches = g.B.Behaviour.touches in
     let effect = g.B.Behaviour.effect in
-    let lt = ready_within touches effect c.self.invariant c.args.index c.in_ok-position.place (ready_from touches effect c.self.invariant c.args.index c.in_ok-position.place c.in_ok-position.ensures.1) in
+    let lt = ready_within touches effect c.self.invariant c.args.index c.in_ok-position.place
+    (ready_from touches effect c.self.invariant c.args.index c.in_ok-position.place c.in_ok-position.ensures.1) in
     let few = number_below touches effect c.self.invariant c.in_ok-position.place lt in
     record { fits = omega (arith, few) }
 
@@ -71,7 +82,8 @@ new-requires g c =
     let log = c.self.inside.log.items in
     let ready = ready_from touches effect c.self.invariant c.args.index c.in_ok-position.place c.in_ok-position.ensures.1 in
     let lt = ready_within touches effect c.self.invariant c.args.index c.in_ok-position.place ready in
-    let here : slice_get log c.in_ok-position.place ≡ Some c.index-behaviour.result.now = slice_get_read log (length log) c.in_ok-position.place c.index-behaviour.result.now refl lt c.index-behaviour.ensures in
+    let here : slice_get log c.in_ok-position.place ≡ Some c.index-behaviour.result.now =
+    slice_get_read log (length log) c.in_ok-position.place c.index-behaviour.result.now refl lt c.index-behaviour.ensures in
     let read : c.read_cowns-inputs.result.items ≡ read_cowns (held_of c.self.inside.columns) (touches c.index-behaviour.result.now) =
     c.read_cowns-inputs.ensures ∙ ap (read_cowns (held_of c.self.inside.columns)) (c.as_slice.ensures.value ∙ c.cowns.ensures) in
     taken_inputs_held touches effect c.self.invariant g.met.B.Behaviour.keeps c.args.index c.in_ok-position.place c.index-behaviour.result.now c.read_cowns-inputs.result.items ready here read
@@ -93,7 +105,8 @@ returns-clause-outcome g c =
     let log = c.self.inside.log.items in
     let ready = ready_from touches effect c.self.invariant c.args.index c.in_ok-position.place c.in_ok-position.ensures.1 in
     let lt = ready_within touches effect c.self.invariant c.args.index c.in_ok-position.place ready in
-    let here : slice_get log c.in_ok-position.place ≡ Some c.index-behaviour.result.now = slice_get_read log (length log) c.in_ok-position.place c.index-behaviour.result.now refl lt c.index-behaviour.ensures in
+    let here : slice_get log c.in_ok-position.place ≡ Some c.index-behaviour.result.now =
+    slice_get_read log (length log) c.in_ok-position.place c.index-behaviour.result.now refl lt c.index-behaviour.ensures in
     let read : c.read_cowns-inputs.result.items ≡ read_cowns (held_of c.self.inside.columns) (touches c.index-behaviour.result.now) =
     c.read_cowns-inputs.ensures ∙ ap (read_cowns (held_of c.self.inside.columns)) (c.as_slice.ensures.value ∙ c.cowns.ensures) in
     let takes = takes_from touches effect c.self.invariant c.args.index c.in_ok-position.place c.index-behaviour.result.now c.read_cowns-inputs.result.items ready here read in
@@ -106,7 +119,8 @@ returns-clause-played g c =
     let log = c.self.inside.log.items in
     let ready = ready_from touches effect c.self.invariant c.args.index c.in_ok-position.place c.in_ok-position.ensures.1 in
     let lt = ready_within touches effect c.self.invariant c.args.index c.in_ok-position.place ready in
-    let here : slice_get log c.in_ok-position.place ≡ Some c.index-behaviour.result.now = slice_get_read log (length log) c.in_ok-position.place c.index-behaviour.result.now refl lt c.index-behaviour.ensures in
+    let here : slice_get log c.in_ok-position.place ≡ Some c.index-behaviour.result.now =
+    slice_get_read log (length log) c.in_ok-position.place c.index-behaviour.result.now refl lt c.index-behaviour.ensures in
     let read : c.read_cowns-inputs.result.items ≡ read_cowns (held_of c.self.inside.columns) (touches c.index-behaviour.result.now) =
     c.read_cowns-inputs.ensures ∙ ap (read_cowns (held_of c.self.inside.columns)) (c.as_slice.ensures.value ∙ c.cowns.ensures) in
     let takes = takes_from touches effect c.self.invariant c.args.index c.in_ok-position.place c.index-behaviour.result.now c.read_cowns-inputs.result.items ready here read in
