@@ -13,7 +13,7 @@ use Rattle.sb_calls.specs.declared.reply.Reply.{Reply}
 use Rattle.sb_calls.specs.OneByOne.{held_after_first}
 use Rattle.cown_board.proofs.LogLaws.{no_some}
 use Rattle.cown_queue.specs.Queues.{list_of}
-use Rattle.cown_board.specs.Invariant.{AllHeld, IsBoard}
+use Rattle.cown_board.specs.Invariant.{IsBoard}
 
 module _ {B : Type 0} (touches : B → List ℕ) (effect : B → List ℤ → Reply × List ℤ) where
   -- nothing is submitted, and the cowns hold what the columns say

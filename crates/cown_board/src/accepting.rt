@@ -5,6 +5,7 @@ ghost use Rattle.cown_board.specs.State as spec;
 
 use crate::job::Done;
 use crate::state::State;
+use sb_amount::Cents;
 use sb_calls::{Behaviour, read_cowns};
 use sb_rows::Columns;
 
@@ -40,7 +41,7 @@ fn same_behaviour<B: Behaviour>(a: B, b: B) -> bool
 }
 
 // Whether these are the same values.
-fn same_values(a: &[i64], b: &[i64]) -> bool
+fn same_values(a: &[Cents], b: &[Cents]) -> bool
     ensures { IsTrue result ↔ (a.now ≡ b.now) }
 {
     a == b

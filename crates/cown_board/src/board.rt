@@ -16,6 +16,7 @@ use crate::job::{Done, Job};
 use crate::state::State;
 use arrayvec::ArrayVec;
 use cown_queue::Queues;
+use sb_amount::Cents;
 use sb_calls::{Behaviour, Cown, LOG_CALLS, Reply, read_cowns, write_cowns};
 use sb_rows::Columns;
 use std::alloc::{AllocError, Global};
@@ -309,7 +310,7 @@ fn make_room<B: Behaviour>(
 }
 
 // Takes a place from the front of its cowns, and leaves these values in them.
-fn settle(queues: &mut Queues, columns: &mut Columns, place: u64, cowns: &[Cown], outputs: &[i64])
+fn settle(queues: &mut Queues, columns: &mut Columns, place: u64, cowns: &[Cown], outputs: &[Cents])
     requires few { length cowns.now ≤ 3 }
     requires rising { IsRising cowns.now }
     requires queued { AreBelow (length queues.old.lists) cowns.now }

@@ -4,7 +4,8 @@ ghost use Rattle.sb_calls.specs.Cowns.{AreHeld};
 ghost use Rattle.cown_board.specs.Job.{JobOf, DoneOf};
 
 use arrayvec::ArrayVec;
-use sb_calls::{Behaviour, Performs, Reply};
+use sb_amount::Cents;
+use sb_calls::{BEHAVIOUR_COWNS, Behaviour, Performs, Reply};
 use std::marker::Model;
 
 /// A behaviour that was handed out, with what its cowns hold. Until it is finished nobody else has them.
@@ -12,7 +13,7 @@ use std::marker::Model;
 pub struct Job<B: Behaviour> {
     number: u64,
     behaviour: B,
-    inputs: ArrayVec<i64, 3>,
+    inputs: ArrayVec<Cents, BEHAVIOUR_COWNS>,
 }
 
 impl<B: Behaviour> Model for Job<B> {
@@ -28,7 +29,7 @@ impl<B: Behaviour> Model for Job<B> {
 
 impl<B: Behaviour> Job<B> {
     // The job of a behaviour with this number, on these inputs.
-    pub(crate) fn new(number: u64, behaviour: B, inputs: ArrayVec<i64, 3>) -> Job<B>
+    pub(crate) fn new(number: u64, behaviour: B, inputs: ArrayVec<Cents, BEHAVIOUR_COWNS>) -> Job<B>
         requires { AreHeld (B.touches behaviour) inputs.items }
         ensures { result ≡ record { number = number; behaviour = behaviour; inputs = inputs.items } }
     {
@@ -75,9 +76,9 @@ impl<B: Performs> Job<B> {
 pub struct Done<B: Behaviour> {
     number: u64,
     behaviour: B,
-    inputs: ArrayVec<i64, 3>,
+    inputs: ArrayVec<Cents, BEHAVIOUR_COWNS>,
     reply: Reply,
-    outputs: ArrayVec<i64, 3>,
+    outputs: ArrayVec<Cents, BEHAVIOUR_COWNS>,
 }
 
 impl<B: Behaviour> Model for Done<B> {
@@ -114,14 +115,14 @@ impl<B: Behaviour> Done<B> {
     }
 
     // What its cowns held.
-    pub(crate) fn inputs(&self) -> &[i64]
+    pub(crate) fn inputs(&self) -> &[Cents]
         ensures { result.now ≡ self.now.inputs }
     {
         self.inputs.as_slice()
     }
 
     // Its reply, and what it leaves in its cowns.
-    pub(crate) fn into_effect(self) -> (Reply, ArrayVec<i64, 3>)
+    pub(crate) fn into_effect(self) -> (Reply, ArrayVec<Cents, BEHAVIOUR_COWNS>)
         ensures reply { result.0 ≡ (B.effect self.behaviour self.inputs).0 }
         ensures outputs { result.1.items ≡ (B.effect self.behaviour self.inputs).1 }
     {

@@ -7,8 +7,8 @@ use std::marker::Model;
 /// The greatest size of an amount or a balance, in cents.
 pub const LIMIT: i64 = 1_000_000_000_000;
 
-/// An amount or a balance in whole cents, from `-LIMIT` to `LIMIT`.
-#[derive(Clone, Copy, Debug, PartialEq, Eq, Hash)]
+/// An amount or a balance in whole cents, from `-LIMIT` to `LIMIT`; by default it is nothing.
+#[derive(Clone, Copy, Debug, Default, PartialEq, Eq, Hash)]
 pub struct Cents {
     cents: i64,
 }

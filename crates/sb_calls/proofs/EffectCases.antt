@@ -54,19 +54,13 @@ check_over_limit amount s c within ge past = let lt = past_limit_downwards s c a
 
 -- ---- on what the cowns hold
 
--- what a cown holds comes back whole from 64 bits
-comes_back : (v : ℤ) → IsWithinLimit v → to_z w64 (of_z w64 v) ≡ v
-comes_back v within = omega (arith, ints, within.at_least, within.at_most)
-
 -- an effect on three values is on what was read of them
 pub on_three : (a b c : ℕ) (effect : ℤ → ℤ → ℤ → Reply × List ℤ) (inputs : List ℤ) (x y z : ℤ) → AreHeld (a ∷ b ∷ c ∷ []) inputs
-    → x ≡ to_z w64 (of_z w64 (get_or inputs 0 (pos 0))) → y ≡ to_z w64 (of_z w64 (get_or inputs 1 (pos 0))) → z ≡ to_z w64 (of_z w64 (get_or inputs 2 (pos 0)))
-    → of_three effect inputs ≡ effect x y z
+    → x ≡ get_or inputs 0 x → y ≡ get_or inputs 1 y → z ≡ get_or inputs 2 z → of_three effect inputs ≡ effect x y z
 on_three a b c effect [] x y z held first second third = absurd held
 on_three a b c effect (v ∷ []) x y z held first second third = absurd held.1
 on_three a b c effect (v ∷ w ∷ []) x y z held first second third = absurd held.1.1
-on_three a b c effect (v ∷ w ∷ u ∷ []) x y z held first second third =
-    rw (first, second, third, comes_back v held.0.within, comes_back w held.1.0.within, comes_back u held.1.1.0.within) refl
+on_three a b c effect (v ∷ w ∷ u ∷ []) x y z held first second third = rw (first, second, third) refl
 on_three a b c effect (v ∷ w ∷ u ∷ t ∷ more) x y z held first second third = absurd held.1.1.1
 
 -- an amalgamation where the one that gives stands first, and where the other does
@@ -96,16 +90,14 @@ effect_taker_first from to inputs lt =
 
 -- so it is on what was read of its cowns
 pub amalgamates_giver_first : (from to : ℕ) (inputs : List ℤ) (x y z : ℤ) → from < to → AreHeld (cowns_of_two from to) inputs
-    → x ≡ to_z w64 (of_z w64 (get_or inputs 0 (pos 0))) → y ≡ to_z w64 (of_z w64 (get_or inputs 1 (pos 0)))
-    → z ≡ to_z w64 (of_z w64 (get_or inputs 2 (pos 0))) → effect_of_two from to inputs ≡ giver_first_effect x y z
+    → x ≡ get_or inputs 0 x → y ≡ get_or inputs 1 y → z ≡ get_or inputs 2 z → effect_of_two from to inputs ≡ giver_first_effect x y z
 amalgamates_giver_first from to inputs x y z lt held first second third =
     let in_order = rw (cowns_giver_first from to lt) at held in
     effect_giver_first from to inputs lt
     ∙ on_three (savings_cown from) (checking_cown from) (checking_cown to) giver_first_effect inputs x y z in_order first second third
 
 pub amalgamates_taker_first : (from to : ℕ) (inputs : List ℤ) (x y z : ℤ) → to < from → AreHeld (cowns_of_two from to) inputs
-    → x ≡ to_z w64 (of_z w64 (get_or inputs 0 (pos 0))) → y ≡ to_z w64 (of_z w64 (get_or inputs 1 (pos 0)))
-    → z ≡ to_z w64 (of_z w64 (get_or inputs 2 (pos 0))) → effect_of_two from to inputs ≡ taker_first_effect x y z
+    → x ≡ get_or inputs 0 x → y ≡ get_or inputs 1 y → z ≡ get_or inputs 2 z → effect_of_two from to inputs ≡ taker_first_effect x y z
 amalgamates_taker_first from to inputs x y z lt held first second third =
     let in_order = rw (cowns_taker_first from to lt) at held in
     effect_taker_first from to inputs lt

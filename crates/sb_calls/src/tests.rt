@@ -1,3 +1,6 @@
+ghost use Rattle.std.specs.Prelude.{◌≡◌};
+ghost use Rattle.sb_amount.specs.Limit.{IsWithinLimit};
+
 use super::*;
 use sb_amount::Cents;
 use sb_rows::{Columns, Directory, Name};
@@ -36,4 +39,12 @@ fn name(text: &str) -> Result<Name, &'static str> {
 
 fn amount(cents: i64) -> Result<Cents, &'static str> {
     Cents::new(cents).ok_or("past the limit")
+}
+
+// A balance of this many cents.
+fn cents(value: i64) -> Cents
+    requires { IsWithinLimit value }
+    ensures { result ≡ value }
+{
+    Cents::new(value).unwrap()
 }

@@ -6,6 +6,7 @@ ghost use Rattle.sb_calls.specs.declared.reply.Reply.{Reply as AnyReply};
 use super::cown::Cown;
 use crate::reply::Reply;
 use arrayvec::ArrayVec;
+use sb_amount::Cents;
 
 /// How many cowns a behaviour declares at most: both of one customer's, and one of another's.
 pub const BEHAVIOUR_COWNS: usize = 3;
@@ -43,7 +44,7 @@ pub trait Behaviour: Copy + Eq {
 pub trait Performs: Behaviour {
     /// The reply, and what its cowns hold after it, both in the order of the cowns. It changes
     /// nothing itself.
-    fn perform(self, inputs: &[i64]) -> (Reply, ArrayVec<i64, BEHAVIOUR_COWNS>)
+    fn perform(self, inputs: &[Cents]) -> (Reply, ArrayVec<Cents, BEHAVIOUR_COWNS>)
         requires { AreHeld (Self.touches self) inputs.now }
         ensures reply { result.0 ≡ (Self.effect self inputs.now).0 }
         ensures outputs { result.1.items ≡ (Self.effect self inputs.now).1 };

@@ -4,32 +4,31 @@ ghost use Rattle.sb_calls.specs.Cowns.{AreBelow, AreHeld, IsHeld, held_of, read_
 
 use super::behaviour::BEHAVIOUR_COWNS;
 use super::cown::Cown;
-use super::effects::held;
 use arrayvec::ArrayVec;
 use sb_amount::Cents;
 use sb_rows::{CUSTOMERS, Columns};
 
 /// What these cowns hold, in their order.
-pub fn read_cowns(columns: &Columns, cowns: &[Cown]) -> ArrayVec<i64, BEHAVIOUR_COWNS>
+pub fn read_cowns(columns: &Columns, cowns: &[Cown]) -> ArrayVec<Cents, BEHAVIOUR_COWNS>
     requires few { length cowns.now ≤ 3 }
     requires cowns { AreBelow (length (held_of columns.now)) cowns.now }
     ensures { result.items ≡ read_cowns (held_of columns.now) cowns.now }
 {
     let mut values = ArrayVec::new();
     for cown in cowns {
-        values.push(read_cown(columns, *cown).value());
+        values.push(read_cown(columns, *cown));
     }
     values
 }
 
 /// Replaces what these cowns hold, each by the value beside it.
-pub fn write_cowns(columns: &mut Columns, cowns: &[Cown], values: &[i64])
+pub fn write_cowns(columns: &mut Columns, cowns: &[Cown], values: &[Cents])
     requires cowns { AreBelow (length (held_of columns.old)) cowns.now }
     requires values { AreHeld cowns.now values.now }
     ensures { held_of columns.new ≡ write_cowns (held_of columns.old) cowns.now values.now }
 {
     for place in 0..cowns.len() {
-        write_cown(columns, cowns[place], held(values[place]));
+        write_cown(columns, cowns[place], values[place]);
     }
 }
 

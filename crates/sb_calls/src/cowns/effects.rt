@@ -14,15 +14,7 @@ use sb_amount::Cents;
 pub const PENALTY: i64 = 100;
 
 // What a call replies, and what its cowns hold after it.
-pub(crate) type Effect = (Reply, ArrayVec<i64, BEHAVIOUR_COWNS>);
-
-// What a cown holds.
-pub(crate) fn held(value: i64) -> Cents
-    requires { IsWithinLimit value }
-    ensures { result ≡ value }
-{
-    Cents::new(value).unwrap()
-}
+pub(crate) type Effect = (Reply, ArrayVec<Cents, BEHAVIOUR_COWNS>);
 
 // A reply, and one value that is left.
 fn leaving_one(reply: Reply, value: Cents) -> Effect
@@ -30,7 +22,7 @@ fn leaving_one(reply: Reply, value: Cents) -> Effect
     ensures outputs { result.1.items ≡ value ∷ [] }
 {
     let mut values = ArrayVec::new();
-    values.push(value.value());
+    values.push(value);
     (reply, values)
 }
 
@@ -40,8 +32,8 @@ fn leaving_two(reply: Reply, first: Cents, second: Cents) -> Effect
     ensures outputs { result.1.items ≡ first ∷ second ∷ [] }
 {
     let mut values = ArrayVec::new();
-    values.push(first.value());
-    values.push(second.value());
+    values.push(first);
+    values.push(second);
     (reply, values)
 }
 
@@ -51,9 +43,9 @@ fn leaving_three(reply: Reply, first: Cents, second: Cents, third: Cents) -> Eff
     ensures outputs { result.1.items ≡ first ∷ second ∷ third ∷ [] }
 {
     let mut values = ArrayVec::new();
-    values.push(first.value());
-    values.push(second.value());
-    values.push(third.value());
+    values.push(first);
+    values.push(second);
+    values.push(third);
     (reply, values)
 }
 

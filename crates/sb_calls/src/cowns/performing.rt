@@ -11,13 +11,14 @@ ghost use Rattle.sb_calls.specs.Op.{resolved};
 use super::behaviour::{BEHAVIOUR_COWNS, Behaviour, Performs};
 use super::cown::Cown;
 use super::effects::{
-    Effect, amalgamate_giver_first, amalgamate_taker_first, change_savings, deposit, held,
-    pay_check, show,
+    Effect, amalgamate_giver_first, amalgamate_taker_first, change_savings, deposit, pay_check,
+    show,
 };
 use crate::op::Op;
 use crate::reply::Reply;
 use crate::two_places::TwoPlaces;
 use arrayvec::ArrayVec;
+use sb_amount::Cents;
 
 /// The cowns of the balances that a call touches, in rising order: none where a name isn't in the
 /// bank, or two names are one.
@@ -71,7 +72,7 @@ fn cowns_of_places(places: TwoPlaces) -> ArrayVec<Cown, BEHAVIOUR_COWNS>
 /// order of [`cowns_of`].
 ///
 /// A refusal leaves what they held.
-pub fn perform(op: Op, inputs: &[i64]) -> (Reply, ArrayVec<i64, BEHAVIOUR_COWNS>)
+pub fn perform(op: Op, inputs: &[Cents]) -> (Reply, ArrayVec<Cents, BEHAVIOUR_COWNS>)
     requires { AreHeld (declared_cowns op) inputs.now }
     ensures reply { result.0 ≡ (effect_of op inputs.now).0 }
     ensures outputs { result.1.items ≡ (effect_of op inputs.now).1 }
@@ -85,31 +86,31 @@ pub fn perform(op: Op, inputs: &[i64]) -> (Reply, ArrayVec<i64, BEHAVIOUR_COWNS>
 }
 
 // The effect of an op on the values of its cowns.
-fn effect_on(op: Op, inputs: &[i64]) -> Effect
+fn effect_on(op: Op, inputs: &[Cents]) -> Effect
     requires { AreHeld (declared_cowns op) inputs.now }
     ensures reply { result.0 ≡ (effect_of op inputs.now).0 }
     ensures outputs { result.1.items ≡ (effect_of op inputs.now).1 }
 {
     match op {
-        Op::Balance(_) => show(held(inputs[0]), held(inputs[1])),
-        Op::DepositChecking(_, amount) => deposit(amount, held(inputs[0])),
-        Op::TransactSavings(_, amount) => change_savings(amount, held(inputs[0])),
+        Op::Balance(_) => show(inputs[0], inputs[1]),
+        Op::DepositChecking(_, amount) => deposit(amount, inputs[0]),
+        Op::TransactSavings(_, amount) => change_savings(amount, inputs[0]),
         Op::Amalgamate(places) => amalgamate(places, inputs),
-        Op::WriteCheck(_, amount) => pay_check(amount, held(inputs[0]), held(inputs[1])),
+        Op::WriteCheck(_, amount) => pay_check(amount, inputs[0], inputs[1]),
         Op::NoCustomer => (Reply::NoCustomer, ArrayVec::new()),
         Op::SameCustomer => (Reply::SameCustomer, ArrayVec::new()),
     }
 }
 
 // Moves all of one customer to another, by the order of their cowns.
-fn amalgamate(places: TwoPlaces, inputs: &[i64]) -> Effect
+fn amalgamate(places: TwoPlaces, inputs: &[Cents]) -> Effect
     requires { AreHeld (cowns_of_two places.0 places.1) inputs.now }
     ensures reply { result.0 ≡ (effect_of_two places.0 places.1 inputs.now).0 }
     ensures outputs { result.1.items ≡ (effect_of_two places.0 places.1 inputs.now).1 }
 {
-    let first = held(inputs[0]);
-    let second = held(inputs[1]);
-    let third = held(inputs[2]);
+    let first = inputs[0];
+    let second = inputs[1];
+    let third = inputs[2];
     if places.from() < places.to() {
         amalgamate_giver_first(first, second, third)
     } else {
@@ -139,7 +140,7 @@ impl Behaviour for Op {
 }
 
 impl Performs for Op {
-    fn perform(self, inputs: &[i64]) -> Effect {
+    fn perform(self, inputs: &[Cents]) -> Effect {
         crate::cowns::perform(self, inputs)
     }
 }

@@ -75,9 +75,9 @@ fn reads_and_writes_balances_by_cown(rt: HostRuntime) -> Result<(), Fail> {
     let cowns = [Cown::savings(0), Cown::checking(1), Cown::checking(2)];
     assert_eq!(rt;
         read_cowns(&columns, &cowns).as_slice(),
-        [10_000, 2_000, 0].as_slice()
+        [cents(10_000), cents(2_000), cents(0)].as_slice()
     );
-    write_cowns(&mut columns, &cowns, &[1, 2, -3]);
+    write_cowns(&mut columns, &cowns, &[cents(1), cents(2), cents(-3)]);
     assert_eq!(rt; columns.savings(), [1, 0, 1_000].as_slice());
     assert_eq!(rt; columns.checking(), [5_000, 2, -3].as_slice());
     Ok(())
