@@ -80,7 +80,12 @@ impl<B: Behaviour> Model for Board<B> {
 
     ghost Value = { BoardOf B };
 
-    ghost view = { λ b. record { opening = b.opening; earlier = b.earlier.items; log = b.log.items; states = b.states.items } };
+    ghost view = { λ b. record {
+      opening = b.opening;
+      earlier = b.earlier.items;
+      log = b.log.items;
+      states = b.states.items;
+    } };
 
     ghost invariant = { λ b. IsBoard B.touches B.effect (record {
       opening = b.opening;
