@@ -3,7 +3,7 @@ use Rattle.std.specs.Prelude.{ℕ, ℤ, pos, ◌+ℤ◌, int_lt, Bool, ◌||◌,
 use Rattle.std.specs.List.{zip}
 use Rattle.std.specs.Ordering.{int_eq}
 
--- the values of a column added up
+-- the values of a column added up, by recursion, since std's sum has no whole numbers below 0
 abbrev pub total : List ℤ → ℤ
 total [] = pos 0
 total (value ∷ values) = value +ℤ total values

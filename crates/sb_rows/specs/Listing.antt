@@ -15,7 +15,7 @@ row_of rows name =
 unfoldable pub listed : List (List ℕ) → Rows → List Customer
 listed names rows = map (row_of rows) names
 
--- all balances of these customers added up
+-- all balances of these customers added up, by recursion, since std's sum has no whole numbers below 0
 abbrev pub total_of : List Customer → ℤ
 total_of [] = pos 0
 total_of (customer ∷ customers) = (customer.savings +ℤ customer.checking) +ℤ total_of customers

@@ -164,25 +164,6 @@ fn takes_as_many_customers_as_a_bank_has(rt: HostRuntime) -> Result<(), Fail> {
     Ok(())
 }
 
-#[test]
-fn copies_as_many_customers_as_a_bank_has(rt: HostRuntime) -> Result<(), Fail> {
-    let mut text = many_lines(rt.alloc(), 65_536)?;
-    text.push_str("begin\n")?;
-    let opening = read_opening(rt.alloc(), text.as_bytes())?;
-    let names = opening.directory.copy()?;
-    assert_eq!(rt; names.len(), 65_536);
-    for place in 0..65_536 {
-        assert_eq!(rt; names.name(place), opening.directory.name(place), "{place}");
-    }
-    assert_eq!(rt; names.place(&name("c0")?), Some(0));
-    assert_eq!(rt; names.place(&name("c65535")?), Some(65_535));
-    let columns = opening.columns.copy()?;
-    assert_eq!(rt; columns.customers(), 65_536);
-    assert_eq!(rt; columns.savings(), opening.columns.savings());
-    assert_eq!(rt; columns.checking(), opening.columns.checking());
-    Ok(())
-}
-
 // Puts a name last, unless the directory has it.
 fn add_name(directory: &mut Directory, name: Name) -> Result<(), AllocError> {
     if directory.place(&name).is_none() && directory.len() < CUSTOMERS {
