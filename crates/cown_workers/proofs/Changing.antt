@@ -36,7 +36,8 @@ record Changes (old new : BoardOf Op) (k : ℕ) (before after : State) : Type 0 
   pub changed : new ≡ record old { states = slice_set old.states k after }
 
 -- and it wasn't finished before
-Drains_changed : (old new : BoardOf Op) (k : ℕ) (before after : State) → ((reply : Reply) → before ≢ Finished reply) → Changes old new k before after → Drains old new
+Drains_changed : (old new : BoardOf Op) (k : ℕ) (before after : State) → ((reply : Reply) → before ≢ Finished reply) → Changes old new k before after
+    → Drains old new
 Drains_changed old new k before after unfinished c = record {
   opening = ap (λ b. b.opening) c.changed;
   earlier = ap (λ b. b.earlier) c.changed;

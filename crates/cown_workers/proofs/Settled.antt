@@ -42,7 +42,8 @@ module _ {B : Type 0} (touches : B → List ℕ) (log : List B) (states : List S
             (λ i below. and_left (state_is is_open (slice_get states i)) (conflict_at touches log i m) (before i below)) in
             ap (λ k. state_is is_open (slice_get states k)) at
             ∙ neither (slice_get states m)
-            (λ waits. true≢false (sym (and_from (state_is is_waiting (slice_get states m)) (is_clear_at touches log states m) waits clear) ∙ none_ready m (omega (arith, le))))
+            (λ waits. true≢false (sym (and_from (state_is is_waiting (slice_get states m)) (is_clear_at touches log states m) waits clear)
+            ∙ none_ready m (omega (arith, le))))
             (none_out m)
       ]
 
@@ -59,4 +60,5 @@ nothing_left board beside none_out none_ready =
     none_from_places (is_ready_at declared_cowns board.log board.states) (length board.log)
     (empty (places (is_ready_at declared_cowns board.log board.states) (length board.log)) none_ready) in
     count_none is_open board.states
-    (all_finished declared_cowns board.log board.states none_out (λ k lt. none_below_at (is_ready_at declared_cowns board.log board.states) (length board.log) k none lt) beside)
+    (all_finished declared_cowns board.log board.states none_out
+    (λ k lt. none_below_at (is_ready_at declared_cowns board.log board.states) (length board.log) k none lt) beside)

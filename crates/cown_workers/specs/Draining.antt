@@ -9,7 +9,8 @@ use Rattle.cown_board.specs.Readiness.{ready_places}
 use Rattle.cown_board.specs.State.{is_waiting}
 use Rattle.cown_board.specs.declared.state.State.TheVariants.{Out, Finished}
 
--- one exchange with a crew: it was given a job, which it kept or which came back; or it was asked, and handed over what was done, if any
+-- one exchange with a crew: it was given a job, which it kept or which came back; or it was asked, and
+-- handed over what was done, if anything
 pub data CrewStep : Type 0 where
   Kept : (job : JobOf Op) → CrewStep
   CameBack : (job : JobOf Op) → CrewStep
@@ -57,13 +58,14 @@ pub record RunsInPlace (old : BoardOf Op) (job : JobOf Op) (new : BoardOf Op) : 
   pub reply : Reply
   pub finishes : Finishes declared_cowns effect_of taken done reply new
 
--- the board before and after an exchange. A job that is given is that of the first ready op, which is out where the crew keeps it.
--- The crew is asked only where the board awaits it, and what it hands over is finished.
+-- the board before and after an exchange. A job that is given is that of the first ready op, which is out
+-- where the crew keeps it. The crew is asked only where the board awaits it, and what it hands over is finished.
 abbrev pub Exchange : BoardOf Op → CrewStep → BoardOf Op → Type 0
 Exchange old (Kept job) new = Takes declared_cowns effect_of old 0 job new
 Exchange old (CameBack job) new = RunsInPlace old job new
 Exchange old (HandedOver None) new = ⊥
-Exchange old (HandedOver (Some done)) new = AwaitsCrew old × ((reply : Reply) × Finishes declared_cowns effect_of old done reply new)
+Exchange old (HandedOver (Some done)) new =
+    AwaitsCrew old × ((reply : Reply) × Finishes declared_cowns effect_of old done reply new)
 
 -- these exchanges one after another
 abbrev pub Exchanges : BoardOf Op → List CrewStep → BoardOf Op → Type 0
@@ -91,9 +93,10 @@ pub record IsGivenUp (old : BoardOf Op) (steps : List CrewStep) (new : BoardOf O
   pub in_vain : IsInVain new last
 
 -- what a crew did, and what became of the board by it
-pub record Exchanged {C : Type 0} (acts : C → CrewStep → C → Type 0) (crew_old crew_new : C) (old new : BoardOf Op) : Type 0 where
+pub record Exchanged {C : Type 0} (acts : C → CrewStep → C → Type 0) (before after : C) (old new : BoardOf Op)
+    : Type 0 where
   pub steps : List CrewStep
-  pub crew : ActsAlong acts crew_old steps crew_new
+  pub crew : ActsAlong acts before steps after
   pub board : Exchanges old steps new
 
 -- the log, and what was before it, stay; what was finished stays finished, with the same reply
@@ -101,7 +104,8 @@ pub record Drains (old new : BoardOf Op) : Type 0 where
   pub opening : new.opening ≡ old.opening
   pub earlier : new.earlier ≡ old.earlier
   pub log : new.log ≡ old.log
-  pub finished : (k : ℕ) (reply : Reply) → slice_get old.states k ≡ Some (Finished reply) → slice_get new.states k ≡ Some (Finished reply)
+  pub finished : (k : ℕ) (reply : Reply) → slice_get old.states k ≡ Some (Finished reply)
+      → slice_get new.states k ≡ Some (Finished reply)
 
 -- a crew that keeps nothing before keeps nothing after; and then, where nothing was out, nothing is
 pub record KeepsNothing (keeps_old keeps_new : Bool) (old new : BoardOf Op) : Type 0 where
