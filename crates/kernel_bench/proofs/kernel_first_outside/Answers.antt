@@ -10,4 +10,4 @@ returns c =
     c.unwrap_or.ensures
     ∙ ap (λ place. unwrap_or place (length values))
     (c.first_outside.ensures ∙ ap₂ (λ low high. first_outside values low high) (to_z-of_z w64 c.args.low c.ranges.low)
-        (to_z-of_z w64 c.args.high c.ranges.high))
+    (to_z-of_z w64 c.args.high c.ranges.high))

@@ -6,7 +6,8 @@ use Rattle.cown_queue.proofs.lists.reserve_at.Goals as goal
 pub returns-clause-lists : goal.returns-clause-lists
 returns-clause-lists c =
     let within : c.number-number.result < length c.args.lists.now.items = omega (arith, c.args.lists.now.ok) in
-    lists_of-same c.args.lists.now.items c.number-number.result c.index_mut.result.now c.reserve.new.self within c.index_mut.ensures.value c.reserve.ensures.items
+    lists_of-same c.args.lists.now.items c.number-number.result c.index_mut.result.now c.reserve.new.self within c.index_mut.ensures.value
+    c.reserve.ensures.items
 
 pub returns-clause-rooms : goal.returns-clause-rooms
 returns-clause-rooms c =

@@ -14,6 +14,6 @@ loop-cown-preserved c =
       made = rw (take-cown c.args.cowns.now c.loop-cown.cown-index c.cown-item.result within c.cown-item.is)
           (HaveRoomWithin-push (rooms_of c.reserve_at.new.lists.items) (take c.loop-cown.cown-index c.args.cowns.now) c.cown-item.result
           (HaveRoomWithin-stays c.loop-cown.lists.items c.reserve_at.new.lists.items _
-              (ap length c.reserve_at.ensures.lists) c.reserve_at.ensures.rooms before.made)
+          (ap length c.reserve_at.ensures.lists) c.reserve_at.ensures.rooms before.made)
           c.in_ok-reserve_at.ensures.ok);
     }

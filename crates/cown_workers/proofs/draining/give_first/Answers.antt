@@ -9,7 +9,8 @@ use Rattle.cown_workers.proofs.draining.give_first.Goals as goal
 use Rattle.cown_workers.proofs.draining.give_first.Given.{Over}
 
 carried_here : (g : Over) (c : goal.Else-prove g) → CarriesOut (g.R.Runs.board c.args.runs.now) (g.R.Runs.board c.finish.new.self)
-carried_here g c = carried declared_cowns effect_of c.finish.result c.in-Some.ensures.outcome c.in-Err.ensures.same c.run.ensures.job c.finish.ensures.accepted c.finish.ensures.outcome
+carried_here g c = carried declared_cowns effect_of c.finish.result c.in-Some.ensures.outcome c.in-Err.ensures.same c.run.ensures.job c.finish.ensures.accepted
+    c.finish.ensures.outcome
 
 pub prove-unreachable-requires : goal.prove-unreachable-requires
 prove-unreachable-requires g c =

@@ -9,6 +9,7 @@ invariant_of-result g c =
     let valid : IsBalances c.in_ok-opening.opening = subst IsBalances (sym copied) c.customers.ensures.valid in
     let made : c.in_ok-queues.queues ≡ record { lists = replicate {A = List ℕ} (2 * c.customers.result) []; reserved = [] } = c.in_ok-queues.ensures in
     rw (c.new.ensures.items, c.new-2.ensures.items, c.new-3.ensures.items)
-    (IsBoard-opened g.B.Behaviour.touches g.B.Behaviour.effect c.in_ok-opening.opening c.args.columns c.args.base c.args.replies.items c.in_ok-queues.queues.lists
+    (IsBoard-opened g.B.Behaviour.touches g.B.Behaviour.effect c.in_ok-opening.opening c.args.columns c.args.base c.args.replies.items
+    c.in_ok-queues.queues.lists
     valid (sym copied) c.requires.replies c.requires.few
     (ap (λ q. q.lists) made ∙ ap (λ n. replicate {A = List ℕ} (2 * n) []) (c.customers.ensures.value ∙ ap (λ b. length b.savings) (sym copied))))

@@ -60,4 +60,5 @@ returns-clause-by_log g c =
     subst (λ (v : BoardOf g.row.B.Denot). IfSome c.reply.result
     (λ reply. length v.earlier < c.args.number
     → reply_by_log touches effect (held_of v.opening) v.log (c.args.number - length v.earlier) ≡ Some reply)) c.self.view_is
-    (reply_is_by_log touches effect board c.args.number c.in_ok-place-2.place c.index-2.result.now c.reply.result c.in_ok-place-2.ensures.1 state c.reply.ensures)
+    (reply_is_by_log touches effect board c.args.number c.in_ok-place-2.place c.index-2.result.now c.reply.result c.in_ok-place-2.ensures.1 state
+    c.reply.ensures)

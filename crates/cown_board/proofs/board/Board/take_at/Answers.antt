@@ -86,7 +86,8 @@ new-requires g c =
     slice_get_read log (length log) c.in_ok-position.place c.index-behaviour.result.now refl lt c.index-behaviour.ensures in
     let read : c.read_cowns-inputs.result.items ≡ read_cowns (held_of c.self.inside.columns) (touches c.index-behaviour.result.now) =
     c.read_cowns-inputs.ensures ∙ ap (read_cowns (held_of c.self.inside.columns)) (c.as_slice.ensures.value ∙ c.cowns.ensures) in
-    taken_inputs_held touches effect c.self.invariant g.met.B.Behaviour.keeps c.args.index c.in_ok-position.place c.index-behaviour.result.now c.read_cowns-inputs.result.items ready here read
+    taken_inputs_held touches effect c.self.invariant g.met.B.Behaviour.keeps c.args.index c.in_ok-position.place c.index-behaviour.result.now
+    c.read_cowns-inputs.result.items ready here read
 
 pub take_out-requires : goal.take_out-requires
 take_out-requires g c = slice_get_within c.self.inside.waiting.items c.in_ok-position.position c.in_ok-position.place c.in_ok-position.ensures.0
@@ -96,7 +97,8 @@ invariant_of-self g c =
     let touches = g.B.Behaviour.touches in
     let effect = g.B.Behaviour.effect in
     let ready = ready_from touches effect c.self.invariant c.args.index c.in_ok-position.place c.in_ok-position.ensures.1 in
-    rw c.take_out.ensures (board_taken touches effect c.self.invariant c.args.index c.in_ok-position.position c.in_ok-position.place c.in_ok-position.ensures.0 ready)
+    rw c.take_out.ensures (board_taken touches effect c.self.invariant c.args.index c.in_ok-position.position c.in_ok-position.place c.in_ok-position.ensures.0
+    ready)
 
 pub returns-clause-outcome : goal.returns-clause-outcome
 returns-clause-outcome g c =
@@ -109,7 +111,8 @@ returns-clause-outcome g c =
     slice_get_read log (length log) c.in_ok-position.place c.index-behaviour.result.now refl lt c.index-behaviour.ensures in
     let read : c.read_cowns-inputs.result.items ≡ read_cowns (held_of c.self.inside.columns) (touches c.index-behaviour.result.now) =
     c.read_cowns-inputs.ensures ∙ ap (read_cowns (held_of c.self.inside.columns)) (c.as_slice.ensures.value ∙ c.cowns.ensures) in
-    let takes = takes_from touches effect c.self.invariant c.args.index c.in_ok-position.place c.index-behaviour.result.now c.read_cowns-inputs.result.items ready here read in
+    let takes = takes_from touches effect c.self.invariant c.args.index c.in_ok-position.place c.index-behaviour.result.now c.read_cowns-inputs.result.items
+    ready here read in
     rw (c.new.ensures, sym c.self.view_is) takes
 
 pub returns-clause-played : goal.returns-clause-played
@@ -123,5 +126,6 @@ returns-clause-played g c =
     slice_get_read log (length log) c.in_ok-position.place c.index-behaviour.result.now refl lt c.index-behaviour.ensures in
     let read : c.read_cowns-inputs.result.items ≡ read_cowns (held_of c.self.inside.columns) (touches c.index-behaviour.result.now) =
     c.read_cowns-inputs.ensures ∙ ap (read_cowns (held_of c.self.inside.columns)) (c.as_slice.ensures.value ∙ c.cowns.ensures) in
-    let takes = takes_from touches effect c.self.invariant c.args.index c.in_ok-position.place c.index-behaviour.result.now c.read_cowns-inputs.result.items ready here read in
+    let takes = takes_from touches effect c.self.invariant c.args.index c.in_ok-position.place c.index-behaviour.result.now c.read_cowns-inputs.result.items
+    ready here read in
     rw (c.new.ensures, sym c.self.view_is) (played_taken touches effect takes)
