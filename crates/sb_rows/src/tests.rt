@@ -164,6 +164,31 @@ fn takes_as_many_customers_as_a_bank_has(rt: HostRuntime) -> Result<(), Fail> {
     Ok(())
 }
 
+// Whether both directories have the same names at so many places.
+fn have_same_names(a: &Directory, b: &Directory, places: u32) -> bool {
+    for place in 0..places {
+        if a.name(place) != b.name(place) {
+            return false;
+        }
+    }
+    true
+}
+
+#[test]
+fn copies_as_many_customers_as_a_bank_has(rt: HostRuntime) -> Result<(), Fail> {
+    let mut text = many_lines(rt.alloc(), 65_536)?;
+    text.push_str("begin\n")?;
+    let opening = read_opening(rt.alloc(), text.as_bytes())?;
+    let names = opening.directory.copy()?;
+    assert!(rt; names.len() == 65_536);
+    assert!(rt; have_same_names(&names, &opening.directory, 65_536));
+    let columns = opening.columns.copy()?;
+    assert!(rt; columns.savings().len() == 65_536);
+    assert!(rt; columns.savings() == opening.columns.savings());
+    assert!(rt; columns.checking() == opening.columns.checking());
+    Ok(())
+}
+
 // Puts a name last, unless the directory has it.
 fn add_name(directory: &mut Directory, name: Name) -> Result<(), AllocError> {
     if directory.place(&name).is_none() && directory.len() < CUSTOMERS {

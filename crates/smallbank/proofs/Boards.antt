@@ -5,7 +5,8 @@ use Rattle.std.proofs.lemmas.Bool.{cases_lt, true≢false, lt-leb, ne_eqb}
 use Rattle.std.proofs.lemmas.List.{length-map, take_all}
 use Rattle.sb_rows.specs.Balances.{Balances, IsBalances}
 use Rattle.sb_rows.specs.Rows.{Rows, SameCustomers, rows_of}
-use Rattle.sb_calls.proofs.Holding.{length-held_of}
+use Rattle.sb_calls.proofs.AppliedOps as balances
+use Rattle.sb_calls.proofs.Holding.{held_of-injective}
 use Rattle.sb_calls.specs.Behaviour.{declared_cowns, cowns_of_two, effect_of}
 use Rattle.sb_calls.proofs.Log.{slice_get-replies_to}
 use Rattle.sb_calls.proofs.OneByOneRuns.{log_by_cowns}
@@ -58,30 +59,11 @@ waits_not_out : ◌≡◌ {A = Option State} (Some Waiting) (Some Out) → true 
 unfolding waits
 waits_not_out h = ap waits h
 
-two_by_test : (from to n : ℕ) (same before : Bool) → from < n → to < n
-    → AreBelow (2 * n) (if same then [] else (if before then 2 * from ∷ (2 * from + 1) ∷ (2 * to + 1) ∷ [] else (2 * to + 1) ∷ 2 * from ∷ (2 * from + 1) ∷ []))
-two_by_test from to n true before lt_from lt_to = tt
-two_by_test from to n false true lt_from lt_to = (omega (arith, lt_from), (omega (arith, lt_from), (omega (arith, lt_to), tt)))
-two_by_test from to n false false lt_from lt_to = (omega (arith, lt_to), (omega (arith, lt_from), (omega (arith, lt_from), tt)))
-
-two_below : (from to n : ℕ) → from < n → to < n → AreBelow (2 * n) (cowns_of_two from to)
-two_below from to n lt_from lt_to = two_by_test from to n (from == to) (nat_lt from to) lt_from lt_to
-
 -- an op at places of customers declares cowns of theirs
-op_below : (n : ℕ) (op : Op) → IsOpWithin n op → AreBelow (2 * n) (declared_cowns op)
-op_below n (Balance place) lt = (omega (arith, lt), (omega (arith, lt), tt))
-op_below n (DepositChecking place amount) lt = (omega (arith, lt), tt)
-op_below n (TransactSavings place amount) lt = (omega (arith, lt), tt)
-op_below n (Amalgamate places) lt = two_below places.0 places.1 n lt.0 lt.1
-op_below n (WriteCheck place amount) lt = (omega (arith, lt), (omega (arith, lt), tt))
-op_below n NoCustomer lt = tt
-op_below n SameCustomer lt = tt
-
 pub declared_below : (directory : List (List ℕ)) (b : Balances) (op : Op) → SameCustomers directory b → IsOpWithin (length directory) op
     → AreBelow (length (held_of b)) (declared_cowns op)
 declared_below directory b op same within =
-    let two : 2 * length directory ≡ length (held_of b) = (let n = length-held_of b same.balances.same in omega (arith, n, same.places)) in
-    subst (λ n. AreBelow n (declared_cowns op)) two (op_below (length directory) op within)
+    balances.declared_below b op same.balances.same (subst (λ n. IsOpWithin n op) (sym same.places) within)
 
 -- where nothing is unfinished nothing is out
 pub idle_none_out : (board : BoardOf Op) → open_of board ≡ 0 → NoneOut board
@@ -187,32 +169,6 @@ all_replies directory b calls board same opening log idle earlier =
           ∙ run.replies (suc k) ∙ sym (slice_get-replies_to (rows_of directory b) calls k));
     }
 
-by_cown_injective : (s c s' c' : List ℤ) → length s ≡ length c → length s' ≡ length c' → by_cown s c ≡ by_cown s' c' → (s ≡ s') × (c ≡ c')
-by_cown_injective [] [] [] [] e f h = (refl, refl)
-by_cown_injective [] (y ∷ c) s' c' e f h = absurd (omega (arith, e))
-by_cown_injective (x ∷ s) [] s' c' e f h = absurd (omega (arith, e))
-by_cown_injective [] [] [] (y ∷ c') e f h = absurd (omega (arith, f))
-by_cown_injective [] [] (x ∷ s') [] e f h = absurd (omega (arith, f))
-by_cown_injective [] [] (x ∷ s') (y ∷ c') e f h = absurd (omega (arith, ap length h))
-by_cown_injective (x ∷ s) (y ∷ c) [] [] e f h = absurd (omega (arith, ap length h))
-by_cown_injective (x ∷ s) (y ∷ c) [] (y' ∷ c') e f h = absurd (omega (arith, f))
-by_cown_injective (x ∷ s) (y ∷ c) (x' ∷ s') [] e f h = absurd (omega (arith, f))
-by_cown_injective (x ∷ s) (y ∷ c) (x' ∷ s') (y' ∷ c') e f h =
-    let first : x ≡ x' = some_is (ap (λ l. slice_get l 0) h) in
-    let second : y ≡ y' = some_is (ap (λ l. slice_get l 1) h) in
-    let rest = by_cown_injective s c s' c' (omega (arith, e)) (omega (arith, f)) (ap (drop 2) h) in
-    (ap (λ z. z ∷ s) first ∙ ap (λ zs. x' ∷ zs) rest.0, ap (λ z. z ∷ c) second ∙ ap (λ zs. y' ∷ zs) rest.1)
-
-abbrev balances_of : List ℤ → List ℤ → Balances
-balances_of s c = record { savings = s; checking = c }
-
--- balances with the same values by cown are the same
-same_balances : (a b : Balances) → IsBalances a → IsBalances b → held_of a ≡ held_of b → a ≡ b
-unfolding held_of
-same_balances a b valid_a valid_b h =
-    let parts = by_cown_injective a.savings a.checking b.savings b.checking valid_a.same valid_b.same h in
-    ap (λ s. balances_of s a.checking) parts.0 ∙ ap (balances_of b.savings) parts.1
-
 -- the columns of an idle board are those after the whole log
 pub all_rows : (directory : List (List ℕ)) (b c : Balances) (calls : List Call) (board : BoardOf Op) → SameCustomers directory b → IsBalances c
     → board.opening ≡ b → board.log ≡ map (resolved directory) calls
@@ -224,7 +180,7 @@ all_rows directory b c calls board same valid opening log after =
     ∙ ap (held_after declared_cowns effect_of (held_of b))
     (log ∙ sym (take_all (length calls) (map (resolved directory) calls) (omega (arith, length-map calls (resolved directory)))))
     ∙ sym run.2 in
-    let is : c ≡ run.0 = same_balances c run.0 valid run.1.balances held in (
+    let is : c ≡ run.0 = held_of-injective c run.0 valid.same run.1.balances.same held in (
       subst (SameCustomers directory) (sym is) run.1,
       ap (rows_of directory) is ∙ run.3 ∙ ap (λ l. rows_after l (rows_of directory b)) (take_all (length calls) calls (omega arith)),
     )
