@@ -26,21 +26,21 @@ pub(crate) fn place_of(base: u64, numbers: usize, number: u64) -> Option<u64>
     }
 }
 
-// Whether a state is that of a behaviour that was handed out.
+// Whether a state is that of a behaviour that was handed out. For the prover alone: the test gets its clause here.
 fn is_out(state: State) -> bool
     ensures { result ≡ spec.is_out state }
 {
     matches!(state, State::Out)
 }
 
-// Whether two behaviours are one.
+// Whether two behaviours are one. For the prover alone: here `==` gets its clause from the law `exact`.
 fn same_behaviour<B: Behaviour>(a: B, b: B) -> bool
     ensures { IsTrue result ↔ (a ≡ b) }
 {
     a == b
 }
 
-// Whether these are the same values.
+// Whether these are the same values. For the prover alone: here `==` of slices gets its clause.
 fn same_values(a: &[Cents], b: &[Cents]) -> bool
     ensures { IsTrue result ↔ (a.now ≡ b.now) }
 {

@@ -1,6 +1,6 @@
 -- Totals of columns, and of lanes that wrap.
-use Rattle.std.proofs.Common.{◌≡◌, ℕ, zero, suc, ◌+◌, ◌*◌, ◌/◌, ◌^◌, ◌%◌, ◌<◌, ◌≤◌, ℤ, pos, neg_ℤ, ◌+ℤ◌, ◌≤ℤ◌, List, [], ◌∷◌, ◌++◌, map, take, drop, get_or, length, replicate, refl, sym, ap, ap₂, ◌∙◌, subst, arith, w64, FitsSigned, to_z, of_z}
-use Rattle.std.proofs.lemmas.Int.{ints, to_z-of_z, int_wrap_fits, int_wrap-add_left, int_wrap-add_right, int_wrap-add_same, wrapping_add_is, wrapping_add_onto, SFits-int_wrap}
+use Rattle.std.proofs.Common.{◌≡◌, ℕ, suc, ◌+◌, ◌*◌, ◌/◌, ◌^◌, ◌%◌, ◌<◌, ◌≤◌, ℤ, pos, neg_ℤ, ◌+ℤ◌, ◌≤ℤ◌, List, [], ◌∷◌, ◌++◌, map, take, drop, get_or, length, replicate, refl, sym, ap, ap₂, ◌∙◌, subst, arith, w64, FitsSigned, to_z, of_z}
+use Rattle.std.proofs.lemmas.Int.{ints, to_z-of_z, int_wrap_fits, int_wrap-add_left, wrapping_add_is, wrapping_add_onto}
 use Rattle.std.proofs.Math.Facts.{sfits_to_z}
 use Rattle.std.proofs.lemmas.List.{get_or-drop, length-drop, length-take, take_more}
 use Rattle.std.proofs.lemmas.List.Elements.{All-take}
@@ -12,7 +12,6 @@ use Rattle.std.specs.Simd.{first_chunks}
 use Rattle.sb_amount.specs.Limit.{IsWithinLimit}
 use Rattle.lane_audit.specs.Columns.{total}
 use Rattle.lane_audit.proofs.Chunks.{joined, joined-first_chunks}
-use Rattle.lane_audit.proofs.LaneLemmas.{fits_each}
 use lib.Lanes.{Each1, Each2, zip2, fold_l}
 
 pub total-append : (xs ys : List ℤ) → total (xs ++ ys) ≡ total xs +ℤ total ys

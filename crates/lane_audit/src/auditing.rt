@@ -60,7 +60,7 @@ fn net_of_one(call: &Call, reply: Reply) -> i64
     net(call, reply)
 }
 
-// The amount of a call is in its range: the checker knows that once it is read.
+// The amount of a call is in its range. For the prover alone, which knows that once it is read.
 fn amount_within(call: &Call)
     ensures { HasAmountWithin call.now }
 {

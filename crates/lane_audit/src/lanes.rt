@@ -56,7 +56,7 @@ pub(crate) fn has_outside(values: &[i64], at: usize, low: i64, high: i64) -> boo
     (block.simd_lt(i64x8::splat(low)) | block.simd_gt(i64x8::splat(high))).any()
 }
 
-// Each value fits its type. The checker knows that of a signed value only once it is read, and a vector
+// Each value fits its type. For the prover alone: it knows that of a signed value only once it is read, and a vector
 // isn't read value by value. The loop does nothing, and the compiler drops it.
 #[inline(always)]
 pub(crate) fn each_fits(values: &[i64])

@@ -33,7 +33,7 @@ impl Model for Sequencer {
     ghost invariant = { λ s. IsLog s.log.entries };
 }
 
-// Whether two calls are the same call.
+// Whether two calls are the same call. For the prover alone: here `==` gets its clause.
 fn same_call(a: &Call, b: &Call) -> bool
     ensures { IsTrue result ↔ (a.now ≡ b.now) }
 {
