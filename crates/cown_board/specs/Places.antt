@@ -1,7 +1,7 @@
 -- Places in a list, counted from 0, at which something is so.
 use Rattle.std.specs.Prelude.{ℕ, zero, suc, Bool, true, not, ◌&&◌, if◌then◌else◌, List, [], ◌∷◌, ◌++◌}
 
--- the places below m at which f is so, in rising order
+-- the places below m at which f is so, in rising order (by recursion, since the proofs go by the same steps)
 abbrev pub places : (ℕ → Bool) → ℕ → List ℕ
 places f zero = []
 places f (suc m) = places f m ++ (if f m then m ∷ [] else [])
