@@ -167,3 +167,13 @@ impl<B: Behaviour> Bank<B> {
         (board, turn)
     }
 }
+
+impl Bank<Op> {
+    // The first that is ready has this number. It is run, and taken back.
+    pub(super) fn runs(&mut self, rt: &impl Abort, number: u64, reply: Reply) -> Result<(), Fail> {
+        let job = self.takes(rt, 0, number)?;
+        assert!(rt; !self.idle());
+        self.finishes(rt, job.run(), reply);
+        Ok(())
+    }
+}

@@ -78,8 +78,7 @@ fn what_is_not_out_comes_back(rt: HostRuntime) -> Result<(), Fail> {
     let waiting = done_elsewhere(&rt, rt.alloc(), OPENING, 2)?;
     bank.gives_back(&rt, waiting, 2);
     bank.finishes(&rt, first.run(), Reply::Done);
-    let second = bank.takes(&rt, 0, 2)?;
-    bank.finishes(&rt, second.run(), Reply::Done);
+    bank.runs(&rt, 2, Reply::Done)?;
     bank.ends_with(&rt, [10_000, 0, 1_000], [5_100, 2_100, 0])
 }
 

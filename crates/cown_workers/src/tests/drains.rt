@@ -18,17 +18,37 @@ const REPLIES: [Option<Reply>; 4] = [
     Some(Reply::Shown(1_000)),
 ];
 
+// What the three have after the calls above.
+const SAVINGS: [i64; 3] = [0, 0, 1_000];
+
+const CHECKING: [i64; 3] = [0, 17_500, 0];
+
+// A crew carries out what these lines spell, and so these are the replies.
+fn answers(rt: &impl Abort, board: &mut Board<Op>, crew: &mut impl Crew, wanted: &[Option<Reply>]) {
+    assert!(rt; drain(board, crew) == Ok(()));
+    assert!(rt; board.idle());
+    assert!(rt; replies(board, wanted));
+}
+
+// The crew gives up, and these are the replies to what was finished.
+fn gives_up(
+    rt: &impl Abort,
+    board: &mut Board<Op>,
+    crew: &mut impl Crew,
+    wanted: &[Option<Reply>],
+) {
+    assert!(rt; drain(board, crew) == Err(CrewGone));
+    assert!(rt; !board.idle());
+    assert!(rt; replies(board, wanted));
+}
+
 #[test]
 fn carries_all_out_in_place(rt: HostRuntime) -> Result<(), Fail> {
     let mut board = board_of(rt.alloc(), &CALLS)?;
-    let mut crew = InlineCrew;
-    assert_eq!(rt; drain(&mut board, &mut crew), Ok(()));
-    assert!(rt; board.idle());
-    assert!(rt; replies(&board, &REPLIES));
-    assert!(rt; holds(&board, [0, 0, 1_000], [0, 17_500, 0])?);
+    answers(&rt, &mut board, &mut InlineCrew, &REPLIES);
+    assert!(rt; holds(&board, SAVINGS, CHECKING)?);
     // Nothing is left to do.
-    assert_eq!(rt; drain(&mut board, &mut crew), Ok(()));
-    assert!(rt; replies(&board, &REPLIES));
+    answers(&rt, &mut board, &mut InlineCrew, &REPLIES);
     Ok(())
 }
 
@@ -47,9 +67,8 @@ fn an_inline_crew_keeps_nothing(rt: HostRuntime) -> Result<(), Fail> {
 #[test]
 fn finishes_what_a_crew_hands_over(rt: HostRuntime) -> Result<(), Fail> {
     let mut board = board_of(rt.alloc(), &CALLS)?;
-    assert_eq!(rt; drain(&mut board, &mut Desk::new()), Ok(()));
-    assert!(rt; replies(&board, &REPLIES));
-    assert!(rt; holds(&board, [0, 0, 1_000], [0, 17_500, 0])?);
+    answers(&rt, &mut board, &mut Desk::new(), &REPLIES);
+    assert!(rt; holds(&board, SAVINGS, CHECKING)?);
     Ok(())
 }
 
@@ -57,11 +76,10 @@ fn finishes_what_a_crew_hands_over(rt: HostRuntime) -> Result<(), Fail> {
 fn finishes_what_a_crew_hands_over_last_first(rt: HostRuntime) -> Result<(), Fail> {
     let mut board = board_of(rt.alloc(), &CALLS)?;
     let mut crew = Pile::of(rt.alloc(), 4)?;
-    assert_eq!(rt; drain(&mut board, &mut crew), Ok(()));
+    answers(&rt, &mut board, &mut crew, &REPLIES);
     // The first and the fourth are ready at once; the others wait for one another.
-    assert_eq!(rt; crew.handed_over(), [4, 1, 2, 3].as_slice());
-    assert!(rt; replies(&board, &REPLIES));
-    assert!(rt; holds(&board, [0, 0, 1_000], [0, 17_500, 0])?);
+    assert!(rt; crew.handed_over() == [4, 1, 2, 3].as_slice());
+    assert!(rt; holds(&board, SAVINGS, CHECKING)?);
     Ok(())
 }
 
@@ -90,8 +108,7 @@ fn answers_refusals_as_replies(rt: HostRuntime) -> Result<(), Fail> {
         Some(Reply::Negative),
     ];
     let mut board = board_of(rt.alloc(), &lines)?;
-    assert_eq!(rt; drain(&mut board, &mut InlineCrew), Ok(()));
-    assert!(rt; replies(&board, &wanted));
+    answers(&rt, &mut board, &mut InlineCrew, &wanted);
     assert!(rt; holds(&board, [10_000, 0, 1_000], [5_000, -101, 0])?);
     Ok(())
 }
@@ -99,9 +116,8 @@ fn answers_refusals_as_replies(rt: HostRuntime) -> Result<(), Fail> {
 #[test]
 fn an_empty_board_is_drained(rt: HostRuntime) -> Result<(), Fail> {
     let mut board = board_of(rt.alloc(), &[])?;
-    assert_eq!(rt; drain(&mut board, &mut InlineCrew), Ok(()));
-    assert_eq!(rt; drain(&mut board, &mut Keeper::after(0)), Ok(()));
-    assert!(rt; replies(&board, &[]));
+    answers(&rt, &mut board, &mut InlineCrew, &[]);
+    answers(&rt, &mut board, &mut Keeper::after(0), &[]);
     assert!(rt; holds(&board, [10_000, 0, 1_000], [5_000, 2_000, 0])?);
     Ok(())
 }
@@ -110,15 +126,11 @@ fn an_empty_board_is_drained(rt: HostRuntime) -> Result<(), Fail> {
 fn a_crew_that_keeps_a_job_leaves_what_was_finished(rt: HostRuntime) -> Result<(), Fail> {
     let mut board = board_of(rt.alloc(), &CALLS)?;
     // It lets the deposit go and keeps the amalgamation, so the balance of bob isn't shown.
-    let gone = drain(&mut board, &mut Keeper::after(1));
-    assert_eq!(rt; gone, Err(CrewGone));
     let wanted = [Some(Reply::Done), None, None, Some(Reply::Shown(1_000))];
-    assert!(rt; replies(&board, &wanted));
-    assert!(rt; !board.idle());
+    gives_up(&rt, &mut board, &mut Keeper::after(1), &wanted);
     assert!(rt; board.columns()?.is_none());
     // What is out stays out: no crew can help.
-    assert_eq!(rt; drain(&mut board, &mut InlineCrew), Err(CrewGone));
-    assert!(rt; replies(&board, &wanted));
+    gives_up(&rt, &mut board, &mut InlineCrew, &wanted);
     Ok(())
 }
 
@@ -127,22 +139,21 @@ fn what_comes_from_another_board_is_refused(rt: HostRuntime) -> Result<(), Fail>
     let mut other = board_of(rt.alloc(), &["balance carol"])?;
     let job = other.take_at(0).ok_or("none is ready")?;
     let mut board = board_of(rt.alloc(), &["balance alice"])?;
-    let gone = drain(&mut board, &mut Stranger::with(job.run()));
-    assert_eq!(rt; gone, Err(CrewGone));
-    assert!(rt; replies(&board, &[None]));
-    assert!(rt; !board.idle());
+    gives_up(&rt, &mut board, &mut Stranger::with(job.run()), &[None]);
     Ok(())
 }
 
 #[test]
 fn drains_as_many_as_a_board_takes(rt: HostRuntime) -> Result<(), Fail> {
+    drains_a_full_board(&rt, rt.alloc(), &mut InlineCrew)?;
+    drains_a_full_board(&rt, rt.alloc(), &mut Desk::new())
+}
+
+fn drains_a_full_board(rt: &impl Abort, alloc: Global, crew: &mut impl Crew) -> Result<(), Fail> {
     // Each waits for the one before it, and brings bob a cent.
     let lines = ["deposit bob 0.01"; OPEN_BEHAVIOURS];
-    let mut in_place = board_of(rt.alloc(), &lines)?;
-    assert_eq!(rt; drain(&mut in_place, &mut InlineCrew), Ok(()));
-    assert!(rt; holds(&in_place, [10_000, 0, 1_000], [5_000, 3_024, 0])?);
-    let mut by_desk = board_of(rt.alloc(), &lines)?;
-    assert_eq!(rt; drain(&mut by_desk, &mut Desk::new()), Ok(()));
-    assert!(rt; holds(&by_desk, [10_000, 0, 1_000], [5_000, 3_024, 0])?);
+    let mut board = board_of(alloc, &lines)?;
+    assert!(rt; drain(&mut board, crew) == Ok(()));
+    assert!(rt; holds(&board, [10_000, 0, 1_000], [5_000, 3_024, 0])?);
     Ok(())
 }

@@ -2,12 +2,26 @@ use super::*;
 use sb_rows::read_opening;
 use std::test::Fail;
 
+// Each of these lines in turn is answered so.
+fn answers(rt: &impl Abort, directory: &Directory, columns: &mut Columns, lines: &[(&str, Reply)]) {
+    for (line, wanted) in lines {
+        assert!(rt;
+            reply(rt, directory, columns, line) == Ok(*wanted),
+            "{line}"
+        );
+    }
+}
+
+fn resolves(rt: &impl Abort, directory: &Directory, call: &Call, op: Op) {
+    assert!(rt; resolve(directory, call) == op, "{call:?}");
+}
+
 #[test]
 fn answers_calls(rt: HostRuntime) -> Result<(), Fail> {
     let opening = read_opening(rt.alloc(), OPENING.as_bytes())?;
     let directory = opening.directory;
     let mut columns = opening.columns;
-    for (line, wanted) in [
+    let lines = [
         ("balance alice", Reply::Shown(15000)),
         ("deposit bob 5.00", Reply::Done),
         ("savings carol -10.00", Reply::Done),
@@ -15,13 +29,8 @@ fn answers_calls(rt: HostRuntime) -> Result<(), Fail> {
         ("check alice 150.00", Reply::Done),
         ("balance alice", Reply::Shown(0)),
         ("amalgamate alice bob", Reply::Done),
-    ] {
-        assert_eq!(rt;
-            reply(&rt, &directory, &mut columns, line),
-            Ok(wanted),
-            "{line}"
-        );
-    }
+    ];
+    answers(&rt, &directory, &mut columns, &lines);
     assert_eq!(rt; columns.savings(), [0, 0, 0].as_slice());
     assert_eq!(rt; columns.checking(), [0, 2500, 0].as_slice());
     Ok(())
@@ -32,16 +41,12 @@ fn penalises_an_overdraft(rt: HostRuntime) -> Result<(), Fail> {
     let opening = read_opening(rt.alloc(), OPENING.as_bytes())?;
     let directory = opening.directory;
     let mut columns = opening.columns;
-    assert_eq!(rt;
-        reply(&rt, &directory, &mut columns, "check bob 20.01"),
-        Ok(Reply::Penalised)
-    );
+    let overdraft = [("check bob 20.01", Reply::Penalised)];
+    answers(&rt, &directory, &mut columns, &overdraft);
     assert_eq!(rt; columns.checking(), [5000, -101, 0].as_slice());
     // What is moved is below 0.
-    assert_eq!(rt;
-        reply(&rt, &directory, &mut columns, "amalgamate bob carol"),
-        Ok(Reply::Done)
-    );
+    let moving = [("amalgamate bob carol", Reply::Done)];
+    answers(&rt, &directory, &mut columns, &moving);
     assert_eq!(rt; columns.savings(), [10000, 0, 1000].as_slice());
     assert_eq!(rt; columns.checking(), [5000, 0, -101].as_slice());
     Ok(())
@@ -52,7 +57,7 @@ fn a_refusal_changes_nothing(rt: HostRuntime) -> Result<(), Fail> {
     let opening = read_opening(rt.alloc(), OPENING.as_bytes())?;
     let directory = opening.directory;
     let mut columns = opening.columns;
-    for (line, wanted) in [
+    let lines = [
         ("balance zed", Reply::NoCustomer),
         ("deposit zed 1.00", Reply::NoCustomer),
         ("deposit zed -1.00", Reply::NoCustomer),
@@ -65,13 +70,8 @@ fn a_refusal_changes_nothing(rt: HostRuntime) -> Result<(), Fail> {
         ("deposit bob -0.01", Reply::Negative),
         ("check alice -0.01", Reply::Negative),
         ("savings carol -10.01", Reply::WouldOverdraw),
-    ] {
-        assert_eq!(rt;
-            reply(&rt, &directory, &mut columns, line),
-            Ok(wanted),
-            "{line}"
-        );
-    }
+    ];
+    answers(&rt, &directory, &mut columns, &lines);
     assert_eq!(rt; columns.savings(), [10000, 0, 1000].as_slice());
     assert_eq!(rt; columns.checking(), [5000, 2000, 0].as_slice());
     Ok(())
@@ -98,13 +98,20 @@ fn resolves_names(rt: HostRuntime) -> Result<(), Fail> {
                 Op::WriteCheck(place, five),
             ),
         ] {
-            assert_eq!(rt; resolve(&directory, &call), op);
+            resolves(&rt, &directory, &call, op);
         }
     }
-    assert_eq!(rt;
-        resolve(&directory, &Call::Balance(name("zed")?)),
-        Op::NoCustomer
-    );
+    let zed = Call::Balance(name("zed")?);
+    resolves(&rt, &directory, &zed, Op::NoCustomer);
+    Ok(())
+}
+
+#[test]
+fn two_places_differ(rt: HostRuntime) -> Result<(), Fail> {
+    let places = TwoPlaces::new(2, 0).ok_or("one place")?;
+    assert_eq!(rt; places.from(), 2);
+    assert_eq!(rt; places.to(), 0);
+    assert_eq!(rt; TwoPlaces::new(1, 1), None);
     Ok(())
 }
 
@@ -112,9 +119,6 @@ fn resolves_names(rt: HostRuntime) -> Result<(), Fail> {
 fn resolves_two_names(rt: HostRuntime) -> Result<(), Fail> {
     let directory = read_opening(rt.alloc(), OPENING.as_bytes())?.directory;
     let places = TwoPlaces::new(2, 0).ok_or("one place")?;
-    assert_eq!(rt; places.from(), 2);
-    assert_eq!(rt; places.to(), 0);
-    assert_eq!(rt; TwoPlaces::new(1, 1), None);
     for (from, to, op) in [
         ("carol", "alice", Op::Amalgamate(places)),
         ("bob", "bob", Op::SameCustomer),
@@ -123,7 +127,7 @@ fn resolves_two_names(rt: HostRuntime) -> Result<(), Fail> {
         ("zed", "alice", Op::NoCustomer),
     ] {
         let call = Call::Amalgamate(name(from)?, name(to)?);
-        assert_eq!(rt; resolve(&directory, &call), op, "{from} {to}");
+        resolves(&rt, &directory, &call, op);
     }
     Ok(())
 }

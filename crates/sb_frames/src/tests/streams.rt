@@ -1,4 +1,38 @@
 use super::*;
+use std::ops::Range;
+use std::process::Abort;
+
+// The stream takes these bytes.
+fn takes(rt: &impl Abort, stream: &mut Stream, bytes: &[u8]) {
+    assert!(rt; stream.feed(bytes) == Ok(()));
+}
+
+// The frame that it hands out next.
+fn gives(rt: &impl Abort, stream: &mut Stream, frame: Frame) {
+    assert!(rt; stream.next() == Ok(Some(frame)), "{frame:?}");
+}
+
+// What is unread is too short to judge.
+fn waits(rt: &impl Abort, stream: &mut Stream) {
+    assert!(rt; stream.next() == Ok(None));
+}
+
+// Every byte that came has been handed out in a frame.
+fn has_ended(rt: &impl Abort, stream: &Stream) {
+    assert!(rt; stream.ended());
+}
+
+fn fails(rt: &impl Abort, stream: &mut Stream, fault: StreamFault) {
+    assert!(rt; stream.next() == Err(fault), "{fault:?}");
+    assert!(rt; !stream.ended());
+}
+
+// After a fault nothing is taken.
+fn has_failed(rt: &impl Abort, stream: &mut Stream) {
+    fails(rt, stream, StreamFault::Failed);
+    assert!(rt; stream.feed(&[0, 1, 6]) == Err(StreamFault::Failed));
+    assert!(rt; stream.feed(&[]) == Err(StreamFault::Failed));
+}
 
 #[test]
 fn a_byte_at_a_time(rt: HostRuntime) -> Result<(), Fail> {
@@ -6,12 +40,12 @@ fn a_byte_at_a_time(rt: HostRuntime) -> Result<(), Fail> {
     for (frame, digits) in vectors(&rt) {
         let bytes = hex(rt.alloc(), digits)?;
         for byte in &bytes {
-            assert_eq!(rt; stream.next(), Ok(None), "{digits}");
-            assert_eq!(rt; stream.feed(&[*byte]), Ok(()), "{digits}");
+            waits(&rt, &mut stream);
+            takes(&rt, &mut stream, &[*byte]);
             assert!(rt; !stream.ended(), "{digits}");
         }
-        assert_eq!(rt; stream.next(), Ok(Some(frame)), "{digits}");
-        assert!(rt; stream.ended(), "{digits}");
+        gives(&rt, &mut stream, frame);
+        has_ended(&rt, &stream);
     }
     Ok(())
 }
@@ -21,10 +55,10 @@ fn each_in_one_piece(rt: HostRuntime) -> Result<(), Fail> {
     for (frame, digits) in vectors(&rt) {
         let mut stream = Stream::new(rt.alloc());
         let bytes = hex(rt.alloc(), digits)?;
-        assert_eq!(rt; stream.feed(&bytes), Ok(()), "{digits}");
-        assert_eq!(rt; stream.next(), Ok(Some(frame)), "{digits}");
-        assert_eq!(rt; stream.next(), Ok(None), "{digits}");
-        assert!(rt; stream.ended(), "{digits}");
+        takes(&rt, &mut stream, &bytes);
+        gives(&rt, &mut stream, frame);
+        waits(&rt, &mut stream);
+        has_ended(&rt, &stream);
     }
     Ok(())
 }
@@ -34,13 +68,13 @@ fn all_in_one_piece(rt: HostRuntime) -> Result<(), Fail> {
     let mut stream = Stream::new(rt.alloc());
     for (_, digits) in vectors(&rt) {
         let bytes = hex(rt.alloc(), digits)?;
-        assert_eq!(rt; stream.feed(&bytes), Ok(()));
+        takes(&rt, &mut stream, &bytes);
     }
     for (frame, digits) in vectors(&rt) {
-        assert_eq!(rt; stream.next(), Ok(Some(frame)), "{digits}");
+        gives(&rt, &mut stream, frame);
     }
-    assert_eq!(rt; stream.next(), Ok(None));
-    assert!(rt; stream.ended());
+    waits(&rt, &mut stream);
+    has_ended(&rt, &stream);
     Ok(())
 }
 
@@ -48,18 +82,12 @@ fn all_in_one_piece(rt: HostRuntime) -> Result<(), Fail> {
 fn a_fault_is_for_ever(rt: HostRuntime) -> Result<(), Fail> {
     let mut stream = Stream::new(rt.alloc());
     let bytes = hex(rt.alloc(), "0001 09")?;
-    assert_eq!(rt; stream.feed(&bytes), Ok(()));
+    takes(&rt, &mut stream, &bytes);
     let bytes = hex(rt.alloc(), "0001 06")?;
-    assert_eq!(rt; stream.feed(&bytes), Ok(()));
-    assert_eq!(rt;
-        stream.next(),
-        Err(StreamFault::Bad(FrameFault::UnknownTag))
-    );
+    takes(&rt, &mut stream, &bytes);
+    fails(&rt, &mut stream, StreamFault::Bad(FrameFault::UnknownTag));
     for _ in 0..3 {
-        assert_eq!(rt; stream.next(), Err(StreamFault::Failed));
-        assert_eq!(rt; stream.feed(&[0, 1, 6]), Err(StreamFault::Failed));
-        assert_eq!(rt; stream.feed(&[]), Err(StreamFault::Failed));
-        assert!(rt; !stream.ended());
+        has_failed(&rt, &mut stream);
     }
     Ok(())
 }
@@ -68,54 +96,66 @@ fn a_fault_is_for_ever(rt: HostRuntime) -> Result<(), Fail> {
 fn frames_before_a_fault_are_handed_out(rt: HostRuntime) -> Result<(), Fail> {
     let mut stream = Stream::new(rt.alloc());
     let bytes = hex(rt.alloc(), "0001 06 0001 06 0000")?;
-    assert_eq!(rt; stream.feed(&bytes), Ok(()));
-    assert_eq!(rt; stream.next(), Ok(Some(Frame::Flush)));
-    assert_eq!(rt; stream.next(), Ok(Some(Frame::Flush)));
-    assert_eq!(rt; stream.next(), Err(StreamFault::Bad(FrameFault::BadLength)));
-    assert_eq!(rt; stream.next(), Err(StreamFault::Failed));
+    takes(&rt, &mut stream, &bytes);
+    gives(&rt, &mut stream, Frame::Flush);
+    gives(&rt, &mut stream, Frame::Flush);
+    fails(&rt, &mut stream, StreamFault::Bad(FrameFault::BadLength));
+    has_failed(&rt, &mut stream);
     Ok(())
 }
 
 #[test]
 fn a_stream_has_ended_where_nothing_is_unread(rt: HostRuntime) -> Result<(), Fail> {
     let mut stream = Stream::new(rt.alloc());
-    assert!(rt; stream.ended());
-    assert_eq!(rt; stream.feed(&[]), Ok(()));
-    assert!(rt; stream.ended());
-    assert_eq!(rt; stream.feed(&[0]), Ok(()));
-    assert_eq!(rt; stream.next(), Ok(None));
+    has_ended(&rt, &stream);
+    takes(&rt, &mut stream, &[]);
+    has_ended(&rt, &stream);
+    takes(&rt, &mut stream, &[0]);
+    waits(&rt, &mut stream);
     assert!(rt; !stream.ended());
-    assert_eq!(rt; stream.feed(&[1, 6]), Ok(()));
+    takes(&rt, &mut stream, &[1, 6]);
     assert!(rt; !stream.ended());
-    assert_eq!(rt; stream.next(), Ok(Some(Frame::Flush)));
-    assert!(rt; stream.ended());
+    gives(&rt, &mut stream, Frame::Flush);
+    has_ended(&rt, &stream);
+    Ok(())
+}
+
+// The entries from 0 on, each a balance of alice.
+fn entries(alloc: Global, count: u64) -> Result<Vec<u8>, Fail> {
+    let call = Call::Balance(name("alice")?);
+    let mut bytes = Vec::new(alloc);
+    for number in 0..count {
+        bytes.extend_from_slice(encode(&Frame::Entry { number, call }).as_slice())?;
+    }
+    Ok(bytes)
+}
+
+// Each of these entries is handed out.
+fn gives_entries(rt: &impl Abort, stream: &mut Stream, numbers: Range<u64>) -> Result<(), Fail> {
+    let call = Call::Balance(name("alice")?);
+    for number in numbers {
+        gives(rt, stream, Frame::Entry { number, call });
+    }
     Ok(())
 }
 
 // 10,008 bytes in pieces of 5,000, each cut within a frame.
 #[test]
 fn two_large_pieces_with_no_next_between(rt: HostRuntime) -> Result<(), Fail> {
-    let call = Call::Balance(name("alice")?);
-    let mut bytes = Vec::new(rt.alloc());
-    for number in 0..556 {
-        bytes.extend_from_slice(encode(&Frame::Entry { number, call }).as_slice())?;
-    }
+    let bytes = entries(rt.alloc(), 556)?;
     let mut stream = Stream::new(rt.alloc());
     let mut pieces = bytes.chunks(5_000);
     for _ in 0..2 {
         let piece = pieces.next().ok_or("too few bytes")?;
         assert_eq!(rt; piece.len(), 5_000);
-        assert_eq!(rt; stream.feed(piece), Ok(()));
+        takes(&rt, &mut stream, piece);
     }
-    for number in 0..555 {
-        assert_eq!(rt; stream.next(), Ok(Some(Frame::Entry { number, call })));
-    }
-    assert_eq!(rt; stream.next(), Ok(None));
+    gives_entries(&rt, &mut stream, 0..555)?;
+    waits(&rt, &mut stream);
     let last = pieces.next().ok_or("too few bytes")?;
-    assert_eq!(rt; stream.feed(last), Ok(()));
-    let entry = Frame::Entry { number: 555, call };
-    assert_eq!(rt; stream.next(), Ok(Some(entry)));
-    assert!(rt; stream.ended());
+    takes(&rt, &mut stream, last);
+    gives_entries(&rt, &mut stream, 555..556)?;
+    has_ended(&rt, &stream);
     Ok(())
 }
 
@@ -129,29 +169,23 @@ fn a_long_stream_a_byte_at_a_time(rt: HostRuntime) -> Result<(), Fail> {
     for number in 0..ENTRIES {
         let entry = Frame::Entry { number, call };
         for byte in encode(&entry).as_slice() {
-            assert_eq!(rt; stream.next(), Ok(None));
-            assert_eq!(rt; stream.feed(&[*byte]), Ok(()));
+            waits(&rt, &mut stream);
+            takes(&rt, &mut stream, &[*byte]);
         }
-        assert_eq!(rt; stream.next(), Ok(Some(entry)));
+        gives(&rt, &mut stream, entry);
     }
-    assert!(rt; stream.ended());
+    has_ended(&rt, &stream);
     Ok(())
 }
 
 #[test]
 fn a_long_stream_in_one_piece(rt: HostRuntime) -> Result<(), Fail> {
-    let mut bytes = Vec::new(rt.alloc());
-    let call = Call::Balance(name("alice")?);
-    for number in 0..ENTRIES {
-        bytes.extend_from_slice(encode(&Frame::Entry { number, call }).as_slice())?;
-    }
+    let bytes = entries(rt.alloc(), ENTRIES)?;
     let mut stream = Stream::new(rt.alloc());
-    assert_eq!(rt; stream.feed(&bytes), Ok(()));
-    for number in 0..ENTRIES {
-        assert_eq!(rt; stream.next(), Ok(Some(Frame::Entry { number, call })));
-    }
-    assert_eq!(rt; stream.next(), Ok(None));
-    assert!(rt; stream.ended());
+    takes(&rt, &mut stream, &bytes);
+    gives_entries(&rt, &mut stream, 0..ENTRIES)?;
+    waits(&rt, &mut stream);
+    has_ended(&rt, &stream);
     Ok(())
 }
 
@@ -160,15 +194,15 @@ fn a_long_stream_in_one_piece(rt: HostRuntime) -> Result<(), Fail> {
 fn a_long_stream_that_is_never_empty(rt: HostRuntime) -> Result<(), Fail> {
     let mut stream = Stream::new(rt.alloc());
     let call = Call::Balance(name("alice")?);
-    assert_eq!(rt; stream.feed(&[0]), Ok(()));
+    takes(&rt, &mut stream, &[0]);
     for number in 0..ENTRIES {
         let entry = Frame::Entry { number, call };
         let bytes = encode(&entry);
         for byte in &bytes[1..] {
-            assert_eq!(rt; stream.feed(&[*byte]), Ok(()));
+            takes(&rt, &mut stream, &[*byte]);
         }
-        assert_eq!(rt; stream.feed(&[0]), Ok(()));
-        assert_eq!(rt; stream.next(), Ok(Some(entry)));
+        takes(&rt, &mut stream, &[0]);
+        gives(&rt, &mut stream, entry);
         assert!(rt; !stream.ended());
     }
     Ok(())
