@@ -1,6 +1,7 @@
 pub mod Amalgamation
 pub mod AppliedOps
 pub mod Asking
+pub mod CodedReplies
 pub mod Conflicts
 pub mod EffectCases
 pub mod EffectPerforms
@@ -16,6 +17,7 @@ pub mod Places
 pub mod Procedures
 pub mod ReadingCowns
 pub mod Refusals
+pub mod ShownTotals
 pub mod Spelling
 pub mod Totals
 pub mod Touched

@@ -235,7 +235,7 @@ sum_within v e =
     record { at_least = at_least (neg_ℤ LIMIT) v both.1; at_most = at_least v LIMIT both.0 }
 
 -- 0 may be held everywhere
-nothing_held : (cown : ℕ) → IsHeld cown (pos 0)
+pub nothing_held : (cown : ℕ) → IsHeld cown (pos 0)
 nothing_held cown =
     record { within = record { at_least = le_z_yes tt; at_most = le_z_yes tt }; not_negative = λ even. le_z_yes tt }
 

@@ -4,7 +4,7 @@ use Rattle.std.specs.List.{Contains}
 use Rattle.sb_rows.specs.Balances.{Balances}
 use Rattle.sb_rows.specs.Directory.{place_of}
 use Rattle.sb_rows.specs.Rows.{rows_of, SameCustomers}
-use Rattle.sb_calls.specs.Cowns.{savings_cown, checking_cown, held_of, write_cowns}
+use Rattle.sb_calls.specs.Cowns.{savings_cown, checking_cown, AllHeld, held_of, write_cowns}
 use Rattle.sb_calls.specs.Behaviour.{declared_cowns, effect_of}
 use Rattle.sb_calls.specs.Log.{rows_after_calls, reply_to}
 use Rattle.sb_calls.specs.OneByOne.{held_after_first, reply_by_log}
@@ -12,6 +12,8 @@ use Rattle.sb_calls.specs.Op.{resolved}
 use Rattle.sb_calls.specs.FollowsProcedure.{FollowsProcedure}
 use Rattle.sb_calls.specs.Touches.{BalancePlace, Savings, Checking, touched}
 use Rattle.sb_calls.specs.declared.call.Call.{Call}
+use Rattle.sb_calls.specs.Replies.{IsReply}
+use Rattle.sb_calls.specs.declared.op.Op.{Op}
 use Rattle.sb_calls.specs.declared.reply.Reply.{Reply}
 
 -- the cown of a balance, where these are the names by place
@@ -46,3 +48,8 @@ pub record RunsAsCalls (directory : List (List ℕ)) (b : Balances) (calls : Lis
 abbrev pub LogsByCowns : Type 0
 LogsByCowns = (directory : List (List ℕ)) (b : Balances) (calls : List Call) → SameCustomers directory b
     → RunsAsCalls directory b calls
+
+-- from cowns that hold what they may, each reply of a log has a spelling
+abbrev pub RepliesHaveSpellings : Type 0
+RepliesHaveSpellings = (opening : List ℤ) (log : List Op) (n : ℕ) (reply : Reply) → AllHeld opening
+    → reply_by_log declared_cowns effect_of opening log n ≡ Some reply → IsReply reply

@@ -13,5 +13,6 @@ pub mod Net
 pub mod OneByOne
 pub mod Op
 pub mod Procedures
+pub mod Replies
 pub mod Reply
 pub mod Touches

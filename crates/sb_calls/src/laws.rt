@@ -3,20 +3,23 @@ ghost use Rattle.std.specs.Prelude.{◌≡◌, ℕ, suc, pos, List, slice_get};
 ghost use Rattle.sb_calls.specs.declared.call.Call.{Call};
 ghost use Rattle.sb_calls.specs.Log.{replies_to, reply_to};
 ghost use Rattle.sb_calls.specs.Net.{TotalByNet};
-ghost use Rattle.sb_calls.specs.ByCowns.{LogsByCowns};
+ghost use Rattle.sb_calls.specs.ByCowns.{LogsByCowns, RepliesHaveSpellings};
 ghost use Rattle.sb_calls.specs.Conflicts.{ConflictsByName};
+ghost use Rattle.sb_calls.specs.Replies.{RepliesHaveOneCode};
 ghost use Rattle.sb_calls.specs.Touches.{Locality};
 ghost use Rattle.sb_rows.specs.Rows.{Rows};
 
 use crate::call::LOG_CALLS;
 use crate::cowns::{BEHAVIOUR_COWNS, PENALTY};
+use crate::wire_reply::TOTAL_LIMIT;
 
-/// A log takes a million calls, the penalty of a check is 100 cents, and a behaviour declares at
-/// most 3 cowns.
+/// A log takes a million calls, the penalty of a check is 100 cents, a behaviour declares at most 3
+/// cowns, and a total that is shown is at most twice the limit of a balance.
 pub fn limits()
     ensures calls { LOG_CALLS ≡ 1000000 }
     ensures penalty { PENALTY ≡ pos 100 }
     ensures cowns { BEHAVIOUR_COWNS ≡ 3 }
+    ensures total { TOTAL_LIMIT ≡ pos 2000000000000 }
 {}
 
 /// The replies to a log in order are, number by number, the replies to its calls on the rows after
@@ -44,7 +47,18 @@ pub fn logs_by_cowns()
     ensures { LogsByCowns }
 {}
 
+/// Each reply of a log run one by one, from balances of a bank, shows no more than two balances come to, so frames and
+/// checkpoints can spell it.
+pub fn replies_have_spellings()
+    ensures { RepliesHaveSpellings }
+{}
+
 /// Two calls declare a cown in common exactly where they touch a balance in common.
 pub fn conflicts_by_name()
     ensures { ConflictsByName }
+{}
+
+/// A code and a total are read as the one reply that they spell.
+pub fn replies_have_one_code()
+    ensures { RepliesHaveOneCode }
 {}

@@ -13,6 +13,7 @@ mod reply;
 mod tests;
 mod text;
 mod two_places;
+mod wire_reply;
 
 pub use applying::apply;
 pub use ask::{Asked, Key};
@@ -21,10 +22,12 @@ pub use cowns::{
     BEHAVIOUR_COWNS, Behaviour, Cown, PENALTY, Performs, cowns_of, perform, read_cowns, write_cowns,
 };
 pub use laws::{
-    calls_are_local, conflicts_by_name, limits, logs_by_cowns, replies_one_by_one, total_by_net,
+    calls_are_local, conflicts_by_name, limits, logs_by_cowns, replies_have_one_code,
+    replies_have_spellings, replies_one_by_one, total_by_net,
 };
 pub use net_change::net;
 pub use op::{Op, resolve};
 pub use reply::Reply;
 pub use text::{CallFault, print_reply, read_ask, read_call};
 pub use two_places::TwoPlaces;
+pub use wire_reply::{TOTAL_LIMIT, WireReply};

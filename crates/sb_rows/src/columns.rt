@@ -37,6 +37,14 @@ impl Columns {
         }
     }
 
+    /// The columns that these balances are, in cents.
+    pub fn from_parts(savings: Vec<i64>, checking: Vec<i64>) -> Columns
+        requires { IsBalances (record { savings = savings.items; checking = checking.items }) }
+        ensures { result ≡ record { savings = savings.items; checking = checking.items } }
+    {
+        Columns { savings, checking }
+    }
+
     /// How many customers there are.
     #[inline]
     pub fn customers(&self) -> usize

@@ -1,0 +1,157 @@
+-- What a log run one by one replies has a spelling.
+use Rattle.std.proofs.Common.{◌≡◌, inl, inr, ℕ, zero, suc, ◌<◌, ℤ, pos, ◌+ℤ◌, Bool, true, false, Option, Some, None, List, [], ◌∷◌, length, get_or, take, sym, subst, arith}
+use Rattle.std.specs.Prelude.{◌==◌, nat_lt, neg_ℤ, ◌-ℤ◌, int_lt, if◌then◌else◌, slice_get, option_map}
+use Rattle.std.proofs.lemmas.Bool.{cases_lt}
+use Rattle.std.proofs.lemmas.Int.{ints}
+use Rattle.std.proofs.lemmas.List.{get_or_past}
+use Rattle.sb_amount.specs.declared.cents.TheConstants.{LIMIT}
+use Rattle.sb_calls.specs.Behaviour.{declared_cowns, effect_of, of_one, of_two, of_three, deposit_effect, savings_effect, check_effect, takes_too_much, giver_first_effect, taker_first_effect, effect_of_two}
+use Rattle.sb_calls.specs.BehaviourLaws.{effect_keeps, nothing_held}
+use Rattle.sb_calls.specs.Cowns.{AllHeld, AreHeld, IsHeld, read_cowns, write_cowns, savings_cown, checking_cown}
+use Rattle.sb_calls.specs.OneByOne.{held_after, held_after_first, held_after_one, inputs_of, reply_of, reply_by_log}
+use Rattle.sb_calls.specs.Procedures.{check_cost}
+use Rattle.sb_calls.specs.Replies.{IsReply, IsTotal}
+use Rattle.sb_calls.specs.declared.op.Op.{Op}
+use Rattle.sb_calls.specs.declared.op.Op.TheVariants.{Balance, DepositChecking, TransactSavings, Amalgamate, WriteCheck, NoCustomer, SameCustomer}
+use Rattle.sb_calls.specs.declared.reply.Reply.{Reply}
+use Rattle.sb_calls.specs.declared.reply.Reply.TheVariants as replies
+use Rattle.sb_calls.proofs.HeldLaws.{AllHeld-write}
+
+-- ---- an op's reply
+
+abbrev Fits : Reply × List ℤ → Type 0
+Fits answer = IsReply answer.0
+
+one_replies : (effect : ℤ → Reply × List ℤ) → ((v : ℤ) → IsReply (effect v).0) → (inputs : List ℤ) → IsReply (of_one effect inputs).0
+one_replies effect h [] = tt
+one_replies effect h (v ∷ []) = h v
+one_replies effect h (v ∷ w ∷ more) = tt
+
+two_replies : (effect : ℤ → ℤ → Reply × List ℤ) → ((v w : ℤ) → IsReply (effect v w).0) → (inputs : List ℤ) → IsReply (of_two effect inputs).0
+two_replies effect h [] = tt
+two_replies effect h (v ∷ []) = tt
+two_replies effect h (v ∷ w ∷ []) = h v w
+two_replies effect h (v ∷ w ∷ x ∷ more) = tt
+
+three_replies : (effect : ℤ → ℤ → ℤ → Reply × List ℤ) → ((v w x : ℤ) → IsReply (effect v w x).0) → (inputs : List ℤ)
+    → IsReply (of_three effect inputs).0
+three_replies effect h [] = tt
+three_replies effect h (v ∷ []) = tt
+three_replies effect h (v ∷ w ∷ []) = tt
+three_replies effect h (v ∷ w ∷ x ∷ []) = h v w x
+three_replies effect h (v ∷ w ∷ x ∷ y ∷ more) = tt
+
+deposit_replies : (amount v : ℤ) → IsReply (deposit_effect amount v).0
+deposit_replies amount v = by (int_lt amount (pos 0)) (int_lt LIMIT (v +ℤ amount))
+  where
+    by : (a b : Bool) → Fits (if a then (replies.Negative, v ∷ []) else if b then (replies.OverLimit, v ∷ [])
+        else (replies.Done, (v +ℤ amount) ∷ []))
+    by true b = tt
+    by false true = tt
+    by false false = tt
+
+savings_replies : (amount v : ℤ) → IsReply (savings_effect amount v).0
+savings_replies amount v = by (int_lt (v +ℤ amount) (pos 0)) (int_lt LIMIT (v +ℤ amount))
+  where
+    by : (a b : Bool) → Fits (if a then (replies.WouldOverdraw, v ∷ []) else if b then (replies.OverLimit, v ∷ [])
+        else (replies.Done, (v +ℤ amount) ∷ []))
+    by true b = tt
+    by false true = tt
+    by false false = tt
+
+check_replies : (amount v w : ℤ) → IsReply (check_effect amount v w).0
+check_replies amount v w =
+    by (int_lt amount (pos 0)) (int_lt (w -ℤ check_cost v w amount) (neg_ℤ LIMIT)) (int_lt (v +ℤ w) amount)
+  where
+    by : (a b c : Bool) → Fits (if a then (replies.Negative, v ∷ w ∷ []) else if b then (replies.OverLimit, v ∷ w ∷ [])
+        else (if c then replies.Penalised else replies.Done, v ∷ (w -ℤ check_cost v w amount) ∷ []))
+    by true b c = tt
+    by false true c = tt
+    by false false true = tt
+    by false false false = tt
+
+giver_first_replies : (v w x : ℤ) → IsReply (giver_first_effect v w x).0
+giver_first_replies v w x = by (takes_too_much ((x +ℤ v) +ℤ w))
+  where
+    by : (a : Bool) → Fits (if a then (replies.OverLimit, v ∷ w ∷ x ∷ [])
+        else (replies.Done, pos 0 ∷ pos 0 ∷ ((x +ℤ v) +ℤ w) ∷ []))
+    by true = tt
+    by false = tt
+
+taker_first_replies : (v w x : ℤ) → IsReply (taker_first_effect v w x).0
+taker_first_replies v w x = by (takes_too_much ((v +ℤ w) +ℤ x))
+  where
+    by : (a : Bool) → Fits (if a then (replies.OverLimit, v ∷ w ∷ x ∷ [])
+        else (replies.Done, ((v +ℤ w) +ℤ x) ∷ pos 0 ∷ pos 0 ∷ []))
+    by true = tt
+    by false = tt
+
+amalgamation_replies : (from to : ℕ) (inputs : List ℤ) → IsReply (effect_of_two from to inputs).0
+amalgamation_replies from to inputs = by (from == to) (nat_lt from to)
+  where
+    by : (one before : Bool) → Fits (if one then (replies.SameCustomer, inputs)
+        else if before then of_three giver_first_effect inputs else of_three taker_first_effect inputs)
+    by true before = tt
+    by false true = three_replies giver_first_effect giver_first_replies inputs
+    by false false = three_replies taker_first_effect taker_first_replies inputs
+
+-- two balances added up
+shown_fits : (place : ℕ) (inputs : List ℤ) → AreHeld (savings_cown place ∷ checking_cown place ∷ []) inputs
+    → IsReply (effect_of (Balance place) inputs).0
+shown_fits place [] held = tt
+shown_fits place (s ∷ []) held = tt
+shown_fits place (s ∷ c ∷ []) held =
+    let low_s = held.0.within.at_least in
+    let high_s = held.0.within.at_most in
+    let low_c = held.1.0.within.at_least in
+    let high_c = held.1.0.within.at_most in
+    record { at_least = omega (arith, ints); at_most = omega (arith, ints) }
+shown_fits place (s ∷ c ∷ x ∷ more) held = tt
+
+reply_fits : (op : Op) (inputs : List ℤ) → AreHeld (declared_cowns op) inputs → IsReply (effect_of op inputs).0
+reply_fits (Balance place) inputs held = shown_fits place inputs held
+reply_fits (DepositChecking place amount) inputs held =
+    one_replies (deposit_effect amount) (deposit_replies amount) inputs
+reply_fits (TransactSavings place amount) inputs held =
+    one_replies (savings_effect amount) (savings_replies amount) inputs
+reply_fits (Amalgamate places) inputs held = amalgamation_replies places.0 places.1 inputs
+reply_fits (WriteCheck place amount) inputs held =
+    two_replies (check_effect amount) (check_replies amount) inputs
+reply_fits NoCustomer inputs held = tt
+reply_fits SameCustomer inputs held = tt
+
+-- ---- a log
+
+-- where all cowns hold what they may, what is read of any is so too: past the last there is 0
+read_held : (held : List ℤ) (cowns : List ℕ) → AllHeld held → AreHeld cowns (read_cowns held cowns)
+read_held held [] all = tt
+read_held held (c ∷ cowns) all = (
+  elim (cases_lt c (length held)) [
+    | inl lt ↦ all c lt
+    | inr past ↦ subst (IsHeld c) (sym (get_or_past held c (pos 0) past)) (nothing_held c)
+  ],
+  read_held held cowns all,
+)
+
+log_keeps : (held : List ℤ) (log : List Op) → AllHeld held → AllHeld (held_after declared_cowns effect_of held log)
+log_keeps held [] all = all
+log_keeps held (op ∷ log) all =
+    log_keeps (held_after_one declared_cowns effect_of held op) log
+    (AllHeld-write held (declared_cowns op) _ all (effect_keeps op _ (read_held held (declared_cowns op) all)))
+
+some_is : {A : Type 0} {x y : A} → ◌≡◌ {A = Option A} (Some x) (Some y) → x ≡ y
+some_is h = cc
+
+of_one_op : (held : List ℤ) (op : Option Op) (reply : Reply) → AllHeld held
+    → option_map (reply_of declared_cowns effect_of held) op ≡ Some reply → IsReply reply
+of_one_op held None reply all e = absurd cc
+of_one_op held (Some op) reply all e =
+    subst IsReply (some_is e) (reply_fits op _ (read_held held (declared_cowns op) all))
+
+-- each reply of a log, from cowns that hold what they may
+pub replies_fit : (opening : List ℤ) (log : List Op) (n : ℕ) (reply : Reply) → AllHeld opening
+    → reply_by_log declared_cowns effect_of opening log n ≡ Some reply → IsReply reply
+replies_fit opening log zero reply all e = absurd cc
+replies_fit opening log (suc k) reply all e =
+    of_one_op (held_after_first declared_cowns effect_of opening log k) (slice_get log k) reply
+    (log_keeps opening (take k log) all) e
