@@ -18,7 +18,7 @@ use arrayvec::ArrayVec;
 use cown_queue::Queues;
 use sb_amount::Cents;
 use sb_calls::{Behaviour, Cown, LOG_CALLS, Reply, read_cowns, write_cowns};
-use sb_rows::Columns;
+use sb_rows::{CUSTOMERS, Columns};
 use std::alloc::{AllocError, Global};
 use std::collections::VecDeque;
 use std::marker::Model;
@@ -139,8 +139,12 @@ impl<B: Behaviour> Board<B> {
 
     /// The greatest number so far.
     pub fn length(&self) -> u64
-        ensures { result ≡ length_of self.now }
+        ensures value { result ≡ length_of self.now }
+        ensures few { length_of self.now ≤ LOG_CALLS }
+        // It was opened on the columns of a bank.
+        ensures bank { IsBalances self.now.opening }
     {
+        prove!(self.opening.customers() <= CUSTOMERS);
         self.base + self.log.len() as u64
     }
 
@@ -280,10 +284,24 @@ impl<B: Behaviour> Board<B> {
         ensures bank { IfOk result (λ columns. IfSome columns IsBalances) }
         ensures err { OnErr result (open_of self.now ≡ 0) }
     {
-        if !self.idle() {
-            return Ok(None);
+        match self.settled_columns() {
+            Some(columns) => Ok(Some(columns.copy()?)),
+            None => Ok(None),
         }
-        Ok(Some(self.columns.copy()?))
+    }
+
+    /// The columns after the whole log, lent, or `None` while something is unfinished.
+    pub fn settled_columns(&self) -> Option<&Columns>
+        ensures value { MatchOption result (open_of self.now ≢ 0)
+            (λ columns. (open_of self.now ≡ 0) × IsAfterAll B.touches B.effect self.now columns.now) }
+        ensures bank { IfSome result (λ columns. IsBalances columns.now) }
+    {
+        prove!(self.columns.customers() <= CUSTOMERS);
+        if self.idle() {
+            Some(&self.columns)
+        } else {
+            None
+        }
     }
 }
 
