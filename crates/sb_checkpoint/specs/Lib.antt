@@ -1,0 +1,3 @@
+pub mod MemoryStore
+pub mod StoreFaults
+pub mod Stores

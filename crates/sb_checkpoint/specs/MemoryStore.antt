@@ -1,0 +1,29 @@
+-- A store in memory.
+use Rattle.std.specs.Prelude.{◌≡◌, ℕ, suc, ◌^◌, ◌-◌, ◌==◌, ◌⊎◌, if◌then◌else◌, Option, Some, Ok, Err, List}
+use Rattle.sb_checkpoint.specs.Stores.{StoreStep, Put, Got, NotGot}
+use Rattle.sb_checkpoint.specs.declared.memory_store.How.{How}
+use Rattle.sb_checkpoint.specs.declared.memory_store.How.TheVariants as how
+use Rattle.sb_checkpoint.specs.declared.store.StoreFault.{StoreFault}
+use Rattle.sb_checkpoint.specs.declared.store.StoreFault.TheVariants.{Device, OutOfMemory}
+
+-- what it holds, how its next put ends, and how often a put has failed
+pub record MemoryStoreOf : Type 0 where
+  pub slot : Option (List ℕ)
+  pub next : How
+  pub failures : ℕ
+
+-- one failure more, up to the greatest that can be told
+abbrev pub one_more : ℕ → ℕ
+one_more failures = if failures == 2 ^ 64 - 1 then failures else suc failures
+
+-- a put ends as it was told, and the next one well; a get changes nothing, and its device never fails
+abbrev pub MemoryActs : MemoryStoreOf → StoreStep → MemoryStoreOf → Type 0
+MemoryActs old (Put bytes (Ok done)) new =
+    (old.next ≡ how.Ok) × (new ≡ record old { slot = Some bytes })
+MemoryActs old (Put bytes (Err Device)) new =
+    ((old.next ≡ how.Old) × (new ≡ record old { next = how.Ok; failures = one_more old.failures }))
+    ⊎ ((old.next ≡ how.New) × (new ≡ record { slot = Some bytes; next = how.Ok; failures = one_more old.failures }))
+MemoryActs old (Put bytes (Err OutOfMemory)) new = new ≡ old
+MemoryActs old (Got held) new = (held ≡ old.slot) × (new ≡ old)
+MemoryActs old (NotGot Device) new = ⊥
+MemoryActs old (NotGot OutOfMemory) new = new ≡ old

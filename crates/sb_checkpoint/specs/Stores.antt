@@ -1,0 +1,40 @@
+-- What a store of checkpoints does.
+use Rattle.std.specs.Prelude.{◌≡◌, ℕ, ◌<◌, ◌^◌, ◌-◌, ◌⊎◌, Option, Some, Result, Ok, Err, List}
+use Rattle.sb_checkpoint.specs.declared.store.StoreFault.{StoreFault}
+use Rattle.sb_checkpoint.specs.declared.store.StoreFault.TheVariants.{Device, OutOfMemory}
+
+-- a call of a store, with its answer: bytes were put, what it holds was got, or it wasn't
+pub data StoreStep : Type 0 where
+  Put : (bytes : List ℕ) (answer : Result (Unit {0}) StoreFault) → StoreStep
+  Got : (held : Option (List ℕ)) → StoreStep
+  NotGot : (fault : StoreFault) → StoreStep
+
+-- what an honest store holds after a call. After a device's fault it is wholly the old or wholly the new
+abbrev pub HoldsAfter : Option (List ℕ) → StoreStep → Option (List ℕ) → Type 0
+HoldsAfter old (Put bytes (Ok done)) new = new ≡ Some bytes
+HoldsAfter old (Put bytes (Err Device)) new = (new ≡ old) ⊎ (new ≡ Some bytes)
+HoldsAfter old (Put bytes (Err OutOfMemory)) new = new ≡ old
+HoldsAfter old (Got held) new = (held ≡ old) × (new ≡ old)
+HoldsAfter old (NotGot fault) new = new ≡ old
+
+-- the device failed once more, or it had failed as often as can be counted
+abbrev pub HasFailed : ℕ → ℕ → Type 0
+HasFailed old new = (old < new) ⊎ ((old ≡ 2 ^ 64 - 1) × (new ≡ old))
+
+-- a device's fault is answered only where the device failed
+abbrev pub FailsAlong : ℕ → StoreStep → ℕ → Type 0
+FailsAlong old (Put bytes (Ok done)) new = Unit {0}
+FailsAlong old (Put bytes (Err Device)) new = HasFailed old new
+FailsAlong old (Put bytes (Err OutOfMemory)) new = Unit {0}
+FailsAlong old (Got held) new = Unit {0}
+FailsAlong old (NotGot Device) new = HasFailed old new
+FailsAlong old (NotGot OutOfMemory) new = Unit {0}
+
+-- what a store promises of a call: whether it is honest stays; what it holds then; when its device failed; and
+-- whatever more is told of it
+pub record StoreDoes {S : Type 0} (slot : S → Option (List ℕ)) (IsHonest : S → Type 0) (failed : S → ℕ)
+    (acts : S → StoreStep → S → Type 0) (old : S) (step : StoreStep) (new : S) : Type 0 where
+  pub honest : IsHonest old → IsHonest new
+  pub holds : IsHonest old → HoldsAfter (slot old) step (slot new)
+  pub fails : FailsAlong (failed old) step (failed new)
+  pub as_told : acts old step new

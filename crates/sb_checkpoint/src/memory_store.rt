@@ -1,0 +1,105 @@
+//! A store in memory, whose puts end as they are told to.
+ghost use Rattle.std.specs.Prelude.{◌≡◌, None, Err, IfOk, OnErr};
+ghost use Rattle.sb_checkpoint.specs.MemoryStore.{MemoryActs};
+
+use crate::store::{CheckpointStore, StoreFault};
+use std::alloc::Global;
+use std::marker::Model;
+
+/// How a put ends.
+#[derive(Clone, Copy, Debug, PartialEq, Eq)]
+pub enum How {
+    /// The bytes are held.
+    Ok,
+    /// The device fails, and the old bytes are left.
+    Old,
+    /// The device fails, and the new bytes are left.
+    New,
+}
+
+/// Holds a checkpoint in memory. Each put ends well unless it is told otherwise.
+#[derive(Drop)]
+pub struct MemoryStore {
+    alloc: Global,
+    bytes: Option<Vec<u8>>,
+    next: How,
+    failures: u64,
+}
+
+impl Model for MemoryStore {
+    ghost use Rattle.sb_checkpoint.specs.MemoryStore.{MemoryStoreOf};
+    ghost use Rattle.std.specs.Prelude.{option_map};
+
+    ghost Value = { MemoryStoreOf };
+
+    ghost view = { λ s. record { slot = option_map (λ bytes. bytes.items) s.bytes; next = s.next; failures = s.failures } };
+}
+
+impl MemoryStore {
+    /// A store that holds nothing yet.
+    pub fn new(alloc: Global) -> MemoryStore
+        ensures { result ≡ record { slot = None; next = How.Ok; failures = 0 } }
+    {
+        MemoryStore {
+            alloc,
+            bytes: None,
+            next: How::Ok,
+            failures: 0,
+        }
+    }
+
+    /// Says how the next put ends; those after it end well.
+    pub fn tell(&mut self, how: How)
+        ensures { self.new ≡ record self.old { next = how } }
+    {
+        self.next = how;
+    }
+}
+
+// A copy of some bytes.
+fn copied(alloc: Global, bytes: &[u8]) -> Result<Vec<u8>, StoreFault>
+    ensures copy { IfOk result (λ copy. copy.items ≡ bytes.now) }
+    ensures err { OnErr result (result ≡ Err StoreFault.OutOfMemory) }
+{
+    let mut copy = Vec::new(alloc);
+    match copy.extend_from_slice(bytes) {
+        Ok(()) => Ok(copy),
+        Err(_) => Err(StoreFault::OutOfMemory),
+    }
+}
+
+// What it is told of is all that it does, so it is honest.
+impl CheckpointStore for MemoryStore {
+    ghost slot = { λ store. store.slot };
+
+    ghost IsHonest = { λ store. Unit {0} };
+
+    ghost failed = { λ store. store.failures };
+
+    ghost acts = { MemoryActs };
+
+    fn put(&mut self, bytes: &[u8]) -> Result<(), StoreFault> {
+        let copy = copied(self.alloc, bytes)?;
+        let how = self.next;
+        if how != How::Old {
+            self.bytes = Some(copy);
+        }
+        if how == How::Ok {
+            return Ok(());
+        }
+        self.next = How::Ok;
+        self.failures = self.failures.saturating_add(1);
+        Err(StoreFault::Device)
+    }
+
+    fn get(&mut self) -> Result<Option<Vec<u8>>, StoreFault> {
+        match &self.bytes {
+            Some(bytes) => Ok(Some(copied(self.alloc, bytes)?)),
+            None => Ok(None),
+        }
+    }
+
+    fn failures(&self) -> u64 {
+        self.failures
+    }
+}

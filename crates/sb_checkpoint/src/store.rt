@@ -1,0 +1,62 @@
+//! Where a replica keeps its checkpoint.
+ghost use Rattle.std.specs.Prelude.{◌≡◌, ℕ, Option, List, MatchResult, option_map};
+ghost use Rattle.sb_checkpoint.specs.StoreFaults.{store_fault_number};
+ghost use Rattle.sb_checkpoint.specs.Stores.{StoreDoes, StoreStep, Put, Got, NotGot};
+
+use thiserror::Error;
+
+/// Why a store didn't do what it was asked.
+#[derive(Clone, Copy, Debug, PartialEq, Eq, Error, Drop)]
+pub enum StoreFault {
+    /// The device failed. After a put the store holds wholly the old or wholly the new bytes.
+    #[error("device fault")]
+    Device,
+    /// Memory was refused. The store holds the old bytes.
+    #[error("out of memory")]
+    OutOfMemory,
+}
+
+impl StoreFault {
+    /// The number of the fault, from 1 to 2 in the order of the variants.
+    pub fn number(&self) -> u8
+        ensures { result ≡ store_fault_number self.now }
+    {
+        match self {
+            StoreFault::Device => 1,
+            StoreFault::OutOfMemory => 2,
+        }
+    }
+}
+
+/// Holds the bytes that were put last.
+///
+/// What is told of these bytes is told of an honest store. That a store in memory is honest is proved; of a
+/// file it is a premise.
+pub trait CheckpointStore: Drop {
+    /// The bytes that it holds, if any were put.
+    ghost slot: { Self → Option (List ℕ) };
+
+    /// Whether it holds what it says.
+    ghost IsHonest: { Self → Type 0 };
+
+    /// How often its device has failed.
+    ghost failed: { Self → ℕ };
+
+    /// What it may do at one call, from what it was before to what it is after. A store of which nothing more
+    /// is to be told says that it always holds.
+    ghost acts: { Self → StoreStep → Self → Type 0 };
+
+    /// Holds these bytes in place of those before.
+    fn put(&mut self, bytes: &[u8]) -> Result<(), StoreFault>
+        ensures { StoreDoes slot IsHonest failed acts self.old (Put bytes.now result) self.new };
+
+    /// The bytes that it holds, or `None` before the first put.
+    fn get(&mut self) -> Result<Option<Vec<u8>>, StoreFault>
+        ensures { MatchResult result
+            (λ held. StoreDoes slot IsHonest failed acts self.old (Got (option_map (λ bytes. bytes.items) held)) self.new)
+            (λ fault. StoreDoes slot IsHonest failed acts self.old (NotGot fault) self.new) };
+
+    /// How often its device has failed, up to the greatest number that can be told.
+    fn failures(&self) -> u64
+        ensures { result ≡ failed self.now };
+}

@@ -1,0 +1,38 @@
+-- A replica as its callers see it.
+use Rattle.std.specs.Prelude.{◌≡◌, ℕ, List, length, ◌++◌}
+use Rattle.std.specs.List.{All, filter_map}
+use Rattle.sb_rows.specs.Balances.{Balances, IsBalances}
+use Rattle.sb_calls.specs.Replies.{IsReply}
+use Rattle.sb_calls.specs.declared.op.Op.{Op}
+use Rattle.sb_calls.specs.declared.reply.Reply.{Reply}
+use Rattle.cown_board.specs.Board.{BoardOf}
+use Rattle.cown_board.specs.State.{finished_reply}
+
+-- its number, the customers' names by place, the balances at the opening, its board, and its store
+pub record ReplicaOf (S : Type 0) : Type 0 where
+  pub id : ℕ
+  pub names : List (List ℕ)
+  pub opening : Balances
+  pub board : BoardOf Op
+  pub store : S
+
+-- what it has beside its board
+pub record BesideOf (S : Type 0) : Type 0 where
+  pub id : ℕ
+  pub names : List (List ℕ)
+  pub opening : Balances
+  pub store : S
+
+abbrev pub beside_of : {S : Type 0} → ReplicaOf S → BesideOf S
+beside_of replica =
+    record { id = replica.id; names = replica.names; opening = replica.opening; store = replica.store }
+
+-- the replies that a board holds, by number; of an idle one these are all
+abbrev pub replies_held : BoardOf Op → List Reply
+replies_held board = board.earlier ++ filter_map finished_reply board.states
+
+-- as many customers as names, at the opening and on the board; what was replied before the board has a spelling
+pub record IsReplica {S : Type 0} (replica : ReplicaOf S) : Type 0 where
+  pub opening : length replica.opening.savings ≡ length replica.names
+  pub board : length replica.board.opening.savings ≡ length replica.names
+  pub earlier : All IsReply replica.board.earlier

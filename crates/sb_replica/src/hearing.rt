@@ -1,0 +1,62 @@
+//! Frames from the network.
+ghost use Rattle.std.specs.Prelude.{◌≡◌, MatchResult};
+ghost use Rattle.sb_replica.specs.Hearing as spec;
+ghost use Rattle.sb_replica.specs.Hearing.{Hears, IsFaultOf};
+
+use crate::fault::ReplicaFault;
+use crate::heard::Heard;
+use crate::replica::Replica;
+use sb_calls::resolve;
+use sb_checkpoint::CheckpointStore;
+use sb_frames::{Frame, FrameFault, decode};
+use sb_replica_log::Offered;
+
+// The frame that all of these bytes are.
+fn whole_frame(bytes: &[u8]) -> Result<Frame, FrameFault>
+    ensures { result ≡ spec.whole_frame bytes.now }
+{
+    let (frame, size) = decode(bytes)?;
+    if size == bytes.len() {
+        Ok(frame)
+    } else {
+        Err(FrameFault::BadLength)
+    }
+}
+
+// What the log answers to an entry with this number.
+fn heard_of(number: u64, offered: Offered) -> Heard
+    ensures { result ≡ spec.heard_of number offered }
+{
+    match offered {
+        Offered::Next => Heard::Accepted(number),
+        Offered::Repeat => Heard::Repeat(number),
+        Offered::Gap(length) => Heard::Gap(length),
+        Offered::Busy(length) => Heard::Busy(length),
+    }
+}
+
+impl<S: CheckpointStore> Replica<S> {
+    /// Hears the bytes of one frame. An entry is offered to the log: it is accepted where it is the next one.
+    /// Every other frame is ignored, and nothing but an accepted entry changes anything.
+    ///
+    /// Fails where the bytes are not one whole frame, and where memory is refused for an entry that would be
+    /// accepted.
+    pub fn on_frame(&mut self, bytes: &[u8]) -> Result<Heard, ReplicaFault>
+        ensures outcome { MatchResult result
+            (λ heard. Hears self.old bytes.now heard self.new)
+            (λ fault. IsFaultOf self.old bytes.now fault × (self.new ≡ self.old)) }
+    {
+        let frame = match whole_frame(bytes) {
+            Ok(frame) => frame,
+            Err(fault) => return Err(ReplicaFault::BadFrame(fault)),
+        };
+        let Frame::Entry { number, call } = frame else {
+            return Ok(Heard::Ignored);
+        };
+        let op = resolve(&self.directory, &call);
+        match self.log.offer_entry(number, op) {
+            Ok(offered) => Ok(heard_of(number, offered)),
+            Err(_) => Err(ReplicaFault::OutOfMemory),
+        }
+    }
+}

@@ -1,0 +1,146 @@
+//! A replica, and what it tells.
+ghost use Rattle.std.specs.Prelude.{◌≡◌, ◌≢◌, ◌↔◌, ◌<◌, ◌≤◌, ◌-◌, [], length, IsTrue, IfOk, IfSome, OnErr, Some, MatchOption, MatchResult, option_map};
+ghost use Rattle.sb_rows.specs.Balances.{IsBalances};
+ghost use Rattle.sb_calls.specs.Behaviour.{declared_cowns, effect_of};
+ghost use Rattle.sb_calls.specs.Cowns.{held_of};
+ghost use Rattle.sb_calls.specs.OneByOne.{reply_by_log};
+ghost use Rattle.sb_calls.specs.Replies.{IsReply};
+ghost use Rattle.cown_board.specs.Board.{length_of, open_of, reply_in, IsAfterAll};
+ghost use Rattle.cown_board.specs.Played.{opened_with};
+ghost use Rattle.sb_checkpoint.specs.Stores.{StoreDoes, Got, NotGot};
+ghost use Rattle.sb_frames.specs.declared.frame.Frame.TheVariants as frames;
+
+use cown_board::{Board, Runs};
+use sb_calls::{LOG_CALLS, Reply};
+use sb_checkpoint::{CheckpointStore, How, MemoryStore, StoreFault};
+use sb_frames::Frame;
+use sb_replica_log::ReplicaLog;
+use sb_rows::{Columns, Directory};
+use std::alloc::{AllocError, Global};
+use std::marker::Model;
+
+/// One node of the bank. It takes the log's entries in order, runs them over its board, keeps a checkpoint in its
+/// store, and after a restart is where that checkpoint says.
+#[derive(Drop)]
+pub struct Replica<S: CheckpointStore> {
+    pub(crate) id: u8,
+    pub(crate) alloc: Global,
+    pub(crate) directory: Directory,
+    pub(crate) opening: Columns,
+    pub(crate) log: ReplicaLog,
+    pub(crate) store: S,
+}
+
+impl<S: CheckpointStore> Model for Replica<S> {
+    ghost use Rattle.sb_replica.specs.Replica.{ReplicaOf, IsReplica};
+
+    ghost Value = { ReplicaOf S };
+
+    ghost view = { λ r. record {
+      id = r.id;
+      names = r.directory;
+      opening = r.opening;
+      board = r.log;
+      store = r.store;
+    } };
+
+    ghost invariant = { λ r. IsReplica (record {
+      id = r.id;
+      names = r.directory;
+      opening = r.opening;
+      board = r.log;
+      store = r.store;
+    }) };
+}
+
+impl<S: CheckpointStore> Replica<S> {
+    /// A replica at the opening of a bank, with an empty log. The store isn't touched.
+    pub fn open(
+        alloc: Global,
+        id: u8,
+        directory: Directory,
+        opening: Columns,
+        store: S,
+    ) -> Result<Replica<S>, AllocError>
+        requires { length opening.savings ≡ length directory }
+        ensures { IfOk result (λ replica. replica ≡ record {
+          id = id;
+          names = directory;
+          opening = opening;
+          board = opened_with opening [];
+          store = store;
+        }) }
+    {
+        let board = Board::open(alloc, opening.copy()?, 0, Vec::new(alloc))?;
+        Ok(Replica {
+            id,
+            alloc,
+            directory,
+            opening,
+            log: ReplicaLog::open(board),
+            store,
+        })
+    }
+
+    /// The number of the last entry that was accepted.
+    pub fn length(&self) -> u64
+        ensures value { result ≡ length_of self.now.board }
+        ensures few { length_of self.now.board ≤ LOG_CALLS }
+    {
+        self.log.length()
+    }
+
+    /// The reply to a number: one of the checkpoint that it was restarted from, or that of a finished entry. It is
+    /// the reply of the log run one by one from there on.
+    pub fn reply(&self, number: u64) -> Option<Reply>
+        ensures value { result ≡ reply_in self.now.board number }
+        ensures by_log { IfSome result (λ reply. length self.now.board.earlier < number →
+            reply_by_log declared_cowns effect_of (held_of self.now.board.opening) self.now.board.log
+            (number - length self.now.board.earlier) ≡ Some reply) }
+        ensures valid { IfSome result IsReply }
+    {
+        // Its board was opened on the columns of a bank.
+        prove!(self.log.length() <= LOG_CALLS as u64);
+        self.log.reply(number)
+    }
+
+    /// The columns after all entries, or `None` while one is unfinished. Fails where memory is refused.
+    pub fn columns(&self) -> Result<Option<Columns>, AllocError>
+        ensures value { IfOk result (λ columns. MatchOption columns (open_of self.now.board ≢ 0)
+            (λ all. (open_of self.now.board ≡ 0) × IsAfterAll declared_cowns effect_of self.now.board all)) }
+        ensures bank { IfOk result (λ columns. IfSome columns IsBalances) }
+        ensures err { OnErr result (open_of self.now.board ≡ 0) }
+    {
+        self.log.columns()
+    }
+
+    /// What the store holds, as [`CheckpointStore::get`].
+    pub fn stored(&mut self) -> Result<Option<Vec<u8>>, StoreFault>
+        ensures got { MatchResult result
+            (λ held. StoreDoes S.slot S.IsHonest S.failed S.acts self.old.store
+            (Got (option_map (λ bytes. bytes.items) held)) self.new.store)
+            (λ fault. StoreDoes S.slot S.IsHonest S.failed S.acts self.old.store (NotGot fault) self.new.store) }
+        ensures stays { self.new ≡ record self.old { store = self.new.store } }
+    {
+        self.store.get()
+    }
+
+    /// That it has the log up to its length.
+    pub fn ack_frame(&self) -> Frame
+        ensures { result ≡ frames.Ack self.now.id (length_of self.now.board) }
+    {
+        Frame::Ack {
+            replica: self.id,
+            length: self.length(),
+        }
+    }
+}
+
+impl Replica<MemoryStore> {
+    /// Says how the store's next put ends.
+    pub fn tell(&mut self, how: How)
+        ensures { self.new ≡ record self.old { store = record self.old.store { next = how } } }
+    {
+        self.store.tell(how);
+    }
+}
