@@ -1,0 +1,2 @@
+pub mod Checkpoint
+pub mod Faults
