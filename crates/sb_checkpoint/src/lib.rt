@@ -3,6 +3,8 @@
 
 mod checkpoint;
 mod fault;
+mod writing;
 
 pub use checkpoint::Checkpoint;
 pub use fault::CheckpointFault;
+pub use writing::write_checkpoint;
