@@ -1,3 +1,6 @@
+pub mod Checkpoint
+pub mod Faults
 pub mod MemoryStore
+pub mod Reading
 pub mod StoreFaults
 pub mod Stores

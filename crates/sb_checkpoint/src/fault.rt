@@ -1,0 +1,68 @@
+//! Why bytes are no checkpoint.
+ghost use Rattle.std.specs.Prelude.{◌≡◌};
+ghost use Rattle.sb_checkpoint.specs.Faults.{checkpoint_fault_number};
+ghost use Rattle.sb_checkpoint.specs.declared.fault.CheckpointFault.TheVariants.{OutOfMemory};
+
+use std::alloc::AllocError;
+use thiserror::Error;
+
+/// Why bytes aren't taken as a checkpoint: the first fault in this order. Memory may be refused in the
+/// place of any fault from `OutOfRange` on.
+#[derive(Clone, Copy, Debug, PartialEq, Eq, Error)]
+pub enum CheckpointFault {
+    /// It doesn't begin with the eight bytes of a checkpoint.
+    #[error("bad magic")]
+    BadMagic,
+    /// There are fewer bytes than it states.
+    #[error("short")]
+    Short,
+    /// It is of a bank with another number of customers.
+    #[error("wrong customers")]
+    WrongCustomers,
+    /// A balance is past the limit.
+    #[error("out of range")]
+    OutOfRange,
+    /// Savings are below 0.
+    #[error("negative savings")]
+    NegativeSavings,
+    /// The total isn't that of its balances.
+    #[error("wrong total")]
+    WrongTotal,
+    /// A reply's code is above 7, its total is past the range of two balances, or there is a total where
+    /// none is shown.
+    #[error("bad reply")]
+    BadReply,
+    /// There are more replies than a log has calls, or more bytes than it states.
+    #[error("long")]
+    Long,
+    /// Memory was refused; nothing is kept.
+    #[error("out of memory")]
+    OutOfMemory,
+}
+
+impl From<AllocError> for CheckpointFault {
+    ghost from_gives = { λ _ fault. fault ≡ OutOfMemory };
+
+    fn from(_refused: AllocError) -> CheckpointFault {
+        CheckpointFault::OutOfMemory
+    }
+}
+
+impl CheckpointFault {
+    /// The number of the fault, from 1 to 9 in the order of the variants.
+    pub fn number(&self) -> u8
+        ensures { result ≡ checkpoint_fault_number self.now }
+    {
+        match self {
+            CheckpointFault::BadMagic => 1,
+            CheckpointFault::Short => 2,
+            CheckpointFault::WrongCustomers => 3,
+            CheckpointFault::OutOfRange => 4,
+            CheckpointFault::NegativeSavings => 5,
+            CheckpointFault::WrongTotal => 6,
+            CheckpointFault::BadReply => 7,
+            CheckpointFault::Long => 8,
+            CheckpointFault::OutOfMemory => 9,
+        }
+    }
+}

@@ -1,0 +1,126 @@
+//! A checkpoint as bytes.
+ghost use Rattle.std.specs.Prelude.{◌≡◌, ◌≤◌, ◌+◌, ◌*◌, ◌++◌, IfOk, length, vec_len, vec_capacity};
+ghost use Rattle.std.specs.Int.{w32, w64};
+ghost use Rattle.std.specs.List.{All, flat_map};
+ghost use Rattle.sb_calls.specs.Replies.{IsReply, number_field, amount_field, reply_field};
+ghost use Rattle.sb_checkpoint.specs.Checkpoint.{Spells};
+
+use lane_audit::bank_total;
+use sb_calls::{LOG_CALLS, Reply, WireReply};
+use sb_rows::Columns;
+use std::alloc::{AllocError, Global};
+
+/// The eight bytes that a checkpoint begins with.
+pub(crate) const MAGIC: [u8; 8] = *b"SBCKPT01";
+
+/// How many bytes balances and replies take.
+pub(crate) const AMOUNT: usize = 8;
+
+pub(crate) const REPLY: usize = 9;
+
+/// How many bytes stand before the first balance, and how many a checkpoint of nothing has.
+pub(crate) const HEAD: usize = 20;
+
+pub(crate) const EMPTY: usize = HEAD + AMOUNT;
+
+/// The bytes of a checkpoint, in one allocation of its exact size.
+pub fn write_checkpoint(
+    alloc: Global,
+    columns: &Columns,
+    replies: &[Reply],
+) -> Result<Vec<u8>, AllocError>
+    requires few { length replies.now ≤ LOG_CALLS }
+    requires replies { All IsReply replies.now }
+    ensures { IfOk result (λ bytes.
+      Spells (record { columns = columns.now; replies = replies.now }) bytes.items) }
+{
+    let customers = columns.customers();
+    let size = EMPTY + 2 * AMOUNT * customers + REPLY * replies.len();
+    let mut bytes = Vec::with_capacity(alloc, size)?;
+    put(&mut bytes, &MAGIC);
+    put_length(&mut bytes, replies.len() as u64);
+    put_customers(&mut bytes, customers as u32);
+    put_amounts(&mut bytes, columns.savings());
+    put_amounts(&mut bytes, columns.checking());
+    put_amount(&mut bytes, bank_total(columns));
+    put_replies(&mut bytes, replies);
+    Ok(bytes)
+}
+
+// Puts bytes last, where there is room for them.
+#[inline]
+fn put(out: &mut Vec<u8>, bytes: &[u8])
+    requires { vec_len out.old + length bytes.now ≤ vec_capacity out.old }
+    ensures items { out.new.items ≡ out.old.items ++ bytes.now }
+    ensures len { vec_len out.new ≡ vec_len out.old + length bytes.now }
+    ensures room { vec_capacity out.old ≤ vec_capacity out.new }
+{
+    out.extend_from_slice(bytes).unwrap();
+}
+
+#[inline]
+#[tactic(auto, unfolding(sb_calls::specs::Replies::number_field))]
+fn put_length(out: &mut Vec<u8>, length: u64)
+    requires { vec_len out.old + 8 ≤ vec_capacity out.old }
+    ensures items { out.new.items ≡ out.old.items ++ number_field w64 length }
+    ensures len { vec_len out.new ≡ vec_len out.old + 8 }
+    ensures room { vec_capacity out.old ≤ vec_capacity out.new }
+{
+    put(out, &length.to_be_bytes());
+}
+
+#[inline]
+#[tactic(auto, unfolding(sb_calls::specs::Replies::number_field))]
+fn put_customers(out: &mut Vec<u8>, customers: u32)
+    requires { vec_len out.old + 4 ≤ vec_capacity out.old }
+    ensures items { out.new.items ≡ out.old.items ++ number_field w32 customers }
+    ensures len { vec_len out.new ≡ vec_len out.old + 4 }
+    ensures room { vec_capacity out.old ≤ vec_capacity out.new }
+{
+    put(out, &customers.to_be_bytes());
+}
+
+#[inline]
+#[tactic(auto, unfolding(sb_calls::specs::Replies::number_field))]
+fn put_amount(out: &mut Vec<u8>, amount: i64)
+    requires { vec_len out.old + AMOUNT ≤ vec_capacity out.old }
+    ensures items { out.new.items ≡ out.old.items ++ amount_field amount }
+    ensures len { vec_len out.new ≡ vec_len out.old + AMOUNT }
+    ensures room { vec_capacity out.old ≤ vec_capacity out.new }
+{
+    put(out, &amount.to_be_bytes());
+}
+
+fn put_amounts(out: &mut Vec<u8>, amounts: &[i64])
+    requires { vec_len out.old + AMOUNT * length amounts.now ≤ vec_capacity out.old }
+    ensures items { out.new.items ≡ out.old.items ++ flat_map amount_field amounts.now }
+    ensures len { vec_len out.new ≡ vec_len out.old + AMOUNT * length amounts.now }
+    ensures room { vec_capacity out.old ≤ vec_capacity out.new }
+{
+    for amount in amounts {
+        put_amount(out, *amount);
+    }
+}
+
+#[inline]
+fn put_reply(out: &mut Vec<u8>, reply: Reply)
+    requires room { vec_len out.old + REPLY ≤ vec_capacity out.old }
+    requires valid { IsReply reply }
+    ensures items { out.new.items ≡ out.old.items ++ reply_field reply }
+    ensures len { vec_len out.new ≡ vec_len out.old + REPLY }
+    ensures room { vec_capacity out.old ≤ vec_capacity out.new }
+{
+    let (code, total) = WireReply::new(reply).unwrap().code_and_total();
+    put(out, &[code]);
+    put_amount(out, total);
+}
+
+fn put_replies(out: &mut Vec<u8>, replies: &[Reply])
+    requires room { vec_len out.old + REPLY * length replies.now ≤ vec_capacity out.old }
+    requires valid { All IsReply replies.now }
+    ensures { out.new.items ≡ out.old.items ++ flat_map reply_field replies.now }
+{
+    for reply in replies {
+        put_reply(out, *reply);
+    }
+}
