@@ -4,8 +4,9 @@ use Rattle.std.specs.Int.{w32, w64}
 use Rattle.std.proofs.lemmas.Bool.{eqb-true}
 use Rattle.std.proofs.lemmas.List.{append-nil, nil_from_length}
 use Rattle.std.proofs.lemmas.List.Elements.{All-head}
+use Rattle.sb_calls.specs.Replies.{number_field, reply_field}
 use Rattle.sb_frames.specs.Decoding.{ask_at, entry_at, ack_at, answer_at, outcome_frame_at, of_tag, tagged_at, frame_of}
-use Rattle.sb_frames.specs.Fields.{number_field, call_field, reply_field, outcome_field}
+use Rattle.sb_frames.specs.Fields.{call_field, outcome_field}
 use Rattle.sb_frames.specs.Grammar.{IsFrame, body}
 use Rattle.sb_frames.specs.Reading.{byte_at}
 use Rattle.sb_frames.specs.Streaming.{AreBytes}

@@ -2,11 +2,12 @@
 use Rattle.std.proofs.Common.{◌≡◌, ℕ, ℤ, cond, eqb, List, [], ◌∷◌, ◌++◌, Result, Ok, Err, refl, ◌∙◌}
 use Rattle.sb_amount.specs.Limit.{IsWithinLimit}
 use Rattle.sb_calls.specs.Call.{IsCall}
+use Rattle.sb_calls.specs.Replies.{amount_field}
 use Rattle.sb_calls.specs.declared.call.Call.{Call}
 use Rattle.sb_calls.specs.declared.call.Call.TheVariants.{Balance, DepositChecking, TransactSavings, Amalgamate, WriteCheck}
 use Rattle.sb_rows.specs.Name.{IsName}
 use Rattle.sb_frames.specs.Calls.{one_name_at, name_and_amount_at, two_names_at, of_kind, call_at}
-use Rattle.sb_frames.specs.Fields.{name_field, amount_field, call_field}
+use Rattle.sb_frames.specs.Fields.{name_field, call_field}
 use Rattle.sb_frames.specs.Reading.{byte_at}
 use Rattle.sb_frames.specs.Streaming.{AreBytes}
 use Rattle.sb_frames.specs.declared.fault.FrameFault.{FrameFault}

@@ -8,9 +8,10 @@ use Rattle.std.proofs.lemmas.Bool.Decides.{nat_tests}
 use Rattle.std.proofs.lemmas.Int.{ints}
 use Rattle.sb_amount.specs.Limit.{IsWithinLimit}
 use Rattle.sb_amount.specs.declared.cents.TheConstants.{LIMIT}
+use Rattle.sb_calls.specs.Replies.{amount_field}
 use Rattle.sb_rows.specs.Name.{is_name, IsName, is_name_byte}
 use Rattle.sb_rows.specs.declared.name.TheConstants.{NAME_BYTES}
-use Rattle.sb_frames.specs.Fields.{amount_field, name_field}
+use Rattle.sb_frames.specs.Fields.{name_field}
 use Rattle.sb_frames.specs.Reading.{◌>>=◌, byte_at, bytes_at, signed_at, amount_at, name_at, is_within}
 use Rattle.sb_frames.specs.Streaming.{AreBytes}
 use Rattle.sb_frames.specs.declared.fault.FrameFault.TheVariants.{BadName, BadAmount}

@@ -1,41 +1,42 @@
 -- Replies and outcomes, read and spelled.
-use Rattle.std.proofs.Common.{◌≡◌, ℕ, ℤ, pos, true, cond, eqb, ◌&&◌, List, [], ◌∷◌, ◌++◌, Result, Ok, Err, refl, sym, ap, subst, ◌∙◌, arith}
+use Rattle.std.proofs.Common.{◌≡◌, ℕ, ℤ, pos, true, cond, eqb, ◌&&◌, List, [], ◌∷◌, ◌++◌, Result, Ok, Err, refl, sym, ap, ◌∙◌, arith}
 use Rattle.std.specs.Int.{w64}
 use Rattle.std.specs.Ordering.{int_eq}
 use Rattle.std.specs.Prelude.{FitsSigned}
 use Rattle.std.proofs.lemmas.Bool.{and_parts, eqb-true}
 use Rattle.std.proofs.lemmas.Bool.Decides.{Decides-int_eq}
 use Rattle.std.proofs.lemmas.Int.{ints}
+use Rattle.sb_calls.specs.Replies.{IsReply, amount_field, reply_code, shown_total, reply_field, coded}
 use Rattle.sb_calls.specs.declared.reply.Reply.{Reply}
 use Rattle.sb_calls.specs.declared.reply.Reply.TheVariants.{Shown, Done, Penalised, NoCustomer, SameCustomer, Negative, WouldOverdraw, OverLimit}
-use Rattle.sb_frames.specs.Fields.{amount_field, reply_field, no_reply_field, outcome_field}
+use Rattle.sb_calls.proofs.CodedReplies.{coded_takes, coded_again}
+use Rattle.sb_frames.specs.Fields.{no_reply_field, outcome_field}
 use Rattle.sb_frames.specs.Grammar.{IsOutcome}
-use Rattle.sb_frames.specs.Outcomes.{plain_reply, of_code, reply_at, no_reply_at, replied_at, of_status, outcome_at}
-use Rattle.sb_frames.specs.Reading.{◌>>=◌, byte_at, signed_at, is_within}
-use Rattle.sb_frames.specs.Replies.{IsTotal, IsReply}
+use Rattle.sb_frames.specs.Outcomes.{of_code, reply_at, no_reply_at, replied_at, of_status, outcome_at}
+use Rattle.sb_frames.specs.Reading.{◌>>=◌, byte_at, signed_at}
 use Rattle.sb_frames.specs.Streaming.{AreBytes}
 use Rattle.sb_frames.specs.declared.fault.FrameFault.{FrameFault}
 use Rattle.sb_frames.specs.declared.fault.FrameFault.TheVariants.{BadReply, BadStatus}
 use Rattle.sb_frames.specs.declared.frame.AskOutcome.{AskOutcome}
 use Rattle.sb_frames.specs.declared.frame.AskOutcome.TheVariants.{Replied, Mismatch, LogFull}
-use Rattle.sb_frames.specs.declared.reply.TheConstants.{TOTAL_LIMIT}
 use Rattle.sb_frames.proofs.Numbers.{IsField, signed_takes, signed_again}
 use Rattle.sb_frames.proofs.Rows.{one_takes, one_again, made, parts, Behind, is_behind}
-use Rattle.sb_frames.proofs.Steps.{first_step, accepted, passed, done, same_value, tagged, byte_takes, rest_bytes}
+use Rattle.sb_frames.proofs.Steps.{first_step, accepted, found, done, tagged, byte_takes, rest_bytes}
 
 -- ---- totals
 
-within_total : (total : ℤ) → is_within TOTAL_LIMIT total ≡ true → IsTotal total
-within_total total h = record { at_least = grind (arith, ints); at_most = grind (arith, ints) }
-
-is_within_total : (total : ℤ) → IsTotal total → is_within TOTAL_LIMIT total ≡ true
-is_within_total total h = let low = h.at_least in let high = h.at_most in grind (arith, ints)
-
-total_fits : (total : ℤ) → IsTotal total → FitsSigned w64 total
-total_fits total h = let low = h.at_least in let high = h.at_most in omega (arith, ints)
-
 zero_fits : FitsSigned w64 (pos 0)
 zero_fits = omega (arith, ints)
+
+total_fits : (reply : Reply) → IsReply reply → FitsSigned w64 (shown_total reply)
+total_fits (Shown total) h = let low = h.at_least in let high = h.at_most in omega (arith, ints)
+total_fits Done h = zero_fits
+total_fits Penalised h = zero_fits
+total_fits NoCustomer h = zero_fits
+total_fits SameCustomer h = zero_fits
+total_fits Negative h = zero_fits
+total_fits WouldOverdraw h = zero_fits
+total_fits OverLimit h = zero_fits
 
 zero_again : (rest : List ℕ) → signed_at (amount_field (pos 0) ++ rest) ≡ Ok (pos 0, rest)
 zero_again rest = signed_again (pos 0) rest zero_fits
@@ -45,50 +46,11 @@ zero_is total h = (Decides-int_eq total (pos 0)).0 h
 
 -- ---- replies
 
--- the code and the total spell the reply
-abbrev Coded : ℕ → ℤ → Reply → Type 0
-Coded code total reply = IsReply reply × (code ∷ amount_field total ≡ reply_field reply)
-
-plain_takes_one : (code n : ℕ) (made reply : Reply) → code ≡ n → done made ≡ done reply → IsReply made → reply_field made ≡ n ∷ amount_field (pos 0)
-    → Coded code (pos 0) reply
-plain_takes_one code n made reply is e valid spelled =
-    let same = same_value made reply e in
-    (subst IsReply same valid, ap (λ k. k ∷ amount_field (pos 0)) is ∙ sym spelled ∙ ap reply_field same)
-
-plain_takes : (code : ℕ) (reply : Reply) → plain_reply code ≡ Ok reply → Coded code (pos 0) reply
-plain_takes code reply e =
-    let Goal = Coded code (pos 0) reply in
-    let none : Result Reply FrameFault = Err BadReply in
-    let seven : Result Reply FrameFault = cond (eqb code 7) (Ok OverLimit) none in
-    let six : Result Reply FrameFault = cond (eqb code 6) (Ok WouldOverdraw) seven in
-    let five : Result Reply FrameFault = cond (eqb code 5) (Ok Negative) six in
-    let four : Result Reply FrameFault = cond (eqb code 4) (Ok SameCustomer) five in
-    let three : Result Reply FrameFault = cond (eqb code 3) (Ok NoCustomer) four in
-    let two : Result Reply FrameFault = cond (eqb code 2) (Ok Penalised) three in
-    tagged Goal code 1 (Ok Done) two reply e (λ is f. plain_takes_one code 1 Done reply is f tt refl)
-    (λ e2. tagged Goal code 2 (Ok Penalised) three reply e2 (λ is f. plain_takes_one code 2 Penalised reply is f tt refl)
-    (λ e3. tagged Goal code 3 (Ok NoCustomer) four reply e3 (λ is f. plain_takes_one code 3 NoCustomer reply is f tt refl)
-    (λ e4. tagged Goal code 4 (Ok SameCustomer) five reply e4 (λ is f. plain_takes_one code 4 SameCustomer reply is f tt refl)
-    (λ e5. tagged Goal code 5 (Ok Negative) six reply e5 (λ is f. plain_takes_one code 5 Negative reply is f tt refl)
-    (λ e6. tagged Goal code 6 (Ok WouldOverdraw) seven reply e6 (λ is f. plain_takes_one code 6 WouldOverdraw reply is f tt refl)
-    (λ e7. tagged Goal code 7 (Ok OverLimit) none reply e7 (λ is f. plain_takes_one code 7 OverLimit reply is f tt refl)
-    (λ last. absurd cc)))))))
-
-shown_takes : (code : ℕ) (total : ℤ) (reply : Reply) → code ≡ 0 → cond (is_within TOTAL_LIMIT total) (done (Shown total)) (Err BadReply) ≡ Ok reply
-    → Coded code total reply
-shown_takes code total reply is e =
-    let test = accepted (is_within TOTAL_LIMIT total) BadReply (Shown total) reply e in
-    (subst IsReply test.1 (within_total total test.0), ap (λ k. k ∷ amount_field total) is ∙ ap reply_field test.1)
-
-code_takes : (code : ℕ) (total : ℤ) (reply : Reply) → of_code code total ≡ Ok reply → Coded code total reply
-unfolding of_code
+-- a code and a total that are read as a reply spell it
+code_takes : (code : ℕ) (total : ℤ) (reply : Reply) → of_code code total ≡ Ok reply → IsReply reply × (code ∷ amount_field total ≡ reply_field reply)
 code_takes code total reply e =
-    let shown : Result Reply FrameFault = cond (is_within TOTAL_LIMIT total) (Ok (Shown total)) (Err BadReply) in
-    let plain : Result Reply FrameFault = cond (int_eq total (pos 0)) (plain_reply code) (Err BadReply) in
-    tagged (Coded code total reply) code 0 shown plain reply e (shown_takes code total reply)
-    (λ others.
-    let test = passed (int_eq total (pos 0)) BadReply (plain_reply code) reply others in
-    subst (λ t. Coded code t reply) (sym (zero_is total test.0)) (plain_takes code reply test.1))
+    let is = coded_takes code total reply (found (coded code total) BadReply reply e) in
+    (is.valid, ap (λ k. k ∷ amount_field total) is.code_is ∙ ap (λ t. reply_code reply ∷ amount_field t) is.total_is)
 
 -- the code and the total that something is made of
 nine_take : {A : Type 0} (next : ℕ → ℤ → List ℕ → Result A FrameFault) (bytes : List ℕ) (last : A) → AreBytes bytes
@@ -110,19 +72,12 @@ reply_takes bytes reply rest are e =
     let left = nine.2 in
     let step = first_step (of_code nine.0 total) (λ r. made r left) (reply, rest) nine.4 in
     let both = parts step.0 reply left rest step.2 in
-    let coded = subst (λ r. Coded nine.0 total r) (sym both.0) (code_takes nine.0 total step.0 step.1) in
-    (coded.0, nine.3 ∙ ap (λ (xs : List ℕ). xs ++ left) coded.1 ∙ ap (λ (xs : List ℕ). reply_field reply ++ xs) both.1)
+    let spelled = code_takes nine.0 total reply (step.1 ∙ ap done (sym both.0)) in
+    (spelled.0, nine.3 ∙ ap (λ (xs : List ℕ). xs ++ left) spelled.1 ∙ ap (λ (xs : List ℕ). reply_field reply ++ xs) both.1)
 
 reply_again : (reply : Reply) (rest : List ℕ) → IsReply reply → reply_at (reply_field reply ++ rest) ≡ Ok (reply, rest)
-unfolding reply_at of_code
-reply_again (Shown total) rest h = rw (signed_again total rest (total_fits total h), is_within_total total h) refl
-reply_again Done rest h = rw (zero_again rest) refl
-reply_again Penalised rest h = rw (zero_again rest) refl
-reply_again NoCustomer rest h = rw (zero_again rest) refl
-reply_again SameCustomer rest h = rw (zero_again rest) refl
-reply_again Negative rest h = rw (zero_again rest) refl
-reply_again WouldOverdraw rest h = rw (zero_again rest) refl
-reply_again OverLimit rest h = rw (zero_again rest) refl
+unfolding reply_at
+reply_again reply rest h = rw (signed_again (shown_total reply) rest (total_fits reply h), coded_again reply h) refl
 
 pub reply : IsField IsReply reply_field reply_at
 reply = record { takes = reply_takes; again = reply_again }

@@ -3,12 +3,12 @@ use Rattle.std.proofs.Common.{◌≡◌, ℕ, ◌≤◌, ℤ, pos, List, ◌∷�
 use Rattle.std.specs.Int.{w32, w64, cast_unsigned}
 use Rattle.std.proofs.lemmas.List.{length-append}
 use Rattle.sb_calls.specs.Call.{IsCall}
+use Rattle.sb_calls.specs.Replies.{number_field, amount_field, reply_code, shown_total, reply_field}
 use Rattle.sb_calls.specs.declared.call.Call.{Call}
 use Rattle.sb_calls.specs.declared.call.Call.TheVariants.{Balance, DepositChecking, TransactSavings, Amalgamate, WriteCheck}
 use Rattle.sb_calls.specs.declared.reply.Reply.{Reply}
-use Rattle.sb_calls.specs.declared.reply.Reply.TheVariants.{Shown, Done, Penalised, NoCustomer, SameCustomer, Negative, WouldOverdraw, OverLimit}
 use Rattle.sb_rows.specs.Name.{IsName}
-use Rattle.sb_frames.specs.Fields.{number_field, amount_field, name_field, call_field, reply_field, outcome_field}
+use Rattle.sb_frames.specs.Fields.{name_field, call_field, outcome_field}
 use Rattle.sb_frames.specs.Grammar.{IsFrame, body}
 use Rattle.sb_frames.specs.declared.frame.AskOutcome.{AskOutcome}
 use Rattle.sb_frames.specs.declared.frame.AskOutcome.TheVariants.{Replied, Mismatch, LogFull}
@@ -45,19 +45,12 @@ coded_size : (code : ℕ) (cents : ℤ) → length (code ∷ amount_field cents)
 coded_size code cents = omega (arith, number_size64 (cast_unsigned w64 cents))
 
 reply_size : (reply : Reply) → length (reply_field reply) ≡ 9
-reply_size (Shown total) = coded_size 0 total
-reply_size Done = coded_size 1 (pos 0)
-reply_size Penalised = coded_size 2 (pos 0)
-reply_size NoCustomer = coded_size 3 (pos 0)
-reply_size SameCustomer = coded_size 4 (pos 0)
-reply_size Negative = coded_size 5 (pos 0)
-reply_size WouldOverdraw = coded_size 6 (pos 0)
-reply_size OverLimit = coded_size 7 (pos 0)
+reply_size reply = coded_size (reply_code reply) (shown_total reply)
 
 outcome_size : (outcome : AskOutcome) → length (outcome_field outcome) ≡ 10
 outcome_size (Replied reply) = omega (arith, reply_size reply)
-outcome_size Mismatch = omega (arith, reply_size Done)
-outcome_size LogFull = omega (arith, reply_size Done)
+outcome_size Mismatch = omega (arith, coded_size 0 (pos 0))
+outcome_size LogFull = omega (arith, coded_size 0 (pos 0))
 
 -- a body has a tag, and isn't too long
 pub body_size : (frame : Frame) → IsFrame frame → (1 ≤ length (body frame)) × (length (body frame) ≤ MAX_BODY)

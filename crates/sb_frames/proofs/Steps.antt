@@ -1,5 +1,6 @@
 -- The steps of a reading: what each answered, where the whole answered a value.
-use Rattle.std.proofs.Common.{◌≡◌, ℕ, ◌<◌, Bool, true, false, cond, eqb, List, [], ◌∷◌, ◌++◌, length, drop, Result, Ok, Err, refl, ap, subst, ◌∙◌}
+use Rattle.std.proofs.Common.{◌≡◌, ℕ, ◌<◌, Bool, true, false, cond, eqb, List, [], ◌∷◌, ◌++◌, length, drop, Option, Some, None, Result, Ok, Err, refl, ap, subst, ◌∙◌}
+use Rattle.std.specs.Option.{ok_or}
 use Rattle.std.proofs.lemmas.Bool.{eqb-true}
 use Rattle.std.proofs.lemmas.List.{drop_at}
 use Rattle.std.proofs.lemmas.List.Elements.{All-drop}
@@ -24,11 +25,10 @@ pub accepted : {A : Type 0} (test : Bool) (fault : FrameFault) (value last : A) 
 accepted true fault value last e = (refl, cc)
 accepted false fault value last e = absurd cc
 
--- a test that had to hold before the others
-pub passed : {A : Type 0} (test : Bool) (fault : FrameFault) (others : Result A FrameFault) (last : A) → cond test others (Err fault) ≡ Ok last
-    → (test ≡ true) × (others ≡ Ok last)
-passed true fault others last e = (refl, e)
-passed false fault others last e = absurd cc
+-- a value that had to be found
+pub found : {A : Type 0} (value : Option A) (fault : FrameFault) (last : A) → ok_or value fault ≡ Ok last → value ≡ Some last
+found (Some value) fault last e = cc
+found None fault last e = absurd cc
 
 abbrev pub done : {A : Type 0} → A → Result A FrameFault
 done value = Ok value

@@ -2,8 +2,8 @@
 use Rattle.std.specs.Prelude.{◌≡◌, ℕ, ◌<◌, ◌^◌, List, [], ◌∷◌, ◌++◌, length}
 use Rattle.std.specs.Int.{w16, w32, w64, to_be_bytes}
 use Rattle.sb_calls.specs.Call.{IsCall}
-use Rattle.sb_frames.specs.Fields.{number_field, call_field, reply_field, outcome_field}
-use Rattle.sb_frames.specs.Replies.{IsReply}
+use Rattle.sb_calls.specs.Replies.{IsReply, number_field, reply_field}
+use Rattle.sb_frames.specs.Fields.{call_field, outcome_field}
 use Rattle.sb_frames.specs.declared.frame.AskOutcome.{AskOutcome}
 use Rattle.sb_frames.specs.declared.frame.AskOutcome.TheVariants.{Replied, Mismatch, LogFull}
 use Rattle.sb_frames.specs.declared.frame.Frame.{Frame}

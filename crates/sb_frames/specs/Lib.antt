@@ -5,5 +5,4 @@ pub mod Fields
 pub mod Grammar
 pub mod Outcomes
 pub mod Reading
-pub mod Replies
 pub mod Streaming

@@ -1,33 +1,18 @@
 -- Replies, and how an ask ended, read from the left.
 use Rattle.std.specs.Prelude.{ℕ, ℤ, pos, ◌==◌, ◌&&◌, if◌then◌else◌, Result, Ok, Err, List}
+use Rattle.std.specs.Option.{ok_or}
 use Rattle.std.specs.Ordering.{int_eq}
+use Rattle.sb_calls.specs.Replies.{coded}
 use Rattle.sb_calls.specs.declared.reply.Reply.{Reply}
-use Rattle.sb_calls.specs.declared.reply.Reply.TheVariants.{Shown, Done, Penalised, NoCustomer, SameCustomer, Negative, WouldOverdraw, OverLimit}
-use Rattle.sb_frames.specs.Reading.{◌>>=◌, byte_at, signed_at, is_within}
+use Rattle.sb_frames.specs.Reading.{◌>>=◌, byte_at, signed_at}
 use Rattle.sb_frames.specs.declared.fault.FrameFault.{FrameFault}
 use Rattle.sb_frames.specs.declared.fault.FrameFault.TheVariants.{BadReply, BadStatus}
 use Rattle.sb_frames.specs.declared.frame.AskOutcome.{AskOutcome}
 use Rattle.sb_frames.specs.declared.frame.AskOutcome.TheVariants.{Replied, Mismatch, LogFull}
-use Rattle.sb_frames.specs.declared.reply.TheConstants.{TOTAL_LIMIT}
 
--- the replies that show no total, by their codes
-abbrev pub plain_reply : ℕ → Result Reply FrameFault
-plain_reply code =
-    if code == 1 then Ok Done
-    else if code == 2 then Ok Penalised
-    else if code == 3 then Ok NoCustomer
-    else if code == 4 then Ok SameCustomer
-    else if code == 5 then Ok Negative
-    else if code == 6 then Ok WouldOverdraw
-    else if code == 7 then Ok OverLimit
-    else Err BadReply
-
--- code 0 shows a total in its range, every other code has zero there
-unfoldable pub of_code : ℕ → ℤ → Result Reply FrameFault
-of_code code total =
-    if code == 0 then (if is_within TOTAL_LIMIT total then Ok (Shown total) else Err BadReply)
-    else if int_eq total (pos 0) then plain_reply code
-    else Err BadReply
+-- the reply that a code and a total are read as
+abbrev pub of_code : ℕ → ℤ → Result Reply FrameFault
+of_code code total = ok_or (coded code total) BadReply
 
 -- a reply is one field of nine bytes, and none of it is looked at before they are all there
 unfoldable pub reply_at : List ℕ → Result (Reply × List ℕ) FrameFault

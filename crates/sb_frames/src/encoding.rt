@@ -9,7 +9,7 @@ use crate::writing::{Body, put, put_call, put_outcome, put_reply};
 use arrayvec::ArrayVec;
 
 // The tag and the fields.
-#[tactic(auto, unfolding(crate::specs::Fields::number_field))]
+#[tactic(auto, unfolding(sb_calls::specs::Replies::number_field))]
 fn body_of(frame: &Frame) -> Body
     ensures spelled { result.items ≡ grammar.body frame.now }
     ensures valid { IsFrame frame.now }

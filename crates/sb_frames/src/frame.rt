@@ -1,7 +1,6 @@
 //! The frames of the wire.
 
-use crate::reply::WireReply;
-use sb_calls::Call;
+use sb_calls::{Call, WireReply};
 
 /// The greatest length that a frame may state for its body, in bytes.
 pub const MAX_BODY: usize = 64;

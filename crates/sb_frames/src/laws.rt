@@ -1,18 +1,16 @@
 //! What the grammar and the stream are.
-ghost use Rattle.std.specs.Prelude.{◌≡◌, ℕ, pos, List, ◌++◌, Ok, length};
+ghost use Rattle.std.specs.Prelude.{◌≡◌, ℕ, List, ◌++◌, Ok, length};
 ghost use Rattle.sb_frames.specs.Decoding.{decoded};
 ghost use Rattle.sb_frames.specs.Grammar.{Spells};
 ghost use Rattle.sb_frames.specs.Streaming.{FramesOfBytes};
 ghost use Rattle.sb_frames.specs.declared.frame.Frame.{Frame as AnyFrame};
 
 use crate::frame::{MAX_BODY, MAX_FRAME};
-use crate::reply::TOTAL_LIMIT;
 
 /// The limits, as numbers.
 pub fn limits()
     ensures body { MAX_BODY ≡ 64 }
     ensures frame { MAX_FRAME ≡ 66 }
-    ensures total { TOTAL_LIMIT ≡ pos 2000000000000 }
 {}
 
 /// No spelling begins another, and each is of one frame: bytes that begin with a spelling begin with no

@@ -9,7 +9,6 @@ mod fields;
 mod frame;
 mod laws;
 mod outcome;
-mod reply;
 mod stream;
 #[cfg(test)]
 mod tests;
@@ -20,5 +19,4 @@ pub use encoding::encode;
 pub use fault::{FrameFault, StreamFault};
 pub use frame::{AskOutcome, Frame, MAX_BODY, MAX_FRAME};
 pub use laws::{frames_of_bytes, limits, one_spelling, spelled_is_decoded};
-pub use reply::{TOTAL_LIMIT, WireReply};
 pub use stream::Stream;

@@ -1,6 +1,6 @@
 use super::*;
 use sb_amount::Cents;
-use sb_calls::{Call, Reply};
+use sb_calls::{Call, Reply, WireReply};
 use sb_rows::Name;
 use std::alloc::Global;
 use std::process::Abort;

@@ -2,18 +2,17 @@
 ghost use Rattle.std.specs.Prelude.{◌≡◌, ◌+◌, ◌≤◌, ◌∷◌, ◌++◌, length};
 ghost use Rattle.sb_amount.specs.Limit.{IsWithinLimit};
 ghost use Rattle.sb_calls.specs.Call.{IsCall};
+ghost use Rattle.sb_calls.specs.Replies.{IsReply, amount_field, reply_field};
 ghost use Rattle.sb_rows.specs.Name.{IsName};
-ghost use Rattle.sb_frames.specs.Fields.{name_field, amount_field, call_field, reply_field, no_reply_field, outcome_field};
+ghost use Rattle.sb_frames.specs.Fields.{name_field, call_field, no_reply_field, outcome_field};
 ghost use Rattle.sb_frames.specs.Grammar.{IsOutcome};
-ghost use Rattle.sb_frames.specs.Replies.{IsReply};
 
 use crate::call::{AMALGAMATE, BALANCE, DEPOSIT_CHECKING, TRANSACT_SAVINGS, WRITE_CHECK};
 use crate::frame::{AskOutcome, MAX_BODY};
-use crate::outcome::{LOG_FULL, MISMATCH, REPLIED, code_and_total};
-use crate::reply::WireReply;
+use crate::outcome::{LOG_FULL, MISMATCH, REPLIED};
 use arrayvec::ArrayVec;
 use sb_amount::Cents;
-use sb_calls::Call;
+use sb_calls::{Call, WireReply};
 use sb_rows::{NAME_BYTES, Name};
 
 /// A frame's tag and fields.
@@ -53,7 +52,7 @@ fn put_name(body: &mut Body, name: &Name)
     put(body, text);
 }
 
-#[tactic(auto, unfolding(crate::specs::Fields::number_field))]
+#[tactic(auto, unfolding(sb_calls::specs::Replies::number_field))]
 fn put_cents(body: &mut Body, cents: i64)
     requires { length body.old.items + AMOUNT_FIELD ≤ MAX_BODY }
     ensures { body.new.items ≡ body.old.items ++ amount_field cents }
@@ -105,7 +104,7 @@ pub(crate) fn put_reply(body: &mut Body, reply: WireReply)
     ensures spelled { body.new.items ≡ body.old.items ++ reply_field reply }
     ensures valid { IsReply reply }
 {
-    let (code, total) = code_and_total(reply.reply());
+    let (code, total) = reply.code_and_total();
     put(body, &[code]);
     put_cents(body, total);
 }
