@@ -1,1 +1,2 @@
 pub mod HeldReplies
+pub mod IdleReplies

@@ -1,8 +1,15 @@
 -- The numbers of a replica's faults.
 use Rattle.std.specs.Prelude.{ℕ}
+use Rattle.sb_replica.specs.declared.fault.MarkFault.{MarkFault}
+use Rattle.sb_replica.specs.declared.fault.MarkFault.TheVariants as mark
 use Rattle.sb_replica.specs.declared.fault.ReplicaFault.{ReplicaFault}
 use Rattle.sb_replica.specs.declared.fault.ReplicaFault.TheVariants as replica
 
 abbrev pub replica_fault_number : ReplicaFault → ℕ
 replica_fault_number (replica.BadFrame fault) = 1
 replica_fault_number replica.OutOfMemory = 2
+
+abbrev pub mark_fault_number : MarkFault → ℕ
+mark_fault_number mark.Busy = 1
+mark_fault_number mark.Device = 2
+mark_fault_number mark.OutOfMemory = 3

@@ -1,6 +1,6 @@
 //! Why a replica didn't do what it was asked.
 ghost use Rattle.std.specs.Prelude.{◌≡◌};
-ghost use Rattle.sb_replica.specs.Faults.{replica_fault_number};
+ghost use Rattle.sb_replica.specs.Faults.{replica_fault_number, mark_fault_number};
 
 use sb_frames::FrameFault;
 use thiserror::Error;
@@ -24,6 +24,33 @@ impl ReplicaFault {
         match self {
             ReplicaFault::BadFrame(_) => 1,
             ReplicaFault::OutOfMemory => 2,
+        }
+    }
+}
+
+/// Why no checkpoint was written. The rows, the log and the replies are as they were.
+#[derive(Clone, Copy, Debug, PartialEq, Eq, Error, Drop)]
+pub enum MarkFault {
+    /// Something is unfinished. The store wasn't touched.
+    #[error("busy")]
+    Busy,
+    /// The store's device failed: it holds wholly the old or wholly the new checkpoint.
+    #[error("device fault")]
+    Device,
+    /// Memory was refused. The store holds the old checkpoint.
+    #[error("out of memory")]
+    OutOfMemory,
+}
+
+impl MarkFault {
+    /// The number of the fault, from 1 to 3 in the order of the variants.
+    pub fn number(&self) -> u8
+        ensures { result ≡ mark_fault_number self.now }
+    {
+        match self {
+            MarkFault::Busy => 1,
+            MarkFault::Device => 2,
+            MarkFault::OutOfMemory => 3,
         }
     }
 }

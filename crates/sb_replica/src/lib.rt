@@ -4,9 +4,10 @@
 mod fault;
 mod heard;
 mod hearing;
+mod marking;
 mod replica;
 mod running;
 
-pub use fault::ReplicaFault;
+pub use fault::{MarkFault, ReplicaFault};
 pub use heard::Heard;
 pub use replica::Replica;

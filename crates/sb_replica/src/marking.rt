@@ -1,0 +1,66 @@
+//! Writing a checkpoint.
+ghost use Rattle.std.specs.Prelude.{◌≡◌, ◌≢◌, ◌↔◌, ◌≤◌, Ok, Err, IfOk, IfErr, IsErrOf, MatchResult, length};
+ghost use Rattle.std.specs.List.{All};
+ghost use Rattle.sb_calls.specs.Replies.{IsReply};
+ghost use Rattle.cown_board.specs.Board.{length_of, open_of};
+ghost use Rattle.sb_checkpoint.specs.Stores.{StoreDoes};
+ghost use Rattle.sb_checkpoint.specs.declared.store.StoreFault.{StoreFault as AnyFault};
+ghost use Rattle.sb_replica.specs.Marking.{IsMarkFaultOf, Puts};
+ghost use Rattle.sb_replica.specs.Replica.{replies_held};
+
+use crate::fault::MarkFault;
+use crate::replica::Replica;
+use cown_board::Runs;
+use sb_calls::{LOG_CALLS, Reply};
+use sb_checkpoint::{CheckpointStore, StoreFault, write_checkpoint};
+use std::alloc::AllocError;
+
+impl<S: CheckpointStore> Replica<S> {
+    /// Puts a checkpoint of the log so far into the store, and answers its length. Nothing but the store changes.
+    ///
+    /// Fails with [`MarkFault::Busy`] exactly where something is unfinished, and with [`MarkFault::Device`] only
+    /// where the store does.
+    pub fn mark(&mut self) -> Result<u64, MarkFault>
+        ensures busy { IsErrOf result MarkFault.Busy ↔ (open_of self.old.board ≢ 0) }
+        ensures ok { IfOk result (λ size. (size ≡ length_of self.old.board)
+            × Puts (StoreDoes S.slot S.IsHonest S.failed S.acts) self.old (Ok tt) self.new) }
+        ensures err { IfErr result (λ fault.
+            IsMarkFaultOf (StoreDoes S.slot S.IsHonest S.failed S.acts) self.old fault self.new) }
+    {
+        let Some(columns) = self.log.settled_columns() else {
+            return Err(MarkFault::Busy);
+        };
+        let bytes = match self.replies() {
+            Ok(replies) => write_checkpoint(self.alloc, columns, &replies),
+            Err(refused) => Err(refused),
+        };
+        let Ok(bytes) = bytes else {
+            return Err(MarkFault::OutOfMemory);
+        };
+        match self.store.put(&bytes) {
+            Ok(()) => Ok(self.length()),
+            Err(StoreFault::Device) => Err(MarkFault::Device),
+            Err(StoreFault::OutOfMemory) => Err(MarkFault::OutOfMemory),
+        }
+    }
+
+    // The replies to all numbers, where none is unfinished.
+    fn replies(&self) -> Result<Vec<Reply>, AllocError>
+        requires { open_of self.now.board ≡ 0 }
+        ensures value { IfOk result (λ replies. replies.items ≡ replies_held self.now.board) }
+        ensures valid { IfOk result (λ replies. All IsReply replies.items) }
+        ensures few { IfOk result (λ replies. length replies.items ≤ LOG_CALLS) }
+    {
+        // Each entry is finished.
+        prove!(self.log.idle());
+        let length = self.length();
+        let mut replies = Vec::with_capacity(self.alloc, length as usize)?;
+        for place in 0..length {
+            let Some(reply) = self.reply(place + 1) else {
+                unreachable!();
+            };
+            replies.push(reply)?;
+        }
+        Ok(replies)
+    }
+}
