@@ -4,6 +4,8 @@ use Rattle.sb_replica.specs.declared.fault.MarkFault.{MarkFault}
 use Rattle.sb_replica.specs.declared.fault.MarkFault.TheVariants as mark
 use Rattle.sb_replica.specs.declared.fault.ReplicaFault.{ReplicaFault}
 use Rattle.sb_replica.specs.declared.fault.ReplicaFault.TheVariants as replica
+use Rattle.sb_replica.specs.declared.fault.RestartFault.{RestartFault}
+use Rattle.sb_replica.specs.declared.fault.RestartFault.TheVariants as restart
 
 abbrev pub replica_fault_number : ReplicaFault → ℕ
 replica_fault_number (replica.BadFrame fault) = 1
@@ -13,3 +15,8 @@ abbrev pub mark_fault_number : MarkFault → ℕ
 mark_fault_number mark.Busy = 1
 mark_fault_number mark.Device = 2
 mark_fault_number mark.OutOfMemory = 3
+
+abbrev pub restart_fault_number : RestartFault → ℕ
+restart_fault_number restart.Device = 1
+restart_fault_number (restart.BadCheckpoint fault) = 2
+restart_fault_number restart.OutOfMemory = 3

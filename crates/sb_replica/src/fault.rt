@@ -1,8 +1,12 @@
 //! Why a replica didn't do what it was asked.
 ghost use Rattle.std.specs.Prelude.{◌≡◌};
-ghost use Rattle.sb_replica.specs.Faults.{replica_fault_number, mark_fault_number};
+ghost use Rattle.sb_replica.specs.Faults.{replica_fault_number, mark_fault_number, restart_fault_number};
+ghost use Rattle.sb_replica.specs.Restarting.{of_store_fault, of_checkpoint_fault};
+ghost use Rattle.sb_replica.specs.declared.fault.RestartFault.TheVariants as restart;
 
+use sb_checkpoint::{CheckpointFault, StoreFault};
 use sb_frames::FrameFault;
+use std::alloc::AllocError;
 use thiserror::Error;
 
 /// Why bytes weren't heard. The replica is as it was.
@@ -51,6 +55,63 @@ impl MarkFault {
             MarkFault::Busy => 1,
             MarkFault::Device => 2,
             MarkFault::OutOfMemory => 3,
+        }
+    }
+}
+
+/// Why a replica wasn't restarted. It is as it was.
+#[derive(Clone, Copy, Debug, PartialEq, Eq, Error, Drop)]
+pub enum RestartFault {
+    /// The store's device failed.
+    #[error("device fault")]
+    Device,
+    /// The store's bytes are no checkpoint of this bank.
+    #[error("bad checkpoint: {0}")]
+    BadCheckpoint(CheckpointFault),
+    /// Memory was refused.
+    #[error("out of memory")]
+    OutOfMemory,
+}
+
+impl RestartFault {
+    /// The number of the fault, from 1 to 3 in the order of the variants.
+    pub fn number(&self) -> u8
+        ensures { result ≡ restart_fault_number self.now }
+    {
+        match self {
+            RestartFault::Device => 1,
+            RestartFault::BadCheckpoint(_) => 2,
+            RestartFault::OutOfMemory => 3,
+        }
+    }
+}
+
+impl From<AllocError> for RestartFault {
+    ghost from_gives = { λ _ fault. fault ≡ restart.OutOfMemory };
+
+    fn from(_: AllocError) -> RestartFault {
+        RestartFault::OutOfMemory
+    }
+}
+
+impl From<StoreFault> for RestartFault {
+    ghost from_gives = { λ fault answer. answer ≡ of_store_fault fault };
+
+    fn from(fault: StoreFault) -> RestartFault {
+        match fault {
+            StoreFault::Device => RestartFault::Device,
+            StoreFault::OutOfMemory => RestartFault::OutOfMemory,
+        }
+    }
+}
+
+impl From<CheckpointFault> for RestartFault {
+    ghost from_gives = { λ fault answer. answer ≡ of_checkpoint_fault fault };
+
+    fn from(fault: CheckpointFault) -> RestartFault {
+        match fault {
+            CheckpointFault::OutOfMemory => RestartFault::OutOfMemory,
+            _ => RestartFault::BadCheckpoint(fault),
         }
     }
 }

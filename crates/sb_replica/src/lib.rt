@@ -6,8 +6,11 @@ mod heard;
 mod hearing;
 mod marking;
 mod replica;
+// mod restarting;
 mod running;
+#[cfg(test)]
+mod tests;
 
-pub use fault::{MarkFault, ReplicaFault};
+pub use fault::{MarkFault, ReplicaFault, RestartFault};
 pub use heard::Heard;
 pub use replica::Replica;

@@ -11,7 +11,7 @@ ghost use Rattle.sb_checkpoint.specs.Stores.{StoreDoes, Got, NotGot};
 ghost use Rattle.sb_frames.specs.declared.frame.Frame.TheVariants as frames;
 
 use cown_board::{Board, Runs};
-use sb_calls::{LOG_CALLS, Reply};
+use sb_calls::{LOG_CALLS, Reply, WireReply};
 use sb_checkpoint::{CheckpointStore, How, MemoryStore, StoreFault};
 use sb_frames::Frame;
 use sb_replica_log::ReplicaLog;
@@ -133,6 +133,16 @@ impl<S: CheckpointStore> Replica<S> {
             replica: self.id,
             length: self.length(),
         }
+    }
+
+    /// Its reply to a number, or `None` where it holds none.
+    pub fn answer_frame(&self, number: u64) -> Option<Frame>
+        ensures { result ≡ option_map (frames.Answer number) (reply_in self.now.board number) }
+    {
+        let reply = self.reply(number)?;
+        // Each reply that is held has a spelling.
+        let reply = WireReply::new(reply).unwrap();
+        Some(Frame::Answer { number, reply })
     }
 }
 

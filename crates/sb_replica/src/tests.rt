@@ -1,0 +1,95 @@
+use super::*;
+use cown_board::{Done, Job, Runs};
+use sb_calls::{Op, Reply, read_call};
+use sb_checkpoint::{CheckpointStore, How, MemoryStore};
+use sb_frames::{Frame, encode};
+use sb_rows::read_opening;
+use std::alloc::Global;
+use std::process::Abort;
+use std::test::Fail;
+
+// mod faults;
+mod frames;
+mod marks;
+// mod restarts;
+
+const OPENING: &str = "alice 100.00 50.00\nbob 0.00 20.00\ncarol 10.00 0.00\nbegin\n";
+
+// Replica 1 of the three, over a store in memory.
+fn open(alloc: Global) -> Result<Replica<MemoryStore>, Fail> {
+    open_over(alloc, MemoryStore::new(alloc))
+}
+
+fn open_over(alloc: Global, store: MemoryStore) -> Result<Replica<MemoryStore>, Fail> {
+    let opening = read_opening(alloc, OPENING.as_bytes())?;
+    let replica = Replica::open(alloc, 1, opening.directory, opening.columns, store)?;
+    Ok(replica)
+}
+
+// The frame of an entry with this call is answered so.
+fn hears(
+    rt: &impl Abort,
+    replica: &mut Replica<MemoryStore>,
+    number: u64,
+    line: &str,
+    heard: Heard,
+) -> Result<(), Fail> {
+    let call = read_call(line.as_bytes())?;
+    let bytes = encode(&Frame::Entry { number, call });
+    assert!(rt; replica.on_frame(&bytes) == Ok(heard), "{number} {line}");
+    Ok(())
+}
+
+// The next entry is accepted.
+fn accepts(
+    rt: &impl Abort,
+    replica: &mut Replica<MemoryStore>,
+    number: u64,
+    line: &str,
+) -> Result<(), Fail> {
+    hears(rt, replica, number, line, Heard::Accepted(number))?;
+    assert!(rt; replica.length() == number);
+    Ok(())
+}
+
+// The first that is ready has this number.
+fn takes(
+    rt: &impl Abort,
+    replica: &mut Replica<MemoryStore>,
+    number: u64,
+) -> Result<Job<Op>, Fail> {
+    let job = replica.take_at(0).ok_or("none is ready")?;
+    assert!(rt; job.number() == number);
+    Ok(job)
+}
+
+fn finishes(rt: &impl Abort, replica: &mut Replica<MemoryStore>, done: Done<Op>, reply: Reply) {
+    let number = done.number();
+    assert!(rt; replica.finish(done).ok() == Some(reply), "{number}");
+    assert!(rt; replica.reply(number) == Some(reply), "{number}");
+}
+
+// The first that is ready is run and finished.
+fn runs(
+    rt: &impl Abort,
+    replica: &mut Replica<MemoryStore>,
+    number: u64,
+    reply: Reply,
+) -> Result<(), Fail> {
+    let job = takes(rt, replica, number)?;
+    finishes(rt, replica, job.run(), reply);
+    Ok(())
+}
+
+// Nothing is unfinished, and these are the checking balances of the three.
+fn ends_with(
+    rt: &impl Abort,
+    replica: &Replica<MemoryStore>,
+    length: u64,
+    checking: [i64; 3],
+) -> Result<(), Fail> {
+    assert!(rt; replica.length() == length);
+    let columns = replica.columns()?.ok_or("no columns")?;
+    assert!(rt; columns.checking() == checking.as_slice());
+    Ok(())
+}
