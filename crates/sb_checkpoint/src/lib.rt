@@ -3,8 +3,10 @@
 
 mod checkpoint;
 mod fault;
+mod reading;
 mod writing;
 
 pub use checkpoint::Checkpoint;
 pub use fault::CheckpointFault;
+pub use reading::read_checkpoint;
 pub use writing::write_checkpoint;
