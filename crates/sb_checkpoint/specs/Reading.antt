@@ -53,12 +53,15 @@ stated_size bytes = 28 + 16 * stated_customers bytes + 9 * stated_length bytes
 
 -- ---- the faults
 
-abbrev pub is_reply : Option Reply → Bool
-is_reply None = false
-is_reply (Some reply) = true
+abbrev pub is_no_reply : Option Reply → Bool
+is_no_reply None = true
+is_no_reply (Some reply) = false
 
 abbrev pub is_past_limit : ℤ → Bool
 is_past_limit = is_outside (neg_ℤ LIMIT) LIMIT
+
+abbrev pub is_negative : ℤ → Bool
+is_negative amount = int_lt amount (pos 0)
 
 -- it begins otherwise, ends early, or is of another bank
 unfoldable pub head_fault : List ℕ → ℕ → Option CheckpointFault
@@ -74,14 +77,14 @@ balances_fault bytes =
     let savings = stated_savings bytes in
     let checking = stated_checking bytes in
     if list_any is_past_limit savings || list_any is_past_limit checking then Some OutOfRange
-    else if list_any (λ value. int_lt value (pos 0)) savings then Some NegativeSavings
+    else if list_any is_negative savings then Some NegativeSavings
     else if not (int_eq (stated_total bytes) (total savings +ℤ total checking)) then Some WrongTotal
     else None
 
 -- what stands in a reply's place is none, or there is too much
 unfoldable pub replies_fault : List ℕ → Option CheckpointFault
 replies_fault bytes =
-    if list_any (λ reply. not (is_reply reply)) (stated_replies bytes) then Some BadReply
+    if list_any is_no_reply (stated_replies bytes) then Some BadReply
     else if nat_lt LOG_CALLS (stated_length bytes) || nat_lt (stated_size bytes) (length bytes) then Some Long
     else None
 
@@ -89,6 +92,11 @@ replies_fault bytes =
 unfoldable pub first_fault : List ℕ → ℕ → Option CheckpointFault
 first_fault bytes customers =
     option_or (head_fault bytes customers) (option_or (balances_fault bytes) (replies_fault bytes))
+
+-- a fault that was found, or want of memory in its place
+abbrev pub IsFaultOf : Option CheckpointFault → CheckpointFault → Type 0
+IsFaultOf found OutOfMemory = Unit {0}
+IsFaultOf found fault = found ≡ Some fault
 
 -- why bytes are refused: by the first fault, or, behind a right head, for want of memory
 abbrev pub IsRefusedBy : List ℕ → ℕ → CheckpointFault → Type 0

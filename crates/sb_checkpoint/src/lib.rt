@@ -4,11 +4,13 @@
 mod checkpoint;
 mod fault;
 mod memory_store;
+mod reading;
 mod store;
 mod writing;
 
 pub use checkpoint::Checkpoint;
 pub use fault::CheckpointFault;
 pub use memory_store::{How, MemoryStore};
+pub use reading::read_checkpoint;
 pub use store::{CheckpointStore, StoreFault};
 pub use writing::write_checkpoint;

@@ -32,7 +32,7 @@ pub fn write_checkpoint(
     requires few { length replies.now ≤ LOG_CALLS }
     requires replies { All IsReply replies.now }
     ensures { IfOk result (λ bytes.
-      Spells (record { columns = columns.now; replies = replies.now }) bytes.items) }
+        Spells (record { columns = columns.now; replies = replies.now }) bytes.items) }
 {
     let customers = columns.customers();
     let size = EMPTY + 2 * AMOUNT * customers + REPLY * replies.len();

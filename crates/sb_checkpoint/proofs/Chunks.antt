@@ -1,0 +1,42 @@
+-- Bytes as chunks of one size.
+use Rattle.std.proofs.Common.{◌≡◌, ℕ, zero, suc, ◌+◌, ◌-◌, ◌*◌, ◌/◌, ◌<◌, ◌≤◌, List, ◌∷◌, length, take, drop, map, refl, ap, ap₂, ◌∙◌, arith}
+use Rattle.std.proofs.Math.Nat.{mul-div_cancel, mul_comm}
+use Rattle.std.proofs.lemmas.List.{drop-take, take-take, length-drop, length-map, length-take-le}
+use Rattle.std.specs.Simd.{first_chunks}
+use Rattle.sb_checkpoint.specs.Reading.{amount_of, amounts_at, reply_of, stated_customers, stated_length, stated_replies}
+
+-- the first chunks stand in the front
+first_chunks-take : {X : Type 0} (n k m : ℕ) (xs : List X) → m ≡ k * n → first_chunks n k (take m xs) ≡ first_chunks n k xs
+first_chunks-take n zero m xs is = refl
+first_chunks-take n (suc k) m xs is =
+    let whole : m ≡ n + k * n = omega arith in
+    ap₂ ◌∷◌ (take-take n m xs (omega arith))
+    (ap (first_chunks n k) (ap (λ j. drop n (take j xs)) whole ∙ drop-take n (k * n) xs) ∙ first_chunks-take n k (k * n) (drop n xs) refl)
+
+-- a front of as many elements as some chunks have, in chunks
+chunks_of_front : {X : Type 0} (n k m : ℕ) (xs : List X) → 0 < n → m ≡ k * n → m ≤ length xs
+    → first_chunks n (length (take m xs) / n) (take m xs) ≡ first_chunks n k xs
+chunks_of_front n k m xs some is within =
+    let count : length (take m xs) / n ≡ k = ap (λ j. j / n) (length-take-le m xs within ∙ is) ∙ mul-div_cancel k some in
+    ap (λ j. first_chunks n j (take m xs)) count ∙ first_chunks-take n k m xs is
+
+pub length-first_chunks : {X : Type 0} (n k : ℕ) (xs : List X) → length (first_chunks n k xs) ≡ k
+length-first_chunks n zero xs = refl
+length-first_chunks n (suc k) xs = ap suc (length-first_chunks n k (drop n xs))
+
+pub length-amounts : (k : ℕ) (bytes : List ℕ) → length (amounts_at k bytes) ≡ k
+length-amounts k bytes = length-map (first_chunks 8 k bytes) amount_of ∙ length-first_chunks 8 k bytes
+
+-- as many bytes of each size as were asked for, behind a place
+pub chunks_behind : (n from count : ℕ) (bytes : List ℕ) → 0 < n → from + n * count ≤ length bytes
+    → let part = take ((from + n * count) - from) (drop from bytes) in
+    first_chunks n (length part / n) part ≡ first_chunks n count (drop from bytes)
+chunks_behind n from count bytes some room =
+    let whole : from + n * count - from ≡ count * n = omega (arith, mul_comm n count) in
+    chunks_of_front n count (from + n * count - from) (drop from bytes) some whole (omega (arith, length-drop from bytes))
+
+pub reply_chunks : (bytes : List ℕ) (customers count : ℕ) → customers ≡ stated_customers bytes → count ≡ stated_length bytes
+    → map reply_of (first_chunks 9 count (drop (28 + 16 * customers) bytes)) ≡ stated_replies bytes
+reply_chunks bytes customers count same_customers same_count =
+    ap (λ n. map reply_of (first_chunks 9 n (drop (28 + 16 * customers) bytes))) same_count
+    ∙ ap (λ n. map reply_of (first_chunks 9 (stated_length bytes) (drop (28 + 16 * n) bytes))) same_customers

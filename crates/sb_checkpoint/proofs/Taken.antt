@@ -1,0 +1,176 @@
+-- Bytes without a fault are a spelling of what is read.
+use Rattle.std.proofs.Common.{◌≡◌, ℕ, ◌+◌, ◌*◌, ◌<◌, ◌≤◌, ℤ, ◌+ℤ◌, Bool, true, false, not, cond, eqb, ltb, ◌||◌, Option, Some, None, List, ◌++◌, length, take, drop, map, refl, sym, ap, ap₂, ◌∙◌, arith}
+use Rattle.std.proofs.Math.Seq.{take-add}
+use Rattle.std.specs.Prelude.{nat_eq}
+use Rattle.std.specs.Int.{w32, w64}
+use Rattle.std.specs.List.{All, flat_map, list_any, starts_with}
+use Rattle.std.specs.Ordering.{int_eq}
+use Rattle.std.specs.Simd.{first_chunks}
+use Rattle.std.proofs.lemmas.Bool.{ltb-false, eqb-true}
+use Rattle.std.proofs.lemmas.Bool.Decides.{Decides-int_eq}
+use Rattle.std.proofs.lemmas.List.{take_all, length-drop, length-map, length-take-le}
+use Rattle.std.proofs.lemmas.List.Elements.{All-take, All-drop}
+use Rattle.std.proofs.lemmas.Slice.Eq.{bytes_eq-Decides}
+use Rattle.sb_rows.specs.Balances.{IsBalances}
+use Rattle.sb_calls.specs.Replies.{IsReply, number_field, amount_field}
+use Rattle.sb_calls.specs.declared.call.TheConstants.{LOG_CALLS}
+use Rattle.sb_calls.specs.declared.reply.Reply.{Reply}
+use Rattle.lane_audit.specs.Columns.{total}
+use Rattle.sb_checkpoint.specs.Checkpoint.{CheckpointOf, Spells, magic, spelling}
+use Rattle.sb_checkpoint.specs.Reading.{amounts_at, balances_fault, head_fault, is_negative, is_no_reply, is_past_limit, replies_fault, reply_of, stated_checking, stated_customers, stated_length, stated_replies, stated_savings, stated_size, stated_total}
+use Rattle.sb_checkpoint.specs.declared.fault.CheckpointFault.{CheckpointFault}
+use Rattle.sb_checkpoint.specs.declared.fault.CheckpointFault.TheVariants.{BadMagic, Short, WrongCustomers, OutOfRange, NegativeSavings, WrongTotal, BadReply, Long}
+use Rattle.sb_checkpoint.proofs.Chunks.{length-amounts, length-first_chunks}
+use Rattle.sb_checkpoint.proofs.Lists.{amounts_spelled, replies_spelled}
+use Rattle.sb_checkpoint.proofs.Numbers.{AreBytes, amount_spelled, number32_spelled, number64_spelled}
+
+abbrev Found : Type 0
+Found = Option CheckpointFault
+
+-- a test that found nothing
+passed : (test : Bool) (fault : CheckpointFault) (later : Found) → cond test (Some fault) later ≡ None → (test ≡ false) × (later ≡ None)
+passed true fault later e = absurd cc
+passed false fault later e = (refl, e)
+
+either : (a b : Bool) → (a || b) ≡ false → (a ≡ false) × (b ≡ false)
+either true b e = absurd cc
+either false b e = (refl, e)
+
+holds : (a : Bool) → not a ≡ false → a ≡ true
+holds true e = refl
+holds false e = absurd cc
+
+-- ---- what the tests say
+
+record HeadIs (bytes : List ℕ) (customers : ℕ) : Type 0 where
+  begins : take 8 bytes ≡ magic
+  long : 20 ≤ length bytes
+  room : stated_size bytes ≤ length bytes
+  same : stated_customers bytes ≡ customers
+
+head_is : (bytes : List ℕ) (customers : ℕ) → head_fault bytes customers ≡ None → HeadIs bytes customers
+unfolding head_fault
+head_is bytes customers e =
+    let first = passed (not (starts_with nat_eq magic (take 8 bytes))) BadMagic _ e in
+    let second = passed (ltb (length bytes) 20 || ltb (length bytes) (stated_size bytes)) Short _ first.1 in
+    let third = passed (not (eqb (stated_customers bytes) customers)) WrongCustomers None second.1 in
+    let sizes = either (ltb (length bytes) 20) (ltb (length bytes) (stated_size bytes)) second.0 in
+    let long : 20 ≤ length bytes = ltb-false (length bytes) 20 sizes.0 in
+    let cells : length (take 8 bytes) ≡ 8 = length-take-le 8 bytes (omega arith) in
+    let front = (bytes_eq-Decides (take 8 bytes) (take (length (take 8 bytes)) magic)).0 (holds _ first.0) in
+    record {
+      begins = front ∙ ap (λ n. take n magic) cells;
+      long = long;
+      room = ltb-false (length bytes) (stated_size bytes) sizes.1;
+      same = eqb-true _ _ (holds _ third.0);
+    }
+
+total_is : (bytes : List ℕ) → balances_fault bytes ≡ None → stated_total bytes ≡ total (stated_savings bytes) +ℤ total (stated_checking bytes)
+unfolding balances_fault
+total_is bytes e =
+    let savings = stated_savings bytes in
+    let checking = stated_checking bytes in
+    let first = passed (list_any is_past_limit savings || list_any is_past_limit checking) OutOfRange _ e in
+    let second = passed (list_any is_negative savings) NegativeSavings _ first.1 in
+    let third = passed (not (int_eq (stated_total bytes) (total savings +ℤ total checking))) WrongTotal None second.1 in
+    (Decides-int_eq _ _).0 (holds _ third.0)
+
+ends : (bytes : List ℕ) → replies_fault bytes ≡ None → (stated_length bytes ≤ LOG_CALLS) × (length bytes ≤ stated_size bytes)
+unfolding replies_fault
+ends bytes e =
+    let first = passed (list_any is_no_reply (stated_replies bytes)) BadReply _ e in
+    let second = passed (ltb LOG_CALLS (stated_length bytes) || ltb (stated_size bytes) (length bytes)) Long None first.1 in
+    let sizes = either (ltb LOG_CALLS (stated_length bytes)) (ltb (stated_size bytes) (length bytes)) second.0 in
+    (ltb-false _ _ sizes.0, ltb-false _ _ sizes.1)
+
+-- ---- field by field
+
+-- a front goes on by a field
+goes_on : (bytes : List ℕ) (at n next : ℕ) (front field : List ℕ) → next ≡ at + n → take at bytes ≡ front → take n (drop at bytes) ≡ field → take next bytes ≡ front ++ field
+goes_on bytes at n next front field is before here =
+    ap (λ m. take m bytes) is ∙ take-add at n bytes ∙ ap₂ (λ (a b : List ℕ). a ++ b) before here
+
+-- what is read of bytes
+pub record IsRead (bytes : List ℕ) (made : CheckpointOf) : Type 0 where
+  pub savings : made.columns.savings ≡ stated_savings bytes
+  pub checking : made.columns.checking ≡ stated_checking bytes
+  pub replies : map (λ r. Some r) made.replies ≡ stated_replies bytes
+
+-- the bytes from a place on that a field takes
+part : (bytes : List ℕ) (at n : ℕ) → at + n ≤ length bytes → AreBytes bytes → (length (take n (drop at bytes)) ≡ n) × AreBytes (take n (drop at bytes))
+part bytes at n room are = (
+  length-take-le n (drop at bytes) (omega (arith, length-drop at bytes)),
+  All-take (λ byte. byte < 256) n (drop at bytes) (All-drop (λ byte. byte < 256) at bytes are),
+)
+
+length_field : (bytes : List ℕ) → 20 ≤ length bytes → AreBytes bytes → take 8 (drop 8 bytes) ≡ number_field w64 (stated_length bytes)
+unfolding stated_length
+length_field bytes long are =
+    let cells = part bytes 8 8 (omega arith) are in
+    sym (number64_spelled (take 8 (drop 8 bytes)) cells.0 cells.1)
+
+customers_field : (bytes : List ℕ) → 20 ≤ length bytes → AreBytes bytes → take 4 (drop 16 bytes) ≡ number_field w32 (stated_customers bytes)
+unfolding stated_customers
+customers_field bytes long are =
+    let cells = part bytes 16 4 (omega arith) are in
+    sym (number32_spelled (take 4 (drop 16 bytes)) cells.0 cells.1)
+
+total_field : (bytes : List ℕ) → 28 + 16 * stated_customers bytes ≤ length bytes → AreBytes bytes
+    → take 8 (drop (20 + 16 * stated_customers bytes) bytes) ≡ amount_field (stated_total bytes)
+unfolding stated_total
+total_field bytes room are =
+    let cells = part bytes (20 + 16 * stated_customers bytes) 8 (omega arith) are in
+    sym (amount_spelled (take 8 (drop (20 + 16 * stated_customers bytes) bytes)) cells.0 cells.1)
+
+amounts_field : (bytes : List ℕ) (at : ℕ) (amounts : List ℤ) → at + 8 * stated_customers bytes ≤ length bytes → AreBytes bytes
+    → amounts ≡ amounts_at (stated_customers bytes) (drop at bytes)
+    → take (stated_customers bytes * 8) (drop at bytes) ≡ flat_map amount_field amounts
+amounts_field bytes at amounts room are read =
+    let rest = drop at bytes in
+    let spelled = amounts_spelled (stated_customers bytes) rest (omega (arith, length-drop at bytes)) (All-drop (λ byte. byte < 256) at bytes are) in
+    sym (ap (flat_map amount_field) read ∙ spelled)
+
+-- ---- all of them
+
+count_is : (bytes : List ℕ) (replies : List Reply) → map (λ r. Some r) replies ≡ stated_replies bytes → length replies ≡ stated_length bytes
+count_is bytes replies read =
+    let chunks = first_chunks 9 (stated_length bytes) (drop (28 + 16 * stated_customers bytes) bytes) in
+    sym (length-map replies (λ (r : Reply). Some r)) ∙ ap length read ∙ length-map chunks reply_of ∙ length-first_chunks 9 (stated_length bytes) _
+
+module _ (bytes : List ℕ) (customers : ℕ) (made : CheckpointOf) (are : AreBytes bytes) (head : HeadIs bytes customers) (read : IsRead bytes made) where
+  head_spelled : take 20 bytes ≡ magic ++ number_field w64 (length made.replies) ++ number_field w32 (length made.columns.savings)
+  head_spelled =
+      let count = length_field bytes head.long are ∙ ap (number_field w64) (sym (count_is bytes made.replies read.replies)) in
+      let sized = ap length read.savings ∙ length-amounts (stated_customers bytes) (drop 20 bytes) in
+      let many = customers_field bytes head.long are ∙ ap (number_field w32) (sym sized) in
+      goes_on bytes 16 4 20 _ _ (omega arith) (goes_on bytes 8 8 16 _ _ (omega arith) head.begins count) many
+
+  taken_spelled : (stated_length bytes ≤ LOG_CALLS) × (length bytes ≤ stated_size bytes)
+      → stated_total bytes ≡ total (stated_savings bytes) +ℤ total (stated_checking bytes)
+      → All IsReply made.replies × (bytes ≡ spelling made)
+  unfolding spelling
+  taken_spelled end whole =
+      let c = stated_customers bytes in
+      let room = head.room in
+      let savings = goes_on bytes 20 (c * 8) (20 + 8 * c) _ _ (omega arith) head_spelled (amounts_field bytes 20 made.columns.savings (omega arith) are read.savings) in
+      let checking = goes_on bytes (20 + 8 * c) (c * 8) (20 + 16 * c) _ _ (omega arith) savings
+      (amounts_field bytes (20 + 8 * c) made.columns.checking (omega arith) are read.checking) in
+      let sums = ap₂ (λ a b. total a +ℤ total b) (sym read.savings) (sym read.checking) in
+      let amounts = goes_on bytes (20 + 16 * c) 8 (28 + 16 * c) _ _ (omega arith) checking
+      (total_field bytes (omega arith) are ∙ ap amount_field (whole ∙ sums)) in
+      let rest = drop (28 + 16 * c) bytes in
+      let replies = replies_spelled made.replies (stated_length bytes) rest read.replies (omega (arith, length-drop (28 + 16 * c) bytes))
+      (All-drop (λ byte. byte < 256) (28 + 16 * c) bytes are) in
+      let all = goes_on bytes (28 + 16 * c) (stated_length bytes * 9) (stated_size bytes) _ _ (omega arith) amounts (sym replies.1) in
+      (replies.0, sym (take_all (stated_size bytes) bytes end.1) ∙ all)
+
+-- where no fault is found
+pub taken : (bytes : List ℕ) (customers : ℕ) (made : CheckpointOf) → AreBytes bytes → IsBalances made.columns → IsRead bytes made
+    → head_fault bytes customers ≡ None → balances_fault bytes ≡ None → replies_fault bytes ≡ None → Spells made bytes
+taken bytes customers made are balances read head amounts replies =
+    let end = ends bytes replies in
+    let spelled = taken_spelled bytes customers made are (head_is bytes customers head) read end (total_is bytes amounts) in
+    record {
+      valid = record { balances = balances; few = omega (arith, count_is bytes made.replies read.replies, end.0); replies = spelled.0 };
+      spelled = spelled.1;
+    }
