@@ -1,7 +1,8 @@
 -- A replica that is where its store's checkpoint says.
 use Rattle.std.specs.Prelude.{◌≡◌, ◌≢◌, ◌⊎◌, ℕ, Option, Some, None, List, [], length}
 use Rattle.sb_rows.specs.Balances.{Balances}
-use Rattle.sb_calls.specs.declared.reply.Reply.{Reply}
+use Rattle.sb_calls.specs.declared.op.Op.{Op}
+use Rattle.cown_board.specs.Board.{BoardOf, length_of}
 use Rattle.cown_board.specs.Played.{opened_with}
 use Rattle.sb_checkpoint.specs.Checkpoint.{CheckpointOf, Spells}
 use Rattle.sb_checkpoint.specs.Reading.{first_fault}
@@ -21,34 +22,11 @@ IsHeld opening customers None checkpoint = checkpoint ≡ record { columns = ope
 IsHeld opening customers (Some bytes) checkpoint =
     Spells checkpoint bytes × (length checkpoint.columns.savings ≡ customers)
 
-module _ {S : Type 0} (does : S → StoreStep → S → Type 0) where
-  -- a new board on what the store holds
-  pub record Restarts (old : ReplicaOf S) (size : ℕ) (new : ReplicaOf S) : Type 0 where
-    pub held : Option (List ℕ)
-    pub got : does old.store (Got held) new.store
-    pub checkpoint : CheckpointOf
-    pub is_held : IsHeld old.opening (length old.names) held checkpoint
-    pub length_is : size ≡ length checkpoint.replies
-    pub new_is : new ≡ record old {
-      board = opened_with checkpoint.columns checkpoint.replies;
-      store = new.store;
-    }
-
-  -- what the store holds is no checkpoint of this bank
-  pub record HoldsNone (old : ReplicaOf S) (fault : CheckpointFault) (new : ReplicaOf S) : Type 0 where
-    pub bytes : List ℕ
-    pub got : does old.store (Got (Some bytes)) new.store
-    pub first : first_fault bytes (length old.names) ≡ Some fault
-    pub stays : new ≡ record old { store = new.store }
-
-  -- the store failed; what it holds is no checkpoint; or memory was refused, to it or behind it
-  abbrev pub IsRestartFaultOf : ReplicaOf S → RestartFault → ReplicaOf S → Type 0
-  IsRestartFaultOf old restart.Device new =
-      does old.store (NotGot store.Device) new.store × (new ≡ record old { store = new.store })
-  IsRestartFaultOf old (restart.BadCheckpoint fault) new = (fault ≢ checkpoint.OutOfMemory) × HoldsNone old fault new
-  IsRestartFaultOf old restart.OutOfMemory new = (new ≡ record old { store = new.store })
-      × (does old.store (NotGot store.OutOfMemory) new.store
-      ⊎ ((held : Option (List ℕ)) × does old.store (Got held) new.store))
+-- a board that was opened on what the store holds
+pub record IsLogOn (opening : Balances) (customers : ℕ) (held : Option (List ℕ)) (board : BoardOf Op) : Type 0 where
+  pub checkpoint : CheckpointOf
+  pub is_held : IsHeld opening customers held checkpoint
+  pub board_is : board ≡ opened_with checkpoint.columns checkpoint.replies
 
 -- what a restart is answered where its store or what it holds is at fault
 abbrev pub of_store_fault : StoreFault → RestartFault
@@ -58,3 +36,25 @@ of_store_fault store.OutOfMemory = restart.OutOfMemory
 abbrev pub of_checkpoint_fault : CheckpointFault → RestartFault
 of_checkpoint_fault checkpoint.OutOfMemory = restart.OutOfMemory
 of_checkpoint_fault fault = restart.BadCheckpoint fault
+
+-- why what the store holds can't be gone back to: it is no checkpoint of this bank, or memory was refused
+abbrev pub IsRefusalOf : ℕ → Option (List ℕ) → RestartFault → Type 0
+IsRefusalOf customers held restart.Device = ⊥
+IsRefusalOf customers held (restart.BadCheckpoint fault) =
+    (bytes : List ℕ) × (held ≡ Some bytes) × (fault ≢ checkpoint.OutOfMemory) × (first_fault bytes customers ≡ Some fault)
+IsRefusalOf customers held restart.OutOfMemory = Unit {0}
+
+module _ {S : Type 0} (does : S → StoreStep → S → Type 0) where
+  -- a new board on what the store holds
+  pub record Restarts (old : ReplicaOf S) (size : ℕ) (new : ReplicaOf S) : Type 0 where
+    pub held : Option (List ℕ)
+    pub got : does old.store (Got held) new.store
+    pub board : IsLogOn old.opening (length old.names) held new.board
+    pub length_is : size ≡ length_of new.board
+    pub stays : new ≡ record old { board = new.board; store = new.store }
+
+  -- the store failed, or what was got can't be gone back to; all but the store is as it was
+  abbrev pub IsRestartFaultOf : ReplicaOf S → RestartFault → ReplicaOf S → Type 0
+  IsRestartFaultOf old fault new = (new ≡ record old { store = new.store })
+      × (((failed : StoreFault) × does old.store (NotGot failed) new.store × (fault ≡ of_store_fault failed))
+      ⊎ ((held : Option (List ℕ)) × does old.store (Got held) new.store × IsRefusalOf (length old.names) held fault))

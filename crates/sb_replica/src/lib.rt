@@ -6,7 +6,7 @@ mod heard;
 mod hearing;
 mod marking;
 mod replica;
-// mod restarting;
+mod restarting;
 mod running;
 #[cfg(test)]
 mod tests;

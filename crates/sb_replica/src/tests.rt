@@ -8,10 +8,10 @@ use std::alloc::Global;
 use std::process::Abort;
 use std::test::Fail;
 
-// mod faults;
+mod faults;
 mod frames;
 mod marks;
-// mod restarts;
+mod restarts;
 
 const OPENING: &str = "alice 100.00 50.00\nbob 0.00 20.00\ncarol 10.00 0.00\nbegin\n";
 

@@ -7,7 +7,13 @@ use sb_frames::FrameFault;
 fn only_the_next_entry_is_accepted(rt: HostRuntime) -> Result<(), Fail> {
     let mut replica = open(rt.alloc())?;
     hears(&rt, &mut replica, 2, "deposit bob 1.00", Heard::Gap(0))?;
-    hears(&rt, &mut replica, 1, "deposit alice 1.00", Heard::Accepted(1))?;
+    hears(
+        &rt,
+        &mut replica,
+        1,
+        "deposit alice 1.00",
+        Heard::Accepted(1),
+    )?;
     hears(&rt, &mut replica, 1, "deposit alice 1.00", Heard::Repeat(1))?;
     hears(&rt, &mut replica, 2, "deposit bob 1.00", Heard::Accepted(2))?;
     runs(&rt, &mut replica, 1, Reply::Done)?;
@@ -19,16 +25,37 @@ fn only_the_next_entry_is_accepted(rt: HostRuntime) -> Result<(), Fail> {
 fn an_entry_waits_while_too_many_are_unfinished(rt: HostRuntime) -> Result<(), Fail> {
     let mut replica = open(rt.alloc())?;
     for number in 1..=1_024 {
-        hears(&rt, &mut replica, number, "deposit alice 0.01", Heard::Accepted(number))?;
+        hears(
+            &rt,
+            &mut replica,
+            number,
+            "deposit alice 0.01",
+            Heard::Accepted(number),
+        )?;
     }
-    hears(&rt, &mut replica, 1_025, "deposit alice 0.01", Heard::Busy(1_024))?;
+    hears(
+        &rt,
+        &mut replica,
+        1_025,
+        "deposit alice 0.01",
+        Heard::Busy(1_024),
+    )?;
     runs(&rt, &mut replica, 1, Reply::Done)?;
-    hears(&rt, &mut replica, 1_025, "deposit alice 0.01", Heard::Accepted(1_025))
+    hears(
+        &rt,
+        &mut replica,
+        1_025,
+        "deposit alice 0.01",
+        Heard::Accepted(1_025),
+    )
 }
 
 // These bytes are refused, and nothing changes.
 fn refuses(rt: &impl Abort, replica: &mut Replica<MemoryStore>, bytes: &[u8], fault: FrameFault) {
-    assert!(rt; replica.on_frame(bytes) == Err(ReplicaFault::BadFrame(fault)), "{fault:?}");
+    assert!(rt;
+        replica.on_frame(bytes) == Err(ReplicaFault::BadFrame(fault)),
+        "{fault:?}"
+    );
     assert!(rt; replica.length() == 0);
 }
 

@@ -1,0 +1,78 @@
+//! Going back to the checkpoint that is stored.
+ghost use Rattle.std.specs.Prelude.{◌≡◌, ◌≤◌, IfOk, IfErr, length, option_map};
+ghost use Rattle.std.specs.List.{All};
+ghost use Rattle.sb_calls.specs.Replies.{IsReply};
+ghost use Rattle.cown_board.specs.Played.{opened_with};
+ghost use Rattle.sb_checkpoint.specs.Stores.{StoreDoes};
+ghost use Rattle.sb_replica.specs.Restarting.{Restarts, IsRestartFaultOf, IsHeld, IsLogOn, IsRefusalOf};
+
+use crate::fault::RestartFault;
+use crate::replica::Replica;
+use cown_board::Board;
+use sb_calls::{LOG_CALLS, Reply};
+use sb_checkpoint::{CheckpointStore, read_checkpoint};
+use sb_replica_log::ReplicaLog;
+use sb_rows::Columns;
+use std::alloc::Global;
+
+// The log of a board on these columns, with the replies to the numbers before it.
+fn log_on(alloc: Global, columns: Columns, replies: Vec<Reply>) -> Result<ReplicaLog, RestartFault>
+    requires few { length replies.items ≤ LOG_CALLS }
+    ensures log { IfOk result (λ log. log ≡ opened_with columns replies.items) }
+    ensures err { IfErr result (λ fault. fault ≡ RestartFault.OutOfMemory) }
+{
+    let length = replies.len() as u64;
+    let board = Board::open(alloc, columns, length, replies)?;
+    Ok(ReplicaLog::open(board))
+}
+
+impl<S: CheckpointStore> Replica<S> {
+    /// Goes back to where the stored checkpoint says, or to the opening where none was put, and answers the length
+    /// there. What was accepted since is forgotten, until it comes again.
+    ///
+    /// After a fault the replica is as it was.
+    pub fn restart(&mut self) -> Result<u64, RestartFault>
+        ensures ok { IfOk result (λ size.
+            Restarts (StoreDoes S.slot S.IsHonest S.failed S.acts) self.old size self.new) }
+        ensures err { IfErr result (λ fault.
+            IsRestartFaultOf (StoreDoes S.slot S.IsHonest S.failed S.acts) self.old fault self.new) }
+    {
+        let held = self.store.get()?;
+        self.log = self.held_log(held)?;
+        Ok(self.log.length())
+    }
+
+    // The log of a board on what the store holds.
+    fn held_log(&self, held: Option<Vec<u8>>) -> Result<ReplicaLog, RestartFault>
+        ensures log { IfOk result (IsLogOn self.now.opening (length self.now.names)
+            (option_map (λ bytes. bytes.items) held)) }
+        ensures customers { IfOk result (λ log. length log.opening.savings ≡ length self.now.names) }
+        ensures replies { IfOk result (λ log. All IsReply log.earlier) }
+        ensures err { IfErr result
+            (IsRefusalOf (length self.now.names) (option_map (λ bytes. bytes.items) held)) }
+    {
+        let (columns, replies) = self.held_parts(held)?;
+        log_on(self.alloc, columns, replies)
+    }
+
+    // The balances and the replies that the store holds, or those of the opening where it holds nothing.
+    fn held_parts(&self, held: Option<Vec<u8>>) -> Result<(Columns, Vec<Reply>), RestartFault>
+        ensures held { IfOk result (λ parts. IsHeld self.now.opening (length self.now.names)
+            (option_map (λ bytes. bytes.items) held)
+            (record { columns = parts.0; replies = parts.1.items })) }
+        ensures customers { IfOk result (λ parts. length parts.0.savings ≡ length self.now.names) }
+        ensures few { IfOk result (λ parts. length parts.1.items ≤ LOG_CALLS) }
+        ensures replies { IfOk result (λ parts. All IsReply parts.1.items) }
+        ensures err { IfErr result
+            (IsRefusalOf (length self.now.names) (option_map (λ bytes. bytes.items) held)) }
+    {
+        match held {
+            Some(bytes) => {
+                let customers = self.opening.customers();
+                let checkpoint = read_checkpoint(self.alloc, &bytes, customers)?;
+                Ok(checkpoint.into_parts())
+            }
+            None => Ok((self.opening.copy()?, Vec::new(self.alloc))),
+        }
+    }
+}
