@@ -1,8 +1,9 @@
 //! What runs behaviours: a board, or what owns one.
-ghost use Rattle.std.specs.Prelude.{◌≡◌, ◌≤◌, ◌↔◌, length, IsTrue, IsOk, MatchOption, MatchResult};
+ghost use Rattle.std.specs.Prelude.{◌≡◌, ◌≤◌, ◌↔◌, length, IsTrue, IsOk, Some, None, Ok, Err, MatchOption, MatchResult};
 ghost use Rattle.sb_calls.specs.Behaviour.{declared_cowns, effect_of};
 ghost use Rattle.sb_calls.specs.declared.op.Op.{Op as AnyOp};
 ghost use Rattle.cown_board.specs.Board.{BoardOf, open_of, Takes, Finishes, IsOutHere};
+ghost use Rattle.cown_board.specs.Played.{StaysTrueToLog, TakenAt, Returned};
 ghost use Rattle.cown_board.specs.Readiness.{ready_places};
 
 use crate::board::Board;
@@ -26,6 +27,11 @@ pub trait Runs {
             ((length (ready_places declared_cowns (board self.old).log (board self.old).states) ≤ index) ×
             (board self.new ≡ board self.old))
             (λ job. Takes declared_cowns effect_of (board self.old) index job (board self.new)) }
+        // After any calls on its board, with this one too, the board is true to its log.
+        ensures played { MatchOption result
+            (StaysTrueToLog declared_cowns effect_of (board self.old) (TakenAt index None) (board self.new))
+            (λ job. StaysTrueToLog declared_cowns effect_of (board self.old)
+            (TakenAt index (Some job)) (board self.new)) }
         ensures beside { beside self.new ≡ beside self.old };
 
     /// Takes back what an op did, as [`Board::finish`].
@@ -34,6 +40,12 @@ pub trait Runs {
         ensures outcome { MatchResult result
             (λ reply. Finishes declared_cowns effect_of (board self.old) done reply (board self.new))
             (λ back. (back ≡ done) × (board self.new ≡ board self.old)) }
+        // After any calls on its board, with this one too, the board is true to its log.
+        ensures played { MatchResult result
+            (λ reply. StaysTrueToLog declared_cowns effect_of (board self.old)
+            (Returned done (Ok reply)) (board self.new))
+            (λ back. StaysTrueToLog declared_cowns effect_of (board self.old)
+            (Returned done (Err back)) (board self.new)) }
         ensures beside { beside self.new ≡ beside self.old };
 
     /// Whether nothing is unfinished.

@@ -33,34 +33,23 @@ fn hears(
     number: u64,
     line: &str,
     heard: Heard,
-) -> Result<(), Fail> {
-    let call = read_call(line.as_bytes())?;
+) {
+    let call = read_call(line.as_bytes()).expect(rt, "a call");
     let bytes = encode(&Frame::Entry { number, call });
     assert!(rt; replica.on_frame(&bytes) == Ok(heard), "{number} {line}");
-    Ok(())
 }
 
 // The next entry is accepted.
-fn accepts(
-    rt: &impl Abort,
-    replica: &mut Replica<MemoryStore>,
-    number: u64,
-    line: &str,
-) -> Result<(), Fail> {
-    hears(rt, replica, number, line, Heard::Accepted(number))?;
+fn accepts(rt: &impl Abort, replica: &mut Replica<MemoryStore>, number: u64, line: &str) {
+    hears(rt, replica, number, line, Heard::Accepted(number));
     assert!(rt; replica.length() == number);
-    Ok(())
 }
 
 // The first that is ready has this number.
-fn takes(
-    rt: &impl Abort,
-    replica: &mut Replica<MemoryStore>,
-    number: u64,
-) -> Result<Job<Op>, Fail> {
-    let job = replica.take_at(0).ok_or("none is ready")?;
+fn takes(rt: &impl Abort, replica: &mut Replica<MemoryStore>, number: u64) -> Job<Op> {
+    let job = replica.take_at(0).expect(rt, "none is ready");
     assert!(rt; job.number() == number);
-    Ok(job)
+    job
 }
 
 fn finishes(rt: &impl Abort, replica: &mut Replica<MemoryStore>, done: Done<Op>, reply: Reply) {
@@ -70,15 +59,21 @@ fn finishes(rt: &impl Abort, replica: &mut Replica<MemoryStore>, done: Done<Op>,
 }
 
 // The first that is ready is run and finished.
-fn runs(
+fn runs(rt: &impl Abort, replica: &mut Replica<MemoryStore>, number: u64, reply: Reply) {
+    let job = takes(rt, replica, number);
+    finishes(rt, replica, job.run(), reply);
+}
+
+// The next entry is accepted, run and finished.
+fn carries_out(
     rt: &impl Abort,
     replica: &mut Replica<MemoryStore>,
     number: u64,
+    line: &str,
     reply: Reply,
-) -> Result<(), Fail> {
-    let job = takes(rt, replica, number)?;
-    finishes(rt, replica, job.run(), reply);
-    Ok(())
+) {
+    accepts(rt, replica, number, line);
+    runs(rt, replica, number, reply);
 }
 
 // Nothing is unfinished, and these are the checking balances of the three.

@@ -1,11 +1,12 @@
 //! The log of a replica.
-ghost use Rattle.std.specs.Prelude.{◌≡◌, ◌≢◌, ◌↔◌, ◌≤◌, ◌<◌, ◌-◌, length, IsTrue, IsOk, IfOk, IfSome, OnErr, Some, MatchOption, MatchResult};
+ghost use Rattle.std.specs.Prelude.{◌≡◌, ◌≢◌, ◌↔◌, ◌≤◌, ◌<◌, ◌-◌, length, suc, Ok, IfOk, IfSome, OnErr, Some, MatchOption, MatchResult};
 ghost use Rattle.sb_rows.specs.Balances.{IsBalances};
 ghost use Rattle.sb_calls.specs.Behaviour.{declared_cowns, effect_of};
 ghost use Rattle.sb_calls.specs.Cowns.{held_of};
 ghost use Rattle.sb_calls.specs.OneByOne.{reply_by_log};
 ghost use Rattle.sb_calls.specs.Op.{IsOpWithin};
 ghost use Rattle.cown_board.specs.Board.{length_of, open_of, reply_in, IsAfterAll};
+ghost use Rattle.cown_board.specs.Played.{StaysTrueToLog, Submitted};
 ghost use Rattle.sb_replica_log.specs.Offers.{offered, after_offer};
 
 use crate::offered::Offered;
@@ -49,6 +50,10 @@ impl ReplicaLog {
         ensures state { MatchResult result
             (λ answer. self.new ≡ after_offer self.old op answer)
             (λ refused. self.new ≡ self.old) }
+        // After any calls on its board, with this one too, the board is true to its log.
+        ensures played { IfOk result (λ answer. answer ≡ Offered.Next →
+            StaysTrueToLog declared_cowns effect_of self.old
+            (Submitted op (Ok (suc (length_of self.old)))) self.new) }
     {
         // Its clauses say that the opening's columns are a bank's, as `submit` needs.
         let length = self.board.length();

