@@ -4,4 +4,6 @@ pub mod Found
 pub mod Lists
 pub mod Numbers
 pub mod Taken
+pub mod Spelled
 pub mod Tests
+pub mod Walks

@@ -3,10 +3,12 @@
 
 mod checkpoint;
 mod fault;
+mod laws;
 mod reading;
 mod writing;
 
 pub use checkpoint::Checkpoint;
 pub use fault::CheckpointFault;
+pub use laws::{one_checkpoint, spelled_is_taken};
 pub use reading::read_checkpoint;
 pub use writing::write_checkpoint;
