@@ -10,7 +10,7 @@ use Rattle.sb_amount.specs.Limit.{IsWithinLimit}
 use Rattle.sb_rows.specs.Balances.{Balances, IsSavings, IsBalances}
 use Rattle.sb_rows.specs.declared.columns.TheConstants.{CUSTOMERS}
 use Rattle.sb_checkpoint.specs.Reading.{is_negative, is_past_limit}
-use Rattle.sb_checkpoint.proofs.Tests.{each_fails}
+use Rattle.sb_checkpoint.proofs.Passing.{each_fails}
 
 within : (v : ℤ) → is_past_limit v ≡ false → IsWithinLimit v
 within v h = record { at_least = grind (arith, ints); at_most = grind (arith, ints) }

@@ -3,7 +3,7 @@ pub mod Chunks
 pub mod Found
 pub mod Lists
 pub mod Numbers
-pub mod Taken
+pub mod Passing
 pub mod Spelled
-pub mod Tests
+pub mod Taken
 pub mod Walks

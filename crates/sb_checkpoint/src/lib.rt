@@ -5,6 +5,8 @@ mod checkpoint;
 mod fault;
 mod laws;
 mod reading;
+#[cfg(test)]
+mod tests;
 mod writing;
 
 pub use checkpoint::Checkpoint;
