@@ -139,7 +139,8 @@ module _ (made : CheckpointOf) (bytes : List ℕ) (valid : IsBalances made.colum
       (neither (list_any is_past_limit savings) (list_any is_past_limit checking)
       (ap (list_any is_past_limit) (sym back.read.savings) ∙ none_past_limit made.columns.savings (savings_within made.columns.savings valid.savings))
       (ap (list_any is_past_limit) (sym back.read.checking) ∙ none_past_limit made.columns.checking valid.checking))
-      (passes (list_any is_negative savings) NegativeSavings _ (ap (list_any is_negative) (sym back.read.savings) ∙ none_negative made.columns.savings valid.savings)
+      (passes (list_any is_negative savings) NegativeSavings _
+      (ap (list_any is_negative) (sym back.read.savings) ∙ none_negative made.columns.savings valid.savings)
       (passes (not (int_eq (stated_total bytes) (total savings +ℤ total checking))) WrongTotal None (ap not ((Decides-int_eq _ _).1 is_total)) refl))
 
 pub spelled_is_taken : SpelledIsTaken

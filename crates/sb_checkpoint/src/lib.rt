@@ -3,7 +3,9 @@
 
 mod checkpoint;
 mod fault;
+mod fields;
 mod laws;
+mod layout;
 mod reading;
 #[cfg(test)]
 mod tests;

@@ -9,8 +9,8 @@ mod limits;
 mod spellings;
 mod texts;
 
-// Three customers and five replies, by hand: the fields up to the balances, the savings, the checking
-// balances with their total, and the replies.
+// Three customers and five replies, by hand: the fields up to the balances, the savings, the
+// checking balances, their total, and the replies.
 const HEAD: &str = "5342434b50543031 0000000000000005 00000003";
 
 const SAVINGS: &str = "0000000000000000 0000000000000000 0000000000000000";

@@ -26,7 +26,7 @@ fn a_full_bank_is_written_and_read(rt: HostRuntime) -> Result<(), Fail> {
     Ok(())
 }
 
-// A checkpoint of no customers with as many replies, each of which shows nothing, as its length states.
+// A checkpoint of no customers, of this length, and with so many replies, each of which shows 0.
 fn shown_nothing(alloc: Global, length: &str, replies: usize) -> Result<Vec<u8>, Fail> {
     let mut bytes = hex(
         alloc,
