@@ -38,24 +38,6 @@ too_much bytes = ltb LOG_CALLS (stated_length bytes) || ltb (stated_size bytes) 
 abbrev pub bad_reply : Bool → Found
 bad_reply test = cond test (Some BadReply) None
 
-bad_reply_is : (test : Bool) (fault : CheckpointFault) (later : Found) → IsFaultOf (bad_reply test) fault → IsFaultOf (cond test (Some BadReply) later) fault
-bad_reply_is true fault later h = h
-bad_reply_is false BadMagic later h = absurd cc
-bad_reply_is false Short later h = absurd cc
-bad_reply_is false WrongCustomers later h = absurd cc
-bad_reply_is false OutOfRange later h = absurd cc
-bad_reply_is false NegativeSavings later h = absurd cc
-bad_reply_is false WrongTotal later h = absurd cc
-bad_reply_is false BadReply later h = absurd cc
-bad_reply_is false Long later h = absurd cc
-bad_reply_is false OutOfMemory later h = tt
-
-pub fault_of_replies : (bytes : List ℕ) (read : List (Option Reply)) (fault : CheckpointFault) → read ≡ stated_replies bytes
-    → IsFaultOf (bad_reply (list_any is_no_reply read)) fault → IsFaultOf (replies_fault bytes) fault
-unfolding replies_fault
-fault_of_replies bytes read fault same h =
-    bad_reply_is (list_any is_no_reply (stated_replies bytes)) fault (cond (too_much bytes) (Some Long) None) (rw same at h)
-
 -- where all are replies, there may be too much
 replies_then : (bytes : List ℕ) (replies : List Reply) → map (λ r. Some r) replies ≡ stated_replies bytes
     → replies_fault bytes ≡ cond (too_much bytes) (Some Long) None
@@ -67,7 +49,8 @@ pub replies_too_long : (bytes : List ℕ) (replies : List Reply) → map (λ r. 
     → (LOG_CALLS < stated_length bytes) ⊎ (stated_size bytes < length bytes)
     → replies_fault bytes ≡ Some Long
 replies_too_long bytes replies read long =
-    let test : too_much bytes ≡ true = elim long [ inl a ↦ ap (λ t. t || ltb (stated_size bytes) (length bytes)) (lt-ltb _ _ a) | inr b ↦ either _ (lt-ltb _ _ b) ] in
+    let test : too_much bytes ≡ true =
+    elim long [ inl a ↦ ap (λ t. t || ltb (stated_size bytes) (length bytes)) (lt-ltb _ _ a) | inr b ↦ either _ (lt-ltb _ _ b) ] in
     replies_then bytes replies read ∙ ap (λ (t : Bool). cond t (Some Long) nothing) test
   where
     either : (a : Bool) {b : Bool} → b ≡ true → (a || b) ≡ true

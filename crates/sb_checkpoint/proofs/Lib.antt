@@ -3,5 +3,7 @@ pub mod Chunks
 pub mod Found
 pub mod Lists
 pub mod Numbers
+pub mod Passing
+pub mod Spelled
 pub mod Taken
-pub mod Tests
+pub mod Walks

@@ -52,7 +52,8 @@ are_spelled (r ∷ rs) (suc k) xs e room h =
       spelled = ap₂ (λ (a b : List ℕ). a ++ b) first.1 others.spelled ∙ front_more 9 k xs;
     }
 
-pub replies_spelled : (replies : List Reply) (k : ℕ) (xs : List ℕ) → map (λ r. Some r) replies ≡ map reply_of (first_chunks 9 k xs) → k * 9 ≤ length xs → AreBytes xs
+pub replies_spelled : (replies : List Reply) (k : ℕ) (xs : List ℕ) → map (λ r. Some r) replies ≡ map reply_of (first_chunks 9 k xs)
+    → k * 9 ≤ length xs → AreBytes xs
     → All IsReply replies × (flat_map reply_field replies ≡ take (k * 9) xs)
 replies_spelled replies k xs e room h =
     let are = are_spelled replies k xs e room h in

@@ -86,7 +86,8 @@ ends bytes e =
 -- ---- field by field
 
 -- a front goes on by a field
-goes_on : (bytes : List ℕ) (at n next : ℕ) (front field : List ℕ) → next ≡ at + n → take at bytes ≡ front → take n (drop at bytes) ≡ field → take next bytes ≡ front ++ field
+goes_on : (bytes : List ℕ) (at n next : ℕ) (front field : List ℕ) → next ≡ at + n → take at bytes ≡ front → take n (drop at bytes) ≡ field
+    → take next bytes ≡ front ++ field
 goes_on bytes at n next front field is before here =
     ap (λ m. take m bytes) is ∙ take-add at n bytes ∙ ap₂ (λ (a b : List ℕ). a ++ b) before here
 
@@ -152,7 +153,8 @@ module _ (bytes : List ℕ) (customers : ℕ) (made : CheckpointOf) (are : AreBy
   taken_spelled end whole =
       let c = stated_customers bytes in
       let room = head.room in
-      let savings = goes_on bytes 20 (c * 8) (20 + 8 * c) _ _ (omega arith) head_spelled (amounts_field bytes 20 made.columns.savings (omega arith) are read.savings) in
+      let savings = goes_on bytes 20 (c * 8) (20 + 8 * c) _ _ (omega arith) head_spelled
+      (amounts_field bytes 20 made.columns.savings (omega arith) are read.savings) in
       let checking = goes_on bytes (20 + 8 * c) (c * 8) (20 + 16 * c) _ _ (omega arith) savings
       (amounts_field bytes (20 + 8 * c) made.columns.checking (omega arith) are read.checking) in
       let sums = ap₂ (λ a b. total a +ℤ total b) (sym read.savings) (sym read.checking) in

@@ -10,7 +10,7 @@ use Rattle.sb_calls.specs.Replies.{coded}
 use Rattle.sb_calls.specs.declared.call.TheConstants.{LOG_CALLS}
 use Rattle.sb_calls.specs.declared.reply.Reply.{Reply}
 use Rattle.lane_audit.specs.Columns.{total, is_outside}
-use Rattle.sb_checkpoint.specs.Checkpoint.{magic}
+use Rattle.sb_checkpoint.specs.Checkpoint.{CheckpointOf, Spells, magic}
 use Rattle.sb_checkpoint.specs.declared.fault.CheckpointFault.{CheckpointFault}
 use Rattle.sb_checkpoint.specs.declared.fault.CheckpointFault.TheVariants.{BadMagic, Short, WrongCustomers, OutOfRange, NegativeSavings, WrongTotal, BadReply, Long, OutOfMemory}
 
@@ -102,3 +102,8 @@ IsFaultOf found fault = found ≡ Some fault
 abbrev pub IsRefusedBy : List ℕ → ℕ → CheckpointFault → Type 0
 IsRefusedBy bytes customers OutOfMemory = head_fault bytes customers ≡ None
 IsRefusedBy bytes customers fault = first_fault bytes customers ≡ Some fault
+
+-- bytes that spell a checkpoint have no fault
+abbrev pub SpelledIsTaken : Type 0
+SpelledIsTaken = (checkpoint : CheckpointOf) (bytes : List ℕ) → Spells checkpoint bytes
+    → first_fault bytes (length checkpoint.columns.savings) ≡ None

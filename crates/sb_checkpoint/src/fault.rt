@@ -6,8 +6,8 @@ ghost use Rattle.sb_checkpoint.specs.declared.fault.CheckpointFault.TheVariants.
 use std::alloc::AllocError;
 use thiserror::Error;
 
-/// Why bytes aren't taken as a checkpoint: the first fault in this order. Memory may be refused in the
-/// place of any fault from `OutOfRange` on.
+/// Why bytes aren't taken as a checkpoint: the first fault in this order. Memory may be refused in
+/// the place of any fault from `OutOfRange` on.
 #[derive(Clone, Copy, Debug, PartialEq, Eq, Error)]
 pub enum CheckpointFault {
     /// It doesn't begin with the eight bytes of a checkpoint.
@@ -28,8 +28,8 @@ pub enum CheckpointFault {
     /// The total isn't that of its balances.
     #[error("wrong total")]
     WrongTotal,
-    /// A reply's code is above 7, its total is past the range of two balances, or there is a total where
-    /// none is shown.
+    /// A reply's code is above 7, its total is past the range of two balances, or there is a total
+    /// where none is shown.
     #[error("bad reply")]
     BadReply,
     /// There are more replies than a log has calls, or more bytes than it states.

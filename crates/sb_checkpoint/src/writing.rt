@@ -5,23 +5,11 @@ ghost use Rattle.std.specs.List.{All, flat_map};
 ghost use Rattle.sb_calls.specs.Replies.{IsReply, number_field, amount_field, reply_field};
 ghost use Rattle.sb_checkpoint.specs.Checkpoint.{Spells};
 
+use crate::layout::{AMOUNT, BALANCES, FRAME, MAGIC, REPLY};
 use lane_audit::bank_total;
 use sb_calls::{LOG_CALLS, Reply, WireReply};
 use sb_rows::Columns;
 use std::alloc::{AllocError, Global};
-
-/// The eight bytes that a checkpoint begins with.
-pub(crate) const MAGIC: [u8; 8] = *b"SBCKPT01";
-
-/// How many bytes balances and replies take.
-pub(crate) const AMOUNT: usize = 8;
-
-pub(crate) const REPLY: usize = 9;
-
-/// How many bytes stand before the first balance, and how many a checkpoint of nothing has.
-pub(crate) const HEAD: usize = 20;
-
-pub(crate) const EMPTY: usize = HEAD + AMOUNT;
 
 /// The bytes of a checkpoint, in one allocation of its exact size.
 pub fn write_checkpoint(
@@ -35,7 +23,7 @@ pub fn write_checkpoint(
         Spells (record { columns = columns.now; replies = replies.now }) bytes.items) }
 {
     let customers = columns.customers();
-    let size = EMPTY + 2 * AMOUNT * customers + REPLY * replies.len();
+    let size = FRAME + BALANCES * customers + REPLY * replies.len();
     let mut bytes = Vec::with_capacity(alloc, size)?;
     put(&mut bytes, &MAGIC);
     put_length(&mut bytes, replies.len() as u64);

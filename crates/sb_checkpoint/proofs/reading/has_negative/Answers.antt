@@ -1,6 +1,6 @@
 use Rattle.std.proofs.Common.{ltb, ap, ◌∙◌}
 use Rattle.sb_checkpoint.specs.Reading.{is_negative}
-use Rattle.sb_checkpoint.proofs.Tests.{count_any}
+use Rattle.sb_checkpoint.proofs.Passing.{count_any}
 use Rattle.sb_checkpoint.proofs.reading.has_negative.Goals as goal
 
 pub returns : goal.returns

@@ -1,6 +1,6 @@
 use Rattle.std.proofs.Common.{◌≡◌, ◌≤◌, Some, length, map, take, vec_len, vec_capacity}
 use Rattle.sb_checkpoint.specs.Reading.{reply_of}
-use Rattle.sb_checkpoint.proofs.reading.replies_of.Given as goal
+use Rattle.sb_checkpoint.proofs.fields.replies_of.Given as goal
 
 abbrev pub invariant-loop-cell : goal.invariant-loop-cell
 invariant-loop-cell l = record {

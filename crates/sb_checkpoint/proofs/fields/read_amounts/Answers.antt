@@ -2,7 +2,7 @@ use Rattle.std.proofs.Common.{◌≡◌, ℕ, List, map, subst, ◌∙◌, arith
 use Rattle.std.specs.Prelude.{IfOk}
 use Rattle.sb_checkpoint.specs.Reading.{amount_of}
 use Rattle.sb_checkpoint.proofs.Chunks.{chunks_behind}
-use Rattle.sb_checkpoint.proofs.reading.read_amounts.Goals as goal
+use Rattle.sb_checkpoint.proofs.fields.read_amounts.Goals as goal
 
 pub returns : goal.returns
 returns c =

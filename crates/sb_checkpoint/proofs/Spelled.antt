@@ -1,0 +1,150 @@
+-- A spelling is read as what it spells, and has no fault.
+use Rattle.std.proofs.Common.{◌≡◌, ℕ, ◌+◌, ◌*◌, ℤ, ◌+ℤ◌, Bool, true, false, not, cond, eqb, ltb, ◌||◌, Option, Some, None, List, [], ◌∷◌, ◌++◌, length, take, drop, map, refl, sym, ap, ap₂, ◌∙◌, arith}
+use Rattle.std.specs.Prelude.{nat_eq}
+use Rattle.std.specs.Int.{w32, w64, from_be_bytes}
+use Rattle.std.specs.List.{flat_map, list_any, starts_with}
+use Rattle.std.specs.Ordering.{int_eq}
+use Rattle.std.specs.Simd.{first_chunks}
+use Rattle.std.proofs.lemmas.Bool.{le-ltb, eq-eqb}
+use Rattle.std.proofs.lemmas.Bool.Decides.{Decides-int_eq}
+use Rattle.std.proofs.lemmas.List.{append-nil, append_assoc, length-drop}
+use Rattle.std.proofs.lemmas.List.Elements.{recursion_from_All}
+use Rattle.sb_rows.specs.Balances.{IsBalances}
+use Rattle.sb_calls.specs.Replies.{IsReply, number_field, amount_field, reply_field}
+use Rattle.sb_calls.specs.declared.reply.Reply.{Reply}
+use Rattle.lane_audit.specs.Columns.{total}
+use Rattle.sb_checkpoint.specs.Checkpoint.{CheckpointOf, OneCheckpoint, Spells, magic, spelling}
+use Rattle.sb_checkpoint.specs.Reading.{SpelledIsTaken, amount_of, amounts_at, balances_fault, head_fault, is_negative, is_past_limit, reply_of, stated_checking, stated_customers, stated_length, stated_savings, stated_size, stated_total}
+use Rattle.sb_checkpoint.specs.declared.fault.CheckpointFault.{CheckpointFault}
+use Rattle.sb_checkpoint.specs.declared.fault.CheckpointFault.TheVariants.{BadMagic, Short, WrongCustomers, OutOfRange, NegativeSavings, WrongTotal}
+use Rattle.sb_checkpoint.proofs.Balances.{amounts_fit, none_negative, none_past_limit, savings_within, total_fits}
+use Rattle.sb_checkpoint.proofs.Found.{no_fault, replies_without_fault}
+use Rattle.sb_checkpoint.proofs.Taken.{IsRead}
+use Rattle.sb_checkpoint.proofs.Walks.{IsAt, step, number32_size, number64_size, number32_again, number64_again, amount_again, amounts_size, amounts_again, replies_size, replies_again}
+
+-- what is read of a spelling
+pub record IsReadBack (bytes : List ℕ) (made : CheckpointOf) : Type 0 where
+  pub begins : take 8 bytes ≡ magic
+  pub count : stated_length bytes ≡ length made.replies
+  pub many : stated_customers bytes ≡ length made.columns.savings
+  pub sum : stated_total bytes ≡ total made.columns.savings +ℤ total made.columns.checking
+  pub size : length bytes ≡ stated_size bytes
+  pub read : IsRead bytes made
+
+regrouped : (a b c d e f g : List ℕ) → a ++ b ++ c ++ d ++ e ++ f ++ g ≡ a ++ (b ++ (c ++ (d ++ (e ++ (f ++ (g ++ []))))))
+regrouped a b c d e f g = simp (append_assoc, append-nil)
+
+module _ (made : CheckpointOf) (bytes : List ℕ) (is : Spells made bytes) where
+  starts : let columns = made.columns in
+      IsAt bytes 0 (magic ++ (number_field w64 (length made.replies) ++ (number_field w32 (length columns.savings) ++ (flat_map amount_field columns.savings
+      ++ (flat_map amount_field columns.checking ++ (amount_field (total columns.savings +ℤ total columns.checking)
+      ++ (flat_map reply_field made.replies ++ [])))))))
+  unfolding spelling
+  starts = record {
+    within = omega arith;
+    behind = is.spelled
+        ∙ regrouped magic (number_field w64 (length made.replies)) (number_field w32 (length made.columns.savings)) (flat_map amount_field made.columns.savings)
+        (flat_map amount_field made.columns.checking) (amount_field (total made.columns.savings +ℤ total made.columns.checking))
+        (flat_map reply_field made.replies);
+  }
+
+  pub read_back : IsReadBack bytes made
+  unfolding stated_length stated_customers stated_total
+  read_back =
+      let m = length made.replies in
+      let n = length made.columns.savings in
+      let valid = is.valid in
+      let few = valid.few in
+      let customers = valid.balances.few in
+      let same : length made.columns.checking ≡ n = sym valid.balances.same in
+      let p0 = step bytes 0 8 8 magic _ refl (omega arith) starts in
+      let p1 = step bytes 8 8 16 _ _ (number64_size m) (omega arith) p0.1 in
+      let p2 = step bytes 16 4 20 _ _ (number32_size n) (omega arith) p1.1 in
+      let p3 = step bytes 20 (8 * n) (20 + 8 * n) _ _ (amounts_size made.columns.savings) (omega arith) p2.1 in
+      let p4 = step bytes (20 + 8 * n) (8 * n) (20 + 16 * n) _ _ (amounts_size made.columns.checking ∙ ap (λ k. 8 * k) same) (omega arith) p3.1 in
+      let p5 = step bytes (20 + 16 * n) 8 (28 + 16 * n) _ _ (number64_size _) (omega arith) p4.1 in
+      let p6 = step bytes (28 + 16 * n) (9 * m) (28 + 16 * n + 9 * m) _ _ (replies_size made.replies) (omega arith) p5.1 in
+      let count : stated_length bytes ≡ m = ap (from_be_bytes w64) p1.0 ∙ number64_again m (omega arith) in
+      let many : stated_customers bytes ≡ n = ap (from_be_bytes w32) p2.0 ∙ number32_again n (omega arith) in
+      let savings = ap (λ k. amounts_at k (drop 20 bytes)) many ∙ ap (amounts_at n) p2.1.behind
+      ∙ amounts_again n made.columns.savings _ refl (amounts_fit made.columns.savings (savings_within made.columns.savings valid.balances.savings)) in
+      let checking = ap (λ k. amounts_at k (drop (20 + 8 * k) bytes)) many ∙ ap (amounts_at n) p3.1.behind
+      ∙ amounts_again n made.columns.checking _ same (amounts_fit made.columns.checking valid.balances.checking) in
+      let replies = ap (λ k. map reply_of (first_chunks 9 k (drop (28 + 16 * stated_customers bytes) bytes))) count
+      ∙ ap (λ k. map reply_of (first_chunks 9 m (drop (28 + 16 * k) bytes))) many ∙ ap (λ xs. map reply_of (first_chunks 9 m xs)) p5.1.behind
+      ∙ replies_again made.replies [] (recursion_from_All IsReply made.replies valid.replies) in
+      let end : length bytes ≡ 28 + 16 * n + 9 * m = omega (arith, p6.1.within, length-drop (28 + 16 * n + 9 * m) bytes, ap length p6.1.behind) in
+      record {
+        begins = p0.0;
+        count = count;
+        many = many;
+        sum = ap (λ k. amount_of (take 8 (drop (20 + 16 * k) bytes))) many ∙ ap amount_of p5.0
+            ∙ amount_again (total made.columns.savings +ℤ total made.columns.checking) (total_fits made.columns valid.balances);
+        size = end ∙ ap₂ (λ j k. 28 + 16 * j + 9 * k) (sym many) (sym count);
+        read = record { savings = sym savings; checking = sym checking; replies = sym replies };
+      }
+
+-- ---- bytes are of one checkpoint
+
+same_replies : (xs ys : List Reply) → map (λ r. Some r) xs ≡ map (λ r. Some r) ys → xs ≡ ys
+same_replies [] [] e = refl
+same_replies [] (y ∷ ys) e = absurd cc
+same_replies (x ∷ xs) [] e = absurd cc
+same_replies (x ∷ xs) (y ∷ ys) e =
+    let first : x ≡ y = cc in
+    let others : map (λ r. Some r) xs ≡ map (λ r. Some r) ys = cc in
+    ap₂ ◌∷◌ first (same_replies xs ys others)
+
+made_of : List ℤ → List ℤ → List Reply → CheckpointOf
+made_of savings checking replies = record { columns = record { savings = savings; checking = checking }; replies = replies }
+
+pub one_checkpoint : OneCheckpoint
+unfolding made_of
+one_checkpoint a b bytes is_a is_b =
+    let left = (read_back a bytes is_a).read in
+    let right = (read_back b bytes is_b).read in
+    ap (λ savings. made_of savings a.columns.checking a.replies) (left.savings ∙ sym right.savings)
+    ∙ ap (λ checking. made_of b.columns.savings checking a.replies) (left.checking ∙ sym right.checking)
+    ∙ ap (made_of b.columns.savings b.columns.checking) (same_replies a.replies b.replies (left.replies ∙ sym right.replies))
+
+-- ---- no fault
+
+abbrev Found : Type 0
+Found = Option CheckpointFault
+
+passes : (test : Bool) (fault : CheckpointFault) (later : Found) → test ≡ false → later ≡ None → cond test (Some fault) later ≡ None
+passes true fault later fails done = absurd cc
+passes false fault later fails done = done
+
+neither : (a b : Bool) → a ≡ false → b ≡ false → (a || b) ≡ false
+neither true b fails done = absurd cc
+neither false b fails done = done
+
+module _ (made : CheckpointOf) (bytes : List ℕ) (valid : IsBalances made.columns) (back : IsReadBack bytes made) where
+  no_head_fault : head_fault bytes (length made.columns.savings) ≡ None
+  unfolding head_fault
+  no_head_fault =
+      passes (not (starts_with nat_eq magic (take 8 bytes))) BadMagic _ (ap (λ (front : List ℕ). not (starts_with nat_eq magic front)) back.begins)
+      (passes (ltb (length bytes) 20 || ltb (length bytes) (stated_size bytes)) Short _
+      (neither (ltb (length bytes) 20) (ltb (length bytes) (stated_size bytes)) (le-ltb _ _ (omega (arith, back.size))) (le-ltb _ _ (omega (arith, back.size))))
+      (passes (not (eqb (stated_customers bytes) (length made.columns.savings))) WrongCustomers None (ap not (eq-eqb _ _ back.many)) refl))
+
+  no_balances_fault : balances_fault bytes ≡ None
+  unfolding balances_fault
+  no_balances_fault =
+      let savings = stated_savings bytes in
+      let checking = stated_checking bytes in
+      let is_total = back.sum ∙ ap₂ (λ a b. total a +ℤ total b) back.read.savings back.read.checking in
+      passes (list_any is_past_limit savings || list_any is_past_limit checking) OutOfRange _
+      (neither (list_any is_past_limit savings) (list_any is_past_limit checking)
+      (ap (list_any is_past_limit) (sym back.read.savings) ∙ none_past_limit made.columns.savings (savings_within made.columns.savings valid.savings))
+      (ap (list_any is_past_limit) (sym back.read.checking) ∙ none_past_limit made.columns.checking valid.checking))
+      (passes (list_any is_negative savings) NegativeSavings _
+      (ap (list_any is_negative) (sym back.read.savings) ∙ none_negative made.columns.savings valid.savings)
+      (passes (not (int_eq (stated_total bytes) (total savings +ℤ total checking))) WrongTotal None (ap not ((Decides-int_eq _ _).1 is_total)) refl))
+
+pub spelled_is_taken : SpelledIsTaken
+spelled_is_taken made bytes is =
+    let back = read_back made bytes is in
+    no_fault bytes (length made.columns.savings) (no_head_fault made bytes is.valid.balances back) (no_balances_fault made bytes is.valid.balances back)
+    (replies_without_fault bytes made.replies back.read.replies (omega (arith, back.count, is.valid.few)) (omega (arith, back.size)))

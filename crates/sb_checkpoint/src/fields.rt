@@ -1,0 +1,118 @@
+//! The fields of a checkpoint, read where they stand.
+ghost use Rattle.std.specs.Prelude.{◌≡◌, if◌then◌else◌, ◌+◌, ◌*◌, ◌≤◌, IfOk, IfErr, Some, None, length, map, drop};
+ghost use Rattle.std.specs.List.{list_any};
+ghost use Rattle.sb_checkpoint.specs.Reading as spec;
+ghost use Rattle.sb_checkpoint.specs.Reading.{IsFaultOf, amount_of, amounts_at, is_no_reply, reply_of, stated_replies, stated_size};
+ghost use Rattle.sb_checkpoint.specs.declared.fault.CheckpointFault.TheVariants.{BadReply};
+
+use crate::fault::CheckpointFault;
+use crate::layout::{AMOUNT, BALANCES, CUSTOMERS_AT, FRAME, HEAD, LENGTH_AT, REPLY};
+use sb_calls::{Reply, WireReply};
+use sb_rows::CUSTOMERS;
+use std::alloc::{AllocError, Global};
+
+// ---- numbers
+
+#[tactic(auto, unfolding(crate::specs::Reading::stated_length))]
+pub(crate) fn stated_length(bytes: &[u8]) -> u64
+    requires { HEAD ≤ length bytes.now }
+    ensures { result ≡ spec.stated_length bytes.now }
+{
+    let cells = &bytes[LENGTH_AT..];
+    u64::from_be_bytes([
+        cells[0], cells[1], cells[2], cells[3], cells[4], cells[5], cells[6], cells[7],
+    ])
+}
+
+#[tactic(auto, unfolding(crate::specs::Reading::stated_customers))]
+pub(crate) fn stated_customers(bytes: &[u8]) -> u32
+    requires { HEAD ≤ length bytes.now }
+    ensures { result ≡ spec.stated_customers bytes.now }
+{
+    let cells = &bytes[CUSTOMERS_AT..];
+    u32::from_be_bytes([cells[0], cells[1], cells[2], cells[3]])
+}
+
+#[tactic(auto, unfolding(crate::specs::Reading::stated_total))]
+pub(crate) fn stated_total(bytes: &[u8], customers: usize) -> i64
+    requires customers { customers ≡ spec.stated_customers bytes.now }
+    requires few { customers ≤ CUSTOMERS }
+    requires room { FRAME + BALANCES * customers ≤ length bytes.now }
+    ensures { result ≡ spec.stated_total bytes.now }
+{
+    let cells = &bytes[HEAD + BALANCES * customers..];
+    i64::from_be_bytes([
+        cells[0], cells[1], cells[2], cells[3], cells[4], cells[5], cells[6], cells[7],
+    ])
+}
+
+// ---- balances
+
+// As many amounts as there are customers, from a place on.
+pub(crate) fn read_amounts(
+    alloc: Global,
+    bytes: &[u8],
+    from: usize,
+    customers: usize,
+) -> Result<Vec<i64>, AllocError>
+    requires few { customers ≤ CUSTOMERS }
+    requires room { from + AMOUNT * customers ≤ length bytes.now }
+    ensures { IfOk result (λ amounts. amounts.items ≡ amounts_at customers (drop from bytes.now)) }
+{
+    let (cells, _) = bytes[from..from + AMOUNT * customers].as_chunks::<AMOUNT>();
+    amounts_of(alloc, cells)
+}
+
+fn amounts_of(alloc: Global, cells: &[[u8; AMOUNT]]) -> Result<Vec<i64>, AllocError>
+    ensures { IfOk result (λ amounts. amounts.items ≡ map amount_of cells.now) }
+{
+    cells
+        .iter()
+        .map(|cells| i64::from_be_bytes(*cells))
+        .collect(alloc)
+}
+
+// ---- replies
+
+// The bytes of each reply.
+pub(crate) fn reply_cells(bytes: &[u8], customers: usize, count: usize) -> &[[u8; REPLY]]
+    requires customers { customers ≡ spec.stated_customers bytes.now }
+    requires count { count ≡ spec.stated_length bytes.now }
+    requires room { stated_size bytes.now ≤ length bytes.now }
+    ensures { map reply_of result.now ≡ stated_replies bytes.now }
+{
+    let from = FRAME + BALANCES * customers;
+    let (cells, _) = bytes[from..from + REPLY * count].as_chunks::<REPLY>();
+    cells
+}
+
+#[tactic(auto, unfolding(crate::specs::Reading::reply_of))]
+fn read_reply(cells: &[u8; REPLY]) -> Option<Reply>
+    ensures { result ≡ reply_of cells.now }
+{
+    let total = i64::from_be_bytes([
+        cells[1], cells[2], cells[3], cells[4], cells[5], cells[6], cells[7], cells[8],
+    ]);
+    let reply = WireReply::from_code(cells[0], total)?;
+    Some(reply.reply())
+}
+
+// The replies that stand in these bytes.
+pub(crate) fn replies_of(
+    alloc: Global,
+    cells: &[[u8; REPLY]],
+) -> Result<Vec<Reply>, CheckpointFault>
+    ensures replies { IfOk result
+        (λ replies. map (λ r. Some r) replies.items ≡ map reply_of cells.now) }
+    ensures fault { IfErr result (IsFaultOf
+        (if list_any is_no_reply (map reply_of cells.now) then Some BadReply else None)) }
+{
+    let mut replies = Vec::with_capacity(alloc, cells.len())?;
+    for cell in cells {
+        let Some(reply) = read_reply(cell) else {
+            return Err(CheckpointFault::BadReply);
+        };
+        replies.push_reserved(reply);
+    }
+    Ok(replies)
+}
