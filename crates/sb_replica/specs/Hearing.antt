@@ -57,7 +57,7 @@ pub record Hears {S : Type 0} (old : ReplicaOf S) (bytes : List ℕ) (answer : H
   pub after : new ≡ record old { board = after_frame old.names old.board frame }
 
 -- the fault is the frame's; memory is asked for only for an entry that would be accepted
-abbrev pub IsFaultOf : {S : Type 0} → ReplicaOf S → List ℕ → ReplicaFault → Type 0
-IsFaultOf replica bytes (fault.BadFrame frame) = whole_frame bytes ≡ Err frame
-IsFaultOf replica bytes fault.OutOfMemory =
+abbrev pub IsHearingFault : {S : Type 0} → ReplicaOf S → List ℕ → ReplicaFault → Type 0
+IsHearingFault replica bytes (fault.BadFrame frame) = whole_frame bytes ≡ Err frame
+IsHearingFault replica bytes fault.OutOfMemory =
     (entry : Frame) × (number : ℕ) × (whole_frame bytes ≡ Ok entry) × (heard replica.board entry ≡ Accepted number)

@@ -17,15 +17,15 @@ use Rattle.sb_replica.specs.declared.fault.RestartFault.TheVariants as restart
 
 -- what the store holds is this checkpoint of a bank of so many customers; where it holds nothing, it is the opening,
 -- without replies
-abbrev pub IsHeld : Balances → ℕ → Option (List ℕ) → CheckpointOf → Type 0
-IsHeld opening customers None checkpoint = checkpoint ≡ record { columns = opening; replies = [] }
-IsHeld opening customers (Some bytes) checkpoint =
+abbrev pub IsStoredAs : Balances → ℕ → Option (List ℕ) → CheckpointOf → Type 0
+IsStoredAs opening customers None checkpoint = checkpoint ≡ record { columns = opening; replies = [] }
+IsStoredAs opening customers (Some bytes) checkpoint =
     Spells checkpoint bytes × (length checkpoint.columns.savings ≡ customers)
 
 -- a board that was opened on what the store holds
 pub record IsLogOn (opening : Balances) (customers : ℕ) (held : Option (List ℕ)) (board : BoardOf Op) : Type 0 where
   pub checkpoint : CheckpointOf
-  pub is_held : IsHeld opening customers held checkpoint
+  pub is_stored : IsStoredAs opening customers held checkpoint
   pub board_is : board ≡ opened_with checkpoint.columns checkpoint.replies
 
 -- what a restart is answered where its store or what it holds is at fault

@@ -1,7 +1,7 @@
 //! Frames from the network.
 ghost use Rattle.std.specs.Prelude.{◌≡◌, MatchResult};
 ghost use Rattle.sb_replica.specs.Hearing as spec;
-ghost use Rattle.sb_replica.specs.Hearing.{Hears, IsFaultOf};
+ghost use Rattle.sb_replica.specs.Hearing.{Hears, IsHearingFault};
 
 use crate::fault::ReplicaFault;
 use crate::heard::Heard;
@@ -44,7 +44,7 @@ impl<S: CheckpointStore> Replica<S> {
     pub fn on_frame(&mut self, bytes: &[u8]) -> Result<Heard, ReplicaFault>
         ensures outcome { MatchResult result
             (λ heard. Hears self.old bytes.now heard self.new)
-            (λ fault. IsFaultOf self.old bytes.now fault × (self.new ≡ self.old)) }
+            (λ fault. IsHearingFault self.old bytes.now fault × (self.new ≡ self.old)) }
     {
         let frame = match whole_frame(bytes) {
             Ok(frame) => frame,

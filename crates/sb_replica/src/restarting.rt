@@ -4,7 +4,7 @@ ghost use Rattle.std.specs.List.{All};
 ghost use Rattle.sb_calls.specs.Replies.{IsReply};
 ghost use Rattle.cown_board.specs.Played.{opened_with};
 ghost use Rattle.sb_checkpoint.specs.Stores.{StoreDoes};
-ghost use Rattle.sb_replica.specs.Restarting.{Restarts, IsRestartFaultOf, IsHeld, IsLogOn, IsRefusalOf};
+ghost use Rattle.sb_replica.specs.Restarting.{Restarts, IsRestartFaultOf, IsStoredAs, IsLogOn, IsRefusalOf};
 
 use crate::fault::RestartFault;
 use crate::replica::Replica;
@@ -57,7 +57,7 @@ impl<S: CheckpointStore> Replica<S> {
 
     // The balances and the replies that the store holds, or those of the opening where it holds nothing.
     fn held_parts(&self, held: Option<Vec<u8>>) -> Result<(Columns, Vec<Reply>), RestartFault>
-        ensures held { IfOk result (λ parts. IsHeld self.now.opening (length self.now.names)
+        ensures held { IfOk result (λ parts. IsStoredAs self.now.opening (length self.now.names)
             (option_map (λ bytes. bytes.items) held)
             (record { columns = parts.0; replies = parts.1.items })) }
         ensures customers { IfOk result (λ parts. length parts.0.savings ≡ length self.now.names) }
