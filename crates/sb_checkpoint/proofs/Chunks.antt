@@ -3,7 +3,7 @@ use Rattle.std.proofs.Common.{◌≡◌, ℕ, zero, suc, ◌+◌, ◌-◌, ◌*�
 use Rattle.std.proofs.Math.Nat.{mul-div_cancel, mul_comm}
 use Rattle.std.proofs.lemmas.List.{drop-take, take-take, length-drop, length-map, length-take-le}
 use Rattle.std.specs.Simd.{first_chunks}
-use Rattle.sb_checkpoint.specs.Reading.{amount_of, amounts_at, reply_of, stated_customers, stated_length, stated_replies}
+use Rattle.sb_checkpoint.specs.Reading.{amount_of, amounts_at, stated_reply, stated_customers, stated_length, stated_replies}
 
 -- the first chunks stand in the front
 first_chunks-take : {X : Type 0} (n k m : ℕ) (xs : List X) → m ≡ k * n → first_chunks n k (take m xs) ≡ first_chunks n k xs
@@ -36,7 +36,7 @@ chunks_behind n from count bytes some room =
     chunks_of_front n count (from + n * count - from) (drop from bytes) some whole (omega (arith, length-drop from bytes))
 
 pub reply_chunks : (bytes : List ℕ) (customers count : ℕ) → customers ≡ stated_customers bytes → count ≡ stated_length bytes
-    → map reply_of (first_chunks 9 count (drop (28 + 16 * customers) bytes)) ≡ stated_replies bytes
+    → map stated_reply (first_chunks 9 count (drop (28 + 16 * customers) bytes)) ≡ stated_replies bytes
 reply_chunks bytes customers count same_customers same_count =
-    ap (λ n. map reply_of (first_chunks 9 n (drop (28 + 16 * customers) bytes))) same_count
-    ∙ ap (λ n. map reply_of (first_chunks 9 (stated_length bytes) (drop (28 + 16 * n) bytes))) same_customers
+    ap (λ n. map stated_reply (first_chunks 9 n (drop (28 + 16 * customers) bytes))) same_count
+    ∙ ap (λ n. map stated_reply (first_chunks 9 (stated_length bytes) (drop (28 + 16 * n) bytes))) same_customers

@@ -7,7 +7,7 @@ use Rattle.std.proofs.lemmas.List.{get_or-map, length-map}
 use Rattle.std.proofs.lemmas.List.Folds.{list_any_at}
 use Rattle.sb_calls.specs.declared.call.TheConstants.{LOG_CALLS}
 use Rattle.sb_calls.specs.declared.reply.Reply.{Reply}
-use Rattle.sb_checkpoint.specs.Reading.{IsFaultOf, IsRefusedBy, balances_fault, first_fault, head_fault, is_no_reply, replies_fault, reply_of, stated_length, stated_replies, stated_size}
+use Rattle.sb_checkpoint.specs.Reading.{IsFaultOf, IsRefusedBy, balances_fault, first_fault, head_fault, is_no_reply, replies_fault, stated_reply, stated_length, stated_replies, stated_size}
 use Rattle.sb_checkpoint.specs.declared.fault.CheckpointFault.{CheckpointFault}
 use Rattle.sb_checkpoint.specs.declared.fault.CheckpointFault.TheVariants.{BadMagic, Short, WrongCustomers, OutOfRange, NegativeSavings, WrongTotal, BadReply, Long, OutOfMemory}
 
@@ -20,11 +20,11 @@ nothing = None
 -- ---- the replies
 
 -- a place that has no reply
-pub no_reply_at : (cells : List (List ℕ)) (place : ℕ) → place < length cells → None ≡ reply_of (get_or cells place [])
-    → list_any is_no_reply (map reply_of cells) ≡ true
+pub no_reply_at : (cells : List (List ℕ)) (place : ℕ) → place < length cells → None ≡ stated_reply (get_or cells place [])
+    → list_any is_no_reply (map stated_reply cells) ≡ true
 no_reply_at cells place inside none =
-    list_any_at is_no_reply (map reply_of cells) place None (omega (arith, length-map cells reply_of))
-    (ap is_no_reply (get_or-map reply_of cells place [] None inside ∙ sym none))
+    list_any_at is_no_reply (map stated_reply cells) place None (omega (arith, length-map cells stated_reply))
+    (ap is_no_reply (get_or-map stated_reply cells place [] None inside ∙ sym none))
 
 -- replies are replies
 none_of_replies : (replies : List Reply) → list_any is_no_reply (map (λ r. Some r) replies) ≡ false

@@ -7,7 +7,7 @@ use Rattle.std.proofs.lemmas.List.{length-drop, length-take-le}
 use Rattle.std.proofs.lemmas.List.Elements.{All-take, All-drop, All-from_recursion}
 use Rattle.sb_calls.specs.Replies.{IsReply, amount_field, reply_field}
 use Rattle.sb_calls.specs.declared.reply.Reply.{Reply}
-use Rattle.sb_checkpoint.specs.Reading.{amounts_at, reply_of}
+use Rattle.sb_checkpoint.specs.Reading.{amounts_at, stated_reply}
 use Rattle.sb_checkpoint.proofs.Numbers.{AreBytes, amount_spelled, reply_spelled}
 
 -- one more in front
@@ -39,7 +39,7 @@ head_is x y xs ys e = cc
 tail_is : {A : Type 0} (x y : A) (xs ys : List A) → x ∷ xs ≡ y ∷ ys → xs ≡ ys
 tail_is x y xs ys e = cc
 
-are_spelled : (replies : List Reply) (k : ℕ) (xs : List ℕ) → map some replies ≡ map reply_of (first_chunks 9 k xs) → k * 9 ≤ length xs → AreBytes xs
+are_spelled : (replies : List Reply) (k : ℕ) (xs : List ℕ) → map some replies ≡ map stated_reply (first_chunks 9 k xs) → k * 9 ≤ length xs → AreBytes xs
     → AreSpelled replies (take (k * 9) xs)
 are_spelled [] zero xs e room h = record { valid = tt; spelled = none_of 9 xs }
 are_spelled [] (suc k) xs e room h = absurd cc
@@ -52,7 +52,7 @@ are_spelled (r ∷ rs) (suc k) xs e room h =
       spelled = ap₂ (λ (a b : List ℕ). a ++ b) first.1 others.spelled ∙ front_more 9 k xs;
     }
 
-pub replies_spelled : (replies : List Reply) (k : ℕ) (xs : List ℕ) → map (λ r. Some r) replies ≡ map reply_of (first_chunks 9 k xs)
+pub replies_spelled : (replies : List Reply) (k : ℕ) (xs : List ℕ) → map (λ r. Some r) replies ≡ map stated_reply (first_chunks 9 k xs)
     → k * 9 ≤ length xs → AreBytes xs
     → All IsReply replies × (flat_map reply_field replies ≡ take (k * 9) xs)
 replies_spelled replies k xs e room h =

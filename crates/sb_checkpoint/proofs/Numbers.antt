@@ -10,7 +10,7 @@ use Rattle.std.proofs.lemmas.Nat.{be_bytes_4, be_bytes_8}
 use Rattle.sb_calls.specs.Replies.{IsReply, number_field, amount_field, reply_field}
 use Rattle.sb_calls.specs.declared.reply.Reply.{Reply}
 use Rattle.sb_calls.proofs.CodedReplies.{coded_takes}
-use Rattle.sb_checkpoint.specs.Reading.{amount_of, reply_of}
+use Rattle.sb_checkpoint.specs.Reading.{amount_of, stated_reply}
 
 abbrev pub AreBytes : List ℕ → Type 0
 AreBytes bytes = All (λ byte. byte < 256) bytes
@@ -41,9 +41,9 @@ amount_spelled cells len h =
 
 -- ---- replies
 
-pub reply_spelled : (cells : List ℕ) (reply : Reply) → length cells ≡ 9 → AreBytes cells → reply_of cells ≡ Some reply
+pub reply_spelled : (cells : List ℕ) (reply : Reply) → length cells ≡ 9 → AreBytes cells → stated_reply cells ≡ Some reply
     → IsReply reply × (reply_field reply ≡ cells)
-unfolding reply_of
+unfolding stated_reply
 reply_spelled cells reply len h e =
     let is = coded_takes (get_or cells 0 0) (amount_of (drop 1 cells)) reply e in
     let total = amount_spelled (drop 1 cells) (omega (arith, length-drop 1 cells)) (All-drop (λ byte. byte < 256) 1 cells h) in (

@@ -14,7 +14,7 @@ use Rattle.sb_calls.specs.Replies.{IsReply, number_field, amount_field, reply_fi
 use Rattle.sb_calls.specs.declared.reply.Reply.{Reply}
 use Rattle.lane_audit.specs.Columns.{total}
 use Rattle.sb_checkpoint.specs.Checkpoint.{CheckpointOf, OneCheckpoint, Spells, magic, spelling}
-use Rattle.sb_checkpoint.specs.Reading.{SpelledIsTaken, amount_of, amounts_at, balances_fault, head_fault, is_negative, is_past_limit, reply_of, stated_checking, stated_customers, stated_length, stated_savings, stated_size, stated_total}
+use Rattle.sb_checkpoint.specs.Reading.{SpelledIsTaken, amount_of, amounts_at, balances_fault, head_fault, is_negative, is_past_limit, stated_reply, stated_checking, stated_customers, stated_length, stated_savings, stated_size, stated_total}
 use Rattle.sb_checkpoint.specs.declared.fault.CheckpointFault.{CheckpointFault}
 use Rattle.sb_checkpoint.specs.declared.fault.CheckpointFault.TheVariants.{BadMagic, Short, WrongCustomers, OutOfRange, NegativeSavings, WrongTotal}
 use Rattle.sb_checkpoint.proofs.Balances.{amounts_fit, none_negative, none_past_limit, savings_within, total_fits}
@@ -70,8 +70,8 @@ module _ (made : CheckpointOf) (bytes : List ℕ) (is : Spells made bytes) where
       ∙ amounts_again n made.columns.savings _ refl (amounts_fit made.columns.savings (savings_within made.columns.savings valid.balances.savings)) in
       let checking = ap (λ k. amounts_at k (drop (20 + 8 * k) bytes)) many ∙ ap (amounts_at n) p3.1.behind
       ∙ amounts_again n made.columns.checking _ same (amounts_fit made.columns.checking valid.balances.checking) in
-      let replies = ap (λ k. map reply_of (first_chunks 9 k (drop (28 + 16 * stated_customers bytes) bytes))) count
-      ∙ ap (λ k. map reply_of (first_chunks 9 m (drop (28 + 16 * k) bytes))) many ∙ ap (λ xs. map reply_of (first_chunks 9 m xs)) p5.1.behind
+      let replies = ap (λ k. map stated_reply (first_chunks 9 k (drop (28 + 16 * stated_customers bytes) bytes))) count
+      ∙ ap (λ k. map stated_reply (first_chunks 9 m (drop (28 + 16 * k) bytes))) many ∙ ap (λ xs. map stated_reply (first_chunks 9 m xs)) p5.1.behind
       ∙ replies_again made.replies [] (recursion_from_All IsReply made.replies valid.replies) in
       let end : length bytes ≡ 28 + 16 * n + 9 * m = omega (arith, p6.1.within, length-drop (28 + 16 * n + 9 * m) bytes, ap length p6.1.behind) in
       record {

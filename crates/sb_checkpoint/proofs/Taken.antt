@@ -17,7 +17,7 @@ use Rattle.sb_calls.specs.declared.call.TheConstants.{LOG_CALLS}
 use Rattle.sb_calls.specs.declared.reply.Reply.{Reply}
 use Rattle.lane_audit.specs.Columns.{total}
 use Rattle.sb_checkpoint.specs.Checkpoint.{CheckpointOf, Spells, magic, spelling}
-use Rattle.sb_checkpoint.specs.Reading.{amounts_at, balances_fault, head_fault, is_negative, is_no_reply, is_past_limit, replies_fault, reply_of, stated_checking, stated_customers, stated_length, stated_replies, stated_savings, stated_size, stated_total}
+use Rattle.sb_checkpoint.specs.Reading.{amounts_at, balances_fault, head_fault, is_negative, is_no_reply, is_past_limit, replies_fault, stated_reply, stated_checking, stated_customers, stated_length, stated_replies, stated_savings, stated_size, stated_total}
 use Rattle.sb_checkpoint.specs.declared.fault.CheckpointFault.{CheckpointFault}
 use Rattle.sb_checkpoint.specs.declared.fault.CheckpointFault.TheVariants.{BadMagic, Short, WrongCustomers, OutOfRange, NegativeSavings, WrongTotal, BadReply, Long}
 use Rattle.sb_checkpoint.proofs.Chunks.{length-amounts, length-first_chunks}
@@ -136,7 +136,7 @@ amounts_field bytes at amounts room are read =
 count_is : (bytes : List ℕ) (replies : List Reply) → map (λ r. Some r) replies ≡ stated_replies bytes → length replies ≡ stated_length bytes
 count_is bytes replies read =
     let chunks = first_chunks 9 (stated_length bytes) (drop (28 + 16 * stated_customers bytes) bytes) in
-    sym (length-map replies (λ (r : Reply). Some r)) ∙ ap length read ∙ length-map chunks reply_of ∙ length-first_chunks 9 (stated_length bytes) _
+    sym (length-map replies (λ (r : Reply). Some r)) ∙ ap length read ∙ length-map chunks stated_reply ∙ length-first_chunks 9 (stated_length bytes) _
 
 module _ (bytes : List ℕ) (customers : ℕ) (made : CheckpointOf) (are : AreBytes bytes) (head : HeadIs bytes customers) (read : IsRead bytes made) where
   head_spelled : take 20 bytes ≡ magic ++ number_field w64 (length made.replies) ++ number_field w32 (length made.columns.savings)

@@ -11,7 +11,7 @@ use Rattle.sb_calls.specs.Replies.{IsReply, number_field, amount_field, reply_fi
 use Rattle.sb_calls.specs.declared.reply.Reply.{Reply}
 use Rattle.sb_calls.specs.declared.reply.Reply.TheVariants.{Shown, Done, Penalised, NoCustomer, SameCustomer, Negative, WouldOverdraw, OverLimit}
 use Rattle.sb_calls.proofs.CodedReplies.{coded_again}
-use Rattle.sb_checkpoint.specs.Reading.{amount_of, amounts_at, reply_of}
+use Rattle.sb_checkpoint.specs.Reading.{amount_of, amounts_at, stated_reply}
 
 -- ---- walking
 
@@ -90,8 +90,8 @@ total_fits Negative valid = omega (arith, ints)
 total_fits WouldOverdraw valid = omega (arith, ints)
 total_fits OverLimit valid = omega (arith, ints)
 
-reply_again : (reply : Reply) → IsReply reply → reply_of (reply_field reply) ≡ Some reply
-unfolding reply_of
+reply_again : (reply : Reply) → IsReply reply → stated_reply (reply_field reply) ≡ Some reply
+unfolding stated_reply
 reply_again reply valid = rw (amount_again (shown_total reply) (total_fits reply valid)) (coded_again reply valid)
 
 pub replies_size : (replies : List Reply) → length (flat_map reply_field replies) ≡ 9 * length replies
@@ -100,12 +100,12 @@ replies_size (r ∷ replies) =
     omega (arith, replies_size replies, length-append (reply_field r) (flat_map reply_field replies), reply_size r)
 
 pub replies_again : (replies : List Reply) (rest : List ℕ) → AllByRecursion IsReply replies
-    → map reply_of (first_chunks 9 (length replies) (flat_map reply_field replies ++ rest)) ≡ map (λ r. Some r) replies
+    → map stated_reply (first_chunks 9 (length replies) (flat_map reply_field replies ++ rest)) ≡ map (λ r. Some r) replies
 replies_again [] rest valid = refl
 replies_again (r ∷ replies) rest valid =
     let field = reply_field r in
     let others = flat_map reply_field replies in
     let whole = append_assoc field others rest in
-    ap₂ ◌∷◌ (ap reply_of (ap (take 9) whole ∙ take_at field (others ++ rest) 9 (reply_size r)) ∙ reply_again r valid.0)
-    (ap (λ xs. map reply_of (first_chunks 9 (length replies) xs)) (ap (drop 9) whole ∙ drop_at field (others ++ rest) 9 (reply_size r))
+    ap₂ ◌∷◌ (ap stated_reply (ap (take 9) whole ∙ take_at field (others ++ rest) 9 (reply_size r)) ∙ reply_again r valid.0)
+    (ap (λ xs. map stated_reply (first_chunks 9 (length replies) xs)) (ap (drop 9) whole ∙ drop_at field (others ++ rest) 9 (reply_size r))
     ∙ replies_again replies rest valid.1)

@@ -40,13 +40,13 @@ unfoldable pub stated_total : List ℕ → ℤ
 stated_total bytes = amount_of (take 8 (drop (20 + 16 * stated_customers bytes) bytes))
 
 -- a code, and a total
-unfoldable pub reply_of : List ℕ → Option Reply
-reply_of cells = coded (get_or cells 0 0) (amount_of (drop 1 cells))
+unfoldable pub stated_reply : List ℕ → Option Reply
+stated_reply cells = coded (get_or cells 0 0) (amount_of (drop 1 cells))
 
 -- each of the replies, where it is one
 abbrev pub stated_replies : List ℕ → List (Option Reply)
 stated_replies bytes =
-    map reply_of (first_chunks 9 (stated_length bytes) (drop (28 + 16 * stated_customers bytes) bytes))
+    map stated_reply (first_chunks 9 (stated_length bytes) (drop (28 + 16 * stated_customers bytes) bytes))
 
 abbrev pub stated_size : List ℕ → ℕ
 stated_size bytes = 28 + 16 * stated_customers bytes + 9 * stated_length bytes

@@ -2,11 +2,11 @@
 ghost use Rattle.std.specs.Prelude.{◌≡◌, if◌then◌else◌, ◌+◌, ◌*◌, ◌≤◌, IfOk, IfErr, Some, None, length, map, drop};
 ghost use Rattle.std.specs.List.{list_any};
 ghost use Rattle.sb_checkpoint.specs.Reading as spec;
-ghost use Rattle.sb_checkpoint.specs.Reading.{IsFaultOf, amount_of, amounts_at, is_no_reply, reply_of, stated_replies, stated_size};
+ghost use Rattle.sb_checkpoint.specs.Reading.{IsFaultOf, amount_of, amounts_at, is_no_reply, stated_reply, stated_replies, stated_size};
 ghost use Rattle.sb_checkpoint.specs.declared.fault.CheckpointFault.TheVariants.{BadReply};
 
 use crate::fault::CheckpointFault;
-use crate::layout::{AMOUNT, BALANCES, CUSTOMERS_AT, FRAME, HEAD, LENGTH_AT, REPLY};
+use crate::layout::{AMOUNT, BALANCES, CUSTOMERS_AT, EMPTY, HEAD, LENGTH_AT, REPLY};
 use sb_calls::{Reply, WireReply};
 use sb_rows::CUSTOMERS;
 use std::alloc::{AllocError, Global};
@@ -37,7 +37,7 @@ pub(crate) fn stated_customers(bytes: &[u8]) -> u32
 pub(crate) fn stated_total(bytes: &[u8], customers: usize) -> i64
     requires customers { customers ≡ spec.stated_customers bytes.now }
     requires few { customers ≤ CUSTOMERS }
-    requires room { FRAME + BALANCES * customers ≤ length bytes.now }
+    requires room { EMPTY + BALANCES * customers ≤ length bytes.now }
     ensures { result ≡ spec.stated_total bytes.now }
 {
     let cells = &bytes[HEAD + BALANCES * customers..];
@@ -79,16 +79,16 @@ pub(crate) fn reply_cells(bytes: &[u8], customers: usize, count: usize) -> &[[u8
     requires customers { customers ≡ spec.stated_customers bytes.now }
     requires count { count ≡ spec.stated_length bytes.now }
     requires room { stated_size bytes.now ≤ length bytes.now }
-    ensures { map reply_of result.now ≡ stated_replies bytes.now }
+    ensures { map stated_reply result.now ≡ stated_replies bytes.now }
 {
-    let from = FRAME + BALANCES * customers;
+    let from = EMPTY + BALANCES * customers;
     let (cells, _) = bytes[from..from + REPLY * count].as_chunks::<REPLY>();
     cells
 }
 
-#[tactic(auto, unfolding(crate::specs::Reading::reply_of))]
+#[tactic(auto, unfolding(crate::specs::Reading::stated_reply))]
 fn read_reply(cells: &[u8; REPLY]) -> Option<Reply>
-    ensures { result ≡ reply_of cells.now }
+    ensures { result ≡ stated_reply cells.now }
 {
     let total = i64::from_be_bytes([
         cells[1], cells[2], cells[3], cells[4], cells[5], cells[6], cells[7], cells[8],
@@ -103,9 +103,9 @@ pub(crate) fn replies_of(
     cells: &[[u8; REPLY]],
 ) -> Result<Vec<Reply>, CheckpointFault>
     ensures replies { IfOk result
-        (λ replies. map (λ r. Some r) replies.items ≡ map reply_of cells.now) }
+        (λ replies. map (λ r. Some r) replies.items ≡ map stated_reply cells.now) }
     ensures fault { IfErr result (IsFaultOf
-        (if list_any is_no_reply (map reply_of cells.now) then Some BadReply else None)) }
+        (if list_any is_no_reply (map stated_reply cells.now) then Some BadReply else None)) }
 {
     let mut replies = Vec::with_capacity(alloc, cells.len())?;
     for cell in cells {

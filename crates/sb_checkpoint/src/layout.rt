@@ -19,5 +19,5 @@ pub(crate) const REPLY: usize = 9;
 /// How many bytes the balances of one customer have.
 pub(crate) const BALANCES: usize = 2 * AMOUNT;
 
-/// How many bytes stand around the balances and before the replies.
-pub(crate) const FRAME: usize = HEAD + AMOUNT;
+/// How many bytes a checkpoint of nobody and nothing has.
+pub(crate) const EMPTY: usize = HEAD + AMOUNT;

@@ -32,7 +32,11 @@ impl Model for MemoryStore {
 
     ghost Value = { MemoryStoreOf };
 
-    ghost view = { λ s. record { slot = option_map (λ bytes. bytes.items) s.bytes; next = s.next; failures = s.failures } };
+    ghost view = { λ s. record {
+      slot = option_map (λ bytes. bytes.items) s.bytes;
+      next = s.next;
+      failures = s.failures;
+    } };
 }
 
 impl MemoryStore {

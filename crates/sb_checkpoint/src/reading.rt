@@ -13,7 +13,7 @@ use crate::fault::CheckpointFault;
 use crate::fields::{
     read_amounts, replies_of, reply_cells, stated_customers, stated_length, stated_total,
 };
-use crate::layout::{AMOUNT, BALANCES, FRAME, HEAD, MAGIC, REPLY};
+use crate::layout::{AMOUNT, BALANCES, EMPTY, HEAD, MAGIC, REPLY};
 use lane_audit::{bank_total, count_below, first_outside};
 use sb_amount::LIMIT;
 use sb_calls::{LOG_CALLS, Reply};
@@ -40,7 +40,7 @@ fn read_head(bytes: &[u8], customers: usize) -> Result<usize, CheckpointFault>
     let length = stated_length(bytes);
     let stated = stated_customers(bytes);
     // Wide enough for any stated numbers.
-    let size = FRAME as u128
+    let size = EMPTY as u128
         + BALANCES as u128 * u128::from(stated)
         + REPLY as u128 * u128::from(length);
     if (bytes.len() as u128) < size {
@@ -70,7 +70,7 @@ fn has_negative(amounts: &[i64]) -> bool
 fn read_columns(alloc: Global, bytes: &[u8], customers: usize) -> Result<Columns, CheckpointFault>
     requires customers { customers ≡ spec.stated_customers bytes.now }
     requires few { customers ≤ CUSTOMERS }
-    requires room { FRAME + BALANCES * customers ≤ length bytes.now }
+    requires room { EMPTY + BALANCES * customers ≤ length bytes.now }
     ensures savings { IfOk result (λ columns. columns.savings ≡ stated_savings bytes.now) }
     ensures checking { IfOk result (λ columns. columns.checking ≡ stated_checking bytes.now) }
     ensures valid { IfOk result IsBalances }
@@ -109,7 +109,7 @@ fn read_replies(
         (λ _. replies_fault bytes.now ≡ None) (IsFaultOf (replies_fault bytes.now)) }
 {
     let replies = replies_of(alloc, reply_cells(bytes, customers, count))?;
-    let size = FRAME + BALANCES * customers + REPLY * count;
+    let size = EMPTY + BALANCES * customers + REPLY * count;
     if count > LOG_CALLS || size < bytes.len() {
         return Err(CheckpointFault::Long);
     }

@@ -53,7 +53,8 @@ pub trait CheckpointStore: Drop {
     /// The bytes that it holds, or `None` before the first put.
     fn get(&mut self) -> Result<Option<Vec<u8>>, StoreFault>
         ensures { MatchResult result
-            (λ held. StoreDoes slot IsHonest failed acts self.old (Got (option_map (λ bytes. bytes.items) held)) self.new)
+            (λ held. StoreDoes slot IsHonest failed acts self.old
+            (Got (option_map (λ bytes. bytes.items) held)) self.new)
             (λ fault. StoreDoes slot IsHonest failed acts self.old (NotGot fault) self.new) };
 
     /// How often its device has failed, up to the greatest number that can be told.

@@ -7,6 +7,7 @@ use std::test::*;
 mod faults;
 mod limits;
 mod spellings;
+mod stores;
 mod texts;
 
 // Three customers and five replies, by hand: the fields up to the balances, the savings, the

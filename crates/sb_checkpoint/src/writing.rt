@@ -5,7 +5,7 @@ ghost use Rattle.std.specs.List.{All, flat_map};
 ghost use Rattle.sb_calls.specs.Replies.{IsReply, number_field, amount_field, reply_field};
 ghost use Rattle.sb_checkpoint.specs.Checkpoint.{Spells};
 
-use crate::layout::{AMOUNT, BALANCES, FRAME, MAGIC, REPLY};
+use crate::layout::{AMOUNT, BALANCES, EMPTY, MAGIC, REPLY};
 use lane_audit::bank_total;
 use sb_calls::{LOG_CALLS, Reply, WireReply};
 use sb_rows::Columns;
@@ -23,7 +23,7 @@ pub fn write_checkpoint(
         Spells (record { columns = columns.now; replies = replies.now }) bytes.items) }
 {
     let customers = columns.customers();
-    let size = FRAME + BALANCES * customers + REPLY * replies.len();
+    let size = EMPTY + BALANCES * customers + REPLY * replies.len();
     let mut bytes = Vec::with_capacity(alloc, size)?;
     put(&mut bytes, &MAGIC);
     put_length(&mut bytes, replies.len() as u64);

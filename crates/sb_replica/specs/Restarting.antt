@@ -41,7 +41,8 @@ of_checkpoint_fault fault = restart.BadCheckpoint fault
 abbrev pub IsRefusalOf : ℕ → Option (List ℕ) → RestartFault → Type 0
 IsRefusalOf customers held restart.Device = ⊥
 IsRefusalOf customers held (restart.BadCheckpoint fault) =
-    (bytes : List ℕ) × (held ≡ Some bytes) × (fault ≢ checkpoint.OutOfMemory) × (first_fault bytes customers ≡ Some fault)
+    (bytes : List ℕ) × (held ≡ Some bytes) × (fault ≢ checkpoint.OutOfMemory)
+    × (first_fault bytes customers ≡ Some fault)
 IsRefusalOf customers held restart.OutOfMemory = Unit {0}
 
 module _ {S : Type 0} (does : S → StoreStep → S → Type 0) where
