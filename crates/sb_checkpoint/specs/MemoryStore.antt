@@ -3,7 +3,6 @@ use Rattle.std.specs.Prelude.{◌≡◌, ℕ, suc, ◌^◌, ◌-◌, ◌==◌, �
 use Rattle.sb_checkpoint.specs.Stores.{StoreStep, Put, Got, NotGot}
 use Rattle.sb_checkpoint.specs.declared.memory_store.How.{How}
 use Rattle.sb_checkpoint.specs.declared.memory_store.How.TheVariants as how
-use Rattle.sb_checkpoint.specs.declared.store.StoreFault.{StoreFault}
 use Rattle.sb_checkpoint.specs.declared.store.StoreFault.TheVariants.{Device, OutOfMemory}
 
 -- what it holds, how its next put ends, and how often a put has failed

@@ -1,5 +1,5 @@
 -- Each reply that a replica holds has a spelling.
-use Rattle.std.proofs.Common.{◌≡◌, inl, inr, ℕ, ◌<◌, ◌≤◌, ◌-◌, Bool, true, false, cond, leb, eqb, Option, Some, None, List, length, get_or, IfSome, refl, sym, subst}
+use Rattle.std.proofs.Common.{◌≡◌, inl, inr, ℕ, ◌<◌, ◌-◌, Bool, true, false, cond, leb, eqb, Option, Some, None, List, length, IfSome, sym, subst}
 use Rattle.std.specs.List.{All, slice_get}
 use Rattle.std.proofs.lemmas.Bool.{cases_Bool, leb-false}
 use Rattle.std.proofs.lemmas.Option.{slice_get_cases}

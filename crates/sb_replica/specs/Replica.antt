@@ -1,7 +1,7 @@
 -- A replica as its callers see it.
 use Rattle.std.specs.Prelude.{◌≡◌, ℕ, List, length, ◌++◌}
 use Rattle.std.specs.List.{All, filter_map}
-use Rattle.sb_rows.specs.Balances.{Balances, IsBalances}
+use Rattle.sb_rows.specs.Balances.{Balances}
 use Rattle.sb_calls.specs.Replies.{IsReply}
 use Rattle.sb_calls.specs.declared.op.Op.{Op}
 use Rattle.sb_calls.specs.declared.reply.Reply.{Reply}

@@ -1,5 +1,5 @@
 -- An entry offered to a replica log: what it is answered, and what it leaves.
-use Rattle.std.specs.Prelude.{ℕ, suc, nat_le, nat_lt, ◌==◌, ◌||◌, if◌then◌else◌, Result, Ok, [], ◌∷◌, ◌++◌}
+use Rattle.std.specs.Prelude.{ℕ, suc, nat_le, nat_lt, ◌==◌, ◌||◌, if◌then◌else◌, [], ◌∷◌, ◌++◌}
 use Rattle.sb_calls.specs.declared.call.TheConstants.{LOG_CALLS}
 use Rattle.sb_calls.specs.declared.op.Op.{Op}
 use Rattle.cown_board.specs.Board.{BoardOf, length_of, open_of}
