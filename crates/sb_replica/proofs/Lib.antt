@@ -1,2 +1,3 @@
+pub mod AcceptedEntries
 pub mod HeldReplies
 pub mod IdleReplies

@@ -1,8 +1,10 @@
 -- What bytes from the network are to a replica.
 use Rattle.std.specs.Prelude.{◌≡◌, ℕ, ◌==◌, if◌then◌else◌, Result, Ok, Err, List, length}
+use Rattle.sb_calls.specs.Behaviour.{declared_cowns, effect_of}
 use Rattle.sb_calls.specs.Op.{resolved}
 use Rattle.sb_calls.specs.declared.op.Op.{Op}
 use Rattle.cown_board.specs.Board.{BoardOf}
+use Rattle.cown_board.specs.Played.{StaysTrueToLog, Submitted}
 use Rattle.sb_frames.specs.Decoding.{decoded}
 use Rattle.sb_frames.specs.declared.fault.FrameFault.{FrameFault}
 use Rattle.sb_frames.specs.declared.fault.FrameFault.TheVariants.{BadLength}
@@ -61,3 +63,8 @@ abbrev pub IsHearingFault : {S : Type 0} → ReplicaOf S → List ℕ → Replic
 IsHearingFault replica bytes (fault.BadFrame frame) = whole_frame bytes ≡ Err frame
 IsHearingFault replica bytes fault.OutOfMemory =
     (entry : Frame) × (number : ℕ) × (whole_frame bytes ≡ Ok entry) × (heard replica.board entry ≡ Accepted number)
+
+-- an op was put last in the log, under this number
+pub record Accepts (old : BoardOf Op) (number : ℕ) (new : BoardOf Op) : Type 0 where
+  pub op : Op
+  pub played : StaysTrueToLog declared_cowns effect_of old (Submitted op (Ok number)) new

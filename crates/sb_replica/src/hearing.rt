@@ -1,7 +1,8 @@
 //! Frames from the network.
-ghost use Rattle.std.specs.Prelude.{◌≡◌, MatchResult};
+ghost use Rattle.std.specs.Prelude.{◌≡◌, ℕ, Ok, MatchResult};
 ghost use Rattle.sb_replica.specs.Hearing as spec;
-ghost use Rattle.sb_replica.specs.Hearing.{Hears, IsHearingFault};
+ghost use Rattle.sb_replica.specs.Hearing.{Accepts, Hears, IsHearingFault};
+ghost use Rattle.sb_replica.specs.declared.heard.Heard.TheVariants as heard;
 
 use crate::fault::ReplicaFault;
 use crate::heard::Heard;
@@ -45,6 +46,9 @@ impl<S: CheckpointStore> Replica<S> {
         ensures outcome { MatchResult result
             (λ heard. Hears self.old bytes.now heard self.new)
             (λ fault. IsHearingFault self.old bytes.now fault × (self.new ≡ self.old)) }
+        // After any calls on its board, with this one too, the board is true to its log.
+        ensures played { (number : ℕ) → result ≡ Ok (heard.Accepted number) →
+            Accepts self.old.board number self.new.board }
     {
         let frame = match whole_frame(bytes) {
             Ok(frame) => frame,
