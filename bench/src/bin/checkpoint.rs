@@ -116,24 +116,30 @@ fn amounts(bytes: &[u8]) -> Vec<i64> {
         .collect()
 }
 
-fn reply(cells: &[u8; REPLY]) -> Result<Reply, Fault> {
+fn plain_reply(code: u8) -> Option<Reply> {
+    match code {
+        1 => Some(Reply::Done),
+        2 => Some(Reply::Penalised),
+        3 => Some(Reply::NoCustomer),
+        4 => Some(Reply::SameCustomer),
+        5 => Some(Reply::Negative),
+        6 => Some(Reply::WouldOverdraw),
+        7 => Some(Reply::OverLimit),
+        _ => None,
+    }
+}
+
+fn reply(cells: &[u8; REPLY]) -> Option<Reply> {
     let [code, total @ ..] = *cells;
     let total = i64::from_be_bytes(total);
-    if code == 0 && (-2 * LIMIT..=2 * LIMIT).contains(&total) {
-        return Ok(Reply::Shown(total));
-    }
-    if total != 0 {
-        return Err(Fault::BadReply);
-    }
-    match code {
-        1 => Ok(Reply::Done),
-        2 => Ok(Reply::Penalised),
-        3 => Ok(Reply::NoCustomer),
-        4 => Ok(Reply::SameCustomer),
-        5 => Ok(Reply::Negative),
-        6 => Ok(Reply::WouldOverdraw),
-        7 => Ok(Reply::OverLimit),
-        _ => Err(Fault::BadReply),
+    if code == 0 {
+        (-2 * LIMIT..=2 * LIMIT)
+            .contains(&total)
+            .then_some(Reply::Shown(total))
+    } else if total == 0 {
+        plain_reply(code)
+    } else {
+        None
     }
 }
 
@@ -147,8 +153,7 @@ fn read(bytes: &[u8], customers: usize) -> Result<Checkpoint, Fault> {
     if !MAGIC.starts_with(&bytes[..bytes.len().min(MAGIC.len())]) {
         return Err(Fault::BadMagic);
     }
-    let (Some((head, body)), true) = (bytes.split_at_checked(HEAD), bytes.len() >= MAGIC.len())
-    else {
+    let Some((head, body)) = bytes.split_at_checked(HEAD) else {
         return Err(Fault::Short);
     };
     let length = u64::from_be_bytes(head[8..16].try_into().unwrap());
@@ -182,7 +187,10 @@ fn read(bytes: &[u8], customers: usize) -> Result<Checkpoint, Fault> {
     let (cells, _) = cells.as_chunks::<REPLY>();
     let mut replies = Vec::with_capacity(cells.len());
     for cells in cells {
-        replies.push(reply(cells)?);
+        let Some(reply) = reply(cells) else {
+            return Err(Fault::BadReply);
+        };
+        replies.push(reply);
     }
     if replies.len() > LOG_CALLS || !rest.is_empty() {
         return Err(Fault::Long);

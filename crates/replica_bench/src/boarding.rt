@@ -37,6 +37,8 @@ pub fn board(clock: &impl Clock, alloc: Global, count: u32) -> Result<Measured> 
 fn carry_out(entries: &Entries, directory: &Directory, board: &mut Board<Op>) -> Result<()>
     requires { length (held_of board.old.opening) ≡ 2 * length directory.now }
 {
+    // As `smallbank run` does.
+    board.reserve(entries.lengths.len())?;
     let mut rest = entries.bytes.as_slice();
     for length in &entries.lengths {
         let (frame, after) = rest.split_at_checked(*length).context("no frame")?;
