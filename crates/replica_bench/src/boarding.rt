@@ -1,0 +1,73 @@
+//! The calls of frames carried out on a board: what a replica is measured against.
+ghost use Rattle.std.specs.Prelude.{◌≡◌, ◌*◌, length, OnOk};
+ghost use Rattle.sb_calls.specs.Behaviour.{declared_cowns};
+ghost use Rattle.sb_calls.specs.Cowns.{AreBelow, held_of};
+
+use crate::bank::open_bank;
+use crate::delivering::{BALANCES, CUSTOMERS};
+use crate::entries::{Entries, make_entries};
+use crate::measured::Measured;
+use anyhow::{Context, Result, bail};
+use cown_board::{Board, SubmitFault};
+use cown_workers::{InlineCrew, drain};
+use lane_audit::bank_total;
+use sb_calls::{Call, Op, resolve};
+use sb_frames::{Frame, decode};
+use sb_rows::Directory;
+use std::alloc::Global;
+use std::time::{Clock, Instant};
+
+/// Decodes this many entries, and carries out their calls. It comes to the log's length and the bank's total.
+pub fn board(clock: &impl Clock, alloc: Global, count: u32) -> Result<Measured> {
+    let opening = open_bank(alloc, CUSTOMERS, BALANCES)?;
+    let entries = make_entries(alloc, &opening.directory, count)?;
+    let mut board = Board::open(alloc, opening.columns, 0, Vec::new(alloc))?;
+    let start = Instant::now(clock)?;
+    carry_out(&entries, &opening.directory, &mut board)?;
+    let time = start.elapsed(clock)?;
+    let columns = board.columns()?.context("something is unfinished")?;
+    Ok(Measured {
+        length: board.length(),
+        sum: bank_total(&columns),
+        time,
+    })
+}
+
+// Carries out the calls of all frames.
+fn carry_out(entries: &Entries, directory: &Directory, board: &mut Board<Op>) -> Result<()>
+    requires { length (held_of board.old.opening) ≡ 2 * length directory.now }
+{
+    // As `smallbank run` does.
+    board.reserve(entries.lengths.len())?;
+    let mut rest = entries.bytes.as_slice();
+    for length in &entries.lengths {
+        let (frame, after) = rest.split_at_checked(*length).context("no frame")?;
+        submit(&resolve(directory, &call_of(frame)?), board)?;
+        rest = after;
+    }
+    drain(board, &mut InlineCrew)?;
+    Ok(())
+}
+
+// The call of an entry's frame.
+fn call_of(bytes: &[u8]) -> Result<Call> {
+    match decode(bytes) {
+        Ok((Frame::Entry { call, .. }, _)) => Ok(call),
+        Ok(_) => bail!("a frame is no entry"),
+        Err(fault) => Err(fault.into()),
+    }
+}
+
+// Submits an op. Where the board is busy it is drained first.
+fn submit(op: &Op, board: &mut Board<Op>) -> Result<()>
+    requires { AreBelow (length (held_of board.old.opening)) (declared_cowns op.now) }
+    ensures { OnOk result (board.new.opening ≡ board.old.opening) }
+{
+    match board.submit(*op) {
+        Ok(_) => return Ok(()),
+        Err(SubmitFault::Busy) => drain(board, &mut InlineCrew)?,
+        Err(fault) => return Err(fault.into()),
+    }
+    board.submit(*op)?;
+    Ok(())
+}

@@ -1,0 +1,59 @@
+//! Frames delivered to a replica.
+
+use crate::bank::open_bank;
+use crate::entries::{Entries, make_entries};
+use crate::measured::Measured;
+use anyhow::{Context, Result, bail};
+use cown_workers::{InlineCrew, drain};
+use lane_audit::bank_total;
+use sb_checkpoint::MemoryStore;
+use sb_replica::{Heard, Replica};
+use std::alloc::Global;
+use std::time::{Clock, Instant};
+
+/// How many customers the bank has.
+pub const CUSTOMERS: u32 = 40_000;
+
+/// What each of them has, savings and checking.
+pub const BALANCES: &str = "1000.00 1000.00";
+
+/// Delivers this many entries to one replica, and runs them. It comes to the log's length and the bank's total.
+pub fn deliver(clock: &impl Clock, alloc: Global, count: u32) -> Result<Measured> {
+    let opening = open_bank(alloc, CUSTOMERS, BALANCES)?;
+    let entries = make_entries(alloc, &opening.directory, count)?;
+    let store = MemoryStore::new(alloc);
+    let mut replica = Replica::open(alloc, 1, opening.directory, opening.columns, store)?;
+    let start = Instant::now(clock)?;
+    deliver_all(&entries, &mut replica)?;
+    let time = start.elapsed(clock)?;
+    let columns = replica.columns()?.context("something is unfinished")?;
+    Ok(Measured {
+        length: replica.length(),
+        sum: bank_total(&columns),
+        time,
+    })
+}
+
+fn deliver_all(entries: &Entries, replica: &mut Replica<MemoryStore>) -> Result<()> {
+    let mut rest = entries.bytes.as_slice();
+    for length in &entries.lengths {
+        let (frame, after) = rest.split_at_checked(*length).context("no frame")?;
+        deliver_one(frame, replica)?;
+        rest = after;
+    }
+    drain(replica, &mut InlineCrew)?;
+    Ok(())
+}
+
+// Delivers a frame. Where the replica is busy it is drained first.
+fn deliver_one(frame: &[u8], replica: &mut Replica<MemoryStore>) -> Result<()> {
+    let mut heard = replica.on_frame(frame)?;
+    if matches!(heard, Heard::Busy(_)) {
+        drain(replica, &mut InlineCrew)?;
+        heard = replica.on_frame(frame)?;
+    }
+    if !matches!(heard, Heard::Accepted(_)) {
+        bail!("an entry wasn't accepted");
+    }
+    Ok(())
+}

@@ -1,0 +1,60 @@
+//! Entries of a log as frames.
+
+use crate::random::Random;
+use anyhow::{Context, Result};
+use sb_amount::Cents;
+use sb_calls::Call;
+use sb_frames::{Frame, encode};
+use sb_rows::{Directory, Name};
+use std::alloc::Global;
+
+const SEED: u64 = 20;
+
+/// Frames of entries in one buffer.
+#[derive(Drop)]
+pub struct Entries {
+    /// All frames.
+    pub bytes: Vec<u8>,
+    /// How many bytes each takes.
+    pub lengths: Vec<usize>,
+}
+
+/// The frames of this many entries, numbered from 1 on, with calls of all kinds.
+pub fn make_entries(alloc: Global, directory: &Directory, count: u32) -> Result<Entries> {
+    let mut random = Random::new(SEED);
+    let mut bytes = Vec::new(alloc);
+    let mut lengths = Vec::new(alloc);
+    for number in 0..u64::from(count) {
+        let call = any_call(&mut random, directory).context("making a call")?;
+        let frame = encode(&Frame::Entry {
+            number: number + 1,
+            call,
+        });
+        bytes.extend_from_slice(&frame)?;
+        lengths.push(frame.len())?;
+    }
+    Ok(Entries { bytes, lengths })
+}
+
+// A call of any kind, of any customers, with any amount below 100.00 and above nothing.
+fn any_call(random: &mut Random, directory: &Directory) -> Option<Call> {
+    let name = any_name(random, directory)?;
+    let other = any_name(random, directory)?;
+    let amount = Cents::new(i64::from(1 + random.below(9_999)))?;
+    let call = match random.below(5) {
+        0 => Call::Balance(name),
+        1 => Call::DepositChecking(name, amount),
+        2 => Call::TransactSavings(name, amount),
+        3 => Call::Amalgamate(name, other),
+        _ => Call::WriteCheck(name, amount),
+    };
+    Some(call)
+}
+
+// Any name, or `None` where there are none.
+fn any_name(random: &mut Random, directory: &Directory) -> Option<Name> {
+    if directory.is_empty() {
+        return None;
+    }
+    directory.name(random.below(directory.len() as u32))
+}

@@ -1,0 +1,54 @@
+//! `replica_bench`: times what a replica and its checkpoints take, for `bench/replica`.
+#![tactic(auto)]
+
+use anyhow::Result;
+use measured::Measured;
+use std::env;
+use std::process::ExitCode;
+use words::{Action, Words, read_words};
+
+mod bank;
+mod boarding;
+mod checkpoints;
+mod delivering;
+mod entries;
+mod measured;
+mod random;
+mod words;
+
+const USAGE: &str = "usage: replica_bench deliver|board|write|read NUMBER";
+
+fn main(rt: HostRuntime) -> ExitCode {
+    let status = match start(&rt) {
+        Ok(status) => status,
+        Err(fault) => {
+            let _ = eprintln!(rt; "replica_bench: {fault}");
+            3
+        }
+    };
+    ExitCode::from(status)
+}
+
+// Does what the program's words say, and gives the exit status.
+fn start(rt: &HostRuntime) -> Result<u8> {
+    let words: Vec<String> = env::args(rt)?.collect(rt.alloc())?;
+    let Some(words) = read_words(&words) else {
+        eprintln!(rt; "{USAGE}")?;
+        return Ok(2);
+    };
+    let measured = measure(rt, words)?;
+    let milliseconds = measured.time.as_secs_f64() * 1e3;
+    println!(rt; "{} {}", measured.length, measured.sum)?;
+    eprintln!(rt; "{milliseconds:.3} ms")?;
+    Ok(0)
+}
+
+fn measure(rt: &HostRuntime, words: Words) -> Result<Measured> {
+    let alloc = rt.alloc();
+    match words.action {
+        Action::Deliver => delivering::deliver(rt, alloc, words.number),
+        Action::Board => boarding::board(rt, alloc, words.number),
+        Action::Write => checkpoints::write(rt, alloc, words.number),
+        Action::Read => checkpoints::read(rt, alloc, words.number),
+    }
+}
