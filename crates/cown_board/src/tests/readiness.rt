@@ -5,8 +5,9 @@ fn two_hands_run_what_is_ready(rt: HostRuntime) -> Result<(), Fail> {
     let mut bank = open(rt.alloc())?;
     assert!(rt; bank.idle());
     submit_four(&rt, &mut bank)?;
+    assert_eq!(rt; bank.length(), 4);
     run_both_deposits(&rt, &mut bank)?;
-    bank.runs(&rt, 3, Reply::Done)?;
+    run_amalgamation(&rt, &mut bank)?;
     bank.runs(&rt, 4, Reply::Shown(0))?;
     assert_eq!(rt; bank.length(), 4);
     bank.ends_with(&rt, [0, 0, 1_000], [0, 17_200, 0])
@@ -20,6 +21,14 @@ fn run_both_deposits(rt: &impl Abort, bank: &mut Bank<Op>) -> Result<(), Fail> {
     bank.takes_none(rt, 0);
     bank.finishes(rt, first.run(), Reply::Done);
     bank.takes_none(rt, 1);
+    Ok(())
+}
+
+// While the third is out, the fourth still waits for it.
+fn run_amalgamation(rt: &impl Abort, bank: &mut Bank<Op>) -> Result<(), Fail> {
+    let third = bank.takes(rt, 0, 3)?;
+    bank.takes_none(rt, 0);
+    bank.finishes(rt, third.run(), Reply::Done);
     Ok(())
 }
 
