@@ -1,0 +1,10 @@
+pub mod Along
+pub mod LogParts
+pub mod Finishing
+pub mod Lists
+pub mod NodeMoves
+pub mod Runnable
+pub mod SeenReplies
+pub mod SentFrames
+pub mod Sharing
+pub mod Stages

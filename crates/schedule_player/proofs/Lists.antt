@@ -1,0 +1,59 @@
+-- Items of lists, by place.
+use Rattle.std.proofs.Common.{◌≡◌, ◌⊎◌, inl, inr, true, false, get_or, ℕ, zero, suc, ◌+◌, ◌<◌, ◌≤◌, Option, Some, None, List, [], ◌∷◌, ◌++◌, length, refl, sym, ap, subst, ◌∙◌, arith}
+use Rattle.std.specs.List.{slice_get, slice_set, slice_index_or}
+use Rattle.std.specs.Option.{is_some}
+use Rattle.std.proofs.lemmas.Bool.{true≢false}
+use Rattle.std.proofs.lemmas.Option.{slice_get_within, slice_get_cases}
+use Rattle.cown_board.proofs.PlacesLaws.{slice_get-left, slice_get-right}
+use Rattle.schedule_player.specs.Numbered.{numbered, with_numbered, Every}
+
+pub some_is : {A : Type 0} {x y : A} → ◌≡◌ {A = Option A} (Some x) (Some y) → x ≡ y
+some_is h = cc
+
+pub none_some : {A : Type 0} {x : A} → ◌≡◌ {A = Option A} None (Some x) → ⊥
+none_some h = cc
+
+pub every_nil : {A : Type 0} (P : A → Type 0) → Every P []
+every_nil P k item here = absurd (none_some here)
+
+pub every_cons : {A : Type 0} (P : A → Type 0) (x : A) (xs : List A) → P x → Every P xs → Every P (x ∷ xs)
+every_cons P x xs first more zero item here = subst P (some_is here) first
+every_cons P x xs first more (suc k) item here = more k item here
+
+pub every_append : {A : Type 0} (P : A → Type 0) (xs ys : List A) → Every P xs → Every P ys → Every P (xs ++ ys)
+every_append P [] ys here there = there
+every_append P (x ∷ xs) ys here there =
+    every_cons P x (xs ++ ys) (here 0 x refl) (every_append P xs ys (λ k item at. here (suc k) item at) there)
+
+pub every_push : {A : Type 0} (P : A → Type 0) (xs : List A) (x : A) → Every P xs → P x → Every P (xs ++ x ∷ [])
+every_push P xs x here last = every_append P xs (x ∷ []) here (every_cons P x [] last (every_nil P))
+
+pub every_set : {A : Type 0} (P : A → Type 0) (xs : List A) (k : ℕ) (x : A) → Every P xs → P x → Every P (slice_set xs k x)
+every_set P [] k x here new = here
+every_set P (y ∷ xs) zero x here new = every_cons P x xs new (λ k item at. here (suc k) item at)
+every_set P (y ∷ xs) (suc k) x here new =
+    every_cons P y (slice_set xs k x) (here 0 y refl) (every_set P xs k x (λ j item at. here (suc j) item at) new)
+
+same_default : {A : Type 0} (xs : List A) (k : ℕ) (x y : A) → k < length xs → slice_index_or xs k x ≡ get_or xs k y
+same_default [] k x y lt = absurd (omega (arith, lt))
+same_default (z ∷ xs) zero x y lt = refl
+same_default (z ∷ xs) (suc k) x y lt = same_default xs k x y (omega (arith, lt))
+
+pub get_here : {A : Type 0} (xs : List A) (k : ℕ) (x : A) → k < length xs → x ≡ slice_index_or xs k x → slice_get xs k ≡ Some x
+get_here {A = A} xs k x lt is = by (slice_get_cases xs k).1
+  where
+    by : (((y : A) × (k < length xs) × (slice_get xs k ≡ Some y) × (get_or xs k y ≡ y)) ⊎ ((length xs ≤ k) × (slice_get xs k ≡ None)))
+        → slice_get xs k ≡ Some x
+    by (inl found) = found.2 ∙ ap (λ y. Some y) (sym (is ∙ same_default xs k x found.0 lt ∙ found.3))
+    by (inr past) = absurd (omega (arith, lt, past.0))
+
+-- an empty one
+pub none_here : {A : Type 0} (xs : List (Option A)) (k : ℕ) (x : Option A) → k < length xs → x ≡ slice_index_or xs k x
+    → false ≡ is_some x → slice_get xs k ≡ Some None
+none_here xs k None lt is empty = get_here xs k None lt is
+none_here xs k (Some x) lt is empty = absurd (true≢false (sym empty))
+
+-- no such item
+pub no_hand : {A : Type 0} (x : Option A) → ((y : A) → x ≡ Some y → ⊥) → x ≡ None
+no_hand None not_some = refl
+no_hand (Some y) not_some = absurd (not_some y refl)

@@ -1,0 +1,135 @@
+-- The replies that a board beside the log holds, and what an idle one comes to.
+use Rattle.std.proofs.Common.{◌≡◌, ◌⊎◌, inl, inr, ℕ, zero, suc, ◌+◌, ◌-◌, ◌<◌, ◌≤◌, ℤ, Bool, true, false, Option, Some, None, List, [], ◌∷◌, ◌++◌, length, get_or, refl, sym, ap, subst, ◌∙◌, arith}
+use Rattle.std.specs.Prelude.{slice_get, option_map, option_and_then, if◌then◌else◌, nat_le, ◌==◌}
+use Rattle.std.proofs.lemmas.Bool.{cases_lt, lt-leb, le-leb, ne_eqb}
+use Rattle.std.proofs.lemmas.List.{length-append}
+use Rattle.std.proofs.lemmas.Option.{slice_get_cases}
+use Rattle.std.proofs.Math.Seq.{take-length}
+use Rattle.cown_board.specs.Board.{BoardOf, length_of, open_of, reply_in, IsAfterAll}
+use Rattle.cown_board.specs.State.{finished_reply}
+use Rattle.cown_board.specs.declared.state.State.{State}
+use Rattle.cown_board.specs.declared.state.State.TheVariants.{Waiting, Out, Finished}
+use Rattle.sb_rows.specs.Balances.{Balances}
+use Rattle.sb_calls.specs.Behaviour.{declared_cowns, effect_of}
+use Rattle.sb_calls.specs.Cowns.{held_of}
+use Rattle.sb_calls.specs.OneByOne.{held_after, held_after_first, reply_by_log}
+use Rattle.sb_calls.specs.declared.op.Op.{Op}
+use Rattle.sb_calls.specs.declared.reply.Reply.{Reply}
+use Rattle.sb_replica.proofs.IdleReplies.{reply_at, length_held}
+use Rattle.sb_replica.specs.Replica.{replies_held}
+use Rattle.schedule_player.specs.Along.{AreReplies, IsBoardAlong, IsCheckpointAlong}
+use Rattle.schedule_player.specs.Numbered.{numbered}
+use Rattle.schedule_player.specs.ReplicaMoves.{reply_held}
+use Rattle.schedule_player.specs.Seen.{stage_of, stages_of}
+use Rattle.schedule_player.specs.Stage.{Stage, Waits, IsOut, IsDone}
+use Rattle.schedule_player.proofs.Along.{held_alike}
+use Rattle.schedule_player.proofs.Lists.{some_is, none_some}
+use Rattle.schedule_player.proofs.Stages.{stage_before, stage_at}
+
+-- the reply where the entry is done
+abbrev pub reply_if_done : Option Reply → Option Stage → Option Reply
+reply_if_done reply (Some IsDone) = reply
+reply_if_done reply (Some IsOut) = None
+reply_if_done reply (Some Waits) = None
+reply_if_done reply None = None
+
+module _ (opening : List ℤ) (log : List Op) where
+  -- the reply that the log gives a number that is done
+  abbrev seen_reply : BoardOf Op → ℕ → Option Reply
+  seen_reply board number =
+      reply_if_done (reply_by_log declared_cowns effect_of opening log number) (numbered (stages_of board) number)
+
+  in_place : (board : BoardOf Op) (k : ℕ) → length board.earlier ≤ k → (state : Option State)
+      → slice_get board.states (k - length board.earlier) ≡ state
+      → ((reply : Reply) → state ≡ Some (Finished reply) → reply_by_log declared_cowns effect_of opening log (suc k) ≡ Some reply)
+      → option_and_then finished_reply state
+      ≡ reply_if_done (reply_by_log declared_cowns effect_of opening log (suc k)) (option_map stage_of state)
+  in_place board k le None is by_log = refl
+  in_place board k le (Some Waiting) is by_log = refl
+  in_place board k le (Some Out) is by_log = refl
+  in_place board k le (Some (Finished reply)) is by_log = sym (by_log reply refl)
+
+  earlier_reply : (board : BoardOf Op) (k : ℕ) → k < length board.earlier → AreReplies opening log board.earlier
+      → slice_get board.earlier k ≡ reply_by_log declared_cowns effect_of opening log (suc k)
+  earlier_reply board k lt are = by (slice_get_cases board.earlier k).1
+    where
+      by : (((x : Reply) × (k < length board.earlier) × (slice_get board.earlier k ≡ Some x) × (get_or board.earlier k x ≡ x))
+          ⊎ ((length board.earlier ≤ k) × (slice_get board.earlier k ≡ None)))
+          → slice_get board.earlier k ≡ reply_by_log declared_cowns effect_of opening log (suc k)
+      by (inl found) = found.2 ∙ sym (are k found.0 found.2)
+      by (inr past) = absurd (omega (arith, lt, past.0))
+
+  pub reply_as_seen : (board : BoardOf Op) (number : ℕ) → IsBoardAlong opening log board → reply_in board number ≡ seen_reply board number
+  unfolding reply_in
+  reply_as_seen board zero along = refl
+  reply_as_seen board (suc k) along =
+      let earlier = board.earlier in
+      let pred : suc k - 1 ≡ k = omega arith in
+      let differs : (suc k == 0) ≡ false = ne_eqb (suc k) 0 (λ same. omega (arith, same)) in
+      ap (λ b. if b then None else (if nat_le (suc k) (length earlier) then slice_get earlier (suc k - 1)
+      else option_and_then finished_reply (slice_get board.states (suc k - 1 - length earlier)))) differs
+      ∙ elim (cases_lt k (length earlier)) [
+        | inl lt ↦
+            ap (λ b. if b then slice_get earlier (suc k - 1) else option_and_then finished_reply (slice_get board.states (suc k - 1 - length earlier)))
+            (le-leb (suc k) (length earlier) (omega (arith, lt)))
+            ∙ ap (slice_get earlier) pred ∙ earlier_reply board k lt along.earlier
+            ∙ ap (reply_if_done (reply_by_log declared_cowns effect_of opening log (suc k))) (sym (stage_before board k lt))
+        | inr past ↦
+            let place : suc k - 1 - length earlier ≡ k - length earlier = omega (arith, pred) in
+            let back : length earlier + (k - length earlier) ≡ k = omega (arith, past) in
+            let base = along.base in
+            let here : length along.before + (k - length earlier) ≡ k = omega (arith, past, base) in
+            ap (λ b. if b then slice_get earlier (suc k - 1) else option_and_then finished_reply (slice_get board.states (suc k - 1 - length earlier)))
+            (lt-leb (suc k) (length earlier) (omega (arith, past)))
+            ∙ ap (λ p. option_and_then finished_reply (slice_get board.states p)) place
+            ∙ in_place board k (omega (arith, past)) (slice_get board.states (k - length earlier)) refl
+            (λ reply is. ap (λ n. reply_by_log declared_cowns effect_of opening log (suc n)) (sym here)
+            ∙ along.finished (k - length earlier) reply is)
+            ∙ ap (reply_if_done (reply_by_log declared_cowns effect_of opening log (suc k)))
+            (sym (stage_at board (k - length earlier)) ∙ ap (slice_get (stages_of board)) back)
+      ]
+
+  done_reply : (reply : Option Reply) (stage : Option Stage) (x : Reply) → reply_if_done reply stage ≡ Some x → reply ≡ Some x
+  done_reply reply (Some IsDone) x e = e
+  done_reply reply (Some IsOut) x e = absurd (none_some e)
+  done_reply reply (Some Waits) x e = absurd (none_some e)
+  done_reply reply None x e = absurd (none_some e)
+
+  -- what is replied is the log's reply
+  pub replied_by_log : (board : BoardOf Op) (number : ℕ) (reply : Reply) → IsBoardAlong opening log board
+      → reply_in board number ≡ Some reply → reply_by_log declared_cowns effect_of opening log number ≡ Some reply
+  replied_by_log board number reply along e =
+      done_reply (reply_by_log declared_cowns effect_of opening log number) (numbered (stages_of board) number) reply
+      (sym (reply_as_seen board number along) ∙ e)
+
+  within_log : (board : BoardOf Op) → IsBoardAlong opening log board → length_of board ≤ length log
+  within_log board along =
+      let one = ap length along.log_is ∙ length-append along.before (board.log ++ along.later) in
+      let other = length-append board.log along.later in
+      let base = along.base in
+      omega (arith, one, other, base)
+
+  -- the columns of an idle board are what the log up to its length leaves
+  pub columns_along : (board : BoardOf Op) (columns : Balances) → IsBoardAlong opening log board
+      → IsAfterAll declared_cowns effect_of board columns
+      → held_of columns ≡ held_after_first declared_cowns effect_of opening log (length_of board)
+  columns_along board columns along after =
+      after
+      ∙ ap (held_after declared_cowns effect_of (held_of board.opening)) (sym (take-length board.log))
+      ∙ held_alike opening log board along (length board.log) (omega arith)
+      ∙ ap (λ n. held_after_first declared_cowns effect_of opening log (n + length board.log)) along.base
+
+  -- and they are a checkpoint beside the log, with all replies
+  pub checkpoint_along : (board : BoardOf Op) (columns : Balances) → IsBoardAlong opening log board → open_of board ≡ 0
+      → IsAfterAll declared_cowns effect_of board columns
+      → IsCheckpointAlong opening log (record { columns = columns; replies = replies_held board })
+  checkpoint_along board columns along idle after =
+      let size = length_held board idle along.states in
+      let within = within_log board along in
+      record {
+        within = omega (arith, size, within);
+        columns = columns_along board columns along after ∙ ap (held_after_first declared_cowns effect_of opening log) (sym size);
+        replies = λ k reply here.
+            let next : k + 1 ≡ suc k = omega arith in
+            replied_by_log board (suc k) reply along (ap (reply_in board) (sym next) ∙ reply_at board k idle ∙ here);
+      }

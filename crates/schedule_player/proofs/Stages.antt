@@ -1,0 +1,114 @@
+-- The stages of a board's entries.
+use Rattle.std.proofs.Common.{◌≡◌, inl, inr, ℕ, zero, suc, ◌+◌, ◌-◌, ◌<◌, ◌≤◌, Bool, true, false, not, Option, Some, None, List, [], ◌∷◌, ◌++◌, length, map, refl, sym, ap, subst, ◌∙◌, arith}
+use Rattle.std.specs.Prelude.{◌&&◌, slice_get, slice_set, count_by, option_map, if◌then◌else◌}
+use Rattle.std.proofs.lemmas.List.{length-append, map-append}
+use Rattle.std.proofs.lemmas.List.Sums.{sum_by-cons}
+use Rattle.std.proofs.lemmas.Option.{slice_get-map, slice_get_within}
+use Rattle.cown_board.proofs.PlacesLaws.{slice_get-left, slice_get-right}
+use Rattle.cown_board.specs.Board.{BoardOf, length_of, open_of}
+use Rattle.cown_board.specs.State.{is_open, is_waiting, state_is}
+use Rattle.cown_board.specs.declared.state.State.{State}
+use Rattle.cown_board.specs.declared.state.State.TheVariants.{Waiting, Out, Finished}
+use Rattle.sb_calls.specs.declared.op.Op.{Op}
+use Rattle.sb_replica_log.specs.Offers.{accepted}
+use Rattle.schedule_player.specs.Numbered.{copies}
+use Rattle.schedule_player.specs.Readiness.{stage_is}
+use Rattle.schedule_player.specs.Seen.{stage_of, stages_of}
+use Rattle.schedule_player.specs.Stage.{Stage, Waits, IsOut, IsDone, waits, is_undone}
+
+length-copies : {A : Type 0} (n : ℕ) (x : A) → length (copies n x) ≡ n
+length-copies zero x = refl
+length-copies (suc n) x = ap suc (length-copies n x)
+
+length-map : {A B : Type 0} (f : A → B) (xs : List A) → length (map f xs) ≡ length xs
+length-map f [] = refl
+length-map f (x ∷ xs) = ap suc (length-map f xs)
+
+pub set-map : {A B : Type 0} (f : A → B) (xs : List A) (k : ℕ) (x : A) → map f (slice_set xs k x) ≡ slice_set (map f xs) k (f x)
+set-map f [] k x = refl
+set-map f (y ∷ xs) zero x = refl
+set-map f (y ∷ xs) (suc k) x = ap (λ t. f y ∷ t) (set-map f xs k x)
+
+set-copies : {A : Type 0} (n : ℕ) (x : A) (xs : List A) (k : ℕ) (y : A) → copies n x ++ slice_set xs k y ≡ slice_set (copies n x ++ xs) (n + k) y
+set-copies zero x xs k y = let e : k ≡ 0 + k = omega arith in ap (λ j. slice_set xs j y) e
+set-copies (suc n) x xs k y = ap (λ t. x ∷ t) (set-copies n x xs k y) ∙ (let e : suc (n + k) ≡ suc n + k = omega arith in ap (λ j. slice_set (copies (suc n) x ++ xs) j y) e)
+
+get-copies : {A : Type 0} (n : ℕ) (x : A) (k : ℕ) → k < n → slice_get (copies n x) k ≡ Some x
+get-copies zero x k lt = absurd (omega (arith, lt))
+get-copies (suc n) x zero lt = refl
+get-copies (suc n) x (suc k) lt = get-copies n x k (omega (arith, lt))
+
+append-nil : {A : Type 0} (xs ys zs : List A) → (xs ++ ys) ++ zs ≡ xs ++ (ys ++ zs)
+append-nil [] ys zs = refl
+append-nil (x ∷ xs) ys zs = ap (λ t. x ∷ t) (append-nil xs ys zs)
+
+undone_stage : (state : State) → is_undone (stage_of state) ≡ is_open state
+undone_stage Waiting = refl
+undone_stage Out = refl
+undone_stage (Finished reply) = refl
+
+waits_stage : (state : State) → waits (stage_of state) ≡ is_waiting state
+waits_stage Waiting = refl
+waits_stage Out = refl
+waits_stage (Finished reply) = refl
+
+count_more : {A : Type 0} (p : A → Bool) (x : A) (xs : List A) → count_by p (x ∷ xs) ≡ (if p x then 1 else 0) + count_by p xs
+count_more p x xs = sum_by-cons (λ y. if p y then 1 else 0) x xs
+
+undone_states : (states : List State) → count_by is_undone (map stage_of states) ≡ count_by is_open states
+undone_states [] = refl
+undone_states (Waiting ∷ states) = count_more is_undone Waits (map stage_of states) ∙ ap (λ n. 1 + n) (undone_states states) ∙ sym (count_more is_open Waiting states)
+undone_states (Out ∷ states) = count_more is_undone IsOut (map stage_of states) ∙ ap (λ n. 1 + n) (undone_states states) ∙ sym (count_more is_open Out states)
+undone_states (Finished reply ∷ states) = undone_states states
+
+undone_after : (n : ℕ) (stages : List Stage) → count_by is_undone (copies n IsDone ++ stages) ≡ count_by is_undone stages
+undone_after zero stages = refl
+undone_after (suc n) stages = undone_after n stages
+
+-- as many undone ones as are open
+pub undone_in_stages : (board : BoardOf Op) → count_by is_undone (stages_of board) ≡ open_of board
+undone_in_stages board = undone_after (length board.earlier) (map stage_of board.states) ∙ undone_states board.states
+
+pub length_stages : (board : BoardOf Op) → length board.log ≡ length board.states → length (stages_of board) ≡ length_of board
+length_stages board states =
+    length-append (copies (length board.earlier) IsDone) (map stage_of board.states)
+    ∙ ap (λ n. n + length (map stage_of board.states)) (length-copies (length board.earlier) IsDone)
+    ∙ ap (λ n. length board.earlier + n) (length-map stage_of board.states ∙ sym states)
+
+pub stages_accepted : (board : BoardOf Op) (op : Op) → stages_of (accepted board op) ≡ stages_of board ++ Waits ∷ []
+stages_accepted board op =
+    ap (λ s. copies (length board.earlier) IsDone ++ s) (map-append stage_of board.states (Waiting ∷ []))
+    ∙ sym (append-nil (copies (length board.earlier) IsDone) (map stage_of board.states) (Waits ∷ []))
+
+pub stages_set : (board : BoardOf Op) (place : ℕ) (state : State)
+    → stages_of (record board { states = slice_set board.states place state })
+    ≡ slice_set (stages_of board) (length board.earlier + place) (stage_of state)
+stages_set board place state =
+    ap (λ s. copies (length board.earlier) IsDone ++ s) (set-map stage_of board.states place state)
+    ∙ set-copies (length board.earlier) IsDone (map stage_of board.states) place (stage_of state)
+
+-- what was replied before the board is done
+pub stage_before : (board : BoardOf Op) (k : ℕ) → k < length board.earlier → slice_get (stages_of board) k ≡ Some IsDone
+stage_before board k lt =
+    slice_get-left (copies (length board.earlier) IsDone) (map stage_of board.states) k (subst (λ n. k < n) (sym (length-copies (length board.earlier) IsDone)) lt)
+    ∙ get-copies (length board.earlier) IsDone k lt
+
+-- and the rest is where the board has it
+pub stage_at : (board : BoardOf Op) (k : ℕ) → slice_get (stages_of board) (length board.earlier + k) ≡ option_map stage_of (slice_get board.states k)
+stage_at board k =
+    slice_get-right (copies (length board.earlier) IsDone) (map stage_of board.states) (length board.earlier + k) k
+    (ap (λ n. n + k) (sym (length-copies (length board.earlier) IsDone)))
+    ∙ slice_get-map stage_of board.states k
+
+stage_state : (test : Stage → Bool) (check : State → Bool) (same : (state : State) → test (stage_of state) ≡ check state)
+    (state : Option State) → stage_is test (option_map stage_of state) ≡ state_is check state
+stage_state test check same None = refl
+stage_state test check same (Some state) = same state
+
+pub waits_at : (board : BoardOf Op) (k : ℕ)
+    → stage_is waits (slice_get (stages_of board) (length board.earlier + k)) ≡ state_is is_waiting (slice_get board.states k)
+waits_at board k = ap (stage_is waits) (stage_at board k) ∙ stage_state waits is_waiting waits_stage (slice_get board.states k)
+
+pub undone_at : (board : BoardOf Op) (k : ℕ)
+    → stage_is is_undone (slice_get (stages_of board) (length board.earlier + k)) ≡ state_is is_open (slice_get board.states k)
+undone_at board k = ap (stage_is is_undone) (stage_at board k) ∙ stage_state is_undone is_open undone_stage (slice_get board.states k)

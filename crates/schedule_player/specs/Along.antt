@@ -1,0 +1,46 @@
+-- What a replica holds, beside the whole log run one by one.
+use Rattle.std.specs.Prelude.{◌≡◌, ℕ, suc, ◌+◌, ◌≤◌, ℤ, Some, List, ◌++◌, length, slice_get}
+use Rattle.sb_calls.specs.Behaviour.{declared_cowns, effect_of}
+use Rattle.sb_calls.specs.Cowns.{held_of}
+use Rattle.sb_calls.specs.OneByOne.{inputs_of, held_after, held_after_first, reply_by_log}
+use Rattle.sb_calls.specs.declared.op.Op.{Op}
+use Rattle.sb_calls.specs.declared.reply.Reply.{Reply}
+use Rattle.sb_checkpoint.specs.Checkpoint.{CheckpointOf}
+use Rattle.cown_board.specs.Board.{BoardOf}
+use Rattle.cown_board.specs.Job.{JobOf}
+use Rattle.cown_board.specs.declared.state.State.TheVariants.{Finished}
+
+-- for what the cowns held at the opening, and all ops of the log
+module _ (opening : List ℤ) (log : List Op) where
+  -- the replies to the numbers from 1 on
+  abbrev pub AreReplies : List Reply → Type 0
+  AreReplies replies = (k : ℕ) (reply : Reply) → slice_get replies k ≡ Some reply
+      → reply_by_log declared_cowns effect_of opening log (suc k) ≡ Some reply
+
+  -- the board's log is a part of the whole log, and it was opened on what the log before this part leaves
+  pub record IsBoardAlong (board : BoardOf Op) : Type 0 where
+    pub before : List Op
+    pub later : List Op
+    pub log_is : log ≡ before ++ (board.log ++ later)
+    pub base : length before ≡ length board.earlier
+    pub opening_is : held_of board.opening ≡ held_after declared_cowns effect_of opening before
+    pub earlier : AreReplies board.earlier
+    pub states : length board.log ≡ length board.states
+    pub finished : (k : ℕ) (reply : Reply) → slice_get board.states k ≡ Some (Finished reply)
+        → reply_by_log declared_cowns effect_of opening log (suc (length before + k)) ≡ Some reply
+
+  -- the job is of an op of the log, on what the log before it leaves
+  pub record IsJobAlong (job : JobOf Op) : Type 0 where
+    pub place : ℕ
+    pub number : job.number ≡ suc place
+    pub behaviour : slice_get log place ≡ Some job.behaviour
+    pub inputs : job.inputs
+        ≡ inputs_of declared_cowns effect_of
+        (held_after_first declared_cowns effect_of opening log place) job.behaviour
+
+  -- the checkpoint is what the log up to its length leaves and replies
+  pub record IsCheckpointAlong (checkpoint : CheckpointOf) : Type 0 where
+    pub within : length checkpoint.replies ≤ length log
+    pub columns : held_of checkpoint.columns
+        ≡ held_after_first declared_cowns effect_of opening log (length checkpoint.replies)
+    pub replies : AreReplies checkpoint.replies

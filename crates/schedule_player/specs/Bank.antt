@@ -1,0 +1,24 @@
+-- The bank that a schedule is about: what it opened with, and the calls of the log.
+use Rattle.std.specs.Prelude.{ℕ, Option, List}
+use Rattle.sb_rows.specs.Balances.{Balances}
+use Rattle.sb_rows.specs.Rows.{Rows, rows_of}
+use Rattle.sb_calls.specs.Log.{rows_after_calls, reply_to}
+use Rattle.sb_calls.specs.declared.call.Call.{Call}
+use Rattle.sb_calls.specs.declared.reply.Reply.{Reply}
+
+-- the customers' names and balances at the opening, and the calls, numbered from 1
+pub record BankOf : Type 0 where
+  pub names : List (List ℕ)
+  pub opening : Balances
+  pub calls : List Call
+
+abbrev pub opening_rows : BankOf → Rows
+opening_rows bank = rows_of bank.names bank.opening
+
+-- the reply to a number: that of the calls run one by one
+abbrev pub log_reply : BankOf → ℕ → Option Reply
+log_reply bank number = reply_to (opening_rows bank) bank.calls number
+
+-- the rows after so many calls, run one by one
+abbrev pub log_rows : BankOf → ℕ → Rows
+log_rows bank size = rows_after_calls (opening_rows bank) bank.calls size

@@ -1,0 +1,74 @@
+-- A node of the code, as the machine sees it, and beside the log.
+use Rattle.std.specs.Prelude.{◌≡◌, ℕ, ◌≤◌, Option, Some, IfSome, List, length, map, option_map, slice_get}
+use Rattle.sb_rows.specs.Rows.{SameCustomers}
+use Rattle.sb_calls.specs.Cowns.{held_of}
+use Rattle.sb_calls.specs.declared.call.Call.{Call}
+use Rattle.sb_calls.specs.declared.op.Op.{Op}
+use Rattle.sb_calls.specs.declared.reply.Reply.{Reply}
+use Rattle.sb_checkpoint.specs.Checkpoint.{CheckpointOf}
+use Rattle.sb_frames.specs.declared.frame.Frame.{Frame}
+use Rattle.sb_frames.specs.declared.frame.Frame.TheVariants as frame
+use Rattle.sb_replica.specs.Restarting.{IsStoredAs}
+use Rattle.cown_board.specs.Job.{JobOf}
+use Rattle.schedule_player.specs.Along.{IsBoardAlong, IsJobAlong, IsCheckpointAlong}
+use Rattle.schedule_player.specs.Bank.{BankOf, log_reply}
+use Rattle.schedule_player.specs.Numbered.{numbered, Every}
+use Rattle.schedule_player.specs.ReplicaMoves.{NodeOf}
+use Rattle.schedule_player.specs.Seen.{stages_of, kept_in, ops_of}
+use Rattle.schedule_player.specs.declared.node.Node.{Node}
+use Rattle.schedule_player.specs.declared.note.Note.{Note}
+
+abbrev pub number_in : JobOf Op → ℕ
+number_in job = job.number
+
+abbrev pub seen_node : Node → NodeOf
+seen_node node = record {
+  stages = stages_of node.replica.board;
+  hands = map (option_map number_in) node.hands.items;
+  kept = kept_in node.replica.store.slot;
+  inbound = node.inbound;
+  outbound = node.outbound;
+}
+
+-- a frame is an entry of the log
+pub record IsEntryOf (bank : BankOf) (sent : Frame) : Type 0 where
+  pub number : ℕ
+  pub call : Call
+  pub frame_is : sent ≡ frame.Entry number call
+  pub in_log : numbered bank.calls number ≡ Some call
+
+-- what a replica may tell: a length up to the log's, under its own number, or the log's reply to a number
+abbrev pub IsToldBy : BankOf → ℕ → Frame → Type 0
+IsToldBy bank r (frame.Ack replica size) = (replica ≡ r) × (size ≤ length bank.calls)
+IsToldBy bank r (frame.Answer number reply) = log_reply bank number ≡ Some reply
+IsToldBy bank r (frame.Ask client request call) = ⊥
+IsToldBy bank r (frame.Entry number call) = ⊥
+IsToldBy bank r (frame.Outcome client request outcome) = ⊥
+IsToldBy bank r frame.Flush = ⊥
+
+-- what is stored, or the opening where nothing is, is what the log up to its length comes to
+pub record IsKeptAlong (bank : BankOf) (slot : Option (List ℕ)) : Type 0 where
+  pub checkpoint : CheckpointOf
+  pub stored : IsStoredAs bank.opening (length bank.names) slot checkpoint
+  pub along : IsCheckpointAlong (held_of bank.opening) (ops_of bank) checkpoint
+
+-- a hand is empty, or has a job of the log
+abbrev pub IsHandAlong : BankOf → Option (JobOf Op) → Type 0
+IsHandAlong bank hand = IfSome hand (IsJobAlong (held_of bank.opening) (ops_of bank))
+
+-- replica r of a bank
+pub record IsNodeAt (bank : BankOf) (r : ℕ) (node : Node) : Type 0 where
+  pub customers : SameCustomers bank.names bank.opening
+  pub id : node.replica.id ≡ r
+  pub names : node.replica.names ≡ bank.names
+  pub opening : node.replica.opening ≡ bank.opening
+  pub board : IsBoardAlong (held_of bank.opening) (ops_of bank) node.replica.board
+  pub kept : IsKeptAlong bank node.replica.store.slot
+  pub hands : Every (IsHandAlong bank) node.hands.items
+  pub inbound : Every (IsEntryOf bank) node.inbound
+  pub outbound : Every (IsToldBy bank r) node.outbound
+
+-- the machine moves to what is seen of the node now, with this note
+pub record Arrives (bank : BankOf) (r : ℕ) (new : Node) (note : Note) (moved : NodeOf × Note) : Type 0 where
+  pub along : IsNodeAt bank r new
+  pub as_moved : moved ≡ (seen_node new, note)

@@ -1,0 +1,19 @@
+-- Lists whose items are counted from 1.
+use Rattle.std.specs.Prelude.{◌≡◌, ℕ, zero, suc, Option, Some, None, List, [], ◌∷◌, slice_get, slice_set}
+
+abbrev pub numbered : {A : Type 0} → List A → ℕ → Option A
+numbered items zero = None
+numbered items (suc k) = slice_get items k
+
+abbrev pub with_numbered : {A : Type 0} → List A → ℕ → A → List A
+with_numbered items zero item = items
+with_numbered items (suc k) item = slice_set items k item
+
+-- so many of one item
+abbrev pub copies : {A : Type 0} → ℕ → A → List A
+copies zero item = []
+copies (suc n) item = item ∷ copies n item
+
+-- it is so of each item
+abbrev pub Every : {A : Type 0} → (A → Type 0) → List A → Type 0
+Every {A} P items = (k : ℕ) (item : A) → slice_get items k ≡ Some item → P item

@@ -1,0 +1,44 @@
+-- Which accepted entries may run, by the balances that their calls touch.
+use Rattle.std.specs.Prelude.{ℕ, Bool, false, ◌&&◌, Option, Some, None, List, [], slice_get, length}
+use Rattle.std.specs.List.{list_any}
+use Rattle.std.specs.Str.{bytes_eq}
+use Rattle.sb_calls.specs.Touches.{BalancePlace, Savings, Checking, touched}
+use Rattle.sb_calls.specs.declared.call.Call.{Call}
+use Rattle.cown_board.specs.Places.{places, none_below}
+use Rattle.schedule_player.specs.Bank.{BankOf, opening_rows}
+use Rattle.schedule_player.specs.Stage.{Stage, waits, is_undone}
+
+abbrev pub same_place : BalancePlace → BalancePlace → Bool
+same_place (Savings a) (Savings b) = bytes_eq a b
+same_place (Savings a) (Checking b) = false
+same_place (Checking a) (Savings b) = false
+same_place (Checking a) (Checking b) = bytes_eq a b
+
+-- whether two lists have a balance in common
+abbrev pub share_place : List BalancePlace → List BalancePlace → Bool
+share_place these others = list_any (λ place. list_any (same_place place) others) these
+
+-- the balances that a call touches; none where there is no call
+abbrev pub touched_in : BankOf → Option Call → List BalancePlace
+touched_in bank None = []
+touched_in bank (Some call) = touched (opening_rows bank) call
+
+-- whether the calls at two places of the log, counted from 0, touch a balance in common
+abbrev pub conflict_between : BankOf → ℕ → ℕ → Bool
+conflict_between bank j k =
+    share_place (touched_in bank (slice_get bank.calls j)) (touched_in bank (slice_get bank.calls k))
+
+-- what is so of the stage at a place; where there is none, nothing is
+abbrev pub stage_is : (Stage → Bool) → Option Stage → Bool
+stage_is test None = false
+stage_is test (Some stage) = test stage
+
+-- an entry may run once it waits and no undone one before it touches a balance that it touches
+abbrev pub may_run : BankOf → List Stage → ℕ → Bool
+may_run bank stages k =
+    stage_is waits (slice_get stages k)
+    && none_below (λ j. stage_is is_undone (slice_get stages j) && conflict_between bank j k) k
+
+-- the places of those that may run, in rising order
+unfoldable pub runnable : BankOf → List Stage → List ℕ
+runnable bank stages = places (may_run bank stages) (length stages)

@@ -1,0 +1,157 @@
+-- The reference machine at one replica: what each event does to its numbers, and the note on it.
+use Rattle.std.specs.Prelude.{ℕ, suc, nat_le, nat_lt, ◌==◌, if◌then◌else◌, Option, Some, None, List, [], ◌∷◌, ◌++◌, length, count_by, slice_get, slice_set}
+use Rattle.sb_calls.specs.declared.reply.Reply.{Reply}
+use Rattle.sb_checkpoint.specs.declared.memory_store.How.{How}
+use Rattle.sb_checkpoint.specs.declared.memory_store.How.TheVariants as how
+use Rattle.sb_frames.specs.declared.frame.Frame.{Frame}
+use Rattle.sb_frames.specs.declared.frame.Frame.TheVariants as frame
+use Rattle.schedule_player.specs.Bank.{BankOf, log_reply}
+use Rattle.schedule_player.specs.Numbered.{numbered, with_numbered, copies}
+use Rattle.schedule_player.specs.Readiness.{runnable}
+use Rattle.schedule_player.specs.Stage.{Stage, Waits, IsOut, IsDone, is_undone}
+use Rattle.schedule_player.specs.declared.note.Note.{Note}
+use Rattle.schedule_player.specs.declared.note.Note.TheVariants as note
+
+-- the entries that it accepted, by number from 1; what each worker has in hand, by worker from 1; the length of the
+-- checkpoint that is kept; and all frames that were ever sent to it and from it, by place from 1
+pub record NodeOf : Type 0 where
+  pub stages : List Stage
+  pub hands : List (Option ℕ)
+  pub kept : ℕ
+  pub inbound : List Frame
+  pub outbound : List Frame
+
+-- a replica of so many workers at the opening
+abbrev pub opened_node : ℕ → NodeOf
+opened_node workers =
+    record { stages = []; hands = copies workers None; kept = 0; inbound = []; outbound = [] }
+
+-- how many entries it accepted, and how many of them are undone
+abbrev pub length_in : NodeOf → ℕ
+length_in node = length node.stages
+
+abbrev pub undone_in : NodeOf → ℕ
+undone_in node = count_by is_undone node.stages
+
+-- ---- a frame comes
+
+-- the first case that holds; only the next entry changes anything
+abbrev pub entry_comes : NodeOf → ℕ → NodeOf × Note
+entry_comes node number =
+    if nat_le number (length_in node) then (node, note.Repeat number)
+    else if nat_lt (suc (length_in node)) number then (node, note.Gap (length_in node))
+    else if undone_in node == 1024 then (node, note.Busy (length_in node))
+    else (record node { stages = node.stages ++ Waits ∷ [] }, note.Accepted number)
+
+abbrev pub frame_comes : NodeOf → Option Frame → NodeOf × Note
+frame_comes node (Some (frame.Entry number call)) = entry_comes node number
+frame_comes node (Some (frame.Ask client request call)) = (node, note.Nothing)
+frame_comes node (Some (frame.Ack replica size)) = (node, note.Nothing)
+frame_comes node (Some (frame.Answer number reply)) = (node, note.Nothing)
+frame_comes node (Some (frame.Outcome client request outcome)) = (node, note.Nothing)
+frame_comes node (Some frame.Flush) = (node, note.Nothing)
+frame_comes node None = (node, note.Nothing)
+
+abbrev pub delivered_to : NodeOf → ℕ → NodeOf × Note
+delivered_to node place = frame_comes node (numbered node.inbound place)
+
+-- ---- a worker takes
+
+-- the entry at a place of the log goes out, into the hand of a worker
+abbrev pub goes_out : NodeOf → ℕ → Option ℕ → NodeOf × Note
+goes_out node worker None = (node, note.Nothing)
+goes_out node worker (Some place) = (
+  record node {
+    stages = slice_set node.stages place IsOut;
+    hands = with_numbered node.hands worker (Some (suc place));
+  },
+  note.Took (suc place),
+)
+
+abbrev pub reaches_out : BankOf → NodeOf → ℕ → ℕ → Option (Option ℕ) → NodeOf × Note
+reaches_out bank node worker index None = (node, note.Nothing)
+reaches_out bank node worker index (Some (Some number)) = (node, note.HandFull)
+reaches_out bank node worker index (Some None) = goes_out node worker (slice_get (runnable bank node.stages) index)
+
+-- the entry that may run and has so many before it that may run
+abbrev pub taken : BankOf → NodeOf → ℕ → ℕ → NodeOf × Note
+taken bank node worker index = reaches_out bank node worker index (numbered node.hands worker)
+
+-- ---- a worker finishes
+
+abbrev pub emptied : NodeOf → ℕ → NodeOf
+emptied node worker = record node { hands = with_numbered node.hands worker None }
+
+abbrev pub note_of_reply : ℕ → Option Reply → Note
+note_of_reply number (Some reply) = note.Finished number reply
+note_of_reply number None = note.Stranger number
+
+-- a number that is out is done, with the reply of the log run one by one; every other is a stranger
+abbrev pub comes_back : BankOf → NodeOf → ℕ → Option Stage → NodeOf × Note
+comes_back bank node number (Some IsOut) = (
+  record node { stages = with_numbered node.stages number IsDone },
+  note_of_reply number (log_reply bank number),
+)
+comes_back bank node number (Some Waits) = (node, note.Stranger number)
+comes_back bank node number (Some IsDone) = (node, note.Stranger number)
+comes_back bank node number None = (node, note.Stranger number)
+
+abbrev pub gives_back : BankOf → NodeOf → ℕ → Option (Option ℕ) → NodeOf × Note
+gives_back bank node worker None = (node, note.Nothing)
+gives_back bank node worker (Some None) = (node, note.Nothing)
+gives_back bank node worker (Some (Some number)) =
+    comes_back bank (emptied node worker) number (numbered node.stages number)
+
+-- the hand is empty after it
+abbrev pub finished_by : BankOf → NodeOf → ℕ → NodeOf × Note
+finished_by bank node worker = gives_back bank node worker (numbered node.hands worker)
+
+-- ---- a checkpoint is written, and gone back to
+
+abbrev pub put_ends : NodeOf → How → NodeOf × Note
+put_ends node how.Ok = (record node { kept = length_in node }, note.Marked (length_in node))
+put_ends node how.Old = (node, note.StoreFault)
+put_ends node how.New = (record node { kept = length_in node }, note.StoreFault)
+
+abbrev pub marked : NodeOf → How → NodeOf × Note
+marked node how = if undone_in node == 0 then put_ends node how else (node, note.Unfinished)
+
+-- hands and frames stay as they are
+abbrev pub restarted : NodeOf → NodeOf × Note
+restarted node = (record node { stages = copies node.kept IsDone }, note.Restarted node.kept)
+
+-- ---- a replica tells
+
+abbrev pub tells : NodeOf → Frame → NodeOf × Note
+tells node told =
+    (record node { outbound = node.outbound ++ told ∷ [] }, note.Sent (suc (length node.outbound)))
+
+abbrev pub acknowledged : NodeOf → ℕ → NodeOf × Note
+acknowledged node replica = tells node (frame.Ack replica (length_in node))
+
+abbrev pub told_reply : NodeOf → ℕ → Option Reply → NodeOf × Note
+told_reply node number (Some reply) = tells node (frame.Answer number reply)
+told_reply node number None = (node, note.Nothing)
+
+-- the reply to a number that is done
+abbrev pub reply_held : BankOf → ℕ → Option Stage → Option Reply
+reply_held bank number (Some IsDone) = log_reply bank number
+reply_held bank number (Some IsOut) = None
+reply_held bank number (Some Waits) = None
+reply_held bank number None = None
+
+abbrev pub reply_in_node : BankOf → NodeOf → ℕ → Option Reply
+reply_in_node bank node number = reply_held bank number (numbered node.stages number)
+
+abbrev pub answered : BankOf → NodeOf → ℕ → NodeOf × Note
+answered bank node number = told_reply node number (reply_in_node bank node number)
+
+-- ---- an entry is sent to it
+
+abbrev pub sent : NodeOf → Option Frame → NodeOf × Note
+sent node (Some entry) =
+    (record node { inbound = node.inbound ++ entry ∷ [] }, note.Sent (suc (length node.inbound)))
+sent node None = (node, note.Nothing)
+
+abbrev pub sent_all : NodeOf → List Frame → NodeOf × Note
+sent_all node entries = (record node { inbound = node.inbound ++ entries }, note.Resent (length entries))

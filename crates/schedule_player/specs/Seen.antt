@@ -1,0 +1,53 @@
+-- What the machine sees of what the code holds.
+use Rattle.std.specs.Prelude.{ℕ, Option, Some, None, Result, Ok, Err, List, ◌++◌, length, map}
+use Rattle.sb_calls.specs.Op.{resolved}
+use Rattle.sb_calls.specs.declared.op.Op.{Op}
+use Rattle.cown_board.specs.Board.{BoardOf}
+use Rattle.cown_board.specs.declared.state.State.{State}
+use Rattle.cown_board.specs.declared.state.State.TheVariants.{Waiting, Out, Finished}
+use Rattle.sb_checkpoint.specs.Reading.{stated_length}
+use Rattle.sb_frames.specs.Decoding.{decoded}
+use Rattle.sb_frames.specs.Grammar.{Spells}
+use Rattle.sb_frames.specs.declared.fault.FrameFault.{FrameFault}
+use Rattle.sb_frames.specs.declared.frame.Frame.{Frame}
+use Rattle.sb_frames.specs.declared.frame.Frame.TheVariants as frame
+use Rattle.schedule_player.specs.Bank.{BankOf}
+use Rattle.schedule_player.specs.Numbered.{copies}
+use Rattle.schedule_player.specs.Stage.{Stage, Waits, IsOut, IsDone}
+
+-- the frame that bytes begin with; where there is none, some frame that says nothing
+abbrev pub frame_or_flush : Result (Frame × ℕ) FrameFault → Frame
+frame_or_flush (Ok found) = found.0
+frame_or_flush (Err fault) = frame.Flush
+
+unfoldable pub frame_in : List ℕ → Frame
+frame_in bytes = frame_or_flush (decoded bytes)
+
+-- the bytes spell a frame
+pub record IsSpelled (bytes : List ℕ) : Type 0 where
+  pub frame : Frame
+  pub spelled : Spells frame bytes
+
+-- ---- where the entries of a board are
+
+abbrev pub stage_of : State → Stage
+stage_of Waiting = Waits
+stage_of Out = IsOut
+stage_of (Finished reply) = IsDone
+
+-- what was replied before the board is done; the rest is where the board has it
+abbrev pub stages_of : BoardOf Op → List Stage
+stages_of board = copies (length board.earlier) IsDone ++ map stage_of board.states
+
+-- ---- what is stored
+
+-- the length that stored bytes state, 0 where there are none
+abbrev pub kept_in : Option (List ℕ) → ℕ
+kept_in None = 0
+kept_in (Some bytes) = stated_length bytes
+
+-- ---- the log by cowns
+
+-- the calls with places for names
+abbrev pub ops_of : BankOf → List Op
+ops_of bank = map (resolved bank.names) bank.calls

@@ -1,0 +1,68 @@
+//! Frames that were sent, as bytes.
+ghost use Rattle.std.specs.Prelude.{◌≡◌, None, Some, [], ◌∷◌, ◌++◌, length, IfOk, OnErr, MatchOption};
+ghost use Rattle.std.specs.Option.{option_copied};
+ghost use Rattle.sb_frames.specs.Grammar.{Spells};
+ghost use Rattle.sb_frames.specs.declared.frame.Frame.{Frame as AnyFrame};
+ghost use Rattle.schedule_player.specs.Numbered.{numbered};
+
+use arrayvec::ArrayVec;
+use sb_frames::{Frame, MAX_FRAME, encode};
+use std::alloc::{AllocError, Global};
+use std::marker::Model;
+
+/// All frames that were ever sent one way, in order. A frame's bytes stand in the list itself.
+#[derive(Drop)]
+pub(crate) struct Frames {
+    sent: Vec<ArrayVec<u8, MAX_FRAME>>,
+}
+
+impl Model for Frames {
+    ghost use Rattle.std.specs.Prelude.{List, map};
+    ghost use Rattle.sb_frames.specs.declared.frame.Frame.{Frame as AnyFrame};
+    ghost use Rattle.schedule_player.specs.Numbered.{Every};
+    ghost use Rattle.schedule_player.specs.Seen.{frame_in, IsSpelled};
+
+    ghost Value = { List AnyFrame };
+
+    ghost view = { λ f. map (λ bytes. frame_in bytes.items) f.sent.items };
+
+    ghost invariant = { λ f. Every (λ bytes. IsSpelled bytes.items) f.sent.items };
+}
+
+// The item at a place, from 1.
+fn item_at<T>(items: &[T], place: u32) -> Option<&T>
+    ensures { option_copied result ≡ numbered items.now place }
+{
+    let place = place.checked_sub(1)?;
+    items.get(place as usize)
+}
+
+impl Frames {
+    /// No frames.
+    pub fn new(alloc: Global) -> Frames
+        ensures { result ≡ [] }
+    {
+        Frames {
+            sent: Vec::new(alloc),
+        }
+    }
+
+    /// Puts a frame last, and answers its place, from 1.
+    pub fn send(&mut self, frame: &Frame) -> Result<u64, AllocError>
+        ensures sent { IfOk result (λ place. self.new ≡ self.old ++ frame.now ∷ []) }
+        ensures place { IfOk result (λ place. place ≡ length self.new) }
+        ensures err { OnErr result (self.new ≡ self.old) }
+    {
+        self.sent.push(encode(frame))?;
+        Ok(self.sent.len() as u64)
+    }
+
+    /// The bytes of the frame at a place, from 1.
+    pub fn get(&self, place: u32) -> Option<&[u8]>
+        ensures { MatchOption result (numbered self.now place ≡ None)
+            (λ bytes. (frame : AnyFrame) × (numbered self.now place ≡ Some frame) × Spells frame bytes.now) }
+    {
+        let bytes = item_at(&self.sent, place)?;
+        Some(bytes.as_slice())
+    }
+}

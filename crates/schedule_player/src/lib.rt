@@ -1,0 +1,10 @@
+//! Plays schedules: a sequencer and its replicas, event after event.
+#![tactic(auto)]
+
+mod event;
+mod frames;
+mod node;
+mod note;
+
+pub use event::Event;
+pub use note::{AuditNote, Column, Note};
