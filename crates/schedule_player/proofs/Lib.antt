@@ -8,3 +8,4 @@ pub mod SeenReplies
 pub mod SentFrames
 pub mod Sharing
 pub mod Stages
+pub mod Telling

@@ -38,6 +38,7 @@ pub node_within : (bank : BankOf) (r : ℕ) (old new : Node) → IsNodeAt bank r
     → IsNodeAt bank r new
 node_within bank r old new is within board hands = record {
   customers = is.customers;
+  few = is.few;
   id = ap (λ b. b.id) within.beside ∙ is.id;
   names = ap (λ b. b.names) within.beside ∙ is.names;
   opening = ap (λ b. b.opening) within.beside ∙ is.opening;

@@ -102,7 +102,7 @@ module _ (opening : List ℤ) (log : List Op) where
       done_reply (reply_by_log declared_cowns effect_of opening log number) (numbered (stages_of board) number) reply
       (sym (reply_as_seen board number along) ∙ e)
 
-  within_log : (board : BoardOf Op) → IsBoardAlong opening log board → length_of board ≤ length log
+  pub within_log : (board : BoardOf Op) → IsBoardAlong opening log board → length_of board ≤ length log
   within_log board along =
       let one = ap length along.log_is ∙ length-append along.before (board.log ++ along.later) in
       let other = length-append board.log along.later in

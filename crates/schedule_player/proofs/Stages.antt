@@ -20,7 +20,7 @@ length-copies : {A : Type 0} (n : ℕ) (x : A) → length (copies n x) ≡ n
 length-copies zero x = refl
 length-copies (suc n) x = ap suc (length-copies n x)
 
-length-map : {A B : Type 0} (f : A → B) (xs : List A) → length (map f xs) ≡ length xs
+pub length-map : {A B : Type 0} (f : A → B) (xs : List A) → length (map f xs) ≡ length xs
 length-map f [] = refl
 length-map f (x ∷ xs) = ap suc (length-map f xs)
 

@@ -3,6 +3,7 @@ use Rattle.std.specs.Prelude.{◌≡◌, ℕ, ◌≤◌, Option, Some, IfSome, L
 use Rattle.sb_rows.specs.Rows.{SameCustomers}
 use Rattle.sb_calls.specs.Cowns.{held_of}
 use Rattle.sb_calls.specs.declared.call.Call.{Call}
+use Rattle.sb_calls.specs.declared.call.TheConstants.{LOG_CALLS}
 use Rattle.sb_calls.specs.declared.op.Op.{Op}
 use Rattle.sb_calls.specs.declared.reply.Reply.{Reply}
 use Rattle.sb_checkpoint.specs.Checkpoint.{CheckpointOf}
@@ -59,6 +60,7 @@ IsHandAlong bank hand = IfSome hand (IsJobAlong (held_of bank.opening) (ops_of b
 -- replica r of a bank
 pub record IsNodeAt (bank : BankOf) (r : ℕ) (node : Node) : Type 0 where
   pub customers : SameCustomers bank.names bank.opening
+  pub few : length bank.calls ≤ LOG_CALLS
   pub id : node.replica.id ≡ r
   pub names : node.replica.names ≡ bank.names
   pub opening : node.replica.opening ≡ bank.opening
@@ -67,6 +69,11 @@ pub record IsNodeAt (bank : BankOf) (r : ℕ) (node : Node) : Type 0 where
   pub hands : Every (IsHandAlong bank) node.hands.items
   pub inbound : Every (IsEntryOf bank) node.inbound
   pub outbound : Every (IsToldBy bank r) node.outbound
+
+-- nothing of what the machine sees changed
+pub record IsAsBefore (bank : BankOf) (r : ℕ) (old new : Node) : Type 0 where
+  pub along : IsNodeAt bank r new
+  pub seen : seen_node new ≡ seen_node old
 
 -- the machine moves to what is seen of the node now, with this note
 pub record Arrives (bank : BankOf) (r : ℕ) (new : Node) (note : Note) (moved : NodeOf × Note) : Type 0 where

@@ -5,6 +5,8 @@ use Rattle.sb_checkpoint.specs.declared.memory_store.How.{How}
 use Rattle.sb_checkpoint.specs.declared.memory_store.How.TheVariants as how
 use Rattle.sb_frames.specs.declared.frame.Frame.{Frame}
 use Rattle.sb_frames.specs.declared.frame.Frame.TheVariants as frame
+use Rattle.sb_replica.specs.declared.heard.Heard.{Heard}
+use Rattle.sb_replica.specs.declared.heard.Heard.TheVariants as heard
 use Rattle.schedule_player.specs.Bank.{BankOf, log_reply}
 use Rattle.schedule_player.specs.Numbered.{numbered, with_numbered, copies}
 use Rattle.schedule_player.specs.Readiness.{runnable}
@@ -155,3 +157,11 @@ sent node None = (node, note.Nothing)
 
 abbrev pub sent_all : NodeOf → List Frame → NodeOf × Note
 sent_all node entries = (record node { inbound = node.inbound ++ entries }, note.Resent (length entries))
+
+-- what a replica's answer to a frame is as a note
+abbrev pub note_of_heard : Heard → Note
+note_of_heard (heard.Accepted number) = note.Accepted number
+note_of_heard (heard.Repeat number) = note.Repeat number
+note_of_heard (heard.Gap size) = note.Gap size
+note_of_heard (heard.Busy size) = note.Busy size
+note_of_heard heard.Ignored = note.Nothing

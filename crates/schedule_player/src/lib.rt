@@ -2,9 +2,11 @@
 #![tactic(auto)]
 
 mod event;
+mod fault;
 mod frames;
 mod node;
 mod note;
 
 pub use event::Event;
+pub use fault::StepFault;
 pub use note::{AuditNote, Column, Note};

@@ -1,16 +1,19 @@
 //! A replica with its workers' hands, and the frames that were ever sent to it and from it.
-ghost use Rattle.std.specs.Prelude.{◌≡◌, ℕ, suc, ◌<◌, None, length, MatchOption};
+ghost use Rattle.std.specs.Prelude.{◌≡◌, ◌≢◌, ℕ, suc, ◌<◌, Some, None, length, MatchOption, IfOk, OnErr};
+ghost use Rattle.cown_board.specs.Board.{reply_in};
 ghost use Rattle.schedule_player.specs.Bank.{BankOf};
-ghost use Rattle.schedule_player.specs.NodeAlong.{IsNodeAt, Arrives, seen_node};
+ghost use Rattle.schedule_player.specs.NodeAlong.{IsEntryOf, IsNodeAt, Arrives, seen_node};
 ghost use Rattle.schedule_player.specs.Numbered.{numbered};
-ghost use Rattle.schedule_player.specs.ReplicaMoves.{taken, finished_by};
+ghost use Rattle.schedule_player.specs.ReplicaMoves.{taken, finished_by, delivered_to, sent, acknowledged, answered, note_of_heard};
 
+use crate::fault::StepFault;
 use crate::frames::Frames;
 use crate::note::Note;
 use cown_board::{Job, Runs};
 use sb_calls::Op;
 use sb_checkpoint::MemoryStore;
-use sb_replica::Replica;
+use sb_frames::Frame;
+use sb_replica::{Heard, Replica};
 
 /// A replica, what each worker has in hand, and all frames that were ever sent to it and from it.
 #[derive(Drop)]
@@ -19,6 +22,19 @@ pub(crate) struct Node {
     pub hands: Vec<Option<Job<Op>>>,
     pub inbound: Frames,
     pub outbound: Frames,
+}
+
+// What a replica's answer to a frame is as a note.
+fn heard_note(heard: Heard) -> Note
+    ensures { result ≡ note_of_heard heard }
+{
+    match heard {
+        Heard::Accepted(number) => Note::Accepted(number),
+        Heard::Repeat(number) => Note::Repeat(number),
+        Heard::Gap(length) => Note::Gap(length),
+        Heard::Busy(length) => Note::Busy(length),
+        Heard::Ignored => Note::Nothing,
+    }
 }
 
 impl Node {
@@ -70,5 +86,56 @@ impl Node {
             return Note::Stranger(number);
         };
         Note::Finished(number, reply)
+    }
+
+    /// The frame at a place of those that were sent to the replica comes there.
+    pub fn deliver(&mut self, place: u32) -> Result<Note, StepFault>
+        ensures moves { (bank : BankOf) (r : ℕ) → IsNodeAt bank r self.old → IfOk result (λ note.
+            Arrives bank r self.new note (delivered_to (seen_node self.old) place)) }
+        ensures err { OnErr result (self.new ≡ self.old) }
+        ensures named { OnErr result (numbered self.old.inbound place ≢ None) }
+    {
+        let Some(bytes) = self.inbound.get(place) else {
+            return Ok(Note::Nothing);
+        };
+        let Ok(heard) = self.replica.on_frame(bytes) else {
+            return Err(StepFault::OutOfMemory);
+        };
+        Ok(heard_note(heard))
+    }
+
+    /// An entry is sent to the replica.
+    pub fn send(&mut self, entry: &Frame) -> Result<Note, StepFault>
+        ensures moves { (bank : BankOf) (r : ℕ) → IsNodeAt bank r self.old → IsEntryOf bank entry.now → IfOk result (λ note.
+            Arrives bank r self.new note (sent (seen_node self.old) (Some entry.now))) }
+        ensures err { OnErr result (self.new ≡ self.old) }
+    {
+        let place = self.inbound.send(entry)?;
+        Ok(Note::Sent(place))
+    }
+
+    /// The replica sends how long its log is.
+    pub fn acknowledge(&mut self) -> Result<Note, StepFault>
+        ensures moves { (bank : BankOf) (r : ℕ) → IsNodeAt bank r self.old → IfOk result (λ note.
+            Arrives bank r self.new note (acknowledged (seen_node self.old) r)) }
+        ensures err { OnErr result (self.new ≡ self.old) }
+    {
+        let frame = self.replica.ack_frame();
+        let place = self.outbound.send(&frame)?;
+        Ok(Note::Sent(place))
+    }
+
+    /// The replica sends its reply to a number, if it holds one.
+    pub fn answer(&mut self, number: u32) -> Result<Note, StepFault>
+        ensures moves { (bank : BankOf) (r : ℕ) → IsNodeAt bank r self.old → IfOk result (λ note.
+            Arrives bank r self.new note (answered bank (seen_node self.old) number)) }
+        ensures err { OnErr result (self.new ≡ self.old) }
+        ensures held { OnErr result (reply_in self.old.replica.board number ≢ None) }
+    {
+        let Some(frame) = self.replica.answer_frame(number as u64) else {
+            return Ok(Note::Nothing);
+        };
+        let place = self.outbound.send(&frame)?;
+        Ok(Note::Sent(place))
     }
 }

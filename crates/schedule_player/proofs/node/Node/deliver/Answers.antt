@@ -1,0 +1,12 @@
+use Rattle.std.proofs.Common.{◌≡◌, sym, subst, ap, ◌∙◌}
+use Rattle.schedule_player.specs.NodeAlong.{Arrives, seen_node}
+use Rattle.schedule_player.specs.ReplicaMoves.{delivered_to}
+use Rattle.schedule_player.proofs.Telling.{delivers}
+use Rattle.schedule_player.proofs.node.Node.deliver.Goals as goal
+
+pub returns-clause-moves : goal.returns-clause-moves
+returns-clause-moves c bank r is =
+    let old = c.args.self.now in
+    subst (λ n. Arrives bank r (record old { replica = c.on_frame.new.self }) n (delivered_to (seen_node old) c.args.place)) (sym c.heard_note.ensures)
+    (delivers bank r old c.on_frame.new.self c.args.place c.in-Some.bytes.now c.in-Some.ensures.0 c.in-Ok.heard is
+    c.in-Some.ensures.1 c.in-Some.ensures.2 c.in-Ok.ensures.outcome)
