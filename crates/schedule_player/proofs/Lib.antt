@@ -8,4 +8,5 @@ pub mod SeenReplies
 pub mod SentFrames
 pub mod Sharing
 pub mod Stages
+pub mod Storing
 pub mod Telling

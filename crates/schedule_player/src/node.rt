@@ -1,19 +1,19 @@
 //! A replica with its workers' hands, and the frames that were ever sent to it and from it.
-ghost use Rattle.std.specs.Prelude.{◌≡◌, ◌≢◌, ℕ, suc, ◌<◌, Some, None, length, MatchOption, IfOk, OnErr};
+ghost use Rattle.std.specs.Prelude.{◌≡◌, ◌≢◌, ℕ, suc, ◌<◌, Some, None, length, MatchOption, IfOk, OnErr, MatchResult};
 ghost use Rattle.cown_board.specs.Board.{reply_in};
 ghost use Rattle.schedule_player.specs.Bank.{BankOf};
-ghost use Rattle.schedule_player.specs.NodeAlong.{IsEntryOf, IsNodeAt, Arrives, seen_node};
+ghost use Rattle.schedule_player.specs.NodeAlong.{IsEntryOf, IsNodeAt, Arrives, IsAsBefore, seen_node};
 ghost use Rattle.schedule_player.specs.Numbered.{numbered};
-ghost use Rattle.schedule_player.specs.ReplicaMoves.{taken, finished_by, delivered_to, sent, acknowledged, answered, note_of_heard};
+ghost use Rattle.schedule_player.specs.ReplicaMoves.{taken, finished_by, delivered_to, sent, acknowledged, answered, marked, restarted, note_of_heard};
 
 use crate::fault::StepFault;
 use crate::frames::Frames;
 use crate::note::Note;
 use cown_board::{Job, Runs};
 use sb_calls::Op;
-use sb_checkpoint::MemoryStore;
+use sb_checkpoint::{How, MemoryStore};
 use sb_frames::Frame;
-use sb_replica::{Heard, Replica};
+use sb_replica::{Heard, MarkFault, Replica, RestartFault};
 
 /// A replica, what each worker has in hand, and all frames that were ever sent to it and from it.
 #[derive(Drop)]
@@ -137,5 +137,35 @@ impl Node {
         };
         let place = self.outbound.send(&frame)?;
         Ok(Note::Sent(place))
+    }
+
+    /// The replica puts a checkpoint, and the put ends so.
+    pub fn mark(&mut self, how: How) -> Result<Note, StepFault>
+        ensures moves { (bank : BankOf) (r : ℕ) → IsNodeAt bank r self.old → MatchResult result
+            (λ note. Arrives bank r self.new note (marked (seen_node self.old) how))
+            (λ fault. IsAsBefore bank r self.old self.new) }
+    {
+        self.replica.tell(how);
+        match self.replica.mark() {
+            Ok(length) => Ok(Note::Marked(length)),
+            Err(MarkFault::Busy) => Ok(Note::Unfinished),
+            Err(MarkFault::Device) => Ok(Note::StoreFault),
+            Err(MarkFault::OutOfMemory) => Err(StepFault::OutOfMemory),
+        }
+    }
+
+    /// The replica goes back to its checkpoint. Hands and frames stay.
+    pub fn restart(&mut self) -> Result<Note, StepFault>
+        ensures moves { (bank : BankOf) (r : ℕ) → IsNodeAt bank r self.old → MatchResult result
+            (λ note. Arrives bank r self.new note (restarted (seen_node self.old)))
+            (λ fault. IsAsBefore bank r self.old self.new) }
+    {
+        match self.replica.restart() {
+            Ok(length) => Ok(Note::Restarted(length)),
+            // A store in memory never fails, and holds what was put.
+            Err(RestartFault::Device) => Ok(Note::StoreFault),
+            Err(RestartFault::BadCheckpoint(_)) => Ok(Note::StoreFault),
+            Err(RestartFault::OutOfMemory) => Err(StepFault::OutOfMemory),
+        }
     }
 }

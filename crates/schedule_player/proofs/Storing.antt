@@ -1,0 +1,279 @@
+-- A replica puts its checkpoint, and goes back to it.
+use Rattle.std.proofs.Common.{◌≡◌, ◌≢◌, ◌⊎◌, inl, inr, ℕ, zero, suc, ◌+◌, ◌<◌, ◌≤◌, ℤ, Bool, true, false, Option, Some, None, Result, Ok, Err, List, [], ◌∷◌, ◌++◌, length, refl, sym, ap, subst, ◌∙◌, arith}
+use Rattle.std.specs.Prelude.{if◌then◌else◌, ◌==◌, count_by}
+use Rattle.std.proofs.lemmas.Bool.{eq-eqb}
+use Rattle.cown_board.proofs.PlacesLaws.{append_nothing}
+use Rattle.cown_board.specs.Board.{BoardOf, length_of, open_of, IsAfterAll}
+use Rattle.cown_board.specs.Played.{opened_with}
+use Rattle.sb_rows.specs.Balances.{Balances}
+use Rattle.sb_rows.specs.Rows.{SameCustomers}
+use Rattle.sb_calls.specs.Behaviour.{declared_cowns, effect_of}
+use Rattle.sb_calls.specs.Cowns.{held_of, by_cown}
+use Rattle.sb_calls.specs.declared.op.Op.{Op}
+use Rattle.sb_calls.specs.declared.reply.Reply.{Reply}
+use Rattle.sb_calls.proofs.OneByOneRuns.{log_by_cowns}
+use Rattle.sb_checkpoint.proofs.Spelled.{read_back, one_checkpoint, spelled_is_taken}
+use Rattle.sb_checkpoint.specs.Checkpoint.{CheckpointOf, Spells}
+use Rattle.sb_checkpoint.specs.MemoryStore.{MemoryStoreOf, MemoryActs}
+use Rattle.sb_checkpoint.specs.Reading.{stated_length, first_fault}
+use Rattle.sb_checkpoint.specs.Stores.{StoreStep, StoreDoes, Put, Got, NotGot}
+use Rattle.sb_checkpoint.specs.declared.fault.CheckpointFault.{CheckpointFault}
+use Rattle.sb_checkpoint.specs.declared.memory_store.How.{How}
+use Rattle.sb_checkpoint.specs.declared.memory_store.How.TheVariants as how
+use Rattle.sb_checkpoint.specs.declared.store.StoreFault.{StoreFault}
+use Rattle.sb_checkpoint.specs.declared.store.StoreFault.TheVariants as store
+use Rattle.sb_replica.specs.Marking.{Puts}
+use Rattle.sb_replica.specs.Replica.{ReplicaOf, replies_held}
+use Rattle.sb_replica.specs.Restarting.{IsStoredAs, IsLogOn, Restarts, IsRestartFaultOf, IsRefusalOf, of_store_fault}
+use Rattle.sb_replica.specs.declared.fault.RestartFault.{RestartFault}
+use Rattle.sb_replica.specs.declared.fault.RestartFault.TheVariants as restart
+use Rattle.sb_replica.proofs.IdleReplies.{length_held}
+use Rattle.schedule_player.specs.Along.{IsBoardAlong, IsCheckpointAlong}
+use Rattle.schedule_player.specs.Bank.{BankOf}
+use Rattle.schedule_player.specs.NodeAlong.{seen_node, IsKeptAlong, IsNodeAt, Arrives}
+use Rattle.schedule_player.specs.Numbered.{copies}
+use Rattle.schedule_player.specs.ReplicaMoves.{NodeOf, put_ends, marked, restarted}
+use Rattle.schedule_player.specs.Seen.{stages_of, kept_in, ops_of}
+use Rattle.schedule_player.specs.Stage.{Stage, IsDone, is_undone}
+use Rattle.schedule_player.specs.declared.node.Node.{Node}
+use Rattle.schedule_player.specs.declared.note.Note.{Note}
+use Rattle.schedule_player.specs.declared.note.Note.TheVariants as note
+use Rattle.schedule_player.proofs.Along.{along_opened}
+use Rattle.schedule_player.proofs.Lists.{some_is, none_some}
+use Rattle.schedule_player.proofs.SeenReplies.{checkpoint_along, columns_along}
+use Rattle.schedule_player.proofs.Stages.{length_stages, undone_in_stages}
+
+-- ---- columns that hold the same are the same
+
+head_is : {x y : ℤ} {xs ys : List ℤ} → ◌≡◌ {A = List ℤ} (x ∷ xs) (y ∷ ys) → x ≡ y
+head_is h = cc
+
+tail_is : {x y : ℤ} {xs ys : List ℤ} → ◌≡◌ {A = List ℤ} (x ∷ xs) (y ∷ ys) → xs ≡ ys
+tail_is h = cc
+
+nil_cons : {x : ℤ} {xs : List ℤ} → ◌≡◌ {A = List ℤ} [] (x ∷ xs) → ⊥
+nil_cons h = cc
+
+no_length : (x : ℤ) (xs : List ℤ) → 0 ≡ length (x ∷ xs) → ⊥
+no_length x xs e = omega (arith, e)
+
+same_by_cown : (s c t d : List ℤ) → length s ≡ length c → length t ≡ length d → by_cown s c ≡ by_cown t d → (s ≡ t) × (c ≡ d)
+same_by_cown [] [] [] [] p q e = (refl, refl)
+same_by_cown [] [] (x ∷ t) (y ∷ d) p q e = absurd (nil_cons e)
+same_by_cown (x ∷ s) (y ∷ c) [] [] p q e = absurd (nil_cons (sym e))
+same_by_cown (x ∷ s) (y ∷ c) (z ∷ t) (w ∷ d) p q e =
+    let rest = same_by_cown s c t d (omega (arith, p)) (omega (arith, q)) (tail_is (tail_is e)) in
+    (
+      ap (λ v. v ∷ s) (head_is e) ∙ ap (λ vs. z ∷ vs) rest.0,
+      ap (λ v. v ∷ c) (head_is (tail_is e)) ∙ ap (λ vs. w ∷ vs) rest.1,
+    )
+same_by_cown [] (y ∷ c) t d p q e = absurd (no_length y c p)
+same_by_cown (x ∷ s) [] t d p q e = absurd (no_length x s (sym p))
+same_by_cown s c [] (w ∷ d) p q e = absurd (no_length w d q)
+same_by_cown s c (z ∷ t) [] p q e = absurd (no_length z t (sym q))
+
+pub same_columns : (a b : Balances) → length a.savings ≡ length a.checking → length b.savings ≡ length b.checking
+    → held_of a ≡ held_of b → a ≡ b
+unfolding held_of
+same_columns a b p q e =
+    let both = same_by_cown a.savings a.checking b.savings b.checking p q e in
+    ap (λ s. record { savings = s; checking = a.checking }) both.0 ∙ ap (λ c. record { savings = b.savings; checking = c }) both.1
+
+-- the columns of a board beside the log, once all is done, are of the bank's customers
+pub after_columns : (bank : BankOf) (board : BoardOf Op) (columns : Balances) → SameCustomers bank.names bank.opening
+    → IsBoardAlong (held_of bank.opening) (ops_of bank) board → length columns.savings ≡ length columns.checking
+    → IsAfterAll declared_cowns effect_of board columns → SameCustomers bank.names columns
+after_columns bank board columns same along alike after =
+    let law = log_by_cowns bank.names bank.opening bank.calls same in
+    let rows = law.rows (length_of board) in
+    let is : columns ≡ rows.0 =
+        same_columns columns rows.0 alike rows.1.balances.same
+        (columns_along (held_of bank.opening) (ops_of bank) board columns along after ∙ sym rows.2) in
+    subst (SameCustomers bank.names) (sym is) rows.1
+
+-- ---- a replica whose store or board changes
+
+pub record KeepsBeside (old new : ReplicaOf MemoryStoreOf) : Type 0 where
+  pub id : new.id ≡ old.id
+  pub names : new.names ≡ old.names
+  pub opening : new.opening ≡ old.opening
+
+node_stored : (bank : BankOf) (r : ℕ) (old : Node) (new : ReplicaOf MemoryStoreOf) → IsNodeAt bank r old → KeepsBeside old.replica new
+    → IsBoardAlong (held_of bank.opening) (ops_of bank) new.board → IsKeptAlong bank new.store.slot
+    → IsNodeAt bank r (record old { replica = new })
+node_stored bank r old new is beside board kept = record {
+  customers = is.customers;
+  few = is.few;
+  id = beside.id ∙ is.id;
+  names = beside.names ∙ is.names;
+  opening = beside.opening ∙ is.opening;
+  board = board;
+  kept = kept;
+  hands = is.hands;
+  inbound = is.inbound;
+  outbound = is.outbound;
+}
+
+-- the board stays, and this is kept
+storing : (bank : BankOf) (r : ℕ) (old : Node) (new : ReplicaOf MemoryStoreOf) (kept : ℕ) (n : Note) (moved : NodeOf × Note) → IsNodeAt bank r old
+    → KeepsBeside old.replica new → new.board ≡ old.replica.board → IsKeptAlong bank new.store.slot → kept_in new.store.slot ≡ kept
+    → moved ≡ (record (seen_node old) { kept = kept }, n) → Arrives bank r (record old { replica = new }) n moved
+storing bank r old new kept n moved is beside board slot k e = record {
+  along = node_stored bank r old new is beside (subst (IsBoardAlong (held_of bank.opening) (ops_of bank)) (sym board) is.board) slot;
+  as_moved =
+      e ∙ ap (λ x. (record (seen_node old) { kept = x }, n)) (sym k)
+      ∙ ap (λ b. (record (seen_node old) { stages = stages_of b; kept = kept_in new.store.slot }, n)) (sym board);
+}
+
+-- ---- marking
+
+abbrev pub told_of : ReplicaOf MemoryStoreOf → How → ReplicaOf MemoryStoreOf
+told_of old end = record old { store = record old.store { next = end } }
+
+abbrev pub Does : MemoryStoreOf → StoreStep → MemoryStoreOf → Type 0
+Does = StoreDoes (λ s. s.slot) (λ s. Unit {0}) (λ s. s.failures) MemoryActs
+
+-- what was put is a checkpoint beside the log
+kept_now : (bank : BankOf) (r : ℕ) (old : Node) (end : How) (answer : Result (Unit {0}) StoreFault) (new : ReplicaOf MemoryStoreOf) → IsNodeAt bank r old
+    → (puts : Puts Does (told_of old.replica end) answer new) → IsKeptAlong bank (Some puts.bytes)
+kept_now bank r old end answer new is puts =
+    let valid = puts.spelled.valid in
+    let customers = after_columns bank old.replica.board puts.columns is.customers is.board valid.balances.same puts.after in
+    record {
+      checkpoint = record { columns = puts.columns; replies = replies_held old.replica.board };
+      stored = (puts.spelled, customers.places);
+      along = checkpoint_along (held_of bank.opening) (ops_of bank) old.replica.board puts.columns is.board puts.idle puts.after;
+    }
+
+kept_length : (bank : BankOf) (r : ℕ) (old : Node) (end : How) (answer : Result (Unit {0}) StoreFault) (new : ReplicaOf MemoryStoreOf) → IsNodeAt bank r old
+    → (puts : Puts Does (told_of old.replica end) answer new) → stated_length puts.bytes ≡ length_of old.replica.board
+kept_length bank r old end answer new is puts =
+    let back = read_back (record { columns = puts.columns; replies = replies_held old.replica.board }) puts.bytes puts.spelled in
+    back.count ∙ length_held old.replica.board puts.idle is.board.states
+
+idle_marks : (bank : BankOf) (r : ℕ) (old : Node) (end : How) → IsNodeAt bank r old → open_of old.replica.board ≡ 0
+    → marked (seen_node old) end ≡ put_ends (seen_node old) end
+idle_marks bank r old end is idle =
+    ap (λ b. if b then put_ends (seen_node old) end else (seen_node old, note.Unfinished))
+    (eq-eqb (count_by is_undone (stages_of old.replica.board)) 0 (undone_in_stages old.replica.board ∙ idle))
+
+board_stays : (old : ReplicaOf MemoryStoreOf) (end : How) (answer : Result (Unit {0}) StoreFault) (new : ReplicaOf MemoryStoreOf)
+    → Puts Does (told_of old end) answer new → new.board ≡ old.board
+board_stays old end answer new puts = ap (λ x. x.board) puts.stays
+
+beside_stays : (old : ReplicaOf MemoryStoreOf) (end : How) (answer : Result (Unit {0}) StoreFault) (new : ReplicaOf MemoryStoreOf)
+    → Puts Does (told_of old end) answer new → KeepsBeside old new
+beside_stays old end answer new puts = record {
+  id = ap (λ x. x.id) puts.stays;
+  names = ap (λ x. x.names) puts.stays;
+  opening = ap (λ x. x.opening) puts.stays;
+}
+
+pub marks_well : (bank : BankOf) (r : ℕ) (old : Node) (end : How) (new : ReplicaOf MemoryStoreOf) (size : ℕ) → IsNodeAt bank r old
+    → size ≡ length_of old.replica.board → Puts Does (told_of old.replica end) (Ok tt) new
+    → Arrives bank r (record old { replica = new }) (note.Marked size) (marked (seen_node old) end)
+marks_well bank r old end new size is s puts =
+    let acts = puts.put.as_told in
+    let slot : new.store.slot ≡ Some puts.bytes = ap (λ x. x.slot) acts.1 in
+    let m : length_of old.replica.board ≡ size = sym s in
+    storing bank r old new size (note.Marked size) (marked (seen_node old) end) is
+    (beside_stays old.replica end (Ok tt) new puts) (board_stays old.replica end (Ok tt) new puts)
+    (subst (IsKeptAlong bank) (sym slot) (kept_now bank r old end (Ok tt) new is puts))
+    (ap kept_in slot ∙ kept_length bank r old end (Ok tt) new is puts ∙ m)
+    (idle_marks bank r old end is puts.idle ∙ ap (put_ends (seen_node old)) acts.0
+    ∙ ap (λ n. (record (seen_node old) { kept = n }, note.Marked n)) (length_stages old.replica.board is.board.states ∙ m))
+
+pub marks_badly : (bank : BankOf) (r : ℕ) (old : Node) (end : How) (new : ReplicaOf MemoryStoreOf) → IsNodeAt bank r old
+    → Puts Does (told_of old.replica end) (Err store.Device) new
+    → Arrives bank r (record old { replica = new }) note.StoreFault (marked (seen_node old) end)
+marks_badly bank r old end new is puts = by puts.put.as_told
+  where
+    by : MemoryActs (told_of old.replica end).store (Put puts.bytes (Err store.Device)) new.store
+        → Arrives bank r (record old { replica = new }) note.StoreFault (marked (seen_node old) end)
+    by (inl left) =
+        let slot : new.store.slot ≡ old.replica.store.slot = ap (λ x. x.slot) left.1 in
+        storing bank r old new (kept_in old.replica.store.slot) note.StoreFault (marked (seen_node old) end) is
+        (beside_stays old.replica end (Err store.Device) new puts) (board_stays old.replica end (Err store.Device) new puts)
+        (subst (IsKeptAlong bank) (sym slot) is.kept) (ap kept_in slot)
+        (idle_marks bank r old end is puts.idle ∙ ap (put_ends (seen_node old)) left.0)
+    by (inr right) =
+        let slot : new.store.slot ≡ Some puts.bytes = ap (λ x. x.slot) right.1 in
+        storing bank r old new (length_of old.replica.board) note.StoreFault (marked (seen_node old) end) is
+        (beside_stays old.replica end (Err store.Device) new puts) (board_stays old.replica end (Err store.Device) new puts)
+        (subst (IsKeptAlong bank) (sym slot) (kept_now bank r old end (Err store.Device) new is puts))
+        (ap kept_in slot ∙ kept_length bank r old end (Err store.Device) new is puts)
+        (idle_marks bank r old end is puts.idle ∙ ap (put_ends (seen_node old)) right.0
+        ∙ ap (λ n. (record (seen_node old) { kept = n }, note.StoreFault)) (length_stages old.replica.board is.board.states))
+
+-- ---- going back
+
+one_kept : (opening : Balances) (customers : ℕ) (slot : Option (List ℕ)) (a b : CheckpointOf) → IsStoredAs opening customers slot a
+    → IsStoredAs opening customers slot b → a ≡ b
+one_kept opening customers None a b is_a is_b = is_a ∙ sym is_b
+one_kept opening customers (Some bytes) a b is_a is_b = one_checkpoint a b bytes is_a.0 is_b.0
+
+kept_of : (opening : Balances) (customers : ℕ) (slot : Option (List ℕ)) (checkpoint : CheckpointOf) → IsStoredAs opening customers slot checkpoint
+    → kept_in slot ≡ length checkpoint.replies
+kept_of opening customers None checkpoint is = ap (λ c. length c.replies) (sym is)
+kept_of opening customers (Some bytes) checkpoint is = let back = read_back checkpoint bytes is.0 in back.count
+
+pub goes_back : (bank : BankOf) (r : ℕ) (old : Node) (new : ReplicaOf MemoryStoreOf) (size : ℕ) → IsNodeAt bank r old
+    → Restarts Does old.replica size new
+    → Arrives bank r (record old { replica = new }) (note.Restarted size) (restarted (seen_node old))
+goes_back bank r old new size is restarts =
+    let acts = restarts.got.as_told in
+    let slot : new.store.slot ≡ old.replica.store.slot = ap (λ x. x.slot) acts.1 in
+    let made = is.kept.checkpoint in
+    let read = restarts.board.checkpoint in
+    let stored : IsStoredAs bank.opening (length bank.names) old.replica.store.slot read =
+        subst (λ o. IsStoredAs o (length bank.names) old.replica.store.slot read) is.opening
+        (subst (λ names. IsStoredAs old.replica.opening (length names) old.replica.store.slot read) is.names
+        (subst (λ held. IsStoredAs old.replica.opening (length old.replica.names) held read) acts.0 restarts.board.is_stored)) in
+    let same : made ≡ read = one_kept bank.opening (length bank.names) old.replica.store.slot made read is.kept.stored stored in
+    let board : new.board ≡ opened_with made.columns made.replies =
+        restarts.board.board_is ∙ ap (λ c. opened_with c.columns c.replies) (sym same) in
+    let kept : kept_in old.replica.store.slot ≡ length made.replies = kept_of bank.opening (length bank.names) old.replica.store.slot made is.kept.stored in
+    let length_is : size ≡ length made.replies =
+        let e = restarts.length_is ∙ ap length_of board in omega (arith, e) in
+    record {
+      along = node_stored bank r old new is
+          (record {
+            id = ap (λ x. x.id) restarts.stays;
+            names = ap (λ x. x.names) restarts.stays;
+            opening = ap (λ x. x.opening) restarts.stays;
+          })
+          (subst (IsBoardAlong (held_of bank.opening) (ops_of bank)) (sym board) (along_opened (held_of bank.opening) (ops_of bank) made is.kept.along))
+          (subst (IsKeptAlong bank) (sym slot) is.kept);
+      as_moved =
+          ap (λ n. (record (seen_node old) { stages = copies n IsDone }, note.Restarted n)) kept
+          ∙ ap (λ s. (record (seen_node old) { stages = s }, note.Restarted (length made.replies))) (sym (append_nothing (copies (length made.replies) IsDone)))
+          ∙ ap (λ b. (record (seen_node old) { stages = stages_of b }, note.Restarted (length made.replies))) (sym board)
+          ∙ ap (λ s. (record (seen_node old) { stages = stages_of new.board; kept = kept_in s }, note.Restarted (length made.replies))) (sym slot)
+          ∙ ap (λ n. (seen_node (record old { replica = new }), note.Restarted n)) (sym length_is);
+    }
+
+-- what is kept is never refused
+not_bad : (fault : StoreFault) (bad : CheckpointFault) → restart.BadCheckpoint bad ≡ of_store_fault fault → ⊥
+not_bad store.Device bad e = bad_device e
+  where
+    bad_device : ◌≡◌ {A = RestartFault} (restart.BadCheckpoint bad) restart.Device → ⊥
+    bad_device h = cc
+not_bad store.OutOfMemory bad e = bad_memory e
+  where
+    bad_memory : ◌≡◌ {A = RestartFault} (restart.BadCheckpoint bad) restart.OutOfMemory → ⊥
+    bad_memory h = cc
+
+kept_taken : (opening : Balances) (customers : ℕ) (slot : Option (List ℕ)) (checkpoint : CheckpointOf) (bytes : List ℕ) (fault : CheckpointFault)
+    → IsStoredAs opening customers slot checkpoint → slot ≡ Some bytes → first_fault bytes customers ≡ Some fault → ⊥
+kept_taken opening customers None checkpoint bytes fault is e refused = none_some e
+kept_taken opening customers (Some held) checkpoint bytes fault is e refused =
+    none_some (sym (spelled_is_taken checkpoint held is.0) ∙ ap (first_fault held) is.1 ∙ ap (λ b. first_fault b customers) (some_is e) ∙ refused)
+
+pub never_bad : (bank : BankOf) (r : ℕ) (old : Node) (new : ReplicaOf MemoryStoreOf) (bad : CheckpointFault) → IsNodeAt bank r old
+    → IsRestartFaultOf Does old.replica (restart.BadCheckpoint bad) new → ⊥
+never_bad bank r old new bad is (same, inl failed) = not_bad failed.0 bad failed.2
+never_bad bank r old new bad is (same, inr refused) =
+    let acts = refused.1.as_told in
+    let why = refused.2 in
+    kept_taken bank.opening (length bank.names) old.replica.store.slot is.kept.checkpoint why.0 bad is.kept.stored (sym acts.0 ∙ why.1)
+    (subst (λ names. first_fault why.0 (length names) ≡ Some bad) is.names why.3)
