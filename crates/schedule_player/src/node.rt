@@ -1,19 +1,22 @@
 //! A replica with its workers' hands, and the frames that were ever sent to it and from it.
-ghost use Rattle.std.specs.Prelude.{◌≡◌, ◌≢◌, ℕ, suc, ◌<◌, Some, None, length, MatchOption, IfOk, OnErr, MatchResult};
+ghost use Rattle.std.specs.Prelude.{◌≡◌, ◌≢◌, ℕ, suc, ◌<◌, ◌≤◌, Some, None, length, MatchOption, IfOk, OnErr, MatchResult};
+ghost use Rattle.sb_rows.specs.Rows.{SameCustomers};
 ghost use Rattle.cown_board.specs.Board.{reply_in};
 ghost use Rattle.schedule_player.specs.Bank.{BankOf};
 ghost use Rattle.schedule_player.specs.NodeAlong.{IsEntryOf, IsNodeAt, Arrives, IsAsBefore, seen_node};
-ghost use Rattle.schedule_player.specs.Numbered.{numbered};
-ghost use Rattle.schedule_player.specs.ReplicaMoves.{taken, finished_by, delivered_to, sent, acknowledged, answered, marked, restarted, note_of_heard};
+ghost use Rattle.schedule_player.specs.Numbered.{numbered, copies};
+ghost use Rattle.schedule_player.specs.ReplicaMoves.{opened_node, taken, finished_by, delivered_to, sent, acknowledged, answered, marked, restarted, note_of_heard};
 
 use crate::fault::StepFault;
 use crate::frames::Frames;
 use crate::note::Note;
 use cown_board::{Job, Runs};
-use sb_calls::Op;
+use sb_calls::{LOG_CALLS, Op};
 use sb_checkpoint::{How, MemoryStore};
 use sb_frames::Frame;
 use sb_replica::{Heard, MarkFault, Replica, RestartFault};
+use sb_rows::{Columns, Directory};
+use std::alloc::{AllocError, Global};
 
 /// A replica, what each worker has in hand, and all frames that were ever sent to it and from it.
 #[derive(Drop)]
@@ -37,7 +40,41 @@ fn heard_note(heard: Heard) -> Note
     }
 }
 
+// The hands of so many workers, all empty.
+fn empty_hands(alloc: Global, workers: usize) -> Result<Vec<Option<Job<Op>>>, AllocError>
+    ensures { IfOk result (λ hands. hands.items ≡ copies workers None) }
+{
+    let mut hands = Vec::new(alloc);
+    for _ in 0..workers {
+        hands.push(None)?;
+    }
+    Ok(hands)
+}
+
 impl Node {
+    /// A replica of so many workers at the opening. It is one of every bank that opens so.
+    pub fn open(
+        alloc: Global,
+        id: u8,
+        directory: Directory,
+        opening: Columns,
+        workers: usize,
+    ) -> Result<Node, AllocError>
+        requires { length opening.savings ≡ length directory }
+        ensures seen { IfOk result (λ node. seen_node node ≡ opened_node workers) }
+        ensures along { (bank : BankOf) → (bank.names ≡ directory) → (bank.opening ≡ opening)
+            → SameCustomers bank.names bank.opening → length bank.calls ≤ LOG_CALLS
+            → IfOk result (IsNodeAt bank id) }
+    {
+        let hands = empty_hands(alloc, workers)?;
+        Ok(Node {
+            replica: Replica::open(alloc, id, directory, opening, MemoryStore::new(alloc))?,
+            hands,
+            inbound: Frames::new(alloc),
+            outbound: Frames::new(alloc),
+        })
+    }
+
     // The place of a worker's hand.
     fn hand(&self, worker: u32) -> Option<usize>
         ensures { MatchOption result (numbered self.now.hands.items worker ≡ None)
