@@ -1,6 +1,8 @@
 //! What the plain player answers to small schedules, worked out by hand.
 
+use std::fs;
 use std::io::Write;
+use std::path::Path;
 use std::process::{Command, Stdio};
 
 const OPENING: &str = "alice 100.00 50.00\nbob 0.00 20.00\ncarol 10.00 0.00\nbegin\n";
@@ -184,4 +186,19 @@ fn the_first_fault_counts_and_nothing_is_written() {
     check_fault(&after("ask 0 1"), "line 7: unknown verb");
     check_fault(&after("ask 0 1 balance"), "line 7: wrong words");
     check_fault(&after("ask 0 1 balance Bob"), "line 7: bad name");
+}
+
+#[test]
+fn the_stories_of_the_examples() {
+    let folder = Path::new(env!("CARGO_MANIFEST_DIR")).join("../examples");
+    for story in [
+        "lost_and_repeated",
+        "a_job_outlives_its_replica",
+        "marks_that_fail",
+    ] {
+        let text = |ending| fs::read_to_string(folder.join(format!("{story}.{ending}")));
+        let schedule = text("schedule").expect("the story is there");
+        let output = text("output").expect("its output is there");
+        assert_eq!(played(&schedule), (Some(0), output, String::new()));
+    }
 }
