@@ -50,7 +50,8 @@ fn check_fault(schedule: &str, fault: &str) {
     assert_eq!(played(schedule), (Some(1), String::new(), error));
 }
 
-const ALICE_HAS_ONE_MORE: &str = "replica 0 length 1 idle / alice 100.00 51.00 / bob 0.00 20.00 / carol 10.00 0.00 / total 181.00";
+const ALICE_HAS_ONE_MORE: &str = "replica 0 length 1 idle / alice 100.00 51.00 / bob 0.00 20.00 \
+     / carol 10.00 0.00 / total 181.00";
 
 #[test]
 fn jobs_taken_out_of_order() {
@@ -69,7 +70,8 @@ fn jobs_taken_out_of_order() {
 #[test]
 fn frames_out_of_order_and_repeated() {
     check(
-        "ask 1 1 deposit alice 1.00 / ask 1 2 deposit bob 1.00 / send 0 1 / send 0 2 / to 0 2 / to 0 1 / to 0 1 / to 0 2",
+        "ask 1 1 deposit alice 1.00 / ask 1 2 deposit bob 1.00 / send 0 1 / send 0 2 \
+         / to 0 2 / to 0 1 / to 0 1 / to 0 2",
         "new 1 / new 2 / sent 1 / sent 2 / gap 0 / accepted 1 / repeat 1 / accepted 2",
         "replica 0 length 2 busy",
     );
@@ -78,7 +80,8 @@ fn frames_out_of_order_and_repeated() {
 #[test]
 fn a_job_is_done_again_after_a_restart() {
     check(
-        "ask 1 1 deposit alice 1.00 / send 0 1 / to 0 1 / take 0 1 0 / restart 0 / to 0 1 / take 0 2 0 / finish 0 1 / finish 0 2",
+        "ask 1 1 deposit alice 1.00 / send 0 1 / to 0 1 / take 0 1 0 / restart 0 / to 0 1 / take 0 2 0 \
+         / finish 0 1 / finish 0 2",
         "new 1 / sent 1 / accepted 1 / took 1 / restarted 0 / accepted 1 / took 1 / finished 1 done / stranger 1",
         ALICE_HAS_ONE_MORE,
     );
@@ -87,7 +90,8 @@ fn a_job_is_done_again_after_a_restart() {
 #[test]
 fn a_job_from_before_a_restart_is_a_stranger_while_its_number_is_not_out() {
     check(
-        "ask 1 1 deposit alice 1.00 / send 0 1 / to 0 1 / take 0 1 0 / restart 0 / to 0 1 / finish 0 1 / take 0 2 0 / finish 0 2",
+        "ask 1 1 deposit alice 1.00 / send 0 1 / to 0 1 / take 0 1 0 / restart 0 / to 0 1 / finish 0 1 \
+         / take 0 2 0 / finish 0 2",
         "new 1 / sent 1 / accepted 1 / took 1 / restarted 0 / accepted 1 / stranger 1 / took 1 / finished 1 done",
         ALICE_HAS_ONE_MORE,
     );

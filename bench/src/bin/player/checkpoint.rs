@@ -23,16 +23,21 @@ pub fn write(balances: &[i64], replies: impl ExactSizeIterator<Item = Reply>) ->
     bytes.extend_from_slice(MAGIC);
     bytes.extend_from_slice(&(replies.len() as u64).to_be_bytes());
     bytes.extend_from_slice(&(customers as u32).to_be_bytes());
+    push_columns(&mut bytes, balances);
+    for reply in replies {
+        bytes.extend_from_slice(&reply_cells(reply));
+    }
+    bytes
+}
+
+// Both columns, and their total.
+fn push_columns(bytes: &mut Vec<u8>, balances: &[i64]) {
     let savings = balances.iter().step_by(2);
     let checking = balances.iter().skip(1).step_by(2);
     for amount in savings.chain(checking) {
         bytes.extend_from_slice(&amount.to_be_bytes());
     }
     bytes.extend_from_slice(&balances.iter().sum::<i64>().to_be_bytes());
-    for reply in replies {
-        bytes.extend_from_slice(&reply_cells(reply));
-    }
-    bytes
 }
 
 /// The checkpoint of so many customers that these bytes are.

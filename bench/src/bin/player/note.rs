@@ -45,6 +45,35 @@ impl Note {
     /// Puts the note's line last.
     pub fn print(self, out: &mut Vec<u8>) {
         out.extend_from_slice(self.words());
+        if let Some(number) = self.number() {
+            push_number(out, number);
+        }
+        match self {
+            Note::Finished(_, reply) => {
+                out.push(b' ');
+                push_reply(out, reply);
+            }
+            Note::Apart(_, second) => {
+                out.push(b' ');
+                push_number(out, second);
+            }
+            Note::OffBooks(total, expected) => {
+                push_money(out, total);
+                out.push(b' ');
+                push_money(out, expected);
+            }
+            Note::Same(total, overdrawn) => {
+                push_money(out, total);
+                out.push(b' ');
+                push_number(out, overdrawn);
+            }
+            _ => {}
+        }
+        out.push(b'\n');
+    }
+
+    // The number that stands first, if one does.
+    fn number(self) -> Option<u64> {
         match self {
             Note::New(number)
             | Note::Repeat(number)
@@ -59,38 +88,14 @@ impl Note {
             | Note::OddAnswer(number)
             | Note::Unknown(number)
             | Note::Took(number)
+            | Note::Finished(number, _)
             | Note::Stranger(number)
             | Note::Marked(number)
-            | Note::Restarted(number) => push_number(out, number),
-            Note::Finished(number, reply) => {
-                push_number(out, number);
-                out.push(b' ');
-                push_reply(out, reply);
-            }
-            Note::Apart(first, second) => {
-                push_number(out, first);
-                out.push(b' ');
-                push_number(out, second);
-            }
-            Note::Differ(_, place) => push_number(out, place),
-            Note::OffBooks(total, expected) => {
-                push_money(out, total);
-                out.push(b' ');
-                push_money(out, expected);
-            }
-            Note::Same(total, overdrawn) => {
-                push_money(out, total);
-                out.push(b' ');
-                push_number(out, overdrawn);
-            }
-            Note::Nothing
-            | Note::LogFull
-            | Note::Odd
-            | Note::HandFull
-            | Note::Busy
-            | Note::StoreFault => {}
+            | Note::Restarted(number)
+            | Note::Apart(number, _)
+            | Note::Differ(_, number) => Some(number),
+            _ => None,
         }
-        out.push(b'\n');
     }
 
     // What stands before its numbers.

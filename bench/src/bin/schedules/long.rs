@@ -16,12 +16,7 @@ const TURNS: u32 = 40;
 /// Writes a schedule of so many events.
 pub fn write(out: &mut impl Write, maker: &mut Maker, events: u32, nodes: u32) -> io::Result<()> {
     writeln!(out, "nodes {nodes} workers {WORKERS}")?;
-    for customer in 0..CUSTOMERS {
-        let savings = money(i64::from(maker.random.below(10_000_000)));
-        let checking = money(i64::from(maker.random.below(10_000_000)));
-        writeln!(out, "{} {savings} {checking}", name(customer))?;
-    }
-    writeln!(out, "begin")?;
+    write_opening(out, maker)?;
     let mut machine = Machine::open(CUSTOMERS, nodes, WORKERS);
     let mut seldom = Seldom::default();
     let period = (events / TURNS).max(1);
@@ -35,6 +30,15 @@ pub fn write(out: &mut impl Write, maker: &mut Maker, events: u32, nodes: u32) -
         writeln!(out, "{event}")?;
     }
     Ok(())
+}
+
+fn write_opening(out: &mut impl Write, maker: &mut Maker) -> io::Result<()> {
+    for customer in 0..CUSTOMERS {
+        let savings = money(i64::from(maker.random.below(10_000_000)));
+        let checking = money(i64::from(maker.random.below(10_000_000)));
+        writeln!(out, "{} {savings} {checking}", name(customer))?;
+    }
+    writeln!(out, "begin")
 }
 
 /// What comes seldom, the next one last: restarts at any time, and marks and audits of a replica that is idle first.
