@@ -60,7 +60,8 @@ fn jobs_taken_out_of_order() {
          / ask 1 4 balance alice / send 0 1 / send 0 2 / send 0 3 / send 0 4 / to 0 1 / to 0 2 / to 0 3 / to 0 4 \
          / take 0 1 1 / take 0 2 0 / finish 0 1 / take 0 1 0 / finish 0 2 / take 0 1 0 / take 0 2 0 \
          / finish 0 1 / take 0 1 0 / finish 0 1",
-        "new 1 / new 2 / new 3 / new 4 / sent 1 / sent 2 / sent 3 / sent 4 / accepted 1 / accepted 2 / accepted 3 / accepted 4 \
+        "new 1 / new 2 / new 3 / new 4 / sent 1 / sent 2 / sent 3 / sent 4 \
+         / accepted 1 / accepted 2 / accepted 3 / accepted 4 \
          / took 2 / took 1 / finished 2 done / nothing / finished 1 done / took 3 / nothing \
          / finished 3 done / took 4 / finished 4 shown 0.00",
         "replica 0 length 4 idle / alice 0.00 0.00 / bob 0.00 172.00 / carol 10.00 0.00 / total 182.00",
