@@ -1,0 +1,240 @@
+//! The board of a replica: its log of ops, of which those are handed out whose balances are free.
+//!
+//! Each balance knows the last unfinished op that touches it, and each unfinished op who comes next at each of
+//! its balances and at how many it isn't first.
+
+use crate::bank::{Op, Reply, TOUCHED, Touched, Values};
+use std::collections::VecDeque;
+
+const OPEN: usize = 1_024;
+const LOG_OPS: u64 = 1_000_000;
+
+// A place in the table of unfinished ops, or nobody.
+type Slot = u16;
+const NOBODY: Slot = Slot::MAX;
+
+/// What a worker carries out: an op, and what its balances held when it was taken.
+pub struct Job {
+    pub number: u64,
+    op: Op,
+    held: Values,
+}
+
+/// A job that was carried out.
+pub struct Done {
+    job: Job,
+    reply: Reply,
+    left: Values,
+}
+
+impl Job {
+    pub fn run(self) -> Done {
+        let (reply, left) = self.op.perform(self.held);
+        Done {
+            job: self,
+            reply,
+            left,
+        }
+    }
+}
+
+/// What became of an entry.
+pub enum Offered {
+    Next,
+    Repeat,
+    Gap,
+    Busy,
+}
+
+#[derive(Clone, Copy)]
+enum State {
+    Open(Slot),
+    Finished(Reply),
+}
+
+struct Unfinished {
+    op: Op,
+    touched: Touched,
+    // Who comes next at each of its balances.
+    next: [Slot; TOUCHED],
+    // At how many of its balances another one comes before it.
+    waits_for: u8,
+    number: u64,
+    is_out: bool,
+}
+
+pub struct Board {
+    balances: Vec<i64>,
+    states: Vec<State>,
+    unfinished: Vec<Unfinished>,
+    free: Vec<Slot>,
+    // The last unfinished op at each balance.
+    last: Vec<Slot>,
+    // Rising numbers.
+    ready: VecDeque<u64>,
+}
+
+impl Board {
+    /// A board over these balances, after entries with these replies.
+    pub fn open(balances: Vec<i64>, replies: Vec<Reply>) -> Self {
+        Board {
+            last: vec![NOBODY; balances.len()],
+            balances,
+            states: replies.into_iter().map(State::Finished).collect(),
+            unfinished: Vec::new(),
+            free: Vec::new(),
+            ready: VecDeque::new(),
+        }
+    }
+
+    pub fn length(&self) -> u64 {
+        self.states.len() as u64
+    }
+
+    pub fn is_idle(&self) -> bool {
+        self.unfinished_count() == 0
+    }
+
+    pub fn balances(&self) -> &[i64] {
+        &self.balances
+    }
+
+    pub fn reply(&self, number: u64) -> Option<Reply> {
+        match self.states.get(index(number)?)? {
+            State::Finished(reply) => Some(*reply),
+            State::Open(_) => None,
+        }
+    }
+
+    /// The replies to all entries, where all are finished.
+    pub fn replies(&self) -> impl ExactSizeIterator<Item = Reply> {
+        self.states.iter().map(|state| match state {
+            State::Finished(reply) => *reply,
+            State::Open(_) => unreachable!("the board is idle"),
+        })
+    }
+
+    fn unfinished_count(&self) -> usize {
+        self.unfinished.len() - self.free.len()
+    }
+
+    /// Takes an entry where it is the next one.
+    pub fn offer(&mut self, number: u64, op: Op) -> Offered {
+        let length = self.length();
+        if number <= length {
+            Offered::Repeat
+        } else if number > length + 1 || number > LOG_OPS {
+            Offered::Gap
+        } else if self.unfinished_count() == OPEN {
+            Offered::Busy
+        } else {
+            self.append(number, op);
+            Offered::Next
+        }
+    }
+
+    fn append(&mut self, number: u64, op: Op) {
+        let touched = op.touched();
+        let mut newest = Unfinished {
+            op,
+            touched,
+            next: [NOBODY; TOUCHED],
+            waits_for: 0,
+            number,
+            is_out: false,
+        };
+        let slot = self.free.pop().unwrap_or(self.unfinished.len() as Slot);
+        for balance in touched.as_slice() {
+            let before = std::mem::replace(&mut self.last[*balance as usize], slot);
+            if before != NOBODY {
+                self.unfinished[usize::from(before)].put_next(*balance, slot);
+                newest.waits_for += 1;
+            }
+        }
+        if newest.waits_for == 0 {
+            self.ready.push_back(number);
+        }
+        self.states.push(State::Open(slot));
+        match self.unfinished.get_mut(usize::from(slot)) {
+            Some(freed) => *freed = newest,
+            None => self.unfinished.push(newest),
+        }
+    }
+
+    /// Hands out the ready op that has so many ready ones before it.
+    pub fn take_at(&mut self, before: usize) -> Option<Job> {
+        let number = self.ready.remove(before)?;
+        let slot = self.slot(number)?;
+        let taken = &mut self.unfinished[usize::from(slot)];
+        taken.is_out = true;
+        let (op, touched) = (taken.op, taken.touched);
+        Some(Job {
+            number,
+            op,
+            held: self.held(touched),
+        })
+    }
+
+    /// Takes back what was done where that number is out with an equal op over equal values, and answers the reply.
+    pub fn finish(&mut self, done: Done) -> Option<Reply> {
+        let Done { job, reply, left } = done;
+        let slot = self.slot(job.number)?;
+        let this = &self.unfinished[usize::from(slot)];
+        let (touched, next) = (this.touched, this.next);
+        if !this.is_out || this.op != job.op || self.held(touched) != job.held {
+            return None;
+        }
+        for ((balance, value), next) in touched.as_slice().iter().zip(left).zip(next) {
+            self.balances[*balance as usize] = value;
+            if next == NOBODY {
+                self.last[*balance as usize] = NOBODY;
+            } else {
+                self.move_up(next);
+            }
+        }
+        self.states[job.number as usize - 1] = State::Finished(reply);
+        self.free.push(slot);
+        Some(reply)
+    }
+
+    // One op fewer comes before this one.
+    fn move_up(&mut self, slot: Slot) {
+        let waiting = &mut self.unfinished[usize::from(slot)];
+        waiting.waits_for -= 1;
+        if waiting.waits_for == 0 {
+            let number = waiting.number;
+            let at = self.ready.partition_point(|ready| *ready < number);
+            self.ready.insert(at, number);
+        }
+    }
+
+    fn slot(&self, number: u64) -> Option<Slot> {
+        match self.states.get(index(number)?)? {
+            State::Open(slot) => Some(*slot),
+            State::Finished(_) => None,
+        }
+    }
+
+    fn held(&self, touched: Touched) -> Values {
+        let mut held = Values::default();
+        for (value, balance) in held.iter_mut().zip(touched.as_slice()) {
+            *value = self.balances[*balance as usize];
+        }
+        held
+    }
+}
+
+impl Unfinished {
+    fn put_next(&mut self, balance: u32, slot: Slot) {
+        let at = self
+            .touched
+            .as_slice()
+            .iter()
+            .position(|own| *own == balance);
+        self.next[at.expect("it touches this balance")] = slot;
+    }
+}
+
+fn index(number: u64) -> Option<usize> {
+    number.checked_sub(1).map(|index| index as usize)
+}

@@ -1,0 +1,80 @@
+//! Checkpoints in bytes.
+
+use crate::bank::{LIMIT, Reply};
+use crate::frame::{REPLY, reply_cells, reply_of};
+
+const MAGIC: &[u8; 8] = b"SBCKPT01";
+const HEAD: usize = 20;
+const AMOUNT: usize = 8;
+const LOG_CALLS: usize = 1_000_000;
+
+/// What an idle replica has.
+pub struct Checkpoint {
+    /// For each customer savings, then checking.
+    pub balances: Vec<i64>,
+    pub replies: Vec<Reply>,
+}
+
+/// The bytes of these balances and replies.
+pub fn write(balances: &[i64], replies: impl ExactSizeIterator<Item = Reply>) -> Vec<u8> {
+    let customers = balances.len() / 2;
+    let size = HEAD + AMOUNT * (balances.len() + 1) + REPLY * replies.len();
+    let mut bytes = Vec::with_capacity(size);
+    bytes.extend_from_slice(MAGIC);
+    bytes.extend_from_slice(&(replies.len() as u64).to_be_bytes());
+    bytes.extend_from_slice(&(customers as u32).to_be_bytes());
+    push_columns(&mut bytes, balances);
+    for reply in replies {
+        bytes.extend_from_slice(&reply_cells(reply));
+    }
+    bytes
+}
+
+// Both columns, and their total.
+fn push_columns(bytes: &mut Vec<u8>, balances: &[i64]) {
+    let savings = balances.iter().step_by(2);
+    let checking = balances.iter().skip(1).step_by(2);
+    for amount in savings.chain(checking) {
+        bytes.extend_from_slice(&amount.to_be_bytes());
+    }
+    bytes.extend_from_slice(&balances.iter().sum::<i64>().to_be_bytes());
+}
+
+/// The checkpoint of so many customers that these bytes are.
+pub fn read(bytes: &[u8], customers: usize) -> Option<Checkpoint> {
+    let (head, body) = bytes.split_first_chunk::<HEAD>()?;
+    let (magic, head) = head.split_at(MAGIC.len());
+    let (length, stated) = head.split_first_chunk()?;
+    let length = usize::try_from(u64::from_be_bytes(*length)).ok()?;
+    let stated = u32::from_be_bytes(stated.try_into().ok()?);
+    if magic != MAGIC || stated as usize != customers || length > LOG_CALLS {
+        return None;
+    }
+    let (columns, body) = body.split_at_checked(2 * AMOUNT * customers)?;
+    let (total, cells) = body.split_first_chunk()?;
+    let balances = balances(columns, customers)?;
+    if i64::from_be_bytes(*total) != balances.iter().sum::<i64>() {
+        return None;
+    }
+    let (cells, rest) = cells.as_chunks::<REPLY>();
+    if cells.len() != length || !rest.is_empty() {
+        return None;
+    }
+    let replies = cells.iter().map(reply_of).collect::<Option<_>>()?;
+    Some(Checkpoint { balances, replies })
+}
+
+fn balances(columns: &[u8], customers: usize) -> Option<Vec<i64>> {
+    let (cells, _) = columns.as_chunks::<AMOUNT>();
+    let (savings, checking) = cells.split_at(customers);
+    let mut balances = Vec::with_capacity(cells.len());
+    for (savings, checking) in savings.iter().zip(checking) {
+        let savings = i64::from_be_bytes(*savings);
+        let checking = i64::from_be_bytes(*checking);
+        if !(0..=LIMIT).contains(&savings) || !(-LIMIT..=LIMIT).contains(&checking) {
+            return None;
+        }
+        balances.extend([savings, checking]);
+    }
+    Some(balances)
+}

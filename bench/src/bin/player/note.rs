@@ -1,0 +1,134 @@
+//! What an event is answered with.
+
+use crate::bank::Reply;
+use crate::printing::{push_money, push_number, push_reply};
+
+#[derive(Clone, Copy)]
+pub enum Column {
+    Savings,
+    Checking,
+}
+
+/// What came of one event.
+#[derive(Clone, Copy)]
+pub enum Note {
+    Nothing,
+    New(u64),
+    Repeat(u64),
+    Mismatch(u64),
+    LogFull,
+    Sent(u64),
+    Resent(u64),
+    Accepted(u64),
+    Gap(u64),
+    BusyAt(u64),
+    Recorded(u64),
+    Odd,
+    Kept(u64),
+    OddAnswer(u64),
+    Unknown(u64),
+    Took(u64),
+    HandFull,
+    Finished(u64, Reply),
+    Stranger(u64),
+    Marked(u64),
+    Busy,
+    StoreFault,
+    Restarted(u64),
+    Apart(u64, u64),
+    Differ(Column, u64),
+    OffBooks(i64, i64),
+    Same(i64, u64),
+}
+
+impl Note {
+    /// Puts the note's line last.
+    pub fn print(self, out: &mut Vec<u8>) {
+        out.extend_from_slice(self.words());
+        if let Some(number) = self.number() {
+            push_number(out, number);
+        }
+        match self {
+            Note::Finished(_, reply) => {
+                out.push(b' ');
+                push_reply(out, reply);
+            }
+            Note::Apart(_, second) => {
+                out.push(b' ');
+                push_number(out, second);
+            }
+            Note::OffBooks(total, expected) => {
+                push_money(out, total);
+                out.push(b' ');
+                push_money(out, expected);
+            }
+            Note::Same(total, overdrawn) => {
+                push_money(out, total);
+                out.push(b' ');
+                push_number(out, overdrawn);
+            }
+            _ => {}
+        }
+        out.push(b'\n');
+    }
+
+    // The number that stands first, if one does.
+    fn number(self) -> Option<u64> {
+        match self {
+            Note::New(number)
+            | Note::Repeat(number)
+            | Note::Mismatch(number)
+            | Note::Sent(number)
+            | Note::Resent(number)
+            | Note::Accepted(number)
+            | Note::Gap(number)
+            | Note::BusyAt(number)
+            | Note::Recorded(number)
+            | Note::Kept(number)
+            | Note::OddAnswer(number)
+            | Note::Unknown(number)
+            | Note::Took(number)
+            | Note::Finished(number, _)
+            | Note::Stranger(number)
+            | Note::Marked(number)
+            | Note::Restarted(number)
+            | Note::Apart(number, _)
+            | Note::Differ(_, number) => Some(number),
+            _ => None,
+        }
+    }
+
+    // What stands before its numbers.
+    fn words(self) -> &'static [u8] {
+        match self {
+            Note::Nothing => b"nothing",
+            Note::New(_) => b"new ",
+            Note::Repeat(_) => b"repeat ",
+            Note::Mismatch(_) => b"mismatch ",
+            Note::LogFull => b"log full",
+            Note::Sent(_) => b"sent ",
+            Note::Resent(_) => b"resent ",
+            Note::Accepted(_) => b"accepted ",
+            Note::Gap(_) => b"gap ",
+            Note::BusyAt(_) => b"busy ",
+            Note::Recorded(_) => b"recorded ",
+            Note::Odd => b"odd",
+            Note::Kept(_) => b"kept ",
+            Note::OddAnswer(_) => b"odd ",
+            Note::Unknown(_) => b"unknown ",
+            Note::Took(_) => b"took ",
+            Note::HandFull => b"hand full",
+            Note::Finished(..) => b"finished ",
+            Note::Stranger(_) => b"stranger ",
+            Note::Marked(_) => b"marked ",
+            Note::Busy => b"busy",
+            Note::StoreFault => b"store fault",
+            Note::Restarted(_) => b"restarted ",
+            Note::Apart(..) => b"apart ",
+            Note::Differ(Column::Savings, _) => b"differ savings ",
+            Note::Differ(Column::Checking, _) => b"differ checking ",
+            Note::OffBooks(..) => b"off books ",
+            Note::Same(..) => b"same ",
+        }
+    }
+}

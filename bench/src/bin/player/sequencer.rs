@@ -1,0 +1,85 @@
+//! The sequencer: it numbers requests into a log, and hears what replicas have.
+
+use crate::bank::{Call, Reply};
+use crate::note::Note;
+use std::collections::HashMap;
+
+const LOG_CALLS: usize = 1_000_000;
+const RESENT: usize = 16;
+
+type Key = (u32, u32);
+
+pub struct Sequencer<'a> {
+    log: Vec<Call<'a>>,
+    numbers: HashMap<Key, u64>,
+    // For each replica the length that it last acknowledged.
+    recorded: Vec<u64>,
+    answers: Vec<Option<Reply>>,
+}
+
+impl<'a> Sequencer<'a> {
+    pub fn open(nodes: u32) -> Self {
+        Sequencer {
+            log: Vec::new(),
+            numbers: HashMap::new(),
+            recorded: vec![0; nodes as usize],
+            answers: Vec::new(),
+        }
+    }
+
+    pub fn log(&self) -> &[Call<'a>] {
+        &self.log
+    }
+
+    pub fn ask(&mut self, key: Key, call: Call<'a>) -> Note {
+        if let Some(&number) = self.numbers.get(&key) {
+            return if self.log[number as usize - 1] == call {
+                Note::Repeat(number)
+            } else {
+                Note::Mismatch(number)
+            };
+        }
+        if self.log.len() == LOG_CALLS {
+            return Note::LogFull;
+        }
+        self.log.push(call);
+        self.answers.push(None);
+        let number = self.log.len() as u64;
+        self.numbers.insert(key, number);
+        Note::New(number)
+    }
+
+    pub fn call(&self, number: u32) -> Option<Call<'a>> {
+        self.log.get((number as usize).checked_sub(1)?).copied()
+    }
+
+    /// The entries after what a replica acknowledged, as many as go at once.
+    pub fn unheard(&self, replica: u32) -> Option<impl Iterator<Item = (u64, Call<'a>)>> {
+        let recorded = *self.recorded.get(replica as usize)?;
+        let calls = self.log[recorded as usize..].iter().copied();
+        Some((recorded + 1..).zip(calls).take(RESENT))
+    }
+
+    pub fn on_ack(&mut self, replica: u8, length: u64) -> Note {
+        match self.recorded.get_mut(usize::from(replica)) {
+            Some(recorded) if length <= self.log.len() as u64 => {
+                *recorded = length;
+                Note::Recorded(length)
+            }
+            _ => Note::Odd,
+        }
+    }
+
+    pub fn on_answer(&mut self, number: u64, reply: Reply) -> Note {
+        let index = (number as usize).checked_sub(1);
+        match index.and_then(|index| self.answers.get_mut(index)) {
+            None => Note::Unknown(number),
+            Some(Some(kept)) if *kept == reply => Note::Repeat(number),
+            Some(Some(_)) => Note::OddAnswer(number),
+            Some(empty) => {
+                *empty = Some(reply);
+                Note::Kept(number)
+            }
+        }
+    }
+}

@@ -1,0 +1,261 @@
+//! The sequencer, the replicas with their workers and stores, and the frames between them.
+
+use crate::bank::Directory;
+use crate::board::{Board, Job, Offered};
+use crate::checkpoint::{self, Checkpoint};
+use crate::frame::Frame;
+use crate::lists::Sent;
+use crate::note::{Column, Note};
+use crate::printing::{push_money, push_number};
+use crate::schedule::{Event, How, Schedule};
+use crate::sequencer::Sequencer;
+
+struct Node {
+    board: Board,
+    hands: Vec<Option<Job>>,
+    stored: Option<Vec<u8>>,
+    to: Sent,
+    from: Sent,
+}
+
+pub struct World<'a> {
+    directory: &'a Directory<'a>,
+    opening: &'a [i64],
+    sequencer: Sequencer<'a>,
+    nodes: Vec<Node>,
+}
+
+impl<'a> World<'a> {
+    pub fn open(schedule: &'a Schedule<'a>) -> Self {
+        let node = |_| Node {
+            board: Board::open(schedule.opening.clone(), Vec::new()),
+            hands: (0..schedule.workers).map(|_| None).collect(),
+            stored: None,
+            to: Sent::default(),
+            from: Sent::default(),
+        };
+        World {
+            directory: &schedule.directory,
+            opening: &schedule.opening,
+            sequencer: Sequencer::open(schedule.nodes),
+            nodes: (0..schedule.nodes).map(node).collect(),
+        }
+    }
+
+    pub fn step(&mut self, event: &Event<'a>) -> Note {
+        self.try_step(event).unwrap_or(Note::Nothing)
+    }
+
+    // `None` where there is nothing to do, or no such replica, worker, place or number.
+    fn try_step(&mut self, event: &Event<'a>) -> Option<Note> {
+        match *event {
+            Event::Ask { key, call } => Some(self.sequencer.ask(key, call)),
+            Event::Send { replica, number } => self.send(replica, number),
+            Event::Resend { replica } => self.resend(replica),
+            Event::To { replica, place } => self.deliver_to(replica, place),
+            Event::Ack { replica } => self.ack(replica),
+            Event::Answer { replica, number } => self.answer(replica, number),
+            Event::From { replica, place } => self.deliver_from(replica, place),
+            Event::Take {
+                replica,
+                worker,
+                index,
+            } => self.node(replica)?.take(worker, index),
+            Event::Finish { replica, worker } => self.node(replica)?.finish(worker),
+            Event::Mark { replica, how } => Some(self.node(replica)?.mark(how)),
+            Event::Restart { replica } => self.restart(replica),
+            Event::Audit { first, second } => self.audit(first, second),
+        }
+    }
+
+    fn node(&mut self, replica: u32) -> Option<&mut Node> {
+        self.nodes.get_mut(replica as usize)
+    }
+
+    fn send(&mut self, replica: u32, number: u32) -> Option<Note> {
+        let call = self.sequencer.call(number)?;
+        let number = u64::from(number);
+        let place = self.node(replica)?.to.push(&Frame::Entry { number, call });
+        Some(Note::Sent(place))
+    }
+
+    fn resend(&mut self, replica: u32) -> Option<Note> {
+        let entries = self.sequencer.unheard(replica)?;
+        let node = self.nodes.get_mut(replica as usize)?;
+        let mut count = 0;
+        for (number, call) in entries {
+            node.to.push(&Frame::Entry { number, call });
+            count += 1;
+        }
+        Some(Note::Resent(count))
+    }
+
+    fn deliver_to(&mut self, replica: u32, place: u32) -> Option<Note> {
+        let node = self.nodes.get_mut(replica as usize)?;
+        let Some(Frame::Entry { number, call }) = Frame::decode(node.to.get(place)?) else {
+            unreachable!("what is sent to a replica is an entry");
+        };
+        let op = self.directory.resolve(&call);
+        Some(match node.board.offer(number, op) {
+            Offered::Next => Note::Accepted(number),
+            Offered::Repeat => Note::Repeat(number),
+            Offered::Gap => Note::Gap(node.board.length()),
+            Offered::Busy => Note::BusyAt(node.board.length()),
+        })
+    }
+
+    fn ack(&mut self, replica: u32) -> Option<Note> {
+        let node = self.node(replica)?;
+        let place = node.from.push(&Frame::Ack {
+            replica: replica as u8,
+            length: node.board.length(),
+        });
+        Some(Note::Sent(place))
+    }
+
+    fn answer(&mut self, replica: u32, number: u32) -> Option<Note> {
+        let number = u64::from(number);
+        let node = self.node(replica)?;
+        let reply = node.board.reply(number)?;
+        let place = node.from.push(&Frame::Answer { number, reply });
+        Some(Note::Sent(place))
+    }
+
+    fn deliver_from(&mut self, replica: u32, place: u32) -> Option<Note> {
+        let node = self.nodes.get(replica as usize)?;
+        match Frame::decode(node.from.get(place)?) {
+            Some(Frame::Ack { replica, length }) => Some(self.sequencer.on_ack(replica, length)),
+            Some(Frame::Answer { number, reply }) => Some(self.sequencer.on_answer(number, reply)),
+            _ => unreachable!("what a replica sends is an acknowledgement or an answer"),
+        }
+    }
+
+    fn restart(&mut self, replica: u32) -> Option<Note> {
+        let node = self.nodes.get_mut(replica as usize)?;
+        node.board = match &node.stored {
+            None => Board::open(self.opening.to_vec(), Vec::new()),
+            Some(bytes) => {
+                let Checkpoint { balances, replies } =
+                    checkpoint::read(bytes, self.directory.names.len())
+                        .expect("what is stored is a checkpoint of this bank");
+                Board::open(balances, replies)
+            }
+        };
+        Some(Note::Restarted(node.board.length()))
+    }
+
+    fn audit(&self, first: u32, second: u32) -> Option<Note> {
+        let (one, other) = (
+            &self.nodes.get(first as usize)?.board,
+            &self.nodes.get(second as usize)?.board,
+        );
+        if !one.is_idle() {
+            return Some(Note::BusyAt(u64::from(first)));
+        }
+        if !other.is_idle() {
+            return Some(Note::BusyAt(u64::from(second)));
+        }
+        if one.length() != other.length() {
+            return Some(Note::Apart(one.length(), other.length()));
+        }
+        let difference = first_difference(one.balances(), other.balances());
+        Some(difference.unwrap_or_else(|| self.books(one)))
+    }
+
+    // Whether an idle board's total is the opening's and what its calls added.
+    fn books(&self, board: &Board) -> Note {
+        let calls = self.sequencer.log().iter().zip(board.replies());
+        let net: i64 = calls.map(|(call, reply)| call.net(reply)).sum();
+        let expected = self.opening.iter().sum::<i64>() + net;
+        let total = board.balances().iter().sum();
+        if total != expected {
+            return Note::OffBooks(total, expected);
+        }
+        let checking = board.balances().iter().skip(1).step_by(2);
+        let overdrawn = checking.filter(|amount| **amount < 0).count() as u64;
+        Note::Same(total, overdrawn)
+    }
+
+    /// Puts the final state of each replica last.
+    pub fn print(&self, out: &mut Vec<u8>) {
+        for (node, replica) in self.nodes.iter().zip(0..) {
+            out.extend_from_slice(b"replica ");
+            push_number(out, replica);
+            out.extend_from_slice(b" length ");
+            push_number(out, node.board.length());
+            if node.board.is_idle() {
+                out.extend_from_slice(b" idle\n");
+                self.print_rows(node.board.balances(), out);
+            } else {
+                out.extend_from_slice(b" busy\n");
+            }
+        }
+    }
+
+    fn print_rows(&self, balances: &[i64], out: &mut Vec<u8>) {
+        let (rows, _) = balances.as_chunks::<2>();
+        for (name, [savings, checking]) in self.directory.names.iter().zip(rows) {
+            out.extend_from_slice(name);
+            out.push(b' ');
+            push_money(out, *savings);
+            out.push(b' ');
+            push_money(out, *checking);
+            out.push(b'\n');
+        }
+        out.extend_from_slice(b"total ");
+        push_money(out, balances.iter().sum());
+        out.push(b'\n');
+    }
+}
+
+// The first place where the columns differ, savings first.
+fn first_difference(one: &[i64], other: &[i64]) -> Option<Note> {
+    let differs = |from: usize| {
+        let pairs = one.iter().zip(other).skip(from).step_by(2);
+        let place = pairs.into_iter().position(|(a, b)| a != b);
+        place.map(|place| place as u64)
+    };
+    let savings = differs(0).map(|place| Note::Differ(Column::Savings, place));
+    savings.or_else(|| differs(1).map(|place| Note::Differ(Column::Checking, place)))
+}
+
+impl Node {
+    fn take(&mut self, worker: u32, index: u32) -> Option<Note> {
+        let hand = self.hands.get_mut((worker as usize).checked_sub(1)?)?;
+        if hand.is_some() {
+            return Some(Note::HandFull);
+        }
+        let job = self.board.take_at(index as usize)?;
+        let number = job.number;
+        *hand = Some(job);
+        Some(Note::Took(number))
+    }
+
+    fn finish(&mut self, worker: u32) -> Option<Note> {
+        let hand = self.hands.get_mut((worker as usize).checked_sub(1)?)?;
+        let job = hand.take()?;
+        let number = job.number;
+        Some(match self.board.finish(job.run()) {
+            Some(reply) => Note::Finished(number, reply),
+            None => Note::Stranger(number),
+        })
+    }
+
+    fn mark(&mut self, how: How) -> Note {
+        if !self.board.is_idle() {
+            return Note::Busy;
+        }
+        let bytes = checkpoint::write(self.board.balances(), self.board.replies());
+        match how {
+            How::Ok => {
+                self.stored = Some(bytes);
+                Note::Marked(self.board.length())
+            }
+            How::Old => Note::StoreFault,
+            How::New => {
+                self.stored = Some(bytes);
+                Note::StoreFault
+            }
+        }
+    }
+}

@@ -1,0 +1,277 @@
+//! What a schedule does, told by numbers alone: no rows, queues, jobs or bytes.
+
+use crate::event::{Call, Customer, Event, How, Key};
+use crate::ledger::Ledger;
+use std::collections::{BTreeSet, HashMap, HashSet};
+
+const OPEN: usize = 1_024;
+const RESENT: u32 = 16;
+
+/// What an event is answered with. Replies and sums are the ledger's.
+pub enum Note {
+    Words(&'static str),
+    Number(&'static str, u32),
+    Finished(u32),
+    Apart(u32, u32),
+    Same(u32),
+}
+
+impl Note {
+    pub fn text(&self, ledger: &Ledger) -> String {
+        match *self {
+            Note::Words(words) => words.to_owned(),
+            Note::Number(word, number) => format!("{word} {number}"),
+            Note::Finished(number) => format!("finished {number} {}", ledger.reply(number)),
+            Note::Apart(first, second) => format!("apart {first} {second}"),
+            Note::Same(length) => {
+                let total = crate::event::money(ledger.total(length));
+                format!("same {total} {}", ledger.overdrawn(length))
+            }
+        }
+    }
+}
+
+/// A frame from a replica.
+#[derive(Clone, Copy)]
+pub enum Told {
+    Ack(u32),
+    Answer(u32),
+}
+
+pub struct Node {
+    pub length: u32,
+    /// The numbers up to the length that aren't finished.
+    pub open: BTreeSet<u32>,
+    pub out: BTreeSet<u32>,
+    pub hands: Vec<Option<u32>>,
+    /// The length of the stored checkpoint, 0 for none.
+    pub kept: u32,
+    /// The length that the sequencer heard of last.
+    pub recorded: u32,
+    /// The numbers of all entries sent to it.
+    pub to: Vec<u32>,
+    pub from: Vec<Told>,
+}
+
+pub struct Machine {
+    pub customers: usize,
+    pub log: Vec<(Key, Call)>,
+    numbers: HashMap<Key, u32>,
+    answered: HashSet<u32>,
+    pub nodes: Vec<Node>,
+}
+
+const NOTHING: Note = Note::Words("nothing");
+
+// The balances that a call touches: a customer and whether it is checking.
+fn touches(call: Call, customers: usize) -> Vec<(Customer, bool)> {
+    let all = match call {
+        Call::Balance(n) | Call::Check(n, _) => vec![(n, false), (n, true)],
+        Call::Deposit(n, _) => vec![(n, true)],
+        Call::Savings(n, _) => vec![(n, false)],
+        Call::Amalgamate(from, to) if from == to => vec![],
+        Call::Amalgamate(from, to) => vec![(from, false), (from, true), (to, true)],
+    };
+    let is_known = all.iter().all(|(customer, _)| *customer < customers);
+    if is_known { all } else { vec![] }
+}
+
+impl Machine {
+    pub fn open(customers: usize, nodes: u32, workers: u32) -> Self {
+        let node = |_| Node {
+            length: 0,
+            open: BTreeSet::new(),
+            out: BTreeSet::new(),
+            hands: vec![None; workers as usize],
+            kept: 0,
+            recorded: 0,
+            to: Vec::new(),
+            from: Vec::new(),
+        };
+        Machine {
+            customers,
+            log: Vec::new(),
+            numbers: HashMap::new(),
+            answered: HashSet::new(),
+            nodes: (0..nodes).map(node).collect(),
+        }
+    }
+
+    pub fn length(&self) -> u32 {
+        self.log.len() as u32
+    }
+
+    /// The ready numbers of a node: open and not out, with no smaller open number that touches the same.
+    pub fn ready(&self, node: &Node) -> Vec<u32> {
+        let mut taken = HashSet::new();
+        let mut ready = Vec::new();
+        for number in &node.open {
+            let touched = touches(self.log[*number as usize - 1].1, self.customers);
+            let is_first = touched.iter().all(|balance| !taken.contains(balance));
+            if is_first && !node.out.contains(number) {
+                ready.push(*number);
+            }
+            taken.extend(touched);
+        }
+        ready
+    }
+
+    pub fn step(&mut self, event: Event) -> Note {
+        self.try_step(event).unwrap_or(NOTHING)
+    }
+
+    fn try_step(&mut self, event: Event) -> Option<Note> {
+        match event {
+            Event::Ask(key, call) => Some(self.ask(key, call)),
+            Event::Send(replica, number) => self.send(replica, number),
+            Event::Resend(replica) => self.resend(replica),
+            Event::To(replica, place) => self.node(replica)?.hear(place),
+            Event::Ack(replica) => {
+                let node = self.node(replica)?;
+                Some(node.tell(Told::Ack(node.length)))
+            }
+            Event::Answer(replica, number) => {
+                let node = self.node(replica)?;
+                let is_held = (1..=node.length).contains(&number) && !node.open.contains(&number);
+                is_held.then(|| node.tell(Told::Answer(number)))
+            }
+            Event::From(replica, place) => self.told(replica, place),
+            Event::Take(replica, worker, index) => self.take(replica, worker, index),
+            Event::Finish(replica, worker) => self.node(replica)?.finish(worker),
+            Event::Mark(replica, how) => Some(self.node(replica)?.mark(how)),
+            Event::Restart(replica) => Some(self.node(replica)?.restart()),
+            Event::Audit(first, second) => self.audit(first, second),
+        }
+    }
+
+    fn node(&mut self, replica: u32) -> Option<&mut Node> {
+        self.nodes.get_mut(replica as usize)
+    }
+
+    fn ask(&mut self, key: Key, call: Call) -> Note {
+        match self.numbers.get(&key) {
+            Some(number) if self.log[*number as usize - 1].1 == call => {
+                Note::Number("repeat", *number)
+            }
+            Some(number) => Note::Number("mismatch", *number),
+            None => {
+                self.log.push((key, call));
+                self.numbers.insert(key, self.length());
+                Note::Number("new", self.length())
+            }
+        }
+    }
+
+    fn send(&mut self, replica: u32, number: u32) -> Option<Note> {
+        let is_there = (1..=self.length()).contains(&number);
+        let node = self.node(replica)?;
+        is_there.then(|| {
+            node.to.push(number);
+            Note::Number("sent", node.to.len() as u32)
+        })
+    }
+
+    fn resend(&mut self, replica: u32) -> Option<Note> {
+        let length = self.length();
+        let node = self.node(replica)?;
+        let last = length.min(node.recorded + RESENT);
+        node.to.extend(node.recorded + 1..=last);
+        Some(Note::Number("resent", last.saturating_sub(node.recorded)))
+    }
+
+    fn told(&mut self, replica: u32, place: u32) -> Option<Note> {
+        let node = self.nodes.get_mut(replica as usize)?;
+        Some(match *node.from.get((place as usize).checked_sub(1)?)? {
+            Told::Ack(length) => {
+                node.recorded = length;
+                Note::Number("recorded", length)
+            }
+            Told::Answer(number) => match self.answered.insert(number) {
+                true => Note::Number("kept", number),
+                false => Note::Number("repeat", number),
+            },
+        })
+    }
+
+    fn take(&mut self, replica: u32, worker: u32, index: u32) -> Option<Note> {
+        let node = self.nodes.get(replica as usize)?;
+        let hand = (worker as usize).checked_sub(1)?;
+        if node.hands.get(hand)?.is_some() {
+            return Some(Note::Words("hand full"));
+        }
+        let number = *self.ready(node).get(index as usize)?;
+        let node = self.node(replica)?;
+        node.out.insert(number);
+        node.hands[hand] = Some(number);
+        Some(Note::Number("took", number))
+    }
+
+    fn audit(&self, first: u32, second: u32) -> Option<Note> {
+        let (one, other) = (
+            self.nodes.get(first as usize)?,
+            self.nodes.get(second as usize)?,
+        );
+        Some(if !one.open.is_empty() {
+            Note::Number("busy", first)
+        } else if !other.open.is_empty() {
+            Note::Number("busy", second)
+        } else if one.length != other.length {
+            Note::Apart(one.length, other.length)
+        } else {
+            Note::Same(one.length)
+        })
+    }
+}
+
+impl Node {
+    fn hear(&mut self, place: u32) -> Option<Note> {
+        let number = *self.to.get((place as usize).checked_sub(1)?)?;
+        Some(if number <= self.length {
+            Note::Number("repeat", number)
+        } else if number > self.length + 1 {
+            Note::Number("gap", self.length)
+        } else if self.open.len() == OPEN {
+            Note::Number("busy", self.length)
+        } else {
+            self.length = number;
+            self.open.insert(number);
+            Note::Number("accepted", number)
+        })
+    }
+
+    fn tell(&mut self, told: Told) -> Note {
+        self.from.push(told);
+        Note::Number("sent", self.from.len() as u32)
+    }
+
+    fn finish(&mut self, worker: u32) -> Option<Note> {
+        let hand = self.hands.get_mut((worker as usize).checked_sub(1)?)?;
+        let number = hand.take()?;
+        if self.out.remove(&number) {
+            self.open.remove(&number);
+            Some(Note::Finished(number))
+        } else {
+            Some(Note::Number("stranger", number))
+        }
+    }
+
+    fn mark(&mut self, how: How) -> Note {
+        if !self.open.is_empty() {
+            return Note::Words("busy");
+        }
+        if how != How::Old {
+            self.kept = self.length;
+        }
+        match how {
+            How::Ok => Note::Number("marked", self.length),
+            How::Old | How::New => Note::Words("store fault"),
+        }
+    }
+
+    fn restart(&mut self) -> Note {
+        self.length = self.kept;
+        self.open.clear();
+        self.out.clear();
+        Note::Number("restarted", self.kept)
+    }
+}

@@ -1,0 +1,127 @@
+//! Makes schedules.
+//!
+//! `schedules random SEED COUNT FOLDER` writes so many, `N.schedule` each, and beside it what the definitions say is
+//! written: `N.output` to standard output, or `N.fault` to standard error where a line is at fault.
+//! `schedules long EVENTS NODES` writes a long one without fault to standard output.
+
+mod event;
+mod faults;
+mod ledger;
+mod long;
+mod machine;
+mod making;
+#[path = "../../random.rs"]
+mod random;
+
+use event::{money, name};
+use ledger::{Ledger, Rows};
+use machine::{Machine, Note};
+use making::Maker;
+use random::Random;
+use std::error::Error;
+use std::io::{self, BufWriter, Write};
+use std::path::Path;
+use std::{env, fs};
+
+const SEED: u64 = 5;
+
+const NODES: u32 = 8;
+const WORKERS: u32 = 16;
+const CUSTOMERS: u32 = 6;
+const EVENTS: u32 = 200;
+
+// Of so many schedules one has too many customers.
+const TOO_MANY: u32 = 5_000;
+
+/// The lines of a schedule, and its output by the definitions.
+struct Made {
+    lines: Vec<String>,
+    customers: usize,
+    output: String,
+}
+
+fn made(mut random: Random) -> Made {
+    let nodes = 1 + random.below(NODES);
+    let workers = 1 + random.below(WORKERS);
+    let customers = random.below(CUSTOMERS + 1) as usize;
+    let events = random.below(EVENTS + 1);
+    let mut maker = Maker::new(random);
+    let mut lines = vec![format!("nodes {nodes} workers {workers}")];
+    let opening: Rows = (0..customers)
+        .map(|_| (maker.amount().max(0), maker.amount()))
+        .collect();
+    lines.extend(opening.iter().zip(0..).map(|((savings, checking), place)| {
+        format!("{} {} {}", name(place), money(*savings), money(*checking))
+    }));
+    lines.push("begin".to_owned());
+    let mut machine = Machine::open(customers, nodes, workers);
+    let mut notes = Vec::new();
+    for _ in 0..events {
+        let event = maker.event(&machine);
+        lines.push(event.to_string());
+        notes.push(machine.step(event));
+    }
+    let ledger = Ledger::new(opening, machine.log.iter().map(|(_, call)| *call));
+    Made {
+        lines,
+        customers,
+        output: output(&machine, &ledger, &notes),
+    }
+}
+
+fn output(machine: &Machine, ledger: &Ledger, notes: &[Note]) -> String {
+    let notes = notes.iter().map(|note| note.text(ledger) + "\n");
+    let states = machine.nodes.iter().zip(0..).map(|(node, replica)| {
+        let head = format!("replica {replica} length {}", node.length);
+        match node.open.is_empty() {
+            true => format!("{head} idle\n{}", ledger.state(node.length)),
+            false => format!("{head} busy\n"),
+        }
+    });
+    notes.chain(states).collect()
+}
+
+// Writes a schedule and what is expected of it. A third has a fault.
+fn write_random(seed: u64, folder: &Path, number: u32) -> io::Result<()> {
+    let mut random = Random::new(seed ^ u64::from(number) << 32);
+    let write = |ending, text| fs::write(folder.join(format!("{number}.{ending}")), text);
+    if number.is_multiple_of(TOO_MANY) {
+        let (text, fault) = faults::too_many();
+        write("schedule", text)?;
+        return write("fault", fault);
+    }
+    let made = made(Random::new(seed ^ u64::from(number)));
+    if random.percent(33) {
+        let (text, fault) = faults::spoil(&mut random, made.lines, made.customers);
+        write("schedule", text)?;
+        return write("fault", fault);
+    }
+    // A last line needs no line feed.
+    let end = if random.percent(10) { "" } else { "\n" };
+    write("schedule", made.lines.join("\n") + end)?;
+    write("output", made.output)
+}
+
+fn main() -> Result<(), Box<dyn Error>> {
+    let words: Vec<String> = env::args().skip(1).collect();
+    match words.iter().map(String::as_str).collect::<Vec<_>>()[..] {
+        ["random", seed, count, folder] => {
+            fs::create_dir_all(folder)?;
+            for number in 0..count.parse()? {
+                write_random(seed.parse()?, Path::new(folder), number)?;
+            }
+        }
+        ["long", events, nodes] => {
+            let mut out = BufWriter::new(io::stdout().lock());
+            let mut maker = Maker::new(Random::new(SEED));
+            long::write(&mut out, &mut maker, events.parse()?, nodes.parse()?)?;
+            out.flush()?;
+        }
+        _ => {
+            return Err(
+                "usage: schedules random SEED COUNT FOLDER, or schedules long EVENTS NODES".into(),
+            );
+        }
+    }
+    Ok(())
+}

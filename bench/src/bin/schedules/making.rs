@@ -1,0 +1,210 @@
+//! Random events: most of them do something where the machine stands.
+
+use crate::event::{Call, Customer, Event, How, Key};
+use crate::machine::{Machine, Node};
+use crate::random::Random;
+
+const KINDS: usize = 12;
+
+// How often each kind of event comes: ask, send, resend, to, ack, answer, from, take, finish, mark, restart, audit.
+const USUAL: [u32; KINDS] = [14, 14, 5, 24, 4, 5, 8, 16, 16, 5, 3, 4];
+
+const ASK: usize = 0;
+const TO: usize = 3;
+
+const AMOUNTS: [i64; 8] = [0, 1, 100, 1_000, 12_345, 999_999, 1_000_000_000_000, -1];
+
+/// What makes the events of one schedule.
+pub struct Maker {
+    pub random: Random,
+    shares: [u32; KINDS],
+    // Of 100 choices, how many are made without a look at the machine.
+    blind: u32,
+    // Most events are of the first replicas, so many.
+    favoured: u32,
+}
+
+impl Maker {
+    pub fn new(mut random: Random) -> Self {
+        let mut shares = USUAL.map(|usual| usual * random.pick(&[0, 1, 1, 2, 2, 3]));
+        // Without these two nothing is ever heard.
+        shares[ASK] = shares[ASK].max(USUAL[ASK]);
+        shares[TO] = shares[TO].max(USUAL[TO]);
+        Maker {
+            shares,
+            blind: *random.pick(&[0, 5, 20]),
+            favoured: 1 + random.below(3),
+            random,
+        }
+    }
+
+    pub fn event(&mut self, machine: &Machine) -> Event {
+        let r = self.replica(machine);
+        let node = machine.nodes.get(r as usize).unwrap_or(&machine.nodes[0]);
+        match self.fitting_kind(machine, node) {
+            ASK => self.ask(machine),
+            1 => Event::Send(r, self.sent(machine, node)),
+            2 => Event::Resend(r),
+            TO => Event::To(r, self.place_to(node)),
+            4 => Event::Ack(r),
+            5 => Event::Answer(r, self.near(node.length)),
+            6 => Event::From(r, self.near(node.from.len() as u32)),
+            7 => {
+                let ready = machine.ready(node).len() as u32;
+                let worker = self.worker(node, false);
+                Event::Take(r, worker, self.index(ready))
+            }
+            8 => Event::Finish(r, self.worker(node, true)),
+            9 => Event::Mark(
+                r,
+                *self.random.pick(&[How::Ok, How::Ok, How::Old, How::New]),
+            ),
+            10 => Event::Restart(r),
+            _ => Event::Audit(r, self.replica(machine)),
+        }
+    }
+
+    // A kind of event that does something, where some draws give one.
+    fn fitting_kind(&mut self, machine: &Machine, node: &Node) -> usize {
+        let mut kind = self.kind();
+        for _ in 0..4 {
+            let is_vain = match kind {
+                1 | 2 => machine.log.is_empty(),
+                TO => node.to.is_empty(),
+                4 | 5 => node.length == 0,
+                6 => node.from.is_empty(),
+                7 => machine.ready(node).is_empty(),
+                8 => node.hands.iter().all(Option::is_none),
+                9 => !node.open.is_empty(),
+                _ => false,
+            };
+            if !is_vain || self.is_blind() {
+                break;
+            }
+            kind = self.kind();
+        }
+        kind
+    }
+
+    fn kind(&mut self) -> usize {
+        let mut left = self.random.below(self.shares.iter().sum());
+        let chosen = self.shares.iter().position(|share| {
+            let is_this = left < *share;
+            left = left.saturating_sub(*share);
+            is_this
+        });
+        chosen.unwrap_or_default()
+    }
+
+    fn is_blind(&mut self) -> bool {
+        self.random.percent(self.blind)
+    }
+
+    fn replica(&mut self, machine: &Machine) -> u32 {
+        let count = machine.nodes.len() as u32;
+        if self.is_blind() && self.random.percent(20) {
+            return *self.random.pick(&[count, 9, u32::MAX]);
+        }
+        match self.random.percent(85) {
+            true => self.random.below(count.min(self.favoured)),
+            false => self.random.below(count),
+        }
+    }
+
+    // A number from 1 to a last one, or now and then one beside these.
+    fn near(&mut self, last: u32) -> u32 {
+        match last == 0 || self.is_blind() {
+            true => *self.random.pick(&[0, last, last + 1, u32::MAX]),
+            false => 1 + self.random.below(last),
+        }
+    }
+
+    fn sent(&mut self, machine: &Machine, node: &Node) -> u32 {
+        let behind = node.to.last().map_or(1, |last| last + 1);
+        match behind <= machine.length() && self.random.percent(60) {
+            true => behind,
+            false => self.near(machine.length()),
+        }
+    }
+
+    // The place of the next entry, where it was sent, or any.
+    fn place_to(&mut self, node: &Node) -> u32 {
+        let next = node
+            .to
+            .iter()
+            .rposition(|number| *number == node.length + 1);
+        match next {
+            Some(index) if self.random.percent(70) => index as u32 + 1,
+            _ => self.near(node.to.len() as u32),
+        }
+    }
+
+    // A worker whose hand is full, or one whose hand is empty.
+    fn worker(&mut self, node: &Node, is_full: bool) -> u32 {
+        let count = node.hands.len() as u32;
+        let fitting: Vec<u32> = (1..=count)
+            .filter(|worker| node.hands[*worker as usize - 1].is_some() == is_full)
+            .collect();
+        if fitting.is_empty() || self.is_blind() {
+            self.near(count)
+        } else {
+            *self.random.pick(&fitting)
+        }
+    }
+
+    fn index(&mut self, ready: u32) -> u32 {
+        match ready == 0 || self.is_blind() {
+            true => *self.random.pick(&[0, ready, u32::MAX]),
+            false if self.random.percent(50) => 0,
+            false => self.random.below(ready),
+        }
+    }
+
+    fn ask(&mut self, machine: &Machine) -> Event {
+        if !machine.log.is_empty() && self.random.percent(20) {
+            let (key, call) = *self.random.pick(&machine.log);
+            return match self.random.percent(50) {
+                true => Event::Ask(key, call),
+                false => Event::Ask(key, self.call(machine.customers)),
+            };
+        }
+        Event::Ask(self.key(), self.call(machine.customers))
+    }
+
+    fn key(&mut self) -> Key {
+        let client = *self.random.pick(&[0, 1, 2, 3, u32::MAX]);
+        let request = self.random.below(100);
+        match self.random.percent(5) {
+            true => (client, u32::MAX - request % 2),
+            false => (client, request),
+        }
+    }
+
+    pub fn call(&mut self, customers: usize) -> Call {
+        let owner = self.customer(customers);
+        let amount = self.amount();
+        match self.random.below(5) {
+            0 => Call::Balance(owner),
+            1 => Call::Deposit(owner, amount),
+            2 if self.random.percent(40) => Call::Savings(owner, -amount),
+            2 => Call::Savings(owner, amount),
+            3 => Call::Check(owner, amount),
+            _ => Call::Amalgamate(owner, self.customer(customers)),
+        }
+    }
+
+    fn customer(&mut self, customers: usize) -> Customer {
+        match self.random.percent(4) {
+            true => customers,
+            false => self.random.below(customers.max(1) as u32) as usize,
+        }
+    }
+
+    /// An amount, at times one at an end of its range.
+    pub fn amount(&mut self) -> i64 {
+        match self.random.percent(30) {
+            true => *self.random.pick(&AMOUNTS),
+            false => i64::from(self.random.below(20_000)),
+        }
+    }
+}

@@ -1,0 +1,209 @@
+//! What the plain player answers to small schedules, worked out by hand.
+
+use std::fs;
+use std::io::Write;
+use std::path::Path;
+use std::process::{Command, Stdio};
+
+const OPENING: &str = "alice 100.00 50.00\nbob 0.00 20.00\ncarol 10.00 0.00\nbegin\n";
+
+/// The player's status, output and error text for a schedule.
+fn played(schedule: &str) -> (Option<i32>, String, String) {
+    let mut player = Command::new(env!("CARGO_BIN_EXE_player"))
+        .stdin(Stdio::piped())
+        .stdout(Stdio::piped())
+        .stderr(Stdio::piped())
+        .spawn()
+        .expect("the player starts");
+    let mut input = player.stdin.take().expect("its input is a pipe");
+    input
+        .write_all(schedule.as_bytes())
+        .expect("it reads its input");
+    drop(input);
+    let ended = player.wait_with_output().expect("it ends");
+    let text = |bytes| String::from_utf8(bytes).expect("it writes text");
+    (ended.status.code(), text(ended.stdout), text(ended.stderr))
+}
+
+fn lines_of(events: &str) -> String {
+    events
+        .split(" / ")
+        .map(|event| format!("{event}\n"))
+        .collect()
+}
+
+/// All that is written for these events, parted by ` / `, over the three customers.
+fn output(head: &str, events: &str) -> Vec<String> {
+    let (status, output, error) = played(&format!("{head}\n{OPENING}{}", lines_of(events)));
+    assert_eq!((status, error.as_str()), (Some(0), ""));
+    output.lines().map(str::to_owned).collect()
+}
+
+/// Plays these events over one replica with two workers, and compares the notes and the final rows.
+fn check(events: &str, notes: &str, state: &str) {
+    let expected = format!("{notes} / {state}");
+    assert_eq!(output("nodes 1 workers 2", events).join(" / "), expected);
+}
+
+fn check_fault(schedule: &str, fault: &str) {
+    let error = format!("smallbank: {fault}\n");
+    assert_eq!(played(schedule), (Some(1), String::new(), error));
+}
+
+const ALICE_HAS_ONE_MORE: &str = "replica 0 length 1 idle / alice 100.00 51.00 / bob 0.00 20.00 \
+     / carol 10.00 0.00 / total 181.00";
+
+#[test]
+fn jobs_taken_out_of_order() {
+    check(
+        "ask 1 1 deposit alice 1.00 / ask 1 2 deposit bob 1.00 / ask 1 3 amalgamate alice bob \
+         / ask 1 4 balance alice / send 0 1 / send 0 2 / send 0 3 / send 0 4 / to 0 1 / to 0 2 / to 0 3 / to 0 4 \
+         / take 0 1 1 / take 0 2 0 / finish 0 1 / take 0 1 0 / finish 0 2 / take 0 1 0 / take 0 2 0 \
+         / finish 0 1 / take 0 1 0 / finish 0 1",
+        "new 1 / new 2 / new 3 / new 4 / sent 1 / sent 2 / sent 3 / sent 4 \
+         / accepted 1 / accepted 2 / accepted 3 / accepted 4 \
+         / took 2 / took 1 / finished 2 done / nothing / finished 1 done / took 3 / nothing \
+         / finished 3 done / took 4 / finished 4 shown 0.00",
+        "replica 0 length 4 idle / alice 0.00 0.00 / bob 0.00 172.00 / carol 10.00 0.00 / total 182.00",
+    );
+}
+
+#[test]
+fn frames_out_of_order_and_repeated() {
+    check(
+        "ask 1 1 deposit alice 1.00 / ask 1 2 deposit bob 1.00 / send 0 1 / send 0 2 \
+         / to 0 2 / to 0 1 / to 0 1 / to 0 2",
+        "new 1 / new 2 / sent 1 / sent 2 / gap 0 / accepted 1 / repeat 1 / accepted 2",
+        "replica 0 length 2 busy",
+    );
+}
+
+#[test]
+fn a_job_is_done_again_after_a_restart() {
+    check(
+        "ask 1 1 deposit alice 1.00 / send 0 1 / to 0 1 / take 0 1 0 / restart 0 / to 0 1 / take 0 2 0 \
+         / finish 0 1 / finish 0 2",
+        "new 1 / sent 1 / accepted 1 / took 1 / restarted 0 / accepted 1 / took 1 / finished 1 done / stranger 1",
+        ALICE_HAS_ONE_MORE,
+    );
+}
+
+#[test]
+fn a_job_from_before_a_restart_is_a_stranger_while_its_number_is_not_out() {
+    check(
+        "ask 1 1 deposit alice 1.00 / send 0 1 / to 0 1 / take 0 1 0 / restart 0 / to 0 1 / finish 0 1 \
+         / take 0 2 0 / finish 0 2",
+        "new 1 / sent 1 / accepted 1 / took 1 / restarted 0 / accepted 1 / stranger 1 / took 1 / finished 1 done",
+        ALICE_HAS_ONE_MORE,
+    );
+}
+
+const MARKED_WHILE_OUT: &str =
+    "ask 1 1 deposit alice 1.00 / send 0 1 / to 0 1 / take 0 1 0 / mark 0 ok / finish 0 1";
+const BUSY_THEN_FINISHED: &str = "new 1 / sent 1 / accepted 1 / took 1 / busy / finished 1 done";
+
+#[test]
+fn a_mark_that_leaves_the_old_bytes() {
+    check(
+        &format!("{MARKED_WHILE_OUT} / mark 0 old / restart 0 / to 0 1 / take 0 1 0 / finish 0 1"),
+        &format!(
+            "{BUSY_THEN_FINISHED} / store fault / restarted 0 / accepted 1 / took 1 / finished 1 done"
+        ),
+        ALICE_HAS_ONE_MORE,
+    );
+}
+
+#[test]
+fn a_mark_that_leaves_the_new_bytes() {
+    check(
+        &format!("{MARKED_WHILE_OUT} / mark 0 new / restart 0 / to 0 1"),
+        &format!("{BUSY_THEN_FINISHED} / store fault / restarted 1 / repeat 1"),
+        ALICE_HAS_ONE_MORE,
+    );
+}
+
+#[test]
+fn a_replica_with_1024_unfinished_is_busy() {
+    let mut events = Vec::new();
+    let mut notes = Vec::new();
+    for number in 1..=1_025 {
+        events.push(format!(
+            "ask 1 {number} deposit alice 0.01 / send 0 {number} / to 0 {number}"
+        ));
+        let heard = match number {
+            1_025 => "busy 1024".to_owned(),
+            _ => format!("accepted {number}"),
+        };
+        notes.push(format!("new {number} / sent {number} / {heard}"));
+    }
+    check(
+        &format!(
+            "{} / take 0 1 0 / finish 0 1 / to 0 1025",
+            events.join(" / ")
+        ),
+        &format!(
+            "{} / took 1 / finished 1 done / accepted 1025",
+            notes.join(" / ")
+        ),
+        "replica 0 length 1025 busy",
+    );
+}
+
+#[test]
+fn audits_of_two_replicas() {
+    let output = output(
+        "nodes 2 workers 1",
+        "ask 1 1 deposit alice 1.00 / send 0 1 / send 1 1 / to 0 1 / audit 0 1 / take 0 1 0 / finish 0 1 / audit 0 1 \
+         / to 1 1 / take 1 1 0 / finish 1 1 / audit 0 1",
+    );
+    assert_eq!(
+        (&*output[4], &*output[7], &*output[11]),
+        ("busy 0", "apart 1 0", "same 181.00 0")
+    );
+}
+
+#[test]
+fn answers_and_acknowledgements() {
+    let output = output(
+        "nodes 1 workers 1",
+        "ask 1 1 deposit alice 1.00 / resend 0 / to 0 1 / answer 0 1 / take 0 1 0 / finish 0 1 / ack 0 / answer 0 1 \
+         / from 0 1 / from 0 2 / from 0 2 / resend 0",
+    );
+    assert_eq!(
+        output[..12].join(" / "),
+        "new 1 / resent 1 / accepted 1 / nothing / took 1 / finished 1 done / sent 1 / sent 2 \
+         / recorded 1 / kept 1 / repeat 1 / resent 0"
+    );
+}
+
+#[test]
+fn the_first_fault_counts_and_nothing_is_written() {
+    check_fault("", "line 1: bad head");
+    check_fault("nodes 9 workers 1\nbegin\n", "line 1: bad head");
+    check_fault("nodes 1 workers 1\na 0.00 0.00\n", "line 3: no begin");
+    let after = |event: &str| format!("nodes 1 workers 1\n{OPENING}ack 0\n{event}\nack x\n");
+    check_fault(&after(""), "line 7: unknown event");
+    check_fault(&after("to 0 x y"), "line 7: wrong words");
+    check_fault(&after("to 0 4294967296"), "line 7: bad number");
+    check_fault(&after("mark 0 no"), "line 7: bad number");
+    check_fault(&after("ask 1"), "line 7: wrong words");
+    check_fault(&after("ask 01 1"), "line 7: bad number");
+    check_fault(&after("ask 0 1"), "line 7: unknown verb");
+    check_fault(&after("ask 0 1 balance"), "line 7: wrong words");
+    check_fault(&after("ask 0 1 balance Bob"), "line 7: bad name");
+}
+
+#[test]
+fn the_stories_of_the_examples() {
+    let folder = Path::new(env!("CARGO_MANIFEST_DIR")).join("../examples");
+    for story in [
+        "lost_and_repeated",
+        "a_job_outlives_its_replica",
+        "marks_that_fail",
+    ] {
+        let text = |ending| fs::read_to_string(folder.join(format!("{story}.{ending}")));
+        let schedule = text("schedule").expect("the story is there");
+        let output = text("output").expect("its output is there");
+        assert_eq!(played(&schedule), (Some(0), output, String::new()));
+    }
+}
