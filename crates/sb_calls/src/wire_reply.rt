@@ -86,6 +86,25 @@ fn coded_reply(code: u8, total: i64) -> Option<Reply>
     }
 }
 
+impl Reply {
+    /// The code that it has in bytes, and the total that it shows, else 0.
+    pub fn code_and_total(self) -> (u8, i64)
+        ensures code { result.0 ≡ reply_code self }
+        ensures total { result.1 ≡ shown_total self }
+    {
+        match self {
+            Reply::Shown(total) => (SHOWN, total),
+            Reply::Done => (DONE, 0),
+            Reply::Penalised => (PENALISED, 0),
+            Reply::NoCustomer => (NO_CUSTOMER, 0),
+            Reply::SameCustomer => (SAME_CUSTOMER, 0),
+            Reply::Negative => (NEGATIVE, 0),
+            Reply::WouldOverdraw => (WOULD_OVERDRAW, 0),
+            Reply::OverLimit => (OVER_LIMIT, 0),
+        }
+    }
+}
+
 impl WireReply {
     /// This reply, or `None` where it shows a total past [`TOTAL_LIMIT`].
     pub fn new(reply: Reply) -> Option<WireReply>
@@ -110,16 +129,7 @@ impl WireReply {
         ensures code { result.0 ≡ reply_code self }
         ensures total { result.1 ≡ shown_total self }
     {
-        match self.reply {
-            Reply::Shown(total) => (SHOWN, total),
-            Reply::Done => (DONE, 0),
-            Reply::Penalised => (PENALISED, 0),
-            Reply::NoCustomer => (NO_CUSTOMER, 0),
-            Reply::SameCustomer => (SAME_CUSTOMER, 0),
-            Reply::Negative => (NEGATIVE, 0),
-            Reply::WouldOverdraw => (WOULD_OVERDRAW, 0),
-            Reply::OverLimit => (OVER_LIMIT, 0),
-        }
+        self.reply.code_and_total()
     }
 
     /// The reply with this code and total, or `None` where no reply has them.

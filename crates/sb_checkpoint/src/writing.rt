@@ -7,7 +7,7 @@ ghost use Rattle.sb_checkpoint.specs.Checkpoint.{Spells};
 
 use crate::layout::{AMOUNT, BALANCES, EMPTY, MAGIC, REPLY};
 use lane_audit::bank_total;
-use sb_calls::{LOG_CALLS, Reply, WireReply};
+use sb_calls::{LOG_CALLS, Reply};
 use sb_rows::Columns;
 use std::alloc::{AllocError, Global};
 
@@ -94,21 +94,19 @@ fn put_amounts(out: &mut Vec<u8>, amounts: &[i64])
 #[inline]
 #[tactic(auto, unfolding(sb_calls::specs::Replies::number_field))]
 fn put_reply(out: &mut Vec<u8>, reply: Reply)
-    requires room { vec_len out.old + REPLY ≤ vec_capacity out.old }
-    requires valid { IsReply reply }
+    requires { vec_len out.old + REPLY ≤ vec_capacity out.old }
     ensures items { out.new.items ≡ out.old.items ++ reply_field reply }
     ensures len { vec_len out.new ≡ vec_len out.old + REPLY }
     ensures room { vec_capacity out.old ≤ vec_capacity out.new }
 {
-    let (code, total) = WireReply::new(reply).unwrap().code_and_total();
+    let (code, total) = reply.code_and_total();
     let mut cells = [code; REPLY];
     cells[1..].copy_from_slice(&total.to_be_bytes());
     put(out, &cells);
 }
 
 fn put_replies(out: &mut Vec<u8>, replies: &[Reply])
-    requires room { vec_len out.old + REPLY * length replies.now ≤ vec_capacity out.old }
-    requires valid { All IsReply replies.now }
+    requires { vec_len out.old + REPLY * length replies.now ≤ vec_capacity out.old }
     ensures { out.new.items ≡ out.old.items ++ flat_map reply_field replies.now }
 {
     for reply in replies {
