@@ -12,7 +12,7 @@ pub(crate) const LENGTH_BYTES: usize = 2;
 pub const MAX_FRAME: usize = LENGTH_BYTES + MAX_BODY;
 
 /// A message between a client, the sequencer and a replica.
-#[derive(Clone, Copy, Debug, PartialEq, Eq)]
+#[derive(Clone, Copy, Debug, Default, PartialEq, Eq)]
 pub enum Frame {
     /// A client asks for a call under a number of its own.
     Ask {
@@ -54,6 +54,7 @@ pub enum Frame {
         outcome: AskOutcome,
     },
     /// What was sent before is to be handled now. It has no fields.
+    #[default]
     Flush,
 }
 

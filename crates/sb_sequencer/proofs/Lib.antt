@@ -1,3 +1,7 @@
+pub mod Answering
+pub mod Asked
+pub mod Entries
 pub mod Firsts
 pub mod Keys
 pub mod Logs
+pub mod Padding

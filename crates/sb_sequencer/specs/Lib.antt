@@ -1,4 +1,9 @@
 pub mod Answer
+pub mod Entries
 pub mod Fault
+pub mod Keeping
 pub mod Log
+pub mod Notes
 pub mod Numbering
+pub mod Rooms
+pub mod Sequencer

@@ -1,9 +1,17 @@
-//! What the log is after many asks.
+//! What the log is after many asks, and the limits.
 ghost use Rattle.std.specs.Prelude.{◌≡◌, List, []};
 ghost use Rattle.sb_calls.specs.declared.ask.Key.{Key as AnyKey};
 ghost use Rattle.sb_calls.specs.declared.call.Call.{Call as AnyCall};
 ghost use Rattle.sb_sequencer.specs.Log.{log_after};
 ghost use Rattle.sb_sequencer.specs.Numbering.{first_asks};
+
+use crate::sequencer::{REPLICAS, RESEND};
+
+/// A sequencer has at most 8 replicas, and sends at most 16 entries again at a time.
+pub fn limits()
+    ensures replicas { REPLICAS ≡ 8 }
+    ensures resend { RESEND ≡ 16 }
+{}
 
 /// Asked one by one from an empty log, a list of asks leaves the first ask of each key, in order, as
 /// many as a log takes.

@@ -1,12 +1,16 @@
-//! The sequencer: numbers clients' requests into one log.
+//! The sequencer: numbers clients' requests into one log, and remembers what the replicas tell of it.
 #![tactic(auto)]
 
 mod answer;
+mod asking;
+mod kept;
 mod laws;
+mod note;
 mod sequencer;
 #[cfg(test)]
 mod tests;
 
 pub use answer::{AskFault, Numbered};
-pub use laws::numbering;
-pub use sequencer::Sequencer;
+pub use laws::{limits, numbering};
+pub use note::{AckNote, AnswerNote};
+pub use sequencer::{REPLICAS, RESEND, Sequencer};

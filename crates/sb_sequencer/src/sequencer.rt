@@ -1,108 +1,107 @@
-//! The log of numbered requests.
-ghost use Rattle.std.specs.Prelude.{◌≡◌, ◌≢◌, ◌<◌, ◌≤◌, ◌↔◌, [], Some, length, List, slice_get, Err, IsTrue, IfOk};
+//! The log of numbered requests, and what was heard of the replicas.
+ghost use Rattle.std.specs.Prelude.{◌≡◌, ◌≢◌, ◌-◌, ◌≤◌, ◌↔◌, length, replicate, slice_get, List, Err, IfSome, IsTrue, IfOk};
 ghost use Rattle.std.specs.Option.{option_copied};
 ghost use Rattle.sb_calls.specs.declared.ask.Key.{Key as AnyKey};
 ghost use Rattle.sb_calls.specs.declared.call.Call.{Call as AnyCall};
 ghost use Rattle.sb_sequencer.specs.Answer.{IsAnswered, LogAfter, Numbers};
+ghost use Rattle.sb_sequencer.specs.Entries.{entries_after, entry_of, resent};
 ghost use Rattle.sb_sequencer.specs.Log.{log_with};
-ghost use Rattle.sb_sequencer.specs.Numbering.{IsLog, call_at, place_of_key};
+ghost use Rattle.sb_sequencer.specs.Notes.{IsAnswerNote, after_ack, after_answer, answer_of, hears_ack};
+ghost use Rattle.sb_sequencer.specs.Numbering.{IsLog, call_at};
+ghost use Rattle.sb_sequencer.specs.Sequencer.{IsSequencer, after_ask, opened};
 
 use crate::answer::{AskFault, Numbered};
+use crate::asking::{answered, ask_with_room};
+use crate::kept::{keep, kept_at};
+use crate::note::{AckNote, AnswerNote};
+use arrayvec::ArrayVec;
 use indexmap::IndexMap;
-use indexmap::map::Entry;
-use sb_calls::{Call, Key, LOG_CALLS};
+use sb_calls::{Call, Key, LOG_CALLS, Reply, WireReply};
+use sb_frames::{AskOutcome, Frame};
 use std::alloc::{AllocError, Global};
 use std::marker::Model;
 
-/// Numbers clients' requests into one log: each key once, in the order of first asks.
+/// How many replicas a sequencer has at most.
+pub const REPLICAS: usize = 8;
+
+/// How many entries are sent again to a replica at most.
+pub const RESEND: usize = 16;
+
+/// Numbers clients' requests into one log: each key once, in the order of first asks. It remembers how
+/// much of the log each replica has, and what each call was answered.
 #[derive(Drop)]
 pub struct Sequencer {
     log: IndexMap<Key, Call>,
+    recorded: ArrayVec<u64, REPLICAS>,
+    // There is room for an answer to each call, and it is filled as far as an answer was kept.
+    kept: Vec<Option<Reply>>,
 }
 
 impl Model for Sequencer {
-    ghost use Rattle.std.specs.Prelude.{List};
-    ghost use Rattle.sb_calls.specs.declared.ask.Key.{Key as AnyKey};
-    ghost use Rattle.sb_calls.specs.declared.call.Call.{Call as AnyCall};
-    ghost use Rattle.sb_sequencer.specs.Numbering.{IsLog};
+    ghost use Rattle.std.specs.Prelude.{length, vec_capacity};
+    ghost use Rattle.sb_sequencer.specs.Sequencer.{SequencerOf, padded};
+    ghost use Rattle.sb_sequencer.specs.Rooms.{HasRooms};
 
-    ghost Value = { List (AnyKey × AnyCall) };
+    ghost Value = { SequencerOf };
 
-    ghost view = { λ s. s.log.entries };
+    ghost view = { λ s. record {
+      log = s.log.entries;
+      recorded = s.recorded.items;
+      answers = padded (length s.log.entries) s.kept.items;
+    } };
 
-    ghost invariant = { λ s. IsLog s.log.entries };
+    ghost invariant = { λ s. HasRooms s.log.entries s.recorded.items s.kept.items (vec_capacity s.kept) };
 }
 
-// Whether two calls are the same call. For the prover alone: here `==` gets its clause.
-fn same_call(a: &Call, b: &Call) -> bool
-    ensures { IsTrue result ↔ (a.now ≡ b.now) }
+// So many lengths of 0.
+fn zeros(count: usize) -> ArrayVec<u64, REPLICAS>
+    requires { count ≤ 8 }
+    ensures { result.items ≡ replicate count 0 }
 {
-    a == b
-}
-
-// What a key comes to that stands at this place of a log with this call.
-fn answered(place: usize, numbered: &Call, call: &Call) -> Result<Numbered, AskFault>
-    requires { place < LOG_CALLS }
-    ensures answer { (log : List (AnyKey × AnyCall)) (key : AnyKey) → place_of_key log key ≡ Some place
-        → slice_get log place ≡ Some (key, numbered.now) → IsAnswered log (key, call.now) result }
-    ensures log { (log : List (AnyKey × AnyCall)) (ask : AnyKey × AnyCall) → LogAfter log ask result log }
-{
-    let number = place as u64 + 1;
-    if same_call(numbered, call) {
-        Ok(Numbered::Repeat(number))
-    } else {
-        Err(AskFault::Mismatch(number))
+    let mut zeros = ArrayVec::new();
+    for _ in 0..count {
+        zeros.push(0);
     }
-}
-
-// Answers an ask at a log that takes one more call: by one search, and a new key goes last.
-fn ask_with_room(log: &mut IndexMap<Key, Call>, key: Key, call: &Call) -> Result<Numbered, AskFault>
-    requires { length log.old.entries < LOG_CALLS }
-    ensures answer { IsAnswered log.old.entries (key, call.now) result }
-    ensures log { LogAfter log.old.entries (key, call.now) result log.new.entries }
-{
-    match log.entry(key) {
-        Ok(Entry::Occupied(found)) => answered(found.index(), found.get(), call),
-        Ok(Entry::Vacant(room)) => {
-            let number = room.index() as u64 + 1;
-            room.insert(*call);
-            Ok(Numbered::New(number))
-        }
-        Err(_) => Err(AskFault::OutOfMemory),
-    }
+    zeros
 }
 
 impl Sequencer {
-    /// A sequencer with an empty log.
-    pub fn open(alloc: Global) -> Sequencer
-        ensures { result ≡ [] }
+    /// A sequencer for so many replicas with an empty log.
+    pub fn open(alloc: Global, nodes: usize) -> Sequencer
+        requires { nodes ≤ 8 }
+        ensures { result ≡ opened nodes }
     {
         Sequencer {
             log: IndexMap::new(alloc),
+            recorded: zeros(nodes),
+            kept: Vec::new(alloc),
         }
     }
 
-    /// A sequencer with an empty log that takes this many calls before it needs more memory. Fails where
-    /// memory is refused.
-    pub fn with_capacity(alloc: Global, calls: usize) -> Result<Sequencer, AllocError>
-        ensures { IfOk result (λ sequencer. sequencer ≡ []) }
+    /// A sequencer for so many replicas with an empty log that takes this many calls before it needs more
+    /// memory. Fails where memory is refused.
+    pub fn with_capacity(alloc: Global, nodes: usize, calls: usize) -> Result<Sequencer, AllocError>
+        requires { nodes ≤ 8 }
+        ensures { IfOk result (λ sequencer. sequencer ≡ opened nodes) }
     {
         Ok(Sequencer {
             log: IndexMap::with_capacity(alloc, calls)?,
+            recorded: zeros(nodes),
+            kept: Vec::with_capacity(alloc, calls)?,
         })
     }
 
     /// How many calls have a number.
     pub fn length(&self) -> u64
-        ensures value { result ≡ length self.now }
-        ensures valid { IsLog self.now }
+        ensures value { result ≡ length self.now.log }
+        ensures valid { IsLog self.now.log }
     {
         self.log.len() as u64
     }
 
     /// The call with this number, counted from 1, or `None` where there is none.
     pub fn call(&self, number: u64) -> Option<&Call>
-        ensures { option_copied result ≡ call_at self.now number }
+        ensures { option_copied result ≡ call_at self.now.log number }
     {
         let place = number.checked_sub(1)?;
         let (_, call) = self.log.get_index(place as usize)?;
@@ -111,16 +110,16 @@ impl Sequencer {
 
     // Whether the log takes no more calls.
     fn is_full(&self) -> bool
-        ensures { IsTrue result ↔ (LOG_CALLS ≤ length self.now) }
+        ensures { IsTrue result ↔ (LOG_CALLS ≤ length self.now.log) }
     {
         self.log.len() >= LOG_CALLS
     }
 
     // Answers an ask at a full log: the number that its key has, or that the log takes no more.
     fn ask_full(&self, key: Key, call: &Call) -> Result<Numbered, AskFault>
-        requires { LOG_CALLS ≤ length self.now }
-        ensures answer { IsAnswered self.now (key, call.now) result }
-        ensures log { LogAfter self.now (key, call.now) result self.now }
+        requires { LOG_CALLS ≤ length self.now.log }
+        ensures answer { IsAnswered self.now.log (key, call.now) result }
+        ensures log { LogAfter self.now.log (key, call.now) result self.now.log }
     {
         match self.log.get_full(&key) {
             Some((place, _, numbered)) => answered(place, numbered, call),
@@ -135,24 +134,109 @@ impl Sequencer {
     /// - [`AskFault::LogFull`] where the key is new and the log has [`LOG_CALLS`] calls,
     /// - [`AskFault::OutOfMemory`] where the key is new and memory is refused.
     ///
-    /// The log is as before after a repeat and after each fault.
+    /// Nothing changes with a repeat and with each fault.
     pub fn ask(&mut self, client: u32, request: u32, call: &Call) -> Result<Numbered, AskFault>
         // By the log as it was.
-        ensures answer { IsAnswered self.old (record { client = client; request = request }, call.now) result }
+        ensures answer { IsAnswered self.old.log (record { client = client; request = request }, call.now) result }
         // Only a new number changes the log.
-        ensures log { LogAfter self.old (record { client = client; request = request }, call.now) result self.new }
+        ensures log { LogAfter self.old.log (record { client = client; request = request }, call.now) result self.new.log }
+        // And with it there is a place for its answer. What the replicas have of the log stays.
+        ensures state { self.new ≡ after_ask self.old (record { client = client; request = request }, call.now) result }
         // Unless memory is refused, the log is the one that this ask makes of it.
         ensures step { result ≢ Err AskFault.OutOfMemory
-            → self.new ≡ log_with self.old (record { client = client; request = request }, call.now) }
+            → self.new.log ≡ log_with self.old.log (record { client = client; request = request }, call.now) }
         // Whatever was asked before, the log is the first asks of each key.
         ensures numbering { (asks : List (AnyKey × AnyCall))
-            → Numbers asks self.old (record { client = client; request = request }, call.now) result self.new }
-        ensures valid { IsLog self.new }
+            → Numbers asks self.old.log (record { client = client; request = request }, call.now) result self.new.log }
+        ensures valid { IsSequencer self.new }
     {
         let key = Key { client, request };
         if self.is_full() {
             return self.ask_full(key, call);
         }
-        ask_with_room(&mut self.log, key, call)
+        ask_with_room(&mut self.log, &mut self.kept, key, call)
+    }
+    /// The entry with this number, counted from 1, or `None` where there is none.
+    pub fn entry(&self, number: u64) -> Option<Frame>
+        ensures { result ≡ entry_of self.now.log number }
+    {
+        let call = self.call(number)?;
+        Some(Frame::Entry {
+            number,
+            call: *call,
+        })
+    }
+
+    /// The entries that a replica lacks, at most [`RESEND`], from the first one after what it has. None where
+    /// there is no such replica.
+    pub fn resend(&self, replica: u8) -> ArrayVec<Frame, RESEND>
+        ensures { result.items ≡ resent self.now replica }
+    {
+        match self.recorded_of(replica) {
+            Some(length) => self.entries_after(length),
+            None => ArrayVec::new(),
+        }
+    }
+
+    // How much of the log a replica has.
+    fn recorded_of(&self, replica: u8) -> Option<u64>
+        ensures value { result ≡ slice_get self.now.recorded replica }
+        ensures within { IfSome result (λ size. size ≤ length self.now.log) }
+    {
+        self.recorded.as_slice().get(replica as usize).copied()
+    }
+
+    // The entries after so many, at most `RESEND`.
+    fn entries_after(&self, size: u64) -> ArrayVec<Frame, RESEND>
+        requires { size ≤ length self.now.log }
+        ensures { result.items ≡ entries_after self.now.log size }
+    {
+        // The checker goes through what a frame is made of, and has to be told the types.
+        let _parts: Option<(Call, AskOutcome, WireReply)> = None;
+        let mut entries = ArrayVec::new();
+        let end = self.length().min(size + RESEND as u64);
+        for before in size..end {
+            entries.push(self.entry(before + 1).unwrap());
+        }
+        entries
+    }
+
+    /// Notes that a replica has the log up to a length. A length may also be below the one before.
+    pub fn on_ack(&mut self, replica: u8, length: u64) -> AckNote
+        ensures note { result ≡ hears_ack self.old replica length }
+        ensures state { self.new ≡ after_ack self.old replica length }
+    {
+        if length > self.length() {
+            return AckNote::Odd;
+        }
+        match self.recorded.get_mut(replica as usize) {
+            Some(recorded) => {
+                *recorded = length;
+                AckNote::Recorded
+            }
+            None => AckNote::Odd,
+        }
+    }
+
+    /// Notes what the call with this number is replied. The first reply is kept for good. It takes no memory.
+    pub fn on_answer(&mut self, number: u64, reply: Reply) -> AnswerNote
+        ensures note { IsAnswerNote self.old number reply result }
+        ensures state { self.new ≡ after_answer self.old number reply result }
+    {
+        let Some(place) = number.checked_sub(1) else {
+            return AnswerNote::Unknown;
+        };
+        if place >= self.log.len() as u64 {
+            return AnswerNote::Unknown;
+        }
+        keep(&mut self.kept, place as usize, reply)
+    }
+
+    /// The reply that is kept for a request, or `None` where none came yet or the request has no number.
+    pub fn answer_of(&self, client: u32, request: u32) -> Option<Reply>
+        ensures { result ≡ answer_of self.now (record { client = client; request = request }) }
+    {
+        let place = self.log.get_index_of(&Key { client, request })?;
+        kept_at(self.kept.as_slice(), place)
     }
 }

@@ -14,7 +14,7 @@ fn balance(name: &str) -> Result<Call, Fail> {
 
 #[test]
 fn a_request_keeps_its_number(rt: HostRuntime) -> Result<(), Fail> {
-    let mut log = Sequencer::open(rt.alloc());
+    let mut log = Sequencer::open(rt.alloc(), 1);
     let alice = balance("alice")?;
     assert_eq!(rt; log.ask(7, 3, &alice), Ok(Numbered::New(1)));
     assert_eq!(rt; log.ask(7, 3, &alice), Ok(Numbered::Repeat(1)));
@@ -26,7 +26,7 @@ fn a_request_keeps_its_number(rt: HostRuntime) -> Result<(), Fail> {
 
 #[test]
 fn numbers_requests_in_the_order_of_first_asks(rt: HostRuntime) -> Result<(), Fail> {
-    let mut log = Sequencer::open(rt.alloc());
+    let mut log = Sequencer::open(rt.alloc(), 1);
     let alice = balance("alice")?;
     let bob = balance("bob")?;
     for (client, request, call, answer) in [
@@ -51,7 +51,7 @@ fn numbers_requests_in_the_order_of_first_asks(rt: HostRuntime) -> Result<(), Fa
 
 #[test]
 fn shows_calls_by_number(rt: HostRuntime) -> Result<(), Fail> {
-    let mut log = Sequencer::open(rt.alloc());
+    let mut log = Sequencer::open(rt.alloc(), 1);
     assert_eq!(rt; log.length(), 0);
     assert_eq!(rt; log.call(1), None);
     let alice = balance("alice")?;
@@ -73,7 +73,7 @@ fn fill(rt: &impl Abort, log: &mut Sequencer, call: &Call) {
 
 #[test]
 fn a_full_log_takes_repeats_alone(rt: HostRuntime) -> Result<(), Fail> {
-    let mut log = Sequencer::open(rt.alloc());
+    let mut log = Sequencer::open(rt.alloc(), 1);
     let alice = balance("alice")?;
     fill(&rt, &mut log, &alice);
     assert_eq!(rt; log.ask(1, 1_000_000, &alice), Err(AskFault::LogFull));
@@ -91,7 +91,7 @@ fn a_full_log_takes_repeats_alone(rt: HostRuntime) -> Result<(), Fail> {
 
 #[test]
 fn room_for_more_calls_than_a_log_takes(rt: HostRuntime) -> Result<(), Fail> {
-    let mut log = Sequencer::with_capacity(rt.alloc(), 1_500_000)?;
+    let mut log = Sequencer::with_capacity(rt.alloc(), 1, 1_500_000)?;
     let alice = balance("alice")?;
     fill(&rt, &mut log, &alice);
     assert_eq!(rt; log.ask(1, 1_000_000, &alice), Err(AskFault::LogFull));
@@ -133,7 +133,7 @@ fn plain_answer(log: &[(Key, Call)], key: Key, call: Call) -> Result<Numbered, A
 
 #[test]
 fn answers_as_a_plain_search_does(rt: HostRuntime) -> Result<(), Fail> {
-    let mut log = Sequencer::open(rt.alloc());
+    let mut log = Sequencer::open(rt.alloc(), 1);
     let mut plain = Vec::new(rt.alloc());
     let calls = [balance("alice")?, balance("bob")?];
     for step in 0..500_u32 {
@@ -158,7 +158,7 @@ fn answers_as_a_plain_search_does(rt: HostRuntime) -> Result<(), Fail> {
 
 #[test]
 fn takes_more_calls_than_it_was_opened_for(rt: HostRuntime) -> Result<(), Fail> {
-    let mut log = Sequencer::with_capacity(rt.alloc(), 2)?;
+    let mut log = Sequencer::with_capacity(rt.alloc(), 1, 2)?;
     let alice = balance("alice")?;
     for number in 1..=40u32 {
         assert_eq!(rt;
@@ -167,6 +167,6 @@ fn takes_more_calls_than_it_was_opened_for(rt: HostRuntime) -> Result<(), Fail> 
         );
     }
     assert_eq!(rt; log.length(), 40);
-    assert!(rt; Sequencer::with_capacity(rt.alloc(), usize::MAX).is_err());
+    assert!(rt; Sequencer::with_capacity(rt.alloc(), 1, usize::MAX).is_err());
     Ok(())
 }

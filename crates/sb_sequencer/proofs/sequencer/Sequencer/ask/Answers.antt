@@ -2,29 +2,41 @@ use Rattle.std.proofs.Common.{ap, ◌∙◌}
 use Rattle.sb_calls.specs.declared.ask.Key.{Key}
 use Rattle.sb_calls.specs.declared.call.Call.{Call}
 use Rattle.sb_sequencer.specs.Log.{log_with}
-use Rattle.sb_sequencer.proofs.Logs.{IsLog-answered, Numbers-from_step, log_with-answered}
+use Rattle.sb_sequencer.specs.Sequencer.{after_ask}
+use Rattle.sb_sequencer.proofs.Asked.{asked_rooms, asked_state, rooms_sequencer}
+use Rattle.sb_sequencer.proofs.Logs.{Numbers-from_step, log_with-answered}
 use Rattle.sb_sequencer.proofs.sequencer.Sequencer.ask.Goals as goal
 
 -- at a full log
 pub returns-then-is_full-clause-step : goal.returns-then-is_full-clause-step
-returns-then-is_full-clause-step c = log_with-answered c.args.self.now c.args.self.now _ _ c.ask_full.ensures.answer c.ask_full.ensures.log
+returns-then-is_full-clause-step c = log_with-answered c.args.self.now.log c.args.self.now.log _ _ c.ask_full.ensures.answer c.ask_full.ensures.log
 
 pub returns-then-is_full-clause-numbering : goal.returns-then-is_full-clause-numbering
-returns-then-is_full-clause-numbering c asks = Numbers-from_step asks c.args.self.now c.args.self.now _ _ (returns-then-is_full-clause-step c)
+returns-then-is_full-clause-numbering c asks = Numbers-from_step asks c.args.self.now.log c.args.self.now.log _ _ (returns-then-is_full-clause-step c)
 
 -- below the limit
 pub invariant_of-self : goal.invariant_of-self
 invariant_of-self c =
-    IsLog-answered c.self.inside.log.entries c.ask_with_room.new.log.entries _ _ c.self.invariant c.ask_with_room.ensures.answer c.ask_with_room.ensures.log
+    asked_rooms c.self.inside.log.entries c.ask_with_room.new.log.entries c.self.inside.recorded.items c.self.inside.kept.items
+    c.ask_with_room.new.kept.items _ _ _ _ c.self.invariant c.ask_with_room.ensures.answer c.ask_with_room.ensures.log
+    c.ask_with_room.ensures.kept c.ask_with_room.ensures.room
+
+pub returns-clause-state : goal.returns-clause-state
+returns-clause-state c =
+    let ask : Key × Call = (record { client = c.args.client; request = c.args.request }, c.args.call.now) in
+    asked_state c.self.inside.log.entries c.ask_with_room.new.log.entries c.self.inside.recorded.items c.self.inside.kept.items
+    c.ask_with_room.new.kept.items ask c.ask_with_room.result c.self.invariant.kept c.ask_with_room.ensures.log c.ask_with_room.ensures.kept
+    ∙ ap (λ s. after_ask s ask c.ask_with_room.result) c.self.view_is
 
 pub returns-clause-step : goal.returns-clause-step
 returns-clause-step c other =
     let ask : Key × Call = (record { client = c.args.client; request = c.args.request }, c.args.call.now) in
     log_with-answered c.self.inside.log.entries c.ask_with_room.new.log.entries ask _ c.ask_with_room.ensures.answer c.ask_with_room.ensures.log other
-    ∙ ap (λ log. log_with log ask) c.self.view_is
+    ∙ ap (λ s. log_with s.log ask) c.self.view_is
 
 pub returns-clause-numbering : goal.returns-clause-numbering
-returns-clause-numbering c asks = Numbers-from_step asks c.args.self.now c.ask_with_room.new.log.entries _ _ (returns-clause-step c)
+returns-clause-numbering c asks = Numbers-from_step asks c.args.self.now.log c.ask_with_room.new.log.entries _ _ (returns-clause-step c)
 
 pub returns-clause-valid : goal.returns-clause-valid
-returns-clause-valid c = invariant_of-self c
+returns-clause-valid c =
+    rooms_sequencer c.ask_with_room.new.log.entries c.self.inside.recorded.items c.ask_with_room.new.kept.items _ (invariant_of-self c)

@@ -3,7 +3,7 @@ use Rattle.std.specs.Map.{values_of, lookup}
 use Rattle.indexmap.specs.Entry.{entry_map, entry_index, entry_value, map_with_value}
 use Rattle.sb_sequencer.specs.Numbering.{same_key}
 use Rattle.sb_sequencer.proofs.Keys.{place_from_index, absent_from_map, entry_from_value, pushed_in_map}
-use Rattle.sb_sequencer.proofs.sequencer.ask_with_room.Goals as goal
+use Rattle.sb_sequencer.proofs.asking.ask_with_room.Goals as goal
 
 -- a key that the log has: the entry's value is the call that was numbered
 pub returns-in-Ok-Occupied-clause-answer : goal.returns-in-Ok-Occupied-clause-answer
@@ -19,26 +19,33 @@ returns-in-Ok-Occupied-clause-answer c =
     c.answered.ensures.answer log c.args.key place (entry_from_value log c.args.key c.get.result.now c.index.result place numbered)
 
 -- a new key: the place that the map has for it is the log's end
-pub overflow_add-number : goal.overflow_add-number
+pub overflow_add-calls : goal.overflow_add-calls
 unfolding entry_index
-overflow_add-number c =
+overflow_add-calls c =
     let same : c.in-Ok-Vacant.room.map.now.entries ≡ c.args.log.now.entries =
     ap (λ e. (entry_map e).entries) (sym c.in-Ok-Vacant.field-0-is) ∙ c.in-Ok-Vacant.ensures.unchanged in
-    omega (arith, c.index-in-Ok-Vacant.ensures, ap length same, c.requires)
+    omega (arith, c.index-calls.ensures, ap length same, c.requires.calls)
 
-pub returns-in-Ok-Vacant-clause-answer : goal.returns-in-Ok-Vacant-clause-answer
+pub returns-else-is_err-clause-answer : goal.returns-else-is_err-clause-answer
 unfolding entry_index entry_value
-returns-in-Ok-Vacant-clause-answer c =
+returns-else-is_err-clause-answer c =
     let log = c.args.log.now.entries in
     let is = c.in-Ok-Vacant.field-0-is in
     let same : c.in-Ok-Vacant.room.map.now.entries ≡ log = ap (λ e. (entry_map e).entries) (sym is) ∙ c.in-Ok-Vacant.ensures.unchanged in
     let absent : lookup (same_key c.args.key) log ≡ None = sym c.in-Ok-Vacant.ensures.value ∙ ap entry_value is in
-    let last : c.index-in-Ok-Vacant.result ≡ length log = c.index-in-Ok-Vacant.ensures ∙ ap length same in
-    (absent_from_map log c.args.key absent, c.requires, ap (λ n. n + 1) last)
+    let last : c.index-calls.result ≡ length log = c.index-calls.ensures ∙ ap length same in
+    (absent_from_map log c.args.key absent, c.requires.calls, ap (λ n. n + 1) last)
 
-pub returns-in-Ok-Vacant-clause-log : goal.returns-in-Ok-Vacant-clause-log
+-- no memory for its answer
+pub returns-then-is_err-clause-answer : goal.returns-then-is_err-clause-answer
 unfolding entry_value
-returns-in-Ok-Vacant-clause-log c =
+returns-then-is_err-clause-answer c =
+    let absent : lookup (same_key c.args.key) c.args.log.now.entries ≡ None = sym c.in-Ok-Vacant.ensures.value ∙ ap entry_value c.in-Ok-Vacant.field-0-is in
+    (absent_from_map c.args.log.now.entries c.args.key absent, c.requires.calls)
+
+pub returns-else-is_err-clause-log : goal.returns-else-is_err-clause-log
+unfolding entry_value
+returns-else-is_err-clause-log c =
     let log = c.args.log.now.entries in
     let is = c.in-Ok-Vacant.field-0-is in
     let absent : lookup (same_key c.args.key) log ≡ None = sym c.in-Ok-Vacant.ensures.value ∙ ap entry_value is in
@@ -49,4 +56,4 @@ returns-in-Ok-Vacant-clause-log c =
 
 -- no memory for a new key
 pub returns-in-Err-clause-answer : goal.returns-in-Err-clause-answer
-returns-in-Err-clause-answer c = (absent_from_map c.args.log.now.entries c.args.key c.in-Err.ensures.absent, c.requires)
+returns-in-Err-clause-answer c = (absent_from_map c.args.log.now.entries c.args.key c.in-Err.ensures.absent, c.requires.calls)

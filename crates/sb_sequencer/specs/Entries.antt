@@ -1,0 +1,35 @@
+-- The log's entries, and those that are sent again to a replica.
+use Rattle.std.specs.Prelude.{ℕ, suc, Option, Some, None, List, [], ◌∷◌, take, drop, slice_get}
+use Rattle.std.specs.Option.{option_map}
+use Rattle.sb_calls.specs.declared.ask.Key.{Key}
+use Rattle.sb_calls.specs.declared.call.Call.{Call}
+use Rattle.sb_frames.specs.declared.frame.Frame.{Frame}
+use Rattle.sb_frames.specs.declared.frame.Frame.TheVariants.{Entry}
+use Rattle.sb_sequencer.specs.Numbering.{call_at}
+use Rattle.sb_sequencer.specs.Sequencer.{SequencerOf}
+
+-- the entry with a number
+abbrev pub entry_of : List (Key × Call) → ℕ → Option Frame
+entry_of log n = option_map (Entry n) (call_at log n)
+
+-- an entry for each ask, the first with this number
+abbrev pub entries_from : ℕ → List (Key × Call) → List Frame
+entries_from n [] = []
+entries_from n (ask ∷ asks) = Entry n ask.1 ∷ entries_from (suc n) asks
+
+-- all entries of a log in order
+abbrev pub entries : List (Key × Call) → List Frame
+entries log = entries_from 1 log
+
+-- the entries after so many, at most 16
+unfoldable pub entries_after : List (Key × Call) → ℕ → List Frame
+entries_after log size = take 16 (drop size (entries log))
+
+-- the entries after the length that a replica recorded, if it is one
+abbrev pub after_recorded : List (Key × Call) → Option ℕ → List Frame
+after_recorded log (Some size) = entries_after log size
+after_recorded log None = []
+
+-- what a replica is sent again
+abbrev pub resent : SequencerOf → ℕ → List Frame
+resent s replica = after_recorded s.log (slice_get s.recorded replica)

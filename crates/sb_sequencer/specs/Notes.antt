@@ -1,0 +1,51 @@
+-- What a sequencer hears of the replicas: how it is noted, and what it changes.
+use Rattle.std.specs.Prelude.{◌≡◌, ◌≢◌, ℕ, zero, suc, ◌-◌, nat_lt, nat_le, ◌&&◌, if◌then◌else◌, Option, Some, None, length, slice_get, slice_set}
+use Rattle.std.specs.Option.{option_and_then, option_flatten}
+use Rattle.sb_calls.specs.declared.ask.Key.{Key}
+use Rattle.sb_calls.specs.declared.reply.Reply.{Reply}
+use Rattle.sb_sequencer.specs.Numbering.{place_of_key}
+use Rattle.sb_sequencer.specs.Sequencer.{SequencerOf}
+use Rattle.sb_sequencer.specs.declared.note.AckNote.{AckNote}
+use Rattle.sb_sequencer.specs.declared.note.AckNote.TheVariants as acks
+use Rattle.sb_sequencer.specs.declared.note.AnswerNote.{AnswerNote}
+use Rattle.sb_sequencer.specs.declared.note.AnswerNote.TheVariants as answers
+
+-- ---- how much of the log a replica has
+
+-- a length of a known replica, and not beyond the log
+abbrev pub hears_ack : SequencerOf → ℕ → ℕ → AckNote
+hears_ack s replica size =
+    if nat_lt replica (length s.recorded) && nat_le size (length s.log) then acks.Recorded else acks.Odd
+
+-- what is recorded takes the place of what was
+abbrev pub recording : SequencerOf → ℕ → ℕ → AckNote → SequencerOf
+recording s replica size acks.Recorded = record s { recorded = slice_set s.recorded replica size }
+recording s replica size acks.Odd = s
+
+abbrev pub after_ack : SequencerOf → ℕ → ℕ → SequencerOf
+after_ack s replica size = recording s replica size (hears_ack s replica size)
+
+-- ---- what a call was answered
+
+-- what is kept for a number, counted from 1, where the log has it
+abbrev pub kept_at : SequencerOf → ℕ → Option (Option Reply)
+kept_at s zero = None
+kept_at s (suc place) = slice_get s.answers place
+
+-- the first answer for a number is kept, and each further one is compared with it
+abbrev pub IsAnswerNote : SequencerOf → ℕ → Reply → AnswerNote → Type 0
+IsAnswerNote s n reply answers.Kept = kept_at s n ≡ Some None
+IsAnswerNote s n reply answers.Repeat = kept_at s n ≡ Some (Some reply)
+IsAnswerNote s n reply answers.Odd = (first : Reply) × (kept_at s n ≡ Some (Some first)) × (first ≢ reply)
+IsAnswerNote s n reply answers.Unknown = kept_at s n ≡ None
+
+-- only an answer that is kept changes anything
+abbrev pub after_answer : SequencerOf → ℕ → Reply → AnswerNote → SequencerOf
+after_answer s n reply answers.Kept = record s { answers = slice_set s.answers (n - 1) (Some reply) }
+after_answer s n reply answers.Repeat = s
+after_answer s n reply answers.Odd = s
+after_answer s n reply answers.Unknown = s
+
+-- the answer for the number of a key, where it has one
+abbrev pub answer_of : SequencerOf → Key → Option Reply
+answer_of s key = option_and_then (λ place. option_flatten (slice_get s.answers place)) (place_of_key s.log key)

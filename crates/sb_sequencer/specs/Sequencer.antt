@@ -1,0 +1,36 @@
+-- A sequencer: its log, and what it heard of the replicas.
+use Rattle.std.specs.Prelude.{◌≡◌, ℕ, ◌-◌, ◌≤◌, Option, None, List, [], ◌∷◌, ◌++◌, length, replicate, Result, Ok, Err}
+use Rattle.std.specs.List.{All}
+use Rattle.sb_calls.specs.declared.ask.Key.{Key}
+use Rattle.sb_calls.specs.declared.call.Call.{Call}
+use Rattle.sb_calls.specs.declared.reply.Reply.{Reply}
+use Rattle.sb_sequencer.specs.Numbering.{IsLog}
+use Rattle.sb_sequencer.specs.declared.answer.AskFault.{AskFault}
+use Rattle.sb_sequencer.specs.declared.answer.Numbered.{Numbered}
+use Rattle.sb_sequencer.specs.declared.answer.Numbered.TheVariants.{New, Repeat}
+
+-- the log, the length last heard of each replica, and the answer kept for each number, if any
+pub record SequencerOf : Type 0 where
+  pub log : List (Key × Call)
+  pub recorded : List ℕ
+  pub answers : List (Option Reply)
+
+-- a sequencer for so many replicas with an empty log
+abbrev pub opened : ℕ → SequencerOf
+opened nodes = record { log = []; recorded = replicate nodes 0; answers = [] }
+
+-- one place for an answer for each call; no replica was heard of beyond the log
+pub record IsSequencer (s : SequencerOf) : Type 0 where
+  pub log : IsLog s.log
+  pub answers : length s.answers ≡ length s.log
+  pub recorded : All (λ size. size ≤ length s.log) s.recorded
+
+-- only a new number changes it: the ask goes last, and nothing is kept for it yet
+abbrev pub after_ask : SequencerOf → Key × Call → Result Numbered AskFault → SequencerOf
+after_ask s ask (Ok (New n)) = record s { log = s.log ++ ask ∷ []; answers = s.answers ++ None ∷ [] }
+after_ask s ask (Ok (Repeat n)) = s
+after_ask s ask (Err fault) = s
+
+-- the answers by place, and none yet at the places behind them
+abbrev pub padded : ℕ → List (Option Reply) → List (Option Reply)
+padded places kept = kept ++ replicate (places - length kept) None
