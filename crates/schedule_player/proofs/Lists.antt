@@ -5,7 +5,7 @@ use Rattle.std.specs.Option.{is_some}
 use Rattle.std.proofs.lemmas.Bool.{true≢false}
 use Rattle.std.proofs.lemmas.Option.{slice_get_within, slice_get_cases}
 use Rattle.cown_board.proofs.PlacesLaws.{slice_get-left, slice_get-right}
-use Rattle.schedule_player.specs.Numbered.{numbered, with_numbered, Every}
+use Rattle.schedule_player.specs.Numbered.{numbered, with_numbered, copies, Every}
 
 pub some_is : {A : Type 0} {x y : A} → ◌≡◌ {A = Option A} (Some x) (Some y) → x ≡ y
 some_is h = cc
@@ -57,3 +57,11 @@ none_here xs k (Some x) lt is empty = absurd (true≢false (sym empty))
 pub no_hand : {A : Type 0} (x : Option A) → ((y : A) → x ≡ Some y → ⊥) → x ≡ None
 no_hand None not_some = refl
 no_hand (Some y) not_some = absurd (not_some y refl)
+
+-- one more of the same
+pub copies_push : {A : Type 0} (n : ℕ) (x : A) → copies (n + 1) x ≡ copies n x ++ x ∷ []
+copies_push {A} n x = let e : n + 1 ≡ suc n = omega arith in ap (λ m. copies m x) e ∙ at_end n
+  where
+    at_end : (n : ℕ) → copies (suc n) x ≡ copies n x ++ x ∷ []
+    at_end zero = refl
+    at_end (suc n) = ap (λ t. x ∷ t) (at_end n)

@@ -6,6 +6,8 @@ mod fault;
 mod frames;
 mod node;
 mod note;
+#[cfg(test)]
+mod tests;
 
 pub use event::Event;
 pub use fault::StepFault;

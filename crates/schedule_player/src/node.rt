@@ -41,6 +41,7 @@ fn heard_note(heard: Heard) -> Note
 }
 
 // The hands of so many workers, all empty.
+#[tactic(auto, using(crate::proofs::Lists::copies_push))]
 fn empty_hands(alloc: Global, workers: usize) -> Result<Vec<Option<Job<Op>>>, AllocError>
     ensures { IfOk result (λ hands. hands.items ≡ copies workers None) }
 {

@@ -1,0 +1,6 @@
+use Rattle.std.proofs.Common.{◌≡◌, None}
+use Rattle.schedule_player.specs.Numbered.{copies}
+use Rattle.schedule_player.proofs.node.empty_hands.Given as goal
+
+abbrev pub invariant-loop : goal.invariant-loop
+invariant-loop l = l.hands.items ≡ copies l.counter None
