@@ -1,3 +1,6 @@
+mod hearing;
+mod resending;
+
 use super::*;
 use sb_calls::{Call, Key};
 use sb_rows::Name;
@@ -68,6 +71,13 @@ fn fill(rt: &impl Abort, log: &mut Sequencer, call: &Call) {
     for request in 0..1_000_000 {
         let number = u64::from(request) + 1;
         assert_eq!(rt; log.ask(1, request, call), Ok(Numbered::New(number)));
+    }
+}
+
+// Asks for this call until so many have a number; the requests of client 1 are counted from 0.
+fn ask_many(rt: &impl Abort, log: &mut Sequencer, count: u32, call: &Call) {
+    for request in 0..count {
+        assert!(rt; log.ask(1, request, call).is_ok());
     }
 }
 

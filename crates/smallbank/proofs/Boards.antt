@@ -1,16 +1,16 @@
 -- A log of calls over a board.
-use Rattle.std.proofs.Common.{◌≡◌, ◌≢◌, inl, inr, ℕ, zero, suc, ◌+◌, ◌*◌, ◌<◌, ◌≤◌, ℤ, Bool, true, false, Option, Some, None, List, [], ◌∷◌, ◌++◌, length, ◌-◌, map, take, drop, refl, sym, ap, subst, ◌∙◌, arith}
-use Rattle.std.specs.Prelude.{slice_get, option_and_then, ◌==◌, nat_lt, nat_le, if◌then◌else◌, IsSome, IfSome}
+use Rattle.std.proofs.Common.{◌≡◌, ◌≢◌, inl, inr, ℕ, zero, suc, ◌+◌, ◌<◌, ◌≤◌, Bool, true, false, Option, Some, None, List, [], ◌∷◌, ◌++◌, length, ◌-◌, map, take, refl, sym, ap, subst, ◌∙◌, arith}
+use Rattle.std.specs.Prelude.{slice_get, option_and_then, ◌==◌, nat_le, if◌then◌else◌, IsSome, IfSome}
 use Rattle.std.proofs.lemmas.Bool.{cases_lt, true≢false, lt-leb, ne_eqb}
 use Rattle.std.proofs.lemmas.List.{length-map, take_all}
 use Rattle.sb_rows.specs.Balances.{Balances, IsBalances}
 use Rattle.sb_rows.specs.Rows.{Rows, SameCustomers, rows_of}
 use Rattle.sb_calls.proofs.AppliedOps as balances
 use Rattle.sb_calls.proofs.Holding.{held_of-injective}
-use Rattle.sb_calls.specs.Behaviour.{declared_cowns, cowns_of_two, effect_of}
+use Rattle.sb_calls.specs.Behaviour.{declared_cowns, effect_of}
 use Rattle.sb_calls.proofs.Log.{slice_get-replies_to}
 use Rattle.sb_calls.proofs.OneByOneRuns.{log_by_cowns}
-use Rattle.sb_calls.specs.Cowns.{AreBelow, by_cown, held_of}
+use Rattle.sb_calls.specs.Cowns.{AreBelow, held_of}
 use Rattle.sb_calls.specs.Log.{replies_to, rows_after}
 use Rattle.sb_calls.specs.OneByOne.{reply_by_log, held_after}
 use Rattle.sb_calls.specs.Op.{IsOpWithin, resolved}
@@ -18,7 +18,6 @@ use Rattle.sb_calls.specs.Procedures.{procedure}
 use Rattle.sb_calls.specs.declared.ask.Key.{Key}
 use Rattle.sb_calls.specs.declared.call.Call.{Call}
 use Rattle.sb_calls.specs.declared.op.Op.{Op}
-use Rattle.sb_calls.specs.declared.op.Op.TheVariants.{Balance, DepositChecking, TransactSavings, Amalgamate, WriteCheck, NoCustomer, SameCustomer}
 use Rattle.sb_calls.specs.declared.reply.Reply.{Reply}
 use Rattle.cown_board.proofs.Counts.{all_finished}
 use Rattle.cown_board.specs.Board.{BoardOf, open_of, reply_in, IsAfterAll}

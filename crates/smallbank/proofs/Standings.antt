@@ -27,7 +27,6 @@ use Rattle.sb_sequencer.specs.declared.answer.AskFault.TheVariants as faults
 use Rattle.sb_sequencer.specs.declared.answer.Numbered.TheVariants as numbers
 use Rattle.sb_calls.specs.declared.call.TheConstants.{LOG_CALLS}
 use Rattle.smallbank.specs.Standing.{StandsAmong, same_call, numbered_standing, standing_at, standing_of}
-use Rattle.smallbank.specs.declared.asking.Standing.{Standing}
 use Rattle.smallbank.specs.declared.asking.Standing.TheVariants.{Number, Mismatch, LogFull}
 
 -- ---- calls

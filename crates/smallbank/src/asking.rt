@@ -44,11 +44,11 @@ pub struct Asking {
 pub fn ask_lines(alloc: Global, text: &[u8], first_line: usize) -> Result<Asking, RunFault>
     requires { first_line + length text.now < 2 ^ 64 }
     ensures { MatchResult result
-        (λ asking. IsAsking (asks_from first_line [] (lines text.now)) asking.sequencer asking.standings.items)
+        (λ asking. IsAsking (asks_from first_line [] (lines text.now)) asking.sequencer.log asking.standings.items)
         (λ fault. BlamesText fault (in_call (asks_from first_line [] (lines text.now)))) }
 {
     let expected = text.len() / USUAL_LINE;
-    let mut sequencer = Sequencer::with_capacity(alloc, expected.min(LOG_CALLS))?;
+    let mut sequencer = Sequencer::with_capacity(alloc, 1, expected.min(LOG_CALLS))?;
     let mut standings = Vec::with_capacity(alloc, expected)?;
     let mut running = 1u64;
     let mut left = text;
@@ -77,8 +77,8 @@ pub fn ask_lines(alloc: Global, text: &[u8], first_line: usize) -> Result<Asking
 // Asks for one line, where the next line without a key has this running number.
 fn ask(sequencer: &mut Sequencer, running: u64, asked: &Asked) -> Result<Standing, RunFault>
     requires { IsKey asked.now.key }
-    ensures { (asks : List AnyAsked) → IsAfter asks running sequencer.old
-        → AsksLine asks running asked.now sequencer.new result }
+    ensures { (asks : List AnyAsked) → IsAfter asks running sequencer.old.log
+        → AsksLine asks running asked.now sequencer.new.log result }
 {
     match key_of(running, asked.key) {
         Some(key) => {

@@ -18,7 +18,7 @@ pub fn resolve_all(
     log: &Sequencer,
     directory: &Directory,
 ) -> Result<Vec<Op>, AllocError>
-    ensures value { IfOk result (λ ops. ops.items ≡ map (resolved directory.now) (calls_of log.now)) }
+    ensures value { IfOk result (λ ops. ops.items ≡ map (resolved directory.now) (calls_of log.now.log)) }
     ensures few { IfOk result (λ ops. length ops.items ≤ LOG_CALLS) }
     ensures cowns { IfOk result (λ ops. DeclareCownsOf directory.now ops.items) }
 {

@@ -13,7 +13,7 @@ loop-line-init c = (
   [],
   record {
     all = refl;
-    after = record { keys = tt; running_is = refl; log_is = c.in_ok-sequencer.ensures ∙ sym log_of-nil };
+    after = record { keys = tt; running_is = refl; log_is = ap (λ s. s.log) c.in_ok-sequencer.ensures ∙ sym log_of-nil };
     standings = c.in_ok-standings.ensures.items;
     room = omega arith;
     count = ap length c.in_ok-standings.ensures.items;
@@ -47,10 +47,10 @@ loop-line-preserved c =
       asks ++ asked ∷ [],
       record {
         all = sym more ∙ (ap (asks_from c.args.first_line asks) (sym c.in-Some.ensures.line) ∙ so_far.all);
-        after = after_push asks asked c.loop-line.running c.if-is_none.running c.loop-line.sequencer c.ask.new.sequencer so_far.after
+        after = after_push asks asked c.loop-line.running c.if-is_none.running c.loop-line.sequencer.log c.ask.new.sequencer.log so_far.after
             c.in-Ok.ensures.spelled.0.0 next one.0;
         standings = c.in_ok-push.ensures.items
-            ∙ standings_push asks asked c.loop-line.running c.loop-line.sequencer c.ask.new.sequencer c.loop-line.standings.items c.in_ok-ask.field-0
+            ∙ standings_push asks asked c.loop-line.running c.loop-line.sequencer.log c.ask.new.sequencer.log c.loop-line.standings.items c.in_ok-ask.field-0
             so_far.after one.0 one.1 so_far.standings;
         room = omega (arith, longer, so_far.room, c.in-Some.ensures.shorter);
         count = omega (arith, longer, told, so_far.count);
@@ -64,5 +64,5 @@ returns c =
     let so_far = c.loop-line.invariant.1 in
     let all : asks_from c.args.first_line [] (lines c.args.text.now) ≡ Ok asks =
     sym so_far.all ∙ (ap (asks_from c.args.first_line asks) c.in_default.ensures.line ∙ asks_from-end c.args.first_line asks) in
-    subst (λ read. IsAsking read c.loop-line.sequencer c.loop-line.standings.items) (sym all)
+    subst (λ read. IsAsking read c.loop-line.sequencer.log c.loop-line.standings.items) (sym all)
     (record { log_is = so_far.after.log_is; standings_are = so_far.standings })

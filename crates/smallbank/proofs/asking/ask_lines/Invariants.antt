@@ -11,8 +11,8 @@ use Rattle.smallbank.proofs.asking.ask_lines.Given as goal
 abbrev pub invariant-loop-line : goal.invariant-loop-line
 invariant-loop-line l = (asks : List Asked) × record {
   all : asks_from l.first_line asks (lines l.left) ≡ asks_from l.first_line [] (lines l.text);
-  after : IsAfter asks l.running l.sequencer;
-  standings : l.standings.items ≡ map (standing_of l.sequencer) (keyed asks);
+  after : IsAfter asks l.running l.sequencer.log;
+  standings : l.standings.items ≡ map (standing_of l.sequencer.log) (keyed asks);
   room : length asks + length l.left ≤ length l.text;
   count : length l.standings.items ≡ length asks;
   few : l.running ≤ length asks + 1;

@@ -17,12 +17,12 @@ loop-place-preserved c =
     let call = c.unwrap-call.result.now in
     let op = c.resolve.result in
     let kept = c.loop-place.invariant in
-    let at : call_at c.args.log.now (c.loop-place.place + 1) ≡ Some call = sym c.call.ensures ∙ ap option_copied c.unwrap-call.ensures in
-    let so_far : List Op = map (resolved directory) (calls_of (take c.loop-place.place c.args.log.now)) in
+    let at : call_at c.args.log.now.log (c.loop-place.place + 1) ≡ Some call = sym c.call.ensures ∙ ap option_copied c.unwrap-call.ensures in
+    let so_far : List Op = map (resolved directory) (calls_of (take c.loop-place.place c.args.log.now.log)) in
     let pushed = c.in_ok-push.ensures.items in
     record {
       value = pushed ∙ ap (λ (ops : List Op). ops ++ op ∷ []) kept.value ∙ ap (λ (o : Op). so_far ++ o ∷ []) c.resolve.ensures.value
-          ∙ sym (one_more_call (resolved directory) c.args.log.now c.loop-place.place call at);
+          ∙ sym (one_more_call (resolved directory) c.args.log.now.log c.loop-place.place call at);
       count = omega (arith, kept.count, c.in_ok-push.ensures.len);
       cowns = λ b same. subst (AreBelowCowns (length (held_of b))) (sym pushed)
           (All-push (λ (o : Op). AreBelow (length (held_of b)) (declared_cowns o)) c.loop-place.ops.items op (kept.cowns b same)

@@ -7,7 +7,7 @@ use Rattle.smallbank.proofs.resolving.resolve_all.Given as goal
 -- the calls so far are looked up
 abbrev pub invariant-loop-place : goal.invariant-loop-place
 invariant-loop-place l = record {
-  value : l.ops.items ≡ map (resolved l.directory) (calls_of (take l.place l.log));
+  value : l.ops.items ≡ map (resolved l.directory) (calls_of (take l.place l.log.log));
   count : length l.ops.items ≡ l.place;
   cowns : DeclareCownsOf l.directory l.ops.items;
 }

@@ -13,14 +13,13 @@ use Rattle.smallbank.specs.Execution.{IsOneByOne}
 use Rattle.smallbank.specs.Input.{asks_from}
 use Rattle.smallbank.specs.Output.{calls_of, row_lines}
 use Rattle.smallbank.specs.Standing.{StandsAmong, standing_line}
-use Rattle.smallbank.proofs.Standings.{all_among}
 use Rattle.smallbank.proofs.Whole.{asked_stand, output_is}
 use Rattle.smallbank.proofs.run.output_text.Goals as goal
 
 pub push_answers-requires : goal.push_answers-requires
 push_answers-requires c =
     let input = c.args.input.items in
-    let log = c.in_ok-asking.asking.sequencer in
+    let log = c.in_ok-asking.asking.sequencer.log in
     let ops : List Op = c.deref-3.result.now in
     let many : length c.in_ok-board.board.log ≡ length log =
     ap length c.in_ok-board.ensures.finished.log ∙ ap length (c.deref-3.ensures.value ∙ c.in_ok-ops.ensures.value)
@@ -38,7 +37,7 @@ pub returns : goal.returns
 returns c =
     let input = c.args.input.items in
     let opening : OpeningText = record { names = c.in-Ok.opening.directory; balances = c.in-Ok.opening.columns; consumed = c.in-Ok.opening.consumed } in
-    let log = c.in_ok-asking.asking.sequencer in
+    let log = c.in_ok-asking.asking.sequencer.log in
     let standings = c.in_ok-asking.asking.standings.items in
     let rest : take (length input - opening.consumed) (drop opening.consumed input) ≡ drop opening.consumed input =
     take_all (length input - opening.consumed) (drop opening.consumed input) (omega (arith, length-drop opening.consumed input)) in
@@ -59,5 +58,5 @@ returns c =
 
 pub list_rows-requires : goal.list_rows-requires
 list_rows-requires c =
-    (c.in_ok-board.ensures.one_by_one c.in-Ok.opening.directory (calls_of c.in_ok-asking.asking.sequencer) c.in-Ok.opening.same_customers
+    (c.in_ok-board.ensures.one_by_one c.in-Ok.opening.directory (calls_of c.in_ok-asking.asking.sequencer.log) c.in-Ok.opening.same_customers
     (c.deref-3.ensures.value ∙ c.in_ok-ops.ensures.value)).customers
