@@ -3,6 +3,7 @@ pub mod LogParts
 pub mod Finishing
 pub mod Lists
 pub mod NodeMoves
+pub mod Opening
 pub mod Runnable
 pub mod SeenReplies
 pub mod SentFrames
