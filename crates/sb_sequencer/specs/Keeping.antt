@@ -15,5 +15,6 @@ IsCompared first further Unknown = ⊥
 abbrev pub IsKept : List (Option Reply) → ℕ → Reply → AnswerNote → List (Option Reply) → Type 0
 IsKept old place reply Kept new = (slice_get old place ≡ Some None) × (new ≡ slice_set old place (Some reply))
 IsKept old place reply Repeat new = (slice_get old place ≡ Some (Some reply)) × (new ≡ old)
-IsKept old place reply Odd new = ((first : Reply) × (slice_get old place ≡ Some (Some first)) × (first ≢ reply)) × (new ≡ old)
+IsKept old place reply Odd new = ((first : Reply) × (slice_get old place ≡ Some (Some first)) × (first ≢ reply)) ×
+    (new ≡ old)
 IsKept old place reply Unknown new = ⊥

@@ -7,7 +7,8 @@ use Rattle.sb_calls.specs.declared.reply.Reply.{Reply}
 use Rattle.sb_sequencer.specs.Numbering.{IsLog}
 
 -- no replica is beyond the log; answers are kept for its calls alone, and there is room for one to each
-pub record HasRooms (entries : List (Key × Call)) (sizes : List ℕ) (answers : List (Option Reply)) (places : ℕ) : Type 0 where
+pub record HasRooms (entries : List (Key × Call)) (sizes : List ℕ) (answers : List (Option Reply))
+    (places : ℕ) : Type 0 where
   pub log : IsLog entries
   pub recorded : All (λ size. size ≤ length entries) sizes
   pub kept : length answers ≤ length entries

@@ -139,7 +139,8 @@ impl Sequencer {
         // By the log as it was.
         ensures answer { IsAnswered self.old.log (record { client = client; request = request }, call.now) result }
         // Only a new number changes the log.
-        ensures log { LogAfter self.old.log (record { client = client; request = request }, call.now) result self.new.log }
+        ensures log { LogAfter self.old.log (record { client = client; request = request }, call.now)
+            result self.new.log }
         // And with it there is a place for its answer. What the replicas have of the log stays.
         ensures state { self.new ≡ after_ask self.old (record { client = client; request = request }, call.now) result }
         // Unless memory is refused, the log is the one that this ask makes of it.

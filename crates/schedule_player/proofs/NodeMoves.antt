@@ -59,7 +59,8 @@ node_stays bank r old new moved n is same e = record {
 
 -- ---- taking
 
-pub hand_seen : (bank : BankOf) (node : Node) (worker : ℕ) → numbered (seen_node node).hands worker ≡ option_map (option_map number_in) (numbered node.hands.items worker)
+pub hand_seen : (bank : BankOf) (node : Node) (worker : ℕ) → numbered (seen_node node).hands worker ≡ option_map (option_map number_in)
+    (numbered node.hands.items worker)
 hand_seen bank node zero = refl
 hand_seen bank node (suc k) = slice_get-map (option_map number_in) node.hands.items k
 
@@ -91,7 +92,8 @@ takes_nothing bank r old new worker place index is w empty within hands few boar
     let none : slice_get (runnable bank (stages_of old.replica.board)) index ≡ None =
         ap (λ ks. slice_get ks index) (runnable_alike bank old.replica.board is.customers is.board)
         ∙ slice_get-map (λ k. length old.replica.board.earlier + k) (ready_places declared_cowns old.replica.board.log old.replica.board.states) index
-        ∙ ap (option_map (λ k. length old.replica.board.earlier + k)) (slice_get_past (ready_places declared_cowns old.replica.board.log old.replica.board.states) index few) in
+        ∙ ap (option_map (λ k. length old.replica.board.earlier + k)) (slice_get_past
+            (ready_places declared_cowns old.replica.board.log old.replica.board.states) index few) in
     record {
       along = node_within bank r old new is within (subst (IsBoardAlong (held_of bank.opening) (ops_of bank)) (sym board) is.board)
           (subst (λ h. Every (IsHandAlong bank) h.items) (sym hands) is.hands);

@@ -89,7 +89,8 @@ call_at_place bank board along k lt =
         → (call : Call) × (slice_get bank.calls (length board.earlier + k) ≡ Some call) × (slice_get board.log k ≡ Some (resolved bank.names call))
     by None is e = absurd (past (slice_get_cases board.log k) e)
       where
-        past : (slice_get board.log k ≡ slice_get board.log k) × (((x : Op) × (k < length board.log) × (slice_get board.log k ≡ Some x) × (get_or board.log k x ≡ x))
+        past : (slice_get board.log k ≡ slice_get board.log k) × (((x : Op) × (k < length board.log) × (slice_get board.log k ≡ Some x) ×
+            (get_or board.log k x ≡ x))
             ⊎ ((length board.log ≤ k) × (slice_get board.log k ≡ None))) → slice_get board.log k ≡ None → ⊥
         past (e, inl found) none = none_some (sym none ∙ found.2)
         past (e, inr beyond) none = omega (arith, lt, beyond.0)

@@ -31,7 +31,8 @@ set-map f (y ∷ xs) (suc k) x = ap (λ t. f y ∷ t) (set-map f xs k x)
 
 set-copies : {A : Type 0} (n : ℕ) (x : A) (xs : List A) (k : ℕ) (y : A) → copies n x ++ slice_set xs k y ≡ slice_set (copies n x ++ xs) (n + k) y
 set-copies zero x xs k y = let e : k ≡ 0 + k = omega arith in ap (λ j. slice_set xs j y) e
-set-copies (suc n) x xs k y = ap (λ t. x ∷ t) (set-copies n x xs k y) ∙ (let e : suc (n + k) ≡ suc n + k = omega arith in ap (λ j. slice_set (copies (suc n) x ++ xs) j y) e)
+set-copies (suc n) x xs k y = ap (λ t. x ∷ t) (set-copies n x xs k y) ∙ (let e : suc (n + k) ≡ suc n + k = omega arith in ap (λ j. slice_set (copies
+    (suc n) x ++ xs) j y) e)
 
 get-copies : {A : Type 0} (n : ℕ) (x : A) (k : ℕ) → k < n → slice_get (copies n x) k ≡ Some x
 get-copies zero x k lt = absurd (omega (arith, lt))
@@ -57,7 +58,8 @@ count_more p x xs = sum_by-cons (λ y. if p y then 1 else 0) x xs
 
 undone_states : (states : List State) → count_by is_undone (map stage_of states) ≡ count_by is_open states
 undone_states [] = refl
-undone_states (Waiting ∷ states) = count_more is_undone Waits (map stage_of states) ∙ ap (λ n. 1 + n) (undone_states states) ∙ sym (count_more is_open Waiting states)
+undone_states (Waiting ∷ states) = count_more is_undone Waits (map stage_of states) ∙ ap (λ n. 1 + n) (undone_states states) ∙ sym
+    (count_more is_open Waiting states)
 undone_states (Out ∷ states) = count_more is_undone IsOut (map stage_of states) ∙ ap (λ n. 1 + n) (undone_states states) ∙ sym (count_more is_open Out states)
 undone_states (Finished reply ∷ states) = undone_states states
 
@@ -90,7 +92,8 @@ stages_set board place state =
 -- what was replied before the board is done
 pub stage_before : (board : BoardOf Op) (k : ℕ) → k < length board.earlier → slice_get (stages_of board) k ≡ Some IsDone
 stage_before board k lt =
-    slice_get-left (copies (length board.earlier) IsDone) (map stage_of board.states) k (subst (λ n. k < n) (sym (length-copies (length board.earlier) IsDone)) lt)
+    slice_get-left (copies (length board.earlier) IsDone) (map stage_of board.states) k (subst (λ n. k < n) (sym (length-copies
+        (length board.earlier) IsDone)) lt)
     ∙ get-copies (length board.earlier) IsDone k lt
 
 -- and the rest is where the board has it

@@ -111,7 +111,8 @@ pub answers_nothing : (bank : BankOf) (r : ℕ) (old : Node) (n : ℕ) → IsNod
     → None ≡ option_map (frame.Answer n) (reply_in old.replica.board n)
     → Arrives bank r old note.Nothing (answered bank (seen_node old) n)
 answers_nothing bank r old n is none =
-    record { along = is; as_moved = ap (told_reply (seen_node old) n) (sym (reply_seen bank r old n is) ∙ no_map (frame.Answer n) (reply_in old.replica.board n) none) }
+    record { along = is; as_moved = ap (told_reply (seen_node old) n) (sym (reply_seen bank r old n is) ∙ no_map (frame.Answer n)
+        (reply_in old.replica.board n) none) }
 
 pub answers_reply : (bank : BankOf) (r : ℕ) (old : Node) (outbound : List Frame) (told : Frame) (n place : ℕ) → IsNodeAt bank r old
     → Some told ≡ option_map (frame.Answer n) (reply_in old.replica.board n) → outbound ≡ old.outbound ++ told ∷ []

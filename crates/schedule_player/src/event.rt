@@ -3,8 +3,8 @@
 use sb_calls::Call;
 use sb_checkpoint::How;
 
-/// One event of a schedule. Replicas are counted from 0, workers, numbers and places in a list of frames from 1. An event
-/// that names something that doesn't exist changes nothing.
+/// One event of a schedule. Replicas are counted from 0; workers, numbers and places in a list of frames from 1.
+/// An event that names something that doesn't exist changes nothing.
 #[derive(Clone, Copy, Debug, PartialEq, Eq)]
 pub enum Event {
     /// A client asks the sequencer for a call.

@@ -144,8 +144,8 @@ impl Node {
 
     /// An entry is sent to the replica.
     pub fn send(&mut self, entry: &Frame) -> Result<Note, StepFault>
-        ensures moves { (bank : BankOf) (r : ℕ) → IsNodeAt bank r self.old → IsEntryOf bank entry.now → IfOk result (λ note.
-            Arrives bank r self.new note (sent (seen_node self.old) (Some entry.now))) }
+        ensures moves { (bank : BankOf) (r : ℕ) → IsNodeAt bank r self.old → IsEntryOf bank entry.now
+            → IfOk result (λ note. Arrives bank r self.new note (sent (seen_node self.old) (Some entry.now))) }
         ensures err { OnErr result (self.new ≡ self.old) }
     {
         let place = self.inbound.send(entry)?;
