@@ -42,8 +42,12 @@ asked_state old new recorded kept after ask (Ok (New n)) few e same =
     let answers : padded (length new) after ≡ padded (length old) kept ++ None ∷ [] =
     (λ j. padded (length (e j)) (same j)) ∙ ap (λ n. padded n kept) (length_push old ask) ∙ padded-push (length old) kept few in
     λ j. record { log = e j; recorded = recorded; answers = answers j }
-asked_state old new recorded kept after ask (Ok (Repeat n)) few e same = λ j. record { log = e j; recorded = recorded; answers = padded (length (e j))
-    (same j) }
+asked_state old new recorded kept after ask (Ok (Repeat n)) few e same = λ j. record {
+  log = e j;
+  recorded = recorded;
+  answers = padded (length (e j))
+      (same j);
+}
 asked_state old new recorded kept after ask (Err fault) few e same = λ j. record { log = e j; recorded = recorded; answers = padded (length (e j)) (same j) }
 
 -- a sequencer with its rooms is one

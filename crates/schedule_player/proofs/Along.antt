@@ -63,13 +63,13 @@ module _ (opening : List ℤ) (log : List Op) where
       → slice_get log (length_of board) ≡ Some op → IsBoardAlong opening log (accepted board op)
   along_accepted board op along next =
       let at_base : slice_get (board.log ++ along.later) (length board.log) ≡ Some op =
-          sym (slice_get-right along.before (board.log ++ along.later) (length_of board) (length board.log)
-          (ap (λ n. n + length board.log) (sym along.base)))
-          ∙ ap (λ ops. slice_get ops (length_of board)) (sym along.log_is) ∙ next in
+      sym (slice_get-right along.before (board.log ++ along.later) (length_of board) (length board.log)
+      (ap (λ n. n + length board.log) (sym along.base)))
+      ∙ ap (λ ops. slice_get ops (length_of board)) (sym along.log_is) ∙ next in
       let first : slice_get along.later 0 ≡ Some op =
-          sym (slice_get-right board.log along.later (length board.log) 0 (omega arith)) ∙ at_base in
+      sym (slice_get-right board.log along.later (length board.log) 0 (omega arith)) ∙ at_base in
       let split : board.log ++ along.later ≡ (board.log ++ op ∷ []) ++ drop 1 along.later =
-          ap (λ ops. board.log ++ ops) (split_first along.later op first) ∙ append_assoc board.log (op ∷ []) (drop 1 along.later) in
+      ap (λ ops. board.log ++ ops) (split_first along.later op first) ∙ append_assoc board.log (op ∷ []) (drop 1 along.later) in
       record {
         before = along.before;
         later = drop 1 along.later;
@@ -114,8 +114,8 @@ module _ (opening : List ℤ) (log : List Op) where
       set_at states p k reply finished new here = elim (cases_eq p k) [
         | inl same ↦
             let within : p < length states =
-                subst (λ n. n < length states) (sym same)
-                (subst (λ n. k < n) (length-set states p state) (slice_get_within (slice_set states p state) k (Finished reply) here)) in
+            subst (λ n. n < length states) (sym same)
+            (subst (λ n. k < n) (length-set states p state) (slice_get_within (slice_set states p state) k (Finished reply) here)) in
             subst (λ q. reply_by_log declared_cowns effect_of opening log (suc (length along.before + q)) ≡ Some reply) same
             (new reply (some_is (sym (slice_get-set_same states p state within) ∙ ap (slice_get (slice_set states p state)) same ∙ here)))
         | inr differs ↦ finished k reply (sym (slice_get-set_other states p k state (λ e. differs (sym e))) ∙ here)
@@ -173,7 +173,7 @@ module _ (opening : List ℤ) (log : List Op) where
       → Finishes declared_cowns effect_of board done reply new → IsBoardAlong opening log new
   along_finished board done reply new along finishes =
       let number : done.number ≡ suc (length along.before + finishes.place) =
-          finishes.here.number ∙ ap (λ n. suc (n + finishes.place)) (sym along.base) in
+      finishes.here.number ∙ ap (λ n. suc (n + finishes.place)) (sym along.base) in
       subst (IsBoardAlong opening log) (sym finishes.finished)
       (along_set board along finishes.place (Finished reply) (λ other e.
       ap (reply_by_log declared_cowns effect_of opening log) (sym number)
@@ -187,7 +187,7 @@ module _ (opening : List ℤ) (log : List Op) where
   out_here board job done k along is number behaviour inputs here out =
       let within : k < length board.log = subst (λ n. k < n) (sym along.states) (slice_get_within board.states k Out out) in
       let place : is.place ≡ length along.before + k =
-          let a = is.number in let b = here in let c = along.base in omega (arith, a, b, c) in
+      let a = is.number in let b = here in let c = along.base in omega (arith, a, b, c) in
       record {
         number = number ∙ here;
         out = out;

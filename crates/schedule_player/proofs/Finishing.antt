@@ -122,10 +122,13 @@ pub finishes_stranger : (bank : BankOf) (r : ℕ) (old new : Node) (worker place
 finishes_stranger bank r old new worker place job done is w here of not_out board within hands =
     let along = is.hands place (Some job) here in
     let absent : numbered (stages_of old.replica.board) job.number ≡ Some IsOut → ⊥ = λ out.
-        let p = along.place in
-        let found = out_on_board old.replica.board p (ap (numbered (stages_of old.replica.board)) (sym along.number) ∙ out) in
-        not_out (found.0, out_here (held_of bank.opening) (ops_of bank) old.replica.board job done found.0 is.board along of.number of.behaviour of.inputs
-        (along.number ∙ ap suc found.1) found.2) in
+    let p = along.place in
+    let found = out_on_board old.replica.board p (ap (numbered (stages_of old.replica.board)) (sym along.number) ∙ out) in
+    not_out (
+      found.0,
+      out_here (held_of bank.opening) (ops_of bank) old.replica.board job done found.0 is.board along of.number of.behaviour of.inputs
+          (along.number ∙ ap suc found.1) found.2,
+    ) in
     record {
       along = node_within bank r old new is within (subst (IsBoardAlong (held_of bank.opening) (ops_of bank)) (sym board) is.board)
           (every_emptied bank old new place is.hands hands);
@@ -148,11 +151,11 @@ finishes_done bank r old new worker place job done reply is w here of finishes w
     let p = length board.earlier + finishes.place in
     let number : job.number ≡ suc p = sym of.number ∙ finishes.here.number in
     let out : numbered (stages_of board) job.number ≡ Some IsOut =
-        ap (numbered (stages_of board)) number ∙ stage_at board finishes.place ∙ ap (option_map stage_of) finishes.here.out in
+    ap (numbered (stages_of board)) number ∙ stage_at board finishes.place ∙ ap (option_map stage_of) finishes.here.out in
     let replied : log_reply bank job.number ≡ Some reply =
-        sym (reply_by_names bank job.number is.customers)
-        ∙ ap (reply_by_log declared_cowns effect_of o ops) (sym of.number)
-        ∙ reply_along o ops board done reply new.replica.board is.board finishes in
+    sym (reply_by_names bank job.number is.customers)
+    ∙ ap (reply_by_log declared_cowns effect_of o ops) (sym of.number)
+    ∙ reply_along o ops board done reply new.replica.board is.board finishes in
     let moved = record (emptied (seen_node old) worker) { stages = with_numbered (stages_of board) job.number IsDone } in
     record {
       along = node_within bank r old new is within (along_finished o ops board done reply new.replica.board is.board finishes)

@@ -90,10 +90,10 @@ pub takes_nothing : (bank : BankOf) (r : ℕ) (old new : Node) (worker place ind
     → new.replica.board ≡ old.replica.board → Arrives bank r new note.Nothing (taken bank (seen_node old) worker index)
 takes_nothing bank r old new worker place index is w empty within hands few board =
     let none : slice_get (runnable bank (stages_of old.replica.board)) index ≡ None =
-        ap (λ ks. slice_get ks index) (runnable_alike bank old.replica.board is.customers is.board)
-        ∙ slice_get-map (λ k. length old.replica.board.earlier + k) (ready_places declared_cowns old.replica.board.log old.replica.board.states) index
-        ∙ ap (option_map (λ k. length old.replica.board.earlier + k)) (slice_get_past
-            (ready_places declared_cowns old.replica.board.log old.replica.board.states) index few) in
+    ap (λ ks. slice_get ks index) (runnable_alike bank old.replica.board is.customers is.board)
+    ∙ slice_get-map (λ k. length old.replica.board.earlier + k) (ready_places declared_cowns old.replica.board.log old.replica.board.states) index
+    ∙ ap (option_map (λ k. length old.replica.board.earlier + k)) (slice_get_past
+    (ready_places declared_cowns old.replica.board.log old.replica.board.states) index few) in
     record {
       along = node_within bank r old new is within (subst (IsBoardAlong (held_of bank.opening) (ops_of bank)) (sym board) is.board)
           (subst (λ h. Every (IsHandAlong bank) h.items) (sym hands) is.hands);
@@ -113,9 +113,9 @@ takes_job bank r old new worker place index job is w empty within hands takes =
     let board = old.replica.board in
     let base = length board.earlier in
     let found : slice_get (runnable bank (stages_of board)) index ≡ Some (base + takes.place) =
-        ap (λ ks. slice_get ks index) (runnable_alike bank board is.customers is.board)
-        ∙ slice_get-map (λ k. base + k) (ready_places declared_cowns board.log board.states) index
-        ∙ ap (option_map (λ k. base + k)) takes.ready in
+    ap (λ ks. slice_get ks index) (runnable_alike bank board is.customers is.board)
+    ∙ slice_get-map (λ k. base + k) (ready_places declared_cowns board.log board.states) index
+    ∙ ap (option_map (λ k. base + k)) takes.ready in
     record {
       along = node_within bank r old new is within (along_taken o ops board index job new.replica.board is.board takes)
           (subst (Every (IsHandAlong bank)) (sym hands)

@@ -77,11 +77,11 @@ call_at_place : (bank : BankOf) (board : BoardOf Op) (along : IsBoardAlong (held
     × (slice_get board.log k ≡ Some (resolved bank.names call))
 call_at_place bank board along k lt =
     let here : slice_get (ops_of bank) (length board.earlier + k) ≡ slice_get board.log k =
-        ap (λ ops. slice_get ops (length board.earlier + k)) along.log_is
-        ∙ ap (λ n. slice_get (along.before ++ (board.log ++ along.later)) (n + k)) (sym along.base)
-        ∙ at_in_part declared_cowns effect_of along.before board.log along.later k lt in
+    ap (λ ops. slice_get ops (length board.earlier + k)) along.log_is
+    ∙ ap (λ n. slice_get (along.before ++ (board.log ++ along.later)) (n + k)) (sym along.base)
+    ∙ at_in_part declared_cowns effect_of along.before board.log along.later k lt in
     let mapped : slice_get (ops_of bank) (length board.earlier + k) ≡ option_map (resolved bank.names) (slice_get bank.calls (length board.earlier + k)) =
-        slice_get-map (resolved bank.names) bank.calls (length board.earlier + k) in
+    slice_get-map (resolved bank.names) bank.calls (length board.earlier + k) in
     by (slice_get bank.calls (length board.earlier + k)) refl (sym here ∙ mapped)
   where
     by : (call : Option Call) → slice_get bank.calls (length board.earlier + k) ≡ call
@@ -122,9 +122,9 @@ runs_alike bank board same along k lt =
     ap (λ b. b && none_below f (base + k)) (waits_at board k)
     ∙ ap (λ b. state_is is_waiting (slice_get board.states k) && b)
     (none_moved f g base k
-      (λ j lt_j. ap (λ s. stage_is is_undone s && conflict_between bank j (base + k)) (stage_before board j lt_j))
-      (λ j lt_j. ap (λ b. b && conflict_between bank (base + j) (base + k)) (undone_at board j)
-      ∙ ap (λ b. state_is is_open (slice_get board.states j) && b) (conflict_alike bank board same along j k (omega (arith, lt, lt_j)) lt)))
+    (λ j lt_j. ap (λ s. stage_is is_undone s && conflict_between bank j (base + k)) (stage_before board j lt_j))
+    (λ j lt_j. ap (λ b. b && conflict_between bank (base + j) (base + k)) (undone_at board j)
+    ∙ ap (λ b. state_is is_open (slice_get board.states j) && b) (conflict_alike bank board same along j k (omega (arith, lt, lt_j)) lt)))
 
 -- the places of what may run are those of what is ready, moved
 pub runnable_alike : (bank : BankOf) (board : BoardOf Op) → SameCustomers bank.names bank.opening

@@ -93,7 +93,7 @@ stages_set board place state =
 pub stage_before : (board : BoardOf Op) (k : ℕ) → k < length board.earlier → slice_get (stages_of board) k ≡ Some IsDone
 stage_before board k lt =
     slice_get-left (copies (length board.earlier) IsDone) (map stage_of board.states) k (subst (λ n. k < n) (sym (length-copies
-        (length board.earlier) IsDone)) lt)
+    (length board.earlier) IsDone)) lt)
     ∙ get-copies (length board.earlier) IsDone k lt
 
 -- and the rest is where the board has it

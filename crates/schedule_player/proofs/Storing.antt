@@ -62,8 +62,7 @@ same_by_cown [] [] [] [] p q e = (refl, refl)
 same_by_cown [] [] (x ∷ t) (y ∷ d) p q e = absurd (nil_cons e)
 same_by_cown (x ∷ s) (y ∷ c) [] [] p q e = absurd (nil_cons (sym e))
 same_by_cown (x ∷ s) (y ∷ c) (z ∷ t) (w ∷ d) p q e =
-    let rest = same_by_cown s c t d (omega (arith, p)) (omega (arith, q)) (tail_is (tail_is e)) in
-    (
+    let rest = same_by_cown s c t d (omega (arith, p)) (omega (arith, q)) (tail_is (tail_is e)) in (
       ap (λ v. v ∷ s) (head_is e) ∙ ap (λ vs. z ∷ vs) rest.0,
       ap (λ v. v ∷ c) (head_is (tail_is e)) ∙ ap (λ vs. w ∷ vs) rest.1,
     )
@@ -87,8 +86,8 @@ after_columns bank board columns same along alike after =
     let law = log_by_cowns bank.names bank.opening bank.calls same in
     let rows = law.rows (length_of board) in
     let is : columns ≡ rows.0 =
-        same_columns columns rows.0 alike rows.1.balances.same
-        (columns_along (held_of bank.opening) (ops_of bank) board columns along after ∙ sym rows.2) in
+    same_columns columns rows.0 alike rows.1.balances.same
+    (columns_along (held_of bank.opening) (ops_of bank) board columns along after ∙ sym rows.2) in
     subst (SameCustomers bank.names) (sym is) rows.1
 
 -- ---- a replica whose store or board changes
@@ -226,15 +225,15 @@ goes_back bank r old new size is restarts =
     let made = is.kept.checkpoint in
     let read = restarts.board.checkpoint in
     let stored : IsStoredAs bank.opening (length bank.names) old.replica.store.slot read =
-        subst (λ o. IsStoredAs o (length bank.names) old.replica.store.slot read) is.opening
-        (subst (λ names. IsStoredAs old.replica.opening (length names) old.replica.store.slot read) is.names
-        (subst (λ held. IsStoredAs old.replica.opening (length old.replica.names) held read) acts.0 restarts.board.is_stored)) in
+    subst (λ o. IsStoredAs o (length bank.names) old.replica.store.slot read) is.opening
+    (subst (λ names. IsStoredAs old.replica.opening (length names) old.replica.store.slot read) is.names
+    (subst (λ held. IsStoredAs old.replica.opening (length old.replica.names) held read) acts.0 restarts.board.is_stored)) in
     let same : made ≡ read = one_kept bank.opening (length bank.names) old.replica.store.slot made read is.kept.stored stored in
     let board : new.board ≡ opened_with made.columns made.replies =
-        restarts.board.board_is ∙ ap (λ c. opened_with c.columns c.replies) (sym same) in
+    restarts.board.board_is ∙ ap (λ c. opened_with c.columns c.replies) (sym same) in
     let kept : kept_in old.replica.store.slot ≡ length made.replies = kept_of bank.opening (length bank.names) old.replica.store.slot made is.kept.stored in
     let length_is : size ≡ length made.replies =
-        let e = restarts.length_is ∙ ap length_of board in omega (arith, e) in
+    let e = restarts.length_is ∙ ap length_of board in omega (arith, e) in
     record {
       along = node_stored bank r old new is
           (record {

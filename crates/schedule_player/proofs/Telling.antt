@@ -52,7 +52,7 @@ pub tells_frame : (bank : BankOf) (r : ℕ) (old : Node) (outbound : List Frame)
     → moved ≡ tells (seen_node old) told → Arrives bank r (record old { outbound = outbound }) (note.Sent place) moved
 tells_frame bank r old outbound told place moved is e p by m =
     let size : place ≡ suc (length old.outbound) =
-        let l = length-append old.outbound (told ∷ []) in let q = p ∙ ap length e ∙ l in omega (arith, q) in
+    let l = length-append old.outbound (told ∷ []) in let q = p ∙ ap length e ∙ l in omega (arith, q) in
     record {
       along = record {
         customers = is.customers;
@@ -111,8 +111,11 @@ pub answers_nothing : (bank : BankOf) (r : ℕ) (old : Node) (n : ℕ) → IsNod
     → None ≡ option_map (frame.Answer n) (reply_in old.replica.board n)
     → Arrives bank r old note.Nothing (answered bank (seen_node old) n)
 answers_nothing bank r old n is none =
-    record { along = is; as_moved = ap (told_reply (seen_node old) n) (sym (reply_seen bank r old n is) ∙ no_map (frame.Answer n)
-        (reply_in old.replica.board n) none) }
+    record {
+      along = is;
+      as_moved = ap (told_reply (seen_node old) n) (sym (reply_seen bank r old n is) ∙ no_map (frame.Answer n)
+          (reply_in old.replica.board n) none);
+    }
 
 pub answers_reply : (bank : BankOf) (r : ℕ) (old : Node) (outbound : List Frame) (told : Frame) (n place : ℕ) → IsNodeAt bank r old
     → Some told ≡ option_map (frame.Answer n) (reply_in old.replica.board n) → outbound ≡ old.outbound ++ told ∷ []
@@ -144,11 +147,14 @@ ok_is h = cc
 comes_so : (node : Node) (op : Op) (n : ℕ) (there past full : Bool)
     → ◌≡◌ {A = NodeOf × Note} (if there then (seen_node node, note.Repeat n) else if past then (seen_node node, note.Gap (length_of node.replica.board))
     else if full then (seen_node node, note.Busy (length_of node.replica.board))
-    else (record (seen_node node) { stages = stages_of node.replica.board ++ Waits ∷ [] }, note.Accepted n))
-    (record (seen_node node) { stages = stages_of (after_offer node.replica.board op (if there then offer.Repeat
-    else if past then offer.Gap (length_of node.replica.board) else if full then offer.Busy (length_of node.replica.board) else offer.Next)) },
-    note_of_heard (heard_of n (if there then offer.Repeat else if past then offer.Gap (length_of node.replica.board)
-    else if full then offer.Busy (length_of node.replica.board) else offer.Next)))
+    else (record (seen_node node) { stages = stages_of node.replica.board ++ Waits ∷ [] }, note.Accepted n)) (
+      record (seen_node node) {
+        stages = stages_of (after_offer node.replica.board op (if there then offer.Repeat
+            else if past then offer.Gap (length_of node.replica.board) else if full then offer.Busy (length_of node.replica.board) else offer.Next));
+      },
+      note_of_heard (heard_of n (if there then offer.Repeat else if past then offer.Gap (length_of node.replica.board)
+          else if full then offer.Busy (length_of node.replica.board) else offer.Next)),
+    )
 comes_so node op n true past full = refl
 comes_so node op n false true full = refl
 comes_so node op n false false true = refl
@@ -162,8 +168,10 @@ within_limit false n le = le-ltb LOG_CALLS n le
 
 entry_alike : (bank : BankOf) (r : ℕ) (node : Node) (op : Op) (n : ℕ) → IsNodeAt bank r node → n ≤ LOG_CALLS
     → entry_comes (seen_node node) n
-    ≡ (record (seen_node node) { stages = stages_of (after_offer node.replica.board op (offered node.replica.board n)) },
-    note_of_heard (heard_of n (offered node.replica.board n)))
+    ≡ (
+      record (seen_node node) { stages = stages_of (after_offer node.replica.board op (offered node.replica.board n)) },
+      note_of_heard (heard_of n (offered node.replica.board n)),
+    )
 entry_alike bank r node op n is within =
     let board = node.replica.board in
     let seen = seen_node node in
@@ -174,10 +182,14 @@ entry_alike bank r node op n is within =
     else if u == 1024 then (seen, note.Busy (length_of board))
     else (record seen { stages = stages_of board ++ Waits ∷ [] }, note.Accepted n)) (undone_in_stages board)
     ∙ comes_so node op n (nat_le n (length_of board)) (nat_lt (suc (length_of board)) n) (open_of board == 1024)
-    ∙ ap (λ p. (record seen { stages = stages_of (after_offer board op (if nat_le n (length_of board) then offer.Repeat
-    else if p then offer.Gap (length_of board) else if open_of board == 1024 then offer.Busy (length_of board) else offer.Next)) },
-    note_of_heard (heard_of n (if nat_le n (length_of board) then offer.Repeat else if p then offer.Gap (length_of board)
-    else if open_of board == 1024 then offer.Busy (length_of board) else offer.Next))))
+    ∙ ap (λ p. (
+      record seen {
+        stages = stages_of (after_offer board op (if nat_le n (length_of board) then offer.Repeat
+            else if p then offer.Gap (length_of board) else if open_of board == 1024 then offer.Busy (length_of board) else offer.Next));
+      },
+      note_of_heard (heard_of n (if nat_le n (length_of board) then offer.Repeat else if p then offer.Gap (length_of board)
+          else if open_of board == 1024 then offer.Busy (length_of board) else offer.Next)),
+    ))
     (sym (within_limit (nat_lt (suc (length_of board)) n) n within))
 
 -- the board is beside the log after it
@@ -205,6 +217,7 @@ delivers bank r old new place bytes sent answer is here spelled hears =
     numbered_every : (place : ℕ) → numbered old.inbound place ≡ Some sent → IsEntryOf bank sent
     numbered_every zero e = absurd (none_some e)
     numbered_every (suc k) e = is.inbound k sent e
+
     by : IsEntryOf bank sent → sent ≡ hears.frame
         → Arrives bank r (record old { replica = new }) (note_of_heard answer) (delivered_to (seen_node old) place)
     by entry same =
@@ -213,8 +226,8 @@ delivers bank r old new place bytes sent answer is here spelled hears =
         let op = resolved bank.names entry.call in
         let frame_is : hears.frame ≡ frame.Entry n entry.call = sym same ∙ entry.frame_is in
         let new_is : new ≡ record old.replica { board = after_offer board op (offered board n) } =
-            hears.after ∙ ap (λ f. record old.replica { board = after_frame old.replica.names board f }) frame_is
-            ∙ ap (λ names. record old.replica { board = after_offer board (resolved names entry.call) (offered board n) }) is.names in
+        hears.after ∙ ap (λ f. record old.replica { board = after_frame old.replica.names board f }) frame_is
+        ∙ ap (λ names. record old.replica { board = after_offer board (resolved names entry.call) (offered board n) }) is.names in
         let answer_is : answer ≡ heard_of n (offered board n) = hears.answer_is ∙ ap (heard board) frame_is in
         let few = is.few in
         let inside = number_within bank.calls n entry.call entry.in_log in

@@ -19,7 +19,10 @@ fn open(alloc: Global) -> Result<Node, Fail> {
 
 fn sends(rt: &impl Abort, node: &mut Node, number: u64, line: &str) {
     let call = read_call(line.as_bytes()).expect(rt, "a call");
-    assert!(rt; node.send(&Frame::Entry { number, call }) == Ok(Note::Sent(number)), "{line}");
+    assert!(rt;
+        node.send(&Frame::Entry { number, call }) == Ok(Note::Sent(number)),
+        "{line}"
+    );
 }
 
 fn hears(rt: &impl Abort, node: &mut Node, place: u32, note: Note) {
@@ -122,7 +125,9 @@ fn a_job_from_before_a_restart_is_taken_back_while_it_is_out(rt: HostRuntime) ->
 }
 
 #[test]
-fn a_job_from_before_a_restart_is_a_stranger_while_none_is_out(rt: HostRuntime) -> Result<(), Fail> {
+fn a_job_from_before_a_restart_is_a_stranger_while_none_is_out(
+    rt: HostRuntime,
+) -> Result<(), Fail> {
     let mut node = with_a_job_from_before(&rt, rt.alloc())?;
     finishes(&rt, &mut node, 1, Note::Stranger(1));
     takes(&rt, &mut node, 2, 0, Note::Took(1));

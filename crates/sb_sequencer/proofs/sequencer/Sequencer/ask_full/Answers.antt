@@ -11,5 +11,8 @@ returns-in-Some-clause-answer c =
 
 -- a new key
 pub returns-in-None-clause-answer : goal.returns-in-None-clause-answer
-returns-in-None-clause-answer c = (place_from_map c.self.inside.log.entries c.args.self.now.log c.args.key None (ap
-    (λ s. s.log) c.self.view_is) c.in-None.ensures.index, c.requires)
+returns-in-None-clause-answer c = (
+  place_from_map c.self.inside.log.entries c.args.self.now.log c.args.key None (ap
+      (λ s. s.log) c.self.view_is) c.in-None.ensures.index,
+  c.requires,
+)

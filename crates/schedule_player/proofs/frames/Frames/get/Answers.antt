@@ -10,9 +10,8 @@ pub returns : goal.returns
 returns c =
     let sent = c.self.inside.sent.items in
     let here : numbered sent c.args.place ≡ Some c.in_ok-bytes.bytes.now =
-        ap (λ items. numbered items c.args.place) (sym c.deref.ensures.value) ∙ sym c.in_ok-bytes.ensures in
-    let found = sent_frame (λ bytes. bytes.items) sent c.args.place c.in_ok-bytes.bytes.now c.self.invariant here in
-    (
+    ap (λ items. numbered items c.args.place) (sym c.deref.ensures.value) ∙ sym c.in_ok-bytes.ensures in
+    let found = sent_frame (λ bytes. bytes.items) sent c.args.place c.in_ok-bytes.bytes.now c.self.invariant here in (
       found.0,
       subst (λ frames. numbered frames c.args.place ≡ Some found.0) c.self.view_is found.1,
       subst (λ b. Spells found.0 b) (sym c.as_slice.ensures.value) found.2,
