@@ -1,12 +1,12 @@
 -- What keeps a replica beside the log.
-use Rattle.std.proofs.Common.{◌≡◌, ◌≢◌, inl, inr, ℕ, zero, suc, ◌+◌, ◌<◌, ◌≤◌, ℤ, Option, Some, None, List, [], ◌∷◌, ◌++◌, length, take, drop, refl, sym, ap, subst, ◌∙◌, arith}
-use Rattle.std.specs.Prelude.{slice_get, slice_set, option_map}
+use Rattle.std.proofs.Common.{◌≡◌, inl, inr, ℕ, zero, suc, ◌+◌, ◌<◌, ◌≤◌, ℤ, Some, List, [], ◌∷◌, ◌++◌, length, take, drop, refl, sym, ap, subst, ◌∙◌, arith}
+use Rattle.std.specs.Prelude.{slice_get, slice_set}
 use Rattle.std.proofs.lemmas.Bool.{cases_eq}
 use Rattle.std.proofs.lemmas.List.{take-append-drop, length-append, length-set, length-take-le}
 use Rattle.std.proofs.lemmas.Option.{slice_get_within}
-use Rattle.cown_board.proofs.PlacesLaws.{slice_get-left, slice_get-right, append_nothing}
+use Rattle.cown_board.proofs.PlacesLaws.{slice_get-left, slice_get-right}
 use Rattle.cown_board.proofs.States.{slice_get-set_same, slice_get-set_other}
-use Rattle.cown_board.specs.Board.{BoardOf, length_of, number_at, IsOutAt, Takes, Finishes, IsAfterAll}
+use Rattle.cown_board.specs.Board.{BoardOf, length_of, number_at, IsOutAt, Takes, Finishes}
 use Rattle.cown_board.specs.Job.{JobOf, DoneOf}
 use Rattle.cown_board.specs.Played.{opened_with}
 use Rattle.cown_board.specs.declared.state.State.{State}
@@ -14,7 +14,7 @@ use Rattle.cown_board.specs.declared.state.State.TheVariants.{Waiting, Out, Fini
 use Rattle.sb_rows.specs.Balances.{Balances}
 use Rattle.sb_calls.specs.Behaviour.{declared_cowns, effect_of}
 use Rattle.sb_calls.specs.Cowns.{held_of}
-use Rattle.sb_calls.specs.OneByOne.{inputs_of, held_after, held_after_first, reply_by_log}
+use Rattle.sb_calls.specs.OneByOne.{inputs_of, held_after_first, reply_by_log}
 use Rattle.sb_calls.specs.declared.op.Op.{Op}
 use Rattle.sb_calls.specs.declared.reply.Reply.{Reply}
 use Rattle.sb_checkpoint.specs.Checkpoint.{CheckpointOf}

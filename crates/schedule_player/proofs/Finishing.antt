@@ -1,8 +1,8 @@
 -- A worker gives back what it has in hand.
-use Rattle.std.proofs.Common.{◌≡◌, ◌≢◌, ◌⊎◌, inl, inr, ℕ, zero, suc, ◌+◌, ◌-◌, ◌<◌, ◌≤◌, Option, Some, None, List, [], ◌∷◌, length, map, refl, sym, ap, subst, ◌∙◌, arith}
-use Rattle.std.specs.Prelude.{slice_get, slice_set, option_map, IfSome}
+use Rattle.std.proofs.Common.{◌≡◌, inl, inr, ℕ, zero, suc, ◌+◌, ◌-◌, Option, Some, None, List, [], ◌∷◌, length, map, refl, sym, ap, subst, ◌∙◌, arith}
+use Rattle.std.specs.Prelude.{slice_get, slice_set, option_map}
 use Rattle.std.proofs.lemmas.Bool.{cases_lt}
-use Rattle.cown_board.specs.Board.{BoardOf, number_at, Finishes, IsOutAt, IsOutHere}
+use Rattle.cown_board.specs.Board.{BoardOf, Finishes, IsOutHere}
 use Rattle.cown_board.specs.Job.{JobOf, DoneOf}
 use Rattle.cown_board.specs.declared.state.State.{State}
 use Rattle.cown_board.specs.declared.state.State.TheVariants.{Waiting, Out, Finished}
@@ -13,7 +13,7 @@ use Rattle.sb_calls.specs.OneByOne.{reply_by_log}
 use Rattle.sb_calls.specs.declared.op.Op.{Op}
 use Rattle.sb_calls.specs.declared.reply.Reply.{Reply}
 use Rattle.sb_calls.proofs.OneByOneRuns.{log_by_cowns}
-use Rattle.schedule_player.specs.Along.{IsBoardAlong, IsJobAlong}
+use Rattle.schedule_player.specs.Along.{IsBoardAlong}
 use Rattle.schedule_player.specs.Bank.{BankOf, log_reply}
 use Rattle.schedule_player.specs.NodeAlong.{number_in, seen_node, IsHandAlong, IsNodeAt, Arrives}
 use Rattle.schedule_player.specs.Numbered.{numbered, with_numbered, Every}
@@ -21,7 +21,6 @@ use Rattle.schedule_player.specs.ReplicaMoves.{NodeOf, note_of_reply, comes_back
 use Rattle.schedule_player.specs.Seen.{stage_of, stages_of, ops_of}
 use Rattle.schedule_player.specs.Stage.{Stage, Waits, IsOut, IsDone}
 use Rattle.schedule_player.specs.declared.node.Node.{Node}
-use Rattle.schedule_player.specs.declared.note.Note.{Note}
 use Rattle.schedule_player.specs.declared.note.Note.TheVariants as note
 use Rattle.schedule_player.proofs.Along.{out_here, reply_along, along_finished}
 use Rattle.schedule_player.proofs.Lists.{some_is, none_some, every_set}

@@ -1,11 +1,10 @@
 -- Items of lists, by place.
-use Rattle.std.proofs.Common.{◌≡◌, ◌⊎◌, inl, inr, true, false, get_or, ℕ, zero, suc, ◌+◌, ◌<◌, ◌≤◌, Option, Some, None, List, [], ◌∷◌, ◌++◌, length, refl, sym, ap, subst, ◌∙◌, arith}
+use Rattle.std.proofs.Common.{◌≡◌, ◌⊎◌, inl, inr, false, get_or, ℕ, zero, suc, ◌+◌, ◌<◌, ◌≤◌, Option, Some, None, List, [], ◌∷◌, ◌++◌, length, refl, sym, ap, subst, ◌∙◌, arith}
 use Rattle.std.specs.List.{slice_get, slice_set, slice_index_or}
 use Rattle.std.specs.Option.{is_some}
 use Rattle.std.proofs.lemmas.Bool.{true≢false}
-use Rattle.std.proofs.lemmas.Option.{slice_get_within, slice_get_cases}
-use Rattle.cown_board.proofs.PlacesLaws.{slice_get-left, slice_get-right}
-use Rattle.schedule_player.specs.Numbered.{numbered, with_numbered, copies, Every}
+use Rattle.std.proofs.lemmas.Option.{slice_get_cases}
+use Rattle.schedule_player.specs.Numbered.{copies, Every}
 
 pub some_is : {A : Type 0} {x y : A} → ◌≡◌ {A = Option A} (Some x) (Some y) → x ≡ y
 some_is h = cc

@@ -1,17 +1,15 @@
 -- A node whose board or hands change.
-use Rattle.std.proofs.Common.{◌≡◌, inl, inr, ℕ, zero, suc, ◌+◌, ◌<◌, ◌≤◌, Option, Some, None, List, [], ◌∷◌, length, map, refl, sym, ap, subst, ◌∙◌, arith}
-use Rattle.std.specs.Prelude.{slice_get, slice_set, option_map, IfSome}
+use Rattle.std.proofs.Common.{◌≡◌, ℕ, zero, suc, ◌+◌, ◌≤◌, Some, None, length, map, refl, sym, ap, subst, ◌∙◌}
+use Rattle.std.specs.Prelude.{slice_get, slice_set, option_map}
 use Rattle.std.proofs.lemmas.Option.{slice_get-map, slice_get_past}
-use Rattle.cown_board.specs.Board.{BoardOf, Takes, Finishes, IsOutHere}
-use Rattle.cown_board.specs.Job.{JobOf, DoneOf}
+use Rattle.cown_board.specs.Board.{Takes}
+use Rattle.cown_board.specs.Job.{JobOf}
 use Rattle.cown_board.specs.Readiness.{ready_places}
 use Rattle.sb_calls.specs.Behaviour.{declared_cowns, effect_of}
 use Rattle.sb_calls.specs.Cowns.{held_of}
 use Rattle.sb_calls.specs.declared.op.Op.{Op}
-use Rattle.sb_calls.specs.declared.reply.Reply.{Reply}
-use Rattle.sb_checkpoint.specs.MemoryStore.{MemoryStoreOf}
-use Rattle.sb_replica.specs.Replica.{ReplicaOf, beside_of}
-use Rattle.schedule_player.specs.Along.{IsBoardAlong, IsJobAlong}
+use Rattle.sb_replica.specs.Replica.{beside_of}
+use Rattle.schedule_player.specs.Along.{IsBoardAlong}
 use Rattle.schedule_player.specs.Bank.{BankOf}
 use Rattle.schedule_player.specs.NodeAlong.{number_in, seen_node, IsEntryOf, IsToldBy, IsKeptAlong, IsHandAlong, IsNodeAt, Arrives}
 use Rattle.schedule_player.specs.Numbered.{numbered, with_numbered, Every}

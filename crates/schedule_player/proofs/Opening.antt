@@ -1,5 +1,5 @@
 -- A replica at the opening.
-use Rattle.std.proofs.Common.{◌≡◌, ℕ, zero, suc, ◌≤◌, Option, Some, None, List, [], ◌∷◌, length, map, refl, sym, ap, subst, ◌∙◌}
+use Rattle.std.proofs.Common.{◌≡◌, ℕ, zero, suc, ◌≤◌, Option, Some, None, [], ◌∷◌, length, map, refl, sym, ap, subst, ◌∙◌}
 use Rattle.std.specs.Prelude.{option_map, slice_get}
 use Rattle.cown_board.specs.Job.{JobOf}
 use Rattle.cown_board.specs.Played.{opened_with}
@@ -7,9 +7,6 @@ use Rattle.sb_rows.specs.Rows.{SameCustomers}
 use Rattle.sb_calls.specs.Cowns.{held_of}
 use Rattle.sb_calls.specs.declared.call.TheConstants.{LOG_CALLS}
 use Rattle.sb_calls.specs.declared.op.Op.{Op}
-use Rattle.sb_checkpoint.specs.Checkpoint.{CheckpointOf}
-use Rattle.sb_checkpoint.specs.MemoryStore.{MemoryStoreOf}
-use Rattle.sb_replica.specs.Replica.{ReplicaOf}
 use Rattle.schedule_player.specs.Along.{IsBoardAlong}
 use Rattle.schedule_player.specs.Bank.{BankOf}
 use Rattle.schedule_player.specs.NodeAlong.{number_in, seen_node, IsEntryOf, IsToldBy, IsHandAlong, IsKeptAlong, IsNodeAt}

@@ -1,12 +1,12 @@
 -- What may run by the balances is what the board has ready, moved by what is done before the board.
-use Rattle.std.proofs.Common.{◌≡◌, ◌⊎◌, get_or, inl, inr, ℕ, zero, suc, ◌+◌, ◌-◌, ◌<◌, ◌≤◌, Bool, true, false, not, Option, Some, None, List, [], ◌∷◌, ◌++◌, length, map, refl, sym, ap, subst, ◌∙◌, arith}
+use Rattle.std.proofs.Common.{◌≡◌, ◌⊎◌, get_or, inl, inr, ℕ, zero, suc, ◌+◌, ◌<◌, ◌≤◌, Bool, true, false, not, Option, Some, None, [], ◌∷◌, ◌++◌, length, map, refl, sym, ap, ◌∙◌, arith}
 use Rattle.std.specs.Prelude.{◌&&◌, slice_get, option_map, if◌then◌else◌}
 use Rattle.std.proofs.lemmas.List.{map-append}
 use Rattle.std.proofs.lemmas.Option.{slice_get-map, slice_get_cases}
 use Rattle.cown_board.proofs.PlacesLaws.{append_nothing}
-use Rattle.cown_board.specs.Board.{BoardOf, length_of}
+use Rattle.cown_board.specs.Board.{BoardOf}
 use Rattle.cown_board.specs.Places.{places, none_below}
-use Rattle.cown_board.specs.Readiness.{touched_by, conflict_at, is_clear_at, is_ready_at, ready_places}
+use Rattle.cown_board.specs.Readiness.{touched_by, conflict_at, is_ready_at, ready_places}
 use Rattle.cown_board.specs.State.{is_open, is_waiting, state_is}
 use Rattle.sb_calls.specs.Behaviour.{declared_cowns, effect_of}
 use Rattle.sb_calls.specs.Cowns.{held_of}
@@ -19,7 +19,7 @@ use Rattle.schedule_player.specs.Along.{IsBoardAlong}
 use Rattle.schedule_player.specs.Bank.{BankOf}
 use Rattle.schedule_player.specs.Readiness.{stage_is, share_place, touched_in, conflict_between, may_run, runnable}
 use Rattle.schedule_player.specs.Seen.{stages_of, ops_of}
-use Rattle.schedule_player.specs.Stage.{Stage, IsDone, waits, is_undone}
+use Rattle.schedule_player.specs.Stage.{waits, is_undone}
 use Rattle.schedule_player.proofs.Lists.{none_some}
 use Rattle.schedule_player.proofs.LogParts.{at_in_part}
 use Rattle.schedule_player.proofs.Sharing.{shared_alike}

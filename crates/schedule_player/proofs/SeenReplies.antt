@@ -1,5 +1,5 @@
 -- The replies that a board beside the log holds, and what an idle one comes to.
-use Rattle.std.proofs.Common.{◌≡◌, ◌⊎◌, inl, inr, ℕ, zero, suc, ◌+◌, ◌-◌, ◌<◌, ◌≤◌, ℤ, Bool, true, false, Option, Some, None, List, [], ◌∷◌, ◌++◌, length, get_or, refl, sym, ap, subst, ◌∙◌, arith}
+use Rattle.std.proofs.Common.{◌≡◌, ◌⊎◌, inl, inr, ℕ, zero, suc, ◌+◌, ◌-◌, ◌<◌, ◌≤◌, ℤ, false, Option, Some, None, List, ◌++◌, length, get_or, refl, sym, ap, ◌∙◌, arith}
 use Rattle.std.specs.Prelude.{slice_get, option_map, option_and_then, if◌then◌else◌, nat_le, ◌==◌}
 use Rattle.std.proofs.lemmas.Bool.{cases_lt, lt-leb, le-leb, ne_eqb}
 use Rattle.std.proofs.lemmas.List.{length-append}
@@ -19,11 +19,10 @@ use Rattle.sb_replica.proofs.IdleReplies.{reply_at, length_held}
 use Rattle.sb_replica.specs.Replica.{replies_held}
 use Rattle.schedule_player.specs.Along.{AreReplies, IsBoardAlong, IsCheckpointAlong}
 use Rattle.schedule_player.specs.Numbered.{numbered}
-use Rattle.schedule_player.specs.ReplicaMoves.{reply_held}
 use Rattle.schedule_player.specs.Seen.{stage_of, stages_of}
 use Rattle.schedule_player.specs.Stage.{Stage, Waits, IsOut, IsDone}
 use Rattle.schedule_player.proofs.Along.{held_alike}
-use Rattle.schedule_player.proofs.Lists.{some_is, none_some}
+use Rattle.schedule_player.proofs.Lists.{none_some}
 use Rattle.schedule_player.proofs.Stages.{stage_before, stage_at}
 
 -- the reply where the entry is done

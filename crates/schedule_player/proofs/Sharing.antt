@@ -1,11 +1,10 @@
 -- Two calls wait for one another by their cowns exactly where they do by the balances that they touch.
-use Rattle.std.proofs.Common.{◌≡◌, ◌⊎◌, inl, inr, Bool, true, false, Option, Some, None, List, [], ◌∷◌, refl, sym, ap, subst, ◌∙◌}
-use Rattle.std.specs.Prelude.{◌↔◌, ◌||◌}
-use Rattle.std.specs.List.{list_any, Contains}
-use Rattle.std.specs.Str.{bytes_eq}
-use Rattle.std.proofs.lemmas.Bool.{cases_Bool, true≢false}
+use Rattle.std.proofs.Common.{◌≡◌, ◌⊎◌, inl, inr, Bool, true, false, List, [], ◌∷◌, refl, sym, ap, subst}
+use Rattle.std.specs.Prelude.{◌||◌}
+use Rattle.std.specs.List.{list_any}
+use Rattle.std.proofs.lemmas.Bool.{true≢false}
 use Rattle.std.proofs.lemmas.Slice.Eq.{bytes_eq-Decides}
-use Rattle.sb_rows.specs.Rows.{rows_of, SameCustomers}
+use Rattle.sb_rows.specs.Rows.{SameCustomers}
 use Rattle.sb_calls.specs.Behaviour.{declared_cowns}
 use Rattle.sb_calls.specs.OneByOne.{share_cown}
 use Rattle.sb_calls.specs.Op.{resolved}

@@ -1,6 +1,6 @@
 -- A replica puts its checkpoint, and goes back to it.
-use Rattle.std.proofs.Common.{◌≡◌, ◌≢◌, ◌⊎◌, inl, inr, ℕ, zero, suc, ◌+◌, ◌<◌, ◌≤◌, ℤ, Bool, true, false, Option, Some, None, Result, Ok, Err, List, [], ◌∷◌, ◌++◌, length, refl, sym, ap, subst, ◌∙◌, arith}
-use Rattle.std.specs.Prelude.{if◌then◌else◌, ◌==◌, count_by}
+use Rattle.std.proofs.Common.{◌≡◌, inl, inr, ℕ, ℤ, Option, Some, None, Result, Ok, Err, List, [], ◌∷◌, length, refl, sym, ap, subst, ◌∙◌, arith}
+use Rattle.std.specs.Prelude.{if◌then◌else◌, count_by}
 use Rattle.std.proofs.lemmas.Bool.{eq-eqb}
 use Rattle.cown_board.proofs.PlacesLaws.{append_nothing}
 use Rattle.cown_board.specs.Board.{BoardOf, length_of, open_of, IsAfterAll}
@@ -10,31 +10,29 @@ use Rattle.sb_rows.specs.Rows.{SameCustomers}
 use Rattle.sb_calls.specs.Behaviour.{declared_cowns, effect_of}
 use Rattle.sb_calls.specs.Cowns.{held_of, by_cown}
 use Rattle.sb_calls.specs.declared.op.Op.{Op}
-use Rattle.sb_calls.specs.declared.reply.Reply.{Reply}
 use Rattle.sb_calls.proofs.OneByOneRuns.{log_by_cowns}
 use Rattle.sb_checkpoint.proofs.Spelled.{read_back, one_checkpoint, spelled_is_taken}
-use Rattle.sb_checkpoint.specs.Checkpoint.{CheckpointOf, Spells}
+use Rattle.sb_checkpoint.specs.Checkpoint.{CheckpointOf}
 use Rattle.sb_checkpoint.specs.MemoryStore.{MemoryStoreOf, MemoryActs}
 use Rattle.sb_checkpoint.specs.Reading.{stated_length, first_fault}
-use Rattle.sb_checkpoint.specs.Stores.{StoreStep, StoreDoes, Put, Got, NotGot}
+use Rattle.sb_checkpoint.specs.Stores.{StoreStep, StoreDoes, Put}
 use Rattle.sb_checkpoint.specs.declared.fault.CheckpointFault.{CheckpointFault}
 use Rattle.sb_checkpoint.specs.declared.memory_store.How.{How}
-use Rattle.sb_checkpoint.specs.declared.memory_store.How.TheVariants as how
 use Rattle.sb_checkpoint.specs.declared.store.StoreFault.{StoreFault}
 use Rattle.sb_checkpoint.specs.declared.store.StoreFault.TheVariants as store
 use Rattle.sb_replica.specs.Marking.{Puts}
 use Rattle.sb_replica.specs.Replica.{ReplicaOf, replies_held}
-use Rattle.sb_replica.specs.Restarting.{IsStoredAs, IsLogOn, Restarts, IsRestartFaultOf, IsRefusalOf, of_store_fault}
+use Rattle.sb_replica.specs.Restarting.{IsStoredAs, Restarts, IsRestartFaultOf, of_store_fault}
 use Rattle.sb_replica.specs.declared.fault.RestartFault.{RestartFault}
 use Rattle.sb_replica.specs.declared.fault.RestartFault.TheVariants as restart
 use Rattle.sb_replica.proofs.IdleReplies.{length_held}
-use Rattle.schedule_player.specs.Along.{IsBoardAlong, IsCheckpointAlong}
+use Rattle.schedule_player.specs.Along.{IsBoardAlong}
 use Rattle.schedule_player.specs.Bank.{BankOf}
 use Rattle.schedule_player.specs.NodeAlong.{seen_node, IsKeptAlong, IsNodeAt, Arrives}
 use Rattle.schedule_player.specs.Numbered.{copies}
 use Rattle.schedule_player.specs.ReplicaMoves.{NodeOf, put_ends, marked, restarted}
 use Rattle.schedule_player.specs.Seen.{stages_of, kept_in, ops_of}
-use Rattle.schedule_player.specs.Stage.{Stage, IsDone, is_undone}
+use Rattle.schedule_player.specs.Stage.{IsDone, is_undone}
 use Rattle.schedule_player.specs.declared.node.Node.{Node}
 use Rattle.schedule_player.specs.declared.note.Note.{Note}
 use Rattle.schedule_player.specs.declared.note.Note.TheVariants as note

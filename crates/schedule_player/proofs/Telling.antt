@@ -1,6 +1,6 @@
 -- A replica tells, and hears.
-use Rattle.std.proofs.Common.{◌≡◌, inl, inr, ℕ, zero, suc, ◌+◌, ◌<◌, ◌≤◌, Bool, true, false, Option, Some, None, Result, Ok, Err, List, [], ◌∷◌, ◌++◌, length, map, refl, sym, ap, subst, ◌∙◌, arith}
-use Rattle.std.specs.Prelude.{slice_get, option_map, IfSome, if◌then◌else◌, nat_le, nat_lt, ◌==◌, ◌||◌, count_by}
+use Rattle.std.proofs.Common.{◌≡◌, ℕ, zero, suc, ◌≤◌, Bool, true, false, Option, Some, None, Result, Ok, Err, List, [], ◌∷◌, ◌++◌, length, refl, sym, ap, subst, ◌∙◌, arith}
+use Rattle.std.specs.Prelude.{option_map, if◌then◌else◌, nat_le, nat_lt, ◌==◌, ◌||◌, count_by}
 use Rattle.std.proofs.lemmas.Bool.{eq-eqb, le-ltb}
 use Rattle.std.proofs.lemmas.List.{length-append}
 use Rattle.std.proofs.lemmas.Option.{slice_get-map, slice_get_within}
@@ -14,7 +14,6 @@ use Rattle.sb_calls.specs.declared.call.TheConstants.{LOG_CALLS}
 use Rattle.sb_calls.specs.declared.op.Op.{Op}
 use Rattle.sb_calls.specs.declared.reply.Reply.{Reply}
 use Rattle.sb_checkpoint.specs.MemoryStore.{MemoryStoreOf}
-use Rattle.sb_frames.specs.Decoding.{decoded}
 use Rattle.sb_frames.specs.Grammar.{Spells}
 use Rattle.sb_frames.specs.declared.fault.FrameFault.{FrameFault}
 use Rattle.sb_frames.specs.declared.fault.FrameFault.TheVariants.{BadLength}
@@ -24,7 +23,7 @@ use Rattle.sb_replica.proofs.AcceptedEntries.{next_number}
 use Rattle.sb_replica.specs.Hearing.{all_of, whole_frame, heard_of, heard, after_frame, Hears}
 use Rattle.sb_replica.specs.Replica.{ReplicaOf, beside_of}
 use Rattle.sb_replica.specs.declared.heard.Heard.{Heard}
-use Rattle.sb_replica_log.specs.Offers.{offered, accepted, after_offer}
+use Rattle.sb_replica_log.specs.Offers.{offered, after_offer}
 use Rattle.sb_replica_log.specs.declared.offered.Offered.{Offered}
 use Rattle.sb_replica_log.specs.declared.offered.Offered.TheVariants as offer
 use Rattle.schedule_player.specs.Along.{IsBoardAlong}
@@ -40,7 +39,7 @@ use Rattle.schedule_player.specs.declared.note.Note.TheVariants as note
 use Rattle.schedule_player.proofs.Along.{along_accepted}
 use Rattle.schedule_player.proofs.Finishing.{reply_by_names}
 use Rattle.schedule_player.proofs.Lists.{some_is, none_some, every_push}
-use Rattle.schedule_player.proofs.NodeMoves.{ChangesWithin, node_within, same_node}
+use Rattle.schedule_player.proofs.NodeMoves.{node_within}
 use Rattle.schedule_player.proofs.SeenReplies.{reply_if_done, reply_as_seen, within_log}
 use Rattle.schedule_player.proofs.SentFrames.{decoded_whole}
 use Rattle.schedule_player.proofs.Stages.{length-map, length_stages, undone_in_stages, stages_accepted}

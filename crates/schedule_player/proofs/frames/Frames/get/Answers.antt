@@ -1,8 +1,6 @@
-use Rattle.std.proofs.Common.{◌≡◌, Some, sym, subst, ap, ◌∙◌, ℕ}
+use Rattle.std.proofs.Common.{◌≡◌, Some, sym, subst, ap, ◌∙◌}
 use Rattle.sb_frames.specs.Grammar.{Spells}
-use Rattle.sb_frames.specs.declared.frame.Frame.{Frame as AnyFrame}
 use Rattle.schedule_player.specs.Numbered.{numbered}
-use Rattle.schedule_player.specs.Seen.{frame_in}
 use Rattle.schedule_player.proofs.SentFrames.{sent_frame}
 use Rattle.schedule_player.proofs.frames.Frames.get.Goals as goal
 

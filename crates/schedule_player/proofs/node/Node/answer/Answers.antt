@@ -1,4 +1,3 @@
-use Rattle.std.proofs.Common.{◌≡◌, None, Some, sym, ap, ◌∙◌}
 use Rattle.schedule_player.proofs.Telling.{answers_nothing, answers_reply}
 use Rattle.schedule_player.proofs.node.Node.answer.Goals as goal
 

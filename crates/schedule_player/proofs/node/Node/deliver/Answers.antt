@@ -1,4 +1,4 @@
-use Rattle.std.proofs.Common.{◌≡◌, sym, subst, ap, ◌∙◌}
+use Rattle.std.proofs.Common.{sym, subst}
 use Rattle.schedule_player.specs.NodeAlong.{Arrives, seen_node}
 use Rattle.schedule_player.specs.ReplicaMoves.{delivered_to}
 use Rattle.schedule_player.proofs.Telling.{delivers}

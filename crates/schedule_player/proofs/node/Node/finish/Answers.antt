@@ -1,12 +1,12 @@
-use Rattle.std.proofs.Common.{◌≡◌, None, Some, true, false, refl, sym, ap, subst, ◌∙◌}
-use Rattle.std.specs.List.{slice_get, slice_set}
+use Rattle.std.proofs.Common.{Some, refl, sym, ap, subst, ◌∙◌}
+use Rattle.std.specs.List.{slice_set}
 use Rattle.std.specs.Vec.{with_item}
 use Rattle.std.proofs.lemmas.Bool.{true≢false}
 use Rattle.schedule_player.specs.NodeAlong.{Arrives, seen_node}
 use Rattle.schedule_player.specs.ReplicaMoves.{finished_by}
 use Rattle.schedule_player.specs.declared.note.Note.TheVariants as note
 use Rattle.schedule_player.proofs.Finishing.{finishes_nothing, finishes_stranger, finishes_done}
-use Rattle.schedule_player.proofs.Lists.{get_here, no_hand}
+use Rattle.schedule_player.proofs.Lists.{get_here}
 use Rattle.schedule_player.proofs.node.Node.finish.Goals as goal
 
 pub returns-in_default-take : goal.returns-in_default-take

@@ -1,4 +1,4 @@
-use Rattle.std.proofs.Common.{◌≡◌, Ok, Err, sym, subst, ap, ◌∙◌}
+use Rattle.std.proofs.Common.{Ok, subst, ap, ◌∙◌}
 use Rattle.cown_board.specs.Board.{length_of}
 use Rattle.sb_replica.specs.Marking.{Puts, IsMarkFaultOf}
 use Rattle.schedule_player.proofs.Storing.{Does, told_of, marks_well, marks_badly}

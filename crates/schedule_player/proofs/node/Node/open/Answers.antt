@@ -1,4 +1,4 @@
-use Rattle.std.proofs.Common.{◌≡◌, [], sym, ap, ◌∙◌}
+use Rattle.std.proofs.Common.{[], sym, ap, ◌∙◌}
 use Rattle.cown_board.specs.Played.{opened_with}
 use Rattle.schedule_player.specs.Seen.{stages_of}
 use Rattle.schedule_player.proofs.Opening.{opens_so, opens_along}

@@ -1,4 +1,4 @@
-use Rattle.std.proofs.Common.{◌≡◌, sym, subst, ap}
+use Rattle.std.proofs.Common.{subst}
 use Rattle.sb_replica.specs.Restarting.{IsRestartFaultOf}
 use Rattle.schedule_player.proofs.Storing.{Does, goes_back, never_bad}
 use Rattle.schedule_player.proofs.node.Node.restart.Goals as goal

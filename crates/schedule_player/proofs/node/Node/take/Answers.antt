@@ -1,5 +1,4 @@
-use Rattle.std.proofs.Common.{◌≡◌, None, Some, refl, sym, ap, subst, ◌∙◌}
-use Rattle.std.specs.List.{slice_get}
+use Rattle.std.proofs.Common.{Some, refl, sym, subst}
 use Rattle.std.specs.Vec.{with_item}
 use Rattle.schedule_player.specs.NodeAlong.{Arrives, seen_node}
 use Rattle.schedule_player.specs.ReplicaMoves.{taken}
