@@ -2,6 +2,8 @@ pub mod Along
 pub mod LogParts
 pub mod Finishing
 pub mod Lists
+pub mod LongerLogs
+pub mod Moving
 pub mod NodeMoves
 pub mod Opening
 pub mod Runnable

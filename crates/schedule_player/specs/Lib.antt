@@ -6,3 +6,5 @@ pub mod Readiness
 pub mod ReplicaMoves
 pub mod Seen
 pub mod Stage
+pub mod World
+pub mod WorldAlong

@@ -1,0 +1,140 @@
+-- The reference machine: a sequencer, its replicas, and the frames between them.
+use Rattle.std.specs.Prelude.{◌≡◌, ℕ, ◌-◌, pos, int_lt, ◌==◌, if◌then◌else◌, Option, Some, None, Ok, Err, List, map, count_by, slice_get, slice_set}
+use Rattle.sb_rows.specs.Balances.{Balances}
+use Rattle.sb_rows.specs.Listing.{listed, total_of}
+use Rattle.sb_calls.specs.declared.ask.Key.{Key}
+use Rattle.sb_calls.specs.declared.call.Call.{Call}
+use Rattle.sb_calls.specs.declared.reply.Reply.{Reply}
+use Rattle.sb_frames.specs.declared.frame.Frame.{Frame}
+use Rattle.sb_frames.specs.declared.frame.Frame.TheVariants as frame
+use Rattle.sb_sequencer.specs.Answer.{IsAnswered}
+use Rattle.sb_sequencer.specs.Entries.{entry_of, resent}
+use Rattle.sb_sequencer.specs.Notes.{kept_at}
+use Rattle.sb_sequencer.specs.Sequencer.{SequencerOf, after_ask}
+use Rattle.sb_sequencer.specs.declared.answer.AskFault.TheVariants.{Mismatch, LogFull}
+use Rattle.sb_sequencer.specs.declared.answer.Numbered.TheVariants.{New, Repeat}
+use Rattle.schedule_player.specs.Bank.{BankOf, log_rows}
+use Rattle.schedule_player.specs.Numbered.{numbered}
+use Rattle.schedule_player.specs.ReplicaMoves.{NodeOf, length_in, undone_in, sent, sent_all, delivered_to, taken, finished_by, marked, restarted, acknowledged, answered}
+use Rattle.schedule_player.specs.declared.event.Event.{Event}
+use Rattle.schedule_player.specs.declared.event.Event.TheVariants as event
+use Rattle.schedule_player.specs.declared.note.AuditNote.{AuditNote}
+use Rattle.schedule_player.specs.declared.note.AuditNote.TheVariants as audit
+use Rattle.schedule_player.specs.declared.note.Note.{Note}
+use Rattle.schedule_player.specs.declared.note.Note.TheVariants as note
+
+-- the customers' names and balances at the opening, the sequencer, and the replicas
+pub record WorldOf : Type 0 where
+  pub names : List (List ℕ)
+  pub opening : Balances
+  pub sequencer : SequencerOf
+  pub nodes : List NodeOf
+
+abbrev pub bank_with : List (List ℕ) → Balances → List (Key × Call) → BankOf
+bank_with names opening log = record { names = names; opening = opening; calls = map (λ entry. entry.1) log }
+
+-- the bank, with the calls that were numbered
+abbrev pub bank_of : WorldOf → BankOf
+bank_of world = bank_with world.names world.opening world.sequencer.log
+
+-- ---- what an event does
+
+-- an ask, as the sequencer answers it
+abbrev pub Asks : WorldOf → Key × Call → Note → WorldOf → Type 0
+Asks old ask (note.New n) new =
+    IsAnswered old.sequencer.log ask (Ok (New n))
+    × (new ≡ record old { sequencer = after_ask old.sequencer ask (Ok (New n)) })
+Asks old ask (note.Repeat n) new = IsAnswered old.sequencer.log ask (Ok (Repeat n)) × (new ≡ old)
+Asks old ask (note.Mismatch n) new = IsAnswered old.sequencer.log ask (Err (Mismatch n)) × (new ≡ old)
+Asks old ask note.LogFull new = IsAnswered old.sequencer.log ask (Err LogFull) × (new ≡ old)
+Asks old ask other new = ⊥
+
+-- a replica moves; one that doesn't exist does nothing
+abbrev pub placed : WorldOf → ℕ → NodeOf × Note → WorldOf × Note
+placed world r moved = (record world { nodes = slice_set world.nodes r moved.0 }, moved.1)
+
+abbrev pub moved_if : WorldOf → ℕ → (NodeOf → NodeOf × Note) → Option NodeOf → WorldOf × Note
+moved_if world r move (Some node) = placed world r (move node)
+moved_if world r move None = (world, note.Nothing)
+
+abbrev pub moved_at : WorldOf → ℕ → (NodeOf → NodeOf × Note) → WorldOf × Note
+moved_at world r move = moved_if world r move (slice_get world.nodes r)
+
+-- what a replica told comes to the sequencer: a length is recorded, the first answer to a number is kept
+abbrev pub keeps : WorldOf → ℕ → Reply → Option (Option Reply) → WorldOf × Note
+keeps world number reply (Some None) = (
+  record world { sequencer = record world.sequencer { answers = slice_set world.sequencer.answers (number - 1) (Some reply) } },
+  note.Kept number,
+)
+keeps world number reply (Some (Some first)) = (world, note.Repeat number)
+keeps world number reply None = (world, note.Nothing)
+
+abbrev pub told : WorldOf → ℕ → Option Frame → WorldOf × Note
+told world r (Some (frame.Ack replica size)) = (
+  record world { sequencer = record world.sequencer { recorded = slice_set world.sequencer.recorded r size } },
+  note.Recorded size,
+)
+told world r (Some (frame.Answer number reply)) = keeps world number reply (kept_at world.sequencer number)
+told world r (Some (frame.Ask client request call)) = (world, note.Nothing)
+told world r (Some (frame.Entry number call)) = (world, note.Nothing)
+told world r (Some (frame.Outcome client request outcome)) = (world, note.Nothing)
+told world r (Some frame.Flush) = (world, note.Nothing)
+told world r None = (world, note.Nothing)
+
+abbrev pub heard_from : WorldOf → ℕ → ℕ → Option NodeOf → WorldOf × Note
+heard_from world r place (Some node) = told world r (numbered node.outbound place)
+heard_from world r place None = (world, note.Nothing)
+
+-- the bank's books after so many calls: its total, and how many customers have less than 0 in checking
+abbrev pub books_after : BankOf → ℕ → AuditNote
+books_after bank size =
+    let rows = listed bank.names (log_rows bank size) in
+    audit.Same (total_of rows) (count_by (λ customer. int_lt customer.checking (pos 0)) rows)
+
+-- two replicas are compared: the first case that holds
+abbrev pub compared : BankOf → ℕ → ℕ → NodeOf → NodeOf → AuditNote
+compared bank a b first second =
+    if undone_in first == 0 then (
+    if undone_in second == 0 then (
+    if length_in first == length_in second then books_after bank (length_in first)
+    else audit.Apart (length_in first) (length_in second)
+    ) else audit.Busy b
+    ) else audit.Busy a
+
+abbrev pub audited : BankOf → ℕ → ℕ → Option NodeOf → Option NodeOf → Note
+audited bank a b (Some first) (Some second) = note.Audit (compared bank a b first second)
+audited bank a b (Some first) None = note.Nothing
+audited bank a b None second = note.Nothing
+
+-- ---- all events but an ask
+
+abbrev pub moved : WorldOf → Event → WorldOf × Note
+moved world (event.Ask client request call) = (world, note.Nothing)
+moved world (event.Send r number) = moved_at world r (λ node. sent node (entry_of world.sequencer.log number))
+moved world (event.Resend r) = moved_at world r (λ node. sent_all node (resent world.sequencer r))
+moved world (event.To r place) = moved_at world r (λ node. delivered_to node place)
+moved world (event.Ack r) = moved_at world r (λ node. acknowledged node r)
+moved world (event.Answer r number) = moved_at world r (λ node. answered (bank_of world) node number)
+moved world (event.From r place) = heard_from world r place (slice_get world.nodes r)
+moved world (event.Take r worker index) = moved_at world r (λ node. taken (bank_of world) node worker index)
+moved world (event.Finish r worker) = moved_at world r (λ node. finished_by (bank_of world) node worker)
+moved world (event.Mark r how) = moved_at world r (λ node. marked node how)
+moved world (event.Restart r) = moved_at world r (λ node. restarted node)
+moved world (event.Audit a b) =
+    (world, audited (bank_of world) a b (slice_get world.nodes a) (slice_get world.nodes b))
+
+-- the machine goes from one world to another with this note
+abbrev pub Moves : WorldOf → Event → Note → WorldOf → Type 0
+Moves old (event.Ask client request call) note new =
+    Asks old (record { client = client; request = request }, call) note new
+Moves old (event.Send r number) note new = moved old (event.Send r number) ≡ (new, note)
+Moves old (event.Resend r) note new = moved old (event.Resend r) ≡ (new, note)
+Moves old (event.To r place) note new = moved old (event.To r place) ≡ (new, note)
+Moves old (event.Ack r) note new = moved old (event.Ack r) ≡ (new, note)
+Moves old (event.Answer r number) note new = moved old (event.Answer r number) ≡ (new, note)
+Moves old (event.From r place) note new = moved old (event.From r place) ≡ (new, note)
+Moves old (event.Take r worker index) note new = moved old (event.Take r worker index) ≡ (new, note)
+Moves old (event.Finish r worker) note new = moved old (event.Finish r worker) ≡ (new, note)
+Moves old (event.Mark r how) note new = moved old (event.Mark r how) ≡ (new, note)
+Moves old (event.Restart r) note new = moved old (event.Restart r) ≡ (new, note)
+Moves old (event.Audit a b) note new = moved old (event.Audit a b) ≡ (new, note)
