@@ -83,6 +83,11 @@ node_longer bank call r node few is =
       hands = λ k hand here. hand_stays bank call hand (is.hands k hand here);
       inbound = λ k sent here.
           let entry = is.inbound k sent here in
-          record { number = entry.number; call = entry.call; frame_is = entry.frame_is; in_log = numbered_longer bank.calls (call ∷ []) entry.number entry.call entry.in_log };
+          record {
+            number = entry.number;
+            call = entry.call;
+            frame_is = entry.frame_is;
+            in_log = numbered_longer bank.calls (call ∷ []) entry.number entry.call entry.in_log;
+          };
       outbound = λ k told here. told_stays bank call r told is.customers (is.outbound k told here);
     }

@@ -63,7 +63,11 @@ moved_at world r move = moved_if world r move (slice_get world.nodes r)
 -- what a replica told comes to the sequencer: a length is recorded, the first answer to a number is kept
 abbrev pub keeps : WorldOf → ℕ → Reply → Option (Option Reply) → WorldOf × Note
 keeps world number reply (Some None) = (
-  record world { sequencer = record world.sequencer { answers = slice_set world.sequencer.answers (number - 1) (Some reply) } },
+  record world {
+    sequencer = record world.sequencer {
+      answers = slice_set world.sequencer.answers (number - 1) (Some reply);
+    };
+  },
   note.Kept number,
 )
 keeps world number reply (Some (Some first)) = (world, note.Repeat number)

@@ -10,7 +10,8 @@ use Rattle.schedule_player.specs.World.{bank_with}
 use Rattle.schedule_player.specs.declared.node.Node.{Node}
 
 -- each replica is one of this bank, each answer that is kept is the log's, and the sequencer knows these replicas
-pub record IsWorld (names : List (List ℕ)) (opening : Balances) (sequencer : SequencerOf) (nodes : List Node) : Type 0 where
+pub record IsWorld (names : List (List ℕ)) (opening : Balances) (sequencer : SequencerOf)
+    (nodes : List Node) : Type 0 where
   pub customers : SameCustomers names opening
   pub known : length sequencer.recorded ≡ length nodes
   pub each : (r : ℕ) (node : Node) → slice_get nodes r ≡ Some node
