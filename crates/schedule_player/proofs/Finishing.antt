@@ -21,7 +21,7 @@ use Rattle.schedule_player.specs.ReplicaMoves.{NodeOf, note_of_reply, comes_back
 use Rattle.schedule_player.specs.Seen.{stage_of, stages_of, ops_of}
 use Rattle.schedule_player.specs.Stage.{Stage, Waits, IsOut, IsDone}
 use Rattle.schedule_player.specs.declared.node.Node.{Node}
-use Rattle.schedule_player.specs.declared.note.Note.TheVariants as note
+use Rattle.schedule_text.specs.declared.note.Note.TheVariants as note
 use Rattle.schedule_player.proofs.Along.{out_here, reply_along, along_finished}
 use Rattle.schedule_player.proofs.Lists.{some_is, none_some, every_set}
 use Rattle.schedule_player.proofs.NodeMoves.{ChangesWithin, node_within, hand_seen, kept_within, same_node}

@@ -17,8 +17,8 @@ use Rattle.schedule_player.specs.Readiness.{runnable}
 use Rattle.schedule_player.specs.ReplicaMoves.{NodeOf, goes_out, reaches_out, taken}
 use Rattle.schedule_player.specs.Seen.{stages_of, ops_of, kept_in}
 use Rattle.schedule_player.specs.declared.node.Node.{Node}
-use Rattle.schedule_player.specs.declared.note.Note.{Note}
-use Rattle.schedule_player.specs.declared.note.Note.TheVariants as note
+use Rattle.schedule_text.specs.declared.note.Note.{Note}
+use Rattle.schedule_text.specs.declared.note.Note.TheVariants as note
 use Rattle.schedule_player.proofs.Along.{job_along, along_taken}
 use Rattle.schedule_player.proofs.Lists.{every_set}
 use Rattle.schedule_player.proofs.Runnable.{runnable_alike}

@@ -34,8 +34,8 @@ use Rattle.schedule_player.specs.ReplicaMoves.{NodeOf, put_ends, marked, restart
 use Rattle.schedule_player.specs.Seen.{stages_of, kept_in, ops_of}
 use Rattle.schedule_player.specs.Stage.{IsDone, is_undone}
 use Rattle.schedule_player.specs.declared.node.Node.{Node}
-use Rattle.schedule_player.specs.declared.note.Note.{Note}
-use Rattle.schedule_player.specs.declared.note.Note.TheVariants as note
+use Rattle.schedule_text.specs.declared.note.Note.{Note}
+use Rattle.schedule_text.specs.declared.note.Note.TheVariants as note
 use Rattle.schedule_player.proofs.Along.{along_opened}
 use Rattle.schedule_player.proofs.Lists.{some_is, none_some}
 use Rattle.schedule_player.proofs.SeenReplies.{checkpoint_along, columns_along}

@@ -34,8 +34,8 @@ use Rattle.schedule_player.specs.ReplicaMoves.{NodeOf, tells, acknowledged, answ
 use Rattle.schedule_player.specs.Seen.{stages_of, ops_of}
 use Rattle.schedule_player.specs.Stage.{Stage, Waits, IsOut, IsDone, is_undone}
 use Rattle.schedule_player.specs.declared.node.Node.{Node}
-use Rattle.schedule_player.specs.declared.note.Note.{Note}
-use Rattle.schedule_player.specs.declared.note.Note.TheVariants as note
+use Rattle.schedule_text.specs.declared.note.Note.{Note}
+use Rattle.schedule_text.specs.declared.note.Note.TheVariants as note
 use Rattle.schedule_player.proofs.Along.{along_accepted}
 use Rattle.schedule_player.proofs.Finishing.{reply_by_names}
 use Rattle.schedule_player.proofs.Lists.{some_is, none_some, every_push}

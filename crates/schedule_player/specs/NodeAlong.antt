@@ -16,7 +16,7 @@ use Rattle.schedule_player.specs.Numbered.{numbered, Every}
 use Rattle.schedule_player.specs.ReplicaMoves.{NodeOf}
 use Rattle.schedule_player.specs.Seen.{stages_of, kept_in, ops_of}
 use Rattle.schedule_player.specs.declared.node.Node.{Node}
-use Rattle.schedule_player.specs.declared.note.Note.{Note}
+use Rattle.schedule_text.specs.declared.note.Note.{Note}
 
 abbrev pub number_in : JobOf Op → ℕ
 number_in job = job.number

@@ -11,8 +11,8 @@ use Rattle.schedule_player.specs.Bank.{BankOf, log_reply}
 use Rattle.schedule_player.specs.Numbered.{numbered, with_numbered, copies}
 use Rattle.schedule_player.specs.Readiness.{runnable}
 use Rattle.schedule_player.specs.Stage.{Stage, Waits, IsOut, IsDone, is_undone}
-use Rattle.schedule_player.specs.declared.note.Note.{Note}
-use Rattle.schedule_player.specs.declared.note.Note.TheVariants as note
+use Rattle.schedule_text.specs.declared.note.Note.{Note}
+use Rattle.schedule_text.specs.declared.note.Note.TheVariants as note
 
 -- the entries that it accepted, by number from 1; what each worker has in hand, by worker from 1; the length of the
 -- checkpoint that is kept; and all frames that were ever sent to it and from it, by place from 1

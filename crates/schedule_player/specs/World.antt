@@ -16,12 +16,12 @@ use Rattle.sb_sequencer.specs.declared.answer.Numbered.TheVariants.{New, Repeat}
 use Rattle.schedule_player.specs.Bank.{BankOf, log_rows}
 use Rattle.schedule_player.specs.Numbered.{numbered}
 use Rattle.schedule_player.specs.ReplicaMoves.{NodeOf, length_in, undone_in, sent, sent_all, delivered_to, taken, finished_by, marked, restarted, acknowledged, answered}
-use Rattle.schedule_player.specs.declared.event.Event.{Event}
-use Rattle.schedule_player.specs.declared.event.Event.TheVariants as event
-use Rattle.schedule_player.specs.declared.note.AuditNote.{AuditNote}
-use Rattle.schedule_player.specs.declared.note.AuditNote.TheVariants as audit
-use Rattle.schedule_player.specs.declared.note.Note.{Note}
-use Rattle.schedule_player.specs.declared.note.Note.TheVariants as note
+use Rattle.schedule_text.specs.declared.event.Event.{Event}
+use Rattle.schedule_text.specs.declared.event.Event.TheVariants as event
+use Rattle.schedule_text.specs.declared.note.AuditNote.{AuditNote}
+use Rattle.schedule_text.specs.declared.note.AuditNote.TheVariants as audit
+use Rattle.schedule_text.specs.declared.note.Note.{Note}
+use Rattle.schedule_text.specs.declared.note.Note.TheVariants as note
 
 -- the customers' names and balances at the opening, the sequencer, and the replicas
 pub record WorldOf : Type 0 where

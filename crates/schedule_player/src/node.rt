@@ -9,13 +9,13 @@ ghost use Rattle.schedule_player.specs.ReplicaMoves.{opened_node, taken, finishe
 
 use crate::fault::StepFault;
 use crate::frames::Frames;
-use crate::note::Note;
 use cown_board::{Job, Runs};
 use sb_calls::{LOG_CALLS, Op};
 use sb_checkpoint::{How, MemoryStore};
 use sb_frames::Frame;
 use sb_replica::{Heard, MarkFault, Replica, RestartFault};
 use sb_rows::{Columns, Directory};
+use schedule_text::Note;
 use std::alloc::{AllocError, Global};
 
 /// A replica, what each worker has in hand, and all frames that were ever sent to it and from it.

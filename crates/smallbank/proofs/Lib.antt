@@ -1,7 +1,6 @@
 pub mod Answered
 pub mod AskedLines
 pub mod Boards
-pub mod ByPlace
 pub mod ForGood
 pub mod Keyed
 pub mod Standings

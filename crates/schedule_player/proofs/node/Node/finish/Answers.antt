@@ -4,7 +4,7 @@ use Rattle.std.specs.Vec.{with_item}
 use Rattle.std.proofs.lemmas.Bool.{true≢false}
 use Rattle.schedule_player.specs.NodeAlong.{Arrives, seen_node}
 use Rattle.schedule_player.specs.ReplicaMoves.{finished_by}
-use Rattle.schedule_player.specs.declared.note.Note.TheVariants as note
+use Rattle.schedule_text.specs.declared.note.Note.TheVariants as note
 use Rattle.schedule_player.proofs.Finishing.{finishes_nothing, finishes_stranger, finishes_done}
 use Rattle.schedule_player.proofs.Lists.{get_here}
 use Rattle.schedule_player.proofs.node.Node.finish.Goals as goal

@@ -2,7 +2,7 @@ use Rattle.std.proofs.Common.{Some, refl, sym, subst}
 use Rattle.std.specs.Vec.{with_item}
 use Rattle.schedule_player.specs.NodeAlong.{Arrives, seen_node}
 use Rattle.schedule_player.specs.ReplicaMoves.{taken}
-use Rattle.schedule_player.specs.declared.note.Note.TheVariants as note
+use Rattle.schedule_text.specs.declared.note.Note.TheVariants as note
 use Rattle.schedule_player.proofs.Lists.{none_here}
 use Rattle.schedule_player.proofs.NodeMoves.{takes_nothing, takes_job}
 use Rattle.schedule_player.proofs.node.Node.take.Goals as goal

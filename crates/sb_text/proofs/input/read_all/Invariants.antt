@@ -1,5 +1,5 @@
 use Rattle.std.specs.Io.KnownBytes.{Consumes}
-use Rattle.smallbank.proofs.input.read_all.Given as goal
+use Rattle.sb_text.proofs.input.read_all.Given as goal
 
 -- what was read so far was at the front
 abbrev pub invariant-loop : goal.invariant-loop

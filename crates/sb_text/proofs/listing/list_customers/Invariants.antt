@@ -2,7 +2,7 @@ use Rattle.std.proofs.Common.{◌≡◌, ◌++◌, map, drop}
 use Rattle.sb_rows.specs.Customer.{customers_of}
 use Rattle.sb_rows.specs.Opening.{customer_line}
 use Rattle.sb_rows.specs.Text.{unlines}
-use Rattle.smallbank.proofs.listing.list_customers.Given as goal
+use Rattle.sb_text.proofs.listing.list_customers.Given as goal
 
 -- what is written and what is left to write are all
 abbrev pub invariant-loop-place : goal.invariant-loop-place

@@ -13,7 +13,7 @@ use Rattle.sb_rows.specs.Rows.{Rows, SameCustomers, rows_of}
 use Rattle.sb_rows.proofs.Places.{place_of_at}
 use Rattle.sb_rows.proofs.RowsLemmas.{get-rows_of}
 use Rattle.lane_audit.specs.Columns.{total}
-use Rattle.smallbank.specs.Output.{row_lines}
+use Rattle.sb_text.specs.Listing.{row_lines}
 use Rattle.sb_rows.specs.Text.{unlines}
 
 -- a customer with this name and these balances

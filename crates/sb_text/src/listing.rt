@@ -5,7 +5,7 @@ ghost use Rattle.sb_rows.specs.Customer.{customers_of};
 ghost use Rattle.sb_rows.specs.Opening.{customer_line};
 ghost use Rattle.sb_rows.specs.Rows.{SameCustomers, rows_of};
 ghost use Rattle.sb_rows.specs.Text.{unlines};
-ghost use Rattle.smallbank.specs.Output.{row_lines};
+ghost use Rattle.sb_text.specs.Listing.{row_lines};
 
 use lane_audit::bank_total;
 use sb_amount::{Cents, print, print_total};

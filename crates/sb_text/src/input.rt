@@ -1,0 +1,54 @@
+//! Reading a whole input.
+ghost use Rattle.std.specs.Prelude.{◌≡◌, IfOk, IfSome};
+ghost use Rattle.sb_text.specs.declared.input.ReadFault.TheVariants.{OutOfMemory};
+
+use std::alloc::{AllocError, Global};
+use std::io::{ErrorKind, Read};
+use thiserror::Error;
+
+/// How many reads an input may take; one more counts as a failed read.
+pub const READS: u32 = 1_000_000_000;
+
+// How many bytes are asked of a reader at once.
+const CHUNK: usize = 65_536;
+
+/// Why an input isn't read.
+#[derive(Clone, Copy, Debug, PartialEq, Eq, Error)]
+pub enum ReadFault {
+    /// A read failed, or the input takes more than [`READS`] reads.
+    #[error("device")]
+    Device,
+    /// Memory was refused.
+    #[error("out of memory")]
+    OutOfMemory,
+}
+
+impl From<AllocError> for ReadFault {
+    ghost from_gives = { λ _ fault. fault ≡ OutOfMemory };
+
+    fn from(_: AllocError) -> ReadFault {
+        ReadFault::OutOfMemory
+    }
+}
+
+/// Reads all that a reader gives.
+///
+/// A read that was interrupted is made again, and counts as one.
+pub fn read_all<R: Read>(alloc: Global, reader: &mut R) -> Result<Vec<u8>, ReadFault>
+    ensures { IfOk result (λ input. IfSome (R.remaining reader.old) (λ bytes. input.items ≡ bytes)) }
+{
+    let mut input = Vec::new(alloc);
+    let mut chunk = [0u8; CHUNK];
+    for _ in 0..READS {
+        match reader.read(&mut chunk) {
+            Ok(0) => return Ok(input),
+            Ok(count) => input.extend_from_slice(&chunk[..count])?,
+            Err(error) => {
+                if error.kind() != ErrorKind::Interrupted {
+                    return Err(ReadFault::Device);
+                }
+            }
+        }
+    }
+    Err(ReadFault::Device)
+}

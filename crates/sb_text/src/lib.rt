@@ -1,0 +1,12 @@
+//! What the programs share of their texts: reading a whole input, listing rows, writing a whole output.
+#![tactic(auto)]
+
+mod input;
+mod laws;
+mod listing;
+mod output;
+
+pub use input::{READS, ReadFault, read_all};
+pub use laws::limits;
+pub use listing::list_rows;
+pub use output::write_whole;

@@ -1,0 +1,16 @@
+//! Writing a whole output.
+ghost use Rattle.std.specs.Prelude.{OnOk};
+ghost use Rattle.std.specs.Io.KnownBytes.{Appends};
+
+use std::io;
+use std::io::Write;
+
+/// Writes a whole text, and flushes the writer.
+///
+/// Fails where a write fails; a part of the text may be written then.
+pub fn write_whole<W: Write>(writer: &mut W, text: &[u8]) -> io::Result<()>
+    ensures { OnOk result (Appends (W.contents writer.old) (W.contents writer.new) text.now) }
+{
+    writer.write_all(text)?;
+    writer.flush()
+}

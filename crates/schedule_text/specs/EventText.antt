@@ -1,0 +1,109 @@
+-- What a line of a schedule's events says.
+use Rattle.std.specs.Prelude.{ℕ, if◌then◌else◌, Option, Some, None, Result, Ok, Err, List, [], ◌∷◌, codes}
+use Rattle.std.specs.Str.{bytes_eq}
+use Rattle.sb_rows.specs.Text.{words}
+use Rattle.sb_calls.specs.Ask.{read_number}
+use Rattle.sb_calls.specs.Call.{call_of_words}
+use Rattle.sb_calls.specs.declared.call.Call.{Call}
+use Rattle.sb_calls.specs.declared.text.fault.CallFault.{CallFault}
+use Rattle.sb_checkpoint.specs.declared.memory_store.How.{How}
+use Rattle.sb_checkpoint.specs.declared.memory_store.How.TheVariants as how
+use Rattle.schedule_text.specs.declared.event.Event.{Event}
+use Rattle.schedule_text.specs.declared.event.Event.TheVariants as event
+use Rattle.schedule_text.specs.declared.fault.EventFault.{EventFault}
+use Rattle.schedule_text.specs.declared.fault.EventFault.TheVariants.{UnknownEvent, WrongWords, BadNumber, Call}
+
+-- ---- words that are numbers, up to three
+
+abbrev pub with_one : (ℕ → Event) → Option ℕ → Result Event EventFault
+with_one made (Some a) = Ok (made a)
+with_one made None = Err BadNumber
+
+abbrev pub with_two : (ℕ → ℕ → Event) → Option ℕ → Option ℕ → Result Event EventFault
+with_two made (Some a) b = with_one (made a) b
+with_two made None b = Err BadNumber
+
+abbrev pub with_three : (ℕ → ℕ → ℕ → Event) → Option ℕ → Option ℕ → Option ℕ → Result Event EventFault
+with_three made (Some a) b c = with_two (made a) b c
+with_three made None b c = Err BadNumber
+
+-- the words after that of an event that takes one number
+abbrev pub of_one : (ℕ → Event) → List (List ℕ) → Result Event EventFault
+of_one made (a ∷ []) = with_one made (read_number a)
+of_one made [] = Err WrongWords
+of_one made (a ∷ b ∷ more) = Err WrongWords
+
+-- two numbers
+abbrev pub of_two : (ℕ → ℕ → Event) → List (List ℕ) → Result Event EventFault
+of_two made (a ∷ b ∷ []) = with_two made (read_number a) (read_number b)
+of_two made [] = Err WrongWords
+of_two made (a ∷ []) = Err WrongWords
+of_two made (a ∷ b ∷ c ∷ more) = Err WrongWords
+
+-- three numbers
+abbrev pub of_three : (ℕ → ℕ → ℕ → Event) → List (List ℕ) → Result Event EventFault
+of_three made (a ∷ b ∷ c ∷ []) = with_three made (read_number a) (read_number b) (read_number c)
+of_three made [] = Err WrongWords
+of_three made (a ∷ []) = Err WrongWords
+of_three made (a ∷ b ∷ []) = Err WrongWords
+of_three made (a ∷ b ∷ c ∷ d ∷ more) = Err WrongWords
+
+-- ---- how a put ends
+
+abbrev pub how_of : List ℕ → Option How
+how_of word =
+    if bytes_eq word (codes "ok") then Some how.Ok
+    else if bytes_eq word (codes "old") then Some how.Old
+    else if bytes_eq word (codes "new") then Some how.New
+    else None
+
+abbrev pub marks : Option ℕ → Option How → Result Event EventFault
+marks (Some r) (Some how) = Ok (event.Mark r how)
+marks (Some r) None = Err BadNumber
+marks None how = Err BadNumber
+
+abbrev pub of_mark : List (List ℕ) → Result Event EventFault
+of_mark (r ∷ how ∷ []) = marks (read_number r) (how_of how)
+of_mark [] = Err WrongWords
+of_mark (r ∷ []) = Err WrongWords
+of_mark (r ∷ how ∷ c ∷ more) = Err WrongWords
+
+-- ---- an ask: a client's number, which may be 0, its number for the request, and a call
+
+abbrev pub asks : ℕ → ℕ → Result Call CallFault → Result Event EventFault
+asks client request (Ok call) = Ok (event.Ask client request call)
+asks client request (Err fault) = Err (Call fault)
+
+abbrev pub with_key : Option ℕ → Option ℕ → List (List ℕ) → Result Event EventFault
+with_key (Some client) (Some request) call = asks client request (call_of_words call)
+with_key (Some client) None call = Err BadNumber
+with_key None request call = Err BadNumber
+
+abbrev pub of_ask : List (List ℕ) → Result Event EventFault
+of_ask (client ∷ request ∷ call) = with_key (read_number client) (read_number request) call
+of_ask [] = Err WrongWords
+of_ask (client ∷ []) = Err WrongWords
+
+-- ---- a line
+
+-- by its first word
+abbrev pub event_of_words : List (List ℕ) → Result Event EventFault
+event_of_words [] = Err UnknownEvent
+event_of_words (verb ∷ rest) =
+    if bytes_eq verb (codes "ask") then of_ask rest
+    else if bytes_eq verb (codes "send") then of_two event.Send rest
+    else if bytes_eq verb (codes "resend") then of_one event.Resend rest
+    else if bytes_eq verb (codes "to") then of_two event.To rest
+    else if bytes_eq verb (codes "ack") then of_one event.Ack rest
+    else if bytes_eq verb (codes "answer") then of_two event.Answer rest
+    else if bytes_eq verb (codes "from") then of_two event.From rest
+    else if bytes_eq verb (codes "take") then of_three event.Take rest
+    else if bytes_eq verb (codes "finish") then of_two event.Finish rest
+    else if bytes_eq verb (codes "mark") then of_mark rest
+    else if bytes_eq verb (codes "restart") then of_one event.Restart rest
+    else if bytes_eq verb (codes "audit") then of_two event.Audit rest
+    else Err UnknownEvent
+
+-- the event that a line says, or its first fault
+unfoldable pub event_of : List ℕ → Result Event EventFault
+event_of line = event_of_words (words line)

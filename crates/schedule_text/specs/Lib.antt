@@ -1,0 +1,5 @@
+pub mod EventText
+pub mod Head
+pub mod NoteText
+pub mod Reads
+pub mod ScheduleText

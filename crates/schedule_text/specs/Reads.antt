@@ -1,0 +1,22 @@
+-- What the reader of a schedule answers, against what the text says.
+use Rattle.std.specs.Prelude.{◌≡◌, ℕ, Result, Ok, Err}
+use Rattle.schedule_text.specs.ScheduleText.{ScheduleOf}
+use Rattle.schedule_text.specs.declared.fault.ScheduleLineFault.{ScheduleLineFault}
+use Rattle.schedule_text.specs.declared.fault.TextFault.{TextFault}
+use Rattle.schedule_text.specs.declared.fault.TextFault.TheVariants.{Line, OutOfMemory}
+use Rattle.schedule_text.specs.declared.schedule.Schedule.{Schedule}
+
+abbrev pub schedule_seen : Schedule → ScheduleOf
+schedule_seen schedule = record {
+  nodes = schedule.nodes;
+  workers = schedule.workers;
+  names = schedule.directory;
+  balances = schedule.columns;
+  events = schedule.events.items;
+}
+
+-- the schedule as the text says it, or the first fault; memory may run out
+abbrev pub Reads : Result Schedule TextFault → Result ScheduleOf (ℕ × ScheduleLineFault) → Type 0
+Reads (Ok schedule) read = read ≡ Ok (schedule_seen schedule)
+Reads (Err (Line line fault)) read = read ≡ Err (line, fault)
+Reads (Err OutOfMemory) read = Unit {0}

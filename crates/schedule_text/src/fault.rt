@@ -1,0 +1,63 @@
+//! Why a text is no schedule.
+ghost use Rattle.std.specs.Prelude.{◌≡◌};
+ghost use Rattle.schedule_text.specs.declared.fault.TextFault.TheVariants.{OutOfMemory};
+
+use sb_calls::CallFault;
+use sb_rows::LineFault;
+use std::alloc::AllocError;
+use thiserror::Error;
+
+/// What is wrong with a line that is no event: the first fault in this order.
+#[derive(Clone, Copy, Debug, PartialEq, Eq, Error)]
+pub enum EventFault {
+    /// The first word is no event's.
+    #[error("unknown event")]
+    UnknownEvent,
+    /// The event takes another number of words; of an ask, the words before its call.
+    #[error("wrong words")]
+    WrongWords,
+    /// A word in a number's place is no such number, or a word in the place of how a put ends is none of the three.
+    #[error("bad number")]
+    BadNumber,
+    /// The call of an ask is at fault.
+    #[error(transparent)]
+    Call(CallFault),
+}
+
+/// What is wrong with a line of a schedule.
+#[derive(Clone, Copy, Debug, PartialEq, Eq, Error)]
+pub enum ScheduleLineFault {
+    /// The first line is no head.
+    #[error("bad head")]
+    BadHead,
+    /// The line belongs to the opening.
+    #[error(transparent)]
+    Opening(LineFault),
+    /// The line is an event's.
+    #[error(transparent)]
+    Event(EventFault),
+}
+
+/// Why a text is no schedule.
+#[derive(Clone, Copy, Debug, PartialEq, Eq, Error)]
+pub enum TextFault {
+    /// The first line at fault, numbered from 1, and its fault.
+    #[error("line {line}: {fault}")]
+    Line {
+        /// The number of the line.
+        line: usize,
+        /// What is wrong with it.
+        fault: ScheduleLineFault,
+    },
+    /// Memory was refused.
+    #[error("out of memory")]
+    OutOfMemory,
+}
+
+impl From<AllocError> for TextFault {
+    ghost from_gives = { λ _ fault. fault ≡ OutOfMemory };
+
+    fn from(_: AllocError) -> TextFault {
+        TextFault::OutOfMemory
+    }
+}

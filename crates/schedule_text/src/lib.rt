@@ -1,0 +1,16 @@
+//! The text of schedules: their events, and the notes on these.
+#![tactic(auto)]
+
+mod event;
+mod event_text;
+mod fault;
+mod note;
+mod note_text;
+mod schedule;
+
+pub use event::Event;
+pub use event_text::read_event;
+pub use fault::{EventFault, ScheduleLineFault, TextFault};
+pub use note::{AuditNote, Column, Note};
+pub use note_text::push_notes;
+pub use schedule::{Schedule, read_schedule};
