@@ -44,8 +44,8 @@ impl<S: CheckpointStore> Replica<S> {
         }
     }
 
-    // The replies to all numbers, where none is unfinished.
-    fn replies(&self) -> Result<Vec<Reply>, AllocError>
+    /// The replies to all numbers in order, where none is unfinished. Fails where memory is refused.
+    pub fn replies(&self) -> Result<Vec<Reply>, AllocError>
         requires { open_of self.now.board ≡ 0 }
         ensures value { IfOk result (λ replies. replies.items ≡ replies_held self.now.board) }
         ensures valid { IfOk result (λ replies. All IsReply replies.items) }

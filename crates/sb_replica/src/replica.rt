@@ -114,6 +114,15 @@ impl<S: CheckpointStore> Replica<S> {
         self.log.columns()
     }
 
+    /// The columns after all entries, lent, or `None` while one is unfinished.
+    pub fn settled_columns(&self) -> Option<&Columns>
+        ensures value { MatchOption result (open_of self.now.board ≢ 0)
+            (λ columns. (open_of self.now.board ≡ 0) × IsAfterAll declared_cowns effect_of self.now.board columns.now) }
+        ensures bank { IfSome result (λ columns. IsBalances columns.now) }
+    {
+        self.log.settled_columns()
+    }
+
     /// What the store holds, as [`CheckpointStore::get`].
     pub fn stored(&mut self) -> Result<Option<Vec<u8>>, StoreFault>
         ensures got { MatchResult result

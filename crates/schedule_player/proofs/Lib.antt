@@ -1,7 +1,9 @@
 pub mod Along
-pub mod LogParts
+pub mod Asking
 pub mod Finishing
+pub mod Hearing
 pub mod Lists
+pub mod LogParts
 pub mod LongerLogs
 pub mod Moving
 pub mod NodeMoves

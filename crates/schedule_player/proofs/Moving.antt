@@ -1,5 +1,5 @@
 -- One replica of a world moves.
-use Rattle.std.proofs.Common.{◌≡◌, inl, inr, ℕ, ◌<◌, Some, None, List, length, map, sym, ap, subst, ◌∙◌}
+use Rattle.std.proofs.Common.{◌≡◌, inl, inr, ℕ, ◌<◌, Some, None, List, length, map, sym, ap, subst, ◌∙◌, arith}
 use Rattle.std.specs.Prelude.{slice_get, slice_set, option_map}
 use Rattle.std.proofs.lemmas.Bool.{cases_eq}
 use Rattle.std.proofs.lemmas.List.{length-set}
@@ -26,7 +26,9 @@ module _ (names : List (List ℕ)) (opening : Balances) (s : SequencerOf) (nodes
       → IsWorld names opening s (slice_set nodes r new)
   world_with r new is along = record {
     customers = is.customers;
+    valid = is.valid;
     known = is.known ∙ sym (length-set nodes r new);
+    few = let l = length-set nodes r new in let f = is.few in omega (arith, l, f);
     each = λ q node here. elim (cases_eq r q) [
       | inl same ↦
           let within : r < length nodes =

@@ -1,7 +1,10 @@
 pub mod Along
 pub mod Bank
+pub mod Hearing
 pub mod NodeAlong
 pub mod Numbered
+pub mod Observed
+pub mod Played
 pub mod Readiness
 pub mod ReplicaMoves
 pub mod Seen

@@ -1,5 +1,5 @@
 -- The reference machine: a sequencer, its replicas, and the frames between them.
-use Rattle.std.specs.Prelude.{◌≡◌, ℕ, ◌-◌, pos, int_lt, ◌==◌, if◌then◌else◌, Option, Some, None, Ok, Err, List, map, count_by, slice_get, slice_set}
+use Rattle.std.specs.Prelude.{◌≡◌, ◌≢◌, ℕ, ◌-◌, pos, int_lt, ◌==◌, if◌then◌else◌, Option, Some, None, Ok, Err, List, map, count_by, slice_get, slice_set}
 use Rattle.sb_rows.specs.Balances.{Balances}
 use Rattle.sb_rows.specs.Listing.{listed, total_of}
 use Rattle.sb_calls.specs.declared.ask.Key.{Key}
@@ -10,12 +10,12 @@ use Rattle.sb_frames.specs.declared.frame.Frame.TheVariants as frame
 use Rattle.sb_sequencer.specs.Answer.{IsAnswered}
 use Rattle.sb_sequencer.specs.Entries.{entry_of, resent}
 use Rattle.sb_sequencer.specs.Notes.{kept_at}
-use Rattle.sb_sequencer.specs.Sequencer.{SequencerOf, after_ask}
-use Rattle.sb_sequencer.specs.declared.answer.AskFault.TheVariants.{Mismatch, LogFull}
+use Rattle.sb_sequencer.specs.Sequencer.{SequencerOf, opened, after_ask}
+use Rattle.sb_sequencer.specs.declared.answer.AskFault.TheVariants.{Mismatch, LogFull, OutOfMemory}
 use Rattle.sb_sequencer.specs.declared.answer.Numbered.TheVariants.{New, Repeat}
 use Rattle.schedule_player.specs.Bank.{BankOf, log_rows}
-use Rattle.schedule_player.specs.Numbered.{numbered}
-use Rattle.schedule_player.specs.ReplicaMoves.{NodeOf, length_in, undone_in, sent, sent_all, delivered_to, taken, finished_by, marked, restarted, acknowledged, answered}
+use Rattle.schedule_player.specs.Numbered.{numbered, copies}
+use Rattle.schedule_player.specs.ReplicaMoves.{NodeOf, opened_node, length_in, undone_in, sent, sent_all, delivered_to, taken, finished_by, marked, restarted, acknowledged, answered}
 use Rattle.schedule_text.specs.declared.event.Event.{Event}
 use Rattle.schedule_text.specs.declared.event.Event.TheVariants as event
 use Rattle.schedule_text.specs.declared.note.AuditNote.{AuditNote}
@@ -36,6 +36,15 @@ bank_with names opening log = record { names = names; opening = opening; calls =
 -- the bank, with the calls that were numbered
 abbrev pub bank_of : WorldOf → BankOf
 bank_of world = bank_with world.names world.opening world.sequencer.log
+
+-- a bank at its opening, with so many replicas of so many workers each
+abbrev pub opened_world : List (List ℕ) → Balances → ℕ → ℕ → WorldOf
+opened_world names opening nodes workers = record {
+  names = names;
+  opening = opening;
+  sequencer = opened nodes;
+  nodes = copies nodes (opened_node workers);
+}
 
 -- ---- what an event does
 
@@ -142,3 +151,25 @@ Moves old (event.Finish r worker) note new = moved old (event.Finish r worker) �
 Moves old (event.Mark r how) note new = moved old (event.Mark r how) ≡ (new, note)
 Moves old (event.Restart r) note new = moved old (event.Restart r) ≡ (new, note)
 Moves old (event.Audit a b) note new = moved old (event.Audit a b) ≡ (new, note)
+
+-- ---- where memory may be wanted
+
+-- where the machine finds something to do
+abbrev pub FindsWork : WorldOf → Event → Type 0
+FindsWork world event = (moved world event).1 ≢ note.Nothing
+
+-- never for a take, a finish or what the sequencer hears; an ask wants it for a new number alone
+abbrev pub MayWantMemory : WorldOf → Event → Type 0
+MayWantMemory world (event.Ask client request call) =
+    IsAnswered world.sequencer.log (record { client = client; request = request }, call) (Err OutOfMemory)
+MayWantMemory world (event.Take r worker index) = ⊥
+MayWantMemory world (event.Finish r worker) = ⊥
+MayWantMemory world (event.From r place) = ⊥
+MayWantMemory world (event.Send r number) = FindsWork world (event.Send r number)
+MayWantMemory world (event.Resend r) = FindsWork world (event.Resend r)
+MayWantMemory world (event.To r place) = FindsWork world (event.To r place)
+MayWantMemory world (event.Ack r) = FindsWork world (event.Ack r)
+MayWantMemory world (event.Answer r number) = FindsWork world (event.Answer r number)
+MayWantMemory world (event.Mark r how) = FindsWork world (event.Mark r how)
+MayWantMemory world (event.Restart r) = FindsWork world (event.Restart r)
+MayWantMemory world (event.Audit a b) = FindsWork world (event.Audit a b)

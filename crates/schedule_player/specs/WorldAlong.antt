@@ -1,9 +1,9 @@
 -- A world of the code, beside its log.
-use Rattle.std.specs.Prelude.{◌≡◌, ℕ, suc, Some, List, length, slice_get}
+use Rattle.std.specs.Prelude.{◌≡◌, ℕ, suc, ◌≤◌, Some, List, length, slice_get}
 use Rattle.sb_rows.specs.Balances.{Balances}
 use Rattle.sb_rows.specs.Rows.{SameCustomers}
 use Rattle.sb_calls.specs.declared.reply.Reply.{Reply}
-use Rattle.sb_sequencer.specs.Sequencer.{SequencerOf}
+use Rattle.sb_sequencer.specs.Sequencer.{SequencerOf, IsSequencer}
 use Rattle.schedule_player.specs.Bank.{log_reply}
 use Rattle.schedule_player.specs.NodeAlong.{IsNodeAt}
 use Rattle.schedule_player.specs.World.{bank_with}
@@ -13,7 +13,9 @@ use Rattle.schedule_player.specs.declared.node.Node.{Node}
 pub record IsWorld (names : List (List ℕ)) (opening : Balances) (sequencer : SequencerOf)
     (nodes : List Node) : Type 0 where
   pub customers : SameCustomers names opening
+  pub valid : IsSequencer sequencer
   pub known : length sequencer.recorded ≡ length nodes
+  pub few : length nodes ≤ 8
   pub each : (r : ℕ) (node : Node) → slice_get nodes r ≡ Some node
       → IsNodeAt (bank_with names opening sequencer.log) r node
   pub answers : (k : ℕ) (reply : Reply) → slice_get sequencer.answers k ≡ Some (Some reply)

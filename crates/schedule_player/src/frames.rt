@@ -1,9 +1,10 @@
 //! Frames that were sent, as bytes.
-ghost use Rattle.std.specs.Prelude.{◌≡◌, None, Some, [], ◌∷◌, ◌++◌, length, IfOk, OnErr, MatchOption};
+ghost use Rattle.std.specs.Prelude.{◌≡◌, ◌+◌, ◌≤◌, None, Some, [], ◌∷◌, ◌++◌, length, map, vec_capacity, IfOk, OnOk, OnErr, MatchOption};
 ghost use Rattle.std.specs.Option.{option_copied};
 ghost use Rattle.sb_frames.specs.Grammar.{Spells};
 ghost use Rattle.sb_frames.specs.declared.frame.Frame.{Frame as AnyFrame};
-ghost use Rattle.schedule_player.specs.Numbered.{numbered};
+ghost use Rattle.schedule_player.specs.Numbered.{numbered, Every};
+ghost use Rattle.schedule_player.specs.Seen.{frame_in, IsSpelled};
 
 use arrayvec::ArrayVec;
 use sb_frames::{Frame, MAX_FRAME, encode};
@@ -37,6 +38,19 @@ fn item_at<T>(items: &[T], place: u32) -> Option<&T>
     items.get(place as usize)
 }
 
+// Puts the bytes of frames last, in room that is there.
+fn push_all(sent: &mut Vec<ArrayVec<u8, MAX_FRAME>>, frames: &[Frame])
+    requires { length sent.old.items + length frames.now ≤ vec_capacity sent.old }
+    ensures spelled { Every (λ bytes. IsSpelled bytes.items) sent.old.items
+        → Every (λ bytes. IsSpelled bytes.items) sent.new.items }
+    ensures frames { map (λ bytes. frame_in bytes.items) sent.new.items
+        ≡ map (λ bytes. frame_in bytes.items) sent.old.items ++ frames.now }
+{
+    for frame in frames {
+        sent.push_reserved(encode(frame));
+    }
+}
+
 impl Frames {
     /// No frames.
     pub fn new(alloc: Global) -> Frames
@@ -55,6 +69,16 @@ impl Frames {
     {
         self.sent.push(encode(frame))?;
         Ok(self.sent.len() as u64)
+    }
+
+    /// Puts frames last, in order. Where memory is refused none is put.
+    pub fn send_all(&mut self, frames: &[Frame]) -> Result<(), AllocError>
+        ensures sent { OnOk result (self.new ≡ self.old ++ frames.now) }
+        ensures err { OnErr result (self.new ≡ self.old) }
+    {
+        self.sent.reserve(frames.len())?;
+        push_all(&mut self.sent, frames);
+        Ok(())
     }
 
     /// The bytes of the frame at a place, from 1.

@@ -4,8 +4,8 @@ ghost use Rattle.sb_rows.specs.Rows.{SameCustomers};
 ghost use Rattle.cown_board.specs.Board.{reply_in};
 ghost use Rattle.schedule_player.specs.Bank.{BankOf};
 ghost use Rattle.schedule_player.specs.NodeAlong.{IsEntryOf, IsNodeAt, Arrives, IsAsBefore, seen_node};
-ghost use Rattle.schedule_player.specs.Numbered.{numbered, copies};
-ghost use Rattle.schedule_player.specs.ReplicaMoves.{opened_node, taken, finished_by, delivered_to, sent, acknowledged, answered, marked, restarted, note_of_heard};
+ghost use Rattle.schedule_player.specs.Numbered.{numbered, copies, Every};
+ghost use Rattle.schedule_player.specs.ReplicaMoves.{opened_node, taken, finished_by, delivered_to, sent, sent_all, acknowledged, answered, marked, restarted, note_of_heard};
 
 use crate::fault::StepFault;
 use crate::frames::Frames;
@@ -150,6 +150,16 @@ impl Node {
     {
         let place = self.inbound.send(entry)?;
         Ok(Note::Sent(place))
+    }
+
+    /// Entries are sent to the replica, all of them or none.
+    pub fn send_all(&mut self, entries: &[Frame]) -> Result<Note, StepFault>
+        ensures moves { (bank : BankOf) (r : ℕ) → IsNodeAt bank r self.old → Every (IsEntryOf bank) entries.now
+            → IfOk result (λ note. Arrives bank r self.new note (sent_all (seen_node self.old) entries.now)) }
+        ensures err { OnErr result (self.new ≡ self.old) }
+    {
+        self.inbound.send_all(entries)?;
+        Ok(Note::Resent(entries.len() as u64))
     }
 
     /// The replica sends how long its log is.

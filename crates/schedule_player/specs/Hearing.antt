@@ -1,0 +1,35 @@
+-- What the sequencer makes of a frame.
+use Rattle.std.specs.Prelude.{◌≡◌, ℕ}
+use Rattle.sb_frames.specs.declared.frame.Frame.{Frame}
+use Rattle.sb_frames.specs.declared.frame.Frame.TheVariants as frame
+use Rattle.sb_sequencer.specs.Notes.{hears_ack, after_ack, IsAnswerNote, after_answer}
+use Rattle.sb_sequencer.specs.Sequencer.{SequencerOf}
+use Rattle.sb_sequencer.specs.declared.note.AckNote.{AckNote}
+use Rattle.sb_sequencer.specs.declared.note.AckNote.TheVariants as acks
+use Rattle.sb_sequencer.specs.declared.note.AnswerNote.{AnswerNote}
+use Rattle.sb_sequencer.specs.declared.note.AnswerNote.TheVariants as answers
+use Rattle.schedule_text.specs.declared.note.Note.{Note}
+use Rattle.schedule_text.specs.declared.note.Note.TheVariants as note
+
+-- how it notes a length, and a reply
+abbrev pub ack_noted : ℕ → AckNote → Note
+ack_noted size acks.Recorded = note.Recorded size
+ack_noted size acks.Odd = note.Odd
+
+abbrev pub answer_noted : ℕ → AnswerNote → Note
+answer_noted number answers.Kept = note.Kept number
+answer_noted number answers.Repeat = note.Repeat number
+answer_noted number answers.Odd = note.OddAnswer number
+answer_noted number answers.Unknown = note.Unknown number
+
+-- only what a replica tells is heard
+abbrev pub HearsFrame : SequencerOf → Frame → Note → SequencerOf → Type 0
+HearsFrame old (frame.Ack replica size) noted new =
+    (noted ≡ ack_noted size (hears_ack old replica size)) × (new ≡ after_ack old replica size)
+HearsFrame old (frame.Answer number reply) noted new =
+    (answer : AnswerNote) × IsAnswerNote old number reply answer
+    × (noted ≡ answer_noted number answer) × (new ≡ after_answer old number reply answer)
+HearsFrame old (frame.Ask client request call) noted new = (noted ≡ note.Nothing) × (new ≡ old)
+HearsFrame old (frame.Entry number call) noted new = (noted ≡ note.Nothing) × (new ≡ old)
+HearsFrame old (frame.Outcome client request outcome) noted new = (noted ≡ note.Nothing) × (new ≡ old)
+HearsFrame old frame.Flush noted new = (noted ≡ note.Nothing) × (new ≡ old)

@@ -1,0 +1,55 @@
+//! What a frame comes to at the sequencer.
+ghost use Rattle.std.specs.Prelude.{◌≡◌};
+ghost use Rattle.sb_frames.specs.Grammar.{Spells};
+ghost use Rattle.sb_frames.specs.declared.frame.Frame.{Frame as AnyFrame};
+ghost use Rattle.schedule_player.specs.Hearing.{HearsFrame, ack_noted, answer_noted};
+
+use sb_frames::{Frame, decode};
+use sb_sequencer::{AckNote, AnswerNote, Sequencer};
+use schedule_text::Note;
+
+// How the sequencer notes a length.
+fn ack_noted(length: u64, noted: AckNote) -> Note
+    ensures { result ≡ ack_noted length noted }
+{
+    match noted {
+        AckNote::Recorded => Note::Recorded(length),
+        AckNote::Odd => Note::Odd,
+    }
+}
+
+// How the sequencer notes a reply.
+fn answer_noted(number: u64, noted: AnswerNote) -> Note
+    ensures { result ≡ answer_noted number noted }
+{
+    match noted {
+        AnswerNote::Kept => Note::Kept(number),
+        AnswerNote::Repeat => Note::Repeat(number),
+        AnswerNote::Odd => Note::OddAnswer(number),
+        AnswerNote::Unknown => Note::Unknown(number),
+    }
+}
+
+// What a frame comes to at the sequencer.
+fn hear_frame(sequencer: &mut Sequencer, frame: &Frame) -> Note
+    ensures { HearsFrame sequencer.old frame.now result sequencer.new }
+{
+    match frame {
+        Frame::Ack { replica, length } => ack_noted(*length, sequencer.on_ack(*replica, *length)),
+        Frame::Answer { number, reply } => {
+            answer_noted(*number, sequencer.on_answer(*number, reply.reply()))
+        }
+        _ => Note::Nothing,
+    }
+}
+
+/// What the bytes of a frame come to at the sequencer.
+pub(crate) fn hear(sequencer: &mut Sequencer, bytes: &[u8]) -> Note
+    ensures { (sent : AnyFrame) → Spells sent bytes.now → HearsFrame sequencer.old sent result sequencer.new }
+{
+    match decode(bytes) {
+        Ok((frame, _)) => hear_frame(sequencer, &frame),
+        // All that was sent is a frame.
+        Err(_) => Note::Nothing,
+    }
+}
