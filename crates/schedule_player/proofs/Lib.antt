@@ -1,5 +1,6 @@
 pub mod Along
 pub mod Asking
+pub mod Books
 pub mod Finishing
 pub mod Hearing
 pub mod Lists

@@ -1,5 +1,6 @@
 pub mod Along
 pub mod Bank
+pub mod Books
 pub mod Hearing
 pub mod NodeAlong
 pub mod Numbered

@@ -1,6 +1,7 @@
 //! Plays schedules: a sequencer and its replicas, event after event.
 #![tactic(auto)]
 
+mod auditing;
 mod fault;
 mod frames;
 mod hearing;

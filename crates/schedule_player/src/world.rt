@@ -17,11 +17,13 @@ use sb_checkpoint::How;
 use sb_rows::{Columns, Directory};
 use sb_sequencer::{AskFault, Numbered, Sequencer};
 use schedule_text::Note;
+use std::alloc::Global;
 use std::marker::Model;
 
 /// A sequencer, its replicas with their workers, and all frames that were ever sent between them.
 #[derive(Drop)]
 pub struct World {
+    pub(crate) alloc: Global,
     pub(crate) directory: Directory,
     pub(crate) opening: Columns,
     pub(crate) sequencer: Sequencer,

@@ -1,0 +1,165 @@
+-- The rows and the books of an idle replica.
+use Rattle.std.proofs.Common.{◌≡◌, true, false, ℕ, zero, suc, ◌+◌, ◌<◌, ◌≤◌, Bool, ℤ, pos, ◌+ℤ◌, Option, Some, None, List, [], ◌∷◌, length, map, take, get_or, refl, sym, ap, subst, ◌∙◌, arith}
+use Rattle.std.specs.Prelude.{slice_get, is_some, count_by, int_lt, if◌then◌else◌}
+use Rattle.std.specs.FinMap.{get}
+use Rattle.std.proofs.lemmas.Option.{slice_get-get_or, slice_get_within}
+use Rattle.cown_board.specs.Board.{length_of, open_of, IsAfterAll}
+use Rattle.lane_audit.specs.Columns.{total, count_below}
+use Rattle.sb_rows.proofs.Places.{place_of_within}
+use Rattle.sb_rows.proofs.RowsLemmas.{get-rows_of, get-rows_of_absent}
+use Rattle.sb_rows.specs.Balances.{Balances, IsBalances}
+use Rattle.sb_rows.specs.Customer.{Customer, customers_of}
+use Rattle.sb_rows.specs.Directory.{place_of}
+use Rattle.sb_rows.specs.Listing.{listed, total_of}
+use Rattle.sb_rows.specs.Rows.{Rows, SameCustomers, rows_of}
+use Rattle.sb_calls.proofs.Log.{slice_get-replies_to}
+use Rattle.sb_calls.proofs.Nets.{total_after}
+use Rattle.sb_calls.proofs.OneByOneRuns.{log_by_cowns}
+use Rattle.sb_calls.specs.Behaviour.{declared_cowns, effect_of}
+use Rattle.sb_calls.specs.Cowns.{held_of}
+use Rattle.sb_calls.specs.Log.{replies_to}
+use Rattle.sb_calls.specs.Net.{HasNames, net_sum}
+use Rattle.sb_calls.specs.Op.{resolved}
+use Rattle.sb_calls.specs.Procedures.{procedure}
+use Rattle.sb_calls.specs.declared.call.Call.{Call}
+use Rattle.sb_calls.specs.declared.reply.Reply.{Reply}
+use Rattle.sb_replica.proofs.IdleReplies.{length_held}
+use Rattle.sb_replica.specs.Replica.{replies_held}
+use Rattle.sb_text.proofs.ByPlace.{total_by_columns, listed-rows_of}
+use Rattle.schedule_player.specs.Bank.{BankOf, opening_rows, log_rows}
+use Rattle.schedule_player.specs.Books.{IsRowsAt}
+use Rattle.schedule_player.specs.NodeAlong.{IsNodeAt}
+use Rattle.schedule_player.specs.Seen.{ops_of}
+use Rattle.schedule_player.specs.World.{books_after}
+use Rattle.schedule_player.specs.declared.node.Node.{Node}
+use Rattle.schedule_text.specs.declared.note.AuditNote.{AuditNote}
+use Rattle.schedule_text.specs.declared.note.AuditNote.TheVariants as audit
+use Rattle.schedule_player.proofs.Finishing.{reply_by_names}
+use Rattle.schedule_player.proofs.SeenReplies.{columns_along, checkpoint_along}
+use Rattle.schedule_player.proofs.Stages.{length-map}
+use Rattle.schedule_player.proofs.Storing.{same_columns}
+
+-- ---- the rows
+
+-- the columns that the bank's calls leave, one by one
+abbrev columns_after : (bank : BankOf) → SameCustomers bank.names bank.opening → ℕ → Balances
+columns_after bank same size = let law = log_by_cowns bank.names bank.opening bank.calls same in (law.rows size).0
+
+-- an idle replica's columns are these
+idle_columns : (bank : BankOf) (r : ℕ) (node : Node) (columns : Balances) (is : IsNodeAt bank r node) → IsBalances columns
+    → IsAfterAll declared_cowns effect_of node.replica.board columns
+    → columns ≡ columns_after bank is.customers (length_of node.replica.board)
+idle_columns bank r node columns is valid after =
+    let law = log_by_cowns bank.names bank.opening bank.calls is.customers in
+    let rows = law.rows (length_of node.replica.board) in
+    same_columns columns rows.0 valid.same rows.1.balances.same
+    (columns_along (held_of bank.opening) (ops_of bank) node.replica.board columns is.board after ∙ sym rows.2.0)
+
+pub idle_rows : (bank : BankOf) (r : ℕ) (node : Node) (columns : Balances) → IsNodeAt bank r node → IsBalances columns
+    → IsAfterAll declared_cowns effect_of node.replica.board columns → IsRowsAt bank (length_of node.replica.board) columns
+idle_rows bank r node columns is valid after =
+    let law = log_by_cowns bank.names bank.opening bank.calls is.customers in
+    let rows = law.rows (length_of node.replica.board) in
+    subst (IsRowsAt bank (length_of node.replica.board)) (sym (idle_columns bank r node columns is valid after))
+    (record { customers = rows.1; rows = rows.2.1 })
+
+-- those of two that are idle at one length are the same
+pub same_rows : (bank : BankOf) (a b : ℕ) (first second : Node) (left right : Balances) → IsNodeAt bank a first → IsNodeAt bank b second
+    → IsBalances left → IsBalances right → IsAfterAll declared_cowns effect_of first.replica.board left
+    → IsAfterAll declared_cowns effect_of second.replica.board right → length_of first.replica.board ≡ length_of second.replica.board
+    → left ≡ right
+same_rows bank a b first second left right is_a is_b valid_a valid_b after_a after_b same =
+    idle_columns bank a first left is_a valid_a after_a
+    ∙ ap (columns_after bank is_a.customers) same
+    ∙ sym (idle_columns bank b second right is_b valid_b after_b)
+
+-- ---- the replies
+
+head_of : {A : Type 0} {x y : A} → ◌≡◌ {A = Option A} (Some x) (Some y) → x ≡ y
+head_of h = cc
+
+-- a list that has the items of a longer one is its first part
+first_part : {A : Type 0} (xs ys : List A) → length xs ≤ length ys → ((k : ℕ) (x : A) → slice_get xs k ≡ Some x → slice_get ys k ≡ Some x)
+    → xs ≡ take (length xs) ys
+first_part [] ys le alike = refl
+first_part (x ∷ xs) [] le alike = absurd (omega (arith, le))
+first_part (x ∷ xs) (y ∷ ys) le alike =
+    ap (λ z. z ∷ xs) (sym (head_of (alike zero x refl)))
+    ∙ ap (λ zs. y ∷ zs) (first_part xs ys (omega (arith, le)) (λ k z here. alike (suc k) z here))
+
+length-replies_to : (opening : Rows) (bank : BankOf) → length (replies_to opening bank.calls) ≡ length bank.calls
+length-replies_to opening bank = by opening bank.calls
+  where
+    by : (rows : Rows) (calls : List Call) → length (replies_to rows calls) ≡ length calls
+    by rows [] = refl
+    by rows (call ∷ calls) = let rest = by (procedure call rows).rows calls in omega (arith, rest)
+
+-- an idle replica's replies are the log's, up to its length
+pub idle_replies : (bank : BankOf) (r : ℕ) (node : Node) (columns : Balances) → IsNodeAt bank r node → open_of node.replica.board ≡ 0
+    → IsAfterAll declared_cowns effect_of node.replica.board columns
+    → replies_held node.replica.board ≡ take (length (replies_held node.replica.board)) (replies_to (opening_rows bank) bank.calls)
+idle_replies bank r node columns is idle after =
+    let along = checkpoint_along (held_of bank.opening) (ops_of bank) node.replica.board columns is.board idle after in
+    let calls = length-map (resolved bank.names) bank.calls in
+    let replies = length-replies_to (opening_rows bank) bank in
+    let within = along.within in
+    first_part (replies_held node.replica.board) (replies_to (opening_rows bank) bank.calls) (omega (arith, calls, replies, within))
+    (λ k reply here.
+    slice_get-replies_to (opening_rows bank) bank.calls k ∙ sym (reply_by_names bank (suc k) is.customers) ∙ along.replies k reply here)
+
+pub length_replies : (bank : BankOf) (r : ℕ) (node : Node) → IsNodeAt bank r node → open_of node.replica.board ≡ 0
+    → length (replies_held node.replica.board) ≡ length_of node.replica.board
+length_replies bank r node is idle = length_held node.replica.board idle is.board.states
+
+-- ---- the books
+
+has_names : (names : List (List ℕ)) (b : Balances) → SameCustomers names b → HasNames names (rows_of names b)
+has_names names b same = record { names = same.names; same = λ name. by name (place_of names name) refl }
+  where
+    by : (name : List ℕ) (place : Option ℕ) → place_of names name ≡ place → is_some (get (rows_of names b) name) ≡ is_some (place_of names name)
+    by name None none = ap is_some (get-rows_of_absent names b name same none) ∙ sym (ap is_some none)
+    by name (Some place) at =
+        let lt = place_of_within names name place at in
+        let places = same.places in
+        let alike = same.balances.same in
+        ap is_some (get-rows_of names b name place (get_or b.savings place (pos 0)) (get_or b.checking place (pos 0)) same at
+        (slice_get-get_or b.savings place (pos 0) (omega (arith, lt, places)))
+        (slice_get-get_or b.checking place (pos 0) (omega (arith, lt, places, alike))))
+        ∙ sym (ap is_some at)
+
+-- as many customers as checking balances are below 0
+overdrawn : (names : List (List ℕ)) (savings checking : List ℤ) → length savings ≡ length names → length checking ≡ length names
+    → count_below checking (pos 0)
+    ≡ count_by (λ customer. int_lt customer.checking (pos 0)) (customers_of names (record { savings = savings; checking = checking }))
+overdrawn [] [] [] e f = refl
+overdrawn [] (s ∷ savings) checking e f = absurd (omega (arith, e))
+overdrawn [] [] (c ∷ checking) e f = absurd (omega (arith, f))
+overdrawn (x ∷ names) [] checking e f = absurd (omega (arith, e))
+overdrawn (x ∷ names) (s ∷ savings) [] e f = absurd (omega (arith, f))
+overdrawn (x ∷ names) (s ∷ savings) (c ∷ checking) e f =
+    ap (λ n. if int_lt c (pos 0) then suc n else n) (overdrawn names savings checking (omega (arith, e)) (omega (arith, f)))
+
+listed_now : (bank : BankOf) (size : ℕ) (columns : Balances) → IsRowsAt bank size columns
+    → listed bank.names (log_rows bank size) ≡ customers_of bank.names columns
+listed_now bank size columns at = ap (listed bank.names) (sym at.rows) ∙ listed-rows_of bank.names columns at.customers
+
+-- the rows' total and how many are overdrawn
+pub books_are : (bank : BankOf) (size : ℕ) (columns : Balances) → IsRowsAt bank size columns
+    → audit.Same (total columns.savings +ℤ total columns.checking) (count_below columns.checking (pos 0)) ≡ books_after bank size
+books_are bank size columns at =
+    let places = at.customers.places in
+    let alike = at.customers.balances.same in
+    (λ j. audit.Same (total_by_columns bank.names columns at.customers j)
+    (overdrawn bank.names columns.savings columns.checking places (sym alike ∙ places) j))
+    ∙ ap (λ rows. audit.Same (total_of rows) (count_by (λ customer. int_lt customer.checking (pos 0)) rows)) (sym (listed_now bank size columns at))
+
+-- are what the opening and the net changes make them
+pub books_balance : (bank : BankOf) (size : ℕ) (columns : Balances) → SameCustomers bank.names bank.opening → IsRowsAt bank size columns
+    → total columns.savings +ℤ total columns.checking
+    ≡ (total bank.opening.savings +ℤ total bank.opening.checking) +ℤ net_sum (take size bank.calls) (take size (replies_to (opening_rows bank) bank.calls))
+books_balance bank size columns same at =
+    total_by_columns bank.names columns at.customers
+    ∙ ap total_of (sym (listed_now bank size columns at))
+    ∙ total_after bank.names (opening_rows bank) bank.calls size (has_names bank.names bank.opening same)
+    ∙ ap (λ t. t +ℤ net_sum (take size bank.calls) (take size (replies_to (opening_rows bank) bank.calls)))
+    (ap total_of (listed-rows_of bank.names bank.opening same) ∙ sym (total_by_columns bank.names bank.opening same))

@@ -1,0 +1,91 @@
+//! Comparing two replicas, and one of them with the books.
+ghost use Rattle.std.specs.Prelude.{◌≡◌, ◌<◌, ◌≤◌, Some, None, length, map, take, slice_get, IfOk};
+ghost use Rattle.sb_rows.specs.Balances.{IsBalances};
+ghost use Rattle.sb_calls.specs.Log.{replies_to};
+ghost use Rattle.schedule_player.specs.Bank.{opening_rows};
+ghost use Rattle.schedule_player.specs.Books.{IsRowsAt};
+ghost use Rattle.schedule_player.specs.ReplicaMoves.{NodeOf};
+ghost use Rattle.schedule_player.specs.World.{bank_of, books_after, compared};
+
+use crate::fault::StepFault;
+use crate::world::World;
+use lane_audit::{audit, bank_total, first_difference};
+use sb_calls::{Call, Reply};
+use sb_rows::Columns;
+use sb_sequencer::Sequencer;
+use schedule_text::{AuditNote, Column};
+use std::alloc::{AllocError, Global};
+
+// Where two banks' columns differ first, the savings before the checking balances.
+fn first_place(left: &Columns, right: &Columns) -> Option<(Column, usize)>
+    requires { length left.now.savings ≡ length right.now.savings }
+    requires { length left.now.checking ≡ length right.now.checking }
+    ensures { left.now ≡ right.now → result ≡ None }
+{
+    if let Some(place) = first_difference(left.savings(), right.savings()) {
+        return Some((Column::Savings, place));
+    }
+    let place = first_difference(left.checking(), right.checking())?;
+    Some((Column::Checking, place))
+}
+
+// The first calls of a log.
+fn first_calls(alloc: Global, sequencer: &Sequencer, count: usize) -> Result<Vec<Call>, AllocError>
+    requires { count ≤ length sequencer.now.log }
+    ensures { IfOk result (λ calls. calls.items ≡ take count (map (λ entry. entry.1) sequencer.now.log)) }
+{
+    let mut calls = Vec::with_capacity(alloc, count)?;
+    for place in 0..count {
+        let Some(call) = sequencer.call(place as u64 + 1) else {
+            unreachable!();
+        };
+        calls.push(*call)?;
+    }
+    Ok(calls)
+}
+
+impl World {
+    // The bank's total with how many are overdrawn, unless it isn't what the opening and the calls make it.
+    fn books(&self, columns: &Columns, replies: &[Reply]) -> Result<AuditNote, AllocError>
+        requires few { length replies.now ≤ length self.now.sequencer.log }
+        requires rows { IsRowsAt (bank_of self.now) (length replies.now) columns.now }
+        requires replies { replies.now ≡ take (length replies.now)
+            (replies_to (opening_rows (bank_of self.now)) (bank_of self.now).calls) }
+        ensures { IfOk result (λ found. found ≡ books_after (bank_of self.now) (length replies.now)) }
+    {
+        let calls = first_calls(self.alloc, &self.sequencer, replies.len())?;
+        let found = audit(columns, bank_total(&self.opening), &calls, replies);
+        if found.total == found.expected {
+            Ok(AuditNote::Same(found.total, found.overdrawn))
+        } else {
+            Ok(AuditNote::OffBooks(found.total, found.expected))
+        }
+    }
+
+    /// Compares two replicas, and the rows of the first one with the books: the opening's total and what each call of
+    /// the log added.
+    ///
+    /// Fails where memory is refused.
+    pub fn audit(&self, first: u32, second: u32) -> Result<AuditNote, StepFault>
+        requires replicas { (first < length self.now.nodes) × (second < length self.now.nodes) }
+        ensures { (one other : NodeOf) → slice_get self.now.nodes first ≡ Some one → slice_get self.now.nodes second ≡ Some other
+            → IfOk result (λ found. found ≡ compared (bank_of self.now) first second one other) }
+    {
+        let one = &self.nodes[first as usize].replica;
+        let other = &self.nodes[second as usize].replica;
+        let Some(left) = one.settled_columns() else {
+            return Ok(AuditNote::Busy(first));
+        };
+        let Some(right) = other.settled_columns() else {
+            return Ok(AuditNote::Busy(second));
+        };
+        if one.length() != other.length() {
+            return Ok(AuditNote::Apart(one.length(), other.length()));
+        }
+        if let Some((column, place)) = first_place(left, right) {
+            return Ok(AuditNote::Differ(column, place));
+        }
+        let replies = one.replies()?;
+        Ok(self.books(left, &replies)?)
+    }
+}
