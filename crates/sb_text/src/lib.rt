@@ -5,6 +5,8 @@ mod input;
 mod laws;
 mod listing;
 mod output;
+#[cfg(test)]
+mod tests;
 
 pub use input::{READS, ReadFault, read_all};
 pub use laws::limits;

@@ -11,12 +11,13 @@ use Rattle.sb_calls.specs.declared.ask.Asked.{Asked}
 use Rattle.sb_calls.specs.declared.ask.Key.{Key}
 use Rattle.sb_calls.specs.declared.call.Call.{Call}
 use Rattle.sb_calls.specs.declared.text.fault.CallFault.{CallFault}
+use Rattle.sb_text.specs.Listing.{row_lines}
 use Rattle.smallbank.specs.Asking.{HasAsked, IsAsking}
 use Rattle.smallbank.specs.Asks.{keyed}
 use Rattle.smallbank.specs.Input.{InputText, asks_from, in_opening, in_call}
 use Rattle.smallbank.specs.Standing.{StandsAmong, standing_of, standing_line}
 use Rattle.smallbank.proofs.Standings.{all_among}
-use Rattle.smallbank.specs.Output.{log_of, calls_of, answer_lines, row_lines, output_lines, output_of}
+use Rattle.smallbank.specs.Output.{log_of, calls_of, answer_lines, output_lines, output_of}
 use Rattle.smallbank.specs.declared.asking.Standing.{Standing}
 
 map_map : {A B C : Type 0} (f : B → C) (g : A → B) (xs : List A) → map f (map g xs) ≡ map (λ x. f (g x)) xs

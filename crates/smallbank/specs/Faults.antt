@@ -1,6 +1,8 @@
 -- What a fault of a run says.
 use Rattle.std.specs.Prelude.{◌≡◌, ℕ, Option, Result, Ok, Err, List}
 use Rattle.std.specs.Io.KnownBytes.{Appends, Keeps}
+use Rattle.sb_text.specs.declared.input.ReadFault.{ReadFault}
+use Rattle.sb_text.specs.declared.input.ReadFault.TheVariants as reading
 use Rattle.smallbank.specs.declared.fault.InputFault.{InputFault}
 use Rattle.smallbank.specs.declared.fault.RunFault.{RunFault}
 use Rattle.smallbank.specs.declared.fault.RunFault.TheVariants.{Input, Device, OutOfMemory}
@@ -28,11 +30,10 @@ WritesNothing (Input line fault) old new = Keeps old new
 WritesNothing Device old new = Unit {0}
 WritesNothing OutOfMemory old new = Unit {0}
 
--- a fault of the outside: no line's
-abbrev pub IsOutside : RunFault → Type 0
-IsOutside (Input line fault) = ⊥
-IsOutside Device = Unit {0}
-IsOutside OutOfMemory = Unit {0}
+-- how a run ends whose input isn't read
+abbrev pub of_read_fault : ReadFault → RunFault
+of_read_fault reading.Device = Device
+of_read_fault reading.OutOfMemory = OutOfMemory
 
 abbrev pub fault_number : RunFault → ℕ
 fault_number (Input line fault) = 1

@@ -1,8 +1,6 @@
 -- What is written for an input.
-use Rattle.std.specs.Prelude.{ℕ, Result, Ok, List, [], ◌∷◌, ◌++◌, map, codes}
-use Rattle.sb_amount.specs.Money.{money}
-use Rattle.sb_rows.specs.Listing.{listed, total_of}
-use Rattle.sb_rows.specs.Opening.{customer_line, ◌>>=◌}
+use Rattle.std.specs.Prelude.{ℕ, Result, Ok, List, ◌++◌, map}
+use Rattle.sb_rows.specs.Opening.{◌>>=◌}
 use Rattle.sb_rows.specs.Rows.{Rows, rows_of}
 use Rattle.sb_rows.specs.Text.{unlines}
 use Rattle.sb_calls.specs.Log.{rows_after, replies_to}
@@ -10,6 +8,7 @@ use Rattle.sb_calls.specs.declared.ask.Asked.{Asked}
 use Rattle.sb_calls.specs.declared.ask.Key.{Key}
 use Rattle.sb_calls.specs.declared.call.Call.{Call}
 use Rattle.sb_sequencer.specs.Numbering.{first_asks}
+use Rattle.sb_text.specs.Listing.{row_lines}
 use Rattle.smallbank.specs.Asks.{keyed}
 use Rattle.smallbank.specs.Input.{InputText, input_of}
 use Rattle.smallbank.specs.Standing.{standing_of, standing_line}
@@ -28,11 +27,6 @@ unfoldable pub answer_lines : Rows → List Asked → List (List ℕ)
 answer_lines opening asks =
     map (λ ask. standing_line (replies_to opening (calls_of (log_of asks))) (standing_of (log_of asks) ask))
     (keyed asks)
-
--- NAME SAVINGS CHECKING of each customer in opening order, then the total
-abbrev pub row_lines : List (List ℕ) → Rows → List (List ℕ)
-row_lines names rows = map customer_line (listed names rows) ++
-    (codes "total " ++ money (total_of (listed names rows))) ∷ []
 
 -- the answers, then the rows after the whole log and their total
 abbrev pub output_lines : InputText → List (List ℕ)

@@ -1,10 +1,11 @@
 //! Why a run ends without its output.
 ghost use Rattle.std.specs.Prelude.{◌≡◌};
-ghost use Rattle.smallbank.specs.Faults.{fault_number};
+ghost use Rattle.smallbank.specs.Faults.{fault_number, of_read_fault};
 ghost use Rattle.smallbank.specs.declared.fault.RunFault.TheVariants.{OutOfMemory};
 
 use sb_calls::CallFault;
 use sb_rows::LineFault;
+use sb_text::ReadFault;
 use std::alloc::{AllocError, AllocFailed};
 use thiserror::Error;
 
@@ -47,6 +48,17 @@ impl RunFault {
             RunFault::Input { .. } => 1,
             RunFault::Device => 4,
             RunFault::OutOfMemory => 5,
+        }
+    }
+}
+
+impl From<ReadFault> for RunFault {
+    ghost from_gives = { λ read fault. fault ≡ of_read_fault read };
+
+    fn from(read: ReadFault) -> RunFault {
+        match read {
+            ReadFault::Device => RunFault::Device,
+            ReadFault::OutOfMemory => RunFault::OutOfMemory,
         }
     }
 }

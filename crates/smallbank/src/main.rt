@@ -13,9 +13,7 @@ pub mod answers;
 pub mod asking;
 pub mod execution;
 pub mod fault;
-pub mod input;
 pub mod laws;
-pub mod listing;
 pub mod log_number;
 #[cfg(test)]
 mod plain;

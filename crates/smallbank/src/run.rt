@@ -1,6 +1,5 @@
 //! A whole run: what is written is a stated function of what is read.
 ghost use Rattle.std.specs.Prelude.{◌≡◌, Ok, IfSome, IfErr, OnOk, MatchResult};
-ghost use Rattle.std.specs.Io.KnownBytes.{Appends};
 ghost use Rattle.smallbank.specs.Faults.{Writes, Blames, BlamesText, WritesNothing};
 ghost use Rattle.smallbank.specs.Output.{output_of};
 
@@ -8,12 +7,10 @@ use crate::answers::push_answers;
 use crate::asking::ask_lines;
 use crate::execution::carry_out;
 use crate::fault::{InputFault, RunFault};
-use crate::input::read_all;
-use crate::listing::list_rows;
 use crate::resolving::resolve_all;
 use sb_rows::{OpeningFault, read_opening};
+use sb_text::{list_rows, read_all, write_whole};
 use std::alloc::Global;
-use std::io;
 use std::io::{Read, Write};
 
 /// Reads an opening text and asking lines, and writes the answers, the rows and the total.
@@ -21,7 +18,7 @@ use std::io::{Read, Write};
 /// The whole input is read and checked before anything is written. Fails with
 /// - [`RunFault::Input`] at the first line at fault; nothing was written then,
 /// - [`RunFault::Device`] where a read or a write fails, or the input takes more than
-///   [`crate::input::READS`] reads; a part of the output may be written,
+///   [`sb_text::READS`] reads; a part of the output may be written,
 /// - [`RunFault::OutOfMemory`] where memory is refused.
 pub fn run_text<R: Read, W: Write>(
     alloc: Global,
@@ -44,14 +41,6 @@ pub fn run_text<R: Read, W: Write>(
         Ok(()) => Ok(()),
         Err(_) => Err(RunFault::Device),
     }
-}
-
-// Writes a whole text.
-fn write_whole<W: Write>(writer: &mut W, text: &[u8]) -> io::Result<()>
-    ensures { OnOk result (Appends (W.contents writer.old) (W.contents writer.new) text.now) }
-{
-    writer.write_all(text)?;
-    writer.flush()
 }
 
 // The output of an input.

@@ -1,7 +1,6 @@
 //! Readers and writers that give and take little, and fail.
-use crate::fault::{InputFault, RunFault};
+use crate::fault::RunFault;
 use crate::run::run_text;
-use sb_rows::LineFault;
 use std::io;
 use std::io::{ErrorKind, Read, Write};
 use std::test::Fail;
@@ -68,43 +67,6 @@ fn a_read_that_fails(rt: HostRuntime) -> Result<(), Fail> {
         assert!(rt; written.is_empty());
     }
     Ok(())
-}
-
-// Gives nothing: so many reads are interrupted, and the next one ends the input.
-#[derive(Drop)]
-struct Interrupted {
-    reads: u32,
-}
-
-impl Read for Interrupted {
-    fn read(&mut self, _buf: &mut [u8]) -> io::Result<usize> {
-        if self.reads == 0 {
-            return Ok(0);
-        }
-        self.reads -= 1;
-        Err(io::Error::from(ErrorKind::Interrupted))
-    }
-}
-
-#[test]
-fn the_last_read_that_an_input_may_take(rt: HostRuntime) {
-    let mut written: Vec<u8> = Vec::new(rt.alloc());
-    let mut reader = Interrupted { reads: 999_999_999 };
-    let result = run_text(rt.alloc(), &mut reader, &mut written);
-    let fault = InputFault::Opening(LineFault::NoBegin);
-    assert!(rt; result == Err(RunFault::Input { line: 1, fault }));
-    assert!(rt; written.is_empty());
-}
-
-#[test]
-fn one_read_more_than_an_input_may_take(rt: HostRuntime) {
-    let mut written: Vec<u8> = Vec::new(rt.alloc());
-    let mut reader = Interrupted {
-        reads: 1_000_000_000,
-    };
-    let result = run_text(rt.alloc(), &mut reader, &mut written);
-    assert!(rt; result == Err(RunFault::Device));
-    assert!(rt; written.is_empty());
 }
 
 // Takes so many bytes, one a write, and then fails.

@@ -8,10 +8,11 @@ use Rattle.sb_calls.specs.Log.{replies_to}
 use Rattle.sb_calls.specs.Op.{resolved}
 use Rattle.sb_calls.specs.declared.op.Op.{Op}
 use Rattle.sb_calls.specs.declared.reply.Reply.{Reply}
+use Rattle.sb_text.specs.Listing.{row_lines}
 use Rattle.smallbank.specs.Asking.{IsAsking}
 use Rattle.smallbank.specs.Execution.{IsOneByOne}
 use Rattle.smallbank.specs.Input.{asks_from}
-use Rattle.smallbank.specs.Output.{calls_of, row_lines}
+use Rattle.smallbank.specs.Output.{calls_of}
 use Rattle.smallbank.specs.Standing.{StandsAmong, standing_line}
 use Rattle.smallbank.proofs.Whole.{asked_stand, output_is}
 use Rattle.smallbank.proofs.run.output_text.Goals as goal
