@@ -1,10 +1,7 @@
 -- A world whose sequencer numbers one ask more.
-use Rattle.std.proofs.Common.{◌≡◌, inl, inr, ℕ, zero, suc, ◌+◌, ◌<◌, ◌≤◌, Option, Some, None, Result, Ok, Err, List, [], ◌∷◌, ◌++◌, length, map, refl, sym, ap, subst, ◌∙◌, arith}
+use Rattle.std.proofs.Common.{◌≡◌, ℕ, zero, suc, Option, Some, None, Result, Ok, Err, List, [], ◌∷◌, ◌++◌, length, sym, ap, subst, ◌∙◌, arith}
 use Rattle.std.specs.Prelude.{slice_get}
-use Rattle.std.proofs.lemmas.Bool.{cases_lt}
-use Rattle.std.proofs.lemmas.List.{length-append, map-append}
-use Rattle.std.proofs.lemmas.Option.{slice_get_within}
-use Rattle.cown_board.proofs.PlacesLaws.{slice_get-left}
+use Rattle.std.proofs.lemmas.List.{map-append}
 use Rattle.sb_rows.specs.Balances.{Balances}
 use Rattle.sb_calls.specs.declared.ask.Key.{Key}
 use Rattle.sb_calls.specs.declared.call.Call.{Call}
@@ -13,7 +10,7 @@ use Rattle.sb_sequencer.specs.Sequencer.{SequencerOf, IsSequencer, after_ask}
 use Rattle.sb_sequencer.specs.declared.answer.AskFault.{AskFault}
 use Rattle.sb_sequencer.specs.declared.answer.Numbered.{Numbered}
 use Rattle.sb_sequencer.specs.declared.answer.Numbered.TheVariants.{New, Repeat}
-use Rattle.schedule_player.specs.Bank.{BankOf, log_reply}
+use Rattle.schedule_player.specs.Bank.{log_reply}
 use Rattle.schedule_player.specs.NodeAlong.{IsNodeAt}
 use Rattle.schedule_player.specs.World.{bank_with}
 use Rattle.schedule_player.specs.WorldAlong.{IsWorld}

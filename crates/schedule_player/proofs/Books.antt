@@ -1,8 +1,9 @@
 -- The rows and the books of an idle replica.
-use Rattle.std.proofs.Common.{◌≡◌, true, false, ℕ, zero, suc, ◌+◌, ◌<◌, ◌≤◌, Bool, ℤ, pos, ◌+ℤ◌, Option, Some, None, List, [], ◌∷◌, length, map, take, get_or, refl, sym, ap, subst, ◌∙◌, arith}
+use Rattle.std.proofs.Common.{◌≡◌, ℕ, zero, suc, ◌+◌, ◌≤◌, Bool, ℤ, pos, ◌+ℤ◌, Option, Some, None, List, [], ◌∷◌, length, take, get_or, refl, sym, ap, subst, ◌∙◌, arith}
 use Rattle.std.specs.Prelude.{slice_get, is_some, count_by, int_lt, if◌then◌else◌}
 use Rattle.std.specs.FinMap.{get}
-use Rattle.std.proofs.lemmas.Option.{slice_get-get_or, slice_get_within}
+use Rattle.std.proofs.lemmas.List.Sums.{sum_by-cons}
+use Rattle.std.proofs.lemmas.Option.{slice_get-get_or}
 use Rattle.cown_board.specs.Board.{length_of, open_of, IsAfterAll}
 use Rattle.lane_audit.specs.Columns.{total, count_below}
 use Rattle.sb_rows.proofs.Places.{place_of_within}
@@ -22,7 +23,6 @@ use Rattle.sb_calls.specs.Net.{HasNames, net_sum}
 use Rattle.sb_calls.specs.Op.{resolved}
 use Rattle.sb_calls.specs.Procedures.{procedure}
 use Rattle.sb_calls.specs.declared.call.Call.{Call}
-use Rattle.sb_calls.specs.declared.reply.Reply.{Reply}
 use Rattle.sb_replica.proofs.IdleReplies.{length_held}
 use Rattle.sb_replica.specs.Replica.{replies_held}
 use Rattle.sb_text.proofs.ByPlace.{total_by_columns, listed-rows_of}
@@ -32,7 +32,6 @@ use Rattle.schedule_player.specs.NodeAlong.{IsNodeAt}
 use Rattle.schedule_player.specs.Seen.{ops_of}
 use Rattle.schedule_player.specs.World.{books_after}
 use Rattle.schedule_player.specs.declared.node.Node.{Node}
-use Rattle.schedule_text.specs.declared.note.AuditNote.{AuditNote}
 use Rattle.schedule_text.specs.declared.note.AuditNote.TheVariants as audit
 use Rattle.schedule_player.proofs.Finishing.{reply_by_names}
 use Rattle.schedule_player.proofs.SeenReplies.{columns_along, checkpoint_along}
@@ -46,22 +45,22 @@ abbrev columns_after : (bank : BankOf) → SameCustomers bank.names bank.opening
 columns_after bank same size = let law = log_by_cowns bank.names bank.opening bank.calls same in (law.rows size).0
 
 -- an idle replica's columns are these
-idle_columns : (bank : BankOf) (r : ℕ) (node : Node) (columns : Balances) (is : IsNodeAt bank r node) → IsBalances columns
-    → IsAfterAll declared_cowns effect_of node.replica.board columns
-    → columns ≡ columns_after bank is.customers (length_of node.replica.board)
-idle_columns bank r node columns is valid after =
-    let law = log_by_cowns bank.names bank.opening bank.calls is.customers in
+idle_columns : (bank : BankOf) (same : SameCustomers bank.names bank.opening) (r : ℕ) (node : Node) (columns : Balances) → IsNodeAt bank r node
+    → IsBalances columns → IsAfterAll declared_cowns effect_of node.replica.board columns
+    → columns ≡ columns_after bank same (length_of node.replica.board)
+idle_columns bank same r node columns is valid after =
+    let law = log_by_cowns bank.names bank.opening bank.calls same in
     let rows = law.rows (length_of node.replica.board) in
     same_columns columns rows.0 valid.same rows.1.balances.same
-    (columns_along (held_of bank.opening) (ops_of bank) node.replica.board columns is.board after ∙ sym rows.2.0)
+    (columns_along (held_of bank.opening) (ops_of bank) node.replica.board columns is.board after ∙ sym rows.2)
 
 pub idle_rows : (bank : BankOf) (r : ℕ) (node : Node) (columns : Balances) → IsNodeAt bank r node → IsBalances columns
     → IsAfterAll declared_cowns effect_of node.replica.board columns → IsRowsAt bank (length_of node.replica.board) columns
 idle_rows bank r node columns is valid after =
     let law = log_by_cowns bank.names bank.opening bank.calls is.customers in
     let rows = law.rows (length_of node.replica.board) in
-    subst (IsRowsAt bank (length_of node.replica.board)) (sym (idle_columns bank r node columns is valid after))
-    (record { customers = rows.1; rows = rows.2.1 })
+    subst (IsRowsAt bank (length_of node.replica.board)) (sym (idle_columns bank is.customers r node columns is valid after))
+    (record { customers = rows.1; rows = rows.3 })
 
 -- those of two that are idle at one length are the same
 pub same_rows : (bank : BankOf) (a b : ℕ) (first second : Node) (left right : Balances) → IsNodeAt bank a first → IsNodeAt bank b second
@@ -69,9 +68,9 @@ pub same_rows : (bank : BankOf) (a b : ℕ) (first second : Node) (left right : 
     → IsAfterAll declared_cowns effect_of second.replica.board right → length_of first.replica.board ≡ length_of second.replica.board
     → left ≡ right
 same_rows bank a b first second left right is_a is_b valid_a valid_b after_a after_b same =
-    idle_columns bank a first left is_a valid_a after_a
+    idle_columns bank is_a.customers a first left is_a valid_a after_a
     ∙ ap (columns_after bank is_a.customers) same
-    ∙ sym (idle_columns bank b second right is_b valid_b after_b)
+    ∙ sym (idle_columns bank is_a.customers b second right is_b valid_b after_b)
 
 -- ---- the replies
 
@@ -127,6 +126,23 @@ has_names names b same = record { names = same.names; same = λ name. by name (p
         (slice_get-get_or b.checking place (pos 0) (omega (arith, lt, places, alike))))
         ∙ sym (ap is_some at)
 
+count_first : {A : Type 0} (p : A → Bool) (x : A) (xs : List A) → count_by p (x ∷ xs) ≡ (if p x then 1 else 0) + count_by p xs
+count_first p x xs = sum_by-cons (λ y. if p y then 1 else 0) x xs
+
+abbrev is_below : ℤ → Bool
+is_below value = int_lt value (pos 0)
+
+abbrev has_below : Customer → Bool
+has_below customer = int_lt customer.checking (pos 0)
+
+count_mapped : (names : List (List ℕ)) (savings checking : List ℤ) (c : ℤ) (x : List ℕ) (s : ℤ)
+    → count_below checking (pos 0) ≡ count_by has_below (customers_of names (record { savings = savings; checking = checking }))
+    → count_below (c ∷ checking) (pos 0)
+    ≡ count_by has_below (record { name = x; savings = s; checking = c } ∷ customers_of names (record { savings = savings; checking = checking }))
+count_mapped names savings checking c x s rest =
+    count_first is_below c checking ∙ ap (λ n. (if int_lt c (pos 0) then 1 else 0) + n) rest
+    ∙ sym (count_first has_below (record { name = x; savings = s; checking = c }) (customers_of names (record { savings = savings; checking = checking })))
+
 -- as many customers as checking balances are below 0
 overdrawn : (names : List (List ℕ)) (savings checking : List ℤ) → length savings ≡ length names → length checking ≡ length names
     → count_below checking (pos 0)
@@ -137,7 +153,7 @@ overdrawn [] [] (c ∷ checking) e f = absurd (omega (arith, f))
 overdrawn (x ∷ names) [] checking e f = absurd (omega (arith, e))
 overdrawn (x ∷ names) (s ∷ savings) [] e f = absurd (omega (arith, f))
 overdrawn (x ∷ names) (s ∷ savings) (c ∷ checking) e f =
-    ap (λ n. if int_lt c (pos 0) then suc n else n) (overdrawn names savings checking (omega (arith, e)) (omega (arith, f)))
+    count_mapped names savings checking c x s (overdrawn names savings checking (omega (arith, e)) (omega (arith, f)))
 
 listed_now : (bank : BankOf) (size : ℕ) (columns : Balances) → IsRowsAt bank size columns
     → listed bank.names (log_rows bank size) ≡ customers_of bank.names columns

@@ -1,8 +1,9 @@
 pub mod Along
 pub mod Asking
 pub mod Books
+pub mod Comparing
 pub mod Finishing
-pub mod Hearing
+pub mod HeardFrames
 pub mod Lists
 pub mod LogParts
 pub mod LongerLogs
@@ -11,6 +12,7 @@ pub mod NodeMoves
 pub mod Opening
 pub mod Runnable
 pub mod SeenReplies
+pub mod SentEntries
 pub mod SentFrames
 pub mod Sharing
 pub mod Stages

@@ -1,5 +1,5 @@
 -- Items of lists, by place.
-use Rattle.std.proofs.Common.{◌≡◌, ◌⊎◌, inl, inr, false, get_or, ℕ, zero, suc, ◌+◌, ◌<◌, ◌≤◌, Option, Some, None, List, [], ◌∷◌, ◌++◌, length, refl, sym, ap, subst, ◌∙◌, arith}
+use Rattle.std.proofs.Common.{◌≡◌, ◌⊎◌, inl, inr, false, get_or, ℕ, zero, suc, ◌+◌, ◌<◌, ◌≤◌, Option, Some, None, List, [], ◌∷◌, ◌++◌, length, drop, refl, sym, ap, subst, ◌∙◌, arith}
 use Rattle.std.specs.List.{slice_get, slice_set, slice_index_or}
 use Rattle.std.specs.Option.{is_some}
 use Rattle.std.proofs.lemmas.Bool.{true≢false}
@@ -64,3 +64,18 @@ copies_push {A} n x = let e : n + 1 ≡ suc n = omega arith in ap (λ m. copies 
     at_end : (n : ℕ) → copies (suc n) x ≡ copies n x ++ x ∷ []
     at_end zero = refl
     at_end (suc n) = ap (λ t. x ∷ t) (at_end n)
+
+-- the item that is there, put there once more
+pub set_here : {A : Type 0} (xs : List A) (k : ℕ) (x : A) → slice_get xs k ≡ Some x → slice_set xs k x ≡ xs
+set_here [] k x here = refl
+set_here (y ∷ xs) zero x here = ap (λ z. z ∷ xs) (sym (some_is here))
+set_here (y ∷ xs) (suc k) x here = ap (λ zs. y ∷ zs) (set_here xs k x here)
+
+-- what is left from an item on begins with it
+pub drop_one : {A : Type 0} (xs : List A) (k : ℕ) (x : A) → slice_get xs k ≡ Some x → drop k xs ≡ x ∷ drop (k + 1) xs
+drop_one {A = A} xs k x here = let e : k + 1 ≡ suc k = omega arith in by xs k here ∙ ap (λ n. x ∷ drop n xs) (sym e)
+  where
+    by : (ys : List A) (n : ℕ) → slice_get ys n ≡ Some x → drop n ys ≡ x ∷ drop (suc n) ys
+    by [] n none = absurd (none_some none)
+    by (y ∷ ys) zero first = ap (λ z. z ∷ ys) (some_is first)
+    by (y ∷ ys) (suc n) later = by ys n later

@@ -1,7 +1,7 @@
 pub mod Along
 pub mod Bank
 pub mod Books
-pub mod Hearing
+pub mod HearsFrame
 pub mod NodeAlong
 pub mod Numbered
 pub mod Observed

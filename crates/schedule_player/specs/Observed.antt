@@ -1,8 +1,6 @@
 -- What is seen of a world.
 use Rattle.std.specs.Prelude.{ℕ, ◌==◌, Bool, false, Option, Some, None, slice_get}
-use Rattle.sb_rows.specs.Rows.{Rows}
 use Rattle.sb_calls.specs.declared.reply.Reply.{Reply}
-use Rattle.schedule_player.specs.Bank.{log_rows}
 use Rattle.schedule_player.specs.ReplicaMoves.{NodeOf, length_in, undone_in, reply_in_node}
 use Rattle.schedule_player.specs.World.{WorldOf, bank_of}
 

@@ -9,7 +9,7 @@ ghost use Rattle.schedule_player.specs.World.{bank_of, books_after, compared};
 
 use crate::fault::StepFault;
 use crate::world::World;
-use lane_audit::{audit, bank_total, first_difference};
+use lane_audit::{audit, bank_total, first_difference, least_difference};
 use sb_calls::{Call, Reply};
 use sb_rows::Columns;
 use sb_sequencer::Sequencer;
@@ -18,10 +18,12 @@ use std::alloc::{AllocError, Global};
 
 // Where two banks' columns differ first, the savings before the checking balances.
 fn first_place(left: &Columns, right: &Columns) -> Option<(Column, usize)>
-    requires { length left.now.savings ≡ length right.now.savings }
-    requires { length left.now.checking ≡ length right.now.checking }
+    requires savings { length left.now.savings ≡ length right.now.savings }
+    requires checking { length left.now.checking ≡ length right.now.checking }
     ensures { left.now ≡ right.now → result ≡ None }
 {
+    // The law says that a first difference is one.
+    least_difference();
     if let Some(place) = first_difference(left.savings(), right.savings()) {
         return Some((Column::Savings, place));
     }

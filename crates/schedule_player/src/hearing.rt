@@ -2,7 +2,7 @@
 ghost use Rattle.std.specs.Prelude.{◌≡◌};
 ghost use Rattle.sb_frames.specs.Grammar.{Spells};
 ghost use Rattle.sb_frames.specs.declared.frame.Frame.{Frame as AnyFrame};
-ghost use Rattle.schedule_player.specs.Hearing.{HearsFrame, ack_noted, answer_noted};
+ghost use Rattle.schedule_player.specs.HearsFrame.{HearsFrame, ack_noted, answer_noted};
 
 use sb_frames::{Frame, decode};
 use sb_sequencer::{AckNote, AnswerNote, Sequencer};

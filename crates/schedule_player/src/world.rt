@@ -75,10 +75,10 @@ impl World {
         ensures there { OnErr result ((slice_get self.old.nodes replica ≢ None)
             × (entry_of self.old.sequencer.log number ≢ None)) }
     {
-        let Some(node) = self.nodes.get_mut(replica as usize) else {
+        let Some(entry) = self.sequencer.entry(number as u64) else {
             return Ok(Note::Nothing);
         };
-        let Some(entry) = self.sequencer.entry(number as u64) else {
+        let Some(node) = self.nodes.get_mut(replica as usize) else {
             return Ok(Note::Nothing);
         };
         node.send(&entry)
@@ -94,7 +94,11 @@ impl World {
         let Some(node) = self.nodes.get_mut(replica as usize) else {
             return Ok(Note::Nothing);
         };
-        let entries = self.sequencer.resend(replica as u8);
+        // There are at most eight.
+        let Ok(id) = u8::try_from(replica) else {
+            return Ok(Note::Nothing);
+        };
+        let entries = self.sequencer.resend(id);
         node.send_all(&entries)
     }
 

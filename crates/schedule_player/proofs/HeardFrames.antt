@@ -1,7 +1,6 @@
 -- The sequencer hears what a replica told.
-use Rattle.std.proofs.Common.{◌≡◌, inl, inr, ℕ, zero, suc, ◌-◌, ◌<◌, ◌≤◌, Bool, true, Option, Some, None, List, length, map, refl, sym, ap, subst, ◌∙◌, arith}
+use Rattle.std.proofs.Common.{◌≡◌, inl, inr, ℕ, zero, suc, ◌-◌, ◌<◌, ◌≤◌, true, Option, Some, None, List, length, map, refl, sym, ap, subst, ◌∙◌, arith}
 use Rattle.std.specs.Prelude.{slice_get, slice_set, option_map, nat_lt, nat_le, ◌&&◌, if◌then◌else◌}
-use Rattle.std.specs.List.{All}
 use Rattle.std.proofs.lemmas.Bool.{cases_eq, lt-ltb, le-leb}
 use Rattle.std.proofs.lemmas.List.{length-set}
 use Rattle.std.proofs.lemmas.List.Elements.{All-set}
@@ -14,17 +13,16 @@ use Rattle.sb_calls.specs.declared.call.Call.{Call}
 use Rattle.sb_calls.specs.declared.reply.Reply.{Reply}
 use Rattle.sb_frames.specs.declared.frame.Frame.{Frame}
 use Rattle.sb_frames.specs.declared.frame.Frame.TheVariants as frame
-use Rattle.sb_sequencer.specs.Notes.{hears_ack, recording, after_ack, kept_at, IsAnswerNote, after_answer}
-use Rattle.sb_sequencer.specs.Sequencer.{SequencerOf, IsSequencer}
+use Rattle.sb_sequencer.specs.Notes.{hears_ack, recording, IsAnswerNote, after_answer}
+use Rattle.sb_sequencer.specs.Sequencer.{SequencerOf}
 use Rattle.sb_sequencer.specs.declared.note.AckNote.TheVariants as acks
 use Rattle.sb_sequencer.specs.declared.note.AnswerNote.{AnswerNote}
 use Rattle.sb_sequencer.specs.declared.note.AnswerNote.TheVariants as answers
 use Rattle.schedule_player.specs.Bank.{BankOf, opening_rows, log_reply}
-use Rattle.schedule_player.specs.Hearing.{ack_noted, answer_noted, HearsFrame}
+use Rattle.schedule_player.specs.HearsFrame.{ack_noted, answer_noted, HearsFrame}
 use Rattle.schedule_player.specs.NodeAlong.{seen_node, IsToldBy}
 use Rattle.schedule_player.specs.Numbered.{numbered}
-use Rattle.schedule_player.specs.ReplicaMoves.{NodeOf}
-use Rattle.schedule_player.specs.World.{WorldOf, bank_with, keeps, told, heard_from}
+use Rattle.schedule_player.specs.World.{bank_with, keeps, told, heard_from}
 use Rattle.schedule_player.specs.WorldAlong.{IsWorld}
 use Rattle.schedule_player.specs.declared.node.Node.{Node}
 use Rattle.schedule_text.specs.declared.note.Note.{Note}
@@ -135,7 +133,7 @@ module _ (names : List (List ℕ)) (opening : Balances) (s : SequencerOf) (nodes
   hears_reply : (r number : ℕ) (reply : Reply) (noted : Note) (new : SequencerOf) → log_reply bank number ≡ Some reply
       → HearsFrame s (frame.Answer number reply) noted new → Hears names opening s nodes r (frame.Answer number reply) noted new
   hears_reply r zero reply noted new here hears = absurd (none_some here)
-  hears_reply r (suc k) reply noted new here hears = hears_numbered r k reply noted new here hears.0 hears.1 hears.2.0 hears.2.1
+  hears_reply r (suc k) reply noted new here hears = hears_numbered r k reply noted new here hears.0 hears.1 hears.2 hears.3
 
   -- ---- whatever a replica told
 

@@ -1,0 +1,88 @@
+-- Two replicas are compared.
+use Rattle.std.proofs.Common.{◌≡◌, ◌≢◌, ◌<◌, true, ℕ, Bool, Some, List, length, sym, ap, subst, ◌∙◌, arith}
+use Rattle.std.specs.Prelude.{slice_get, ◌==◌, if◌then◌else◌}
+use Rattle.std.specs.List.{slice_index_or}
+use Rattle.std.proofs.lemmas.Bool.{eq-eqb, ne_eqb}
+use Rattle.cown_board.specs.Board.{length_of, open_of}
+use Rattle.schedule_player.specs.Bank.{BankOf}
+use Rattle.schedule_player.specs.NodeAlong.{seen_node, IsNodeAt}
+use Rattle.schedule_player.specs.ReplicaMoves.{NodeOf, length_in, undone_in}
+use Rattle.schedule_player.specs.World.{WorldOf, bank_of, books_after, compared}
+use Rattle.schedule_player.specs.WorldAlong.{IsWorld}
+use Rattle.schedule_player.specs.declared.node.Node.{Node}
+use Rattle.schedule_text.specs.declared.note.AuditNote.{AuditNote}
+use Rattle.schedule_text.specs.declared.note.AuditNote.TheVariants as audit
+use Rattle.schedule_player.proofs.Lists.{some_is, get_here}
+use Rattle.schedule_player.proofs.Moving.{world_of, node_seen}
+use Rattle.schedule_player.proofs.Stages.{length-map, undone_in_stages, length_stages}
+use Rattle.sb_rows.specs.Balances.{Balances}
+use Rattle.sb_sequencer.specs.Sequencer.{SequencerOf}
+
+-- a replica that was looked up, as the machine has it
+pub record LookedUp (now : WorldOf) (r : ℕ) (node : Node) : Type 0 where
+  pub along : IsNodeAt (bank_of now) r node
+  pub seen : slice_get now.nodes r ≡ Some (seen_node node)
+
+pub looked_up : (names : List (List ℕ)) (opening : Balances) (s : SequencerOf) (nodes : List Node) (now : WorldOf) (r : ℕ) (node : Node)
+    → world_of names opening s nodes ≡ now → IsWorld names opening s nodes → r < length now.nodes → node ≡ slice_index_or nodes r node
+    → LookedUp now r node
+looked_up names opening s nodes now r node view is within at =
+    let size = ap (λ w. length w.nodes) view in
+    let many = length-map seen_node nodes in
+    let lt : r < length nodes = omega (arith, size, many, within) in
+    let here = get_here nodes r node lt at in
+    subst (λ w. LookedUp w r node) view (record { along = is.each r node here; seen = node_seen names opening s nodes r node here })
+
+-- what it is seen as
+pub seen_as : (now : WorldOf) (r : ℕ) (node : Node) (one : NodeOf) → LookedUp now r node → slice_get now.nodes r ≡ Some one → seen_node node ≡ one
+seen_as now r node one looked here = some_is (sym looked.seen ∙ here)
+
+module _ (bank : BankOf) (a b : ℕ) (first second : Node) (is_a : IsNodeAt bank a first) (is_b : IsNodeAt bank b second) where
+  abbrev one : NodeOf
+  one = seen_node first
+
+  abbrev other : NodeOf
+  other = seen_node second
+
+  -- what is seen with these tests
+  abbrev with_tests : Bool → Bool → Bool → AuditNote
+  with_tests idle also same =
+      if idle then (if also then (if same then books_after bank (length_in one) else audit.Apart (length_in one) (length_in other))
+      else audit.Busy b) else audit.Busy a
+
+  undone_one : undone_in one ≡ open_of first.replica.board
+  undone_one = undone_in_stages first.replica.board
+
+  undone_other : undone_in other ≡ open_of second.replica.board
+  undone_other = undone_in_stages second.replica.board
+
+  pub busy_first : open_of first.replica.board ≢ 0 → audit.Busy a ≡ compared bank a b one other
+  busy_first undone =
+      ap (λ t. with_tests t (undone_in other == 0) (length_in one == length_in other))
+      (sym (ne_eqb (undone_in one) 0 (λ e. undone (sym undone_one ∙ e))))
+
+  pub busy_second : open_of first.replica.board ≡ 0 → open_of second.replica.board ≢ 0 → audit.Busy b ≡ compared bank a b one other
+  busy_second idle undone =
+      ap (λ t. with_tests true t (length_in one == length_in other)) (sym (ne_eqb (undone_in other) 0 (λ e. undone (sym undone_other ∙ e))))
+      ∙ ap (λ t. with_tests t (undone_in other == 0) (length_in one == length_in other)) (sym (eq-eqb (undone_in one) 0 (undone_one ∙ idle)))
+
+  pub apart : (m n : ℕ) → open_of first.replica.board ≡ 0 → open_of second.replica.board ≡ 0 → m ≡ length_of first.replica.board
+      → n ≡ length_of second.replica.board → m ≢ n → audit.Apart m n ≡ compared bank a b one other
+  apart m n idle also is is_other differ =
+      let size : m ≡ length_in one = is ∙ sym (length_stages first.replica.board is_a.board.states) in
+      let size_other : n ≡ length_in other = is_other ∙ sym (length_stages second.replica.board is_b.board.states) in
+      (λ j. audit.Apart (size j) (size_other j))
+      ∙ ap (λ t. with_tests true true t) (sym (ne_eqb (length_in one) (length_in other) (λ e. differ (size ∙ e ∙ sym size_other))))
+      ∙ ap (λ t. with_tests true t (length_in one == length_in other)) (sym (eq-eqb (undone_in other) 0 (undone_other ∙ also)))
+      ∙ ap (λ t. with_tests t (undone_in other == 0) (length_in one == length_in other)) (sym (eq-eqb (undone_in one) 0 (undone_one ∙ idle)))
+
+  pub same_length : (size : ℕ) → open_of first.replica.board ≡ 0 → open_of second.replica.board ≡ 0 → size ≡ length_of first.replica.board
+      → length_of first.replica.board ≡ length_of second.replica.board → books_after bank size ≡ compared bank a b one other
+  same_length size idle also is alike =
+      let size_is : size ≡ length_in one = is ∙ sym (length_stages first.replica.board is_a.board.states) in
+      let same : length_in one ≡ length_in other =
+      length_stages first.replica.board is_a.board.states ∙ alike ∙ sym (length_stages second.replica.board is_b.board.states) in
+      ap (books_after bank) size_is
+      ∙ ap (λ t. with_tests true true t) (sym (eq-eqb (length_in one) (length_in other) same))
+      ∙ ap (λ t. with_tests true t (length_in one == length_in other)) (sym (eq-eqb (undone_in other) 0 (undone_other ∙ also)))
+      ∙ ap (λ t. with_tests t (undone_in other == 0) (length_in one == length_in other)) (sym (eq-eqb (undone_in one) 0 (undone_one ∙ idle)))

@@ -1,0 +1,35 @@
+use Rattle.std.proofs.Common.{◌≡◌, ◌+◌, ◌<◌, [], ◌∷◌, ◌++◌, length, map, drop, sym, ap, subst, ◌∙◌, arith, append_assoc, length-append}
+use Rattle.schedule_player.specs.Numbered.{Every}
+use Rattle.schedule_player.specs.Seen.{frame_in, IsSpelled}
+use Rattle.schedule_player.proofs.Lists.{every_push, get_here, drop_one}
+use Rattle.schedule_player.proofs.SentFrames.{frame_sent}
+use Rattle.schedule_player.proofs.frames.push_all.Goals as goal
+
+pub loop-frame-preserved : goal.loop-frame-preserved
+loop-frame-preserved c =
+    let before = c.loop-frame.sent.items in
+    let bytes = c.encode.result in
+    let frames = c.args.frames.now in
+    let place = c.loop-frame.frame-index in
+    let frame = c.frame-item.result in
+    let so_far = c.loop-frame.invariant in
+    let items = c.push_reserved.ensures.items in
+    let rest = drop (place + 1) frames in
+    let within : place < length frames = omega (arith, c.loop-frame-test.true, c.loop-frame.auto.frame-index-end) in
+    let left : drop place frames ≡ frame ∷ rest = drop_one frames place frame (get_here frames place frame within c.frame-item.is) in
+    record {
+      spelled = λ all. subst (Every (λ b. IsSpelled b.items)) (sym items)
+          (every_push (λ b. IsSpelled b.items) before bytes (so_far.spelled all) (record { frame = frame; spelled = c.encode.ensures }));
+      frames =
+          ap (λ sent. map (λ b. frame_in b.items) sent ++ rest) items
+          ∙ ap (λ seen. seen ++ rest) (frame_sent (λ b. b.items) before bytes frame c.encode.ensures)
+          ∙ append_assoc (map (λ b. frame_in b.items) before) (frame ∷ []) rest
+          ∙ ap (λ t. map (λ b. frame_in b.items) before ++ t) (sym left)
+          ∙ so_far.frames;
+      room =
+          let longer = ap length items ∙ length-append before (bytes ∷ []) in
+          let shorter = ap length left in
+          let room = so_far.room in
+          let same = c.push_reserved.ensures.capacity in
+          omega (arith, longer, shorter, room, same);
+    }

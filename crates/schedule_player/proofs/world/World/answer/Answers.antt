@@ -1,0 +1,41 @@
+use Rattle.std.proofs.Common.{◌≡◌, None, sym, ap, subst, ◌∙◌}
+use Rattle.std.specs.Prelude.{IfOk, OnErr, ◌≢◌, slice_set}
+use Rattle.schedule_player.specs.Observed.{reply_at, reply_if}
+use Rattle.schedule_player.specs.ReplicaMoves.{answered}
+use Rattle.schedule_player.specs.World.{bank_of, bank_with, moved_at}
+use Rattle.schedule_player.proofs.Lists.{get_here}
+use Rattle.schedule_player.proofs.Moving.{Stepped, node_seen, steps_wholly, err_so, world_of}
+use Rattle.schedule_player.proofs.Telling.{reply_seen}
+use Rattle.schedule_player.proofs.world.World.answer.Goals as goal
+
+-- the replica moves, and so the world does
+step : (c : goal.After-self-2-1) → let w = c.self.inside in let bank = bank_with w.directory w.opening w.sequencer.log in
+    Stepped w.directory w.opening w.sequencer w.nodes.items c.args.replica c.answer.new.self (λ node. answered bank node c.args.number) c.answer.result
+step c =
+    let w = c.self.inside in
+    let here = get_here w.nodes.items c.args.replica c.in-Some.node.now c.in-Some.ensures.item.3.0 c.in-Some.ensures.value in
+    let bank = bank_with w.directory w.opening w.sequencer.log in
+    let along = c.self.invariant.each c.args.replica c.in-Some.node.now here in
+    steps_wholly w.directory w.opening w.sequencer w.nodes.items c.args.replica c.in-Some.node.now c.answer.new.self
+    (λ node. answered bank node c.args.number) c.answer.result c.self.invariant here (c.answer.ensures.moves bank c.args.replica along) c.answer.ensures.err
+
+pub invariant_of-self-2 : goal.invariant_of-self-2
+invariant_of-self-2 c = (step c).is
+
+pub returns-clause-moves : goal.returns-clause-moves
+returns-clause-moves c =
+    let w = c.self.inside in
+    let new = world_of w.directory w.opening w.sequencer (slice_set w.nodes.items c.args.replica c.answer.new.self) in
+    subst (λ old. IfOk c.answer.result (λ n. moved_at old c.args.replica (λ node. answered (bank_of old) node c.args.number) ≡ (new, n)))
+    c.self.view_is (step c).moves
+
+pub returns-clause-there : goal.returns-clause-there
+returns-clause-there c =
+    let w = c.self.inside in
+    let world = world_of w.directory w.opening w.sequencer w.nodes.items in
+    let here = get_here w.nodes.items c.args.replica c.in-Some.node.now c.in-Some.ensures.item.3.0 c.in-Some.ensures.value in
+    let seen = node_seen w.directory w.opening w.sequencer w.nodes.items c.args.replica c.in-Some.node.now here in
+    let along = c.self.invariant.each c.args.replica c.in-Some.node.now here in
+    subst (λ old. OnErr c.answer.result (reply_at old c.args.replica c.args.number ≢ None)) c.self.view_is
+    (err_so c.answer.result (λ held none. held (reply_seen (bank_of world) c.args.replica c.in-Some.node.now c.args.number along
+    ∙ sym (ap (reply_if world c.args.number) seen) ∙ none)) c.answer.ensures.held)

@@ -1,0 +1,46 @@
+use Rattle.std.proofs.Common.{◌≡◌, subst}
+use Rattle.std.specs.Prelude.{IfOk, OnErr, ◌≢◌, slice_get, slice_set}
+use Rattle.schedule_player.specs.World.{bank_with, moved_at}
+use Rattle.schedule_player.specs.ReplicaMoves.{delivered_to}
+use Rattle.schedule_player.proofs.Lists.{get_here}
+use Rattle.schedule_player.proofs.Moving.{Stepped, node_seen, steps_wholly, err_so, world_of}
+use Rattle.std.proofs.Common.{None, Some}
+use Rattle.schedule_player.specs.NodeAlong.{seen_node}
+use Rattle.schedule_player.specs.Numbered.{numbered}
+use Rattle.schedule_player.specs.ReplicaMoves.{NodeOf}
+use Rattle.schedule_player.proofs.world.World.deliver.Goals as goal
+
+-- the replica moves, and so the world does
+step : (c : goal.After-self-2-1) → let w = c.self.inside in let bank = bank_with w.directory w.opening w.sequencer.log in
+    Stepped w.directory w.opening w.sequencer w.nodes.items c.args.replica c.deliver.new.self (λ node. delivered_to node c.args.place) c.deliver.result
+step c =
+    let w = c.self.inside in
+    let here = get_here w.nodes.items c.args.replica c.in-Some.node.now c.in-Some.ensures.item.3.0 c.in-Some.ensures.value in
+    let bank = bank_with w.directory w.opening w.sequencer.log in
+    let along = c.self.invariant.each c.args.replica c.in-Some.node.now here in
+    steps_wholly w.directory w.opening w.sequencer w.nodes.items c.args.replica c.in-Some.node.now c.deliver.new.self
+    (λ node. delivered_to node c.args.place) c.deliver.result c.self.invariant here (c.deliver.ensures.moves bank c.args.replica along) c.deliver.ensures.err
+
+pub invariant_of-self-2 : goal.invariant_of-self-2
+invariant_of-self-2 c = (step c).is
+
+pub returns-clause-moves : goal.returns-clause-moves
+returns-clause-moves c =
+    let w = c.self.inside in
+    let new = world_of w.directory w.opening w.sequencer (slice_set w.nodes.items c.args.replica c.deliver.new.self) in
+    subst (λ old. IfOk c.deliver.result (λ n. moved_at old c.args.replica (λ node. delivered_to node c.args.place) ≡ (new, n))) c.self.view_is (step c).moves
+
+pub returns-clause-err : goal.returns-clause-err
+returns-clause-err c =
+    let w = c.self.inside in
+    let new = world_of w.directory w.opening w.sequencer (slice_set w.nodes.items c.args.replica c.deliver.new.self) in
+    subst (λ old. OnErr c.deliver.result (new ≡ old)) c.self.view_is (step c).err
+
+pub returns-clause-there : goal.returns-clause-there
+returns-clause-there c =
+    let w = c.self.inside in
+    let here = get_here w.nodes.items c.args.replica c.in-Some.node.now c.in-Some.ensures.item.3.0 c.in-Some.ensures.value in
+    let seen = node_seen w.directory w.opening w.sequencer w.nodes.items c.args.replica c.in-Some.node.now here in
+    subst (λ old. OnErr c.deliver.result ((node : NodeOf) × (slice_get old.nodes c.args.replica ≡ Some node) × (numbered node.inbound c.args.place ≢ None)))
+    c.self.view_is
+    (err_so c.deliver.result (λ there. (seen_node c.in-Some.node.now, seen, there)) c.deliver.ensures.named)

@@ -1,0 +1,43 @@
+use Rattle.std.proofs.Common.{◌≡◌, subst}
+use Rattle.std.specs.Prelude.{IfOk, OnErr, ◌≢◌, slice_get, slice_set}
+use Rattle.schedule_player.specs.World.{bank_with, moved_at}
+use Rattle.schedule_player.specs.ReplicaMoves.{restarted}
+use Rattle.schedule_player.proofs.Lists.{get_here}
+use Rattle.schedule_player.proofs.Moving.{Stepped, node_seen, steps, on_err, is_there, world_of}
+use Rattle.std.proofs.Common.{map, None}
+use Rattle.schedule_player.specs.NodeAlong.{seen_node}
+use Rattle.schedule_player.proofs.world.World.restart.Goals as goal
+
+-- the replica moves, and so the world does
+step : (c : goal.After-self-2-1) → let w = c.self.inside in let bank = bank_with w.directory w.opening w.sequencer.log in
+    Stepped w.directory w.opening w.sequencer w.nodes.items c.args.replica c.restart.new.self (λ node. restarted node) c.restart.result
+step c =
+    let w = c.self.inside in
+    let here = get_here w.nodes.items c.args.replica c.in-Some.node.now c.in-Some.ensures.item.3.0 c.in-Some.ensures.value in
+    let bank = bank_with w.directory w.opening w.sequencer.log in
+    let along = c.self.invariant.each c.args.replica c.in-Some.node.now here in
+    steps w.directory w.opening w.sequencer w.nodes.items c.args.replica c.in-Some.node.now c.restart.new.self
+    (λ node. restarted node) c.restart.result c.self.invariant here (c.restart.ensures.moves bank c.args.replica along)
+
+pub invariant_of-self-2 : goal.invariant_of-self-2
+invariant_of-self-2 c = (step c).is
+
+pub returns-clause-moves : goal.returns-clause-moves
+returns-clause-moves c =
+    let w = c.self.inside in
+    let new = world_of w.directory w.opening w.sequencer (slice_set w.nodes.items c.args.replica c.restart.new.self) in
+    subst (λ old. IfOk c.restart.result (λ n. moved_at old c.args.replica (λ node. restarted node) ≡ (new, n))) c.self.view_is (step c).moves
+
+pub returns-clause-err : goal.returns-clause-err
+returns-clause-err c =
+    let w = c.self.inside in
+    let new = world_of w.directory w.opening w.sequencer (slice_set w.nodes.items c.args.replica c.restart.new.self) in
+    subst (λ old. OnErr c.restart.result (new ≡ old)) c.self.view_is (step c).err
+
+pub returns-clause-there : goal.returns-clause-there
+returns-clause-there c =
+    let w = c.self.inside in
+    let here = get_here w.nodes.items c.args.replica c.in-Some.node.now c.in-Some.ensures.item.3.0 c.in-Some.ensures.value in
+    let seen = node_seen w.directory w.opening w.sequencer w.nodes.items c.args.replica c.in-Some.node.now here in
+    subst (λ old. OnErr c.restart.result (slice_get old.nodes c.args.replica ≢ None)) c.self.view_is
+    (on_err c.restart.result (is_there (slice_get (map seen_node w.nodes.items) c.args.replica) (seen_node c.in-Some.node.now) seen))
