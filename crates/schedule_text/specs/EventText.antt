@@ -11,7 +11,8 @@ use Rattle.sb_checkpoint.specs.declared.memory_store.How.TheVariants as how
 use Rattle.schedule_text.specs.declared.event.Event.{Event}
 use Rattle.schedule_text.specs.declared.event.Event.TheVariants as event
 use Rattle.schedule_text.specs.declared.fault.EventFault.{EventFault}
-use Rattle.schedule_text.specs.declared.fault.EventFault.TheVariants.{UnknownEvent, WrongWords, BadNumber, Call}
+use Rattle.schedule_text.specs.declared.fault.EventFault.TheVariants as faults
+use Rattle.schedule_text.specs.declared.fault.EventFault.TheVariants.{UnknownEvent, WrongWords, BadNumber}
 
 -- ---- words that are numbers, up to three
 
@@ -72,7 +73,7 @@ of_mark (r ∷ how ∷ c ∷ more) = Err WrongWords
 
 abbrev pub asks : ℕ → ℕ → Result Call CallFault → Result Event EventFault
 asks client request (Ok call) = Ok (event.Ask client request call)
-asks client request (Err fault) = Err (Call fault)
+asks client request (Err fault) = Err (faults.Call fault)
 
 abbrev pub with_key : Option ℕ → Option ℕ → List (List ℕ) → Result Event EventFault
 with_key (Some client) (Some request) call = asks client request (call_of_words call)

@@ -1,9 +1,18 @@
 //! The lines of events.
-ghost use Rattle.std.specs.Prelude.{◌≡◌};
-ghost use Rattle.schedule_text.specs.EventText.{event_of};
+ghost use Rattle.std.specs.Prelude.{◌≡◌, ◌∷◌};
+ghost use Rattle.std.specs.Option.{option_map};
+ghost use Rattle.std.specs.Result.{result_map_both};
+ghost use Rattle.sb_calls.specs.Call.{call_of_words};
+ghost use Rattle.sb_rows.specs.Text.{words_left};
+ghost use Rattle.schedule_text.specs.EventText as spec;
+ghost use Rattle.schedule_text.specs.EventText.{event_of, event_of_words, of_ask, of_mark, asks};
 
 use crate::event::Event;
 use crate::fault::EventFault;
+use crate::numbers::{number_of, one_number, three_numbers, two_numbers, two_words};
+use sb_calls::{Call, CallFault, read_call};
+use sb_checkpoint::How;
+use sb_rows::next_word;
 
 /// The event that a line says.
 ///
@@ -11,5 +20,114 @@ use crate::fault::EventFault;
 pub fn read_event(line: &[u8]) -> Result<Event, EventFault>
     ensures { result ≡ event_of line.now }
 {
-    todo!()
+    let (verb, rest) = next_word(line);
+    event_with(verb, rest)
+}
+
+// The event with a first word, and what follows that word.
+fn event_with(verb: &[u8], rest: Option<&[u8]>) -> Result<Event, EventFault>
+    ensures { result
+        ≡ event_of_words (verb.now ∷ words_left (option_map (λ text. text.now) rest.entry)) }
+{
+    if verb == b"ask".as_slice() {
+        return asked(rest);
+    }
+    if verb == b"send".as_slice() {
+        let (replica, number) = two_numbers(rest)?;
+        return Ok(Event::Send { replica, number });
+    }
+    if verb == b"resend".as_slice() {
+        let replica = one_number(rest)?;
+        return Ok(Event::Resend { replica });
+    }
+    if verb == b"to".as_slice() {
+        let (replica, place) = two_numbers(rest)?;
+        return Ok(Event::To { replica, place });
+    }
+    if verb == b"ack".as_slice() {
+        let replica = one_number(rest)?;
+        return Ok(Event::Ack { replica });
+    }
+    if verb == b"answer".as_slice() {
+        let (replica, number) = two_numbers(rest)?;
+        return Ok(Event::Answer { replica, number });
+    }
+    if verb == b"from".as_slice() {
+        let (replica, place) = two_numbers(rest)?;
+        return Ok(Event::From { replica, place });
+    }
+    if verb == b"take".as_slice() {
+        let (replica, worker, index) = three_numbers(rest)?;
+        return Ok(Event::Take {
+            replica,
+            worker,
+            index,
+        });
+    }
+    if verb == b"finish".as_slice() {
+        let (replica, worker) = two_numbers(rest)?;
+        return Ok(Event::Finish { replica, worker });
+    }
+    if verb == b"mark".as_slice() {
+        return marked(rest);
+    }
+    if verb == b"restart".as_slice() {
+        let replica = one_number(rest)?;
+        return Ok(Event::Restart { replica });
+    }
+    if verb == b"audit".as_slice() {
+        let (first, second) = two_numbers(rest)?;
+        return Ok(Event::Audit { first, second });
+    }
+    Err(EventFault::UnknownEvent)
+}
+
+// What follows `ask`: the client's number, its number for the request, and the call.
+fn asked(rest: Option<&[u8]>) -> Result<Event, EventFault>
+    ensures { result ≡ of_ask (words_left (option_map (λ text. text.now) rest.entry)) }
+{
+    let (client, rest) = next_word(rest.ok_or(EventFault::WrongWords)?);
+    let (request, rest) = next_word(rest.ok_or(EventFault::WrongWords)?);
+    let client = number_of(client)?;
+    let request = number_of(request)?;
+    let call = call_left(rest).map_err(EventFault::Call)?;
+    Ok(Event::Ask {
+        client,
+        request,
+        call,
+    })
+}
+
+// The call that is left.
+#[tactic(auto, unfolding(sb_calls::specs::Call::call_of))]
+fn call_left(rest: Option<&[u8]>) -> Result<Call, CallFault>
+    ensures { result ≡ call_of_words (words_left (option_map (λ text. text.now) rest.entry)) }
+{
+    read_call(rest.ok_or(CallFault::UnknownVerb)?)
+}
+
+// What follows `mark`: the replica's number, and how the put ends.
+fn marked(rest: Option<&[u8]>) -> Result<Event, EventFault>
+    ensures { result ≡ of_mark (words_left (option_map (λ text. text.now) rest.entry)) }
+{
+    let (replica, how) = two_words(rest)?;
+    let replica = number_of(replica)?;
+    let how = how_of(how).ok_or(EventFault::BadNumber)?;
+    Ok(Event::Mark { replica, how })
+}
+
+// How a put ends that a word says.
+fn how_of(word: &[u8]) -> Option<How>
+    ensures { result ≡ spec.how_of word.now }
+{
+    if word == b"ok".as_slice() {
+        return Some(How::Ok);
+    }
+    if word == b"old".as_slice() {
+        return Some(How::Old);
+    }
+    if word == b"new".as_slice() {
+        return Some(How::New);
+    }
+    None
 }
