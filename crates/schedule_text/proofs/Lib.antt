@@ -1,3 +1,3 @@
+pub mod EventLines
 pub mod Heads
 pub mod OpeningFaults
-pub mod Whole

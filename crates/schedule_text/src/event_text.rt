@@ -1,18 +1,24 @@
 //! The lines of events.
-ghost use Rattle.std.specs.Prelude.{◌≡◌, ◌∷◌};
+ghost use Rattle.std.specs.Prelude.{◌≡◌, ◌+◌, ◌<◌, ◌^◌, Ok, [], ◌∷◌, length, MatchResult};
 ghost use Rattle.std.specs.Option.{option_map};
-ghost use Rattle.std.specs.Result.{result_map_both};
 ghost use Rattle.sb_calls.specs.Call.{call_of_words};
-ghost use Rattle.sb_rows.specs.Text.{words_left};
+ghost use Rattle.sb_rows.specs.Opening.{at_line};
+ghost use Rattle.sb_rows.specs.Text.{lines, words_left};
 ghost use Rattle.schedule_text.specs.EventText as spec;
-ghost use Rattle.schedule_text.specs.EventText.{event_of, event_of_words, of_ask, of_mark, asks};
+ghost use Rattle.schedule_text.specs.EventText.{event_of, event_of_words, of_ask, of_mark};
+ghost use Rattle.schedule_text.specs.Reads.{Blames};
+ghost use Rattle.schedule_text.specs.ScheduleText.{events_from, in_events};
 
 use crate::event::Event;
-use crate::fault::EventFault;
+use crate::fault::{EventFault, ScheduleLineFault, TextFault};
 use crate::numbers::{number_of, one_number, three_numbers, two_numbers, two_words};
 use sb_calls::{Call, CallFault, read_call};
 use sb_checkpoint::How;
-use sb_rows::next_word;
+use sb_rows::{next_line, next_word};
+use std::alloc::Global;
+
+// How many bytes an event's line takes, as a rule. Room is made by that; where lines are shorter, the list grows.
+const USUAL_LINE: usize = 16;
 
 /// The event that a line says.
 ///
@@ -130,4 +136,42 @@ fn how_of(word: &[u8]) -> Option<How>
         return Some(How::New);
     }
     None
+}
+
+// Reads an event a line; the first line has this number.
+pub(crate) fn read_events(
+    alloc: Global,
+    text: &[u8],
+    first_line: usize,
+) -> Result<Vec<Event>, TextFault>
+    requires { first_line + length text.now < 2 ^ 64 }
+    ensures { MatchResult result
+        (λ events. events_from first_line [] (lines text.now) ≡ Ok events.items)
+        (λ fault. Blames fault (in_events (events_from first_line [] (lines text.now)))) }
+{
+    // The checker goes through what an event is made of, and has to be told the types.
+    let _parts: Option<(Call, How)> = None;
+    let mut events = Vec::with_capacity(alloc, text.len() / USUAL_LINE)?;
+    let mut left = text;
+    while let Some((line, rest)) = next_line(left) {
+        let event = event_at(line, first_line + events.len())?;
+        events.push(event)?;
+        left = rest;
+    }
+    Ok(events)
+}
+
+// Reads the event of the line with this number.
+fn event_at(line: &[u8], number: usize) -> Result<Event, TextFault>
+    ensures { MatchResult result
+        (λ event. event_of line.now ≡ Ok event)
+        (λ fault. Blames fault (in_events (at_line number (event_of line.now)))) }
+{
+    match read_event(line) {
+        Ok(event) => Ok(event),
+        Err(fault) => Err(TextFault::Line {
+            line: number,
+            fault: ScheduleLineFault::Event(fault),
+        }),
+    }
 }

@@ -23,6 +23,7 @@ const BAD_HEAD: TextFault = TextFault::Line {
 };
 
 // How many replicas a text begins with, how many workers of each, and what follows that line.
+#[tactic(auto, unfolding(crate::specs::ScheduleText::head_of))]
 pub(crate) fn read_head(text: &[u8]) -> Result<(u8, u8, &[u8]), TextFault>
     ensures exact { MatchResult result
         (λ head. head_of_lines (lines text.now) ≡ Ok (head.0, head.1))

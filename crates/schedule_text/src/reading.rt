@@ -1,20 +1,15 @@
 //! The text of a whole schedule: a head, an opening, then an event a line.
-ghost use Rattle.std.specs.Prelude.{◌≡◌, ◌+◌, ◌<◌, ◌≤◌, ◌^◌, Ok, [], length, IfOk, MatchResult};
+ghost use Rattle.std.specs.Prelude.{◌≡◌, ◌≤◌, Ok, length, IfOk, MatchResult};
 ghost use Rattle.sb_rows.specs.Opening.{opening_of};
-ghost use Rattle.sb_rows.specs.Text.{lines};
 ghost use Rattle.schedule_text.specs.Reads.{Blames, Reads};
-ghost use Rattle.schedule_text.specs.ScheduleText.{below_head, events_from, in_events, schedule_of};
+ghost use Rattle.schedule_text.specs.ScheduleText.{below_head, schedule_of};
 
-use crate::event::Event;
-use crate::event_text::read_event;
+use crate::event_text::read_events;
 use crate::fault::{ScheduleLineFault, TextFault};
 use crate::head::read_head;
 use crate::schedule::Schedule;
-use sb_rows::{Opening, OpeningFault, next_line, read_opening};
+use sb_rows::{Opening, OpeningFault, read_opening};
 use std::alloc::Global;
-
-// How many bytes an event's line takes, as a rule. Room is made by that; where lines are shorter, the list grows.
-const USUAL_LINE: usize = 16;
 
 /// Reads a whole schedule: the line `nodes N workers W`, an opening, then an event a line.
 ///
@@ -51,28 +46,4 @@ fn read_below(alloc: Global, text: &[u8]) -> Result<Opening, TextFault>
             fault: ScheduleLineFault::Opening(fault),
         }),
     }
-}
-
-// Reads an event a line; the first line has this number.
-fn read_events(alloc: Global, text: &[u8], first_line: usize) -> Result<Vec<Event>, TextFault>
-    requires { first_line + length text.now < 2 ^ 64 }
-    ensures { MatchResult result
-        (λ events. events_from first_line [] (lines text.now) ≡ Ok events.items)
-        (λ fault. Blames fault (in_events (events_from first_line [] (lines text.now)))) }
-{
-    let mut events = Vec::with_capacity(alloc, text.len() / USUAL_LINE)?;
-    let mut left = text;
-    while let Some((line, rest)) = next_line(left) {
-        match read_event(line) {
-            Ok(event) => events.push(event)?,
-            Err(fault) => {
-                return Err(TextFault::Line {
-                    line: first_line + events.len(),
-                    fault: ScheduleLineFault::Event(fault),
-                });
-            }
-        }
-        left = rest;
-    }
-    Ok(events)
 }

@@ -1,7 +1,7 @@
 use Rattle.std.proofs.Common.{◌≡◌, ◌+◌, ◌≤◌, [], length}
 use Rattle.sb_rows.specs.Text.{lines}
 use Rattle.schedule_text.specs.ScheduleText.{events_from}
-use Rattle.schedule_text.proofs.reading.read_events.Given as goal
+use Rattle.schedule_text.proofs.event_text.read_events.Given as goal
 
 -- with the events of what is left those so far are all
 abbrev pub invariant-loop-line : goal.invariant-loop-line
