@@ -87,6 +87,16 @@ of_ask (client ∷ []) = Err WrongWords
 
 -- ---- a line
 
+-- by its first word, of what replicas do without the network
+abbrev pub replica_event : List ℕ → List (List ℕ) → Result Event EventFault
+replica_event verb rest =
+    if bytes_eq verb (codes "take") then of_three event.Take rest
+    else if bytes_eq verb (codes "finish") then of_two event.Finish rest
+    else if bytes_eq verb (codes "mark") then of_mark rest
+    else if bytes_eq verb (codes "restart") then of_one event.Restart rest
+    else if bytes_eq verb (codes "audit") then of_two event.Audit rest
+    else Err UnknownEvent
+
 -- by its first word
 abbrev pub event_of_words : List (List ℕ) → Result Event EventFault
 event_of_words [] = Err UnknownEvent
@@ -98,12 +108,7 @@ event_of_words (verb ∷ rest) =
     else if bytes_eq verb (codes "ack") then of_one event.Ack rest
     else if bytes_eq verb (codes "answer") then of_two event.Answer rest
     else if bytes_eq verb (codes "from") then of_two event.From rest
-    else if bytes_eq verb (codes "take") then of_three event.Take rest
-    else if bytes_eq verb (codes "finish") then of_two event.Finish rest
-    else if bytes_eq verb (codes "mark") then of_mark rest
-    else if bytes_eq verb (codes "restart") then of_one event.Restart rest
-    else if bytes_eq verb (codes "audit") then of_two event.Audit rest
-    else Err UnknownEvent
+    else replica_event verb rest
 
 -- the event that a line says, or its first fault
 unfoldable pub event_of : List ℕ → Result Event EventFault

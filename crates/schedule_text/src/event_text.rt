@@ -62,6 +62,14 @@ fn event_with(verb: &[u8], rest: Option<&[u8]>) -> Result<Event, EventFault>
         let (replica, place) = two_numbers(rest)?;
         return Ok(Event::From { replica, place });
     }
+    replica_event(verb, rest)
+}
+
+// The same of what replicas do without the network.
+fn replica_event(verb: &[u8], rest: Option<&[u8]>) -> Result<Event, EventFault>
+    ensures { result
+        ≡ spec.replica_event verb.now (words_left (option_map (λ text. text.now) rest.entry)) }
+{
     if verb == b"take".as_slice() {
         let (replica, worker, index) = three_numbers(rest)?;
         return Ok(Event::Take {
