@@ -17,7 +17,8 @@ use sb_checkpoint::How;
 use sb_rows::{next_line, next_word};
 use std::alloc::Global;
 
-// How many bytes an event's line takes, as a rule. Room is made by that; where lines are shorter, the list grows.
+// How many bytes an event's line takes, as a rule. Room is made by that; where lines are shorter,
+// the list grows.
 const USUAL_LINE: usize = 16;
 
 /// The event that a line says.
