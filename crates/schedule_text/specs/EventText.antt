@@ -11,7 +11,8 @@ use Rattle.sb_checkpoint.specs.declared.memory_store.How.TheVariants as how
 use Rattle.schedule_text.specs.declared.event.Event.{Event}
 use Rattle.schedule_text.specs.declared.event.Event.TheVariants as event
 use Rattle.schedule_text.specs.declared.fault.EventFault.{EventFault}
-use Rattle.schedule_text.specs.declared.fault.EventFault.TheVariants.{UnknownEvent, WrongWords, BadNumber, Call}
+use Rattle.schedule_text.specs.declared.fault.EventFault.TheVariants as faults
+use Rattle.schedule_text.specs.declared.fault.EventFault.TheVariants.{UnknownEvent, WrongWords, BadNumber}
 
 -- ---- words that are numbers, up to three
 
@@ -72,7 +73,7 @@ of_mark (r ∷ how ∷ c ∷ more) = Err WrongWords
 
 abbrev pub asks : ℕ → ℕ → Result Call CallFault → Result Event EventFault
 asks client request (Ok call) = Ok (event.Ask client request call)
-asks client request (Err fault) = Err (Call fault)
+asks client request (Err fault) = Err (faults.Call fault)
 
 abbrev pub with_key : Option ℕ → Option ℕ → List (List ℕ) → Result Event EventFault
 with_key (Some client) (Some request) call = asks client request (call_of_words call)
@@ -86,6 +87,16 @@ of_ask (client ∷ []) = Err WrongWords
 
 -- ---- a line
 
+-- by its first word, of what replicas do without the network
+abbrev pub replica_event : List ℕ → List (List ℕ) → Result Event EventFault
+replica_event verb rest =
+    if bytes_eq verb (codes "take") then of_three event.Take rest
+    else if bytes_eq verb (codes "finish") then of_two event.Finish rest
+    else if bytes_eq verb (codes "mark") then of_mark rest
+    else if bytes_eq verb (codes "restart") then of_one event.Restart rest
+    else if bytes_eq verb (codes "audit") then of_two event.Audit rest
+    else Err UnknownEvent
+
 -- by its first word
 abbrev pub event_of_words : List (List ℕ) → Result Event EventFault
 event_of_words [] = Err UnknownEvent
@@ -97,12 +108,7 @@ event_of_words (verb ∷ rest) =
     else if bytes_eq verb (codes "ack") then of_one event.Ack rest
     else if bytes_eq verb (codes "answer") then of_two event.Answer rest
     else if bytes_eq verb (codes "from") then of_two event.From rest
-    else if bytes_eq verb (codes "take") then of_three event.Take rest
-    else if bytes_eq verb (codes "finish") then of_two event.Finish rest
-    else if bytes_eq verb (codes "mark") then of_mark rest
-    else if bytes_eq verb (codes "restart") then of_one event.Restart rest
-    else if bytes_eq verb (codes "audit") then of_two event.Audit rest
-    else Err UnknownEvent
+    else replica_event verb rest
 
 -- the event that a line says, or its first fault
 unfoldable pub event_of : List ℕ → Result Event EventFault

@@ -1,5 +1,5 @@
 -- How a note is spelled.
-use Rattle.std.specs.Prelude.{ℕ, ℤ, List, ◌∷◌, ◌++◌, decimal, codes}
+use Rattle.std.specs.Prelude.{ℕ, List, ◌∷◌, ◌++◌, decimal, codes}
 use Rattle.sb_amount.specs.Money.{money}
 use Rattle.sb_calls.specs.Reply.{reply_text}
 use Rattle.schedule_text.specs.declared.note.AuditNote.{AuditNote}

@@ -20,3 +20,8 @@ abbrev pub Reads : Result Schedule TextFault → Result ScheduleOf (ℕ × Sched
 Reads (Ok schedule) read = read ≡ Ok (schedule_seen schedule)
 Reads (Err (Line line fault)) read = read ≡ Err (line, fault)
 Reads (Err OutOfMemory) read = Unit {0}
+
+-- the first line at fault of a part; memory may run out
+abbrev pub Blames : {A : Type 0} → TextFault → Result A (ℕ × ScheduleLineFault) → Type 0
+Blames (Line line fault) read = read ≡ Err (line, fault)
+Blames OutOfMemory read = Unit {0}

@@ -4,7 +4,7 @@ ghost use Rattle.schedule_text.specs.declared.fault.TextFault.TheVariants.{OutOf
 
 use sb_calls::CallFault;
 use sb_rows::LineFault;
-use std::alloc::AllocError;
+use std::alloc::{AllocError, AllocFailed};
 use thiserror::Error;
 
 /// What is wrong with a line that is no event: the first fault in this order.
@@ -58,6 +58,14 @@ impl From<AllocError> for TextFault {
     ghost from_gives = { λ _ fault. fault ≡ OutOfMemory };
 
     fn from(_: AllocError) -> TextFault {
+        TextFault::OutOfMemory
+    }
+}
+
+impl<T: Drop> From<AllocFailed<T>> for TextFault {
+    ghost from_gives = { λ _ fault. fault ≡ OutOfMemory };
+
+    fn from(_: AllocFailed<T>) -> TextFault {
         TextFault::OutOfMemory
     }
 }

@@ -4,13 +4,19 @@
 mod event;
 mod event_text;
 mod fault;
+mod head;
 mod note;
 mod note_text;
+mod numbers;
+mod reading;
 mod schedule;
+#[cfg(test)]
+mod tests;
 
 pub use event::Event;
 pub use event_text::read_event;
 pub use fault::{EventFault, ScheduleLineFault, TextFault};
 pub use note::{AuditNote, Column, Note};
 pub use note_text::push_notes;
-pub use schedule::{Schedule, read_schedule};
+pub use reading::read_schedule;
+pub use schedule::Schedule;

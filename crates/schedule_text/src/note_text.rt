@@ -1,14 +1,118 @@
 //! Notes as text, a line each.
-ghost use Rattle.std.specs.Prelude.{◌≡◌, ◌++◌, map, OnOk};
+ghost use Rattle.std.specs.Prelude.{◌≡◌, ◌∷◌, [], ◌++◌, map, codes, decimal, OnOk};
+ghost use Rattle.sb_amount.specs.Money.{money};
+ghost use Rattle.sb_calls.specs.Reply.{reply_text};
 ghost use Rattle.sb_rows.specs.Text.{unlines};
-ghost use Rattle.schedule_text.specs.NoteText.{note_line};
+ghost use Rattle.schedule_text.specs.NoteText.{audit_line, column_text, note_line};
 
-use crate::note::Note;
+use crate::note::{AuditNote, Column, Note};
+use itoa::Buffer;
+use sb_amount::print_total;
+use sb_calls::{Reply, print_reply};
 use std::alloc::AllocError;
 
 /// Writes a line for each note.
 pub fn push_notes(notes: &[Note], out: &mut Vec<u8>) -> Result<(), AllocError>
     ensures { OnOk result (out.new.items ≡ out.old.items ++ unlines (map note_line notes.now)) }
 {
-    todo!()
+    for note in notes {
+        push_note(*note, out)?;
+        out.push(b'\n')?;
+    }
+    Ok(())
+}
+
+// Writes a note without the end of its line.
+fn push_note(note: Note, out: &mut Vec<u8>) -> Result<(), AllocError>
+    ensures { OnOk result (out.new.items ≡ out.old.items ++ note_line note) }
+{
+    match note {
+        Note::New(number) => push_numbered(b"new ", number, out),
+        Note::Repeat(number) => push_numbered(b"repeat ", number, out),
+        Note::Mismatch(number) => push_numbered(b"mismatch ", number, out),
+        Note::LogFull => out.extend_from_slice(b"log full"),
+        Note::Sent(place) => push_numbered(b"sent ", place, out),
+        Note::Resent(count) => push_numbered(b"resent ", count, out),
+        Note::Accepted(number) => push_numbered(b"accepted ", number, out),
+        Note::Gap(size) => push_numbered(b"gap ", size, out),
+        Note::Busy(size) => push_numbered(b"busy ", size, out),
+        Note::Recorded(size) => push_numbered(b"recorded ", size, out),
+        Note::Odd => out.extend_from_slice(b"odd"),
+        Note::Kept(number) => push_numbered(b"kept ", number, out),
+        Note::OddAnswer(number) => push_numbered(b"odd ", number, out),
+        Note::Unknown(number) => push_numbered(b"unknown ", number, out),
+        Note::Took(number) => push_numbered(b"took ", number, out),
+        Note::HandFull => out.extend_from_slice(b"hand full"),
+        Note::Finished(number, reply) => push_finished(number, reply, out),
+        Note::Stranger(number) => push_numbered(b"stranger ", number, out),
+        Note::Marked(size) => push_numbered(b"marked ", size, out),
+        Note::Unfinished => out.extend_from_slice(b"busy"),
+        Note::StoreFault => out.extend_from_slice(b"store fault"),
+        Note::Restarted(size) => push_numbered(b"restarted ", size, out),
+        Note::Audit(found) => push_audit(found, out),
+        Note::Nothing => out.extend_from_slice(b"nothing"),
+    }
+}
+
+// Writes what comparing two replicas gave.
+fn push_audit(found: AuditNote, out: &mut Vec<u8>) -> Result<(), AllocError>
+    ensures { OnOk result (out.new.items ≡ out.old.items ++ audit_line found) }
+{
+    match found {
+        AuditNote::Busy(replica) => push_numbered(b"busy ", u64::from(replica), out),
+        AuditNote::Apart(first, second) => {
+            push_numbered(b"apart ", first, out)?;
+            push_numbered(b" ", second, out)
+        }
+        AuditNote::Differ(column, place) => {
+            out.extend_from_slice(b"differ ")?;
+            out.extend_from_slice(column_word(column))?;
+            push_numbered(b" ", place as u64, out)
+        }
+        AuditNote::OffBooks(total, expected) => {
+            push_total(b"off books ", total, out)?;
+            push_total(b" ", expected, out)
+        }
+        AuditNote::Same(total, overdrawn) => {
+            push_total(b"same ", total, out)?;
+            push_numbered(b" ", overdrawn as u64, out)
+        }
+    }
+}
+
+// The word for a column.
+fn column_word(column: Column) -> &'static [u8]
+    ensures { result.now ≡ column_text column }
+{
+    match column {
+        Column::Savings => b"savings",
+        Column::Checking => b"checking",
+    }
+}
+
+// Writes the number of what is finished, and the reply.
+fn push_finished(number: u64, reply: Reply, out: &mut Vec<u8>) -> Result<(), AllocError>
+    ensures { OnOk result (out.new.items
+        ≡ out.old.items ++ (codes "finished " ++ (decimal number ++ (32 ∷ reply_text reply)))) }
+{
+    push_numbered(b"finished ", number, out)?;
+    out.push(b' ')?;
+    out.extend_from_slice(print_reply(reply).as_str().as_bytes())
+}
+
+// Writes some words and a number.
+fn push_numbered(words: &[u8], number: u64, out: &mut Vec<u8>) -> Result<(), AllocError>
+    ensures { OnOk result (out.new.items ≡ out.old.items ++ (words.now ++ decimal number)) }
+{
+    let mut buffer = Buffer::new();
+    out.extend_from_slice(words)?;
+    out.extend_from_slice(buffer.format(number).as_bytes())
+}
+
+// Writes some words and a total in cents, as money.
+fn push_total(words: &[u8], total: i64, out: &mut Vec<u8>) -> Result<(), AllocError>
+    ensures { OnOk result (out.new.items ≡ out.old.items ++ (words.now ++ money total)) }
+{
+    out.extend_from_slice(words)?;
+    out.extend_from_slice(print_total(total).as_str().as_bytes())
 }

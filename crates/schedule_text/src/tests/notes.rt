@@ -1,0 +1,97 @@
+//! Notes as text.
+use super::*;
+use std::process::Abort;
+
+// Writes one note, and compares its line.
+fn expect(rt: &impl Abort, alloc: Global, note: Note, line: &str) -> Result<(), Fail> {
+    let mut out = Vec::new(alloc);
+    push_notes(&[note], &mut out)?;
+    assert_eq!(rt; out.as_slice(), line.as_bytes(), "{line}");
+    Ok(())
+}
+
+#[test]
+fn notes_with_a_number(rt: HostRuntime) -> Result<(), Fail> {
+    for (note, line) in [
+        (Note::New(1), "new 1\n"),
+        (Note::Repeat(20), "repeat 20\n"),
+        (Note::Mismatch(3), "mismatch 3\n"),
+        (Note::Sent(4), "sent 4\n"),
+        (Note::Resent(0), "resent 0\n"),
+        (Note::Accepted(6), "accepted 6\n"),
+        (Note::Gap(0), "gap 0\n"),
+        (Note::Busy(1_024), "busy 1024\n"),
+        (Note::Recorded(9), "recorded 9\n"),
+        (Note::Kept(10), "kept 10\n"),
+        (Note::OddAnswer(11), "odd 11\n"),
+        (Note::Unknown(12), "unknown 12\n"),
+        (Note::Took(13), "took 13\n"),
+        (Note::Stranger(14), "stranger 14\n"),
+        (Note::Marked(15), "marked 15\n"),
+        (
+            Note::Restarted(18_446_744_073_709_551_615),
+            "restarted 18446744073709551615\n",
+        ),
+    ] {
+        expect(&rt, rt.alloc(), note, line)?;
+    }
+    Ok(())
+}
+
+#[test]
+fn notes_in_words(rt: HostRuntime) -> Result<(), Fail> {
+    for (note, line) in [
+        (Note::LogFull, "log full\n"),
+        (Note::Odd, "odd\n"),
+        (Note::HandFull, "hand full\n"),
+        (
+            Note::Finished(1, Reply::Penalised),
+            "finished 1 penalised\n",
+        ),
+        (
+            Note::Finished(2, Reply::Shown(-5)),
+            "finished 2 shown -0.05\n",
+        ),
+        (Note::Unfinished, "busy\n"),
+        (Note::StoreFault, "store fault\n"),
+        (Note::Nothing, "nothing\n"),
+    ] {
+        expect(&rt, rt.alloc(), note, line)?;
+    }
+    Ok(())
+}
+
+#[test]
+fn notes_of_an_audit(rt: HostRuntime) -> Result<(), Fail> {
+    for (found, line) in [
+        (AuditNote::Busy(7), "busy 7\n"),
+        (AuditNote::Apart(2, 10), "apart 2 10\n"),
+        (AuditNote::Differ(Column::Savings, 0), "differ savings 0\n"),
+        (
+            AuditNote::Differ(Column::Checking, 12),
+            "differ checking 12\n",
+        ),
+        (AuditNote::OffBooks(100, -1), "off books 1.00 -0.01\n"),
+        (AuditNote::Same(15_400, 3), "same 154.00 3\n"),
+        (
+            AuditNote::Same(i64::MIN, 0),
+            "same -92233720368547758.08 0\n",
+        ),
+    ] {
+        expect(&rt, rt.alloc(), Note::Audit(found), line)?;
+    }
+    Ok(())
+}
+
+#[test]
+fn notes_stand_in_order_behind_what_was_written(rt: HostRuntime) -> Result<(), Fail> {
+    let mut out = Vec::from_slice(rt.alloc(), b"before\n")?;
+    push_notes(&[], &mut out)?;
+    assert_eq!(rt; out.as_slice(), b"before\n".as_slice());
+    push_notes(&[Note::New(1), Note::Nothing, Note::Sent(2)], &mut out)?;
+    assert_eq!(rt;
+        out.as_slice(),
+        b"before\nnew 1\nnothing\nsent 2\n".as_slice()
+    );
+    Ok(())
+}
