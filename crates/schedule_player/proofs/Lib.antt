@@ -1,6 +1,7 @@
 pub mod Along
 pub mod Asking
 pub mod Books
+pub mod Coming
 pub mod Comparing
 pub mod Finishing
 pub mod HeardFrames
@@ -18,3 +19,4 @@ pub mod Sharing
 pub mod Stages
 pub mod Storing
 pub mod Telling
+pub mod Working

@@ -4,7 +4,7 @@ use Rattle.std.specs.List.{slice_get, slice_set, slice_index_or}
 use Rattle.std.specs.Option.{is_some}
 use Rattle.std.proofs.lemmas.Bool.{true≢false}
 use Rattle.std.proofs.lemmas.Option.{slice_get_cases}
-use Rattle.schedule_player.specs.Numbered.{copies, Every}
+use Rattle.schedule_player.specs.Numbered.{numbered, copies, Every}
 
 pub some_is : {A : Type 0} {x y : A} → ◌≡◌ {A = Option A} (Some x) (Some y) → x ≡ y
 some_is h = cc
@@ -79,3 +79,7 @@ drop_one {A = A} xs k x here = let e : k + 1 ≡ suc k = omega arith in by xs k 
     by [] n none = absurd (none_some none)
     by (y ∷ ys) zero first = ap (λ z. z ∷ ys) (some_is first)
     by (y ∷ ys) (suc n) later = by ys n later
+
+pub every_numbered : {A : Type 0} (P : A → Type 0) (xs : List A) (n : ℕ) (x : A) → Every P xs → numbered xs n ≡ Some x → P x
+every_numbered P xs zero x all here = absurd (none_some here)
+every_numbered P xs (suc k) x all here = all k x here

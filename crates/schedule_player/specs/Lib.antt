@@ -1,6 +1,7 @@
 pub mod Along
 pub mod Bank
 pub mod Books
+pub mod Comes
 pub mod HearsFrame
 pub mod NodeAlong
 pub mod Numbered

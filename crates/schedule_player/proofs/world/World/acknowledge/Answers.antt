@@ -1,8 +1,10 @@
-use Rattle.std.proofs.Common.{◌≡◌, subst}
+use Rattle.std.proofs.Common.{◌≡◌, subst, refl, sym, Some, None}
 use Rattle.std.specs.Prelude.{IfOk, OnErr, ◌≢◌, slice_get, slice_set}
-use Rattle.schedule_player.specs.World.{bank_with, moved_at}
+use Rattle.schedule_text.specs.declared.event.Event.TheVariants as event
+use Rattle.schedule_player.proofs.Working.{works_at, sends, comes_to, answers_so, marks_so}
+use Rattle.schedule_player.specs.World.{FindsWork, bank_with, moved_at}
 use Rattle.schedule_player.specs.ReplicaMoves.{acknowledged}
-use Rattle.schedule_player.proofs.Lists.{get_here}
+use Rattle.schedule_player.proofs.Lists.{none_some, get_here, every_numbered}
 use Rattle.schedule_player.proofs.Moving.{Stepped, node_seen, steps_wholly, on_err, is_there, world_of}
 use Rattle.std.proofs.Common.{map, None}
 use Rattle.schedule_player.specs.NodeAlong.{seen_node}
@@ -34,10 +36,11 @@ returns-clause-err c =
     let new = world_of w.directory w.opening w.sequencer (slice_set w.nodes.items c.args.replica c.acknowledge.new.self) in
     subst (λ old. OnErr c.acknowledge.result (new ≡ old)) c.self.view_is (step c).err
 
-pub returns-clause-there : goal.returns-clause-there
-returns-clause-there c =
+pub returns-clause-wanted : goal.returns-clause-wanted
+returns-clause-wanted c =
     let w = c.self.inside in
+    let world = world_of w.directory w.opening w.sequencer w.nodes.items in
     let here = get_here w.nodes.items c.args.replica c.in-Some.node.now c.in-Some.ensures.item.3.0 c.in-Some.ensures.value in
     let seen = node_seen w.directory w.opening w.sequencer w.nodes.items c.args.replica c.in-Some.node.now here in
-    subst (λ old. OnErr c.acknowledge.result (slice_get old.nodes c.args.replica ≢ None)) c.self.view_is
-    (on_err c.acknowledge.result (is_there (slice_get (map seen_node w.nodes.items) c.args.replica) (seen_node c.in-Some.node.now) seen))
+    subst (λ old. OnErr c.acknowledge.result (FindsWork old (event.Ack c.args.replica))) c.self.view_is
+    (on_err c.acknowledge.result (works_at world c.args.replica (seen_node c.in-Some.node.now) (λ node. acknowledged node c.args.replica) seen refl))

@@ -1,9 +1,12 @@
-use Rattle.std.proofs.Common.{◌≡◌, None, sym, ap, subst, ◌∙◌}
+use Rattle.std.proofs.Common.{◌≡◌, None, sym, ap, subst, ◌∙◌, refl, Some}
 use Rattle.std.specs.Prelude.{IfOk, OnErr, ◌≢◌, slice_set}
 use Rattle.schedule_player.specs.Observed.{reply_at, reply_if}
+use Rattle.schedule_player.specs.NodeAlong.{seen_node}
 use Rattle.schedule_player.specs.ReplicaMoves.{answered}
-use Rattle.schedule_player.specs.World.{bank_of, bank_with, moved_at}
-use Rattle.schedule_player.proofs.Lists.{get_here}
+use Rattle.schedule_text.specs.declared.event.Event.TheVariants as event
+use Rattle.schedule_player.proofs.Working.{works_at, sends, comes_to, answers_so, marks_so}
+use Rattle.schedule_player.specs.World.{FindsWork, bank_of, bank_with, moved_at}
+use Rattle.schedule_player.proofs.Lists.{none_some, get_here, every_numbered}
 use Rattle.schedule_player.proofs.Moving.{Stepped, node_seen, steps_wholly, err_so, world_of}
 use Rattle.schedule_player.proofs.Telling.{reply_seen}
 use Rattle.schedule_player.proofs.world.World.answer.Goals as goal
@@ -29,13 +32,14 @@ returns-clause-moves c =
     subst (λ old. IfOk c.answer.result (λ n. moved_at old c.args.replica (λ node. answered (bank_of old) node c.args.number) ≡ (new, n)))
     c.self.view_is (step c).moves
 
-pub returns-clause-there : goal.returns-clause-there
-returns-clause-there c =
+pub returns-clause-wanted : goal.returns-clause-wanted
+returns-clause-wanted c =
     let w = c.self.inside in
     let world = world_of w.directory w.opening w.sequencer w.nodes.items in
     let here = get_here w.nodes.items c.args.replica c.in-Some.node.now c.in-Some.ensures.item.3.0 c.in-Some.ensures.value in
     let seen = node_seen w.directory w.opening w.sequencer w.nodes.items c.args.replica c.in-Some.node.now here in
     let along = c.self.invariant.each c.args.replica c.in-Some.node.now here in
-    subst (λ old. OnErr c.answer.result (reply_at old c.args.replica c.args.number ≢ None)) c.self.view_is
-    (err_so c.answer.result (λ held none. held (reply_seen (bank_of world) c.args.replica c.in-Some.node.now c.args.number along
-    ∙ sym (ap (reply_if world c.args.number) seen) ∙ none)) c.answer.ensures.held)
+    let bank = bank_with w.directory w.opening w.sequencer.log in
+    subst (λ old. OnErr c.answer.result (FindsWork old (event.Answer c.args.replica c.args.number))) c.self.view_is
+    (err_so c.answer.result (λ held. (works_at world c.args.replica (seen_node c.in-Some.node.now) (λ node. answered bank node c.args.number) seen (answers_so bank (seen_node c.in-Some.node.now) c.args.number (λ none. held (reply_seen bank c.args.replica c.in-Some.node.now c.args.number along ∙ none)))))
+    c.answer.ensures.held)

@@ -1,11 +1,13 @@
-use Rattle.std.proofs.Common.{◌≡◌, subst}
+use Rattle.std.proofs.Common.{◌≡◌, subst, refl, sym, Some}
 use Rattle.std.specs.Prelude.{IfOk, OnErr, ◌≢◌, slice_get, slice_set}
-use Rattle.schedule_player.specs.World.{bank_with, moved_at}
+use Rattle.schedule_text.specs.declared.event.Event.TheVariants as event
+use Rattle.schedule_player.proofs.Working.{works_at, sends, comes_to, answers_so, marks_so}
+use Rattle.schedule_player.specs.World.{FindsWork, bank_with, moved_at}
 use Rattle.schedule_player.specs.ReplicaMoves.{delivered_to}
-use Rattle.schedule_player.proofs.Lists.{get_here}
+use Rattle.schedule_player.proofs.Lists.{none_some, get_here, every_numbered}
 use Rattle.schedule_player.proofs.Moving.{Stepped, node_seen, steps_wholly, err_so, world_of}
 use Rattle.std.proofs.Common.{None, Some}
-use Rattle.schedule_player.specs.NodeAlong.{seen_node}
+use Rattle.schedule_player.specs.NodeAlong.{seen_node, IsEntryOf}
 use Rattle.schedule_player.specs.Numbered.{numbered}
 use Rattle.schedule_player.specs.ReplicaMoves.{NodeOf}
 use Rattle.schedule_player.proofs.world.World.deliver.Goals as goal
@@ -36,11 +38,15 @@ returns-clause-err c =
     let new = world_of w.directory w.opening w.sequencer (slice_set w.nodes.items c.args.replica c.deliver.new.self) in
     subst (λ old. OnErr c.deliver.result (new ≡ old)) c.self.view_is (step c).err
 
-pub returns-clause-there : goal.returns-clause-there
-returns-clause-there c =
+pub returns-clause-wanted : goal.returns-clause-wanted
+returns-clause-wanted c =
     let w = c.self.inside in
+    let world = world_of w.directory w.opening w.sequencer w.nodes.items in
     let here = get_here w.nodes.items c.args.replica c.in-Some.node.now c.in-Some.ensures.item.3.0 c.in-Some.ensures.value in
     let seen = node_seen w.directory w.opening w.sequencer w.nodes.items c.args.replica c.in-Some.node.now here in
-    subst (λ old. OnErr c.deliver.result ((node : NodeOf) × (slice_get old.nodes c.args.replica ≡ Some node) × (numbered node.inbound c.args.place ≢ None)))
-    c.self.view_is
-    (err_so c.deliver.result (λ there. (seen_node c.in-Some.node.now, seen, there)) c.deliver.ensures.named)
+    let along = c.self.invariant.each c.args.replica c.in-Some.node.now here in
+    let bank = bank_with w.directory w.opening w.sequencer.log in
+    subst (λ old. OnErr c.deliver.result (FindsWork old (event.To c.args.replica c.args.place))) c.self.view_is
+    (err_so c.deliver.result (λ named. (works_at world c.args.replica (seen_node c.in-Some.node.now) (λ node. delivered_to node c.args.place) seen (comes_to bank (seen_node c.in-Some.node.now) c.args.place (numbered c.in-Some.node.now.inbound c.args.place) refl named
+    (λ entry found. every_numbered (IsEntryOf bank) c.in-Some.node.now.inbound c.args.place entry along.inbound found))))
+    c.deliver.ensures.named)

@@ -1,13 +1,15 @@
-use Rattle.std.proofs.Common.{◌≡◌, None, map, sym, ap, subst, ◌∙◌}
+use Rattle.std.proofs.Common.{◌≡◌, None, map, sym, ap, subst, ◌∙◌, refl, Some}
 use Rattle.std.specs.Prelude.{IfOk, OnErr, ◌≢◌, slice_get, slice_set}
 use Rattle.std.proofs.lemmas.Option.{slice_get_past}
 use Rattle.sb_sequencer.specs.Entries.{resent}
 use Rattle.schedule_player.specs.NodeAlong.{seen_node, IsEntryOf, Arrives}
 use Rattle.schedule_player.specs.Numbered.{Every}
 use Rattle.schedule_player.specs.ReplicaMoves.{sent_all}
-use Rattle.schedule_player.specs.World.{bank_with, moved_at}
+use Rattle.schedule_text.specs.declared.event.Event.TheVariants as event
+use Rattle.schedule_player.proofs.Working.{works_at, sends, comes_to, answers_so, marks_so}
+use Rattle.schedule_player.specs.World.{FindsWork, bank_with, moved_at}
 use Rattle.schedule_text.specs.declared.note.Note.TheVariants as note
-use Rattle.schedule_player.proofs.Lists.{get_here}
+use Rattle.schedule_player.proofs.Lists.{none_some, get_here, every_numbered}
 use Rattle.schedule_player.proofs.Moving.{Stepped, node_seen, steps_wholly, on_err, is_there, world_of, no_node}
 use Rattle.schedule_player.proofs.SentEntries.{resent_are}
 use Rattle.schedule_player.proofs.world.World.resend.Goals as goal
@@ -51,10 +53,11 @@ returns-clause-moves c =
     subst (λ old. IfOk c.send_all.result (λ n. moved_at old c.args.replica (λ node. sent_all node (resent old.sequencer c.args.replica)) ≡ (new, n)))
     c.self.view_is (step c).moves
 
-pub returns-clause-there : goal.returns-clause-there
-returns-clause-there c =
+pub returns-clause-wanted : goal.returns-clause-wanted
+returns-clause-wanted c =
     let w = c.self.inside in
+    let world = world_of w.directory w.opening w.sequencer w.nodes.items in
     let here = get_here w.nodes.items c.args.replica c.in-Some.node.now c.in-Some.ensures.item.3.0 c.in-Some.ensures.value in
     let seen = node_seen w.directory w.opening w.sequencer w.nodes.items c.args.replica c.in-Some.node.now here in
-    subst (λ old. OnErr c.send_all.result (slice_get old.nodes c.args.replica ≢ None)) c.self.view_is
-    (on_err c.send_all.result (is_there (slice_get (map seen_node w.nodes.items) c.args.replica) (seen_node c.in-Some.node.now) seen))
+    subst (λ old. OnErr c.send_all.result (FindsWork old (event.Resend c.args.replica))) c.self.view_is
+    (on_err c.send_all.result (works_at world c.args.replica (seen_node c.in-Some.node.now) (λ node. sent_all node (resent w.sequencer c.args.replica)) seen refl))

@@ -1,12 +1,14 @@
-use Rattle.std.proofs.Common.{◌≡◌, None, Some, map, sym, ap, subst}
+use Rattle.std.proofs.Common.{◌≡◌, None, Some, map, sym, ap, subst, refl}
 use Rattle.std.specs.Prelude.{IfOk, OnErr, ◌≢◌, slice_get, slice_set}
 use Rattle.std.proofs.lemmas.Option.{slice_get_past}
 use Rattle.sb_sequencer.specs.Entries.{entry_of}
 use Rattle.schedule_player.specs.NodeAlong.{seen_node}
 use Rattle.schedule_player.specs.ReplicaMoves.{sent}
-use Rattle.schedule_player.specs.World.{bank_with, moved_at}
+use Rattle.schedule_text.specs.declared.event.Event.TheVariants as event
+use Rattle.schedule_player.proofs.Working.{works_at, sends, comes_to, answers_so, marks_so}
+use Rattle.schedule_player.specs.World.{FindsWork, bank_with, moved_at}
 use Rattle.schedule_text.specs.declared.note.Note.TheVariants as note
-use Rattle.schedule_player.proofs.Lists.{get_here}
+use Rattle.schedule_player.proofs.Lists.{none_some, get_here, every_numbered}
 use Rattle.schedule_player.proofs.Moving.{Stepped, node_seen, steps_wholly, on_err, is_there, world_of, stays_node, no_node}
 use Rattle.schedule_player.proofs.SentEntries.{entry_is}
 use Rattle.schedule_player.proofs.world.World.send.Goals as goal
@@ -54,14 +56,11 @@ returns-clause-moves c =
     (subst (λ entry. IfOk c.send.result (λ n. moved_at (world_of w.directory w.opening w.sequencer w.nodes.items) c.args.replica (λ node. sent node entry)
     ≡ (new, n))) c.in-Some.ensures (step c).moves)
 
-pub returns-clause-there : goal.returns-clause-there
-returns-clause-there c =
+pub returns-clause-wanted : goal.returns-clause-wanted
+returns-clause-wanted c =
     let w = c.self.inside in
-    let got = c.in-Some-get_mut in
-    let here = get_here w.nodes.items c.args.replica got.node.now got.ensures.item.3.0 got.ensures.value in
-    let seen = node_seen w.directory w.opening w.sequencer w.nodes.items c.args.replica got.node.now here in
-    subst (λ old. OnErr c.send.result ((slice_get old.nodes c.args.replica ≢ None) × (entry_of old.sequencer.log c.args.number ≢ None))) c.self.view_is
-    (on_err c.send.result (
-      is_there (slice_get (map seen_node w.nodes.items) c.args.replica) (seen_node got.node.now) seen,
-      is_there (entry_of w.sequencer.log c.args.number) c.in-Some.entry (sym c.in-Some.ensures),
-    ))
+    let world = world_of w.directory w.opening w.sequencer w.nodes.items in
+    let here = get_here w.nodes.items c.args.replica c.in-Some-get_mut.node.now c.in-Some-get_mut.ensures.item.3.0 c.in-Some-get_mut.ensures.value in
+    let seen = node_seen w.directory w.opening w.sequencer w.nodes.items c.args.replica c.in-Some-get_mut.node.now here in
+    subst (λ old. OnErr c.send.result (FindsWork old (event.Send c.args.replica c.args.number))) c.self.view_is
+    (on_err c.send.result (works_at world c.args.replica (seen_node c.in-Some-get_mut.node.now) (λ node. sent node (entry_of w.sequencer.log c.args.number)) seen (sends (seen_node c.in-Some-get_mut.node.now) (entry_of w.sequencer.log c.args.number) (is_there (entry_of w.sequencer.log c.args.number) c.in-Some.entry (sym c.in-Some.ensures)))))
