@@ -10,7 +10,9 @@ pub mod LogParts
 pub mod LongerLogs
 pub mod Moving
 pub mod NodeMoves
+pub mod Observed
 pub mod Opening
+pub mod Playing
 pub mod Runnable
 pub mod SeenReplies
 pub mod SentEntries

@@ -96,7 +96,7 @@ reply_seen bank r node n is =
     ∙ held_alike bank n (reply_by_log declared_cowns effect_of (held_of bank.opening) (ops_of bank) n)
     (numbered (stages_of node.replica.board) n) (reply_by_names bank n is.customers)
 
-held_by_log : (bank : BankOf) (n : ℕ) (stage : Option Stage) (reply : Reply) → reply_held bank n stage ≡ Some reply → log_reply bank n ≡ Some reply
+pub held_by_log : (bank : BankOf) (n : ℕ) (stage : Option Stage) (reply : Reply) → reply_held bank n stage ≡ Some reply → log_reply bank n ≡ Some reply
 held_by_log bank n (Some IsDone) reply e = e
 held_by_log bank n (Some IsOut) reply e = absurd (none_some e)
 held_by_log bank n (Some Waits) reply e = absurd (none_some e)

@@ -2,6 +2,7 @@ pub mod Along
 pub mod Bank
 pub mod Books
 pub mod Comes
+pub mod Headline
 pub mod HearsFrame
 pub mod NodeAlong
 pub mod Numbered

@@ -1,4 +1,4 @@
-//! Why an event isn't played.
+//! Why an event isn't played, and why not all are.
 
 use std::alloc::AllocError;
 use thiserror::Error;
@@ -15,4 +15,12 @@ impl From<AllocError> for StepFault {
     fn from(_: AllocError) -> StepFault {
         StepFault::OutOfMemory
     }
+}
+
+/// Why not all events of a list are played: memory was refused.
+#[derive(Clone, Copy, Debug, PartialEq, Eq, Error)]
+#[error("out of memory")]
+pub struct PlayFault {
+    /// How many events happened before the one that didn't.
+    pub done: usize,
 }

@@ -5,11 +5,17 @@ mod auditing;
 mod fault;
 mod frames;
 mod hearing;
+mod laws;
 mod node;
+mod observing;
+mod opened;
+mod stepping;
 #[cfg(test)]
 mod tests;
 mod world;
 
-pub use fault::StepFault;
+pub use fault::{PlayFault, StepFault};
+pub use laws::{agreement, log_of_first_asks};
 pub use schedule_text::{AuditNote, Column, Event, Note};
+pub use stepping::play;
 pub use world::World;

@@ -1,0 +1,214 @@
+-- Events one after the other.
+use Rattle.std.proofs.Common.{◌≡◌, ◌≢◌, true, ℕ, Option, Some, None, Result, Ok, Err, List, [], ◌∷◌, ◌++◌, length, map, refl, sym, ap, subst, ◌∙◌}
+use Rattle.std.specs.Prelude.{slice_get, IfOk}
+use Rattle.std.specs.List.{cons_option, filter_map}
+use Rattle.sb_rows.specs.Balances.{Balances}
+use Rattle.sb_calls.specs.declared.ask.Key.{Key}
+use Rattle.sb_calls.specs.declared.call.Call.{Call}
+use Rattle.sb_calls.specs.declared.reply.Reply.{Reply}
+use Rattle.sb_frames.specs.declared.frame.Frame.{Frame}
+use Rattle.sb_frames.specs.declared.frame.Frame.TheVariants as frame
+use Rattle.sb_sequencer.proofs.Logs.{log_after-empty, log_with-answered}
+use Rattle.sb_sequencer.specs.Entries.{entry_of, resent}
+use Rattle.sb_sequencer.specs.Log.{log_with, log_after}
+use Rattle.sb_sequencer.specs.Notes.{kept_at}
+use Rattle.sb_sequencer.specs.declared.answer.AskFault.TheVariants.{Mismatch, LogFull, OutOfMemory}
+use Rattle.sb_sequencer.specs.declared.answer.Numbered.TheVariants.{New, Repeat}
+use Rattle.schedule_player.specs.Comes.{may_come}
+use Rattle.schedule_player.specs.Numbered.{numbered}
+use Rattle.schedule_player.specs.declared.fault.StepFault.{StepFault}
+use Rattle.schedule_player.specs.Played.{Plays, ask_in, log_of, bank_after, IsPlayed}
+use Rattle.schedule_player.specs.ReplicaMoves.{NodeOf, sent, sent_all, delivered_to, acknowledged, answered, taken, finished_by, marked, restarted}
+use Rattle.schedule_player.specs.World.{WorldOf, Asks, Moves, bank_of, moved, moved_if, moved_at, keeps, told, heard_from, opened_world}
+use Rattle.schedule_text.specs.declared.event.Event.{Event}
+use Rattle.schedule_text.specs.declared.event.Event.TheVariants as event
+use Rattle.schedule_text.specs.declared.note.Note.{Note}
+use Rattle.schedule_text.specs.declared.note.Note.TheVariants as note
+use Rattle.schedule_player.proofs.Coming.{comes_of}
+
+-- ---- what stays, and what becomes of the log
+
+-- the bank stays, and the log is this one
+pub record Leaves (old new : WorldOf) (log : List (Key × Call)) : Type 0 where
+  pub names : new.names ≡ old.names
+  pub opening : new.opening ≡ old.opening
+  pub log_is : new.sequencer.log ≡ log
+
+leaves_if : (world : WorldOf) (r : ℕ) (move : NodeOf → NodeOf × Note) (found : Option NodeOf)
+    → Leaves world (moved_if world r move found).0 world.sequencer.log
+leaves_if world r move (Some node) = record { names = refl; opening = refl; log_is = refl }
+leaves_if world r move None = record { names = refl; opening = refl; log_is = refl }
+
+leaves_at : (world : WorldOf) (r : ℕ) (move : NodeOf → NodeOf × Note) → Leaves world (moved_at world r move).0 world.sequencer.log
+leaves_at world r move = leaves_if world r move (slice_get world.nodes r)
+
+leaves_kept : (world : WorldOf) (n : ℕ) (reply : Reply) (kept : Option (Option Reply)) → Leaves world (keeps world n reply kept).0 world.sequencer.log
+leaves_kept world n reply (Some None) = record { names = refl; opening = refl; log_is = refl }
+leaves_kept world n reply (Some (Some first)) = record { names = refl; opening = refl; log_is = refl }
+leaves_kept world n reply None = record { names = refl; opening = refl; log_is = refl }
+
+leaves_told : (world : WorldOf) (r : ℕ) (sent : Option Frame) → Leaves world (told world r sent).0 world.sequencer.log
+leaves_told world r (Some (frame.Ack replica size)) = record { names = refl; opening = refl; log_is = refl }
+leaves_told world r (Some (frame.Answer n reply)) = leaves_kept world n reply (kept_at world.sequencer n)
+leaves_told world r (Some (frame.Ask client request call)) = record { names = refl; opening = refl; log_is = refl }
+leaves_told world r (Some (frame.Entry n call)) = record { names = refl; opening = refl; log_is = refl }
+leaves_told world r (Some (frame.Outcome client request outcome)) = record { names = refl; opening = refl; log_is = refl }
+leaves_told world r (Some frame.Flush) = record { names = refl; opening = refl; log_is = refl }
+leaves_told world r None = record { names = refl; opening = refl; log_is = refl }
+
+leaves_heard : (world : WorldOf) (r place : ℕ) (found : Option NodeOf) → Leaves world (heard_from world r place found).0 world.sequencer.log
+leaves_heard world r place (Some node) = leaves_told world r (numbered node.outbound place)
+leaves_heard world r place None = record { names = refl; opening = refl; log_is = refl }
+
+leaves_moved : (world : WorldOf) (happens : Event) → Leaves world (moved world happens).0 world.sequencer.log
+leaves_moved world (event.Ask client request call) = record { names = refl; opening = refl; log_is = refl }
+leaves_moved world (event.Send r n) = leaves_at world r (λ node. sent node (entry_of world.sequencer.log n))
+leaves_moved world (event.Resend r) = leaves_at world r (λ node. sent_all node (resent world.sequencer r))
+leaves_moved world (event.To r place) = leaves_at world r (λ node. delivered_to node place)
+leaves_moved world (event.Ack r) = leaves_at world r (λ node. acknowledged node r)
+leaves_moved world (event.Answer r n) = leaves_at world r (λ node. answered (bank_of world) node n)
+leaves_moved world (event.From r place) = leaves_heard world r place (slice_get world.nodes r)
+leaves_moved world (event.Take r worker index) = leaves_at world r (λ node. taken (bank_of world) node worker index)
+leaves_moved world (event.Finish r worker) = leaves_at world r (λ node. finished_by (bank_of world) node worker)
+leaves_moved world (event.Mark r end) = leaves_at world r (λ node. marked node end)
+leaves_moved world (event.Restart r) = leaves_at world r (λ node. restarted node)
+leaves_moved world (event.Audit a b) = record { names = refl; opening = refl; log_is = refl }
+
+leaves_so : (old : WorldOf) (happens : Event) (n : Note) (new : WorldOf) → moved old happens ≡ (new, n) → Leaves old new old.sequencer.log
+leaves_so old happens n new e = subst (λ m. Leaves old m.0 old.sequencer.log) e (leaves_moved old happens)
+
+-- an ask makes of the log what the log is with it
+leaves_asked : (old : WorldOf) (ask : Key × Call) (n : Note) (new : WorldOf) → Asks old ask n new → Leaves old new (log_with old.sequencer.log ask)
+leaves_asked old ask (note.New n) new asks = record {
+  names = ap (λ w. w.names) asks.1;
+  opening = ap (λ w. w.opening) asks.1;
+  log_is = ap (λ w. w.sequencer.log) asks.1
+      ∙ log_with-answered old.sequencer.log (old.sequencer.log ++ ask ∷ []) ask (Ok (New n)) asks.0 refl (λ e. cc);
+}
+leaves_asked old ask (note.Repeat n) new asks = record {
+  names = ap (λ w. w.names) asks.1;
+  opening = ap (λ w. w.opening) asks.1;
+  log_is = ap (λ w. w.sequencer.log) asks.1
+      ∙ log_with-answered old.sequencer.log old.sequencer.log ask (Ok (Repeat n)) asks.0 refl (λ e. cc);
+}
+leaves_asked old ask (note.Mismatch n) new asks = record {
+  names = ap (λ w. w.names) asks.1;
+  opening = ap (λ w. w.opening) asks.1;
+  log_is = ap (λ w. w.sequencer.log) asks.1
+      ∙ log_with-answered old.sequencer.log old.sequencer.log ask (Err (Mismatch n)) asks.0 refl (λ e. cc);
+}
+leaves_asked old ask note.LogFull new asks = record {
+  names = ap (λ w. w.names) asks.1;
+  opening = ap (λ w. w.opening) asks.1;
+  log_is = ap (λ w. w.sequencer.log) asks.1
+      ∙ log_with-answered old.sequencer.log old.sequencer.log ask (Err LogFull) asks.0 refl (λ e. cc);
+}
+leaves_asked old ask other new asks = absurd asks
+
+abbrev with_ask : List (Key × Call) → Option (Key × Call) → List (Key × Call)
+with_ask log None = log
+with_ask log (Some ask) = log_with log ask
+
+leaves_one : (old : WorldOf) (happens : Event) (n : Note) (new : WorldOf) → Moves old happens n new
+    → Leaves old new (with_ask old.sequencer.log (ask_in happens))
+leaves_one old (event.Ask client request call) n new moves = leaves_asked old (record { client = client; request = request }, call) n new moves
+leaves_one old (event.Send r k) n new moves = leaves_so old (event.Send r k) n new moves
+leaves_one old (event.Resend r) n new moves = leaves_so old (event.Resend r) n new moves
+leaves_one old (event.To r place) n new moves = leaves_so old (event.To r place) n new moves
+leaves_one old (event.Ack r) n new moves = leaves_so old (event.Ack r) n new moves
+leaves_one old (event.Answer r k) n new moves = leaves_so old (event.Answer r k) n new moves
+leaves_one old (event.From r place) n new moves = leaves_so old (event.From r place) n new moves
+leaves_one old (event.Take r worker index) n new moves = leaves_so old (event.Take r worker index) n new moves
+leaves_one old (event.Finish r worker) n new moves = leaves_so old (event.Finish r worker) n new moves
+leaves_one old (event.Mark r end) n new moves = leaves_so old (event.Mark r end) n new moves
+leaves_one old (event.Restart r) n new moves = leaves_so old (event.Restart r) n new moves
+leaves_one old (event.Audit a b) n new moves = leaves_so old (event.Audit a b) n new moves
+
+-- ---- many events
+
+asks_first : (log : List (Key × Call)) (ask : Option (Key × Call)) (rest : List (Key × Call))
+    → log_after log (cons_option ask rest) ≡ log_after (with_ask log ask) rest
+asks_first log None rest = refl
+asks_first log (Some ask) rest = refl
+
+leaves_all : (old : WorldOf) (events : List Event) (notes : List Note) (new : WorldOf) → Plays old events notes new
+    → Leaves old new (log_after old.sequencer.log (filter_map ask_in events))
+leaves_all old [] [] new plays = record {
+  names = ap (λ w. w.names) plays;
+  opening = ap (λ w. w.opening) plays;
+  log_is = ap (λ w. w.sequencer.log) plays;
+}
+leaves_all old [] (n ∷ notes) new plays = absurd plays
+leaves_all old (happens ∷ events) [] new plays = absurd plays
+leaves_all old (happens ∷ events) (n ∷ notes) new plays =
+    let one = leaves_one old happens n plays.0 plays.1 in
+    let rest = leaves_all plays.0 events notes new plays.2 in
+    record {
+      names = rest.names ∙ one.names;
+      opening = rest.opening ∙ one.opening;
+      log_is = rest.log_is ∙ ap (λ log. log_after log (filter_map ask_in events)) one.log_is
+          ∙ sym (asks_first old.sequencer.log (ask_in happens) (filter_map ask_in events));
+    }
+
+-- whatever happened since an opening, the log is the first asks
+pub played_log : (names : List (List ℕ)) (opening : Balances) (nodes workers : ℕ) (events : List Event) (world : WorldOf)
+    → IsPlayed names opening nodes workers events world → world.sequencer.log ≡ log_of events
+played_log names opening nodes workers events world played =
+    let all = leaves_all (opened_world names opening nodes workers) events played.notes world played.plays in
+    all.log_is ∙ log_after-empty (filter_map ask_in events)
+
+-- and the bank is the one of these events
+pub played_bank : (names : List (List ℕ)) (opening : Balances) (nodes workers : ℕ) (events : List Event) (world : WorldOf)
+    → IsPlayed names opening nodes workers events world → bank_of world ≡ bank_after names opening events
+played_bank names opening nodes workers events world played =
+    let all = leaves_all (opened_world names opening nodes workers) events played.notes world played.plays in
+    let log = all.log_is ∙ log_after-empty (filter_map ask_in events) in
+    λ j. record { names = all.names j; opening = all.opening j; calls = map (λ entry. entry.1) (log j) }
+
+-- ---- one event more
+
+pub plays_more : (old : WorldOf) (events : List Event) (notes : List Note) (middle : WorldOf) (happens : Event) (n : Note) (new : WorldOf)
+    → Plays old events notes middle → Moves middle happens n new → Plays old (events ++ happens ∷ []) (notes ++ n ∷ []) new
+plays_more old [] [] middle happens n new plays moves = (new, subst (λ w. Moves w happens n new) plays moves, refl)
+plays_more old [] (m ∷ notes) middle happens n new plays moves = absurd plays
+plays_more old (first ∷ events) [] middle happens n new plays moves = absurd plays
+plays_more old (first ∷ events) (m ∷ notes) middle happens n new plays moves =
+    (plays.0, plays.1, plays_more plays.0 events notes middle happens n new plays.2 moves)
+
+pub played_more : (names : List (List ℕ)) (opening : Balances) (nodes workers : ℕ) (events : List Event) (old : WorldOf) (happens : Event) (n : Note)
+    (new : WorldOf) → IsPlayed names opening nodes workers events old → Moves old happens n new
+    → IsPlayed names opening nodes workers (events ++ happens ∷ []) new
+played_more names opening nodes workers events old happens n new played moves = record {
+  notes = played.notes ++ n ∷ [];
+  plays = plays_more (opened_world names opening nodes workers) events played.notes old happens n new played.plays moves;
+}
+
+-- events and then events
+pub plays_on : (old : WorldOf) (events : List Event) (notes : List Note) (middle : WorldOf) (more : List Event) (later : List Note) (new : WorldOf)
+    → Plays old events notes middle → Plays middle more later new → Plays old (events ++ more) (notes ++ later) new
+plays_on old [] [] middle more later new plays goes = subst (λ w. Plays w more later new) plays goes
+plays_on old [] (m ∷ notes) middle more later new plays goes = absurd plays
+plays_on old (first ∷ events) [] middle more later new plays goes = absurd plays
+plays_on old (first ∷ events) (m ∷ notes) middle more later new plays goes =
+    (plays.0, plays.1, plays_on plays.0 events notes middle more later new plays.2 goes)
+
+pub played_on : (names : List (List ℕ)) (opening : Balances) (nodes workers : ℕ) (events : List Event) (old : WorldOf) (more : List Event)
+    (later : List Note) (new : WorldOf) → IsPlayed names opening nodes workers events old → Plays old more later new
+    → IsPlayed names opening nodes workers (events ++ more) new
+played_on names opening nodes workers events old more later new played goes = record {
+  notes = played.notes ++ later;
+  plays = plays_on (opened_world names opening nodes workers) events played.notes old more later new played.plays goes;
+}
+
+-- a step adds its event
+pub played_if : (names : List (List ℕ)) (opening : Balances) (nodes workers : ℕ) (events : List Event) (old : WorldOf) (happens : Event)
+    (result : Result Note StepFault) (new : WorldOf) → IsPlayed names opening nodes workers events old
+    → IfOk result (λ n. Moves old happens n new) → IfOk result (λ n. IsPlayed names opening nodes workers (events ++ happens ∷ []) new)
+played_if names opening nodes workers events old happens (Ok n) new played moves =
+    played_more names opening nodes workers events old happens n new played moves
+played_if names opening nodes workers events old happens (Err fault) new played moves = tt
+
+pub comes_if : (old : WorldOf) (happens : Event) (result : Result Note StepFault) (new : WorldOf) → IfOk result (λ n. Moves old happens n new)
+    → IfOk result (λ n. may_come n ≡ true)
+comes_if old happens (Ok n) new moves = comes_of old happens n new moves
+comes_if old happens (Err fault) new moves = tt

@@ -1,0 +1,96 @@
+//! What is seen of a world.
+ghost use Rattle.std.specs.Prelude.{◌≡◌, ℕ, ◌+◌, ◌<◌, ◌↔◌, true, false, Some, List, length, slice_get, IsTrue, IfOk, IfSome, MatchOption};
+ghost use Rattle.std.specs.Option.{option_copied};
+ghost use Rattle.sb_rows.specs.Balances.{Balances};
+ghost use Rattle.sb_sequencer.specs.Notes.{answer_of};
+ghost use Rattle.sb_sequencer.specs.Numbering.{call_at, place_of_key};
+ghost use Rattle.schedule_player.specs.Bank.{log_reply};
+ghost use Rattle.schedule_player.specs.Books.{IsRowsAt};
+ghost use Rattle.schedule_player.specs.Observed.{idle_at, length_at, reply_at};
+ghost use Rattle.schedule_player.specs.Played.{IsPlayed, bank_after};
+ghost use Rattle.schedule_player.specs.World.{bank_of};
+ghost use Rattle.schedule_text.specs.declared.event.Event.{Event as AnyEvent};
+
+use crate::world::World;
+use cown_board::Runs;
+use sb_calls::{Call, Reply};
+use sb_rows::{Columns, Directory};
+
+impl World {
+    /// How many replicas there are.
+    pub fn replicas(&self) -> usize
+        ensures { result ≡ length self.now.nodes }
+    {
+        self.nodes.len()
+    }
+
+    /// The customers' names.
+    pub fn directory(&self) -> &Directory
+        ensures { result.now ≡ self.now.names }
+    {
+        &self.directory
+    }
+
+    /// How long a replica's log is.
+    pub fn length(&self, replica: u32) -> u64
+        requires { replica < length self.now.nodes }
+        ensures { length_at self.now replica ≡ Some result }
+    {
+        self.nodes[replica as usize].replica.length()
+    }
+
+    /// Whether nothing is unfinished at a replica.
+    pub fn idle(&self, replica: u32) -> bool
+        requires { replica < length self.now.nodes }
+        ensures { IsTrue result ↔ IsTrue (idle_at self.now replica) }
+    {
+        self.nodes[replica as usize].replica.idle()
+    }
+
+    /// The reply that a replica holds to a number.
+    pub fn reply(&self, replica: u32, number: u64) -> Option<Reply>
+        requires { replica < length self.now.nodes }
+        // Where the number is done it is the log's, and else there is none.
+        ensures value { result ≡ reply_at self.now replica number }
+        // After whatever events from an opening, it is the reply of the first asks run one by one.
+        ensures by_log { (names : List (List ℕ)) (opening : Balances) (nodes workers : ℕ) (events : List AnyEvent)
+            → IsPlayed names opening nodes workers events self.now
+            → IfSome result (λ reply. log_reply (bank_after names opening events) number ≡ Some reply) }
+    {
+        self.nodes[replica as usize].replica.reply(number)
+    }
+
+    /// The columns of a replica, lent, or `None` while something is unfinished at it.
+    pub fn columns(&self, replica: u32) -> Option<&Columns>
+        requires { replica < length self.now.nodes }
+        ensures idle { MatchOption result (idle_at self.now replica ≡ false) (λ _. idle_at self.now replica ≡ true) }
+        // Read by the customers' names they are the rows after as many calls of the log as it has.
+        ensures rows { IfSome result (λ columns. (size : ℕ) → length_at self.now replica ≡ Some size
+            → IsRowsAt (bank_of self.now) size columns.now) }
+        // After whatever events from an opening, that is the log of the first asks.
+        ensures by_log { (names : List (List ℕ)) (opening : Balances) (nodes workers : ℕ) (events : List AnyEvent)
+            → IsPlayed names opening nodes workers events self.now
+            → IfSome result (λ columns. (size : ℕ) → length_at self.now replica ≡ Some size
+            → IsRowsAt (bank_after names opening events) size columns.now) }
+    {
+        self.nodes[replica as usize].replica.settled_columns()
+    }
+
+    /// The call with a number of the log.
+    pub fn call(&self, number: u64) -> Option<&Call>
+        ensures { option_copied result ≡ call_at self.now.sequencer.log number }
+    {
+        self.sequencer.call(number)
+    }
+
+    /// The answer that the sequencer keeps for a request.
+    pub fn answer_of(&self, client: u32, request: u32) -> Option<Reply>
+        ensures value { result ≡ answer_of self.now.sequencer (record { client = client; request = request }) }
+        // It is the reply of the log to the number of the request.
+        ensures by_log { IfSome result (λ reply. (place : ℕ)
+            → place_of_key self.now.sequencer.log (record { client = client; request = request }) ≡ Some place
+            → log_reply (bank_of self.now) (place + 1) ≡ Some reply) }
+    {
+        self.sequencer.answer_of(client, request)
+    }
+}

@@ -1,0 +1,64 @@
+//! A world at its opening.
+ghost use Rattle.std.specs.Prelude.{◌≡◌, ℕ, ◌≤◌, Some, length, map, slice_get, IfOk};
+ghost use Rattle.sb_rows.specs.Rows.{SameCustomers};
+ghost use Rattle.sb_calls.specs.declared.call.TheConstants.{LOG_CALLS as MOST_CALLS};
+ghost use Rattle.schedule_player.specs.Bank.{BankOf};
+ghost use Rattle.schedule_player.specs.NodeAlong.{IsNodeAt, seen_node};
+ghost use Rattle.schedule_player.specs.Numbered.{copies};
+ghost use Rattle.schedule_player.specs.ReplicaMoves.{opened_node};
+ghost use Rattle.schedule_player.specs.World.{opened_world};
+ghost use Rattle.schedule_player.specs.declared.node.Node.{Node as AnyNode};
+
+use crate::node::Node;
+use crate::world::World;
+use sb_rows::{Columns, Directory};
+use sb_sequencer::Sequencer;
+use std::alloc::{AllocError, Global};
+
+// The replicas of a bank at its opening.
+fn open_nodes(
+    alloc: Global,
+    directory: &Directory,
+    opening: &Columns,
+    nodes: u8,
+    workers: u8,
+) -> Result<Vec<Node>, AllocError>
+    requires { length opening.now.savings ≡ length directory.now }
+    ensures seen { IfOk result (λ all. map seen_node all.items ≡ copies nodes (opened_node workers)) }
+    ensures along { (bank : BankOf) → (bank.names ≡ directory.now) → (bank.opening ≡ opening.now)
+        → SameCustomers bank.names bank.opening → length bank.calls ≤ MOST_CALLS
+        → IfOk result (λ all. (r : ℕ) (node : AnyNode) → slice_get all.items r ≡ Some node → IsNodeAt bank r node) }
+{
+    let mut all = Vec::with_capacity(alloc, nodes as usize)?;
+    for id in 0..nodes {
+        let node = Node::open(alloc, id, directory.copy()?, opening.copy()?, workers as usize)?;
+        all.push_reserved(node);
+    }
+    Ok(all)
+}
+
+impl World {
+    /// A bank at its opening, with an empty log: so many replicas, each with so many workers and an empty store.
+    ///
+    /// Fails where memory is refused.
+    pub fn open(
+        alloc: Global,
+        directory: Directory,
+        opening: Columns,
+        nodes: u8,
+        workers: u8,
+    ) -> Result<World, AllocError>
+        requires customers { SameCustomers directory opening }
+        requires few { nodes ≤ 8 }
+        ensures { IfOk result (λ world. world ≡ opened_world directory opening nodes workers) }
+    {
+        let replicas = open_nodes(alloc, &directory, &opening, nodes, workers)?;
+        Ok(World {
+            alloc,
+            directory,
+            opening,
+            sequencer: Sequencer::open(alloc, nodes as usize),
+            nodes: replicas,
+        })
+    }
+}
