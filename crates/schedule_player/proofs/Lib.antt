@@ -22,3 +22,4 @@ pub mod Stages
 pub mod Storing
 pub mod Telling
 pub mod Working
+pub mod Worlds

@@ -83,3 +83,14 @@ drop_one {A = A} xs k x here = let e : k + 1 ≡ suc k = omega arith in by xs k 
 pub every_numbered : {A : Type 0} (P : A → Type 0) (xs : List A) (n : ℕ) (x : A) → Every P xs → numbered xs n ≡ Some x → P x
 every_numbered P xs zero x all here = absurd (none_some here)
 every_numbered P xs (suc k) x all here = all k x here
+
+-- an item of a list with one more is of the list, or is that one
+pub pushed_cases : {A : Type 0} (xs : List A) (x : A) (k : ℕ) (item : A) → slice_get (xs ++ x ∷ []) k ≡ Some item
+    → (slice_get xs k ≡ Some item) ⊎ ((k ≡ length xs) × (x ≡ item))
+pushed_cases [] x zero item here = inr (refl, some_is here)
+pushed_cases [] x (suc k) item here = absurd (none_some here)
+pushed_cases (y ∷ xs) x zero item here = inl here
+pushed_cases (y ∷ xs) x (suc k) item here = elim (pushed_cases xs x k item here) [
+  | inl there ↦ inl there
+  | inr last ↦ let e = last.0 in inr (omega (arith, e), last.1)
+]

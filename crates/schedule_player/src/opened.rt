@@ -31,7 +31,13 @@ fn open_nodes(
 {
     let mut all = Vec::with_capacity(alloc, nodes as usize)?;
     for id in 0..nodes {
-        let node = Node::open(alloc, id, directory.copy()?, opening.copy()?, workers as usize)?;
+        let node = Node::open(
+            alloc,
+            id,
+            directory.copy()?,
+            opening.copy()?,
+            workers as usize,
+        )?;
         all.push_reserved(node);
     }
     Ok(all)

@@ -1,0 +1,39 @@
+use Rattle.std.proofs.Common.{◌≡◌, ◌<◌, ℕ, ◌+◌, suc, Some, [], ◌∷◌, ◌++◌, length, take, sym, ap, subst, ◌∙◌, arith}
+use Rattle.std.proofs.lemmas.List.{length-append, take_all}
+use Rattle.sb_replica.proofs.IdleReplies.{take_one_more}
+use Rattle.schedule_player.specs.Played.{Plays, IsPlayed}
+use Rattle.schedule_player.proofs.Lists.{get_here}
+use Rattle.schedule_player.proofs.Playing.{plays_more, played_on}
+use Rattle.schedule_player.proofs.stepping.play.Goals as goal
+
+pub loop-done-preserved : goal.loop-done-preserved
+loop-done-preserved c =
+    let done = c.loop-done.done in
+    let events = c.args.events.now in
+    let event = c.index-events-done.result in
+    let so_far = c.loop-done.invariant in
+    let items = c.push_reserved.ensures.items in
+    let within : done < length events = omega (arith, c.loop-done-test.true, c.loop-done.auto.done-end) in
+    let next : done + 1 ≡ suc done = omega arith in
+    let longer : take (done + 1) events ≡ take done events ++ event ∷ [] =
+    ap (λ n. take n events) next ∙ take_one_more events done event (get_here events done event within c.index-events-done.is) in
+    record {
+      plays =
+          subst (λ notes. Plays c.args.world.now (take (done + 1) events) notes c.step.new.self) (sym items)
+          (subst (λ es. Plays c.args.world.now es (c.loop-done.notes.items ++ c.in-Ok.note ∷ []) c.step.new.self) (sym longer)
+          (plays_more c.args.world.now (take done events) c.loop-done.notes.items c.loop-done.world event c.in-Ok.note c.step.new.self
+          so_far.plays c.in-Ok.ensures.moves));
+      count =
+          let more = ap length items ∙ length-append c.loop-done.notes.items (c.in-Ok.note ∷ []) in
+          let count = so_far.count in
+          omega (arith, more, count);
+      room = let room = so_far.room in let same = c.push_reserved.ensures.capacity in omega (arith, room, same);
+    }
+
+pub returns-clause-played : goal.returns-clause-played
+returns-clause-played c names opening nodes workers before played =
+    let events = c.args.events.now in
+    let all : take c.loop-done.done events ≡ events =
+    take_all c.loop-done.done events (omega (arith, c.loop-done-test.false, c.loop-done.auto.done-end)) in
+    played_on names opening nodes workers before c.args.world.now events c.loop-done.notes.items c.loop-done.world played
+    (subst (λ es. Plays c.args.world.now es c.loop-done.notes.items c.loop-done.world) all c.loop-done.invariant.plays)
