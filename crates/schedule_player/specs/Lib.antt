@@ -10,6 +10,8 @@ pub mod Observed
 pub mod Played
 pub mod Readiness
 pub mod ReplicaMoves
+pub mod RunText
+pub mod ScheduleFaults
 pub mod Seen
 pub mod Stage
 pub mod World

@@ -1,5 +1,10 @@
-//! Why an event isn't played, and why not all are.
+//! Why an event isn't played, why not all are, and why a schedule isn't.
+ghost use Rattle.std.specs.Prelude.{◌≡◌};
+ghost use Rattle.schedule_player.specs.ScheduleFaults.{of_read_fault, of_text_fault, schedule_fault_number};
+ghost use Rattle.schedule_player.specs.declared.fault.ScheduleFault.TheVariants as schedule;
 
+use sb_text::ReadFault;
+use schedule_text::{ScheduleLineFault, TextFault};
 use std::alloc::AllocError;
 use thiserror::Error;
 
@@ -23,4 +28,74 @@ impl From<AllocError> for StepFault {
 pub struct PlayFault {
     /// How many events happened before the one that didn't.
     pub done: usize,
+}
+
+/// Why the text of a schedule isn't played.
+#[derive(Clone, Copy, Debug, PartialEq, Eq, Error)]
+pub enum ScheduleFault {
+    /// The first line at fault, numbered from 1, and its fault. Nothing was written.
+    #[error("line {line}: {fault}")]
+    Input {
+        /// The number of the line.
+        line: usize,
+        /// What is wrong with it.
+        fault: ScheduleLineFault,
+    },
+    /// A read or a write failed. A part of the output may be written.
+    #[error("device")]
+    Device,
+    /// Memory was refused.
+    #[error("out of memory")]
+    OutOfMemory,
+}
+
+impl ScheduleFault {
+    /// The number of the fault.
+    pub fn number(&self) -> u8
+        ensures { result ≡ schedule_fault_number self.now }
+    {
+        match self {
+            ScheduleFault::Input { .. } => 1,
+            ScheduleFault::Device => 2,
+            ScheduleFault::OutOfMemory => 3,
+        }
+    }
+}
+
+impl From<ReadFault> for ScheduleFault {
+    ghost from_gives = { λ read fault. fault ≡ of_read_fault read };
+
+    fn from(read: ReadFault) -> ScheduleFault {
+        match read {
+            ReadFault::Device => ScheduleFault::Device,
+            ReadFault::OutOfMemory => ScheduleFault::OutOfMemory,
+        }
+    }
+}
+
+impl From<TextFault> for ScheduleFault {
+    ghost from_gives = { λ text fault. fault ≡ of_text_fault text };
+
+    fn from(text: TextFault) -> ScheduleFault {
+        match text {
+            TextFault::Line { line, fault } => ScheduleFault::Input { line, fault },
+            TextFault::OutOfMemory => ScheduleFault::OutOfMemory,
+        }
+    }
+}
+
+impl From<AllocError> for ScheduleFault {
+    ghost from_gives = { λ _ fault. fault ≡ schedule.OutOfMemory };
+
+    fn from(_: AllocError) -> ScheduleFault {
+        ScheduleFault::OutOfMemory
+    }
+}
+
+impl From<PlayFault> for ScheduleFault {
+    ghost from_gives = { λ _ fault. fault ≡ schedule.OutOfMemory };
+
+    fn from(_: PlayFault) -> ScheduleFault {
+        ScheduleFault::OutOfMemory
+    }
 }

@@ -9,13 +9,16 @@ mod laws;
 mod node;
 mod observing;
 mod opened;
+mod running;
+mod states;
 mod stepping;
 #[cfg(test)]
 mod tests;
 mod world;
 
-pub use fault::{PlayFault, StepFault};
+pub use fault::{PlayFault, ScheduleFault, StepFault};
 pub use laws::{agreement, log_of_first_asks};
+pub use running::run_schedule;
 pub use schedule_text::{AuditNote, Column, Event, Note};
 pub use stepping::play;
 pub use world::World;

@@ -1,5 +1,5 @@
 //! What is seen of a world.
-ghost use Rattle.std.specs.Prelude.{◌≡◌, ℕ, ◌+◌, ◌<◌, ◌↔◌, true, false, Some, List, length, slice_get, IsTrue, IfOk, IfSome, MatchOption};
+ghost use Rattle.std.specs.Prelude.{◌≡◌, ℕ, ◌+◌, ◌<◌, ◌≤◌, ◌↔◌, true, false, Some, List, length, slice_get, IsTrue, IfOk, IfSome, MatchOption};
 ghost use Rattle.std.specs.Option.{option_copied};
 ghost use Rattle.sb_rows.specs.Balances.{Balances};
 ghost use Rattle.sb_sequencer.specs.Notes.{answer_of};
@@ -17,11 +17,12 @@ use sb_calls::{Call, Reply};
 use sb_rows::{Columns, Directory};
 
 impl World {
-    /// How many replicas there are.
-    pub fn replicas(&self) -> usize
-        ensures { result ≡ length self.now.nodes }
+    /// How many replicas there are, at most eight.
+    pub fn replicas(&self) -> u32
+        ensures value { result ≡ length self.now.nodes }
+        ensures few { result ≤ 8 }
     {
-        self.nodes.len()
+        self.nodes.len() as u32
     }
 
     /// The customers' names.

@@ -100,8 +100,8 @@ fn push_finished(number: u64, reply: Reply, out: &mut Vec<u8>) -> Result<(), All
     out.extend_from_slice(print_reply(reply).as_str().as_bytes())
 }
 
-// Writes some words and a number.
-fn push_numbered(words: &[u8], number: u64, out: &mut Vec<u8>) -> Result<(), AllocError>
+/// Writes some words and a number.
+pub fn push_numbered(words: &[u8], number: u64, out: &mut Vec<u8>) -> Result<(), AllocError>
     ensures { OnOk result (out.new.items ≡ out.old.items ++ (words.now ++ decimal number)) }
 {
     let mut buffer = Buffer::new();
