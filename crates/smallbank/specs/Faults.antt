@@ -4,6 +4,10 @@ use Rattle.std.specs.Io.KnownBytes.{Appends, Keeps}
 use Rattle.sb_text.specs.declared.input.ReadFault.{ReadFault}
 use Rattle.sb_text.specs.declared.input.ReadFault.TheVariants as reading
 use Rattle.smallbank.specs.declared.fault.InputFault.{InputFault}
+use Rattle.schedule_player.specs.declared.fault.ScheduleFault.{ScheduleFault}
+use Rattle.schedule_player.specs.declared.fault.ScheduleFault.TheVariants as schedule
+use Rattle.smallbank.specs.declared.fault.ProgramFault.{ProgramFault}
+use Rattle.smallbank.specs.declared.fault.ProgramFault.TheVariants.{Run, Play}
 use Rattle.smallbank.specs.declared.fault.RunFault.{RunFault}
 use Rattle.smallbank.specs.declared.fault.RunFault.TheVariants.{Input, Device, OutOfMemory}
 
@@ -41,7 +45,16 @@ fault_number Device = 4
 fault_number OutOfMemory = 5
 
 -- 1 for an input that is refused, 3 for a device's fault or want of memory
-abbrev pub exit_status : RunFault → ℕ
-exit_status (Input line fault) = 1
-exit_status Device = 3
-exit_status OutOfMemory = 3
+abbrev pub run_status : RunFault → ℕ
+run_status (Input line fault) = 1
+run_status Device = 3
+run_status OutOfMemory = 3
+
+abbrev pub play_status : ScheduleFault → ℕ
+play_status (schedule.Input line fault) = 1
+play_status schedule.Device = 3
+play_status schedule.OutOfMemory = 3
+
+abbrev pub exit_status : ProgramFault → ℕ
+exit_status (Run fault) = run_status fault
+exit_status (Play fault) = play_status fault

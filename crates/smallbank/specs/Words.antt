@@ -1,9 +1,14 @@
 -- The program's words, of which the first is its name.
 use Rattle.std.specs.Prelude.{◌≡◌, List, [], ◌∷◌, String, codes, string_bytes}
+use Rattle.smallbank.specs.declared.words.Words.{Words}
+use Rattle.smallbank.specs.declared.words.Words.TheVariants.{Run, Play}
 
 module _ {A : Type 0} where
-  -- no word follows the name, or the next one is `run`
-  abbrev pub NamesRun : List (String A) → Type 0
-  NamesRun [] = Unit {0}
-  NamesRun (name ∷ []) = Unit {0}
-  NamesRun (name ∷ program ∷ others) = string_bytes program ≡ codes "run"
+  -- the word that follows the name says which; `run` where none does
+  abbrev pub Names : Words → List (String A) → Type 0
+  Names Run [] = Unit {0}
+  Names Run (name ∷ []) = Unit {0}
+  Names Run (name ∷ program ∷ others) = string_bytes program ≡ codes "run"
+  Names Play [] = ⊥
+  Names Play (name ∷ []) = ⊥
+  Names Play (name ∷ program ∷ others) = string_bytes program ≡ codes "play"

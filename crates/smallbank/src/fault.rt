@@ -6,6 +6,7 @@ ghost use Rattle.smallbank.specs.declared.fault.RunFault.TheVariants.{OutOfMemor
 use sb_calls::CallFault;
 use sb_rows::LineFault;
 use sb_text::ReadFault;
+use schedule_player::ScheduleFault;
 use std::alloc::{AllocError, AllocFailed};
 use thiserror::Error;
 
@@ -76,5 +77,40 @@ impl<T: Drop> From<AllocFailed<T>> for RunFault {
 
     fn from(_: AllocFailed<T>) -> RunFault {
         RunFault::OutOfMemory
+    }
+}
+
+/// Why a program ends without its output.
+#[derive(Clone, Copy, Debug, PartialEq, Eq, Error)]
+pub enum ProgramFault {
+    /// A run.
+    #[error(transparent)]
+    Run(RunFault),
+    /// The playing of a schedule.
+    #[error(transparent)]
+    Play(ScheduleFault),
+}
+
+impl From<RunFault> for ProgramFault {
+    fn from(fault: RunFault) -> ProgramFault {
+        ProgramFault::Run(fault)
+    }
+}
+
+impl From<ScheduleFault> for ProgramFault {
+    fn from(fault: ScheduleFault) -> ProgramFault {
+        ProgramFault::Play(fault)
+    }
+}
+
+impl From<AllocError> for ProgramFault {
+    fn from(_: AllocError) -> ProgramFault {
+        ProgramFault::Run(RunFault::OutOfMemory)
+    }
+}
+
+impl<T: Drop> From<AllocFailed<T>> for ProgramFault {
+    fn from(_: AllocFailed<T>) -> ProgramFault {
+        ProgramFault::Run(RunFault::OutOfMemory)
     }
 }

@@ -2,8 +2,9 @@
 #![tactic(auto)]
 
 use clap::error::ErrorKind;
-use fault::RunFault;
+use fault::{ProgramFault, RunFault};
 use run::run_text;
+use schedule_player::run_schedule;
 use std::env;
 use std::process::ExitCode;
 use told::told;
@@ -38,23 +39,27 @@ fn main(rt: HostRuntime) -> ExitCode {
 }
 
 // Does what the program's words say, and gives the exit status.
-fn start(rt: &HostRuntime) -> Result<u8, RunFault> {
+fn start(rt: &HostRuntime) -> Result<u8, ProgramFault> {
     let words: Vec<String> = match env::args(rt) {
         Ok(words) => words.collect(rt.alloc())?,
-        Err(_) => return Err(RunFault::OutOfMemory),
+        Err(_) => return Err(ProgramFault::Run(RunFault::OutOfMemory)),
     };
     match read_words(rt.alloc(), &words) {
         Ok(Words::Run) => {
             run_text(rt.alloc(), &mut rt.stdin(), &mut rt.stdout())?;
             Ok(0)
         }
+        Ok(Words::Play) => {
+            run_schedule(rt.alloc(), &mut rt.stdin(), &mut rt.stdout())?;
+            Ok(0)
+        }
         Err(error) => {
             if error.kind() == ErrorKind::OutOfMemory {
-                return Err(RunFault::OutOfMemory);
+                return Err(ProgramFault::Run(RunFault::OutOfMemory));
             }
             match error.print(rt) {
                 Ok(()) => Ok(error.exit_code() as u8),
-                Err(_) => Err(RunFault::Device),
+                Err(_) => Err(ProgramFault::Run(RunFault::Device)),
             }
         }
     }

@@ -1,5 +1,5 @@
 //! What no clause says: worked inputs, texts of faults, readers and writers that fail.
-use crate::fault::{InputFault, RunFault};
+use crate::fault::{InputFault, ProgramFault, RunFault};
 use crate::run::run_text;
 use crate::told::told;
 use std::alloc::Global;
@@ -50,7 +50,7 @@ fn expect_fault(
     let result = run_text(alloc, &mut reader, &mut written);
     assert!(rt; result == Err(RunFault::Input { line, fault }));
     assert!(rt; written.is_empty());
-    let report = told(RunFault::Input { line, fault });
+    let report = told(ProgramFault::Run(RunFault::Input { line, fault }));
     assert!(rt; report.status == 1);
     let shown = format!(in alloc; "{report}")?;
     assert!(rt; shown.as_str() == text);

@@ -2,7 +2,8 @@
 ghost use Rattle.std.specs.Prelude.{◌≡◌};
 ghost use Rattle.smallbank.specs.Faults.{exit_status};
 
-use crate::fault::RunFault;
+use crate::fault::{ProgramFault, RunFault};
+use schedule_player::ScheduleFault;
 use std::fmt;
 
 /// How a fault ends the program: its exit status, and its text by `Display`.
@@ -11,17 +12,19 @@ pub struct Report {
     /// 1 for an input that is refused, 3 for a device's fault or want of memory.
     pub status: u8,
     /// What is told.
-    pub fault: RunFault,
+    pub fault: ProgramFault,
 }
 
 /// The status and the text of a fault.
-pub fn told(fault: RunFault) -> Report
+pub fn told(fault: ProgramFault) -> Report
     ensures status { result.status ≡ exit_status fault }
     ensures fault { result.fault ≡ fault }
 {
     let status = match fault {
-        RunFault::Input { .. } => 1,
-        RunFault::Device | RunFault::OutOfMemory => 3,
+        ProgramFault::Run(RunFault::Input { .. })
+        | ProgramFault::Play(ScheduleFault::Input { .. }) => 1,
+        ProgramFault::Run(RunFault::Device | RunFault::OutOfMemory)
+        | ProgramFault::Play(ScheduleFault::Device | ScheduleFault::OutOfMemory) => 3,
     };
     Report { status, fault }
 }

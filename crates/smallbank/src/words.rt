@@ -1,6 +1,6 @@
 //! The program's words.
-ghost use Rattle.std.specs.Prelude.{◌≡◌, ◌↔◌, IsTrue, IfOk};
-ghost use Rattle.smallbank.specs.Words.{NamesRun};
+ghost use Rattle.std.specs.Prelude.{◌≡◌, IfOk, IfSome};
+ghost use Rattle.smallbank.specs.Words.{Names};
 
 use clap::error::ErrorKind;
 use clap::{Command, Error};
@@ -11,33 +11,42 @@ use std::alloc::Global;
 pub enum Words {
     /// Run an opening and calls from standard input.
     Run,
+    /// Play a schedule from standard input.
+    Play,
 }
 
 /// Reads the program's words, of which the first is its name. No further word means `run`.
 ///
 /// Fails with clap's error, whose text and exit status tell what is wrong; a call for help is one too.
 pub fn read_words(alloc: Global, words: &[String]) -> Result<Words, Error>
-    ensures run { IfOk result (λ read. read ≡ Words.Run) }
-    ensures known { IfOk result (λ _. NamesRun words.now) }
+    ensures { IfOk result (λ read. Names read words.now) }
 {
     let run = Command::new(alloc, "run").about("Runs calls from standard input");
+    let play = Command::new(alloc, "play").about("Plays a schedule from standard input");
     let mut command = Command::new(alloc, "smallbank")
         .about("A SmallBank store, proved")
-        .subcommand(run)?;
+        .subcommand(run)?
+        .subcommand(play)?;
     command.try_get_matches_from_mut(words)?;
-    // Tested here once more, so that the clause rests on nothing of clap's grammar.
-    if !names_run(words) {
-        return Err(command.error(ErrorKind::InvalidSubcommand, "no such program")?);
+    // Looked at here once more, so that the clause rests on nothing of clap's grammar.
+    match named(words) {
+        Some(read) => Ok(read),
+        None => Err(command.error(ErrorKind::InvalidSubcommand, "no such program")?),
     }
-    Ok(Words::Run)
 }
 
-// Whether no word follows the program's name, or the next one is `run`.
-fn names_run(words: &[String]) -> bool
-    ensures { IsTrue result ↔ NamesRun words.now }
+// What the word after the program's name says.
+fn named(words: &[String]) -> Option<Words>
+    ensures { IfSome result (λ read. Names read words.now) }
 {
-    match words {
-        [] | [_] => true,
-        [_, program, ..] => program.as_str() == "run",
+    let [_, program, ..] = words else {
+        return Some(Words::Run);
+    };
+    if program.as_str() == "run" {
+        return Some(Words::Run);
     }
+    if program.as_str() == "play" {
+        return Some(Words::Play);
+    }
+    None
 }

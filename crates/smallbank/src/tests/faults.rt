@@ -1,6 +1,6 @@
 //! Inputs at fault, and how faults are told.
 use super::expect_fault;
-use crate::fault::{InputFault, RunFault};
+use crate::fault::{InputFault, ProgramFault, RunFault};
 use crate::told::told;
 use sb_calls::CallFault;
 use sb_rows::LineFault;
@@ -115,10 +115,10 @@ fn calls_at_fault(rt: HostRuntime) -> Result<(), Fail> {
 #[test]
 fn faults_told(rt: HostRuntime) -> Result<(), Fail> {
     let alloc = rt.alloc();
-    let device = told(RunFault::Device);
+    let device = told(ProgramFault::Run(RunFault::Device));
     assert!(rt; device.status == 3);
     assert!(rt; format!(in alloc; "{device}")?.as_str() == "smallbank: device");
-    let memory = told(RunFault::OutOfMemory);
+    let memory = told(ProgramFault::Run(RunFault::OutOfMemory));
     assert!(rt; memory.status == 3);
     assert!(rt; format!(in alloc; "{memory}")?.as_str() == "smallbank: out of memory");
     assert!(rt; RunFault::Device.number() == 4);

@@ -21,7 +21,8 @@ fn words_of_the_program(rt: HostRuntime) -> Result<(), Fail> {
     let alloc = rt.alloc();
     assert!(rt; read(alloc, &[])? == Ok(Words::Run));
     assert!(rt; read(alloc, &["run"])? == Ok(Words::Run));
-    assert!(rt; read(alloc, &["play"])? == Err(2));
+    assert!(rt; read(alloc, &["play"])? == Ok(Words::Play));
+    assert!(rt; read(alloc, &["play", "again"])? == Err(2));
     assert!(rt; read(alloc, &["serve"])? == Err(2));
     assert!(rt; read(alloc, &["run", "twice"])? == Err(2));
     assert!(rt; read(alloc, &["run", "--nodes", "2"])? == Err(2));
