@@ -1,5 +1,5 @@
 -- What may come of an event.
-use Rattle.std.proofs.Common.{◌≡◌, Bool, true, false, ℕ, suc, Option, Some, None, List, [], ◌∷◌, ◌++◌, length, refl, sym, ap, ◌∙◌}
+use Rattle.std.proofs.Common.{◌≡◌, Bool, true, false, ℕ, suc, Option, Some, None, refl, sym, ap, ◌∙◌}
 use Rattle.std.specs.Prelude.{slice_get, if◌then◌else◌, nat_le, nat_lt, ◌==◌}
 use Rattle.sb_calls.specs.declared.ask.Key.{Key}
 use Rattle.sb_calls.specs.declared.call.Call.{Call}
@@ -14,12 +14,11 @@ use Rattle.schedule_player.specs.Bank.{BankOf, log_reply}
 use Rattle.schedule_player.specs.Comes.{may_come, audit_may_come}
 use Rattle.schedule_player.specs.Numbered.{numbered}
 use Rattle.schedule_player.specs.Readiness.{runnable}
-use Rattle.schedule_player.specs.ReplicaMoves.{NodeOf, length_in, undone_in, told_reply, answered, reply_in_node, sent, sent_all, entry_comes, frame_comes, delivered_to, goes_out, reaches_out, taken, emptied, note_of_reply, comes_back, gives_back, finished_by, put_ends, marked, restarted, acknowledged}
+use Rattle.schedule_player.specs.ReplicaMoves.{NodeOf, length_in, undone_in, told_reply, answered, reply_in_node, sent, sent_all, frame_comes, delivered_to, goes_out, reaches_out, taken, emptied, note_of_reply, comes_back, gives_back, finished_by, marked, restarted, acknowledged}
 use Rattle.schedule_player.specs.Stage.{Stage, Waits, IsOut, IsDone}
-use Rattle.schedule_player.specs.World.{WorldOf, Asks, Moves, bank_of, moved, moved_if, moved_at, keeps, told, heard_from, books_after, compared, audited}
+use Rattle.schedule_player.specs.World.{WorldOf, Asks, Moves, bank_of, moved, moved_if, moved_at, keeps, told, heard_from, books_after, audited}
 use Rattle.schedule_text.specs.declared.event.Event.{Event}
 use Rattle.schedule_text.specs.declared.event.Event.TheVariants as event
-use Rattle.schedule_text.specs.declared.note.AuditNote.{AuditNote}
 use Rattle.schedule_text.specs.declared.note.AuditNote.TheVariants as audit
 use Rattle.schedule_text.specs.declared.note.Note.{Note}
 use Rattle.schedule_text.specs.declared.note.Note.TheVariants as note

@@ -14,6 +14,7 @@ pub mod NodeMoves
 pub mod Observed
 pub mod Opening
 pub mod Playing
+pub mod Recorded
 pub mod Runnable
 pub mod SeenReplies
 pub mod SentEntries

@@ -1,6 +1,6 @@
 -- What is seen of a world, beside its log.
-use Rattle.std.proofs.Common.{◌≡◌, ◌≢◌, true, false, ℕ, Bool, Option, Some, None, List, refl, sym, ap, subst, ◌∙◌}
-use Rattle.std.specs.Prelude.{slice_get, ◌==◌, IfSome, IsTrue, MatchOption}
+use Rattle.std.proofs.Common.{◌≡◌, ◌≢◌, true, false, ℕ, Option, Some, None, refl, sym, ap, subst, ◌∙◌}
+use Rattle.std.specs.Prelude.{slice_get, ◌==◌, IfSome, MatchOption}
 use Rattle.std.proofs.lemmas.Bool.{eq-eqb, ne_eqb, eqb-true}
 use Rattle.cown_board.specs.Board.{length_of, open_of, reply_in, IsAfterAll}
 use Rattle.sb_calls.specs.Behaviour.{declared_cowns, effect_of}
@@ -8,10 +8,10 @@ use Rattle.sb_calls.specs.declared.reply.Reply.{Reply}
 use Rattle.sb_rows.specs.Balances.{Balances, IsBalances}
 use Rattle.schedule_player.specs.Bank.{BankOf, log_reply}
 use Rattle.schedule_player.specs.Books.{IsRowsAt}
-use Rattle.schedule_player.specs.NodeAlong.{seen_node, IsNodeAt}
+use Rattle.schedule_player.specs.NodeAlong.{seen_node}
 use Rattle.schedule_player.specs.Numbered.{numbered}
 use Rattle.schedule_player.specs.Observed.{length_if, length_at, idle_if, idle_at, reply_if, reply_at}
-use Rattle.schedule_player.specs.ReplicaMoves.{NodeOf, length_in, undone_in}
+use Rattle.schedule_player.specs.ReplicaMoves.{NodeOf, undone_in}
 use Rattle.schedule_player.specs.World.{WorldOf, bank_of}
 use Rattle.schedule_player.specs.declared.node.Node.{Node}
 use Rattle.schedule_player.proofs.Books.{idle_rows}

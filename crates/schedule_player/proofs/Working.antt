@@ -1,21 +1,19 @@
 -- Where the machine finds something to do.
-use Rattle.std.proofs.Common.{◌≡◌, ◌≢◌, Bool, true, false, ℕ, suc, Option, Some, None, List, [], ◌∷◌, ◌++◌, length, refl, sym, ap, ◌∙◌}
+use Rattle.std.proofs.Common.{◌≡◌, ◌≢◌, Bool, true, false, ℕ, suc, Option, Some, None, [], ◌∷◌, ◌++◌, refl, sym, ap, ◌∙◌}
 use Rattle.std.specs.Prelude.{slice_get, if◌then◌else◌, nat_le, nat_lt, ◌==◌}
 use Rattle.std.proofs.lemmas.Bool.{true≢false}
 use Rattle.sb_calls.specs.declared.reply.Reply.{Reply}
 use Rattle.sb_checkpoint.specs.declared.memory_store.How.{How}
 use Rattle.sb_checkpoint.specs.declared.memory_store.How.TheVariants as how
 use Rattle.sb_frames.specs.declared.frame.Frame.{Frame}
-use Rattle.sb_frames.specs.declared.frame.Frame.TheVariants as frame
 use Rattle.schedule_player.specs.Bank.{BankOf}
 use Rattle.schedule_player.specs.NodeAlong.{IsEntryOf}
 use Rattle.schedule_player.specs.Numbered.{numbered}
-use Rattle.schedule_player.specs.ReplicaMoves.{NodeOf, length_in, undone_in, tells, told_reply, answered, reply_in_node, sent, sent_all, entry_comes, frame_comes, delivered_to, put_ends, marked, restarted, acknowledged}
+use Rattle.schedule_player.specs.ReplicaMoves.{NodeOf, length_in, undone_in, told_reply, answered, reply_in_node, sent, frame_comes, delivered_to, put_ends, marked}
 use Rattle.schedule_player.specs.Stage.{Waits}
-use Rattle.schedule_player.specs.World.{WorldOf, placed, moved_if, moved_at}
+use Rattle.schedule_player.specs.World.{WorldOf, moved_if, moved_at}
 use Rattle.schedule_text.specs.declared.note.Note.{Note}
 use Rattle.schedule_text.specs.declared.note.Note.TheVariants as note
-use Rattle.schedule_player.proofs.Lists.{none_some}
 
 abbrev pub is_nothing : Note → Bool
 is_nothing note.Nothing = true

@@ -1,22 +1,24 @@
 -- A world at its opening.
-use Rattle.std.proofs.Common.{◌≡◌, ◌≤◌, ℕ, zero, suc, Option, Some, None, List, [], ◌∷◌, length, map, replicate, refl, sym, ap, subst, ◌∙◌, arith}
-use Rattle.std.specs.Prelude.{slice_get}
-use Rattle.std.specs.List.{All, AllPairs}
+use Rattle.std.proofs.Common.{◌≡◌, ◌≤◌, ℕ, zero, suc, Option, Some, None, List, [], length, map, replicate, refl, sym, ap, subst, ◌∙◌, arith}
+use Rattle.std.specs.Prelude.{slice_get, option_map}
+use Rattle.std.specs.List.{All}
 use Rattle.std.proofs.lemmas.List.{length-replicate}
+use Rattle.std.proofs.lemmas.Option.{slice_get-map}
 use Rattle.std.proofs.lemmas.List.Elements.{All-replicate}
 use Rattle.sb_calls.specs.declared.call.TheConstants.{LOG_CALLS}
 use Rattle.sb_rows.specs.Balances.{Balances}
 use Rattle.sb_rows.specs.Rows.{SameCustomers}
-use Rattle.sb_sequencer.specs.Numbering.{IsLog}
-use Rattle.sb_sequencer.specs.Sequencer.{SequencerOf, IsSequencer, opened}
+use Rattle.sb_sequencer.specs.Sequencer.{SequencerOf, opened}
 use Rattle.schedule_player.specs.Bank.{BankOf}
-use Rattle.schedule_player.specs.NodeAlong.{IsNodeAt, seen_node}
-use Rattle.schedule_player.specs.Numbered.{copies}
+use Rattle.schedule_player.specs.NodeAlong.{IsEntryOf, IsToldBy, IsNodeAt, seen_node}
+use Rattle.schedule_player.specs.Numbered.{copies, Every}
 use Rattle.schedule_player.specs.ReplicaMoves.{NodeOf, opened_node}
+use Rattle.schedule_player.specs.TrueToLog.{IsTrueToLog}
 use Rattle.schedule_player.specs.World.{bank_with}
 use Rattle.schedule_player.specs.WorldAlong.{IsWorld}
 use Rattle.schedule_player.specs.declared.node.Node.{Node}
-use Rattle.schedule_player.proofs.Lists.{none_some}
+use Rattle.schedule_player.proofs.Lists.{some_is, none_some}
+use Rattle.schedule_player.proofs.Moving.{world_of}
 use Rattle.schedule_player.proofs.Stages.{length-map}
 
 length-copies : {A : Type 0} (n : ℕ) (x : A) → length (copies n x) ≡ n
@@ -47,3 +49,33 @@ opened_so names opening nodes workers all s same few is seen along =
       each = λ r node here. along (bank_with names opening []) refl refl same (omega arith) r node here;
       answers = λ k reply here. absurd (none_some here);
     })
+
+-- ---- what is so of it
+
+-- a replica that the machine sees is one of the code
+pub seen_is : (bank : BankOf) (nodes : List Node) (r : ℕ) (one : NodeOf)
+    → ((q : ℕ) (node : Node) → slice_get nodes q ≡ Some node → IsNodeAt bank q node) → slice_get (map seen_node nodes) r ≡ Some one
+    → (node : Node) × IsNodeAt bank r node × (seen_node node ≡ one)
+seen_is bank nodes r one each here = by (slice_get nodes r) refl
+  where
+    by : (found : Option Node) → slice_get nodes r ≡ found → (node : Node) × IsNodeAt bank r node × (seen_node node ≡ one)
+    by None none = absurd (none_some (sym (slice_get-map seen_node nodes r ∙ ap (option_map seen_node) none) ∙ here))
+    by (Some node) there = (
+      node,
+      each r node there,
+      some_is (sym (slice_get-map seen_node nodes r ∙ ap (option_map seen_node) there) ∙ here),
+    )
+
+pub true_to_log : (names : List (List ℕ)) (opening : Balances) (s : SequencerOf) (nodes : List Node) → IsWorld names opening s nodes
+    → IsTrueToLog (world_of names opening s nodes)
+true_to_log names opening s nodes is =
+    let bank = bank_with names opening s.log in
+    record {
+      inbound = λ r one here.
+          let found = seen_is bank nodes r one is.each here in
+          subst (λ n. Every (IsEntryOf bank) n.inbound) found.2 found.1.inbound;
+      outbound = λ r one here.
+          let found = seen_is bank nodes r one is.each here in
+          subst (λ n. Every (IsToldBy bank r) n.outbound) found.2 found.1.outbound;
+      kept = is.answers;
+    }

@@ -14,5 +14,6 @@ pub mod RunText
 pub mod ScheduleFaults
 pub mod Seen
 pub mod Stage
+pub mod TrueToLog
 pub mod World
 pub mod WorldAlong

@@ -17,7 +17,7 @@ mod tests;
 mod world;
 
 pub use fault::{PlayFault, ScheduleFault, StepFault};
-pub use laws::{agreement, log_of_first_asks};
+pub use laws::{agreement, log_of_first_asks, recorded_lengths};
 pub use running::run_schedule;
 pub use schedule_text::{AuditNote, Column, Event, Note};
 pub use stepping::play;

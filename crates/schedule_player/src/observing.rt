@@ -8,6 +8,7 @@ ghost use Rattle.schedule_player.specs.Bank.{log_reply};
 ghost use Rattle.schedule_player.specs.Books.{IsRowsAt};
 ghost use Rattle.schedule_player.specs.Observed.{idle_at, length_at, reply_at};
 ghost use Rattle.schedule_player.specs.Played.{IsPlayed, bank_after};
+ghost use Rattle.schedule_player.specs.TrueToLog.{IsTrueToLog};
 ghost use Rattle.schedule_player.specs.World.{bank_of};
 ghost use Rattle.schedule_text.specs.declared.event.Event.{Event as AnyEvent};
 
@@ -21,6 +22,8 @@ impl World {
     pub fn replicas(&self) -> u32
         ensures value { result ≡ length self.now.nodes }
         ensures few { result ≤ 8 }
+        // Whatever happened, all frames and all answers are the log's.
+        ensures true_to_log { IsTrueToLog self.now }
     {
         self.nodes.len() as u32
     }

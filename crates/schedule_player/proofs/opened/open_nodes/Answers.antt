@@ -1,7 +1,6 @@
-use Rattle.std.proofs.Common.{slice_get, ◌≡◌, inl, inr, ℕ, ◌+◌, ◌∷◌, [], ◌++◌, length, map, sym, ap, subst, ◌∙◌, arith}
+use Rattle.std.proofs.Common.{slice_get, ◌≡◌, inl, inr, ◌∷◌, [], ◌++◌, length, map, sym, ap, subst, ◌∙◌, arith}
 use Rattle.std.proofs.lemmas.List.{length-append, map-append}
 use Rattle.schedule_player.specs.NodeAlong.{IsNodeAt, seen_node}
-use Rattle.schedule_player.specs.Numbered.{copies}
 use Rattle.schedule_player.specs.ReplicaMoves.{opened_node}
 use Rattle.schedule_player.proofs.Lists.{copies_push, pushed_cases}
 use Rattle.schedule_player.proofs.opened.open_nodes.Goals as goal

@@ -1,4 +1,4 @@
-use Rattle.std.proofs.Common.{◌≡◌, ◌++◌, map, sym, ap, subst, ◌∙◌}
+use Rattle.std.proofs.Common.{◌++◌, map, sym, ap, subst, ◌∙◌}
 use Rattle.sb_rows.specs.Text.{unlines}
 use Rattle.schedule_player.specs.Played.{Plays}
 use Rattle.schedule_player.specs.RunText.{HasOutput, states_from}

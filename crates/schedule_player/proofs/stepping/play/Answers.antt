@@ -1,7 +1,7 @@
-use Rattle.std.proofs.Common.{◌≡◌, ◌<◌, ℕ, ◌+◌, suc, Some, [], ◌∷◌, ◌++◌, length, take, sym, ap, subst, ◌∙◌, arith}
+use Rattle.std.proofs.Common.{◌≡◌, ◌<◌, ◌+◌, suc, [], ◌∷◌, ◌++◌, length, take, sym, ap, subst, ◌∙◌, arith}
 use Rattle.std.proofs.lemmas.List.{length-append, take_all}
 use Rattle.sb_replica.proofs.IdleReplies.{take_one_more}
-use Rattle.schedule_player.specs.Played.{Plays, IsPlayed}
+use Rattle.schedule_player.specs.Played.{Plays}
 use Rattle.schedule_player.proofs.Lists.{get_here}
 use Rattle.schedule_player.proofs.Playing.{plays_more, played_on}
 use Rattle.schedule_player.proofs.stepping.play.Goals as goal

@@ -1,12 +1,11 @@
-use Rattle.std.proofs.Common.{◌≡◌, None, sym, ap, subst, ◌∙◌, refl, Some}
-use Rattle.std.specs.Prelude.{IfOk, OnErr, ◌≢◌, slice_set}
-use Rattle.schedule_player.specs.Observed.{reply_at, reply_if}
+use Rattle.std.proofs.Common.{◌≡◌, subst, ◌∙◌}
+use Rattle.std.specs.Prelude.{IfOk, OnErr, slice_set}
 use Rattle.schedule_player.specs.NodeAlong.{seen_node}
 use Rattle.schedule_player.specs.ReplicaMoves.{answered}
 use Rattle.schedule_text.specs.declared.event.Event.TheVariants as event
-use Rattle.schedule_player.proofs.Working.{works_at, sends, comes_to, answers_so, marks_so}
+use Rattle.schedule_player.proofs.Working.{works_at, answers_so}
 use Rattle.schedule_player.specs.World.{FindsWork, bank_of, bank_with, moved_at}
-use Rattle.schedule_player.proofs.Lists.{none_some, get_here, every_numbered}
+use Rattle.schedule_player.proofs.Lists.{get_here}
 use Rattle.schedule_player.proofs.Moving.{Stepped, node_seen, steps_wholly, err_so, world_of}
 use Rattle.schedule_player.proofs.Telling.{reply_seen}
 use Rattle.schedule_player.proofs.world.World.answer.Goals as goal

@@ -1,15 +1,13 @@
-use Rattle.std.proofs.Common.{◌≡◌, subst, refl, sym, Some}
-use Rattle.std.specs.Prelude.{IfOk, OnErr, ◌≢◌, slice_get, slice_set}
+use Rattle.std.proofs.Common.{◌≡◌, subst, refl}
+use Rattle.std.specs.Prelude.{IfOk, OnErr, slice_set}
 use Rattle.schedule_text.specs.declared.event.Event.TheVariants as event
-use Rattle.schedule_player.proofs.Working.{works_at, sends, comes_to, answers_so, marks_so}
+use Rattle.schedule_player.proofs.Working.{works_at, comes_to}
 use Rattle.schedule_player.specs.World.{FindsWork, bank_with, moved_at}
 use Rattle.schedule_player.specs.ReplicaMoves.{delivered_to}
-use Rattle.schedule_player.proofs.Lists.{none_some, get_here, every_numbered}
+use Rattle.schedule_player.proofs.Lists.{get_here, every_numbered}
 use Rattle.schedule_player.proofs.Moving.{Stepped, node_seen, steps_wholly, err_so, world_of}
-use Rattle.std.proofs.Common.{None, Some}
 use Rattle.schedule_player.specs.NodeAlong.{seen_node, IsEntryOf}
 use Rattle.schedule_player.specs.Numbered.{numbered}
-use Rattle.schedule_player.specs.ReplicaMoves.{NodeOf}
 use Rattle.schedule_player.proofs.world.World.deliver.Goals as goal
 
 -- the replica moves, and so the world does

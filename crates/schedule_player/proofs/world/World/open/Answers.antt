@@ -1,4 +1,3 @@
-use Rattle.std.proofs.Common.{◌≡◌, ◌≤◌, ℕ, zero, suc, Some, List, [], length, map, replicate, refl, sym, ap, subst, ◌∙◌, arith}
 use Rattle.schedule_player.proofs.Worlds.{opened_so}
 use Rattle.schedule_player.proofs.world.World.open.Goals as goal
 

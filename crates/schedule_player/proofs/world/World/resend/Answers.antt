@@ -1,16 +1,16 @@
-use Rattle.std.proofs.Common.{◌≡◌, None, map, sym, ap, subst, ◌∙◌, refl, Some}
-use Rattle.std.specs.Prelude.{IfOk, OnErr, ◌≢◌, slice_get, slice_set}
+use Rattle.std.proofs.Common.{◌≡◌, sym, ap, subst, ◌∙◌, refl}
+use Rattle.std.specs.Prelude.{IfOk, OnErr, slice_set}
 use Rattle.std.proofs.lemmas.Option.{slice_get_past}
 use Rattle.sb_sequencer.specs.Entries.{resent}
 use Rattle.schedule_player.specs.NodeAlong.{seen_node, IsEntryOf, Arrives}
 use Rattle.schedule_player.specs.Numbered.{Every}
 use Rattle.schedule_player.specs.ReplicaMoves.{sent_all}
 use Rattle.schedule_text.specs.declared.event.Event.TheVariants as event
-use Rattle.schedule_player.proofs.Working.{works_at, sends, comes_to, answers_so, marks_so}
+use Rattle.schedule_player.proofs.Working.{works_at}
 use Rattle.schedule_player.specs.World.{FindsWork, bank_with, moved_at}
 use Rattle.schedule_text.specs.declared.note.Note.TheVariants as note
-use Rattle.schedule_player.proofs.Lists.{none_some, get_here, every_numbered}
-use Rattle.schedule_player.proofs.Moving.{Stepped, node_seen, steps_wholly, on_err, is_there, world_of, no_node}
+use Rattle.schedule_player.proofs.Lists.{get_here}
+use Rattle.schedule_player.proofs.Moving.{Stepped, node_seen, steps_wholly, on_err, world_of, no_node}
 use Rattle.schedule_player.proofs.SentEntries.{resent_are}
 use Rattle.schedule_player.proofs.world.World.resend.Goals as goal
 

@@ -1,12 +1,11 @@
-use Rattle.std.proofs.Common.{◌≡◌, subst, refl, sym, Some, None}
-use Rattle.std.specs.Prelude.{IfOk, OnErr, ◌≢◌, slice_get, slice_set}
+use Rattle.std.proofs.Common.{◌≡◌, subst, refl}
+use Rattle.std.specs.Prelude.{IfOk, OnErr, slice_set}
 use Rattle.schedule_text.specs.declared.event.Event.TheVariants as event
-use Rattle.schedule_player.proofs.Working.{works_at, sends, comes_to, answers_so, marks_so}
+use Rattle.schedule_player.proofs.Working.{works_at}
 use Rattle.schedule_player.specs.World.{FindsWork, bank_with, moved_at}
 use Rattle.schedule_player.specs.ReplicaMoves.{restarted}
-use Rattle.schedule_player.proofs.Lists.{none_some, get_here, every_numbered}
-use Rattle.schedule_player.proofs.Moving.{Stepped, node_seen, steps, on_err, is_there, world_of}
-use Rattle.std.proofs.Common.{map, None}
+use Rattle.schedule_player.proofs.Lists.{get_here}
+use Rattle.schedule_player.proofs.Moving.{Stepped, node_seen, steps, on_err, world_of}
 use Rattle.schedule_player.specs.NodeAlong.{seen_node}
 use Rattle.schedule_player.proofs.world.World.restart.Goals as goal
 

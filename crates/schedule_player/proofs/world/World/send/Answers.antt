@@ -1,14 +1,14 @@
-use Rattle.std.proofs.Common.{◌≡◌, None, Some, map, sym, ap, subst, refl}
-use Rattle.std.specs.Prelude.{IfOk, OnErr, ◌≢◌, slice_get, slice_set}
+use Rattle.std.proofs.Common.{◌≡◌, Some, sym, ap, subst}
+use Rattle.std.specs.Prelude.{IfOk, OnErr, slice_set}
 use Rattle.std.proofs.lemmas.Option.{slice_get_past}
 use Rattle.sb_sequencer.specs.Entries.{entry_of}
 use Rattle.schedule_player.specs.NodeAlong.{seen_node}
 use Rattle.schedule_player.specs.ReplicaMoves.{sent}
 use Rattle.schedule_text.specs.declared.event.Event.TheVariants as event
-use Rattle.schedule_player.proofs.Working.{works_at, sends, comes_to, answers_so, marks_so}
+use Rattle.schedule_player.proofs.Working.{works_at, sends}
 use Rattle.schedule_player.specs.World.{FindsWork, bank_with, moved_at}
 use Rattle.schedule_text.specs.declared.note.Note.TheVariants as note
-use Rattle.schedule_player.proofs.Lists.{none_some, get_here, every_numbered}
+use Rattle.schedule_player.proofs.Lists.{get_here}
 use Rattle.schedule_player.proofs.Moving.{Stepped, node_seen, steps_wholly, on_err, is_there, world_of, stays_node, no_node}
 use Rattle.schedule_player.proofs.SentEntries.{entry_is}
 use Rattle.schedule_player.proofs.world.World.send.Goals as goal

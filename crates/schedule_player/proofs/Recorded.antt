@@ -1,0 +1,235 @@
+-- A recorded length was told.
+use Rattle.std.proofs.Common.{◌≡◌, inl, inr, Bool, true, false, ℕ, zero, suc, ◌<◌, Option, Some, None, List, [], ◌∷◌, ◌++◌, length, replicate, refl, sym, ap, subst, ◌∙◌, append-nil}
+use Rattle.std.specs.Prelude.{slice_get, slice_set, nat_le, nat_lt, ◌==◌}
+use Rattle.std.proofs.lemmas.Bool.{cases_eq}
+use Rattle.std.proofs.lemmas.List.{length-set}
+use Rattle.std.proofs.lemmas.Option.{slice_get_within}
+use Rattle.cown_board.proofs.PlacesLaws.{slice_get-left}
+use Rattle.cown_board.proofs.States.{slice_get-set_same, slice_get-set_other}
+use Rattle.sb_calls.specs.declared.ask.Key.{Key}
+use Rattle.sb_calls.specs.declared.call.Call.{Call}
+use Rattle.sb_calls.specs.declared.reply.Reply.{Reply}
+use Rattle.sb_checkpoint.specs.declared.memory_store.How.{How}
+use Rattle.sb_checkpoint.specs.declared.memory_store.How.TheVariants as how
+use Rattle.sb_frames.specs.declared.frame.Frame.{Frame}
+use Rattle.sb_frames.specs.declared.frame.Frame.TheVariants as frame
+use Rattle.sb_rows.specs.Balances.{Balances}
+use Rattle.sb_sequencer.specs.Entries.{entry_of, resent}
+use Rattle.sb_sequencer.specs.Notes.{kept_at}
+use Rattle.schedule_player.specs.Bank.{BankOf}
+use Rattle.schedule_player.specs.Numbered.{numbered}
+use Rattle.schedule_player.specs.Played.{Plays, IsPlayed}
+use Rattle.schedule_player.specs.Readiness.{runnable}
+use Rattle.schedule_player.specs.ReplicaMoves.{NodeOf, length_in, undone_in, told_reply, answered, reply_in_node, sent, sent_all, frame_comes, delivered_to, goes_out, reaches_out, taken, emptied, comes_back, gives_back, finished_by, marked, restarted, acknowledged}
+use Rattle.schedule_player.specs.Stage.{Stage, Waits, IsOut, IsDone}
+use Rattle.schedule_player.specs.TrueToLog.{IsTold, RecordsWereTold}
+use Rattle.schedule_player.specs.World.{WorldOf, Asks, Moves, bank_of, moved, moved_if, moved_at, keeps, told, heard_from, opened_world}
+use Rattle.schedule_text.specs.declared.event.Event.{Event}
+use Rattle.schedule_text.specs.declared.event.Event.TheVariants as event
+use Rattle.schedule_text.specs.declared.note.Note.{Note}
+use Rattle.schedule_text.specs.declared.note.Note.TheVariants as note
+use Rattle.schedule_player.proofs.Lists.{some_is, none_some}
+use Rattle.schedule_player.proofs.Working.{entry_by, mark_by}
+
+-- ---- a replica's frames only become more
+
+abbrev Tells : NodeOf → NodeOf → Type 0
+Tells old new = (more : List Frame) × (new.outbound ≡ old.outbound ++ more)
+
+same : (old new : NodeOf) → new.outbound ≡ old.outbound → Tells old new
+same old new e = ([], e ∙ sym (append-nil old.outbound))
+
+sends : (node : NodeOf) (entry : Option Frame) → Tells node (sent node entry).0
+sends node (Some entry) = same node (sent node (Some entry)).0 refl
+sends node None = same node node refl
+
+enters : (node : NodeOf) (n : ℕ) (there past full : Bool) → (entry_by node n there past full).0.outbound ≡ node.outbound
+enters node n true past full = refl
+enters node n false true full = refl
+enters node n false false true = refl
+enters node n false false false = refl
+
+delivers : (node : NodeOf) (sent : Option Frame) → (frame_comes node sent).0.outbound ≡ node.outbound
+delivers node (Some (frame.Entry n call)) =
+    enters node n (nat_le n (length_in node)) (nat_lt (suc (length_in node)) n) (undone_in node == 1024)
+delivers node (Some (frame.Ask client request call)) = refl
+delivers node (Some (frame.Ack replica size)) = refl
+delivers node (Some (frame.Answer n reply)) = refl
+delivers node (Some (frame.Outcome client request outcome)) = refl
+delivers node (Some frame.Flush) = refl
+delivers node None = refl
+
+replies : (node : NodeOf) (n : ℕ) (reply : Option Reply) → Tells node (told_reply node n reply).0
+replies node n (Some reply) = (frame.Answer n reply ∷ [], refl)
+replies node n None = same node node refl
+
+goes : (node : NodeOf) (worker : ℕ) (place : Option ℕ) → (goes_out node worker place).0.outbound ≡ node.outbound
+goes node worker (Some place) = refl
+goes node worker None = refl
+
+reaches : (bank : BankOf) (node : NodeOf) (worker index : ℕ) (hand : Option (Option ℕ))
+    → (reaches_out bank node worker index hand).0.outbound ≡ node.outbound
+reaches bank node worker index None = refl
+reaches bank node worker index (Some (Some n)) = refl
+reaches bank node worker index (Some None) = goes node worker (slice_get (runnable bank node.stages) index)
+
+comes : (bank : BankOf) (node : NodeOf) (n : ℕ) (stage : Option Stage) → (comes_back bank node n stage).0.outbound ≡ node.outbound
+comes bank node n (Some IsOut) = refl
+comes bank node n (Some Waits) = refl
+comes bank node n (Some IsDone) = refl
+comes bank node n None = refl
+
+gives : (bank : BankOf) (node : NodeOf) (worker : ℕ) (hand : Option (Option ℕ)) → (gives_back bank node worker hand).0.outbound ≡ node.outbound
+gives bank node worker None = refl
+gives bank node worker (Some None) = refl
+gives bank node worker (Some (Some n)) = comes bank (emptied node worker) n (numbered node.stages n)
+
+puts : (node : NodeOf) (end : How) (idle : Bool) → (mark_by node end idle).0.outbound ≡ node.outbound
+puts node how.Ok true = refl
+puts node how.Old true = refl
+puts node how.New true = refl
+puts node end false = refl
+
+-- ---- what is recorded
+
+told_longer : (old new : NodeOf) (size : ℕ) → Tells old new → IsTold old size → IsTold new size
+told_longer old new size more is = (
+  is.0,
+  is.1,
+  ap (λ frames. slice_get frames is.0) more.1
+      ∙ slice_get-left old.outbound more.0 is.0 (slice_get_within old.outbound is.0 (frame.Ack is.1 size) is.2)
+      ∙ is.2,
+)
+
+records_if : (world : WorldOf) (r : ℕ) (move : NodeOf → NodeOf × Note) → ((node : NodeOf) → Tells node (move node).0) → RecordsWereTold world
+    → (found : Option NodeOf) → slice_get world.nodes r ≡ found → RecordsWereTold (moved_if world r move found).0
+records_if world r move more were None here = were
+records_if world r move more were (Some node) here = λ q now size there recorded. elim (cases_eq r q) [
+  | inl same ↦
+      let within = slice_get_within world.nodes r node here in
+      let is : (move node).0 ≡ now =
+      some_is (sym (slice_get-set_same world.nodes r (move node).0 within) ∙ ap (slice_get (slice_set world.nodes r (move node).0)) same ∙ there) in
+      elim (were q node size (ap (slice_get world.nodes) (sym same) ∙ here) recorded) [
+        | inl none ↦ inl none
+        | inr told ↦ inr (subst (λ n. IsTold n size) is (told_longer node (move node).0 size (more node) told))
+      ]
+  | inr differs ↦
+      were q now size (sym (slice_get-set_other world.nodes r q (move node).0 (λ e. differs (sym e))) ∙ there) recorded
+]
+
+records_at : (world : WorldOf) (r : ℕ) (move : NodeOf → NodeOf × Note) → ((node : NodeOf) → Tells node (move node).0) → RecordsWereTold world
+    → RecordsWereTold (moved_at world r move).0
+records_at world r move more were = records_if world r move more were (slice_get world.nodes r) refl
+
+-- a length that is heard stands in the list
+records_length : (world : WorldOf) (r place : ℕ) (node : NodeOf) (replica size : ℕ) → RecordsWereTold world → slice_get world.nodes r ≡ Some node
+    → numbered node.outbound place ≡ Some (frame.Ack replica size)
+    → RecordsWereTold (record world { sequencer = record world.sequencer { recorded = slice_set world.sequencer.recorded r size } })
+records_length world r zero node replica size were here told = absurd (none_some told)
+records_length world r (suc place) node replica size were here told = λ q now length_of there recorded. elim (cases_eq r q) [
+  | inl same ↦
+      let within : r < length world.sequencer.recorded =
+      subst (λ n. r < n) (length-set world.sequencer.recorded r size)
+      (subst (λ p. p < length (slice_set world.sequencer.recorded r size)) (sym same)
+      (slice_get_within (slice_set world.sequencer.recorded r size) q length_of recorded)) in
+      let is : size ≡ length_of =
+      some_is (sym (slice_get-set_same world.sequencer.recorded r size within)
+      ∙ ap (slice_get (slice_set world.sequencer.recorded r size)) same ∙ recorded) in
+      let node_is : node ≡ now = some_is (sym here ∙ ap (slice_get world.nodes) same ∙ there) in
+      inr (subst (λ n. IsTold n length_of) node_is (place, replica, told ∙ ap (λ s. Some (frame.Ack replica s)) is))
+  | inr differs ↦
+      were q now length_of there (sym (slice_get-set_other world.sequencer.recorded r q size (λ e. differs (sym e))) ∙ recorded)
+]
+
+records_kept : (world : WorldOf) (n : ℕ) (reply : Reply) (kept : Option (Option Reply)) → RecordsWereTold world
+    → RecordsWereTold (keeps world n reply kept).0
+records_kept world n reply (Some None) were = were
+records_kept world n reply (Some (Some first)) were = were
+records_kept world n reply None were = were
+
+records_told : (world : WorldOf) (r place : ℕ) (node : NodeOf) (heard : Option Frame) → RecordsWereTold world → slice_get world.nodes r ≡ Some node
+    → numbered node.outbound place ≡ heard → RecordsWereTold (told world r heard).0
+records_told world r place node (Some (frame.Ack replica size)) were here is = records_length world r place node replica size were here is
+records_told world r place node (Some (frame.Answer n reply)) were here is = records_kept world n reply (kept_at world.sequencer n) were
+records_told world r place node (Some (frame.Ask client request call)) were here is = were
+records_told world r place node (Some (frame.Entry n call)) were here is = were
+records_told world r place node (Some (frame.Outcome client request outcome)) were here is = were
+records_told world r place node (Some frame.Flush) were here is = were
+records_told world r place node None were here is = were
+
+records_heard : (world : WorldOf) (r place : ℕ) (found : Option NodeOf) → RecordsWereTold world → slice_get world.nodes r ≡ found
+    → RecordsWereTold (heard_from world r place found).0
+records_heard world r place (Some node) were here = records_told world r place node (numbered node.outbound place) were here refl
+records_heard world r place None were here = were
+
+records_moved : (world : WorldOf) (happens : Event) → RecordsWereTold world → RecordsWereTold (moved world happens).0
+records_moved world (event.Ask client request call) were = were
+records_moved world (event.Send r n) were =
+    records_at world r (λ node. sent node (entry_of world.sequencer.log n)) (λ node. sends node (entry_of world.sequencer.log n)) were
+records_moved world (event.Resend r) were =
+    records_at world r (λ node. sent_all node (resent world.sequencer r))
+    (λ node. same node (sent_all node (resent world.sequencer r)).0 refl) were
+records_moved world (event.To r place) were =
+    records_at world r (λ node. delivered_to node place)
+    (λ node. same node (delivered_to node place).0 (delivers node (numbered node.inbound place))) were
+records_moved world (event.Ack r) were =
+    records_at world r (λ node. acknowledged node r) (λ node. (frame.Ack r (length_in node) ∷ [], refl)) were
+records_moved world (event.Answer r n) were =
+    records_at world r (λ node. answered (bank_of world) node n) (λ node. replies node n (reply_in_node (bank_of world) node n)) were
+records_moved world (event.From r place) were = records_heard world r place (slice_get world.nodes r) were refl
+records_moved world (event.Take r worker index) were =
+    records_at world r (λ node. taken (bank_of world) node worker index)
+    (λ node. same node (taken (bank_of world) node worker index).0 (reaches (bank_of world) node worker index (numbered node.hands worker))) were
+records_moved world (event.Finish r worker) were =
+    records_at world r (λ node. finished_by (bank_of world) node worker)
+    (λ node. same node (finished_by (bank_of world) node worker).0 (gives (bank_of world) node worker (numbered node.hands worker))) were
+records_moved world (event.Mark r end) were =
+    records_at world r (λ node. marked node end) (λ node. same node (marked node end).0 (puts node end (undone_in node == 0))) were
+records_moved world (event.Restart r) were =
+    records_at world r (λ node. restarted node) (λ node. same node (restarted node).0 refl) were
+records_moved world (event.Audit a b) were = were
+
+-- an ask records nothing
+records_asked : (old : WorldOf) (ask : Key × Call) (n : Note) (new : WorldOf) → Asks old ask n new → RecordsWereTold old → RecordsWereTold new
+records_asked old ask (note.New n) new asks were = subst RecordsWereTold (sym asks.1) were
+records_asked old ask (note.Repeat n) new asks were = subst RecordsWereTold (sym asks.1) were
+records_asked old ask (note.Mismatch n) new asks were = subst RecordsWereTold (sym asks.1) were
+records_asked old ask note.LogFull new asks were = subst RecordsWereTold (sym asks.1) were
+records_asked old ask other new asks were = absurd asks
+
+by_moved : (old : WorldOf) (happens : Event) (n : Note) (new : WorldOf) → moved old happens ≡ (new, n) → RecordsWereTold old → RecordsWereTold new
+by_moved old happens n new e were = subst (λ m. RecordsWereTold m.0) e (records_moved old happens were)
+
+records_one : (old : WorldOf) (happens : Event) (n : Note) (new : WorldOf) → Moves old happens n new → RecordsWereTold old → RecordsWereTold new
+records_one old (event.Ask client request call) n new moves were =
+    records_asked old (record { client = client; request = request }, call) n new moves were
+records_one old (event.Send r k) n new moves were = by_moved old (event.Send r k) n new moves were
+records_one old (event.Resend r) n new moves were = by_moved old (event.Resend r) n new moves were
+records_one old (event.To r place) n new moves were = by_moved old (event.To r place) n new moves were
+records_one old (event.Ack r) n new moves were = by_moved old (event.Ack r) n new moves were
+records_one old (event.Answer r k) n new moves were = by_moved old (event.Answer r k) n new moves were
+records_one old (event.From r place) n new moves were = by_moved old (event.From r place) n new moves were
+records_one old (event.Take r worker index) n new moves were = by_moved old (event.Take r worker index) n new moves were
+records_one old (event.Finish r worker) n new moves were = by_moved old (event.Finish r worker) n new moves were
+records_one old (event.Mark r end) n new moves were = by_moved old (event.Mark r end) n new moves were
+records_one old (event.Restart r) n new moves were = by_moved old (event.Restart r) n new moves were
+records_one old (event.Audit a b) n new moves were = by_moved old (event.Audit a b) n new moves were
+
+records_all : (old : WorldOf) (events : List Event) (notes : List Note) (new : WorldOf) → Plays old events notes new → RecordsWereTold old
+    → RecordsWereTold new
+records_all old [] [] new plays were = subst RecordsWereTold (sym plays) were
+records_all old [] (n ∷ notes) new plays were = absurd plays
+records_all old (happens ∷ events) [] new plays were = absurd plays
+records_all old (happens ∷ events) (n ∷ notes) new plays were =
+    records_all plays.0 events notes new plays.2 (records_one old happens n plays.0 plays.1 were)
+
+zero_at : (n k size : ℕ) → slice_get (replicate n 0) k ≡ Some size → size ≡ 0
+zero_at zero k size here = absurd (none_some here)
+zero_at (suc n) zero size here = sym (some_is here)
+zero_at (suc n) (suc k) size here = zero_at n k size here
+
+pub records_played : (names : List (List ℕ)) (opening : Balances) (nodes workers : ℕ) (events : List Event) (world : WorldOf)
+    → IsPlayed names opening nodes workers events world → RecordsWereTold world
+records_played names opening nodes workers events world played =
+    records_all (opened_world names opening nodes workers) events played.notes world played.plays
+    (λ r node size there recorded. inl (zero_at nodes r size recorded))

@@ -1,0 +1,5 @@
+use Rattle.schedule_player.proofs.Recorded.{records_played}
+use Rattle.schedule_player.proofs.laws.recorded_lengths.Goals as goal
+
+pub returns : goal.returns
+returns c = records_played
