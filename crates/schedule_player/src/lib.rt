@@ -10,6 +10,8 @@ mod node;
 mod observing;
 mod opened;
 mod running;
+#[cfg(test)]
+mod running_tests;
 mod states;
 mod stepping;
 #[cfg(test)]
