@@ -1,0 +1,37 @@
+//! As many entries as a replica has room for.
+use super::*;
+
+// How many may be unfinished at a replica.
+const ROOM: u32 = 1_024;
+
+// The entries with these numbers are sent to the one replica, at the places of their numbers.
+fn sends(rt: &impl Abort, world: &mut World, count: u32) {
+    for place in 0..count {
+        let number = place + 1;
+        let event = Event::Send { replica: 0, number };
+        assert_eq!(rt; world.step(event), Ok(Note::Sent(u64::from(number))));
+    }
+}
+
+#[test]
+fn one_entry_more_than_there_is_room_for(rt: HostRuntime) -> Result<(), Fail> {
+    let mut world = world_of(&rt, rt.alloc(), 1, 1)?;
+    asks(&rt, &mut world, ROOM + 1, "deposit alice 1.00");
+    sends(&rt, &mut world, ROOM + 1);
+    accepts(&rt, &mut world, 0, 1, ROOM);
+    all_happen(
+        &rt,
+        &mut world,
+        &[
+            ("to 0 1025", Note::Busy(1_024)),
+            ("take 0 1 0", Note::Took(1)),
+            ("to 0 1025", Note::Busy(1_024)),
+            ("take 0 1 1", Note::HandFull),
+            ("finish 0 1", Note::Finished(1, Reply::Done)),
+            ("to 0 1025", Note::Accepted(1_025)),
+            ("to 0 1025", Note::Repeat(1_025)),
+        ],
+    );
+    stands_at(&rt, &world, 0, 1_025, false);
+    Ok(())
+}
