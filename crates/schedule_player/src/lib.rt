@@ -10,8 +10,6 @@ mod node;
 mod observing;
 mod opened;
 mod running;
-#[cfg(test)]
-mod running_tests;
 mod states;
 mod stepping;
 #[cfg(test)]

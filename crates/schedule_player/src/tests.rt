@@ -13,6 +13,7 @@ mod network;
 mod nodes;
 mod restarts;
 mod room;
+mod schedules;
 mod workers;
 
 const OPENING: &str = "alice 100.00 50.00\nbob 0.00 20.00\ncarol 10.00 0.00\nbegin\n";
