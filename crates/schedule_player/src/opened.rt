@@ -1,10 +1,11 @@
 //! A world at its opening.
-ghost use Rattle.std.specs.Prelude.{◌≡◌, ℕ, ◌≤◌, Some, length, map, slice_get, IfOk};
+ghost use Rattle.std.specs.Prelude.{◌≡◌, ℕ, ◌≤◌, Some, [], length, map, slice_get, IfOk};
 ghost use Rattle.sb_rows.specs.Rows.{SameCustomers};
 ghost use Rattle.sb_calls.specs.declared.call.TheConstants.{LOG_CALLS as MOST_CALLS};
 ghost use Rattle.schedule_player.specs.Bank.{BankOf};
 ghost use Rattle.schedule_player.specs.NodeAlong.{IsNodeAt, seen_node};
 ghost use Rattle.schedule_player.specs.Numbered.{copies};
+ghost use Rattle.schedule_player.specs.Played.{IsPlayed};
 ghost use Rattle.schedule_player.specs.ReplicaMoves.{opened_node};
 ghost use Rattle.schedule_player.specs.World.{opened_world};
 ghost use Rattle.schedule_player.specs.declared.node.Node.{Node as AnyNode};
@@ -56,7 +57,9 @@ impl World {
     ) -> Result<World, AllocError>
         requires customers { SameCustomers directory opening }
         requires few { nodes ≤ 8 }
-        ensures { IfOk result (λ world. world ≡ opened_world directory opening nodes workers) }
+        ensures value { IfOk result (λ world. world ≡ opened_world directory opening nodes workers) }
+        // No event has happened yet.
+        ensures played { IfOk result (IsPlayed directory opening nodes workers []) }
     {
         let replicas = open_nodes(alloc, &directory, &opening, nodes, workers)?;
         Ok(World {

@@ -18,7 +18,7 @@ returns c =
       notes = notes;
       world = world;
       plays =
-          subst (λ start. Plays start c.in_ok-schedule.schedule.events.items notes world) c.in_ok-world.ensures
+          subst (λ start. Plays start c.in_ok-schedule.schedule.events.items notes world) c.in_ok-world.ensures.value
           (subst (λ events. Plays c.in_ok-world.world events notes world) c.deref.ensures.value c.in_ok-notes.ensures.plays);
       written = c.in_ok-push_states.ensures ∙ ap (λ out. out ++ unlines states) told ∙ sym (both_lines (map note_line notes) states);
     })
