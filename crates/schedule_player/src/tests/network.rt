@@ -23,6 +23,9 @@ fn a_resend_sends_what_was_not_heard_of(rt: HostRuntime) -> Result<(), Fail> {
             ("to 0 33", Note::Accepted(17)),
             ("ack 0", Note::Sent(2)),
             ("from 0 2", Note::Recorded(17)),
+            // What the other one tells changes nothing of it.
+            ("ack 1", Note::Sent(1)),
+            ("from 1 1", Note::Recorded(0)),
             ("resend 0", Note::Resent(0)),
             ("resend 1", Note::Resent(16)),
             ("to 1 16", Note::Gap(0)),
