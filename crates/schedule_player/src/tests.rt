@@ -41,7 +41,7 @@ fn all_happen(rt: &impl Abort, world: &mut World, steps: &[(&str, Note)]) {
 
 // A replica's log has this length, and something or nothing is unfinished at it.
 fn stands_at(rt: &impl Abort, world: &World, replica: u32, length: u64, idle: bool) {
-    assert!(rt; (replica as usize) < world.replicas());
+    assert!(rt; replica < world.replicas());
     assert_eq!(rt; world.length(replica), length);
     assert_eq!(rt; world.idle(replica), idle);
     assert_eq!(rt; world.columns(replica).is_some(), idle);
@@ -49,7 +49,7 @@ fn stands_at(rt: &impl Abort, world: &World, replica: u32, length: u64, idle: bo
 
 // The reply that a replica holds to a number.
 fn replies(rt: &impl Abort, world: &World, replica: u32, number: u64, reply: Option<Reply>) {
-    assert!(rt; (replica as usize) < world.replicas());
+    assert!(rt; replica < world.replicas());
     assert_eq!(rt; world.reply(replica, number), reply, "{replica} {number}");
 }
 
