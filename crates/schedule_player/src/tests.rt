@@ -14,6 +14,7 @@ mod nodes;
 mod restarts;
 mod room;
 mod schedules;
+mod stories;
 mod workers;
 
 const OPENING: &str = "alice 100.00 50.00\nbob 0.00 20.00\ncarol 10.00 0.00\nbegin\n";

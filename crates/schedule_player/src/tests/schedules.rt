@@ -12,7 +12,7 @@ use std::test::Fail;
 const OPENING: &[u8] = b"alice 100.00 50.00\nbob 0.00 20.00\ncarol 10.00 0.00\nbegin\n";
 
 // Plays a schedule, and compares what is written.
-fn expect_output(rt: &impl Abort, alloc: Global, schedule: &[u8], output: &[u8]) {
+pub fn expect_output(rt: &impl Abort, alloc: Global, schedule: &[u8], output: &[u8]) {
     let mut reader = schedule;
     let mut written: Vec<u8> = Vec::new(alloc);
     assert!(rt; run_schedule(alloc, &mut reader, &mut written) == Ok(()));
