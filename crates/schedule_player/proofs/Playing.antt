@@ -1,7 +1,8 @@
 -- Events one after the other.
-use Rattle.std.proofs.Common.{◌≡◌, true, ℕ, Option, Some, None, Result, Ok, Err, List, [], ◌∷◌, ◌++◌, map, refl, sym, ap, subst, ◌∙◌}
-use Rattle.std.specs.Prelude.{slice_get, IfOk}
+use Rattle.std.proofs.Common.{◌≡◌, true, ℕ, Option, Some, None, Result, Ok, Err, List, [], ◌∷◌, ◌++◌, length, map, refl, sym, ap, subst, ◌∙◌}
+use Rattle.std.specs.Prelude.{slice_get, IfOk, OnErr}
 use Rattle.std.specs.List.{cons_option, filter_map}
+use Rattle.std.proofs.lemmas.List.{length-set}
 use Rattle.sb_rows.specs.Balances.{Balances}
 use Rattle.sb_calls.specs.declared.ask.Key.{Key}
 use Rattle.sb_calls.specs.declared.call.Call.{Call}
@@ -28,40 +29,41 @@ use Rattle.schedule_player.proofs.Coming.{comes_of}
 
 -- ---- what stays, and what becomes of the log
 
--- the bank stays, and the log is this one
+-- the bank and how many replicas there are stay, and the log is this one
 pub record Leaves (old new : WorldOf) (log : List (Key × Call)) : Type 0 where
   pub names : new.names ≡ old.names
   pub opening : new.opening ≡ old.opening
   pub log_is : new.sequencer.log ≡ log
+  pub count : length new.nodes ≡ length old.nodes
 
 leaves_if : (world : WorldOf) (r : ℕ) (move : NodeOf → NodeOf × Note) (found : Option NodeOf)
     → Leaves world (moved_if world r move found).0 world.sequencer.log
-leaves_if world r move (Some node) = record { names = refl; opening = refl; log_is = refl }
-leaves_if world r move None = record { names = refl; opening = refl; log_is = refl }
+leaves_if world r move (Some node) = record { names = refl; opening = refl; log_is = refl; count = length-set world.nodes r (move node).0 }
+leaves_if world r move None = record { names = refl; opening = refl; log_is = refl; count = refl }
 
 leaves_at : (world : WorldOf) (r : ℕ) (move : NodeOf → NodeOf × Note) → Leaves world (moved_at world r move).0 world.sequencer.log
 leaves_at world r move = leaves_if world r move (slice_get world.nodes r)
 
 leaves_kept : (world : WorldOf) (n : ℕ) (reply : Reply) (kept : Option (Option Reply)) → Leaves world (keeps world n reply kept).0 world.sequencer.log
-leaves_kept world n reply (Some None) = record { names = refl; opening = refl; log_is = refl }
-leaves_kept world n reply (Some (Some first)) = record { names = refl; opening = refl; log_is = refl }
-leaves_kept world n reply None = record { names = refl; opening = refl; log_is = refl }
+leaves_kept world n reply (Some None) = record { names = refl; opening = refl; log_is = refl; count = refl }
+leaves_kept world n reply (Some (Some first)) = record { names = refl; opening = refl; log_is = refl; count = refl }
+leaves_kept world n reply None = record { names = refl; opening = refl; log_is = refl; count = refl }
 
 leaves_told : (world : WorldOf) (r : ℕ) (sent : Option Frame) → Leaves world (told world r sent).0 world.sequencer.log
-leaves_told world r (Some (frame.Ack replica size)) = record { names = refl; opening = refl; log_is = refl }
+leaves_told world r (Some (frame.Ack replica size)) = record { names = refl; opening = refl; log_is = refl; count = refl }
 leaves_told world r (Some (frame.Answer n reply)) = leaves_kept world n reply (kept_at world.sequencer n)
-leaves_told world r (Some (frame.Ask client request call)) = record { names = refl; opening = refl; log_is = refl }
-leaves_told world r (Some (frame.Entry n call)) = record { names = refl; opening = refl; log_is = refl }
-leaves_told world r (Some (frame.Outcome client request outcome)) = record { names = refl; opening = refl; log_is = refl }
-leaves_told world r (Some frame.Flush) = record { names = refl; opening = refl; log_is = refl }
-leaves_told world r None = record { names = refl; opening = refl; log_is = refl }
+leaves_told world r (Some (frame.Ask client request call)) = record { names = refl; opening = refl; log_is = refl; count = refl }
+leaves_told world r (Some (frame.Entry n call)) = record { names = refl; opening = refl; log_is = refl; count = refl }
+leaves_told world r (Some (frame.Outcome client request outcome)) = record { names = refl; opening = refl; log_is = refl; count = refl }
+leaves_told world r (Some frame.Flush) = record { names = refl; opening = refl; log_is = refl; count = refl }
+leaves_told world r None = record { names = refl; opening = refl; log_is = refl; count = refl }
 
 leaves_heard : (world : WorldOf) (r place : ℕ) (found : Option NodeOf) → Leaves world (heard_from world r place found).0 world.sequencer.log
 leaves_heard world r place (Some node) = leaves_told world r (numbered node.outbound place)
-leaves_heard world r place None = record { names = refl; opening = refl; log_is = refl }
+leaves_heard world r place None = record { names = refl; opening = refl; log_is = refl; count = refl }
 
 leaves_moved : (world : WorldOf) (happens : Event) → Leaves world (moved world happens).0 world.sequencer.log
-leaves_moved world (event.Ask client request call) = record { names = refl; opening = refl; log_is = refl }
+leaves_moved world (event.Ask client request call) = record { names = refl; opening = refl; log_is = refl; count = refl }
 leaves_moved world (event.Send r n) = leaves_at world r (λ node. sent node (entry_of world.sequencer.log n))
 leaves_moved world (event.Resend r) = leaves_at world r (λ node. sent_all node (resent world.sequencer r))
 leaves_moved world (event.To r place) = leaves_at world r (λ node. delivered_to node place)
@@ -72,7 +74,7 @@ leaves_moved world (event.Take r worker index) = leaves_at world r (λ node. tak
 leaves_moved world (event.Finish r worker) = leaves_at world r (λ node. finished_by (bank_of world) node worker)
 leaves_moved world (event.Mark r end) = leaves_at world r (λ node. marked node end)
 leaves_moved world (event.Restart r) = leaves_at world r (λ node. restarted node)
-leaves_moved world (event.Audit a b) = record { names = refl; opening = refl; log_is = refl }
+leaves_moved world (event.Audit a b) = record { names = refl; opening = refl; log_is = refl; count = refl }
 
 leaves_so : (old : WorldOf) (happens : Event) (n : Note) (new : WorldOf) → moved old happens ≡ (new, n) → Leaves old new old.sequencer.log
 leaves_so old happens n new e = subst (λ m. Leaves old m.0 old.sequencer.log) e (leaves_moved old happens)
@@ -82,24 +84,28 @@ leaves_asked : (old : WorldOf) (ask : Key × Call) (n : Note) (new : WorldOf) �
 leaves_asked old ask (note.New n) new asks = record {
   names = ap (λ w. w.names) asks.1;
   opening = ap (λ w. w.opening) asks.1;
+  count = ap (λ w. length w.nodes) asks.1;
   log_is = ap (λ w. w.sequencer.log) asks.1
       ∙ log_with-answered old.sequencer.log (old.sequencer.log ++ ask ∷ []) ask (Ok (New n)) asks.0 refl (λ e. cc);
 }
 leaves_asked old ask (note.Repeat n) new asks = record {
   names = ap (λ w. w.names) asks.1;
   opening = ap (λ w. w.opening) asks.1;
+  count = ap (λ w. length w.nodes) asks.1;
   log_is = ap (λ w. w.sequencer.log) asks.1
       ∙ log_with-answered old.sequencer.log old.sequencer.log ask (Ok (Repeat n)) asks.0 refl (λ e. cc);
 }
 leaves_asked old ask (note.Mismatch n) new asks = record {
   names = ap (λ w. w.names) asks.1;
   opening = ap (λ w. w.opening) asks.1;
+  count = ap (λ w. length w.nodes) asks.1;
   log_is = ap (λ w. w.sequencer.log) asks.1
       ∙ log_with-answered old.sequencer.log old.sequencer.log ask (Err (Mismatch n)) asks.0 refl (λ e. cc);
 }
 leaves_asked old ask note.LogFull new asks = record {
   names = ap (λ w. w.names) asks.1;
   opening = ap (λ w. w.opening) asks.1;
+  count = ap (λ w. length w.nodes) asks.1;
   log_is = ap (λ w. w.sequencer.log) asks.1
       ∙ log_with-answered old.sequencer.log old.sequencer.log ask (Err LogFull) asks.0 refl (λ e. cc);
 }
@@ -136,6 +142,7 @@ leaves_all : (old : WorldOf) (events : List Event) (notes : List Note) (new : Wo
 leaves_all old [] [] new plays = record {
   names = ap (λ w. w.names) plays;
   opening = ap (λ w. w.opening) plays;
+  count = ap (λ w. length w.nodes) plays;
   log_is = ap (λ w. w.sequencer.log) plays;
 }
 leaves_all old [] (n ∷ notes) new plays = absurd plays
@@ -146,6 +153,7 @@ leaves_all old (happens ∷ events) (n ∷ notes) new plays =
     record {
       names = rest.names ∙ one.names;
       opening = rest.opening ∙ one.opening;
+      count = rest.count ∙ one.count;
       log_is = rest.log_is ∙ ap (λ log. log_after log (filter_map ask_in events)) one.log_is
           ∙ sym (asks_first old.sequencer.log (ask_in happens) (filter_map ask_in events));
     }
@@ -212,3 +220,9 @@ pub comes_if : (old : WorldOf) (happens : Event) (result : Result Note StepFault
     → IfOk result (λ n. may_come n ≡ true)
 comes_if old happens (Ok n) new moves = comes_of old happens n new moves
 comes_if old happens (Err fault) new moves = tt
+
+-- there are as many replicas after a step as before it
+pub count_if : (old : WorldOf) (happens : Event) (result : Result Note StepFault) (new : WorldOf) → IfOk result (λ n. Moves old happens n new)
+    → OnErr result (new ≡ old) → length new.nodes ≡ length old.nodes
+count_if old happens (Ok n) new moves same = (leaves_one old happens n new moves).count
+count_if old happens (Err fault) new moves same = ap (λ w. length w.nodes) same

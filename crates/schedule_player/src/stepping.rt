@@ -66,6 +66,7 @@ impl World {
         ensures moves { IfOk result (λ note. Moves self.old event note self.new) }
         ensures err { OnErr result (self.new ≡ self.old) }
         ensures wanted { OnErr result (MayWantMemory self.old event) }
+        ensures replicas { length self.new.nodes ≡ length self.old.nodes }
         // Nothing is ever odd, unknown, different or off the books.
         ensures comes { IfOk result (λ note. IsTrue (may_come note)) }
         // After whatever events from an opening, the world is the one after these and this.
@@ -86,6 +87,7 @@ pub fn play(alloc: Global, world: &mut World, events: &[Event]) -> Result<Vec<No
     // As many happened as the fault tells, and nothing else.
     ensures stopped { IfErr result (λ fault. (fault.done ≤ length events.now)
         × ((notes : List AnyNote) × Plays world.old (take fault.done events.now) notes world.new)) }
+    ensures replicas { length world.new.nodes ≡ length world.old.nodes }
     // After whatever events from an opening, the world is the one after these and those.
     ensures played { (names : List (List ℕ)) (opening : Balances) (nodes workers : ℕ) (before : List AnyEvent)
         → IsPlayed names opening nodes workers before world.old

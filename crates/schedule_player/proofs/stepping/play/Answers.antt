@@ -28,6 +28,7 @@ loop-done-preserved c =
           let count = so_far.count in
           omega (arith, more, count);
       room = let room = so_far.room in let same = c.push_reserved.ensures.capacity in omega (arith, room, same);
+      replicas = c.in-Ok.ensures.replicas ∙ so_far.replicas;
     }
 
 pub returns-clause-played : goal.returns-clause-played

@@ -1,4 +1,4 @@
-use Rattle.schedule_player.proofs.Playing.{played_if, comes_if}
+use Rattle.schedule_player.proofs.Playing.{played_if, comes_if, count_if}
 use Rattle.schedule_player.proofs.world.World.step.Goals as goal
 
 pub returns-clause-played : goal.returns-clause-played
@@ -7,3 +7,7 @@ returns-clause-played c names opening nodes workers events played =
 
 pub returns-clause-comes : goal.returns-clause-comes
 returns-clause-comes c = comes_if c.args.self.now c.args.event c.moves.result c.moves.new.self c.moves.ensures.moves
+
+pub returns-clause-replicas : goal.returns-clause-replicas
+returns-clause-replicas c =
+    count_if c.args.self.now c.args.event c.moves.result c.moves.new.self c.moves.ensures.moves c.moves.ensures.err
