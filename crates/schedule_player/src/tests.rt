@@ -10,7 +10,6 @@ use std::test::Fail;
 mod audits;
 mod lists;
 mod network;
-mod nodes;
 mod restarts;
 mod room;
 mod schedules;
