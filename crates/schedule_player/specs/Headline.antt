@@ -8,8 +8,8 @@ use Rattle.schedule_player.specs.Played.{IsPlayed, bank_after, log_of}
 use Rattle.schedule_player.specs.World.{WorldOf}
 use Rattle.schedule_text.specs.declared.event.Event.{Event}
 
--- after whatever events from an opening, any two replicas that hold a reply to a number hold the same one, the reply that
--- running the first asks one by one gives it
+-- after whatever events from an opening, any two replicas that hold a reply to a number hold the same one, the reply
+-- that running the first asks one by one gives it
 abbrev pub Agreement : Type 0
 Agreement = (names : List (List ℕ)) (opening : Balances) (nodes workers : ℕ) (events : List Event) (world : WorldOf)
     → IsPlayed names opening nodes workers events world
@@ -19,6 +19,7 @@ Agreement = (names : List (List ℕ)) (opening : Balances) (nodes workers : ℕ)
 
 -- after whatever events from an opening, the log is the first asks of these events
 abbrev pub LogOfFirstAsks : Type 0
-LogOfFirstAsks = (names : List (List ℕ)) (opening : Balances) (nodes workers : ℕ) (events : List Event) (world : WorldOf)
+LogOfFirstAsks = (names : List (List ℕ)) (opening : Balances) (nodes workers : ℕ) (events : List Event)
+    (world : WorldOf)
     → IsPlayed names opening nodes workers events world
     → world.sequencer.log ≡ log_of events

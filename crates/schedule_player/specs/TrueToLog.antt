@@ -11,10 +11,11 @@ use Rattle.schedule_player.specs.ReplicaMoves.{NodeOf}
 use Rattle.schedule_player.specs.World.{WorldOf, bank_of}
 use Rattle.schedule_text.specs.declared.event.Event.{Event}
 
--- each frame to a replica is an entry of the log; each frame from it tells a length up to the log's, under its own number, or
--- the log's reply to a number; each answer that is kept is the log's reply
+-- each frame to a replica is an entry of the log; each frame from it tells a length up to the log's, under its own
+-- number, or the log's reply to a number; each answer that is kept is the log's reply
 pub record IsTrueToLog (world : WorldOf) : Type 0 where
-  pub inbound : (r : ℕ) (node : NodeOf) → slice_get world.nodes r ≡ Some node → Every (IsEntryOf (bank_of world)) node.inbound
+  pub inbound : (r : ℕ) (node : NodeOf) → slice_get world.nodes r ≡ Some node
+      → Every (IsEntryOf (bank_of world)) node.inbound
   pub outbound : (r : ℕ) (node : NodeOf) → slice_get world.nodes r ≡ Some node
       → Every (IsToldBy (bank_of world) r) node.outbound
   pub kept : (k : ℕ) (reply : Reply) → slice_get world.sequencer.answers k ≡ Some (Some reply)
@@ -31,5 +32,6 @@ RecordsWereTold world = (r : ℕ) (node : NodeOf) (size : ℕ) → slice_get wor
 
 -- after whatever events from an opening
 abbrev pub RecordedLengths : Type 0
-RecordedLengths = (names : List (List ℕ)) (opening : Balances) (nodes workers : ℕ) (events : List Event) (world : WorldOf)
+RecordedLengths = (names : List (List ℕ)) (opening : Balances) (nodes workers : ℕ) (events : List Event)
+    (world : WorldOf)
     → IsPlayed names opening nodes workers events world → RecordsWereTold world

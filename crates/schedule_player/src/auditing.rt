@@ -70,7 +70,8 @@ impl World {
     /// Fails where memory is refused.
     pub fn audit(&self, first: u32, second: u32) -> Result<AuditNote, StepFault>
         requires replicas { (first < length self.now.nodes) × (second < length self.now.nodes) }
-        ensures { (one other : NodeOf) → slice_get self.now.nodes first ≡ Some one → slice_get self.now.nodes second ≡ Some other
+        ensures { (one other : NodeOf) → slice_get self.now.nodes first ≡ Some one
+            → slice_get self.now.nodes second ≡ Some other
             → IfOk result (λ found. found ≡ compared (bank_of self.now) first second one other) }
     {
         let one = &self.nodes[first as usize].replica;

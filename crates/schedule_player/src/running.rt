@@ -17,8 +17,8 @@ use std::io::{Read, Write};
 ///
 /// The whole schedule is read and checked before the first event. Fails with
 /// - [`ScheduleFault::Input`] at the first line at fault; nothing was written then,
-/// - [`ScheduleFault::Device`] where a read or a write fails, or the input takes more than [`sb_text::READS`] reads; a part of
-///   the output may be written,
+/// - [`ScheduleFault::Device`] where a read or a write fails, or the input takes more than [`sb_text::READS`] reads; a
+///   part of the output may be written,
 /// - [`ScheduleFault::OutOfMemory`] where memory is refused.
 pub fn run_schedule<R: Read, W: Write>(
     alloc: Global,

@@ -9,7 +9,8 @@ use sb_text::list_rows;
 use schedule_text::push_numbered;
 use std::alloc::AllocError;
 
-/// Writes for each replica its number and the length of its log, and, where nothing is unfinished at it, its rows and the total.
+/// Writes for each replica its number and the length of its log, and, where nothing is unfinished at it, its rows and
+/// the total.
 pub(crate) fn push_states(world: &World, out: &mut Vec<u8>) -> Result<(), AllocError>
     ensures { OnOk result (out.new.items ≡ out.old.items ++ unlines (states_from world.now 0 world.now.nodes)) }
 {

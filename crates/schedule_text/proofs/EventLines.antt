@@ -27,7 +27,8 @@ stopped number (Err fault) rest found h =
 
 -- so it ends the events
 pub events_from-fault : (first number : ℕ) (before : List Event) (line : List ℕ) (ls : List (List ℕ)) (all : Result (List Event) (ℕ × EventFault))
-    (fault : TextFault) → all ≡ events_from first before (line ∷ ls) → number ≡ first + length before → Blames fault (in_events (at_line number (event_of line)))
+    (fault : TextFault) → all ≡ events_from first before (line ∷ ls) → number ≡ first + length before → Blames fault (in_events (at_line number
+    (event_of line)))
     → Blames fault (in_events all)
 unfolding events_from
 events_from-fault first number before line ls all (Line n f) e at h =

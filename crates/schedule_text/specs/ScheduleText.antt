@@ -73,7 +73,8 @@ events_from first before (line ∷ ls) =
 abbrev pub schedule_of : List ℕ → Result ScheduleOf (ℕ × ScheduleLineFault)
 schedule_of text = head_of_lines (lines text) >>= λ head.
     (below_head (opening_of (after_line text)) >>= λ opening.
-    (in_events (events_from (length opening.names + 3) [] (lines (drop opening.consumed (after_line text)))) >>= λ events.
+    (in_events (events_from (length opening.names + 3) [] (lines (drop opening.consumed
+    (after_line text)))) >>= λ events.
     Ok (record {
       nodes = head.0;
       workers = head.1;

@@ -11,14 +11,16 @@ use Rattle.schedule_player.proofs.world.World.acknowledge.Goals as goal
 
 -- the replica moves, and so the world does
 step : (c : goal.After-self-2-1) → let w = c.self.inside in let bank = bank_with w.directory w.opening w.sequencer.log in
-    Stepped w.directory w.opening w.sequencer w.nodes.items c.args.replica c.acknowledge.new.self (λ node. acknowledged node c.args.replica) c.acknowledge.result
+    Stepped w.directory w.opening w.sequencer w.nodes.items c.args.replica c.acknowledge.new.self
+    (λ node. acknowledged node c.args.replica) c.acknowledge.result
 step c =
     let w = c.self.inside in
     let here = get_here w.nodes.items c.args.replica c.in-Some.node.now c.in-Some.ensures.item.3.0 c.in-Some.ensures.value in
     let bank = bank_with w.directory w.opening w.sequencer.log in
     let along = c.self.invariant.each c.args.replica c.in-Some.node.now here in
     steps_wholly w.directory w.opening w.sequencer w.nodes.items c.args.replica c.in-Some.node.now c.acknowledge.new.self
-    (λ node. acknowledged node c.args.replica) c.acknowledge.result c.self.invariant here (c.acknowledge.ensures.moves bank c.args.replica along) c.acknowledge.ensures.err
+    (λ node. acknowledged node c.args.replica) c.acknowledge.result c.self.invariant here
+    (c.acknowledge.ensures.moves bank c.args.replica along) c.acknowledge.ensures.err
 
 pub invariant_of-self-2 : goal.invariant_of-self-2
 invariant_of-self-2 c = (step c).is
@@ -27,7 +29,8 @@ pub returns-clause-moves : goal.returns-clause-moves
 returns-clause-moves c =
     let w = c.self.inside in
     let new = world_of w.directory w.opening w.sequencer (slice_set w.nodes.items c.args.replica c.acknowledge.new.self) in
-    subst (λ old. IfOk c.acknowledge.result (λ n. moved_at old c.args.replica (λ node. acknowledged node c.args.replica) ≡ (new, n))) c.self.view_is (step c).moves
+    subst (λ old. IfOk c.acknowledge.result (λ n. moved_at old c.args.replica (λ node. acknowledged node c.args.replica) ≡ (new, n))) c.self.view_is
+    (step c).moves
 
 pub returns-clause-err : goal.returns-clause-err
 returns-clause-err c =

@@ -40,5 +40,7 @@ returns-clause-wanted c =
     let along = c.self.invariant.each c.args.replica c.in-Some.node.now here in
     let bank = bank_with w.directory w.opening w.sequencer.log in
     subst (λ old. OnErr c.answer.result (FindsWork old (event.Answer c.args.replica c.args.number))) c.self.view_is
-    (err_so c.answer.result (λ held. (works_at world c.args.replica (seen_node c.in-Some.node.now) (λ node. answered bank node c.args.number) seen (answers_so bank (seen_node c.in-Some.node.now) c.args.number (λ none. held (reply_seen bank c.args.replica c.in-Some.node.now c.args.number along ∙ none)))))
+    (err_so c.answer.result (λ held. (works_at world c.args.replica (seen_node c.in-Some.node.now) (λ node. answered bank node c.args.number) seen
+    (answers_so bank (seen_node c.in-Some.node.now) c.args.number (λ none. held
+    (reply_seen bank c.args.replica c.in-Some.node.now c.args.number along ∙ none)))))
     c.answer.ensures.held)

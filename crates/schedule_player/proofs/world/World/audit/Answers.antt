@@ -20,9 +20,12 @@ returns-in_default c one other seen_one seen_other =
     let now = c.args.self.now in
     let first = c.index.result.now in
     let second = c.index-2.result.now in
-    let look_a = looked_up w.directory w.opening w.sequencer w.nodes.items now c.args.first first c.self.view_is c.self.invariant c.requires.replicas.0 c.index.ensures in
-    let look_b = looked_up w.directory w.opening w.sequencer w.nodes.items now c.args.second second c.self.view_is c.self.invariant c.requires.replicas.1 c.index-2.ensures in
-    busy_first (bank_of now) c.args.first c.args.second first second look_a.along look_b.along c.in_default.ensures.value ∙ (λ j. compared (bank_of now) c.args.first c.args.second (seen_as now c.args.first first one look_a seen_one j)
+    let look_a = looked_up w.directory w.opening w.sequencer w.nodes.items now c.args.first first c.self.view_is c.self.invariant
+    c.requires.replicas.0 c.index.ensures in
+    let look_b = looked_up w.directory w.opening w.sequencer w.nodes.items now c.args.second second c.self.view_is c.self.invariant
+    c.requires.replicas.1 c.index-2.ensures in
+    busy_first (bank_of now) c.args.first c.args.second first second look_a.along look_b.along c.in_default.ensures.value ∙ (λ j. compared
+    (bank_of now) c.args.first c.args.second (seen_as now c.args.first first one look_a seen_one j)
     (seen_as now c.args.second second other look_b seen_other j))
 
 pub returns-in_default-settled_columns : goal.returns-in_default-settled_columns
@@ -31,8 +34,10 @@ returns-in_default-settled_columns c one other seen_one seen_other =
     let now = c.args.self.now in
     let first = c.index.result.now in
     let second = c.index-2.result.now in
-    let look_a = looked_up w.directory w.opening w.sequencer w.nodes.items now c.args.first first c.self.view_is c.self.invariant c.requires.replicas.0 c.index.ensures in
-    let look_b = looked_up w.directory w.opening w.sequencer w.nodes.items now c.args.second second c.self.view_is c.self.invariant c.requires.replicas.1 c.index-2.ensures in
+    let look_a = looked_up w.directory w.opening w.sequencer w.nodes.items now c.args.first first c.self.view_is c.self.invariant
+    c.requires.replicas.0 c.index.ensures in
+    let look_b = looked_up w.directory w.opening w.sequencer w.nodes.items now c.args.second second c.self.view_is c.self.invariant
+    c.requires.replicas.1 c.index-2.ensures in
     busy_second (bank_of now) c.args.first c.args.second first second look_a.along look_b.along c.in-Some.ensures.value.0
     c.in_default-settled_columns.ensures.value ∙ (λ j. compared (bank_of now) c.args.first c.args.second (seen_as now c.args.first first one look_a seen_one j)
     (seen_as now c.args.second second other look_b seen_other j))
@@ -43,8 +48,10 @@ returns-then-length c one other seen_one seen_other =
     let now = c.args.self.now in
     let first = c.index.result.now in
     let second = c.index-2.result.now in
-    let look_a = looked_up w.directory w.opening w.sequencer w.nodes.items now c.args.first first c.self.view_is c.self.invariant c.requires.replicas.0 c.index.ensures in
-    let look_b = looked_up w.directory w.opening w.sequencer w.nodes.items now c.args.second second c.self.view_is c.self.invariant c.requires.replicas.1 c.index-2.ensures in
+    let look_a = looked_up w.directory w.opening w.sequencer w.nodes.items now c.args.first first c.self.view_is c.self.invariant
+    c.requires.replicas.0 c.index.ensures in
+    let look_b = looked_up w.directory w.opening w.sequencer w.nodes.items now c.args.second second c.self.view_is c.self.invariant
+    c.requires.replicas.1 c.index-2.ensures in
     let one_length = c.length-then-length in
     let other_length = c.length-then-length-2 in
     apart (bank_of now) c.args.first c.args.second first second look_a.along look_b.along one_length.result other_length.result
@@ -59,8 +66,10 @@ first_place-requires-clause-savings c =
     let now = c.args.self.now in
     let first = c.index.result.now in
     let second = c.index-2.result.now in
-    let look_a = looked_up w.directory w.opening w.sequencer w.nodes.items now c.args.first first c.self.view_is c.self.invariant c.requires.replicas.0 c.index.ensures in
-    let look_b = looked_up w.directory w.opening w.sequencer w.nodes.items now c.args.second second c.self.view_is c.self.invariant c.requires.replicas.1 c.index-2.ensures in
+    let look_a = looked_up w.directory w.opening w.sequencer w.nodes.items now c.args.first first c.self.view_is c.self.invariant
+    c.requires.replicas.0 c.index.ensures in
+    let look_b = looked_up w.directory w.opening w.sequencer w.nodes.items now c.args.second second c.self.view_is c.self.invariant
+    c.requires.replicas.1 c.index-2.ensures in
     let alike : length_of first.replica.board ≡ length_of second.replica.board =
     sym c.length.ensures.value ∙ c.if-length.false ∙ c.length-2.ensures.value in
     let same = same_rows (bank_of now) c.args.first c.args.second first second c.in-Some.left.now c.in-Some-settled_columns.right.now look_a.along look_b.along
@@ -73,8 +82,10 @@ first_place-requires-clause-checking c =
     let now = c.args.self.now in
     let first = c.index.result.now in
     let second = c.index-2.result.now in
-    let look_a = looked_up w.directory w.opening w.sequencer w.nodes.items now c.args.first first c.self.view_is c.self.invariant c.requires.replicas.0 c.index.ensures in
-    let look_b = looked_up w.directory w.opening w.sequencer w.nodes.items now c.args.second second c.self.view_is c.self.invariant c.requires.replicas.1 c.index-2.ensures in
+    let look_a = looked_up w.directory w.opening w.sequencer w.nodes.items now c.args.first first c.self.view_is c.self.invariant
+    c.requires.replicas.0 c.index.ensures in
+    let look_b = looked_up w.directory w.opening w.sequencer w.nodes.items now c.args.second second c.self.view_is c.self.invariant
+    c.requires.replicas.1 c.index-2.ensures in
     let alike : length_of first.replica.board ≡ length_of second.replica.board =
     sym c.length.ensures.value ∙ c.if-length.false ∙ c.length-2.ensures.value in
     let same = same_rows (bank_of now) c.args.first c.args.second first second c.in-Some.left.now c.in-Some-settled_columns.right.now look_a.along look_b.along
@@ -88,8 +99,10 @@ returns-in-Some-first_place c one other seen_one seen_other =
     let now = c.args.self.now in
     let first = c.index.result.now in
     let second = c.index-2.result.now in
-    let look_a = looked_up w.directory w.opening w.sequencer w.nodes.items now c.args.first first c.self.view_is c.self.invariant c.requires.replicas.0 c.index.ensures in
-    let look_b = looked_up w.directory w.opening w.sequencer w.nodes.items now c.args.second second c.self.view_is c.self.invariant c.requires.replicas.1 c.index-2.ensures in
+    let look_a = looked_up w.directory w.opening w.sequencer w.nodes.items now c.args.first first c.self.view_is c.self.invariant
+    c.requires.replicas.0 c.index.ensures in
+    let look_b = looked_up w.directory w.opening w.sequencer w.nodes.items now c.args.second second c.self.view_is c.self.invariant
+    c.requires.replicas.1 c.index-2.ensures in
     let alike : length_of first.replica.board ≡ length_of second.replica.board =
     sym c.length.ensures.value ∙ c.if-length.false ∙ c.length-2.ensures.value in
     let same = same_rows (bank_of now) c.args.first c.args.second first second c.in-Some.left.now c.in-Some-settled_columns.right.now look_a.along look_b.along
@@ -102,8 +115,10 @@ books-requires-clause-few c =
     let now = c.args.self.now in
     let first = c.index.result.now in
     let second = c.index-2.result.now in
-    let look_a = looked_up w.directory w.opening w.sequencer w.nodes.items now c.args.first first c.self.view_is c.self.invariant c.requires.replicas.0 c.index.ensures in
-    let look_b = looked_up w.directory w.opening w.sequencer w.nodes.items now c.args.second second c.self.view_is c.self.invariant c.requires.replicas.1 c.index-2.ensures in
+    let look_a = looked_up w.directory w.opening w.sequencer w.nodes.items now c.args.first first c.self.view_is c.self.invariant
+    c.requires.replicas.0 c.index.ensures in
+    let look_b = looked_up w.directory w.opening w.sequencer w.nodes.items now c.args.second second c.self.view_is c.self.invariant
+    c.requires.replicas.1 c.index-2.ensures in
     let held = c.deref.ensures.value ∙ c.in_ok-replies.ensures.value in
     let size = ap length held ∙ length_replies (bank_of now) c.args.first first look_a.along c.in-Some.ensures.value.0 in
     let within = within_log (held_of (bank_of now).opening) (ops_of (bank_of now)) first.replica.board look_a.along.board in
@@ -117,8 +132,10 @@ books-requires-clause-rows c =
     let now = c.args.self.now in
     let first = c.index.result.now in
     let second = c.index-2.result.now in
-    let look_a = looked_up w.directory w.opening w.sequencer w.nodes.items now c.args.first first c.self.view_is c.self.invariant c.requires.replicas.0 c.index.ensures in
-    let look_b = looked_up w.directory w.opening w.sequencer w.nodes.items now c.args.second second c.self.view_is c.self.invariant c.requires.replicas.1 c.index-2.ensures in
+    let look_a = looked_up w.directory w.opening w.sequencer w.nodes.items now c.args.first first c.self.view_is c.self.invariant
+    c.requires.replicas.0 c.index.ensures in
+    let look_b = looked_up w.directory w.opening w.sequencer w.nodes.items now c.args.second second c.self.view_is c.self.invariant
+    c.requires.replicas.1 c.index-2.ensures in
     let held = c.deref.ensures.value ∙ c.in_ok-replies.ensures.value in
     let size = ap length held ∙ length_replies (bank_of now) c.args.first first look_a.along c.in-Some.ensures.value.0 in
     subst (λ n. IsRowsAt (bank_of now) n c.in-Some.left.now) (sym size)
@@ -130,8 +147,10 @@ books-requires-clause-replies c =
     let now = c.args.self.now in
     let first = c.index.result.now in
     let second = c.index-2.result.now in
-    let look_a = looked_up w.directory w.opening w.sequencer w.nodes.items now c.args.first first c.self.view_is c.self.invariant c.requires.replicas.0 c.index.ensures in
-    let look_b = looked_up w.directory w.opening w.sequencer w.nodes.items now c.args.second second c.self.view_is c.self.invariant c.requires.replicas.1 c.index-2.ensures in
+    let look_a = looked_up w.directory w.opening w.sequencer w.nodes.items now c.args.first first c.self.view_is c.self.invariant
+    c.requires.replicas.0 c.index.ensures in
+    let look_b = looked_up w.directory w.opening w.sequencer w.nodes.items now c.args.second second c.self.view_is c.self.invariant
+    c.requires.replicas.1 c.index-2.ensures in
     let held = c.deref.ensures.value ∙ c.in_ok-replies.ensures.value in
     let size = ap length held ∙ length_replies (bank_of now) c.args.first first look_a.along c.in-Some.ensures.value.0 in
     subst (λ replies. replies ≡ take (length replies) (replies_to (opening_rows (bank_of now)) (bank_of now).calls)) (sym held)
@@ -143,8 +162,10 @@ returns c one other seen_one seen_other =
     let now = c.args.self.now in
     let first = c.index.result.now in
     let second = c.index-2.result.now in
-    let look_a = looked_up w.directory w.opening w.sequencer w.nodes.items now c.args.first first c.self.view_is c.self.invariant c.requires.replicas.0 c.index.ensures in
-    let look_b = looked_up w.directory w.opening w.sequencer w.nodes.items now c.args.second second c.self.view_is c.self.invariant c.requires.replicas.1 c.index-2.ensures in
+    let look_a = looked_up w.directory w.opening w.sequencer w.nodes.items now c.args.first first c.self.view_is c.self.invariant
+    c.requires.replicas.0 c.index.ensures in
+    let look_b = looked_up w.directory w.opening w.sequencer w.nodes.items now c.args.second second c.self.view_is c.self.invariant
+    c.requires.replicas.1 c.index-2.ensures in
     let held = c.deref.ensures.value ∙ c.in_ok-replies.ensures.value in
     let size = ap length held ∙ length_replies (bank_of now) c.args.first first look_a.along c.in-Some.ensures.value.0 in
     let alike : length_of first.replica.board ≡ length_of second.replica.board =

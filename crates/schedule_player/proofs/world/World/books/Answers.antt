@@ -21,9 +21,11 @@ returns c =
     let bank = bank_of c.args.self.now in
     let same : SameCustomers bank.names bank.opening = subst (λ w. SameCustomers w.names w.opening) c.self.view_is c.self.invariant.customers in
     let balance = books_balance bank (length c.args.replies.now) c.args.columns.now same c.requires.rows in
-    let calls = c.deref.ensures.value ∙ c.in_ok-calls.ensures ∙ ap (λ w. take (length c.args.replies.now) (map (λ entry. entry.1) w.sequencer.log)) c.self.view_is in
+    let calls = c.deref.ensures.value ∙ c.in_ok-calls.ensures ∙ ap (λ w. take (length c.args.replies.now) (map
+    (λ entry. entry.1) w.sequencer.log)) c.self.view_is in
     let fits : FitsSigned w64 c.bank_total.result = search rules in
-    let opening = to_z-of_z w64 c.bank_total.result fits ∙ c.bank_total.ensures.value ∙ ap (λ w. total w.opening.savings +ℤ total w.opening.checking) c.self.view_is in
+    let opening = to_z-of_z w64 c.bank_total.result fits ∙ c.bank_total.ensures.value ∙ ap
+    (λ w. total w.opening.savings +ℤ total w.opening.checking) c.self.view_is in
     let right : found.result.total ≡ found.result.expected =
     found.ensures.total ∙ balance
     ∙ (λ j. sym opening j +ℤ net_sum (sym calls j) (sym c.requires.replies j))

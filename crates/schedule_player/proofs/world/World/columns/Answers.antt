@@ -12,7 +12,8 @@ pub returns-clause-idle : goal.returns-clause-idle
 returns-clause-idle c =
     let w = c.self.inside in
     let node = c.index.result.now in
-    let found = looked_up w.directory w.opening w.sequencer w.nodes.items c.args.self.now c.args.replica node c.self.view_is c.self.invariant c.requires c.index.ensures in
+    let found = looked_up w.directory w.opening w.sequencer w.nodes.items c.args.self.now c.args.replica node c.self.view_is c.self.invariant
+    c.requires c.index.ensures in
     lent_idle c.args.self.now c.args.replica node found (λ columns. IsAfterAll declared_cowns effect_of node.replica.board columns.now)
     c.settled_columns.result c.settled_columns.ensures.value
 
@@ -20,7 +21,8 @@ pub returns-clause-rows : goal.returns-clause-rows
 returns-clause-rows c =
     let w = c.self.inside in
     let node = c.index.result.now in
-    let found = looked_up w.directory w.opening w.sequencer w.nodes.items c.args.self.now c.args.replica node c.self.view_is c.self.invariant c.requires c.index.ensures in
+    let found = looked_up w.directory w.opening w.sequencer w.nodes.items c.args.self.now c.args.replica node c.self.view_is c.self.invariant
+    c.requires c.index.ensures in
     lent_rows c.args.self.now c.args.replica node found (λ columns. columns.now) c.settled_columns.result (bank_of c.args.self.now)
     c.settled_columns.ensures.value c.settled_columns.ensures.bank refl
 
@@ -28,6 +30,7 @@ pub returns-clause-by_log : goal.returns-clause-by_log
 returns-clause-by_log c names opening nodes workers events played =
     let w = c.self.inside in
     let node = c.index.result.now in
-    let found = looked_up w.directory w.opening w.sequencer w.nodes.items c.args.self.now c.args.replica node c.self.view_is c.self.invariant c.requires c.index.ensures in
+    let found = looked_up w.directory w.opening w.sequencer w.nodes.items c.args.self.now c.args.replica node c.self.view_is c.self.invariant
+    c.requires c.index.ensures in
     lent_rows c.args.self.now c.args.replica node found (λ columns. columns.now) c.settled_columns.result (bank_after names opening events)
     c.settled_columns.ensures.value c.settled_columns.ensures.bank (played_bank names opening nodes workers events c.args.self.now played)

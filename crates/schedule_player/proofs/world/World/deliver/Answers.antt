@@ -45,6 +45,7 @@ returns-clause-wanted c =
     let along = c.self.invariant.each c.args.replica c.in-Some.node.now here in
     let bank = bank_with w.directory w.opening w.sequencer.log in
     subst (λ old. OnErr c.deliver.result (FindsWork old (event.To c.args.replica c.args.place))) c.self.view_is
-    (err_so c.deliver.result (λ named. (works_at world c.args.replica (seen_node c.in-Some.node.now) (λ node. delivered_to node c.args.place) seen (comes_to bank (seen_node c.in-Some.node.now) c.args.place (numbered c.in-Some.node.now.inbound c.args.place) refl named
+    (err_so c.deliver.result (λ named. (works_at world c.args.replica (seen_node c.in-Some.node.now) (λ node. delivered_to node c.args.place) seen
+    (comes_to bank (seen_node c.in-Some.node.now) c.args.place (numbered c.in-Some.node.now.inbound c.args.place) refl named
     (λ entry found. every_numbered (IsEntryOf bank) c.in-Some.node.now.inbound c.args.place entry along.inbound found))))
     c.deliver.ensures.named)

@@ -10,7 +10,8 @@ use Rattle.schedule_player.proofs.world.World.hear.Goals as goal
 
 -- the sequencer hears the frame, and so the world moves
 heard : (c : goal.After-hear) → let w = c.self.inside in IsWorld w.directory w.opening c.hear.new.sequencer w.nodes.items
-    × (heard_from (world_of w.directory w.opening w.sequencer w.nodes.items) c.args.replica c.args.place (slice_get (map seen_node w.nodes.items) c.args.replica)
+    × (heard_from (world_of w.directory w.opening w.sequencer w.nodes.items) c.args.replica c.args.place (slice_get
+    (map seen_node w.nodes.items) c.args.replica)
     ≡ (world_of w.directory w.opening c.hear.new.sequencer w.nodes.items, c.hear.result))
 heard c =
     let w = c.self.inside in

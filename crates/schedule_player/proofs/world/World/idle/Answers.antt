@@ -6,7 +6,8 @@ pub returns : goal.returns
 returns c =
     let w = c.self.inside in
     let node = c.index.result.now in
-    let found = looked_up w.directory w.opening w.sequencer w.nodes.items c.args.self.now c.args.replica node c.self.view_is c.self.invariant c.requires c.index.ensures in (
+    let found = looked_up w.directory w.opening w.sequencer w.nodes.items c.args.self.now c.args.replica node c.self.view_is c.self.invariant
+    c.requires c.index.ensures in (
       λ idle. is_idle c.args.self.now c.args.replica node found (c.idle.ensures.value.0 idle),
       λ idle. c.idle.ensures.value.1 (was_idle c.args.self.now c.args.replica node found idle),
     )

@@ -42,4 +42,5 @@ returns-clause-wanted c =
     let here = get_here w.nodes.items c.args.replica c.in-Some.node.now c.in-Some.ensures.item.3.0 c.in-Some.ensures.value in
     let seen = node_seen w.directory w.opening w.sequencer w.nodes.items c.args.replica c.in-Some.node.now here in
     subst (λ old. OnErr c.mark.result (FindsWork old (event.Mark c.args.replica c.args.how))) c.self.view_is
-    (on_err c.mark.result (works_at world c.args.replica (seen_node c.in-Some.node.now) (λ node. marked node c.args.how) seen (marks_so (seen_node c.in-Some.node.now) c.args.how)))
+    (on_err c.mark.result (works_at world c.args.replica (seen_node c.in-Some.node.now) (λ node. marked node c.args.how) seen (marks_so
+    (seen_node c.in-Some.node.now) c.args.how)))

@@ -8,7 +8,8 @@ pub returns-clause-value : goal.returns-clause-value
 returns-clause-value c =
     let w = c.self.inside in
     let node = c.index.result.now in
-    let found = looked_up w.directory w.opening w.sequencer w.nodes.items c.args.self.now c.args.replica node c.self.view_is c.self.invariant c.requires c.index.ensures in
+    let found = looked_up w.directory w.opening w.sequencer w.nodes.items c.args.self.now c.args.replica node c.self.view_is c.self.invariant
+    c.requires c.index.ensures in
     reply_here c.args.self.now c.args.replica node found c.args.number c.reply.result c.reply.ensures.value
 
 pub returns-clause-by_log : goal.returns-clause-by_log

@@ -60,4 +60,5 @@ returns-clause-wanted c =
     let here = get_here w.nodes.items c.args.replica c.in-Some.node.now c.in-Some.ensures.item.3.0 c.in-Some.ensures.value in
     let seen = node_seen w.directory w.opening w.sequencer w.nodes.items c.args.replica c.in-Some.node.now here in
     subst (λ old. OnErr c.send_all.result (FindsWork old (event.Resend c.args.replica))) c.self.view_is
-    (on_err c.send_all.result (works_at world c.args.replica (seen_node c.in-Some.node.now) (λ node. sent_all node (resent w.sequencer c.args.replica)) seen refl))
+    (on_err c.send_all.result (works_at world c.args.replica (seen_node c.in-Some.node.now) (λ node. sent_all node
+    (resent w.sequencer c.args.replica)) seen refl))

@@ -63,4 +63,6 @@ returns-clause-wanted c =
     let here = get_here w.nodes.items c.args.replica c.in-Some-get_mut.node.now c.in-Some-get_mut.ensures.item.3.0 c.in-Some-get_mut.ensures.value in
     let seen = node_seen w.directory w.opening w.sequencer w.nodes.items c.args.replica c.in-Some-get_mut.node.now here in
     subst (λ old. OnErr c.send.result (FindsWork old (event.Send c.args.replica c.args.number))) c.self.view_is
-    (on_err c.send.result (works_at world c.args.replica (seen_node c.in-Some-get_mut.node.now) (λ node. sent node (entry_of w.sequencer.log c.args.number)) seen (sends (seen_node c.in-Some-get_mut.node.now) (entry_of w.sequencer.log c.args.number) (is_there (entry_of w.sequencer.log c.args.number) c.in-Some.entry (sym c.in-Some.ensures)))))
+    (on_err c.send.result (works_at world c.args.replica (seen_node c.in-Some-get_mut.node.now) (λ node. sent node
+    (entry_of w.sequencer.log c.args.number)) seen (sends (seen_node c.in-Some-get_mut.node.now) (entry_of w.sequencer.log c.args.number) (is_there
+    (entry_of w.sequencer.log c.args.number) c.in-Some.entry (sym c.in-Some.ensures)))))
