@@ -1,11 +1,11 @@
 -- Lists by cown, of which some change one after another.
-use Rattle.std.proofs.Common.{◌≡◌, ℕ, zero, suc, ◌+◌, ◌<◌, ◌≤◌, Bool, true, false, ◌||◌, if◌then◌else◌, ◌==◌, List, [], ◌∷◌, ◌++◌, length, get_or, set, take, drop, refl, sym, ap, ◌∙◌, arith, get_or-set_other}
-use Rattle.std.proofs.lemmas.Bool.{cond-false, eqb-true, eqb-false, ne_eqb, or_from}
+use Rattle.std.proofs.Common.{◌≡◌, ◌≢◌, ℕ, zero, suc, ◌+◌, ◌<◌, ◌≤◌, Bool, true, false, ◌||◌, if◌then◌else◌, ◌==◌, List, [], ◌∷◌, ◌++◌, length, get_or, set, take, drop, inl, inr, refl, sym, ap, ◌∙◌, arith, get_or-set_other}
+use Rattle.std.proofs.lemmas.Bool.{cond-false, eqb-true, eqb-false, false≢true, ne_eqb, or_cases, or_from, or_right}
 use Rattle.std.proofs.lemmas.Grind.{get_or-set_at}
 use Rattle.std.proofs.lemmas.List.{drop_all, drop_more, length-set, take_more}
 use Rattle.sb_calls.specs.Cowns.{AreBelow, IsRising}
 use Rattle.sb_calls.specs.OneByOne.{is_among}
-use Rattle.cown_queue.specs.Queues.{list_of, Appends, Releases}
+use Rattle.cown_queue.specs.Queues.{list_of, Appends, IsInFront, Releases}
 
 -- the lists after a change at each of these cowns in turn
 abbrev pub changed : (List ℕ → List ℕ) → List ℕ → List (List ℕ) → List (List ℕ)
@@ -106,3 +106,21 @@ Releases-changed cowns done old new rising l e =
       cowns_stay = ap length all ∙ length-changed (drop 1) cowns old;
       each = λ cown below. ap (λ lists. list_of lists cown) all ∙ list_of-changed (drop 1) cowns old cown rising below;
     }
+
+-- where a number is in front there is one
+pub IsInFront-held : (number : ℕ) (cowns : List ℕ) (lists : List (List ℕ)) → IsInFront number cowns lists → (cown : ℕ)
+    → is_among cown cowns ≡ true → 0 < length (list_of lists cown)
+IsInFront-held number [] lists front cown among = absurd (false≢true among)
+IsInFront-held number (first ∷ cowns) lists front cown among = elim (or_cases (cown == first) (is_among cown cowns) among) [
+  | inl same ↦ let at = ap (list_of lists) (eqb-true cown first same) in omega (arith, ap length at, ap length front.0.1)
+  | inr more ↦ IsInFront-held number cowns lists front.1 cown more
+]
+
+-- a change at the first of rising cowns leaves the others what they hold
+pub held-rest : (first : ℕ) (cowns : List ℕ) (lists : List (List ℕ)) (put : List ℕ) → IsRising (first ∷ cowns)
+    → ((cown : ℕ) → is_among cown (first ∷ cowns) ≡ true → 0 < length (list_of lists cown)) → (cown : ℕ) → is_among cown cowns ≡ true
+    → 0 < length (list_of (set lists first put) cown)
+held-rest first cowns lists put rising held cown among =
+    let apart : cown ≢ first = λ same.
+    false≢true (sym (is_among-rising first cowns cown rising (omega (arith, same))) ∙ among) in
+    omega (arith, ap length (get_or-set_other lists first cown put [] apart), held cown (or_right (cown == first) (is_among cown cowns) among))

@@ -1,2 +1,4 @@
+pub mod Chains
 pub mod Changes
-pub mod Rooms
+pub mod Linked
+pub mod TicketSteps

@@ -1,11 +1,17 @@
 -- The numbers that wait at each cown.
-use Rattle.std.specs.Prelude.{◌≡◌, ℕ, ◌<◌, if◌then◌else◌, List, [], ◌∷◌, ◌++◌, length, get_or, drop, slice_get, filter_map}
+use Rattle.std.specs.Prelude.{◌≡◌, ℕ, ◌<◌, if◌then◌else◌, List, [], ◌∷◌, ◌++◌, length, map, sum, get_or, drop, slice_get, filter_map}
 use Rattle.sb_calls.specs.OneByOne.{is_among}
 
--- a list of numbers for each cown, the first one first, and the cowns at which there is room for one more
+-- a list of numbers for each cown, the first one first; the cowns at which there is room for one more; and how
+-- many tickets there are places for
 pub record CownQueues : Type 0 where
   pub lists : List (List ℕ)
   pub reserved : List ℕ
+  pub places : ℕ
+
+-- how many numbers all lists hold together
+abbrev pub held_in : List (List ℕ) → ℕ
+held_in lists = sum (map length lists)
 
 -- the list of a cown
 abbrev pub list_of : List (List ℕ) → ℕ → List ℕ

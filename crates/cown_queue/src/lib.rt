@@ -1,9 +1,9 @@
 //! The numbers that wait at each cown.
 #![tactic(auto)]
 
-mod lists;
 mod queues;
 #[cfg(test)]
 mod tests;
+mod tickets;
 
 pub use queues::Queues;

@@ -1,42 +1,46 @@
 //! A queue for each cown.
-ghost use Rattle.std.specs.Prelude.{◌≡◌, ◌≤◌, ◌<◌, ℕ, [], length, replicate, slice_get, vec_capacity, IfOk, OnOk, OnErr};
+ghost use Rattle.std.specs.Prelude.{◌≡◌, ◌≤◌, ◌<◌, ◌+◌, ℕ, [], max, length, replicate, slice_get, vec_capacity, IsTrue, IfOk, OnOk, OnErr};
 ghost use Rattle.sb_calls.specs.Cowns.{AreBelow, IsRising};
-ghost use Rattle.cown_queue.specs.Queues.{CownQueues, list_of, fronts_of, Appends, IsInFront, Releases};
+ghost use Rattle.sb_calls.specs.OneByOne.{is_among};
+ghost use Rattle.cown_queue.specs.Queues.{CownQueues, held_in, list_of, fronts_of, Appends, IsInFront, Releases};
 
-use crate::lists::{empty_lists, front_at, fronts_at, pop_each, push_each, reserve_each};
+use crate::tickets::Tickets;
 use arrayvec::ArrayVec;
 use sb_calls::Cown;
 use std::alloc::{AllocError, Global};
-use std::collections::VecDeque;
 use std::marker::Model;
 
 /// For each cown the numbers of the behaviours that declare it, the one that was spawned first in front.
 #[derive(Drop)]
 pub struct Queues {
-    lists: Vec<VecDeque<u64>>,
-    // The cowns whose lists have room for one number more, if they are there.
+    tickets: Tickets,
+    // The cowns that have room for one number more, if they are there: as many places are free.
     reserved: Vec<Cown>,
 }
 
 impl Model for Queues {
-    ghost use Rattle.std.specs.Prelude.{map};
+    ghost use Rattle.std.specs.Prelude.{◌≤◌, length};
     ghost use Rattle.cown_queue.specs.Queues.{CownQueues};
-    ghost use Rattle.cown_queue.specs.Rooms.{rooms_of, HaveRoomWithin};
 
     ghost Value = { CownQueues };
 
-    ghost view = { λ q. record { lists = map (λ d. d.items) q.lists.items; reserved = q.reserved.items } };
+    ghost view = { λ q. record {
+      lists = q.tickets.lists;
+      reserved = q.reserved.items;
+      places = q.tickets.places;
+    } };
 
-    ghost invariant = { λ q. HaveRoomWithin (rooms_of q.lists.items) q.reserved.items };
+    ghost invariant = { λ q. length q.reserved.items ≤ q.tickets.free };
 }
 
 impl Queues {
     /// An empty queue for each of this many cowns, numbered from 0.
     pub fn open(alloc: Global, cowns: usize) -> Result<Queues, AllocError>
-        ensures { IfOk result (λ queues. queues ≡ record { lists = replicate cowns []; reserved = [] }) }
+        ensures { IfOk result
+            (λ queues. queues ≡ record { lists = replicate cowns []; reserved = []; places = 0 }) }
     {
         Ok(Queues {
-            lists: empty_lists(alloc, cowns)?,
+            tickets: Tickets::open(alloc, cowns)?,
             reserved: Vec::new(alloc),
         })
     }
@@ -45,19 +49,30 @@ impl Queues {
     pub fn cowns(&self) -> usize
         ensures { result ≡ length self.now.lists }
     {
-        self.lists.len()
+        self.tickets.cowns()
+    }
+
+    /// How many tickets there are places for: one for each number, and one for each reserved cown.
+    pub fn places(&self) -> usize
+        ensures value { result ≡ self.now.places }
+        ensures enough { held_in self.now.lists + length self.now.reserved ≤ self.now.places }
+    {
+        self.tickets.places()
     }
 
     /// Makes room for one number more at these cowns; before, other cowns may have had it. Where memory is
-    /// refused nothing changes.
+    /// refused, or a place would no longer fit a `u32`, nothing changes.
     ///
-    /// It allocates only where a list or the reserved cowns outgrow the memory that they have.
+    /// It allocates only where the tickets or the reserved cowns outgrow the memory that they have.
     pub fn reserve(&mut self, cowns: &[Cown]) -> Result<(), AllocError>
-        ensures ok { OnOk result (self.new ≡ record self.old { reserved = cowns.now }) }
+        ensures ok { OnOk result (self.new ≡ record self.old {
+          reserved = cowns.now;
+          places = max self.old.places (held_in self.old.lists + length cowns.now);
+        }) }
         ensures err { OnErr result (self.new ≡ self.old) }
     {
         self.reserved.reserve(cowns.len())?;
-        reserve_each(&mut self.lists, cowns)?;
+        self.tickets.grow(cowns.len())?;
         keep(&mut self.reserved, cowns);
         Ok(())
     }
@@ -70,8 +85,9 @@ impl Queues {
         requires cowns { AreBelow (length self.old.lists) cowns.now }
         ensures lists { Appends number cowns.now self.old.lists self.new.lists }
         ensures reserved { self.new.reserved ≡ [] }
+        ensures places { self.new.places ≡ self.old.places }
     {
-        push_each(&mut self.lists, number, cowns);
+        push_each(&mut self.tickets, number, cowns);
         self.reserved.clear();
     }
 
@@ -83,17 +99,18 @@ impl Queues {
         requires front { IsInFront number cowns.now self.old.lists }
         ensures lists { Releases cowns.now self.old.lists self.new.lists }
         ensures reserved { self.new.reserved ≡ self.old.reserved }
+        ensures places { self.new.places ≡ self.old.places }
         ensures fronts { result.items ≡ fronts_of self.new.lists cowns.now }
     {
-        pop_each(&mut self.lists, cowns);
-        fronts_at(&self.lists, cowns)
+        pop_each(&mut self.tickets, cowns);
+        fronts_at(&self.tickets, cowns)
     }
 
     /// The number in front at a cown, if it holds one. A cown that isn't there holds none.
     pub fn front(&self, cown: Cown) -> Option<u64>
         ensures { result ≡ slice_get (list_of self.now.lists cown) 0 }
     {
-        front_at(&self.lists, cown)
+        self.tickets.front(cown)
     }
 }
 
@@ -107,4 +124,45 @@ fn keep(kept: &mut Vec<Cown>, cowns: &[Cown])
     for cown in cowns {
         kept.push_reserved(*cown);
     }
+}
+
+// Puts a number last at each of these cowns.
+fn push_each(tickets: &mut Tickets, number: u64, cowns: &[Cown])
+    requires rising { IsRising cowns.now }
+    requires cowns { AreBelow (length tickets.old.lists) cowns.now }
+    requires free { length cowns.now ≤ tickets.old.free }
+    ensures lists { Appends number cowns.now tickets.old.lists tickets.new.lists }
+    ensures places { tickets.new.places ≡ tickets.old.places }
+{
+    for cown in cowns {
+        tickets.push(*cown, number);
+    }
+}
+
+// Takes the first number of each of these cowns away.
+fn pop_each(tickets: &mut Tickets, cowns: &[Cown])
+    requires rising { IsRising cowns.now }
+    requires held { (cown : ℕ) → IsTrue (is_among cown cowns.now) →
+        0 < length (list_of tickets.old.lists cown) }
+    ensures lists { Releases cowns.now tickets.old.lists tickets.new.lists }
+    ensures free { tickets.old.free ≤ tickets.new.free }
+    ensures places { tickets.new.places ≡ tickets.old.places }
+{
+    for cown in cowns {
+        tickets.pop(*cown);
+    }
+}
+
+// The first numbers of those of these cowns that hold one, in order.
+fn fronts_at(tickets: &Tickets, cowns: &[Cown]) -> ArrayVec<u64, 3>
+    requires { length cowns.now ≤ 3 }
+    ensures { result.items ≡ fronts_of tickets.now.lists cowns.now }
+{
+    let mut fronts = ArrayVec::new();
+    for cown in cowns {
+        if let Some(number) = tickets.front(*cown) {
+            fronts.push(number);
+        }
+    }
+    fronts
 }

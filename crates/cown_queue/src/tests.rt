@@ -164,6 +164,38 @@ fn a_cown_that_is_not_there_holds_nothing(rt: HostRuntime) -> Result<(), Fail> {
     Ok(())
 }
 
+#[test]
+fn places_are_made_where_too_few_are_free(rt: HostRuntime) -> Result<(), Fail> {
+    let (a, b, c) = (Cown::new(0), Cown::new(1), Cown::new(2));
+    let mut queues = Queues::open(rt.alloc(), 3)?;
+    assert_eq!(rt; queues.places(), 0);
+    queues.reserve(&[a, c])?;
+    assert_eq!(rt; queues.places(), 2);
+    // These need no more.
+    queues.reserve(&[])?;
+    queues.reserve(&[b, c])?;
+    assert_eq!(rt; queues.places(), 2);
+    spawn(&rt, &mut queues, 1, &[a, b])?;
+    assert_eq!(rt; queues.places(), 2);
+    spawn(&rt, &mut queues, 2, &[b])?;
+    assert_eq!(rt; queues.places(), 3);
+    assert_eq!(rt;
+        finish(&rt, &mut queues, 1, &[a, b]).as_slice(),
+        [2].as_slice()
+    );
+    assert_eq!(rt; queues.places(), 3);
+    spawn(&rt, &mut queues, 3, &[b, c])?;
+    assert_eq!(rt; queues.places(), 3);
+    // Each cown counts, one that isn't there too.
+    queues.reserve(&[b, b, Cown::new(usize::MAX)])?;
+    assert_eq!(rt; queues.places(), 6);
+    assert_eq!(rt;
+        finish(&rt, &mut queues, 2, &[b]).as_slice(),
+        [3].as_slice()
+    );
+    Ok(())
+}
+
 // As many as the greatest bank has.
 #[test]
 fn each_of_131072_cowns_has_a_queue(rt: HostRuntime) -> Result<(), Fail> {
@@ -268,5 +300,7 @@ fn fronts_are_those_of_plain_lists(rt: HostRuntime) -> Result<(), Fail> {
             );
         }
     }
+    // No more than a hundred ever waited, each at three cowns or fewer.
+    assert!(rt; queues.places() <= 300);
     Ok(())
 }

@@ -1,0 +1,76 @@
+-- Tickets in one table: those of a cown are a chain, in which each has the place of the next.
+use Rattle.std.specs.Prelude.{◌≡◌, ℕ, zero, suc, ◌+◌, ◌<◌, ◌≤◌, ◌==◌, nat_lt, if◌then◌else◌, List, [], ◌∷◌, length, map, get_or, sum_by, count_by}
+use Rattle.cown_queue.specs.Queues.{list_of, held_in}
+use Rattle.cown_queue.specs.declared.tickets.Ends.{Ends}
+use Rattle.cown_queue.specs.declared.tickets.TheConstants.{NONE}
+use Rattle.cown_queue.specs.declared.tickets.Ticket.{Ticket}
+
+-- ---- what is seen of the tickets
+
+-- a list of numbers for each cown, how many places are free, and how many there are
+pub record TicketLists : Type 0 where
+  pub lists : List (List ℕ)
+  pub free : ℕ
+  pub places : ℕ
+
+-- the ticket at a place
+abbrev pub ticket_at : List Ticket → ℕ → Ticket
+ticket_at table place = get_or table place (record { number = 0; next = NONE })
+
+-- the first and the last ticket of a cown
+abbrev pub ends_at : List Ends → ℕ → Ends
+ends_at ends cown = get_or ends cown (record { first = NONE; last = NONE })
+
+-- the numbers of the tickets from a place on, in at most so many steps
+abbrev pub numbers_from : List Ticket → ℕ → ℕ → List ℕ
+numbers_from table zero place = []
+numbers_from table (suc steps) place =
+    if nat_lt place (length table)
+    then (ticket_at table place).number ∷ numbers_from table steps (ticket_at table place).next else []
+
+-- the numbers at each cown, from its first ticket on
+abbrev pub lists_of : List Ticket → List Ends → List (List ℕ)
+lists_of table ends = map (λ e. numbers_from table (length table) e.first) ends
+
+-- ---- what always holds of them
+
+-- the chain from a place on: the places of its tickets, and their numbers
+abbrev pub IsChain : List Ticket → ℕ → List ℕ → List ℕ → Type 0
+IsChain table first [] [] = first ≡ NONE
+IsChain table first [] (number ∷ numbers) = ⊥
+IsChain table first (place ∷ places) [] = ⊥
+IsChain table first (place ∷ places) (number ∷ numbers) =
+    (first ≡ place) × (place < length table) × ((ticket_at table place).number ≡ number)
+    × IsChain table (ticket_at table place).next places numbers
+
+-- the last of these places, or another one where there are none
+abbrev pub last_or : ℕ → List ℕ → ℕ
+last_or other [] = other
+last_or other (place ∷ places) = last_or place places
+
+-- how often a place is among these
+abbrev pub times : ℕ → List ℕ → ℕ
+times place places = count_by (λ other. other == place) places
+
+-- a cown has the first ticket of its chain, and the last
+pub record IsQueue (table : List Ticket) (ends : Ends) (places numbers : List ℕ) : Type 0 where
+  pub chain : IsChain table ends.first places numbers
+  pub last : ends.last ≡ last_or NONE places
+
+-- the tickets of each cown have the numbers of its list
+pub record AreLinked (table : List Ticket) (ends : List Ends) (free : List ℕ) (lists : List (List ℕ)) : Type 0 where
+  -- the places of each cown's tickets, the first one first
+  pub chains : List (List ℕ)
+  pub as_many_lists : length lists ≡ length ends
+  pub as_many_chains : length chains ≡ length ends
+  pub each : (cown : ℕ) → IsQueue table (ends_at ends cown) (list_of chains cown) (list_of lists cown)
+  -- each place is in one chain, once, or it is free
+  pub once : (place : ℕ)
+      → sum_by (times place) chains + times place free ≡ (if nat_lt place (length table) then 1 else 0)
+  pub all : held_in lists + length free ≡ length table
+
+-- they are linked, no place is that of no ticket, and the list of free places takes all of them without memory
+pub record AreTickets (table : List Ticket) (ends : List Ends) (free : List ℕ) (capacity : ℕ) : Type 0 where
+  pub linked : AreLinked table ends free (lists_of table ends)
+  pub fits : length table ≤ NONE
+  pub room : length table ≤ capacity

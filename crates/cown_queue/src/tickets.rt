@@ -1,0 +1,184 @@
+//! Tickets for the numbers that wait, in one table for all cowns.
+ghost use Rattle.std.specs.Prelude.{◌≡◌, ◌+◌, ◌<◌, [], ◌∷◌, ◌++◌, max, drop, length, replicate, slice_get, slice_set, IfOk, OnOk, OnErr};
+ghost use Rattle.cown_queue.specs.Queues.{list_of, held_in};
+
+use sb_calls::Cown;
+use std::alloc::{AllocError, Global};
+use std::marker::Model;
+use std::mem::size_of;
+
+// The place of no ticket.
+const NONE: u32 = u32::MAX;
+
+// A number that waits at a cown, and the place of the ticket behind it.
+#[derive(Clone, Copy)]
+struct Ticket {
+    number: u64,
+    next: u32,
+}
+
+// The places of a cown's first ticket and of its last.
+#[derive(Clone, Copy)]
+struct Ends {
+    first: u32,
+    last: u32,
+}
+
+const _: () = prove!(size_of::<Ticket>() == 16);
+
+const _: () = prove!(size_of::<Ends>() == 8);
+
+/// A ticket for each number that waits at a cown. Those of one cown are a chain: each has the place of the next.
+#[derive(Drop)]
+pub(crate) struct Tickets {
+    table: Vec<Ticket>,
+    // Those of each cown, so that an idle one takes no more.
+    ends: Vec<Ends>,
+    // The places of the table that no chain has. It takes all of them without memory.
+    free: Vec<u32>,
+}
+
+impl Model for Tickets {
+    ghost use Rattle.std.specs.Prelude.{length, vec_capacity};
+    ghost use Rattle.cown_queue.specs.Chains.{TicketLists, lists_of, AreTickets};
+
+    ghost Value = { TicketLists };
+
+    ghost view = { λ t. record {
+      lists = lists_of t.table.items t.ends.items;
+      free = length t.free.items;
+      places = length t.table.items;
+    } };
+
+    ghost invariant = { λ t. AreTickets t.table.items t.ends.items t.free.items (vec_capacity t.free) };
+}
+
+impl Tickets {
+    /// No tickets at this many cowns.
+    pub(crate) fn open(alloc: Global, cowns: usize) -> Result<Tickets, AllocError>
+        ensures { IfOk result
+            (λ tickets. tickets ≡ record { lists = replicate cowns []; free = 0; places = 0 }) }
+    {
+        let mut ends = Vec::with_capacity(alloc, cowns)?;
+        ends.resize(
+            cowns,
+            Ends {
+                first: NONE,
+                last: NONE,
+            },
+        )?;
+        Ok(Tickets {
+            table: Vec::new(alloc),
+            ends,
+            free: Vec::new(alloc),
+        })
+    }
+
+    /// How many cowns there are.
+    pub(crate) fn cowns(&self) -> usize
+        ensures { result ≡ length self.now.lists }
+    {
+        self.ends.len()
+    }
+
+    /// How many places there are: those of the tickets, and the free ones.
+    pub(crate) fn places(&self) -> usize
+        ensures value { result ≡ self.now.places }
+        ensures all { held_in self.now.lists + self.now.free ≡ self.now.places }
+    {
+        self.table.len()
+    }
+
+    /// Makes places until this many are free. Where memory is refused, or a place would be too great a number,
+    /// nothing changes.
+    pub(crate) fn grow(&mut self, wanted: usize) -> Result<(), AllocError>
+        ensures lists { self.new.lists ≡ self.old.lists }
+        ensures free { OnOk result (self.new.free ≡ max self.old.free wanted) }
+        ensures places { OnOk result
+            (self.new.places ≡ max self.old.places (held_in self.old.lists + wanted)) }
+        ensures err { OnErr result (self.new ≡ self.old) }
+    {
+        let free = self.free.len();
+        if wanted <= free {
+            return Ok(());
+        }
+        self.add_places(wanted - free)
+    }
+
+    // Adds this many free places, or none.
+    #[cold]
+    fn add_places(&mut self, count: usize) -> Result<(), AllocError>
+        ensures lists { self.new.lists ≡ self.old.lists }
+        ensures free { OnOk result (self.new.free ≡ self.old.free + count) }
+        ensures places { OnOk result (self.new.places ≡ self.old.places + count) }
+        ensures err { OnErr result (self.new ≡ self.old) }
+    {
+        let places = self.table.len();
+        if count > NONE as usize - places {
+            return Err(AllocError);
+        }
+        self.table.reserve(count)?;
+        self.free.reserve(places + count - self.free.len())?;
+        for place in places..places + count {
+            self.table.push_reserved(Ticket {
+                number: 0,
+                next: NONE,
+            });
+            self.free.push_reserved(place as u32);
+        }
+        Ok(())
+    }
+
+    /// Puts a number last at a cown. Its ticket takes a free place.
+    pub(crate) fn push(&mut self, cown: Cown, number: u64)
+        requires cown { cown < length self.old.lists }
+        requires free { 0 < self.old.free }
+        ensures lists { self.new.lists
+            ≡ slice_set self.old.lists cown (list_of self.old.lists cown ++ number ∷ []) }
+        ensures free { self.new.free + 1 ≡ self.old.free }
+        ensures places { self.new.places ≡ self.old.places }
+    {
+        let ends = self.ends[cown.number()];
+        let place = self.free.take_last();
+        self.table[place as usize] = Ticket { number, next: NONE };
+        if ends.last == NONE {
+            self.ends[cown.number()] = Ends {
+                first: place,
+                last: place,
+            };
+        } else {
+            let before = self.table[ends.last as usize].number;
+            self.table[ends.last as usize] = Ticket {
+                number: before,
+                next: place,
+            };
+            self.ends[cown.number()] = Ends {
+                first: ends.first,
+                last: place,
+            };
+        }
+    }
+
+    /// Takes the first number of a cown away. The place of its ticket is free again.
+    pub(crate) fn pop(&mut self, cown: Cown)
+        requires { 0 < length (list_of self.old.lists cown) }
+        ensures lists { self.new.lists
+            ≡ slice_set self.old.lists cown (drop 1 (list_of self.old.lists cown)) }
+        ensures free { self.new.free ≡ self.old.free + 1 }
+        ensures places { self.new.places ≡ self.old.places }
+    {
+        let ends = self.ends[cown.number()];
+        let next = self.table[ends.first as usize].next;
+        let last = if next == NONE { NONE } else { ends.last };
+        self.ends[cown.number()] = Ends { first: next, last };
+        self.free.push_reserved(ends.first);
+    }
+
+    /// The first number at a cown. A cown that isn't there has none.
+    pub(crate) fn front(&self, cown: Cown) -> Option<u64>
+        ensures { result ≡ slice_get (list_of self.now.lists cown) 0 }
+    {
+        let first = self.ends.get(cown.number())?.first;
+        Some(self.table.get(first as usize)?.number)
+    }
+}
