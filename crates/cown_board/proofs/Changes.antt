@@ -1,136 +1,163 @@
 -- What a board keeps, at each change of it.
-use Rattle.std.proofs.Common.{◌≡◌, inl, inr, ℕ, suc, ◌+◌, ◌-◌, ◌<◌, ◌≤◌, ℤ, true, false, Some, List, [], ◌∷◌, ◌++◌, length, length-append, refl, sym, ap, subst, ◌∙◌, arith}
-use Rattle.std.specs.Prelude.{if◌then◌else◌, slice_get, slice_set, remove}
-use Rattle.std.proofs.lemmas.Bool.{cases_eq}
+use Rattle.std.proofs.Common.{◌≡◌, ℕ, suc, ◌+◌, ◌-◌, ◌<◌, ◌≤◌, ℤ, true, false, Some, List, [], ◌∷◌, ◌++◌, length, length-append, get_or, refl, ap, subst, ◌∙◌, arith}
+use Rattle.std.specs.Prelude.{◌==◌, if◌then◌else◌, All, count_by, slice_get, slice_set, remove}
+use Rattle.std.proofs.lemmas.Bool.{and_parts}
 use Rattle.std.proofs.lemmas.Option.{slice_get_within}
 use Rattle.sb_rows.specs.Balances.{Balances}
-use Rattle.sb_calls.specs.Cowns.{AreBelow, held_of, write_cowns}
-use Rattle.sb_calls.specs.OneByOne.{inputs_of, held_after_first, reply_of}
+use Rattle.sb_calls.specs.Cowns.{AreBelow, IsRising, held_of, write_cowns}
+use Rattle.sb_calls.specs.OneByOne.{is_among, inputs_of, held_after_first, reply_of}
 use Rattle.sb_calls.specs.declared.call.TheConstants.{LOG_CALLS}
 use Rattle.sb_calls.specs.declared.reply.Reply.{Reply}
-use Rattle.cown_queue.specs.Queues.{Appends, Releases}
+use Rattle.cown_queue.specs.Queues.{Appends, Releases, fronts_of, list_of}
+use Rattle.cown_board.proofs.Behind.{counts_submitted, counts_taken, counts_finished, fronts_counted, fronts_wait}
 use Rattle.cown_board.proofs.CownLists.{below_among}
-use Rattle.cown_board.proofs.Counts.{count-append, count-set, count_some}
+use Rattle.cown_board.proofs.Counts.{count-append, count-set, count_some, few_places}
 use Rattle.cown_board.proofs.Finishing.{keeps_finished, clear_of_out}
-use Rattle.cown_board.proofs.PlacesLaws.{places-agree, places-remove, but, but_other, but_same}
-use Rattle.cown_board.proofs.Queued.{queues_submitted, queues_taken, queues_finished}
-use Rattle.cown_board.proofs.States.{state-append, state-last, state-set_same, state-set_other, state_here}
+use Rattle.cown_board.proofs.Queued.{first_queued, queues_submitted, queues_taken, queues_finished}
+use Rattle.cown_board.proofs.States.{state_here, waiting_is_open}
 use Rattle.cown_board.proofs.Submitting.{keeps_submitted}
 use Rattle.cown_board.proofs.Taking.{keeps_taken}
-use Rattle.cown_board.specs.Invariant.{BoardInside, IsBoard, open_at, waiting_at}
-use Rattle.cown_board.specs.Places.{places}
-use Rattle.cown_board.specs.Readiness.{conflict_at}
-use Rattle.cown_board.specs.State.{is_open, is_waiting}
+use Rattle.cown_board.specs.Due.{AreDue, is_due, times}
+use Rattle.cown_board.specs.Fronts.{is_held}
+use Rattle.cown_board.specs.Invariant.{BoardInside, IsBoard, QueuesAre, open_at, touches_at, waiting_at}
+use Rattle.cown_board.specs.Readiness.{conflict_at, touched_by}
+use Rattle.cown_board.specs.State.{is_open}
 use Rattle.cown_board.specs.declared.board.TheConstants.{OPEN_BEHAVIOURS}
 use Rattle.cown_board.specs.declared.state.State.{State}
 use Rattle.cown_board.specs.declared.state.State.TheVariants.{Waiting, Out, Finished}
 
--- the places of the waiting ones, where one more waits
-waiting_submitted : (states : List State)
-    → places (waiting_at (states ++ Waiting ∷ [])) (suc (length states)) ≡ places (waiting_at states) (length states) ++ length states ∷ []
-waiting_submitted states =
-    ap (λ t. t ++ (if waiting_at (states ++ Waiting ∷ []) (length states) then length states ∷ [] else []))
-    (places-agree (waiting_at (states ++ Waiting ∷ [])) (waiting_at states) (length states) (λ j lt. state-append is_waiting states Waiting j lt))
-    ∙ ap (λ b. places (waiting_at states) (length states) ++ (if b then length states ∷ [] else [])) (state-last is_waiting states Waiting (length states) refl)
-
--- where one of them is handed out
-waiting_taken : (states : List State) (m p k : ℕ) → m ≤ length states → slice_get (places (waiting_at states) m) p ≡ Some k → k < length states
-    → places (waiting_at (slice_set states k Out)) m ≡ remove (places (waiting_at states) m) p
-waiting_taken states m p k le here lt =
-    places-agree (waiting_at (slice_set states k Out)) (but (waiting_at states) k) m (λ j _. elim (cases_eq j k) [
-      | inl same ↦ ap (waiting_at (slice_set states k Out)) same ∙ state-set_same is_waiting states k Out lt ∙ sym (but_same (waiting_at states) k j same)
-      | inr differs ↦ state-set_other is_waiting states k j Out differs ∙ sym (but_other (waiting_at states) k j differs)
-    ])
-    ∙ places-remove (waiting_at states) m p k here
-
--- where one that is out is finished
-waiting_finished : (states : List State) (m k : ℕ) (reply : Reply) → slice_get states k ≡ Some Out
-    → places (waiting_at (slice_set states k (Finished reply))) m ≡ places (waiting_at states) m
-waiting_finished states m k reply out =
-    places-agree (waiting_at (slice_set states k (Finished reply))) (waiting_at states) m (λ j _. elim (cases_eq j k) [
-      | inl same ↦
-          ap (waiting_at (slice_set states k (Finished reply))) same ∙ state-set_same is_waiting states k (Finished reply) (slice_get_within states k Out out)
-          ∙ sym (ap (waiting_at states) same ∙ state_here is_waiting states k Out out)
-      | inr differs ↦ state-set_other is_waiting states k j (Finished reply) differs
-    ])
-
 module _ {B : Type 0} (touches : B → List ℕ) (effect : B → List ℤ → Reply × List ℤ)
     {inside : BoardInside B} (board : IsBoard touches effect inside) where
-  pub IsBoard-submitted : (b : B) (new : List (List ℕ)) → AreBelow (length (held_of inside.opening)) (touches b)
-      → Appends (length inside.log) (touches b) inside.lists new
-      → inside.unfinished < OPEN_BEHAVIOURS → inside.base + length inside.log < LOG_CALLS
+  pub IsBoard-submitted : (b : B) (new : List (List ℕ)) (m room : ℕ) → AreBelow (length (held_of inside.opening)) (touches b)
+      → Appends (length inside.log) (touches b) inside.lists new → m ≡ count_by (is_held inside.lists) (touches b)
+      → inside.unfinished < OPEN_BEHAVIOURS → inside.base + length inside.log < LOG_CALLS → inside.unfinished + 1 + 3 ≤ room
       → IsBoard touches effect (record inside {
         log = inside.log ++ b ∷ [];
         states = inside.states ++ Waiting ∷ [];
         lists = new;
-        waiting = inside.waiting ++ length inside.log ∷ [];
+        behind = inside.behind ++ m ∷ [];
+        ready = if m == 0 then inside.ready ++ length inside.log ∷ [] else inside.ready;
+        room = room;
         unfinished = inside.unfinished + 1;
       })
-  IsBoard-submitted b new below appended few room =
+  IsBoard-submitted b new m room below appended held few more wide =
       let longer : length (inside.log ++ b ∷ []) ≡ suc (length inside.log) = length-append inside.log (b ∷ []) ∙ omega arith in
       let same : length inside.log ≡ length inside.states = board.keeps.beside in
+      let fits = λ (cown : ℕ) (among : is_among cown (touches b) ≡ true). below_among (length (held_of inside.opening)) (touches b) cown below among in
       record {
         based = board.based;
-        keeps = keeps_submitted touches effect board.keeps b (λ cown among. below_among (length (held_of inside.opening)) (touches b) cown below among);
+        keeps = keeps_submitted touches effect board.keeps b fits;
         queues = queues_submitted touches effect inside.log inside.states b inside.lists new (length (held_of inside.opening)) same board.queues appended;
-        rest = ap (λ w. w ++ length inside.log ∷ []) (board.rest ∙ ap (places (waiting_at inside.states)) same)
-            ∙ ap (λ n. places (waiting_at inside.states) (length inside.states) ++ n ∷ []) same
-            ∙ sym (ap (places (waiting_at (inside.states ++ Waiting ∷ []))) (longer ∙ ap suc same) ∙ waiting_submitted inside.states);
+        counts = counts_submitted touches effect inside.log inside.states b inside.lists new (length (held_of inside.opening)) same board.queues appended
+            board.keeps.in_range fits inside.behind inside.ready m held board.counts;
+        room = λ _. wide;
         unfinished = let count = count-append inside.states Waiting in omega (arith, count, board.unfinished);
         few_open = omega (arith, few);
-        few_numbers = omega (arith, room, longer, board.based);
+        few_numbers = omega (arith, more, longer, board.based);
       }
 
-  pub IsBoard-taken : (p k : ℕ) → slice_get inside.waiting p ≡ Some k → slice_get inside.states k ≡ Some Waiting
+  pub IsBoard-taken : (index k : ℕ) → slice_get inside.ready index ≡ Some k → slice_get inside.states k ≡ Some Waiting
       → ((j : ℕ) → j < k → conflict_at touches inside.log j k ≡ true → open_at inside.states j ≡ false)
-      → IsBoard touches effect (record inside { states = slice_set inside.states k Out; waiting = remove inside.waiting p })
-  IsBoard-taken p k at here clear = record {
+      → IsBoard touches effect (record inside { states = slice_set inside.states k Out; ready = remove inside.ready index })
+  IsBoard-taken index k at here clear = record {
     based = board.based;
     keeps = keeps_taken touches effect board.keeps k here clear;
     queues = queues_taken touches effect inside.log inside.states inside.lists (length (held_of inside.opening)) k here board.queues;
-    rest = ap (λ w. remove w p) board.rest
-        ∙ sym (waiting_taken inside.states (length inside.log) p k (omega (arith, board.keeps.beside)) (ap (λ w. slice_get w p) (sym board.rest) ∙ at)
-        (slice_get_within inside.states k Waiting here));
+    counts = counts_taken touches effect inside.log inside.states inside.lists inside.behind inside.ready index k here at board.counts;
+    room = board.room;
     unfinished = let count = count-set inside.states k Waiting Out here in omega (arith, count, board.unfinished);
     few_open = board.few_open;
     few_numbers = board.few_numbers;
   }
 
-  pub IsBoard-finished : (k : ℕ) (b : B) (reply : Reply) (outputs : List ℤ) (after : Balances) (new : List (List ℕ)) → slice_get inside.log k ≡ Some b
-      → slice_get inside.states k ≡ Some Out
-      → length outputs ≡ length (touches b)
-      → reply ≡ reply_of touches effect (held_after_first touches effect (held_of inside.opening) inside.log k) b
-      → outputs ≡ (effect b (inputs_of touches effect (held_after_first touches effect (held_of inside.opening) inside.log k) b)).1
-      → held_of after ≡ write_cowns (held_of inside.now) (touches b) outputs
-      → Releases (touches b) inside.lists new
-      → IsBoard touches effect (record inside {
-        now = after;
-        states = slice_set inside.states k (Finished reply);
-        lists = new;
-        unfinished = inside.unfinished - 1;
-      })
-  IsBoard-finished k b reply outputs after new here out long replied left written released = record {
-    based = board.based;
-    keeps = rw written (keeps_finished touches effect board.keeps k b here out reply outputs long replied left);
-    queues = queues_finished touches effect inside.log inside.states b inside.lists new (length (held_of inside.opening)) k reply board.keeps.beside here
-        (state_here is_open inside.states k Out out)
-        (clear_of_out touches effect board.keeps k b here out) board.queues released;
-    rest = board.rest ∙ sym (waiting_finished inside.states (length inside.log) k reply out);
-    unfinished =
-        let count = count-set inside.states k Out (Finished reply) out in
+  module _ (k : ℕ) (b : B) (new : List (List ℕ)) (here : slice_get inside.log k ≡ Some b) (out : slice_get inside.states k ≡ Some Out)
+      (rising : (b : B) → IsRising (touches b)) (released : Releases (touches b) inside.lists new) where
+    abbrev cowns : ℕ
+    cowns = length (held_of inside.opening)
+
+    clear : (j : ℕ) → j < k → conflict_at touches inside.log j k ≡ true → open_at inside.states j ≡ false
+    clear = clear_of_out touches effect board.keeps k b here out
+
+    -- it is in front of each of its cowns
+    front : (cown : ℕ) → is_among cown (touches b) ≡ true → slice_get (list_of inside.lists cown) 0 ≡ Some k
+    front cown among =
+        let at_k : touches_at touches effect inside.log cown k ≡ true = ap (λ o. is_among cown (touched_by touches o)) here ∙ among in
+        ap (λ xs. slice_get xs 0) (board.queues.each cown (board.keeps.in_range k cown at_k))
+        ∙ first_queued touches effect inside.log inside.states cown k (slice_get_within inside.log k b here)
+        (state_here is_open inside.states k Out out) at_k clear
+
+    queued : (reply : Reply) → QueuesAre touches effect inside.log (slice_set inside.states k (Finished reply)) new cowns
+    queued reply =
+        queues_finished touches effect inside.log inside.states b inside.lists new cowns k reply board.keeps.beside here
+        (state_here is_open inside.states k Out out) clear board.queues released
+
+    pub fronts_were_behind : (reply : Reply) (j : ℕ) → times j (fronts_of new (touches b)) ≤ get_or inside.behind j 0
+    fronts_were_behind reply =
+        fronts_counted touches effect inside.log inside.states inside.lists new cowns k b reply rising board.keeps.ordered board.keeps.in_range
+        board.keeps.beside here out clear front board.queues (queued reply) released inside.behind inside.ready board.counts
+
+    pub fronts_all_wait : (reply : Reply) → All (λ place. (place < length inside.log) × (waiting_at inside.states place ≡ true)) (fronts_of new (touches b))
+    fronts_all_wait reply =
+        fronts_wait touches effect inside.log inside.states inside.lists new cowns k b reply rising board.keeps.ordered board.keeps.in_range
+        board.keeps.beside here out clear front board.queues (queued reply) released inside.behind inside.ready board.counts
+
+    pub IsBoard-finished : (reply : Reply) (outputs : List ℤ) (after : Balances) (behind ready : List ℕ) (room : ℕ)
+        → length outputs ≡ length (touches b)
+        → reply ≡ reply_of touches effect (held_after_first touches effect (held_of inside.opening) inside.log k) b
+        → outputs ≡ (effect b (inputs_of touches effect (held_after_first touches effect (held_of inside.opening) inside.log k) b)).1
+        → held_of after ≡ write_cowns (held_of inside.now) (touches b) outputs
+        → length behind ≡ length inside.behind
+        → ((j : ℕ) → get_or behind j 0 + times j (fronts_of new (touches b)) ≡ get_or inside.behind j 0)
+        → AreDue (waiting_at inside.states) behind (length inside.log) ready
+        → inside.room ≤ room
+        → IsBoard touches effect (record inside {
+          now = after;
+          states = slice_set inside.states k (Finished reply);
+          lists = new;
+          behind = behind;
+          ready = ready;
+          room = room;
+          unfinished = inside.unfinished - 1;
+        })
+    IsBoard-finished reply outputs after behind ready room long replied left written same fewer due wide =
         let some = count_some inside.states k Out out refl in
-        omega (arith, count, some, board.unfinished);
-    few_open = omega (arith, board.few_open);
-    few_numbers = board.few_numbers;
-  }
+        record {
+          based = board.based;
+          keeps = rw written (keeps_finished touches effect board.keeps k b here out reply outputs long replied left);
+          queues = queued reply;
+          counts = counts_finished touches effect inside.log inside.states inside.lists new cowns k b reply rising board.keeps.ordered board.keeps.in_range
+              board.keeps.beside here out clear front board.queues (queued reply) released inside.behind inside.ready board.counts behind ready
+              same fewer due;
+          room = λ _. let before = board.room (omega (arith, some, board.unfinished)) in omega (arith, before, wide);
+          unfinished = let count = count-set inside.states k Out (Finished reply) out in omega (arith, count, some, board.unfinished);
+          few_open = omega (arith, board.few_open);
+          few_numbers = board.few_numbers;
+        }
 
   -- the same, of lists that were changed in place
-  pub IsBoard-pushed : (b : B) (place : ℕ) (log' : List B) (states' : List State) (new : List (List ℕ)) (waiting' : List ℕ)
+  pub IsBoard-pushed : (b : B) (place m room : ℕ) (log' : List B) (states' : List State) (new : List (List ℕ)) (behind' ready' : List ℕ)
       → AreBelow (length (held_of inside.opening)) (touches b)
-      → place ≡ length inside.log → Appends place (touches b) inside.lists new
-      → log' ≡ inside.log ++ b ∷ [] → states' ≡ inside.states ++ Waiting ∷ [] → waiting' ≡ inside.waiting ++ place ∷ []
-      → (inside.unfinished ≡ OPEN_BEHAVIOURS → ⊥) → (inside.base + length inside.log ≡ LOG_CALLS → ⊥)
-      → IsBoard touches effect (record inside { log = log'; states = states'; lists = new; waiting = waiting'; unfinished = inside.unfinished + 1 })
-  IsBoard-pushed b place log' states' new waiting' below here appended is_log is_states is_waiting few room =
-      rw (is_log, is_states, is_waiting, here) (IsBoard-submitted b new below (subst (λ n. Appends n (touches b) inside.lists new) here appended)
-      (omega (arith, few, board.few_open)) (omega (arith, room, board.based, board.few_numbers)))
+      → place ≡ length inside.log → Appends place (touches b) inside.lists new → m ≡ count_by (is_held inside.lists) (touches b)
+      → log' ≡ inside.log ++ b ∷ [] → states' ≡ inside.states ++ Waiting ∷ [] → behind' ≡ inside.behind ++ m ∷ []
+      → ready' ≡ (if m == 0 then inside.ready ++ place ∷ [] else inside.ready)
+      → (inside.unfinished ≡ OPEN_BEHAVIOURS → ⊥) → (inside.base + length inside.log ≡ LOG_CALLS → ⊥) → inside.unfinished + 1 + 3 ≤ room
+      → IsBoard touches effect (record inside {
+        log = log';
+        states = states';
+        lists = new;
+        behind = behind';
+        ready = ready';
+        room = room;
+        unfinished = inside.unfinished + 1;
+      })
+  IsBoard-pushed b place m room log' states' new behind' ready' below here appended held is_log is_states is_behind is_ready few more wide =
+      rw (is_log, is_states, is_behind, is_ready, here)
+      (IsBoard-submitted b new m room below (subst (λ n. Appends n (touches b) inside.lists new) here appended) held
+      (omega (arith, few, board.few_open)) (omega (arith, more, board.based, board.few_numbers)) wide)
+
+  -- no more are ready than unfinished
+  pub few_ready : length inside.ready ≤ inside.unfinished
+  few_ready =
+      let few = few_places inside.states (is_due (waiting_at inside.states) inside.behind) (length inside.log) (omega (arith, board.keeps.beside))
+      (λ j due. waiting_is_open inside.states j (and_parts (waiting_at inside.states j) (get_or inside.behind j 0 == 0) due).0) in
+      omega (arith, few, ap length board.counts.listed, board.unfinished)

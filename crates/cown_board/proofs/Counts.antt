@@ -1,9 +1,11 @@
 -- How many are unfinished.
-use Rattle.std.proofs.Common.{◌≡◌, ℕ, zero, suc, ◌+◌, ◌≤◌, true, false, cond, Option, Some, None, List, [], ◌∷◌, ◌++◌, refl, ap, ◌∙◌, arith}
+use Rattle.std.proofs.Common.{◌≡◌, inl, inr, ℕ, zero, suc, ◌+◌, ◌≤◌, Bool, true, false, cond, Option, Some, None, List, [], ◌∷◌, ◌++◌, length, refl, ap, ◌∙◌, arith}
 use Rattle.std.specs.Prelude.{slice_get, slice_set, count_by}
-use Rattle.std.proofs.lemmas.Bool.{false_from_ne_true}
+use Rattle.std.proofs.lemmas.Bool.{cases_Bool, false_from_ne_true}
 use Rattle.std.proofs.lemmas.List.Sums.{sum_by-cons}
 use Rattle.cown_board.proofs.LogLaws.{injective, no_some}
+use Rattle.cown_board.proofs.PlacesLaws.{one, length-places_first}
+use Rattle.cown_board.specs.Places.{places}
 use Rattle.cown_board.specs.State.{is_open, state_is}
 use Rattle.cown_board.specs.declared.state.State.{State}
 
@@ -54,3 +56,18 @@ counts_none states k (Some s) none here = false_from_ne_true (is_open s) (λ unf
 -- where none counts all are finished
 pub all_finished : (states : List State) (k : ℕ) → count_by is_open states ≡ 0 → state_is is_open (slice_get states k) ≡ false
 all_finished states k none = counts_none states k (slice_get states k) none refl
+
+-- where only unfinished ones are so, no more are so than are unfinished
+pub few_places : (states : List State) (f : ℕ → Bool) (m : ℕ) → m ≤ length states
+    → ((j : ℕ) → f j ≡ true → state_is is_open (slice_get states j) ≡ true) → length (places f m) ≤ count_by is_open states
+few_places states f zero le each = omega arith
+few_places [] f (suc m) le each = absurd (omega (arith, le))
+few_places (t ∷ states) f (suc m) le each =
+    let all = length-places_first f m in
+    let rest = few_places states (λ j. f (suc j)) m (omega (arith, le)) (λ j so. each (suc j) so) in
+    let count = count_cons t states in
+    let here : one (f 0) ≤ one_if_open t = elim (cases_Bool (f 0)) [
+      | inl so ↦ (let a : one (f 0) ≡ 1 = ap one so in let b : one_if_open t ≡ 1 = ap (λ b. cond b 1 0) (each 0 so) in omega (arith, a, b))
+      | inr not_so ↦ (let a : one (f 0) ≡ 0 = ap one not_so in omega (arith, a))
+    ] in
+    omega (arith, all, rest, count, here)

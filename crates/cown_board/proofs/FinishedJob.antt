@@ -1,15 +1,15 @@
 -- What comes back and is accepted.
-use Rattle.std.proofs.Common.{◌≡◌, ◌≢◌, ℕ, suc, ◌+◌, ◌-◌, ◌<◌, ◌≤◌, ℤ, pos, true, false, Some, List, length, get_or, refl, sym, ap, subst, ◌∙◌, arith}
-use Rattle.std.specs.Prelude.{slice_get, slice_set, option_map}
+use Rattle.std.proofs.Common.{◌≡◌, ◌≢◌, ℕ, suc, ◌+◌, ◌-◌, ◌<◌, ◌≤◌, ℤ, pos, Bool, true, false, Some, List, length, get_or, refl, sym, ap, subst, ◌∙◌, arith}
+use Rattle.std.specs.Prelude.{All, slice_get, slice_set, option_map}
 use Rattle.std.proofs.lemmas.Bool.{false≢true}
 use Rattle.std.proofs.lemmas.List.{ext_get_or, take_all}
 use Rattle.std.proofs.lemmas.Option.{slice_get_within}
 use Rattle.sb_rows.specs.Balances.{Balances}
-use Rattle.sb_calls.specs.Cowns.{AreHeld, held_of, read_cowns, write_cowns}
+use Rattle.sb_calls.specs.Cowns.{AreHeld, IsRising, held_of, read_cowns, write_cowns}
 use Rattle.sb_calls.specs.OneByOne.{is_among, inputs_of, held_after, held_after_first, reply_of}
 use Rattle.sb_calls.specs.declared.reply.Reply.{Reply}
-use Rattle.cown_queue.specs.Queues.{IsInFront, Releases}
-use Rattle.cown_board.proofs.Changes.{IsBoard-finished}
+use Rattle.cown_queue.specs.Queues.{IsInFront, Releases, fronts_of}
+use Rattle.cown_board.proofs.Changes.{IsBoard-finished, few_ready, fronts_all_wait, fronts_were_behind}
 use Rattle.cown_board.proofs.Counts.{count_some, all_finished}
 use Rattle.cown_board.proofs.Finishing.{clear_of_out}
 use Rattle.sb_calls.proofs.HeldLaws.{length-AreHeld}
@@ -19,7 +19,8 @@ use Rattle.cown_board.proofs.Queued.{fronts_from_clear, in_front_from}
 use Rattle.cown_board.proofs.States.{state_here}
 use Rattle.cown_board.proofs.TakenJob.{inputs_held}
 use Rattle.cown_board.specs.Board.{BoardOf, IsOutAt, IsOutHere, Finishes}
-use Rattle.cown_board.specs.Invariant.{BoardInside, IsBoard, open_at}
+use Rattle.cown_board.specs.Due.{AreDue, times}
+use Rattle.cown_board.specs.Invariant.{BoardInside, IsBoard, open_at, waiting_at}
 use Rattle.cown_board.specs.Job.{DoneOf}
 use Rattle.cown_board.specs.Readiness.{touched_by}
 use Rattle.cown_board.specs.State.{is_open}
@@ -93,20 +94,45 @@ module _ {B : Type 0} (touches : B → List ℕ) (effect : B → List ℤ → Re
         (inputs_held touches effect board keeps k k done.behaviour tested.1)))
 
     pub board_finished : ((b : B) (inputs : List ℤ) → AreHeld (touches b) inputs → AreHeld (touches b) (effect b inputs).1)
-        → (reply : Reply) (outputs : List ℤ) (after : Balances) (new : List (List ℕ)) → reply ≡ (effect done.behaviour done.inputs).0
+        → ((b : B) → IsRising (touches b))
+        → (reply : Reply) (outputs : List ℤ) (after : Balances) (new : List (List ℕ)) (behind ready : List ℕ) (room : ℕ)
+        → reply ≡ (effect done.behaviour done.inputs).0
         → outputs ≡ (effect done.behaviour done.inputs).1
         → held_of after ≡ write_cowns (held_of inside.now) (touches done.behaviour) outputs → Releases (touches done.behaviour) inside.lists new
+        → length behind ≡ length inside.behind
+        → ((j : ℕ) → get_or behind j 0 + times j (fronts_of new (touches done.behaviour)) ≡ get_or inside.behind j 0)
+        → ((waits : ℕ → Bool) (bound : ℕ) → All (λ place. (place < bound) × (waits place ≡ true)) (fronts_of new (touches done.behaviour))
+        → AreDue waits inside.behind bound inside.ready → AreDue waits behind bound ready)
+        → inside.room ≤ room
         → IsBoard touches effect (record inside {
           now = after;
           states = slice_set inside.states k (Finished reply);
           lists = new;
+          behind = behind;
+          ready = ready;
+          room = room;
           unfinished = inside.unfinished - 1;
         })
-    board_finished keeps reply outputs after new replied left written released =
-        IsBoard-finished touches effect board k done.behaviour reply outputs after new tested.1 tested.0
+    board_finished keeps rising reply outputs after new behind ready room replied left written released same fewer due wide =
+        IsBoard-finished touches effect board k done.behaviour new tested.1 tested.0 rising released reply outputs after behind ready room
         (length-AreHeld (touches done.behaviour) outputs (outputs_held keeps outputs left))
         (replied ∙ ap (λ i. (effect done.behaviour i).0) inputs_are)
-        (left ∙ ap (λ i. (effect done.behaviour i).1) inputs_are) written released
+        (left ∙ ap (λ i. (effect done.behaviour i).1) inputs_are) written same fewer
+        (due (waiting_at inside.states) (length inside.log)
+        (fronts_all_wait touches effect board k done.behaviour new tested.1 tested.0 rising released reply) board.counts.listed)
+        wide
+
+    -- what comes to the front was behind there, and there is room for it
+    pub fronts_behind : ((b : B) → IsRising (touches b)) → Reply → (new : List (List ℕ)) (fronts : List ℕ) → Releases (touches done.behaviour) inside.lists new
+        → fronts ≡ fronts_of new (touches done.behaviour) → (j : ℕ) → times j fronts ≤ get_or inside.behind j 0
+    fronts_behind rising reply new fronts released are j =
+        rw are (fronts_were_behind touches effect board k done.behaviour new tested.1 tested.0 rising released reply j)
+
+    pub room_for_fronts : length inside.ready + 3 ≤ inside.room
+    room_for_fronts =
+        let few = few_ready touches effect board in
+        let wide = board.room (omega (arith, some_unfinished)) in
+        omega (arith, few, wide)
 
     pub finishes_from : (reply : Reply) → reply ≡ (effect done.behaviour done.inputs).0
         → Finishes touches effect seen done reply

@@ -1,81 +1,72 @@
--- Being in front of queues, as a fact and as a test.
-use Rattle.std.proofs.Common.{◌≡◌, ℕ, zero, suc, ◌+◌, Bool, true, false, cond, Some, List, [], ◌∷◌, length, take, refl, sym, ap, ◌∙◌, arith}
-use Rattle.std.specs.Prelude.{slice_get, filter}
-use Rattle.std.proofs.lemmas.Bool.{and_parts, and_from, eqb-true, eq-eqb, true≢false}
+-- Being in front of queues, as a fact and as a count.
+use Rattle.std.proofs.Common.{◌≡◌, ◌≢◌, ℕ, ◌+◌, Bool, true, false, cond, not, Some, List, [], ◌∷◌, ◌++◌, refl, sym, ap, inl, inr, arith}
+use Rattle.std.specs.Prelude.{◌==◌, if◌then◌else◌, slice_get, is_some, count_by}
+use Rattle.std.proofs.lemmas.Bool.{cases_Bool, eqb-true, eq-eqb, ne_eqb, not_from_false, not_from_true, or_left, or_right, true≢false}
+use Rattle.std.proofs.lemmas.List.Sums.{sum_by-cons}
+use Rattle.sb_calls.proofs.HeldLaws.{eqb-refl}
+use Rattle.sb_calls.specs.OneByOne.{is_among}
 use Rattle.cown_queue.specs.Queues.{list_of}
 use Rattle.cown_board.proofs.LogLaws.{injective, no_some}
-use Rattle.cown_board.specs.Fronts.{AreFronts, are_fronts, is_first, is_front_at}
-use Rattle.cown_board.specs.Readiness.{touched_by}
+use Rattle.cown_board.proofs.PlacesLaws.{one}
+use Rattle.cown_board.specs.Fronts.{AreFronts, behind_at, is_first}
 
-first_from : (xs : List ℕ) (n : ℕ) → slice_get xs 0 ≡ Some n → is_first n xs ≡ true
+pub first_from : (xs : List ℕ) (n : ℕ) → slice_get xs 0 ≡ Some n → is_first n xs ≡ true
 first_from [] n h = absurd (no_some h)
 first_from (x ∷ xs) n h = eq-eqb x n (injective h)
 
-first_to : (xs : List ℕ) (n : ℕ) → is_first n xs ≡ true → slice_get xs 0 ≡ Some n
+pub first_to : (xs : List ℕ) (n : ℕ) → is_first n xs ≡ true → slice_get xs 0 ≡ Some n
 first_to [] n h = absurd (true≢false (sym h))
 first_to (x ∷ xs) n h = ap (λ y. Some y) (eqb-true x n h)
 
-pub fronts_test : (n : ℕ) (lists : List (List ℕ)) (cowns : List ℕ) → AreFronts n lists cowns → are_fronts n lists cowns ≡ true
-fronts_test n lists [] h = refl
-fronts_test n lists (c ∷ cowns) h = and_from (is_first n (list_of lists c)) (are_fronts n lists cowns) (first_from (list_of lists c) n h.0)
-    (fronts_test n lists cowns h.1)
+-- one more at the end is first of none but an empty list
+pub first-append : (j n : ℕ) (xs : List ℕ) → j ≢ n → is_first j (xs ++ n ∷ []) ≡ is_first j xs
+first-append j n [] differs = ne_eqb n j (λ same. differs (sym same))
+first-append j n (x ∷ xs) differs = refl
 
-pub fronts_fact : (n : ℕ) (lists : List (List ℕ)) (cowns : List ℕ) → are_fronts n lists cowns ≡ true → AreFronts n lists cowns
-fronts_fact n lists [] h = tt
-fronts_fact n lists (c ∷ cowns) h =
-    let parts = and_parts (is_first n (list_of lists c)) (are_fronts n lists cowns) h in
-    (first_to (list_of lists c) n parts.0, fronts_fact n lists cowns parts.1)
+pub first_chosen : (b : Bool) (j n : ℕ) (xs : List ℕ) → j ≢ n → is_first j (if b then xs ++ n ∷ [] else xs) ≡ is_first j xs
+first_chosen true j n xs differs = first-append j n xs differs
+first_chosen false j n xs differs = refl
 
--- ---- going over a list and counting those that pass
+-- it is in front of what was empty, and of nothing else
+pub first-last : (n : ℕ) (xs : List ℕ) → ((x : ℕ) → slice_get xs 0 ≡ Some x → x ≢ n) → not (is_first n (xs ++ n ∷ [])) ≡ is_some (slice_get xs 0)
+first-last n [] other = not_from_true (n == n) (eqb-refl n)
+first-last n (x ∷ xs) other = not_from_false (x == n) (ne_eqb x n (other x refl))
 
-filter_one : {A : Type 0} (f : A → Bool) (x : A) → filter f (x ∷ []) ≡ cond (f x) (x ∷ []) []
-filter_one f x = refl
+pub count-cons : (p : ℕ → Bool) (x : ℕ) (xs : List ℕ) → count_by p (x ∷ xs) ≡ one (p x) + count_by p xs
+count-cons p x xs = sum_by-cons (λ y. cond (p y) 1 0) x xs
 
-pub count_more : {A : Type 0} (f : A → Bool) (xs : List A) (p : ℕ) (x : A) → slice_get xs p ≡ Some x → f x ≡ true
-    → length (filter f (take (suc p) xs)) ≡ length (filter f (take p xs)) + 1
-count_more f [] p x here passes = absurd (no_some here)
-count_more f (y ∷ xs) zero x here passes =
-    ap (λ b. length (cond b (y ∷ []) [])) (ap f (injective here) ∙ passes)
-count_more f (y ∷ xs) (suc p) x here passes =
-    let rest = count_more f xs p x here passes in
-    elim (f y) as (λ b. length (cond b (y ∷ filter f (take (suc p) xs)) (filter f (take (suc p) xs))) ≡ length
-    (cond b (y ∷ filter f (take p xs)) (filter f (take p xs))) + 1)
-    [ true ↦ omega (arith, rest) | false ↦ rest ]
+-- where two agree on all of a list they count alike
+pub count_by-agree : (p q : ℕ → Bool) (xs : List ℕ) → ((x : ℕ) → is_among x xs ≡ true → p x ≡ q x) → count_by p xs ≡ count_by q xs
+count_by-agree p q [] same = refl
+count_by-agree p q (x ∷ xs) same =
+    let here : one (p x) ≡ one (q x) = ap one (same x (or_left (x == x) (is_among x xs) (eqb-refl x))) in
+    let rest = count_by-agree p q xs (λ y among. same y (or_right (y == x) (is_among y xs) among)) in
+    let a = count-cons p x xs in
+    let b = count-cons q x xs in
+    omega (arith, here, rest, a, b)
 
-pub count_same : {A : Type 0} (f : A → Bool) (xs : List A) (p : ℕ) (x : A) → slice_get xs p ≡ Some x → f x ≡ false
-    → length (filter f (take (suc p) xs)) ≡ length (filter f (take p xs))
-count_same f [] p x here fails = absurd (no_some here)
-count_same f (y ∷ xs) zero x here fails =
-    ap (λ b. length (cond b (y ∷ []) [])) (ap f (injective here) ∙ fails)
-count_same f (y ∷ xs) (suc p) x here fails =
-    let rest = count_same f xs p x here fails in
-    elim (f y) as (λ b. length (cond b (y ∷ filter f (take (suc p) xs)) (filter f (take (suc p) xs))) ≡ length
-    (cond b (y ∷ filter f (take p xs)) (filter f (take p xs))))
-    [ true ↦ omega (arith, rest) | false ↦ rest ]
+-- it is behind at none of these cowns just where it is in front of all
+pub none_behind : (n : ℕ) (lists : List (List ℕ)) (cowns : List ℕ) → AreFronts n lists cowns → behind_at n lists cowns ≡ 0
+none_behind n lists [] fronts = refl
+none_behind n lists (c ∷ cowns) fronts =
+    let here : one (not (is_first n (list_of lists c))) ≡ 0 = ap (λ b. one (not b)) (first_from (list_of lists c) n fronts.0) in
+    let rest = none_behind n lists cowns fronts.1 in
+    let all = count-cons (λ cown. not (is_first n (list_of lists cown))) c cowns in
+    omega (arith, here, rest, all)
 
--- one that passes stands behind those before it that do
-pub passing_at : {A : Type 0} (f : A → Bool) (xs : List A) (p : ℕ) (x : A) → slice_get xs p ≡ Some x → f x ≡ true
-    → slice_get (filter f xs) (length (filter f (take p xs))) ≡ Some x
-passing_at f [] p x here passes = absurd (no_some here)
-passing_at f (y ∷ xs) zero x here passes =
-    ap (λ b. slice_get (cond b (y ∷ filter f xs) (filter f xs)) 0) (ap f (injective here) ∙ passes) ∙ here
-passing_at f (y ∷ xs) (suc p) x here passes =
-    let rest = passing_at f xs p x here passes in
-    elim (f y) as (λ b. slice_get (cond b (y ∷ filter f xs) (filter f xs)) (length (cond b (y ∷ filter f (take p xs)) (filter f (take p xs)))) ≡ Some x)
-    [ true ↦ rest | false ↦ rest ]
+pub fronts_from_none : (n : ℕ) (lists : List (List ℕ)) (cowns : List ℕ) → behind_at n lists cowns ≡ 0 → AreFronts n lists cowns
+fronts_from_none n lists [] none = tt
+fronts_from_none n lists (c ∷ cowns) none =
+    let all = count-cons (λ cown. not (is_first n (list_of lists cown))) c cowns in
+    elim (cases_Bool (is_first n (list_of lists c))) [
+      | inl first ↦ (first_to (list_of lists c) n first, fronts_from_none n lists cowns (omega (arith, none, all)))
+      | inr behind ↦
+          let here : one (not (is_first n (list_of lists c))) ≡ 1 = ap (λ b. one (not b)) behind in
+          absurd (omega (arith, none, all, here))
+    ]
 
 -- two tests that say the same are one
 pub same_tests : (a b : Bool) → (a ≡ true → b ≡ true) → (b ≡ true → a ≡ true) → a ≡ b
 same_tests true b to from = sym (to refl)
 same_tests false true to from = from refl
 same_tests false false to from = refl
-
--- the fact of a list of cowns decides the test at the place of a behaviour that declares them
-pub front_at_place : {B : Type 0} (touches : B → List ℕ) (log : List B) (lists : List (List ℕ)) (place : ℕ) (b : B) (cowns : List ℕ) (answer : Bool)
-    → slice_get log place ≡ Some b → cowns ≡ touches b
-    → (answer ≡ true → AreFronts place lists cowns) → (AreFronts place lists cowns → answer ≡ true) → answer ≡ is_front_at touches log lists place
-front_at_place touches log lists place b cowns answer here declared to from =
-    let at : touched_by touches (slice_get log place) ≡ cowns = ap (touched_by touches) here ∙ sym declared in
-    same_tests answer (is_front_at touches log lists place)
-    (λ yes. ap (are_fronts place lists) at ∙ fronts_test place lists cowns (to yes))
-    (λ yes. from (fronts_fact place lists cowns (sym (ap (are_fronts place lists) at) ∙ yes)))

@@ -1,5 +1,7 @@
+mod Behind
 mod Changes
 pub mod Counts
+mod CownCounts
 mod CownLists
 mod FinishedJob
 mod Finishing
@@ -14,6 +16,7 @@ mod PlayedLaws
 mod Queued
 mod Replies
 pub mod States
+mod Stepping
 mod Submitting
 mod TakenJob
 pub mod Taking

@@ -15,6 +15,12 @@ injective h = cc
 pub no_some : {A : Type 0} {x : A} → ◌≡◌ {A = Option A} None (Some x) → ⊥
 no_some h = cc
 
+-- there is something at a place below the length
+pub some_at : {A : Type 0} (xs : List A) (j : ℕ) → j < length xs → (x : A) × (slice_get xs j ≡ Some x)
+some_at [] j lt = absurd (omega (arith, lt))
+some_at (x ∷ xs) zero lt = (x, refl)
+some_at (x ∷ xs) (suc j) lt = some_at xs j (omega (arith, lt))
+
 take_none : {A : Type 0} (xs : List A) (k : ℕ) → slice_get xs k ≡ None → take (suc k) xs ≡ take k xs
 take_none [] zero h = refl
 take_none [] (suc k) h = refl

@@ -1,11 +1,9 @@
 -- A board as it is opened.
-use Rattle.std.proofs.Common.{◌≡◌, inl, inr, ℕ, ◌+◌, ◌*◌, ◌/◌, ◌%◌, ◌≤◌, ◌≤ℤ◌, ℤ, pos, List, [], length, get_or, replicate, refl, sym, ap, subst, ◌∙◌, arith}
-use Rattle.std.proofs.lemmas.Bool.{cases_eq, true≢false}
+use Rattle.std.proofs.Common.{◌≡◌, ℕ, ◌*◌, ◌≤◌, ℤ, pos, List, [], length, get_or, replicate, refl, sym, ap, ◌∙◌, arith}
+use Rattle.std.proofs.lemmas.Bool.{true≢false}
 use Rattle.std.proofs.lemmas.List.{get_or-replicate, length-replicate}
-use Rattle.std.proofs.lemmas.List.Elements.{All-get_or}
-use Rattle.sb_amount.specs.Limit.{IsWithinLimit}
-use Rattle.sb_rows.specs.Balances.{Balances, IsBalances, IsSavings}
-use Rattle.sb_calls.proofs.Holding.{held_savings, held_checking, length-held_of}
+use Rattle.sb_rows.specs.Balances.{Balances, IsBalances}
+use Rattle.sb_calls.proofs.Holding.{length-held_of}
 use Rattle.sb_calls.proofs.HeldLaws.{AllHeld-balances}
 use Rattle.sb_calls.specs.Cowns.{held_of}
 use Rattle.sb_calls.specs.declared.call.TheConstants.{LOG_CALLS}
@@ -17,7 +15,7 @@ use Rattle.cown_board.specs.Invariant.{IsBoard}
 
 module _ {B : Type 0} (touches : B → List ℕ) (effect : B → List ℤ → Reply × List ℤ) where
   -- nothing is submitted, and the cowns hold what the columns say
-  pub IsBoard-opened : (opening now : Balances) (base : ℕ) (earlier : List Reply) (lists : List (List ℕ)) → IsBalances opening → now ≡ opening
+  pub IsBoard-opened : (opening now : Balances) (base : ℕ) (earlier : List Reply) (lists : List (List ℕ)) (room : ℕ) → IsBalances opening → now ≡ opening
       → length earlier ≡ base → base ≤ LOG_CALLS → lists ≡ replicate (2 * length opening.savings) []
       → IsBoard touches effect (record {
         opening = opening;
@@ -27,10 +25,12 @@ module _ {B : Type 0} (touches : B → List ℕ) (effect : B → List ℤ → Re
         log = [];
         states = [];
         lists = lists;
-        waiting = [];
+        behind = [];
+        ready = [];
+        room = room;
         unfinished = 0;
       })
-  IsBoard-opened opening now base earlier lists valid same based few empty =
+  IsBoard-opened opening now base earlier lists room valid same based few empty =
       let two = length-held_of opening valid.same in
       record {
         based = based;
@@ -50,7 +50,8 @@ module _ {B : Type 0} (touches : B → List ℕ) (effect : B → List ℤ → Re
           one_each = ap length empty ∙ length-replicate (2 * length opening.savings) [] ∙ sym two;
           each = λ cown lt. ap (λ lists. list_of lists cown) empty ∙ get_or-replicate (2 * length opening.savings) cown [] [] (omega (arith, lt, two));
         };
-        rest = refl;
+        counts = record { beside = refl; counted = λ k waits. absurd (true≢false (sym waits)); listed = refl };
+        room = λ some. absurd (omega (arith, some));
         unfinished = refl;
         few_open = omega arith;
         few_numbers = omega (arith, based, few);

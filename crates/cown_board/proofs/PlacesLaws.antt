@@ -1,11 +1,10 @@
 -- Laws of the places at which something is so.
-use Rattle.std.proofs.Common.{◌≡◌, ◌≢◌, ◌⊎◌, inl, inr, ℕ, zero, suc, ◌+◌, ◌-◌, ◌<◌, Bool, true, false, cond, not, ◌&&◌, Option, Some, List, [], ◌∷◌, ◌++◌, length, length-append, refl, sym, ap, ◌∙◌, arith}
-use Rattle.std.specs.Prelude.{◌==◌, slice_get, filter, remove, if◌then◌else◌}
-use Rattle.std.proofs.lemmas.Bool.{cases_Bool, cases_lt, cases_order, and_parts, and_from, and_left, and_right, not-true, not_from_false, not_from_true, ne_eqb, eq-eqb}
-use Rattle.std.proofs.lemmas.List.Elements.{filter-append}
-use Rattle.std.proofs.lemmas.List.Edits.{remove-append_left, remove-append_right}
+use Rattle.std.proofs.Common.{◌≡◌, ◌≢◌, ◌⊎◌, inl, inr, ℕ, zero, suc, ◌+◌, ◌-◌, ◌<◌, ◌≤◌, Bool, true, false, cond, not, ◌&&◌, Option, Some, List, [], ◌∷◌, ◌++◌, length, length-append, refl, sym, ap, ◌∙◌, arith}
+use Rattle.std.specs.Prelude.{◌==◌, slice_get, insert, remove, if◌then◌else◌}
+use Rattle.std.proofs.lemmas.Bool.{cases_Bool, cases_eq, cases_lt, cases_order, or_from, or_left, or_right, and_parts, and_from, and_left, and_right, not-true, not_from_false, not_from_true, ne_eqb, eq-eqb}
+use Rattle.std.proofs.lemmas.List.Edits.{insert_end, insert-append_left, remove-append_left, remove-append_right}
 use Rattle.std.proofs.lemmas.Option.{slice_get_within}
-use Rattle.cown_board.specs.Places.{places, none_below}
+use Rattle.cown_board.specs.Places.{places, none_below, with_place}
 
 pub slice_get-left : {X : Type 0} (xs ys : List X) (i : ℕ) → i < length xs → slice_get (xs ++ ys) i ≡ slice_get xs i
 slice_get-left [] ys i lt = absurd (omega (arith, lt))
@@ -37,6 +36,10 @@ pub append_nothing : {X : Type 0} (xs : List X) → xs ++ [] ≡ xs
 append_nothing [] = refl
 append_nothing (x ∷ xs) = ap (λ t. x ∷ t) (append_nothing xs)
 
+pub chosen : (b : Bool) (xs : List ℕ) (n : ℕ) → xs ++ (if b then n ∷ [] else []) ≡ (if b then xs ++ n ∷ [] else xs)
+chosen true xs n = refl
+chosen false xs n = append_nothing xs
+
 pub places-false : (f : ℕ → Bool) (m : ℕ) → f m ≡ false → places f (suc m) ≡ places f m
 places-false f m e = ap (λ b. places f m ++ (if b then m ∷ [] else [])) e ∙ append_nothing (places f m)
 
@@ -55,10 +58,6 @@ none_below-agree f g (suc m) h =
 no_length : (xs : List ℕ) → length xs ≡ 0 → xs ≡ []
 no_length [] h = refl
 no_length (x ∷ xs) h = absurd (omega (arith, h))
-
-filter-last : (g : ℕ → Bool) (b : Bool) (m : ℕ) → filter g (last_place b m) ≡ last_place (b && g m) m
-filter-last g true m = elim (g m) as (λ t. cond t (m ∷ []) [] ≡ last_place t m) [ true ↦ refl | false ↦ refl ]
-filter-last g false m = refl
 
 -- what none below says of each
 pub none_below_at : (f : ℕ → Bool) (m j : ℕ) → none_below f m ≡ true → j < m → f j ≡ false
@@ -167,10 +166,110 @@ none_before_first f (suc m) k h = elim (found_where f m 0 k h) [
   | inr last ↦ ap (none_below f) last.1 ∙ none_from_places f m (no_length (places f m) (sym last.0))
 ]
 
--- those of these places at which g is so too
-pub places-filter : (f g : ℕ → Bool) (m : ℕ) → filter g (places f m) ≡ places (λ j. f j && g j) m
-places-filter f g zero = refl
-places-filter f g (suc m) =
-    filter-append g (places f m) (last_place (f m) m)
-    ∙ ap (λ t. t ++ filter g (last_place (f m) m)) (places-filter f g m)
-    ∙ ap (λ t. places (λ j. f j && g j) m ++ t) (filter-last g (f m) m)
+-- ---- how many places there are
+
+-- one, if it is so
+abbrev pub one : Bool → ℕ
+one b = cond b 1 0
+
+length-last_place : (b : Bool) (m : ℕ) → length (last_place b m) ≡ one b
+length-last_place true m = refl
+length-last_place false m = refl
+
+pub length-places : (f : ℕ → Bool) (m : ℕ) → length (places f (suc m)) ≡ length (places f m) + one (f m)
+length-places f m = length-append (places f m) (last_place (f m) m) ∙ ap (λ n. length (places f m) + n) (length-last_place (f m) m)
+
+-- the same, counted from the first place on
+pub length-places_first : (f : ℕ → Bool) (m : ℕ) → length (places f (suc m)) ≡ one (f 0) + length (places (λ j. f (suc j)) m)
+length-places_first f zero = let e = length-places f 0 in omega (arith, e)
+length-places_first f (suc m) =
+    let all = length-places f (suc m) in
+    let rest = length-places_first f m in
+    let last = length-places (λ j. f (suc j)) m in
+    omega (arith, all, rest, last)
+
+-- where one is so just where one of two others is, their places add up to its
+pub length-places_add : (f g h : ℕ → Bool) (m : ℕ) → ((j : ℕ) → j < m → one (f j) ≡ one (g j) + one (h j))
+    → length (places f m) ≡ length (places g m) + length (places h m)
+length-places_add f g h zero each = refl
+length-places_add f g h (suc m) each =
+    let rest = length-places_add f g h m (λ j lt. each j (omega (arith, lt))) in
+    let here = each m (omega arith) in
+    let a = length-places f m in
+    let b = length-places g m in
+    let c = length-places h m in
+    omega (arith, rest, here, a, b, c)
+
+pub length-places_none : (f : ℕ → Bool) (m : ℕ) → ((j : ℕ) → j < m → f j ≡ false) → length (places f m) ≡ 0
+length-places_none f zero none = refl
+length-places_none f (suc m) none =
+    let rest = length-places_none f m (λ j lt. none j (omega (arith, lt))) in
+    let here : one (f m) ≡ 0 = ap one (none m (omega arith)) in
+    let all = length-places f m in
+    omega (arith, rest, here, all)
+
+-- a lower bound has no more places
+pub places_fewer : (f : ℕ → Bool) (k m : ℕ) → k ≤ m → length (places f k) ≤ length (places f m)
+places_fewer f k zero le = let none : k ≡ 0 = omega (arith, le) in rw none (omega arith)
+places_fewer f k (suc m) le = elim (cases_eq k (suc m)) [
+  | inl same ↦ rw same (omega arith)
+  | inr differs ↦
+      let rest = places_fewer f k m (omega (arith, le, differs)) in
+      let all = length-places f m in
+      omega (arith, rest, all)
+]
+
+-- ---- one place more
+
+pub with_place_other : (f : ℕ → Bool) (k j : ℕ) → j ≢ k → with_place f k j ≡ f j
+with_place_other f k j differs = elim (cases_Bool (f j)) [
+  | inl so ↦ or_left (f j) (j == k) so ∙ sym so
+  | inr not_so ↦ or_from (f j) (j == k) not_so (ne_eqb j k differs) ∙ sym not_so
+]
+
+pub with_place_same : (f : ℕ → Bool) (k j : ℕ) → j ≡ k → with_place f k j ≡ true
+with_place_same f k j same = or_right (f j) (j == k) (eq-eqb j k same)
+
+-- it stands behind those before it
+pub places-insert : (f : ℕ → Bool) (m k : ℕ) → k < m → f k ≡ false → places (with_place f k) m ≡ insert (places f m) (length (places f k)) k
+places-insert f zero k lt out = absurd (omega (arith, lt))
+places-insert f (suc m) k lt out = elim (cases_order k m) [
+  | inl same ↦
+      let before : places (with_place f k) m ≡ places f m =
+      places-agree (with_place f k) f m (λ j below. with_place_other f k j (λ e. omega (arith, e, same, below))) in
+      ap (λ b. places (with_place f k) m ++ last_place b m) (with_place_same f k m (sym same))
+      ∙ ap (λ t. t ++ m ∷ []) before
+      ∙ sym (insert_end (places f m) m)
+      ∙ ap (λ n. insert (places f m) (length (places f m)) n) (sym same)
+      ∙ sym (ap (λ n. insert (places f (suc m)) (length (places f n)) k) same
+      ∙ ap (λ t. insert t (length (places f m)) k) (places-false f m (ap f (sym same) ∙ out)))
+  | inr either ↦ elim either [
+    | inl below ↦
+        ap (λ b. places (with_place f k) m ++ last_place b m) (with_place_other f k m (λ e. omega (arith, e, below)))
+        ∙ ap (λ t. t ++ last_place (f m) m) (places-insert f m k below out)
+        ∙ sym (insert-append_left (places f m) (last_place (f m) m) (length (places f k)) k (places_fewer f k m (omega (arith, below))))
+    | inr above ↦ absurd (omega (arith, above, lt))
+  ]
+]
+
+-- the first so many of the places are those below k, and the others aren't
+pub place_below : (f : ℕ → Bool) (m k i n : ℕ) → k ≤ m → i < length (places f k) → slice_get (places f m) i ≡ Some n → n < k
+place_below f zero k i n le lt here = absurd (omega (arith, slice_get_within [] i n here))
+place_below f (suc m) k i n le lt here = elim (cases_eq k (suc m)) [
+  | inl same ↦ let found = place_is f (suc m) i n here in omega (arith, same, found.0)
+  | inr differs ↦ elim (found_where f m i n here) [
+    | inl within ↦ place_below f m k i n (omega (arith, le, differs)) lt within.1
+    | inr last ↦ absurd (let less = places_fewer f k m (omega (arith, le, differs)) in omega (arith, less, last.0, lt))
+  ]
+]
+
+pub place_above : (f : ℕ → Bool) (m k i n : ℕ) → length (places f k) ≤ i → slice_get (places f m) i ≡ Some n → k ≤ n
+place_above f zero k i n past here = absurd (omega (arith, slice_get_within [] i n here))
+place_above f (suc m) k i n past here = elim (found_where f m i n here) [
+  | inl within ↦ place_above f m k i n past within.1
+  | inr last ↦ elim (cases_lt n k) [
+    | inl below ↦ absurd (let less = places_fewer f (suc m) k (omega (arith, last.1, below)) in let all = length-places f m in
+        let here : one (f m) ≡ 1 = ap one last.2 in omega (arith, less, all, here, last.0, past))
+    | inr above ↦ above
+  ]
+]

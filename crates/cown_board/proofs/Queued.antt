@@ -1,5 +1,5 @@
 -- The queues of the cowns, after each change.
-use Rattle.std.proofs.Common.{◌≡◌, inl, inr, ℕ, suc, ◌<◌, ℤ, Bool, true, false, ◌&&◌, Some, List, [], ◌∷◌, ◌++◌, length, length-append, drop, refl, sym, ap, ◌∙◌, arith}
+use Rattle.std.proofs.Common.{◌≡◌, inl, inr, ℕ, suc, ◌<◌, ℤ, true, false, ◌&&◌, Some, List, [], ◌∷◌, ◌++◌, length, length-append, drop, refl, sym, ap, ◌∙◌, arith}
 use Rattle.std.specs.Prelude.{◌==◌, if◌then◌else◌, slice_get, slice_set, remove}
 use Rattle.std.proofs.lemmas.Bool.{cases_Bool, cases_eq, and_parts, and_from, and_left, and_right, true≢false, false_from_ne_true, both_ways, or_cases, or_left, or_right, eqb-true}
 use Rattle.std.proofs.lemmas.Option.{slice_get_within}
@@ -9,7 +9,7 @@ use Rattle.cown_queue.specs.Queues.{list_of, Appends, Releases, IsInFront}
 use Rattle.sb_calls.proofs.HeldLaws.{shared_cown, eqb-refl}
 use Rattle.cown_board.proofs.LogLaws.{injective, no_some}
 use Rattle.cown_board.proofs.Inputs.{conflict_from}
-use Rattle.cown_board.proofs.PlacesLaws.{append_nothing, places-agree, places-remove, place_first, none_before_first, none_below_at, none_below_from, but, but_other, but_same, slice_get-left, slice_get-right}
+use Rattle.cown_board.proofs.PlacesLaws.{chosen, places-agree, places-remove, place_first, none_before_first, none_below_at, none_below_from, but, but_other, but_same, slice_get-left, slice_get-right}
 use Rattle.cown_board.proofs.States.{state-append, state-last, state-set_same, state-set_other}
 use Rattle.cown_board.proofs.Taking.{open-taken}
 use Rattle.cown_board.specs.Fronts.{AreFronts}
@@ -19,10 +19,6 @@ use Rattle.cown_board.specs.Readiness.{touched_by, conflict_at}
 use Rattle.cown_board.specs.State.{is_open}
 use Rattle.cown_board.specs.declared.state.State.{State}
 use Rattle.cown_board.specs.declared.state.State.TheVariants.{Waiting, Out, Finished}
-
-chosen : (b : Bool) (xs : List ℕ) (n : ℕ) → xs ++ (if b then n ∷ [] else []) ≡ (if b then xs ++ n ∷ [] else xs)
-chosen true xs n = refl
-chosen false xs n = append_nothing xs
 
 module _ {B : Type 0} (touches : B → List ℕ) (effect : B → List ℤ → Reply × List ℤ) where
   -- what the last one of a longer log declares

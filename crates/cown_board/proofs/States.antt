@@ -1,8 +1,9 @@
 -- The states of a log's behaviours after one of them changed, or one more came.
-use Rattle.std.proofs.Common.{◌≡◌, ◌≢◌, ℕ, zero, suc, ◌<◌, ◌≤◌, Bool, true, false, Option, Some, None, List, [], ◌∷◌, ◌++◌, length, refl, sym, ap, arith}
+use Rattle.std.proofs.Common.{◌≡◌, ◌≢◌, ℕ, zero, suc, ◌<◌, ◌≤◌, Bool, true, false, Option, Some, None, List, [], ◌∷◌, ◌++◌, length, refl, sym, ap, ◌∙◌, inl, inr, arith}
 use Rattle.std.specs.Prelude.{slice_get, slice_set}
-use Rattle.std.proofs.lemmas.Bool.{true≢false}
-use Rattle.std.proofs.lemmas.Option.{slice_get_past}
+use Rattle.std.proofs.lemmas.Bool.{cases_eq, cases_lt, true≢false}
+use Rattle.std.proofs.lemmas.Option.{slice_get_past, slice_get_within}
+use Rattle.sb_calls.specs.declared.reply.Reply.{Reply}
 use Rattle.cown_board.proofs.PlacesLaws.{slice_get-left, slice_get-right}
 use Rattle.cown_board.specs.Invariant.{open_at, waiting_at}
 use Rattle.cown_board.specs.State.{is_waiting, is_open, state_is}
@@ -35,6 +36,13 @@ waiting_is_open states k h = waits_open (slice_get states k) h
 pub state_past : (test : State → Bool) (states : List State) (k : ℕ) → length states ≤ k → state_is test (slice_get states k) ≡ false
 state_past test states k past = ap (state_is test) (slice_get_past states k past)
 
+-- only a behaviour of the log waits
+pub waiting_within : (states : List State) (k : ℕ) → waiting_at states k ≡ true → k < length states
+waiting_within states k waits = elim (cases_lt k (length states)) [
+  | inl lt ↦ lt
+  | inr past ↦ absurd (true≢false (sym waits ∙ state_past is_waiting states k past))
+]
+
 pub state_here : (test : State → Bool) (states : List State) (k : ℕ) (s : State) → slice_get states k ≡ Some s → state_is test (slice_get states k) ≡ test s
 state_here test states k s h = ap (state_is test) h
 
@@ -52,3 +60,13 @@ state-append test states s j lt = ap (state_is test) (slice_get-left states (s �
 
 pub state-last : (test : State → Bool) (states : List State) (s : State) (j : ℕ) → j ≡ length states → state_is test (slice_get (states ++ s ∷ []) j) ≡ test s
 state-last test states s j e = ap (state_is test) (slice_get-right states (s ∷ []) j 0 (omega (arith, e)))
+
+-- one that is out waits no more than one that is finished
+pub waiting-finished : (states : List State) (k j : ℕ) (reply : Reply) → slice_get states k ≡ Some Out
+    → waiting_at (slice_set states k (Finished reply)) j ≡ waiting_at states j
+waiting-finished states k j reply out = elim (cases_eq j k) [
+  | inl same ↦
+      ap (waiting_at (slice_set states k (Finished reply))) same ∙ state-set_same is_waiting states k (Finished reply) (slice_get_within states k Out out)
+      ∙ sym (ap (waiting_at states) same ∙ state_here is_waiting states k Out out)
+  | inr differs ↦ state-set_other is_waiting states k j (Finished reply) differs
+]

@@ -1,24 +1,23 @@
 -- The job that is handed out.
-use Rattle.std.proofs.Common.{◌≡◌, inl, inr, ℕ, zero, suc, ◌+◌, ◌<◌, ◌≤◌, ℤ, true, false, ◌&&◌, Option, Some, None, List, [], ◌∷◌, length, get_or, take, refl, sym, ap, subst, ◌∙◌, arith}
-use Rattle.std.specs.Prelude.{slice_get, slice_set, filter, remove}
-use Rattle.std.proofs.lemmas.Bool.{cases_Bool, and_parts, and_from, and_left, true≢false, both_ways, false_from_ne_true}
-use Rattle.std.proofs.lemmas.Option.{slice_get-get_or}
+use Rattle.std.proofs.Common.{◌≡◌, inl, inr, ℕ, ◌+◌, ◌<◌, ◌≤◌, ℤ, true, false, ◌&&◌, Option, Some, None, List, length, get_or, take, refl, sym, ap, subst, ◌∙◌, arith}
+use Rattle.std.specs.Prelude.{◌==◌, slice_get, slice_set, remove}
+use Rattle.std.proofs.lemmas.Bool.{cases_Bool, eqb-true, eq-eqb, and_parts, and_from, and_left, true≢false, both_ways, false_from_ne_true}
 use Rattle.sb_calls.specs.Cowns.{AreBelow, AreHeld, held_of, read_cowns}
 use Rattle.sb_calls.specs.OneByOne.{is_among, inputs_of, held_after_first}
 use Rattle.sb_calls.specs.declared.reply.Reply.{Reply}
 use Rattle.cown_board.proofs.Changes.{IsBoard-taken}
 use Rattle.cown_board.proofs.CownLists.{below_from}
-use Rattle.cown_board.proofs.FrontLaws.{same_tests, fronts_test, fronts_fact}
+use Rattle.cown_board.proofs.FrontLaws.{same_tests, none_behind, fronts_from_none}
 use Rattle.sb_calls.proofs.HeldLaws.{AreHeld-read}
 use Rattle.cown_board.proofs.Inputs.{holds_inputs}
-use Rattle.cown_board.proofs.LogLaws.{AllHeld-after_first, length-after}
-use Rattle.cown_board.proofs.PlacesLaws.{places-agree, places-filter, place_is, none_below_at, none_below_from}
+use Rattle.cown_board.proofs.LogLaws.{AllHeld-after_first, length-after, some_at}
+use Rattle.cown_board.proofs.PlacesLaws.{places-agree, place_is, none_below_at, none_below_from}
 use Rattle.cown_board.proofs.Queued.{fronts_from_clear, clear_from_fronts}
 use Rattle.cown_board.proofs.States.{waiting_is_open}
 use Rattle.cown_board.specs.Board.{Takes}
-use Rattle.cown_board.specs.Fronts.{are_fronts, is_front_at}
+use Rattle.cown_board.specs.Due.{is_due}
+use Rattle.cown_board.specs.Fronts.{behind_at, behind_of}
 use Rattle.cown_board.specs.Invariant.{BoardInside, IsBoard, open_at, waiting_at}
-use Rattle.cown_board.specs.Places.{places}
 use Rattle.cown_board.specs.Readiness.{touched_by, conflict_at, is_clear_at, is_ready_at, ready_places}
 use Rattle.cown_board.specs.State.{is_waiting, state_is}
 use Rattle.cown_board.specs.declared.state.State.{State}
@@ -30,12 +29,6 @@ is_that None h = absurd (true≢false (sym h))
 is_that (Some Waiting) h = refl
 is_that (Some Out) h = absurd (true≢false (sym h))
 is_that (Some (Finished reply)) h = absurd (true≢false (sym h))
-
--- there is something at a place below the length
-some_at : {A : Type 0} (xs : List A) (j : ℕ) → j < length xs → (x : A) × (slice_get xs j ≡ Some x)
-some_at [] j lt = absurd (omega (arith, lt))
-some_at (x ∷ xs) zero lt = (x, refl)
-some_at (x ∷ xs) (suc j) lt = some_at xs j (omega (arith, lt))
 
 module _ {B : Type 0} (touches : B → List ℕ) (effect : B → List ℤ → Reply × List ℤ)
     {inside : BoardInside B} (board : IsBoard touches effect inside) where
@@ -65,33 +58,36 @@ module _ {B : Type 0} (touches : B → List ℕ) (effect : B → List ℤ → Re
       let parts = and_parts (open_at inside.states j) (conflict_at touches inside.log j k) both in
       true≢false (sym parts.0 ∙ clear j lt parts.1)))
 
-  -- of those that wait the ones in front at all their cowns are the clear ones
-  front_is_clear : (k : ℕ) (b : B) → slice_get inside.log k ≡ Some b → waiting_at inside.states k ≡ true
-      → is_front_at touches inside.log inside.lists k ≡ is_clear_at touches inside.log inside.states k
-  front_is_clear k b here waits =
+  -- of those that wait the ones behind at no cown are the clear ones
+  none_is_clear : (k : ℕ) (b : B) → slice_get inside.log k ≡ Some b → waiting_at inside.states k ≡ true
+      → (behind_of touches inside.log inside.lists k == 0) ≡ is_clear_at touches inside.log inside.states k
+  none_is_clear k b here waits =
       let at : touched_by touches (slice_get inside.log k) ≡ touches b = ap (touched_by touches) here in
       let cowns = length (held_of inside.opening) in
       let in_range = λ (cown : ℕ) (among : is_among cown (touches b) ≡ true). board.keeps.in_range k cown
       (ap (λ o. is_among cown (touched_by touches o)) here ∙ among) in
-      same_tests (is_front_at touches inside.log inside.lists k) (is_clear_at touches inside.log inside.states k)
-      (λ front. clear_test k (clear_from_fronts touches effect inside.log inside.states inside.lists cowns board.queues k b here
-      (fronts_fact k inside.lists (touches b) (sym (ap (are_fronts k inside.lists) at) ∙ front)) in_range))
-      (λ clear. ap (are_fronts k inside.lists) at ∙ fronts_test k inside.lists (touches b)
+      same_tests (behind_of touches inside.log inside.lists k == 0) (is_clear_at touches inside.log inside.states k)
+      (λ none. clear_test k (clear_from_fronts touches effect inside.log inside.states inside.lists cowns board.queues k b here
+      (fronts_from_none k inside.lists (touches b)
+      (sym (ap (behind_at k inside.lists) at) ∙ eqb-true (behind_of touches inside.log inside.lists k) 0 none)) in_range))
+      (λ clear. eq-eqb (behind_of touches inside.log inside.lists k) 0 (ap (behind_at k inside.lists) at
+      ∙ none_behind k inside.lists (touches b)
       (fronts_from_clear touches effect inside.log inside.states inside.lists cowns board.queues k b here (waiting_is_open inside.states k waits)
       (clear_fact k clear) (touches b)
-      (λ cown among. (among, in_range cown among))))
+      (λ cown among. (among, in_range cown among)))))
 
   -- so they are the ready ones
-  pub fronts_are_ready : filter (is_front_at touches inside.log inside.lists) inside.waiting ≡ ready_places touches inside.log inside.states
+  pub due_are_ready : inside.ready ≡ ready_places touches inside.log inside.states
   unfolding ready_places
-  fronts_are_ready =
-      ap (filter (is_front_at touches inside.log inside.lists)) board.rest
-      ∙ places-filter (waiting_at inside.states) (is_front_at touches inside.log inside.lists) (length inside.log)
-      ∙ places-agree (λ j. waiting_at inside.states j && is_front_at touches inside.log inside.lists j) (is_ready_at touches inside.log inside.states)
-      (length inside.log)
+  due_are_ready =
+      board.counts.listed
+      ∙ places-agree (is_due (waiting_at inside.states) inside.behind) (is_ready_at touches inside.log inside.states) (length inside.log)
       (λ j lt. elim (cases_Bool (waiting_at inside.states j)) [
-        | inl waits ↦ let found = some_at inside.log j lt in ap (λ x. waiting_at inside.states j && x) (front_is_clear j found.0 found.1 waits)
-        | inr not_waiting ↦ and_left (waiting_at inside.states j) (is_front_at touches inside.log inside.lists j) not_waiting
+        | inl waits ↦
+            let found = some_at inside.log j lt in
+            ap (λ x. waiting_at inside.states j && x)
+            (ap (λ n. n == 0) (board.counts.counted j waits) ∙ none_is_clear j found.0 found.1 waits)
+        | inr not_waiting ↦ and_left (waiting_at inside.states j) (get_or inside.behind j 0 == 0) not_waiting
             ∙ sym (and_left (waiting_at inside.states j) (is_clear_at touches inside.log inside.states j) not_waiting)
       ])
 
@@ -129,20 +125,11 @@ module _ {B : Type 0} (touches : B → List ℕ) (effect : B → List ℤ → Re
       let lt = board.keeps.in_range place cown (ap (λ o. is_among cown (touched_by touches o)) here ∙ among) in
       omega (arith, lt, length-after touches effect (held_of inside.opening) (take k inside.log)))
 
-  -- the waiting places are places of the log
-  pub waiting_below : (k d : ℕ) → k < length inside.waiting → get_or inside.waiting k d < length inside.log
-  waiting_below k d lt =
-      let here : slice_get (places (waiting_at inside.states) (length inside.log)) k ≡ Some (get_or inside.waiting k d) =
-      ap (λ w. slice_get w k) (sym board.rest) ∙ slice_get-get_or inside.waiting k d lt in
-      (place_is (waiting_at inside.states) (length inside.log) k (get_or inside.waiting k d) here).0
+  pub ready_from : (index k : ℕ) → slice_get inside.ready index ≡ Some k → slice_get (ready_places touches inside.log inside.states) index ≡ Some k
+  ready_from index k h = sym (ap (λ xs. slice_get xs index) due_are_ready) ∙ h
 
-  pub ready_from : (index k : ℕ) → slice_get (filter (is_front_at touches inside.log inside.lists) inside.waiting) index ≡ Some k
-      → slice_get (ready_places touches inside.log inside.states) index ≡ Some k
-  ready_from index k h = sym (ap (λ xs. slice_get xs index) fronts_are_ready) ∙ h
-
-  pub few_from : (index : ℕ) → length (filter (is_front_at touches inside.log inside.lists) inside.waiting) ≤ index
-      → length (ready_places touches inside.log inside.states) ≤ index
-  few_from index h = subst (λ xs. length xs ≤ index) fronts_are_ready h
+  pub few_from : (index : ℕ) → length inside.ready ≤ index → length (ready_places touches inside.log inside.states) ≤ index
+  few_from index h = subst (λ xs. length xs ≤ index) due_are_ready h
 
   pub number_below : (k : ℕ) → k < length inside.log → inside.base + k + 1 ≤ 1000000
   number_below k lt = omega (arith, lt, board.based, board.few_numbers)
@@ -167,9 +154,11 @@ module _ {B : Type 0} (touches : B → List ℕ) (effect : B → List ℤ → Re
   taken_inputs_held keeps index k b inputs ready here read =
       subst (AreHeld (touches b)) (sym (read ∙ (takable index k b ready here).inputs)) (inputs_held keeps k k b here)
 
-  pub board_taken : (index p k : ℕ) → slice_get inside.waiting p ≡ Some k → slice_get (ready_places touches inside.log inside.states) index ≡ Some k
-      → IsBoard touches effect (record inside { states = slice_set inside.states k Out; waiting = remove inside.waiting p })
-  board_taken index p k at ready =
-      let found = some_at inside.log k (ready_within index k ready) in
-      let known = takable index k found.0 ready found.1 in
-      IsBoard-taken touches effect board p k at known.waits known.clear
+  pub board_taken : (index k room : ℕ) (behind ready : List ℕ) → slice_get inside.ready index ≡ Some k → behind ≡ inside.behind
+      → ready ≡ remove inside.ready index → room ≡ inside.room
+      → IsBoard touches effect (record inside { states = slice_set inside.states k Out; behind = behind; ready = ready; room = room })
+  board_taken index k room behind ready at is_behind is_ready is_room =
+      let listed = ready_from index k at in
+      let found = some_at inside.log k (ready_within index k listed) in
+      let known = takable index k found.0 listed found.1 in
+      rw (is_behind, is_ready, is_room) (IsBoard-taken touches effect board index k at known.waits known.clear)

@@ -1,5 +1,5 @@
 -- Numbers in front of queues.
-use Rattle.std.specs.Prelude.{◌≡◌, ℕ, ◌==◌, ◌&&◌, Bool, true, false, Some, List, [], ◌∷◌, slice_get}
+use Rattle.std.specs.Prelude.{◌≡◌, ℕ, ◌==◌, Bool, false, not, Some, List, [], ◌∷◌, slice_get, is_some, count_by}
 use Rattle.cown_queue.specs.Queues.{list_of}
 use Rattle.cown_board.specs.Readiness.{touched_by}
 
@@ -13,11 +13,14 @@ abbrev pub is_first : ℕ → List ℕ → Bool
 is_first number [] = false
 is_first number (n ∷ rest) = n == number
 
--- whether it is the first one at each of these cowns
-abbrev pub are_fronts : ℕ → List (List ℕ) → List ℕ → Bool
-are_fronts number lists [] = true
-are_fronts number lists (cown ∷ cowns) = is_first number (list_of lists cown) && are_fronts number lists cowns
+-- at how many of these cowns the number isn't in front
+abbrev pub behind_at : ℕ → List (List ℕ) → List ℕ → ℕ
+behind_at number lists cowns = count_by (λ cown. not (is_first number (list_of lists cown))) cowns
 
--- whether the behaviour at a place of a log is in front at all its cowns
-abbrev pub is_front_at : {B : Type 0} → (B → List ℕ) → List B → List (List ℕ) → ℕ → Bool
-is_front_at touches log lists place = are_fronts place lists (touched_by touches (slice_get log place))
+-- at how many of its cowns the behaviour at a place of a log isn't in front
+abbrev pub behind_of : {B : Type 0} → (B → List ℕ) → List B → List (List ℕ) → ℕ → ℕ
+behind_of touches log lists place = behind_at place lists (touched_by touches (slice_get log place))
+
+-- whether a cown's queue has a number
+abbrev pub is_held : List (List ℕ) → ℕ → Bool
+is_held lists cown = is_some (slice_get (list_of lists cown) 0)

@@ -6,6 +6,8 @@ use Rattle.sb_calls.specs.OneByOne.{is_among, held_after_first, reply_of}
 use Rattle.sb_calls.specs.declared.reply.Reply.{Reply}
 use Rattle.sb_calls.specs.declared.call.TheConstants.{LOG_CALLS}
 use Rattle.cown_queue.specs.Queues.{list_of}
+use Rattle.cown_board.specs.Due.{AreDue}
+use Rattle.cown_board.specs.Fronts.{behind_of}
 use Rattle.cown_board.specs.Places.{places}
 use Rattle.cown_board.specs.Readiness.{touched_by, conflict_at}
 use Rattle.cown_board.specs.State.{is_waiting, is_open, state_is}
@@ -20,7 +22,8 @@ abbrev pub waiting_at : List State → ℕ → Bool
 waiting_at states k = state_is is_waiting (slice_get states k)
 
 -- what a board has inside: what its callers see, the columns as they are now, how many numbers there were
--- before it, the queue of each cown, the places of the waiting ones, and how many are unfinished
+-- before it, the queue of each cown, at how many of its cowns each isn't in front, the places of the ready ones,
+-- how many of these their list has room for, and how many are unfinished
 pub record BoardInside (B : Type 0) : Type 0 where
   pub opening : Balances
   pub now : Balances
@@ -29,7 +32,9 @@ pub record BoardInside (B : Type 0) : Type 0 where
   pub log : List B
   pub states : List State
   pub lists : List (List ℕ)
-  pub waiting : List ℕ
+  pub behind : List ℕ
+  pub ready : List ℕ
+  pub room : ℕ
   pub unfinished : ℕ
 
 module _ {B : Type 0} (touches : B → List ℕ) (effect : B → List ℤ → Reply × List ℤ) where
@@ -67,12 +72,21 @@ module _ {B : Type 0} (touches : B → List ℕ) (effect : B → List ℤ → Re
     pub one_each : length lists ≡ cowns
     pub each : (cown : ℕ) → cown < cowns → list_of lists cown ≡ places (is_queued log states cown) (length log)
 
+  -- of each that waits it is known at how many of its cowns it isn't in front, and of those that are in front at
+  -- all there is a list
+  pub record CountsAre (log : List B) (states : List State) (lists : List (List ℕ)) (behind ready : List ℕ) : Type 0 where
+    pub beside : length behind ≡ length log
+    pub counted : (k : ℕ) → waiting_at states k ≡ true → get_or behind k 0 ≡ behind_of touches log lists k
+    pub listed : AreDue (waiting_at states) behind (length log) ready
+
   -- all that a board keeps
   pub record IsBoard (inside : BoardInside B) : Type 0 where
     pub based : length inside.earlier ≡ inside.base
     pub keeps : Keeps (held_of inside.opening) inside.log inside.states (held_of inside.now)
     pub queues : QueuesAre inside.log inside.states inside.lists (length (held_of inside.opening))
-    pub rest : inside.waiting ≡ places (waiting_at inside.states) (length inside.log)
+    pub counts : CountsAre inside.log inside.states inside.lists inside.behind inside.ready
+    -- a finish lets up to three more be ready
+    pub room : 0 < inside.unfinished → inside.unfinished + 3 ≤ inside.room
     pub unfinished : inside.unfinished ≡ count_by is_open inside.states
     pub few_open : inside.unfinished ≤ OPEN_BEHAVIOURS
     pub few_numbers : length inside.earlier + length inside.log ≤ LOG_CALLS

@@ -1,4 +1,5 @@
 pub mod Board
+pub mod Due
 pub mod Faults
 pub mod Fronts
 pub mod Invariant

@@ -1,5 +1,5 @@
 -- Places in a list, counted from 0, at which something is so.
-use Rattle.std.specs.Prelude.{ℕ, zero, suc, Bool, true, not, ◌&&◌, if◌then◌else◌, List, [], ◌∷◌, ◌++◌}
+use Rattle.std.specs.Prelude.{ℕ, zero, suc, Bool, true, not, ◌&&◌, ◌||◌, ◌==◌, if◌then◌else◌, List, [], ◌∷◌, ◌++◌}
 
 -- the places below m at which f is so, in rising order (by recursion, since the proofs go by the same steps)
 abbrev pub places : (ℕ → Bool) → ℕ → List ℕ
@@ -10,3 +10,7 @@ places f (suc m) = places f m ++ (if f m then m ∷ [] else [])
 abbrev pub none_below : (ℕ → Bool) → ℕ → Bool
 none_below f zero = true
 none_below f (suc m) = none_below f m && not (f m)
+
+-- f is so, or it is this place
+abbrev pub with_place : (ℕ → Bool) → ℕ → ℕ → Bool
+with_place f place j = f j || (j == place)

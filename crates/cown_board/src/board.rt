@@ -1,26 +1,23 @@
 //! The board.
-ghost use Rattle.std.specs.Prelude.{◌≡◌, ◌≢◌, ◌↔◌, ◌<◌, ◌≤◌, ◌-◌, ◌++◌, [], ◌∷◌, suc, length, slice_get, IsTrue, IfOk, remove, IfSome, OnOk, OnErr, IsErrOf, IsOk, Some, None, Ok, Err, MatchOption, MatchResult, vec_len, vec_capacity};
-ghost use Rattle.std.specs.VecDeque.{deque_len, deque_capacity};
+ghost use Rattle.std.specs.Prelude.{◌≡◌, ◌≢◌, ◌↔◌, ◌<◌, ◌≤◌, ◌+◌, ◌-◌, ◌++◌, [], ◌∷◌, suc, length, slice_get, IsTrue, IfOk, IfSome, OnOk, OnErr, IsErrOf, IsOk, Some, None, Ok, Err, MatchOption, MatchResult, vec_len, vec_capacity};
+ghost use Rattle.std.specs.VecDeque.{deque_capacity};
 ghost use Rattle.sb_rows.specs.Balances.{IsBalances};
-ghost use Rattle.sb_calls.specs.Cowns.{AreBelow, AreHeld, IsRising, held_of, write_cowns};
+ghost use Rattle.sb_calls.specs.Cowns.{AreBelow, IsRising, held_of};
 ghost use Rattle.sb_calls.specs.OneByOne.{reply_by_log};
-ghost use Rattle.cown_queue.specs.Queues.{IsInFront, Releases};
 ghost use Rattle.cown_board.specs.Board.{BoardOf, length_of, open_of, reply_in, Takes, Finishes, IsOutHere, IsAfterAll};
 ghost use Rattle.cown_board.specs.Faults.{submit_fault_number};
 ghost use Rattle.cown_board.specs.Played.{StaysTrueToLog, Submitted, TakenAt, Returned};
 ghost use Rattle.cown_board.specs.Readiness.{ready_places};
 
 use crate::accepting::{is_out_at, place_of};
-use crate::fronts::nth_front;
+use crate::fronts::count_held;
 use crate::job::{Done, Job};
+use crate::ready_list::ReadyList;
 use crate::state::State;
-use arrayvec::ArrayVec;
 use cown_queue::Queues;
-use sb_amount::Cents;
 use sb_calls::{Behaviour, Cown, LOG_CALLS, Reply, read_cowns, write_cowns};
 use sb_rows::{CUSTOMERS, Columns};
 use std::alloc::{AllocError, Global};
-use std::collections::VecDeque;
 use std::marker::Model;
 use thiserror::Error;
 
@@ -68,13 +65,13 @@ pub struct Board<B: Behaviour> {
     states: Vec<State>,
     // For each cown the places in the log of the unfinished behaviours that declare it.
     queues: Queues,
-    // The places of the waiting ones.
-    waiting: VecDeque<u64>,
+    ready: ReadyList,
     unfinished: usize,
 }
 
 impl<B: Behaviour> Model for Board<B> {
     ghost use Rattle.std.specs.Prelude.{◌≡◌, length};
+    ghost use Rattle.std.specs.VecDeque.{deque_capacity};
     ghost use Rattle.cown_board.specs.Board.{BoardOf};
     ghost use Rattle.cown_board.specs.Invariant.{IsBoard};
 
@@ -95,7 +92,9 @@ impl<B: Behaviour> Model for Board<B> {
       log = b.log.items;
       states = b.states.items;
       lists = b.queues.lists;
-      waiting = b.waiting.items;
+      behind = b.ready.behind.items;
+      ready = b.ready.ready.items;
+      room = deque_capacity b.ready.ready;
       unfinished = b.unfinished;
     }) };
 }
@@ -123,7 +122,7 @@ impl<B: Behaviour> Board<B> {
             log: Vec::new(alloc),
             states: Vec::new(alloc),
             queues,
-            waiting: VecDeque::new(alloc),
+            ready: ReadyList::new(alloc),
             unfinished: 0,
         })
     }
@@ -134,7 +133,8 @@ impl<B: Behaviour> Board<B> {
         ensures { self.new ≡ self.old }
     {
         self.log.reserve(additional)?;
-        self.states.reserve(additional)
+        self.states.reserve(additional)?;
+        self.ready.behind.reserve(additional)
     }
 
     /// The greatest number so far.
@@ -186,23 +186,26 @@ impl<B: Behaviour> Board<B> {
             return Err(SubmitFault::LogFull);
         }
         let cowns = behaviour.cowns();
+        let unfinished = self.unfinished + 1;
         if make_room(
             &mut self.queues,
             cowns.as_slice(),
             &mut self.log,
             &mut self.states,
-            &mut self.waiting,
+            &mut self.ready,
+            unfinished,
         )
         .is_err()
         {
             return Err(SubmitFault::OutOfMemory);
         }
         let place = self.log.len() as u64;
+        let behind = count_held(&self.queues, cowns.as_slice());
         self.queues.append(place, cowns.as_slice());
         self.log.push_reserved(behaviour);
         self.states.push_reserved(State::Waiting);
-        self.waiting.push_back_reserved(place);
-        self.unfinished += 1;
+        self.ready.push(place, behind);
+        self.unfinished = unfinished;
         Ok(self.base + place + 1)
     }
 
@@ -219,8 +222,8 @@ impl<B: Behaviour> Board<B> {
             (StaysTrueToLog B.touches B.effect self.old (TakenAt index None) self.new)
             (λ job. StaysTrueToLog B.touches B.effect self.old (TakenAt index (Some job)) self.new) }
     {
-        let (position, place) = nth_front(&self.log, &self.queues, &self.waiting, index)?;
-        take_out(&mut self.waiting, position);
+        let place = self.ready.get(index)?;
+        self.ready.remove(index);
         let behaviour = self.log[place as usize];
         self.states[place as usize] = State::Out;
         let inputs = read_cowns(&self.columns, behaviour.cowns().as_slice());
@@ -248,13 +251,9 @@ impl<B: Behaviour> Board<B> {
         }
         let cowns = self.log[place as usize].cowns();
         let (reply, outputs) = done.into_effect();
-        settle(
-            &mut self.queues,
-            &mut self.columns,
-            place,
-            cowns.as_slice(),
-            outputs.as_slice(),
-        );
+        let fronts = self.queues.release(place, cowns.as_slice());
+        self.ready.come_forward(fronts.as_slice());
+        write_cowns(&mut self.columns, cowns.as_slice(), outputs.as_slice());
         self.states[place as usize] = State::Finished(reply);
         self.unfinished -= 1;
         Ok(reply)
@@ -305,56 +304,35 @@ impl<B: Behaviour> Board<B> {
     }
 }
 
-// Makes room for one behaviour more. Where memory is refused nothing is lost.
+// Makes room for one behaviour more, where so many will be unfinished with it. Where memory is refused nothing
+// is lost.
 #[inline(always)]
 fn make_room<B: Behaviour>(
     queues: &mut Queues,
     cowns: &[Cown],
     log: &mut Vec<B>,
     states: &mut Vec<State>,
-    waiting: &mut VecDeque<u64>,
+    ready: &mut ReadyList,
+    unfinished: usize,
 ) -> Result<(), AllocError>
     requires few { length cowns.now ≤ 3 }
     requires rising { IsRising cowns.now }
     requires cowns { AreBelow (length queues.old.lists) cowns.now }
+    requires unfinished { unfinished ≤ 1024 }
     ensures lists { queues.new.lists ≡ queues.old.lists }
     ensures reserved { OnOk result (queues.new.reserved ≡ cowns.now) }
     ensures log { (log.new.items ≡ log.old.items) × (vec_len log.new ≡ vec_len log.old) }
     ensures log_room { OnOk result (vec_len log.new < vec_capacity log.new) }
     ensures states { (states.new.items ≡ states.old.items) × (vec_len states.new ≡ vec_len states.old) }
     ensures states_room { OnOk result (vec_len states.new < vec_capacity states.new) }
-    ensures waiting { (waiting.new.items ≡ waiting.old.items) × (deque_len waiting.new ≡ deque_len waiting.old) }
-    ensures waiting_room { OnOk result (deque_len waiting.new < deque_capacity waiting.new) }
+    ensures behind { ready.new.behind.items ≡ ready.old.behind.items }
+    ensures behind_room { OnOk result (vec_len ready.new.behind < vec_capacity ready.new.behind) }
+    ensures ready { ready.new.ready.items ≡ ready.old.ready.items }
+    ensures room { deque_capacity ready.old.ready ≤ deque_capacity ready.new.ready }
+    ensures ready_room { OnOk result (unfinished + 3 ≤ deque_capacity ready.new.ready) }
 {
     log.reserve(1)?;
     states.reserve(1)?;
-    waiting.reserve(1)?;
+    ready.reserve(unfinished)?;
     queues.reserve(cowns)
-}
-
-// Takes a place from the front of its cowns, and leaves these values in them.
-fn settle(queues: &mut Queues, columns: &mut Columns, place: u64, cowns: &[Cown], outputs: &[Cents])
-    requires few { length cowns.now ≤ 3 }
-    requires rising { IsRising cowns.now }
-    requires queued { AreBelow (length queues.old.lists) cowns.now }
-    requires front { IsInFront place cowns.now queues.old.lists }
-    requires held { AreBelow (length (held_of columns.old)) cowns.now }
-    requires outputs { AreHeld cowns.now outputs.now }
-    ensures lists { Releases cowns.now queues.old.lists queues.new.lists }
-    ensures written { held_of columns.new ≡ write_cowns (held_of columns.old) cowns.now outputs.now }
-{
-    queues.release(place, cowns);
-    write_cowns(columns, cowns, outputs);
-}
-
-// Takes a position out of the waiting places. Where all are run in place it is the first.
-fn take_out(waiting: &mut VecDeque<u64>, position: usize)
-    requires { position < length waiting.old.items }
-    ensures { waiting.new.items ≡ remove waiting.old.items position }
-{
-    if position == 0 {
-        waiting.pop_front();
-    } else {
-        waiting.remove(position);
-    }
 }

@@ -6,6 +6,7 @@ mod board;
 mod fronts;
 mod job;
 mod laws;
+mod ready_list;
 mod runs;
 mod state;
 #[cfg(test)]

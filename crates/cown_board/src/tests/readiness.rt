@@ -32,6 +32,56 @@ fn run_amalgamation(rt: &impl Abort, bank: &mut Bank<Op>) -> Result<(), Fail> {
     Ok(())
 }
 
+// The cowns of the first three wait for nobody; each of the others waits until the one before it is finished.
+#[test]
+fn what_becomes_ready_is_listed_in_order(rt: HostRuntime) -> Result<(), Fail> {
+    let mut bank = open(rt.alloc())?;
+    let cent = amount(1)?;
+    for (number, place) in [
+        (1, ALICE),
+        (2, BOB),
+        (3, CAROL),
+        (4, ALICE),
+        (5, BOB),
+        (6, CAROL),
+    ] {
+        bank.submits(&rt, number, Op::DepositChecking(place, cent));
+    }
+    // The fifth becomes ready before the fourth and beside the third, and stands after both.
+    let second = bank.takes(&rt, 1, 2)?;
+    bank.finishes(&rt, second.run(), Reply::Done);
+    let first = bank.takes(&rt, 0, 1)?;
+    bank.finishes(&rt, first.run(), Reply::Done);
+    let fifth = bank.takes(&rt, 2, 5)?;
+    bank.takes_none(&rt, 2);
+    let fourth = bank.takes(&rt, 1, 4)?;
+    let third = bank.takes(&rt, 0, 3)?;
+    bank.takes_none(&rt, 0);
+    for job in [fifth, fourth, third] {
+        bank.finishes(&rt, job.run(), Reply::Done);
+    }
+    bank.runs(&rt, 6, Reply::Done)
+}
+
+// An amalgamation declares three cowns, and comes to the front of all when the one before it is finished.
+#[test]
+fn one_comes_to_the_front_of_two_cowns_at_once(rt: HostRuntime) -> Result<(), Fail> {
+    let mut bank = open(rt.alloc())?;
+    let Some(places) = TwoPlaces::new(ALICE, BOB) else {
+        return Err(Fail::new("one place"));
+    };
+    bank.submits(&rt, 1, Op::Amalgamate(places));
+    bank.submits(&rt, 2, Op::Amalgamate(places));
+    bank.submits(&rt, 3, Op::Balance(BOB));
+    let first = bank.takes(&rt, 0, 1)?;
+    bank.takes_none(&rt, 0);
+    bank.finishes(&rt, first.run(), Reply::Done);
+    let second = bank.takes(&rt, 0, 2)?;
+    bank.takes_none(&rt, 0);
+    bank.finishes(&rt, second.run(), Reply::Done);
+    bank.runs(&rt, 3, Reply::Shown(17_000))
+}
+
 #[test]
 fn ops_without_cowns_are_ready_at_once(rt: HostRuntime) -> Result<(), Fail> {
     let mut bank = open(rt.alloc())?;

@@ -1,14 +1,16 @@
-use Rattle.std.proofs.Common.{◌≡◌, true, false, Some, Err, length, refl, sym, ap, ◌∙◌, subst, arith}
-use Rattle.std.specs.Prelude.{slice_get}
+use Rattle.std.proofs.Common.{◌≡◌, ◌+◌, ◌<◌, get_or, true, false, Some, Err, length, refl, sym, ap, ◌∙◌, subst, arith}
+use Rattle.std.specs.Prelude.{All, slice_get}
+use Rattle.std.specs.VecDeque.{deque_capacity}
 use Rattle.std.proofs.lemmas.Bool.{both_ways}
 use Rattle.std.proofs.lemmas.Option.{slice_get_read}
 use Rattle.sb_calls.specs.Cowns.{AreBelow, AreHeld, held_of, write_cowns}
-use Rattle.cown_queue.specs.Queues.{IsInFront, Releases}
-use Rattle.cown_board.proofs.FinishedJob.{not_numbered, not_inside, refused_done, accepted_done, released_in_front, some_unfinished, outputs_held, board_finished, finishes_from, seen}
-use Rattle.cown_board.proofs.TakenJob.{declared_in_queues, declared_in_held}
+use Rattle.cown_queue.specs.Queues.{IsInFront, Releases, fronts_of}
+use Rattle.cown_board.proofs.FinishedJob.{not_numbered, not_inside, refused_done, accepted_done, released_in_front, some_unfinished, outputs_held, board_finished, fronts_behind, room_for_fronts, finishes_from, seen}
+use Rattle.cown_board.proofs.TakenJob.{declared_in_held}
 use Rattle.cown_board.proofs.LogLaws.{injective}
 use Rattle.cown_board.proofs.PlayedCalls.{played_refused, played_finished}
 use Rattle.cown_board.specs.Board.{BoardOf, IsOutHere}
+use Rattle.cown_board.specs.Due.{times}
 use Rattle.cown_board.specs.Played.{StaysTrueToLog, Returned}
 use Rattle.cown_board.proofs.board.Board.finish.Goals as goal
 
@@ -35,18 +37,8 @@ returns-then-not-is_out_at-clause-accepted g c =
     (refused_done touches effect board done (not_inside touches effect board c.in-Some.place done (sym c.number.ensures ∙ c.in-Some.ensures.1)
     (λ inside. both_ways c.is_out_at.result c.if-not-is_out_at.true (c.is_out_at.ensures.1 inside))))
 
-pub settle-requires-clause-queued : goal.settle-requires-clause-queued
-settle-requires-clause-queued g c =
-    let touches = g.B.Behaviour.touches in
-    let log = c.self.inside.log.items in
-    let here : slice_get log c.in-Some.place ≡ Some c.index.result.now =
-    slice_get_read log (length log) c.in-Some.place c.index.result.now refl
-    (omega (arith, c.in-Some.ensures.0, c.len.ensures, c.self.inside.log.ok)) c.index.ensures in
-    subst (AreBelow (length c.self.inside.queues.lists)) (sym (c.as_slice.ensures.value ∙ c.cowns-cowns.ensures))
-    (declared_in_queues touches g.B.Behaviour.effect c.self.invariant c.in-Some.place c.index.result.now here)
-
-pub settle-requires-clause-front : goal.settle-requires-clause-front
-settle-requires-clause-front g c =
+pub release-fronts-requires-clause-front : goal.release-fronts-requires-clause-front
+release-fronts-requires-clause-front g c =
     let touches = g.B.Behaviour.touches in
     let log = c.self.inside.log.items in
     let inside = c.is_out_at.ensures.0 c.if-not-is_out_at.false in
@@ -57,18 +49,18 @@ settle-requires-clause-front g c =
     subst (λ cowns. IsInFront c.in-Some.place cowns c.self.inside.queues.lists) (sym (c.as_slice.ensures.value ∙ c.cowns-cowns.ensures ∙ ap touches same))
     (released_in_front touches g.B.Behaviour.effect c.self.invariant c.in-Some.place c.args.done (sym c.number.ensures ∙ c.in-Some.ensures.1) inside)
 
-pub settle-requires-clause-held : goal.settle-requires-clause-held
-settle-requires-clause-held g c =
+pub write_cowns-requires-clause-cowns : goal.write_cowns-requires-clause-cowns
+write_cowns-requires-clause-cowns g c =
     let touches = g.B.Behaviour.touches in
     let log = c.self.inside.log.items in
     let here : slice_get log c.in-Some.place ≡ Some c.index.result.now =
     slice_get_read log (length log) c.in-Some.place c.index.result.now refl
     (omega (arith, c.in-Some.ensures.0, c.len.ensures, c.self.inside.log.ok)) c.index.ensures in
-    subst (AreBelow (length (held_of c.self.inside.columns))) (sym (c.as_slice.ensures.value ∙ c.cowns-cowns.ensures))
+    subst (AreBelow (length (held_of c.self.inside.columns))) (sym (c.as_slice-3.ensures.value ∙ c.cowns-cowns.ensures))
     (declared_in_held touches g.B.Behaviour.effect c.self.invariant c.in-Some.place c.index.result.now here)
 
-pub settle-requires-clause-outputs : goal.settle-requires-clause-outputs
-settle-requires-clause-outputs g c =
+pub write_cowns-requires-clause-values : goal.write_cowns-requires-clause-values
+write_cowns-requires-clause-values g c =
     let touches = g.B.Behaviour.touches in
     let log = c.self.inside.log.items in
     let inside = c.is_out_at.ensures.0 c.if-not-is_out_at.false in
@@ -76,15 +68,38 @@ settle-requires-clause-outputs g c =
     slice_get_read log (length log) c.in-Some.place c.index.result.now refl
     (omega (arith, c.in-Some.ensures.0, c.len.ensures, c.self.inside.log.ok)) c.index.ensures in
     let same : c.index.result.now ≡ c.args.done.behaviour = injective (sym here ∙ inside.1) in
-    subst (λ cowns. AreHeld cowns c.as_slice-2.result.now) (sym (c.as_slice.ensures.value ∙ c.cowns-cowns.ensures ∙ ap touches same))
+    subst (λ cowns. AreHeld cowns c.as_slice-4.result.now) (sym (c.as_slice-3.ensures.value ∙ c.cowns-cowns.ensures ∙ ap touches same))
     (outputs_held touches g.B.Behaviour.effect c.self.invariant c.in-Some.place c.args.done
     (sym c.number.ensures ∙ c.in-Some.ensures.1) inside g.met.B.Behaviour.keeps
-    c.as_slice-2.result.now (c.as_slice-2.ensures.value ∙ c.into_effect-reply.ensures.outputs))
+    c.as_slice-4.result.now (c.as_slice-4.ensures.value ∙ c.into_effect-reply.ensures.outputs))
 
 pub overflow_sub-self : goal.overflow_sub-self
 overflow_sub-self g c =
     let inside = c.is_out_at.ensures.0 c.if-not-is_out_at.false in
     some_unfinished g.B.Behaviour.touches g.B.Behaviour.effect c.self.invariant c.in-Some.place c.args.done (sym c.number.ensures ∙ c.in-Some.ensures.1) inside
+
+pub come_forward-requires-clause-behind : goal.come_forward-requires-clause-behind
+come_forward-requires-clause-behind g c j =
+    let touches = g.B.Behaviour.touches in
+    let log = c.self.inside.log.items in
+    let inside = c.is_out_at.ensures.0 c.if-not-is_out_at.false in
+    let here : slice_get log c.in-Some.place ≡ Some c.index.result.now =
+    slice_get_read log (length log) c.in-Some.place c.index.result.now refl
+    (omega (arith, c.in-Some.ensures.0, c.len.ensures, c.self.inside.log.ok)) c.index.ensures in
+    let same : c.index.result.now ≡ c.args.done.behaviour = injective (sym here ∙ inside.1) in
+    let declared : c.as_slice.result.now ≡ touches c.args.done.behaviour = c.as_slice.ensures.value ∙ c.cowns-cowns.ensures ∙ ap touches same in
+    fronts_behind touches g.B.Behaviour.effect c.self.invariant c.in-Some.place c.args.done
+    (sym c.number.ensures ∙ c.in-Some.ensures.1) inside g.met.B.Behaviour.rising c.into_effect-reply.result.0
+    c.release-fronts.new.self.lists c.as_slice-2.result.now
+    (subst (λ cowns. Releases cowns c.self.inside.queues.lists c.release-fronts.new.self.lists) declared c.release-fronts.ensures.lists)
+    (c.as_slice-2.ensures.value ∙ c.release-fronts.ensures.fronts ∙ ap (fronts_of c.release-fronts.new.self.lists) declared) j
+
+pub come_forward-requires-clause-room : goal.come_forward-requires-clause-room
+come_forward-requires-clause-room g c =
+    let inside = c.is_out_at.ensures.0 c.if-not-is_out_at.false in
+    let room = room_for_fronts g.B.Behaviour.touches g.B.Behaviour.effect c.self.invariant c.in-Some.place c.args.done
+    (sym c.number.ensures ∙ c.in-Some.ensures.1) inside in
+    omega (arith, room, c.self.inside.ready.ready.ok)
 
 pub invariant_of-self : goal.invariant_of-self
 invariant_of-self g c =
@@ -96,12 +111,21 @@ invariant_of-self g c =
     (omega (arith, c.in-Some.ensures.0, c.len.ensures, c.self.inside.log.ok)) c.index.ensures in
     let same : c.index.result.now ≡ c.args.done.behaviour = injective (sym here ∙ inside.1) in
     let declared : c.as_slice.result.now ≡ touches c.args.done.behaviour = c.as_slice.ensures.value ∙ c.cowns-cowns.ensures ∙ ap touches same in
+    let again : c.as_slice-3.result.now ≡ touches c.args.done.behaviour = c.as_slice-3.ensures.value ∙ c.cowns-cowns.ensures ∙ ap touches same in
+    let fronts : c.as_slice-2.result.now ≡ fronts_of c.release-fronts.new.self.lists (touches c.args.done.behaviour) =
+    c.as_slice-2.ensures.value ∙ c.release-fronts.ensures.fronts ∙ ap (fronts_of c.release-fronts.new.self.lists) declared in
     board_finished touches g.B.Behaviour.effect c.self.invariant c.in-Some.place c.args.done
-    (sym c.number.ensures ∙ c.in-Some.ensures.1) inside g.met.B.Behaviour.keeps
-    c.into_effect-reply.result.0 c.as_slice-2.result.now c.settle.new.columns c.settle.new.queues.lists
-    c.into_effect-reply.ensures.reply (c.as_slice-2.ensures.value ∙ c.into_effect-reply.ensures.outputs)
-    (c.settle.ensures.written ∙ ap (λ cowns. write_cowns (held_of c.self.inside.columns) cowns c.as_slice-2.result.now) declared)
-    (subst (λ cowns. Releases cowns c.self.inside.queues.lists c.settle.new.queues.lists) declared c.settle.ensures.lists)
+    (sym c.number.ensures ∙ c.in-Some.ensures.1) inside g.met.B.Behaviour.keeps g.met.B.Behaviour.rising
+    c.into_effect-reply.result.0 c.as_slice-4.result.now c.write_cowns.new.columns c.release-fronts.new.self.lists
+    c.come_forward.new.self.behind.items c.come_forward.new.self.ready.items (deque_capacity c.come_forward.new.self.ready)
+    c.into_effect-reply.ensures.reply (c.as_slice-4.ensures.value ∙ c.into_effect-reply.ensures.outputs)
+    (c.write_cowns.ensures ∙ ap (λ cowns. write_cowns (held_of c.self.inside.columns) cowns c.as_slice-4.result.now) again)
+    (subst (λ cowns. Releases cowns c.self.inside.queues.lists c.release-fronts.new.self.lists) declared c.release-fronts.ensures.lists)
+    c.come_forward.ensures.beside
+    (λ j. subst (λ xs. get_or c.come_forward.new.self.behind.items j 0 + times j xs ≡ get_or c.self.inside.ready.behind.items j 0) fronts
+    (c.come_forward.ensures.behind j))
+    (λ waits bound all. c.come_forward.ensures.due waits bound (subst (All (λ place. (place < bound) × (waits place ≡ true))) (sym fronts) all))
+    c.come_forward.ensures.room
 
 pub returns-clause-accepted : goal.returns-clause-accepted
 returns-clause-accepted g c =

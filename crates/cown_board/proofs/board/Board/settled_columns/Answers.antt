@@ -1,4 +1,4 @@
-use Rattle.std.proofs.Common.{◌≡◌, sym, ap, ◌∙◌, subst}
+use Rattle.std.proofs.Common.{◌≡◌, sym, ◌∙◌, subst}
 use Rattle.cown_board.proofs.FinishedJob.{after_all}
 use Rattle.cown_board.specs.Board.{BoardOf, open_of, IsAfterAll}
 use Rattle.cown_board.proofs.board.Board.settled_columns.Goals as goal

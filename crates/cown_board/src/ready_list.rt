@@ -1,0 +1,141 @@
+//! Which waiting behaviours are ready.
+ghost use Rattle.std.specs.Prelude.{◌≡◌, ◌+◌, ◌-◌, ◌<◌, ◌≤◌, ◌++◌, ◌==◌, ℕ, Bool, true, false, if◌then◌else◌, [], ◌∷◌, Some, All, length, get_or, slice_get, slice_set, remove, MatchOption, OnOk, vec_len, vec_capacity};
+ghost use Rattle.std.specs.VecDeque.{deque_len, deque_capacity};
+ghost use Rattle.cown_board.specs.Due.{is_due, AreDue, times};
+ghost use Rattle.cown_board.specs.Places.{places, with_place};
+
+use sb_calls::BEHAVIOUR_COWNS;
+use std::alloc::{AllocError, Global};
+use std::collections::VecDeque;
+
+// How far the behaviours of a log are from being ready.
+#[derive(Drop)]
+pub(crate) struct ReadyList {
+    // For each place of the log, at how many of its cowns the behaviour there isn't in front.
+    pub(crate) behind: Vec<u8>,
+    // The places of those that wait and are in front at all their cowns, in rising order.
+    pub(crate) ready: VecDeque<u64>,
+}
+
+impl ReadyList {
+    // That of an empty log.
+    pub(crate) fn new(alloc: Global) -> ReadyList
+        ensures behind { result.behind.items ≡ [] }
+        ensures ready { result.ready.items ≡ [] }
+    {
+        ReadyList {
+            behind: Vec::new(alloc),
+            ready: VecDeque::new(alloc),
+        }
+    }
+
+    // Makes room for one behaviour more, where this many will be unfinished with it, and for those that come to
+    // the front of their cowns when one of them is finished. Where memory is refused nothing is lost.
+    pub(crate) fn reserve(&mut self, unfinished: usize) -> Result<(), AllocError>
+        requires { unfinished ≤ 1024 }
+        ensures behind { (self.new.behind.items ≡ self.old.behind.items) ×
+            (vec_len self.new.behind ≡ vec_len self.old.behind) }
+        ensures ready { (self.new.ready.items ≡ self.old.ready.items) ×
+            (deque_len self.new.ready ≡ deque_len self.old.ready) }
+        ensures room { deque_capacity self.old.ready ≤ deque_capacity self.new.ready }
+        ensures behind_room { OnOk result (vec_len self.new.behind < vec_capacity self.new.behind) }
+        ensures ready_room { OnOk result (unfinished + 3 ≤ deque_capacity self.new.ready) }
+    {
+        self.behind.reserve(1)?;
+        let wanted = unfinished + BEHAVIOUR_COWNS;
+        self.ready.reserve(wanted.saturating_sub(self.ready.len()))
+    }
+
+    // One behaviour more, at this place of the log, which isn't in front at so many of its cowns.
+    #[inline(always)]
+    pub(crate) fn push(&mut self, place: u64, behind: u8)
+        requires behind_room { vec_len self.old.behind < vec_capacity self.old.behind }
+        requires ready_room { deque_len self.old.ready < deque_capacity self.old.ready }
+        ensures behind { self.new.behind.items ≡ self.old.behind.items ++ behind ∷ [] }
+        ensures ready { self.new.ready.items ≡
+            (if behind == 0 then self.old.ready.items ++ place ∷ [] else self.old.ready.items) }
+        ensures room { deque_capacity self.new.ready ≡ deque_capacity self.old.ready }
+    {
+        self.behind.push_reserved(behind);
+        if behind == 0 {
+            self.ready.push_back_reserved(place);
+        }
+    }
+
+    // The ready place that has this many ready ones before it.
+    pub(crate) fn get(&self, index: usize) -> Option<u64>
+        ensures { MatchOption result
+            (length self.now.ready.items ≤ index)
+            (λ place. slice_get self.now.ready.items index ≡ Some place) }
+    {
+        self.ready.get(index).copied()
+    }
+
+    // Takes a ready place out. Where all are run in place it is the first.
+    pub(crate) fn remove(&mut self, index: usize)
+        requires { index < length self.old.ready.items }
+        ensures behind { self.new.behind ≡ self.old.behind }
+        ensures ready { self.new.ready.items ≡ remove self.old.ready.items index }
+        ensures room { deque_capacity self.new.ready ≡ deque_capacity self.old.ready }
+    {
+        if index == 0 {
+            self.ready.pop_front();
+        } else {
+            self.ready.remove(index);
+        }
+    }
+
+    // Each of these waiting places is in front at one cown more, once for each time that it is given. What is in
+    // front at all its cowns then is ready.
+    pub(crate) fn come_forward(&mut self, fronts: &[u64])
+        requires few { length fronts.now ≤ 3 }
+        requires behind { (place : ℕ) → times place fronts.now ≤ get_or self.old.behind.items place 0 }
+        requires room { deque_len self.old.ready + 3 ≤ deque_capacity self.old.ready }
+        ensures beside { length self.new.behind.items ≡ length self.old.behind.items }
+        ensures behind { (place : ℕ) → get_or self.new.behind.items place 0 + times place fronts.now
+            ≡ get_or self.old.behind.items place 0 }
+        ensures due { (waits : ℕ → Bool) (bound : ℕ) →
+            All (λ place. (place < bound) × (waits place ≡ true)) fronts.now →
+            AreDue waits self.old.behind.items bound self.old.ready.items →
+            AreDue waits self.new.behind.items bound self.new.ready.items }
+        ensures room { deque_capacity self.old.ready ≤ deque_capacity self.new.ready }
+    {
+        for place in fronts {
+            self.step_forward(*place);
+        }
+    }
+
+    // A waiting place is in front at one cown more.
+    fn step_forward(&mut self, place: u64)
+        requires behind { 0 < get_or self.old.behind.items place 0 }
+        requires room { deque_len self.old.ready < deque_capacity self.old.ready }
+        ensures behind { self.new.behind.items
+            ≡ slice_set self.old.behind.items place (get_or self.old.behind.items place 0 - 1) }
+        ensures due { (waits : ℕ → Bool) (bound : ℕ) → place < bound → waits place ≡ true →
+            AreDue waits self.old.behind.items bound self.old.ready.items →
+            AreDue waits self.new.behind.items bound self.new.ready.items }
+        ensures len { deque_len self.new.ready ≤ deque_len self.old.ready + 1 }
+        ensures room { deque_capacity self.old.ready ≤ deque_capacity self.new.ready }
+    {
+        let number = place as usize;
+        let behind = self.behind[number] - 1;
+        self.behind[number] = behind;
+        if behind == 0 {
+            put_in_order(&mut self.ready, place);
+        }
+    }
+}
+
+// Puts a place into a rising list that hasn't got it.
+fn put_in_order(list: &mut VecDeque<u64>, place: u64)
+    requires { deque_len list.old < deque_capacity list.old }
+    ensures items { (f : ℕ → Bool) (bound : ℕ) → place < bound → f place ≡ false →
+        list.old.items ≡ places f bound → list.new.items ≡ places (with_place f place) bound }
+    ensures len { deque_len list.new ≡ deque_len list.old + 1 }
+    ensures room { deque_capacity list.old ≤ deque_capacity list.new }
+{
+    let index = list.partition_point(|other| *other < place);
+    let inserted = list.insert(index, place).is_ok();
+    // There is room.
+    prove!(inserted);
+}
