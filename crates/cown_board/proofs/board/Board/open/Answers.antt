@@ -8,7 +8,7 @@ pub invariant_of-result : goal.invariant_of-result
 invariant_of-result g c =
     let copied : c.in_ok-opening.opening ≡ c.args.columns = c.in_ok-opening.ensures in
     let valid : IsBalances c.in_ok-opening.opening = subst IsBalances (sym copied) c.customers.ensures.valid in
-    let made : c.in_ok-queues.queues ≡ record { lists = replicate {A = List ℕ} (2 * c.customers.result) []; reserved = [] } = c.in_ok-queues.ensures in
+    let made : c.in_ok-queues.queues ≡ record { lists = replicate {A = List ℕ} (2 * c.customers.result) []; reserved = []; places = 0 } = c.in_ok-queues.ensures in
     rw (c.new.ensures.items, c.new-2.ensures.items, c.new-3.ensures.behind, c.new-3.ensures.ready)
     (IsBoard-opened g.B.Behaviour.touches g.B.Behaviour.effect c.in_ok-opening.opening c.args.columns c.args.base c.args.replies.items
     c.in_ok-queues.queues.lists (deque_capacity c.new-3.result.ready)
