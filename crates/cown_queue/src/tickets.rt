@@ -24,6 +24,7 @@ struct Ends {
     last: u32,
 }
 
+// What a ticket takes, and what an idle cown does.
 const _: () = prove!(size_of::<Ticket>() == 16);
 
 const _: () = prove!(size_of::<Ends>() == 8);
@@ -32,9 +33,9 @@ const _: () = prove!(size_of::<Ends>() == 8);
 #[derive(Drop)]
 pub(crate) struct Tickets {
     table: Vec<Ticket>,
-    // Those of each cown, so that an idle one takes no more.
+    // Where the chain of each cown begins and ends: all that an idle cown takes.
     ends: Vec<Ends>,
-    // The places of the table that no chain has. It takes all of them without memory.
+    // The places of the table that are in no chain. There is memory for all places to be here.
     free: Vec<u32>,
 }
 
@@ -89,8 +90,8 @@ impl Tickets {
         self.table.len()
     }
 
-    /// Makes places until this many are free. Where memory is refused, or a place would be too great a number,
-    /// nothing changes.
+    /// Sees to it that this many places are free, or more. Where memory is refused, or a place would no longer
+    /// fit, nothing changes.
     pub(crate) fn grow(&mut self, wanted: usize) -> Result<(), AllocError>
         ensures lists { self.new.lists ≡ self.old.lists }
         ensures free { OnOk result (self.new.free ≡ max self.old.free wanted) }
@@ -105,7 +106,7 @@ impl Tickets {
         self.add_places(wanted - free)
     }
 
-    // Adds this many free places, or none.
+    // Adds this many free places, or none of them.
     #[cold]
     fn add_places(&mut self, count: usize) -> Result<(), AllocError>
         ensures lists { self.new.lists ≡ self.old.lists }

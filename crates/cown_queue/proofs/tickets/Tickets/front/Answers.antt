@@ -15,19 +15,21 @@ at_cown c =
 
 pub returns-in_err-get : goal.returns-in_err-get
 returns-in_err-get c =
+    let inside = c.self.inside in
+    let ends = c.in_ok-first.field-0.now in
     let read = at_cown (goal.at.returns-in_err-get c).In_ok-first in
-    let past : length c.self.inside.table.items ≤ c.in_ok-first.field-0.now.first = omega (arith, c.in_err-get.ensures.lookup.3, ap length c.deref-2.ensures.value) in
+    let past : length inside.table.items ≤ ends.first = omega (arith, c.in_err-get.ensures.lookup.3, ap length c.deref-2.ensures.value) in
     c.from_residual-in_err-get.ensures
     ∙ subst (λ (v : TicketLists). ◌≡◌ {A = Option ℕ} None (slice_get (list_of v.lists c.args.cown) 0)) c.self.view_is
-    (sym (front_none c.self.inside.table.items c.self.inside.ends.items c.args.cown c.in_ok-first.field-0.now read.0 read.1 past))
+    (sym (front_none inside.table.items inside.ends.items c.args.cown ends read.0 read.1 past))
 
 pub returns : goal.returns
 returns c =
+    let inside = c.self.inside in
+    let ends = c.in_ok-first.field-0.now in
+    let ticket = c.in_ok-get.field-0.now in
     let read = at_cown (goal.at.returns c).In_ok-first in
-    let here : c.in_ok-first.field-0.now.first < length c.self.inside.table.items =
-    omega (arith, c.in_ok-get.ensures.lookup.3.0, ap length c.deref-2.ensures.value) in
-    let ticket =
-    ticket_read c.self.inside.table.items c.in_ok-first.field-0.now.first c.in_ok-get.field-0.now here
-    (rw c.deref-2.ensures.value at c.in_ok-get.ensures.lookup.1) in
-    subst (λ (v : TicketLists). Some c.in_ok-get.field-0.now.number ≡ slice_get (list_of v.lists c.args.cown) 0) c.self.view_is
-    (sym (front_some c.self.inside.table.items c.self.inside.ends.items c.args.cown c.in_ok-first.field-0.now c.in_ok-get.field-0.now read.0 read.1 here ticket))
+    let here : ends.first < length inside.table.items = omega (arith, c.in_ok-get.ensures.lookup.3.0, ap length c.deref-2.ensures.value) in
+    let found = ticket_read inside.table.items ends.first ticket here (rw c.deref-2.ensures.value at c.in_ok-get.ensures.lookup.1) in
+    subst (λ (v : TicketLists). Some ticket.number ≡ slice_get (list_of v.lists c.args.cown) 0) c.self.view_is
+    (sym (front_some inside.table.items inside.ends.items c.args.cown ends ticket read.0 read.1 here found))
