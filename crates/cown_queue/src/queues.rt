@@ -14,7 +14,7 @@ use std::marker::Model;
 #[derive(Drop)]
 pub struct Queues {
     tickets: Tickets,
-    // The cowns that have room for one number more, if they are there: as many places are free.
+    // The cowns that have room for one number more, if they are there: at least as many places are free.
     reserved: Vec<Cown>,
 }
 
@@ -52,7 +52,7 @@ impl Queues {
         self.tickets.cowns()
     }
 
-    /// How many tickets there are places for: one for each number, and one for each reserved cown.
+    /// How many tickets there are places for: at least one for each number and each reserved cown.
     pub fn places(&self) -> usize
         ensures value { result ≡ self.now.places }
         ensures enough { held_in self.now.lists + length self.now.reserved ≤ self.now.places }
