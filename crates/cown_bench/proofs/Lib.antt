@@ -1,0 +1,6 @@
+mod Moves
+mod Numbered
+mod Passing
+mod PickLists
+mod Sums
+mod TakingOut

@@ -1,0 +1,251 @@
+-- Each move on a bench keeps its rule.
+use Rattle.std.proofs.Common.{◌≡◌, ◌≢◌, ℕ, zero, suc, ◌<◌, true, false, List, [], ◌∷◌, ◌++◌, length, set, refl, sym, ap, ◌∙◌, subst, ⊎_elim, append_assoc, length-append, arith}
+use Rattle.std.specs.Prelude.{sum_by}
+use Rattle.std.specs.List.{enumerate_from}
+use mathlib.Core.Option.{some, some-injective, some-ne-none}
+use lib.ListN.{get_elem?}
+use Rattle.std.proofs.lemmas.Bool.{true≢false, false≢true}
+use Rattle.std.proofs.lemmas.List.Sums.{sum_by_push}
+use Rattle.crossbeam_queue.specs.Fifo.{Pushes, Pops, Forks, Merges, Learns}
+use Rattle.crossbeam_queue.proofs.Lists.{at_set}
+use Rattle.cown_bench.specs.Rule.{weight_known, Fits, Holds, AddsOffer, AddsPick, HasOffered}
+use Rattle.cown_bench.specs.Views.{all_parts, owner_view, worker_view, spent_view, with_one_cut, with_taken_in}
+use Rattle.cown_bench.specs.Work.{WorkOf, PickOf}
+use Rattle.cown_bench.specs.declared.known.Known.{Known}
+use Rattle.cown_bench.proofs.Numbered.{enumerate_from-push}
+use Rattle.cown_bench.proofs.PickLists.{own_picks, lists-longer, lists-pick, lists-told, lists-nil, weight-pick, weight-told}
+use Rattle.cown_bench.proofs.Sums.{sum_by-changed, each_set, each_push}
+
+-- a pass that knows nothing and doesn't offer
+fits_nobody : (owner : ℕ) (offered taken drained : List WorkOf) (pass : ℕ) → Fits owner offered taken drained pass spent_view
+fits_nobody owner offered taken drained pass = record {
+  sole = λ may. absurd (false≢true may);
+  offers = λ may. absurd (false≢true may);
+  drains = λ may. absurd (false≢true may);
+  works = λ _ some_part. absurd (omega (arith, some_part));
+  idle = λ _. (refl, refl);
+  picks = lists-nil taken;
+}
+
+pub begins : Holds [] (owner_view all_parts [] [] [] ∷ [])
+begins = record {
+  owner = 0;
+  offered = [];
+  taken = [];
+  drained = [];
+  order = refl;
+  room = omega arith;
+  whole = refl;
+  weights = λ weight. refl;
+  each = one;
+}
+  where
+    one : (pass : ℕ) (known : Known) → get_elem? (owner_view all_parts [] [] [] ∷ []) pass ≡ some known → Fits 0 [] [] [] pass known
+    one zero known here = subst (Fits 0 [] [] [] zero) (some-injective (owner_view all_parts [] [] []) known here)
+        (record {
+          sole = λ _. refl;
+          offers = λ _. refl;
+          drains = λ _. refl;
+          works = λ off _. absurd (true≢false off);
+          idle = λ _. (refl, refl);
+          picks = lists-nil [];
+        })
+    one (suc pass) known here = absurd (some-ne-none known (sym here))
+
+-- the owner offers one more
+pub offers_one : (n pass : ℕ) (v : Known) (work : WorkOf) → n ≡ 1040 → v.offers ≡ true → v.drained ≡ [] → Pushes Holds n pass v work (AddsOffer v work)
+offers_one n pass v work capacity may none items views room rule here =
+    let w : Known = record v { offered = v.offered ++ work ∷ [] } in
+    let mine = rule.each pass v here in
+    let empty : length rule.drained ≡ 0 = ap length (sym (mine.drains may) ∙ none) in
+    let order = ap (λ l. l ++ work ∷ []) rule.order
+    ∙ (append_assoc rule.taken (rule.drained ++ items) (work ∷ []) ∙ ap (λ l. rule.taken ++ l) (append_assoc rule.drained items (work ∷ []))) in (
+      w,
+      record {
+        owner = rule.owner;
+        offered = rule.offered ++ work ∷ [];
+        taken = rule.taken;
+        drained = rule.drained;
+        order = order;
+        room = omega (arith, capacity, room, empty, length-append items (work ∷ []));
+        whole = (let change = sum_by-changed (λ (known : Known). known.parts) views pass v w here in omega (arith, change, rule.whole));
+        weights = λ weight. (let change = sum_by-changed (weight_known weight) views pass v w here in omega (arith, change, rule.weights weight));
+        each = each_set (Fits rule.owner (rule.offered ++ work ∷ []) rule.taken rule.drained) views pass w
+            (record {
+              sole = mine.sole;
+              offers = λ _. ap (λ l. l ++ work ∷ []) (mine.offers may);
+              drains = mine.drains;
+              works = mine.works;
+              idle = mine.idle;
+              picks = mine.picks;
+            })
+            (λ j u apart there. let theirs = rule.each j u there in record {
+              sole = theirs.sole;
+              offers = λ they. absurd (apart (theirs.sole they ∙ sym (mine.sole may)));
+              drains = theirs.drains;
+              works = theirs.works;
+              idle = theirs.idle;
+              picks = theirs.picks;
+            });
+      },
+      refl,
+    )
+
+-- no more is there than was offered
+pub offered_all : (pass : ℕ) (v : Known) → v.offers ≡ true → Learns Holds pass v (HasOffered v)
+offered_all pass v may items views rule here =
+    let mine = rule.each pass v here in
+    let known : length v.offered ≡ length rule.offered = ap length (mine.offers may) in
+    let parts : length rule.offered ≡ length (rule.taken ++ (rule.drained ++ items)) = ap length rule.order in
+    omega (arith, known, parts, length-append rule.taken (rule.drained ++ items), length-append rule.drained items)
+
+-- where nothing was taken out at the end, what is first goes to those that are taken
+first_taken : (taken drained items : List WorkOf) (work : WorkOf) → drained ≡ [] → taken ++ (drained ++ work ∷ items) ≡ (taken ++ work ∷ []) ++ (drained ++ items)
+first_taken taken drained items work none =
+    subst (λ (l : List WorkOf). taken ++ (l ++ work ∷ items) ≡ (taken ++ work ∷ []) ++ (l ++ items)) (sym none) (sym (append_assoc taken (work ∷ []) items))
+
+-- a worker picks the first
+pub picks_one : (pass : ℕ) (v : Known) → v.offers ≡ false → 0 < v.parts → Pops Holds pass v (AddsPick v)
+picks_one pass v off some_part work items views rule here =
+    let mine = rule.each pass v here in
+    let none : rule.drained ≡ [] = mine.works off some_part in
+    let pick : PickOf = (length rule.taken, work) in
+    let taken : List WorkOf = rule.taken ++ work ∷ [] in
+    let w : Known = record v { picked = v.picked ++ pick ∷ [] } in (
+      w,
+      record {
+        owner = rule.owner;
+        offered = rule.offered;
+        taken = taken;
+        drained = rule.drained;
+        order = rule.order ∙ first_taken rule.taken rule.drained items work none;
+        room = omega (arith, rule.room);
+        whole = (let change = sum_by-changed (λ (known : Known). known.parts) views pass v w here in omega (arith, change, rule.whole));
+        weights = λ weight.
+            (let change = sum_by-changed (weight_known weight) views pass v w here in
+            let more = weight-pick weight v.picked pick v.told in
+            let numbered = ap (sum_by weight) (enumerate_from-push rule.taken work) ∙ sum_by_push weight (enumerate_from 0 rule.taken) pick in
+            omega (arith, change, more, numbered, rule.weights weight));
+        each = each_set (Fits rule.owner rule.offered taken rule.drained) views pass w
+            (record {
+              sole = mine.sole;
+              offers = mine.offers;
+              drains = mine.drains;
+              works = mine.works;
+              idle = λ no_part. absurd (omega (arith, no_part, some_part));
+              picks = lists-pick rule.taken v.picked v.told mine.picks work;
+            })
+            (λ j u apart there. let theirs = rule.each j u there in record {
+              sole = theirs.sole;
+              offers = theirs.offers;
+              drains = theirs.drains;
+              works = theirs.works;
+              idle = theirs.idle;
+              picks = lists-longer rule.taken u.picked u.told theirs.picks (work ∷ []);
+            });
+      },
+      (length rule.taken, refl),
+    )
+
+-- a worker's pass is cut from that of an owner that was told nothing
+pub cuts_one : (pass parts : ℕ) (offered : List WorkOf) → 0 < parts
+    → Forks Holds pass (owner_view parts offered [] []) (with_one_cut (owner_view parts offered [] [])) (worker_view [])
+cuts_one pass parts offered some_part items views rule here =
+    let v = owner_view parts offered [] [] in
+    let w = with_one_cut v in
+    let mine = rule.each pass v here in
+    let none : rule.drained ≡ [] = sym (mine.drains refl) in
+    record {
+      owner = rule.owner;
+      offered = rule.offered;
+      taken = rule.taken;
+      drained = rule.drained;
+      order = rule.order;
+      room = rule.room;
+      whole = (let change = sum_by-changed (λ (known : Known). known.parts) views pass v w here in
+          let more = sum_by_push (λ (known : Known). known.parts) (set views pass w) (worker_view []) in omega (arith, change, more, some_part, rule.whole));
+      weights = λ weight.
+          (let change = sum_by-changed (weight_known weight) views pass v w here in
+          let more = sum_by_push (weight_known weight) (set views pass w) (worker_view []) in omega (arith, change, more, rule.weights weight));
+      each = each_push (Fits rule.owner rule.offered rule.taken rule.drained) (set views pass w) (worker_view [])
+          (λ j. record {
+            sole = λ may. absurd (false≢true may);
+            offers = λ may. absurd (false≢true may);
+            drains = λ may. absurd (false≢true may);
+            works = λ _ _. none;
+            idle = λ _. (refl, refl);
+            picks = lists-nil rule.taken;
+          })
+          (each_set (Fits rule.owner rule.offered rule.taken rule.drained) views pass w
+          (record {
+            sole = mine.sole;
+            offers = mine.offers;
+            drains = mine.drains;
+            works = λ off _. absurd (true≢false off);
+            idle = λ _. (refl, refl);
+            picks = mine.picks;
+          })
+          (λ j u apart there. rule.each j u there));
+    }
+
+-- the owner takes a worker's pass in
+pub takes_in : (pass parts : ℕ) (offered : List WorkOf) (told : List (List PickOf)) (other : ℕ) (picked : List PickOf)
+    → Merges Holds pass (owner_view parts offered told []) other (worker_view picked)
+    (with_taken_in (owner_view parts offered told []) (worker_view picked)) spent_view
+takes_in pass parts offered told other picked items views rule here apart there =
+    let v = owner_view parts offered told [] in
+    let u = worker_view picked in
+    let w = with_taken_in v u in
+    let mine = rule.each pass v here in
+    let was : get_elem? views other ≡ some u =
+    ⊎_elim (λ (x : (other ≡ pass) × (w ≡ u)). absurd (apart x.0)) (λ (x : (other ≢ pass) × (get_elem? views other ≡ some u)). x.1) (at_set views pass other w u there) in
+    let theirs = own_picks rule.taken picked [] (rule.each other u was).picks in
+    record {
+      owner = rule.owner;
+      offered = rule.offered;
+      taken = rule.taken;
+      drained = rule.drained;
+      order = rule.order;
+      room = rule.room;
+      whole = (let change = sum_by-changed (λ (known : Known). known.parts) views pass v w here in
+          let spent = sum_by-changed (λ (known : Known). known.parts) (set views pass w) other u spent_view there in omega (arith, change, spent, rule.whole));
+      weights = λ weight.
+          (let change = sum_by-changed (weight_known weight) views pass v w here in
+          let spent = sum_by-changed (weight_known weight) (set views pass w) other u spent_view there in
+          omega (arith, change, spent, weight-told weight told picked, rule.weights weight));
+      each = each_set (Fits rule.owner rule.offered rule.taken rule.drained) (set views pass w) other spent_view
+          (fits_nobody rule.owner rule.offered rule.taken rule.drained other)
+          (λ j k _ at. each_set (Fits rule.owner rule.offered rule.taken rule.drained) views pass w
+          (record {
+            sole = mine.sole;
+            offers = mine.offers;
+            drains = mine.drains;
+            works = λ off _. absurd (true≢false off);
+            idle = λ no_part. absurd (omega (arith, no_part));
+            picks = lists-told rule.taken [] told mine.picks picked theirs;
+          })
+          (λ i x _ old. rule.each i x old) j k at);
+    }
+
+-- the moves, at a view that is known
+pub offers_as : (n pass : ℕ) (v : Known) (work : WorkOf) (parts : ℕ) (offered : List WorkOf) → n ≡ 1040 → v ≡ owner_view parts offered [] []
+    → Pushes Holds n pass v work (AddsOffer v work) × Learns Holds pass v (HasOffered v)
+offers_as n pass v work parts offered capacity is =
+    let may : v.offers ≡ true = ap (λ (u : Known). u.offers) is in
+    (offers_one n pass v work capacity may (ap (λ (u : Known). u.drained) is), offered_all pass v may)
+
+pub picks_as : (pass : ℕ) (v : Known) (picked : List PickOf) → v ≡ worker_view picked → Pops Holds pass v (AddsPick v)
+picks_as pass v picked is =
+    let one : v.parts ≡ 1 = ap (λ (u : Known). u.parts) is in
+    picks_one pass v (ap (λ (u : Known). u.offers) is) (omega (arith, one))
+
+pub cuts_as : (pass : ℕ) (v : Known) (parts : ℕ) (offered : List WorkOf) → 0 < parts → v ≡ owner_view parts offered [] []
+    → Forks Holds pass v (with_one_cut v) (worker_view [])
+cuts_as pass v parts offered some_part is =
+    subst (λ (u : Known). Forks Holds pass u (with_one_cut u) (worker_view [])) (sym is) (cuts_one pass parts offered some_part)
+
+pub takes_in_as : (pass : ℕ) (v : Known) (parts : ℕ) (offered : List WorkOf) (told : List (List PickOf)) (other : ℕ) (u : Known) (picked : List PickOf)
+    → v ≡ owner_view parts offered told [] → u ≡ worker_view picked → Merges Holds pass v other u (with_taken_in v u) spent_view
+takes_in_as pass v parts offered told other u picked is theirs =
+    subst (λ (x : Known × Known). Merges Holds pass x.0 other x.1 (with_taken_in x.0 x.1) spent_view) (λ i. (sym is i, sym theirs i))
+    (takes_in pass parts offered told other picked)

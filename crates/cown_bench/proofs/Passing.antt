@@ -1,0 +1,24 @@
+-- What contracts see of a pass after a move.
+use Rattle.std.proofs.Common.{◌≡◌, ℕ, Option, Some, None, [], ◌∷◌, ◌++◌, ap, ◌∙◌}
+use Rattle.std.specs.Prelude.{IfSome, MatchOption}
+use Rattle.crossbeam_queue.specs.Passes.{Pass, view}
+use Rattle.cown_bench.specs.Passes.{WorkerOf}
+use Rattle.cown_bench.specs.Rule.{AddsPick}
+use Rattle.cown_bench.specs.Views.{worker_of}
+use Rattle.cown_bench.specs.Work.{WorkOf}
+use Rattle.cown_bench.specs.declared.known.Known.{Known}
+
+-- a worker's, with the pick at its end
+with_pick : (old new : Pass WorkOf Known) (seen : WorkerOf) (work : WorkOf) → worker_of old ≡ seen → new.table_id ≡ old.table_id → AddsPick (view old) work (view new)
+    → (place : ℕ) × (worker_of new ≡ record seen { picked = seen.picked ++ (place, work) ∷ [] })
+with_pick old new seen work is same adds =
+    let place : ℕ = adds.0 in
+    let moved : worker_of new ≡ record { bench = old.table_id; picked = (view old).picked ++ (place, work) ∷ [] } =
+    λ i. record { bench = same i; picked = (adds.1 i).picked } in
+    (place, moved ∙ ap (λ (w : WorkerOf). record w { picked = w.picked ++ (place, work) ∷ [] }) is)
+
+pub picked_at : (old new : Pass WorkOf Known) (seen : WorkerOf) (answer : Option WorkOf) (P : Type 0) → worker_of old ≡ seen → new.table_id ≡ old.table_id
+    → MatchOption answer P (λ work. AddsPick (view old) work (view new))
+    → IfSome answer (λ work. (place : ℕ) × (worker_of new ≡ record seen { picked = seen.picked ++ (place, work) ∷ [] }))
+picked_at old new seen None P is same adds = tt
+picked_at old new seen (Some work) P is same adds = with_pick old new seen work is same adds

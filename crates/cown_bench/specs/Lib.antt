@@ -1,0 +1,5 @@
+pub mod Parting
+pub mod Passes
+pub mod Rule
+pub mod Views
+pub mod Work

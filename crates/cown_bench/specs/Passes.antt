@@ -1,0 +1,23 @@
+-- A bench and its passes, as contracts see them.
+use Rattle.std.specs.Prelude.{ℕ, List, map}
+use Rattle.atomic_table.specs.Seated.{TableId}
+use Rattle.cown_bench.specs.Work.{WorkOf, PickOf}
+
+-- which bench it is
+abbrev pub BenchId : Type 0
+BenchId = TableId
+
+-- the owner's pass: its bench, how many workers that has, and what was offered, in order
+pub record OwnerOf : Type 0 where
+  pub bench : BenchId
+  pub workers : ℕ
+  pub offered : List WorkOf
+
+-- a worker's pass: its bench, and what was picked, in order
+pub record WorkerOf : Type 0 where
+  pub bench : BenchId
+  pub picked : List PickOf
+
+-- what was picked with each of these passes
+abbrev pub picked_of : List WorkerOf → List (List PickOf)
+picked_of workers = map (λ (worker : WorkerOf). worker.picked) workers

@@ -1,0 +1,58 @@
+-- What the passes of a bench know.
+use Rattle.std.specs.Prelude.{◌≡◌, ℕ, ◌+◌, ◌-◌, ◌≤◌, true, false, List, [], ◌∷◌, ◌++◌}
+use Rattle.crossbeam_queue.specs.Passes.{Pass, view}
+use Rattle.cown_bench.specs.Passes.{OwnerOf, WorkerOf}
+use Rattle.cown_bench.specs.Work.{WorkOf, PickOf}
+use Rattle.cown_bench.specs.declared.bench.TheConstants.{BENCH_CAPACITY, WORKERS}
+use Rattle.cown_bench.specs.declared.known.Known.{Known}
+
+-- the parts of all passes together
+abbrev pub all_parts : ℕ
+all_parts = WORKERS + 1
+
+-- the owner's: its parts, what was offered, what the passes that it took in picked, and what was taken out
+abbrev pub owner_view : ℕ → List WorkOf → List (List PickOf) → List WorkOf → Known
+owner_view parts offered told drained =
+    record { parts = parts; offers = true; offered = offered; picked = []; told = told; drained = drained }
+
+-- a worker's: what was picked
+abbrev pub worker_view : List PickOf → Known
+worker_view picked = record { parts = 1; offers = false; offered = []; picked = picked; told = []; drained = [] }
+
+-- that of a pass that was taken in
+abbrev pub spent_view : Known
+spent_view = record { parts = 0; offers = false; offered = []; picked = []; told = []; drained = [] }
+
+-- the owner's once a worker's pass was cut from it
+abbrev pub with_one_cut : Known → Known
+with_one_cut known = record known { parts = known.parts - 1 }
+
+-- the owner's once it has taken a worker's pass in
+abbrev pub with_taken_in : Known → Known → Known
+with_taken_in known other =
+    record known { parts = known.parts + other.parts; told = known.told ++ other.picked ∷ [] }
+
+-- what contracts see of the owner's pass
+abbrev pub owner_of : Pass WorkOf Known → OwnerOf
+owner_of pass =
+    record { bench = pass.table_id; workers = all_parts - (view pass).parts; offered = (view pass).offered }
+
+-- what contracts see of a worker's pass
+abbrev pub worker_of : Pass WorkOf Known → WorkerOf
+worker_of pass = record { bench = pass.table_id; picked = (view pass).picked }
+
+-- an owner's pass before its bench is closed
+pub record IsOwner (pass : Pass WorkOf Known) : Type 0 where
+  pub no_slot : pass.me.1 ≡ []
+  pub few : (view pass).parts ≤ all_parts
+  pub knows : view pass ≡ owner_view (view pass).parts (view pass).offered [] []
+
+pub record IsWorker (pass : Pass WorkOf Known) : Type 0 where
+  pub no_slot : pass.me.1 ≡ []
+  pub knows : view pass ≡ worker_view (view pass).picked
+
+-- a bench's queue holds as much as a bench may, and there is room for as much of what is left
+pub record HasRoom (capacity : ℕ) (left : List WorkOf) (room : ℕ) : Type 0 where
+  pub queue : capacity ≡ BENCH_CAPACITY
+  pub empty : left ≡ []
+  pub enough : BENCH_CAPACITY ≤ room

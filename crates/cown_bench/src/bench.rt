@@ -1,0 +1,101 @@
+//! The bench.
+ghost use Rattle.std.specs.Prelude.{◌≡◌, ℕ, ◌≤◌, [], ◌∷◌, ◌++◌, All, length, IfErr, IfNone, IfOk, IfSome, OnErr, OnOk};
+ghost use Rattle.cown_bench.specs.Parting.{IsPartedInto, WeighAlike};
+ghost use Rattle.cown_bench.specs.Passes.{picked_of};
+
+use crate::draining::drain;
+use crate::passes::{OwnerPass, WorkerPass};
+use crate::rule::{Offers, Picks, Queue};
+use crate::work::Work;
+use crate::worker_passes::{cut, gather};
+use cown_board::OPEN_BEHAVIOURS;
+use std::alloc::{AllocError, Global};
+use std::marker::Model;
+use std::sync::Wait;
+
+/// How many workers a bench may have.
+pub const WORKERS: usize = 16;
+
+/// How much may lie on a bench: all that a board may have unfinished, and a `Stop` for each worker.
+pub const BENCH_CAPACITY: usize = OPEN_BEHAVIOURS + WORKERS;
+
+/// Where an owner lays out what its workers pick up, each Work once and in the order in which it was offered.
+/// It may be shared among threads.
+#[derive(Drop)]
+pub struct Bench {
+    queue: Queue,
+    // Room for what nobody picked.
+    left: Vec<Work>,
+}
+
+impl Model for Bench {
+    ghost use Rattle.std.specs.Prelude.{vec_capacity};
+    ghost use Rattle.crossbeam_queue.specs.Passes.{ruled_capacity};
+    ghost use Rattle.cown_bench.specs.Passes.{BenchId};
+    ghost use Rattle.cown_bench.specs.Views.{HasRoom};
+
+    ghost Value = { BenchId };
+
+    ghost view = { λ b. b.queue.table.shared.table_id };
+
+    ghost invariant = { λ b. HasRoom (ruled_capacity b.queue) b.left.items (vec_capacity b.left) };
+}
+
+impl Bench {
+    /// A bench for this many workers, with its owner's pass and theirs. All room that it takes is made here.
+    pub fn new(
+        alloc: Global,
+        workers: usize,
+    ) -> Result<(Bench, OwnerPass, Vec<WorkerPass>), AllocError>
+        requires some { 1 ≤ workers }
+        requires few { workers ≤ WORKERS }
+        ensures owner { IfOk result (λ made. made.1 ≡
+            record { bench = made.0; workers = workers; offered = [] }) }
+        ensures passes { IfOk result (λ made. All (λ pass. pass ≡
+            record { bench = made.0; picked = [] }) made.2.items) }
+        ensures as_many { IfOk result (λ made. length made.2.items ≡ workers) }
+    {
+        let left = Vec::with_capacity(alloc, BENCH_CAPACITY)?;
+        let mut passes = Vec::with_capacity(alloc, workers)?;
+        let (queue, mut pass) = Queue::ruled(alloc, BENCH_CAPACITY)?;
+        cut(&queue, &mut pass, workers, &mut passes);
+        Ok((Bench { queue, left }, OwnerPass { pass }, passes))
+    }
+
+    /// Lays out a Work. Where the bench is full it comes back.
+    pub fn offer<R: Wait>(&self, rt: &R, pass: &mut OwnerPass, work: Work) -> Result<(), Work>
+        requires { pass.old.bench ≡ self.now }
+        ensures ok { OnOk result (pass.new ≡
+            record pass.old { offered = pass.old.offered ++ work ∷ [] }) }
+        ensures back { IfErr result (λ back. back ≡ work) }
+        ensures full { OnErr result
+            ((pass.new ≡ pass.old) × (BENCH_CAPACITY ≤ length pass.old.offered)) }
+    {
+        self.queue.push_as::<Offers, R>(rt, &mut pass.pass, work)
+    }
+
+    /// Picks up the Work that lies there longest. `None` where nothing lies there.
+    pub fn pick<R: Wait>(&self, rt: &R, pass: &mut WorkerPass) -> Option<Work>
+        requires { pass.old.bench ≡ self.now }
+        ensures some { IfSome result (λ work. (place : ℕ) × (pass.new ≡
+            record pass.old { picked = pass.old.picked ++ (place, work) ∷ [] })) }
+        ensures none { IfNone result (pass.new ≡ pass.old) }
+    {
+        self.queue.pop_as::<Picks, R>(rt, &mut pass.pass)
+    }
+
+    /// Closes the bench, and answers what nobody picked, in the order in which it was offered. All passes that
+    /// were made with the bench come back. It allocates nothing.
+    pub fn close<R: Wait>(self, rt: &R, owner: OwnerPass, workers: Vec<WorkerPass>) -> Vec<Work>
+        requires owner { owner.bench ≡ self }
+        requires workers { All (λ worker. worker.bench ≡ self) workers.items }
+        requires all { length workers.items ≡ owner.workers }
+        ensures parted { IsPartedInto owner.offered (picked_of workers.items) result.items }
+        // So whatever is added up over all that was offered is the same over what was picked and what is left.
+        ensures weights { WeighAlike owner.offered (picked_of workers.items) result.items }
+    {
+        let Bench { queue, left } = self;
+        let pass = gather(&queue, owner, workers);
+        drain(rt, &queue, pass, left)
+    }
+}

@@ -1,0 +1,33 @@
+//! What nobody picked.
+ghost use Rattle.std.specs.Prelude.{◌≡◌, ◌≤◌, [], vec_capacity};
+ghost use Rattle.crossbeam_queue.specs.Passes.{IsPassOf, view};
+ghost use Rattle.cown_bench.specs.Parting.{IsPartedInto, WeighAlike};
+ghost use Rattle.cown_bench.specs.Views.{all_parts, owner_view};
+
+use crate::known::Known;
+use crate::rule::{Drains, Queue};
+use crate::work::Work;
+use crossbeam_queue::Pass;
+use std::sync::Wait;
+
+// Takes out what lies there still, with a pass that knows all, into an empty list that has room for it.
+pub(crate) fn drain<R: Wait>(
+    rt: &R,
+    queue: &Queue,
+    mut pass: Pass<Work, Known>,
+    mut left: Vec<Work>,
+) -> Vec<Work>
+    requires queue { IsPassOf queue.now pass }
+    requires all { view pass ≡ owner_view all_parts (view pass).offered (view pass).told [] }
+    requires empty { left.items ≡ [] }
+    requires room { 1040 ≤ vec_capacity left }
+    ensures parted { IsPartedInto (view pass).offered (view pass).told result.items }
+    ensures weights { WeighAlike (view pass).offered (view pass).told result.items }
+{
+    loop {
+        let Some(work) = queue.pop_as::<Drains, R>(rt, &mut pass) else {
+            return left;
+        };
+        left.push_reserved(work);
+    }
+}

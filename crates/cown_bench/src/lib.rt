@@ -1,0 +1,19 @@
+//! A bench on which the owner of a board lays out jobs, and from which workers pick them up: each job once, in
+//! the order in which it was laid out.
+#![tactic(auto)]
+
+mod bench;
+mod draining;
+mod known;
+mod laws;
+mod passes;
+mod rule;
+#[cfg(test)]
+mod tests;
+mod work;
+mod worker_passes;
+
+pub use bench::{BENCH_CAPACITY, Bench, WORKERS};
+pub use laws::limits;
+pub use passes::{OwnerPass, WorkerPass};
+pub use work::Work;

@@ -1,0 +1,43 @@
+//! The passes of a bench.
+use crate::known::Known;
+use crate::work::Work;
+use crossbeam_queue::Pass;
+use std::marker::Model;
+
+/// Who has it may offer on one bench, and close it. It remembers nothing when it runs: what it offered is known to
+/// contracts alone.
+#[derive(Drop)]
+pub struct OwnerPass {
+    pub(crate) pass: Pass<Work, Known>,
+}
+
+impl Model for OwnerPass {
+    ghost use Rattle.cown_bench.specs.Passes.{OwnerOf};
+
+    ghost Value = { OwnerOf };
+
+    ghost use Rattle.cown_bench.specs.Views.{IsOwner, owner_of};
+
+    ghost view = { λ p. owner_of p.pass };
+
+    ghost invariant = { λ p. IsOwner p.pass };
+}
+
+/// Who has it may pick from one bench. It remembers nothing when it runs: what it picked is known to contracts
+/// alone.
+#[derive(Drop)]
+pub struct WorkerPass {
+    pub(crate) pass: Pass<Work, Known>,
+}
+
+impl Model for WorkerPass {
+    ghost use Rattle.cown_bench.specs.Passes.{WorkerOf};
+
+    ghost Value = { WorkerOf };
+
+    ghost use Rattle.cown_bench.specs.Views.{IsWorker, worker_of};
+
+    ghost view = { λ p. worker_of p.pass };
+
+    ghost invariant = { λ p. IsWorker p.pass };
+}

@@ -1,0 +1,12 @@
+//! What is laid out on a bench.
+use cown_board::Job;
+use sb_calls::Op;
+
+/// What is offered to workers, and picked by one of them.
+#[derive(Drop)]
+pub enum Work {
+    /// A job to carry out.
+    Run(Job<Op>),
+    /// Nothing more is to be picked by the worker that picks this.
+    Stop,
+}

@@ -1,0 +1,52 @@
+//! The workers' passes, which are cut from the owner's and taken in again.
+ghost use Rattle.std.specs.Prelude.{◌≡◌, ◌-◌, ◌≤◌, [], All, length, vec_capacity};
+ghost use Rattle.crossbeam_queue.specs.Passes.{IsPassOf, view};
+ghost use Rattle.cown_bench.specs.Passes.{picked_of};
+ghost use Rattle.cown_bench.specs.Views.{all_parts, owner_view};
+
+use crate::known::Known;
+use crate::passes::{OwnerPass, WorkerPass};
+use crate::rule::{OnePart, Queue};
+use crate::work::Work;
+use crossbeam_queue::Pass;
+
+// Puts this many workers' passes into a list that has room for them.
+pub(crate) fn cut(
+    queue: &Queue,
+    owner: &mut Pass<Work, Known>,
+    workers: usize,
+    passes: &mut Vec<WorkerPass>,
+)
+    requires few { workers ≤ 16 }
+    requires empty { passes.old.items ≡ [] }
+    requires room { workers ≤ vec_capacity passes.old }
+    requires queue { IsPassOf queue.now owner.old }
+    requires all { view owner.old ≡ owner_view all_parts [] [] [] }
+    ensures queue { IsPassOf queue.now owner.new }
+    ensures rest { view owner.new ≡ owner_view (all_parts - workers) [] [] [] }
+    ensures passes { All (λ pass. pass ≡
+        record { bench = queue.now.table.shared.table_id; picked = [] }) passes.new.items }
+    ensures as_many { length passes.new.items ≡ workers }
+{
+    for _ in 0..workers {
+        let pass = queue.another::<OnePart>(owner);
+        passes.push_reserved(WorkerPass { pass });
+    }
+}
+
+// Takes all workers' passes into the owner's, which knows all then.
+pub(crate) fn gather(queue: &Queue, owner: OwnerPass, workers: Vec<WorkerPass>) -> Pass<Work, Known>
+    requires owner { owner.bench ≡ queue.now.table.shared.table_id }
+    requires workers { All (λ worker. worker.bench ≡ queue.now.table.shared.table_id) workers.items }
+    requires all { length workers.items ≡ owner.workers }
+    ensures queue { IsPassOf queue.now result }
+    ensures knows { view result ≡
+        owner_view all_parts owner.offered (picked_of workers.items) [] }
+{
+    let OwnerPass { mut pass } = owner;
+    for worker in workers {
+        let WorkerPass { pass: other } = worker;
+        queue.absorb::<OnePart>(&mut pass, other);
+    }
+    pass
+}
