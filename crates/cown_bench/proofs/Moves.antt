@@ -11,20 +11,40 @@ use Rattle.crossbeam_queue.proofs.Lists.{at_set}
 use Rattle.cown_bench.specs.Rule.{weight_known, Fits, Holds, AddsOffer, AddsPick, HasOffered}
 use Rattle.cown_bench.specs.Views.{all_parts, owner_view, worker_view, spent_view, with_one_cut, with_taken_in}
 use Rattle.cown_bench.specs.Work.{WorkOf, PickOf}
+use Rattle.cown_bench.specs.declared.bench.TheConstants.{BENCH_CAPACITY}
 use Rattle.cown_bench.specs.declared.known.Known.{Known}
 use Rattle.cown_bench.proofs.Numbered.{enumerate_from-push}
 use Rattle.cown_bench.proofs.PickLists.{own_picks, lists-longer, lists-pick, lists-told, lists-nil, weight-pick, weight-told}
 use Rattle.cown_bench.proofs.Sums.{sum_by-changed, each_set, each_push}
 
--- a pass that knows nothing and doesn't offer
-fits_nobody : (owner : ℕ) (offered taken drained : List WorkOf) (pass : ℕ) → Fits owner offered taken drained pass spent_view
-fits_nobody owner offered taken drained pass = record {
+-- a pass that knows nothing and doesn't offer: a new worker's, or one that was taken in
+fits_fresh : (owner : ℕ) (offered taken drained : List WorkOf) (parts pass : ℕ) → (0 < parts → drained ≡ [])
+    → Fits owner offered taken drained pass (record spent_view { parts = parts })
+fits_fresh owner offered taken drained parts pass none = record {
   sole = λ may. absurd (false≢true may);
   offers = λ may. absurd (false≢true may);
   drains = λ may. absurd (false≢true may);
-  works = λ _ some_part. absurd (omega (arith, some_part));
+  works = λ _ some_part. none some_part;
   idle = λ _. (refl, refl);
   picks = lists-nil taken;
+}
+
+-- nothing moves but what the passes know
+same_content : (items : List WorkOf) (views now : List Known) (rule : Holds items views)
+    → sum_by (λ (known : Known). known.parts) now ≡ all_parts
+    → ((weight : PickOf → ℕ) → sum_by (weight_known weight) now ≡ sum_by (weight_known weight) views)
+    → ((pass : ℕ) (known : Known) → get_elem? now pass ≡ some known → Fits rule.owner rule.offered rule.taken rule.drained pass known)
+    → Holds items now
+same_content items views now rule whole same each = record {
+  owner = rule.owner;
+  offered = rule.offered;
+  taken = rule.taken;
+  drained = rule.drained;
+  order = rule.order;
+  room = rule.room;
+  whole = whole;
+  weights = λ weight. same weight ∙ rule.weights weight;
+  each = each;
 }
 
 pub begins : Holds [] (owner_view all_parts [] [] [] ∷ [])
@@ -53,7 +73,8 @@ begins = record {
     one (suc pass) known here = absurd (some-ne-none known (sym here))
 
 -- the owner offers one more
-pub offers_one : (n pass : ℕ) (v : Known) (work : WorkOf) → n ≡ 1040 → v.offers ≡ true → v.drained ≡ [] → Pushes Holds n pass v work (AddsOffer v work)
+pub offers_one : (n pass : ℕ) (v : Known) (work : WorkOf) → n ≡ BENCH_CAPACITY → v.offers ≡ true → v.drained ≡ []
+    → Pushes Holds n pass v work (AddsOffer v work)
 offers_one n pass v work capacity may none items views room rule here =
     let w : Known = record v { offered = v.offered ++ work ∷ [] } in
     let mine = rule.each pass v here in
@@ -100,7 +121,8 @@ offered_all pass v may items views rule here =
     omega (arith, known, parts, length-append rule.taken (rule.drained ++ items), length-append rule.drained items)
 
 -- where nothing was taken out at the end, what is first goes to those that are taken
-first_taken : (taken drained items : List WorkOf) (work : WorkOf) → drained ≡ [] → taken ++ (drained ++ work ∷ items) ≡ (taken ++ work ∷ []) ++ (drained ++ items)
+first_taken : (taken drained items : List WorkOf) (work : WorkOf) → drained ≡ []
+    → taken ++ (drained ++ work ∷ items) ≡ (taken ++ work ∷ []) ++ (drained ++ items)
 first_taken taken drained items work none =
     subst (λ (l : List WorkOf). taken ++ (l ++ work ∷ items) ≡ (taken ++ work ∷ []) ++ (l ++ items)) (sym none) (sym (append_assoc taken (work ∷ []) items))
 
@@ -154,39 +176,26 @@ cuts_one pass parts offered some_part items views rule here =
     let v = owner_view parts offered [] [] in
     let w = with_one_cut v in
     let mine = rule.each pass v here in
-    let none : rule.drained ≡ [] = sym (mine.drains refl) in
-    record {
-      owner = rule.owner;
-      offered = rule.offered;
-      taken = rule.taken;
-      drained = rule.drained;
-      order = rule.order;
-      room = rule.room;
-      whole = (let change = sum_by-changed (λ (known : Known). known.parts) views pass v w here in
-          let more = sum_by_push (λ (known : Known). known.parts) (set views pass w) (worker_view []) in omega (arith, change, more, some_part, rule.whole));
-      weights = λ weight.
-          (let change = sum_by-changed (weight_known weight) views pass v w here in
-          let more = sum_by_push (weight_known weight) (set views pass w) (worker_view []) in omega (arith, change, more, rule.weights weight));
-      each = each_push (Fits rule.owner rule.offered rule.taken rule.drained) (set views pass w) (worker_view [])
-          (λ j. record {
-            sole = λ may. absurd (false≢true may);
-            offers = λ may. absurd (false≢true may);
-            drains = λ may. absurd (false≢true may);
-            works = λ _ _. none;
-            idle = λ _. (refl, refl);
-            picks = lists-nil rule.taken;
-          })
-          (each_set (Fits rule.owner rule.offered rule.taken rule.drained) views pass w
-          (record {
-            sole = mine.sole;
-            offers = mine.offers;
-            drains = mine.drains;
-            works = λ off _. absurd (true≢false off);
-            idle = λ _. (refl, refl);
-            picks = mine.picks;
-          })
-          (λ j u apart there. rule.each j u there));
-    }
+    same_content items views (set views pass w ++ worker_view [] ∷ []) rule
+    (let change = sum_by-changed (λ (known : Known). known.parts) views pass v w here in
+    let more = sum_by_push (λ (known : Known). known.parts) (set views pass w) (worker_view []) in
+    omega (arith, change, more, some_part, rule.whole))
+    (λ weight.
+    let change = sum_by-changed (weight_known weight) views pass v w here in
+    let more = sum_by_push (weight_known weight) (set views pass w) (worker_view []) in
+    omega (arith, change, more))
+    (each_push (Fits rule.owner rule.offered rule.taken rule.drained) (set views pass w) (worker_view [])
+    (λ j. fits_fresh rule.owner rule.offered rule.taken rule.drained 1 j (λ _. sym (mine.drains refl)))
+    (each_set (Fits rule.owner rule.offered rule.taken rule.drained) views pass w
+    (record {
+      sole = mine.sole;
+      offers = mine.offers;
+      drains = mine.drains;
+      works = λ off _. absurd (true≢false off);
+      idle = λ _. (refl, refl);
+      picks = mine.picks;
+    })
+    (λ j u apart there. rule.each j u there)))
 
 -- the owner takes a worker's pass in
 pub takes_in : (pass parts : ℕ) (offered : List WorkOf) (told : List (List PickOf)) (other : ℕ) (picked : List PickOf)
@@ -198,37 +207,33 @@ takes_in pass parts offered told other picked items views rule here apart there 
     let w = with_taken_in v u in
     let mine = rule.each pass v here in
     let was : get_elem? views other ≡ some u =
-    ⊎_elim (λ (x : (other ≡ pass) × (w ≡ u)). absurd (apart x.0)) (λ (x : (other ≢ pass) × (get_elem? views other ≡ some u)). x.1) (at_set views pass other w u there) in
+    ⊎_elim (λ (x : (other ≡ pass) × (w ≡ u)). absurd (apart x.0)) (λ (x : (other ≢ pass) × (get_elem? views other ≡ some u)). x.1)
+    (at_set views pass other w u there) in
     let theirs = own_picks rule.taken picked [] (rule.each other u was).picks in
-    record {
-      owner = rule.owner;
-      offered = rule.offered;
-      taken = rule.taken;
-      drained = rule.drained;
-      order = rule.order;
-      room = rule.room;
-      whole = (let change = sum_by-changed (λ (known : Known). known.parts) views pass v w here in
-          let spent = sum_by-changed (λ (known : Known). known.parts) (set views pass w) other u spent_view there in omega (arith, change, spent, rule.whole));
-      weights = λ weight.
-          (let change = sum_by-changed (weight_known weight) views pass v w here in
-          let spent = sum_by-changed (weight_known weight) (set views pass w) other u spent_view there in
-          omega (arith, change, spent, weight-told weight told picked, rule.weights weight));
-      each = each_set (Fits rule.owner rule.offered rule.taken rule.drained) (set views pass w) other spent_view
-          (fits_nobody rule.owner rule.offered rule.taken rule.drained other)
-          (λ j k _ at. each_set (Fits rule.owner rule.offered rule.taken rule.drained) views pass w
-          (record {
-            sole = mine.sole;
-            offers = mine.offers;
-            drains = mine.drains;
-            works = λ off _. absurd (true≢false off);
-            idle = λ no_part. absurd (omega (arith, no_part));
-            picks = lists-told rule.taken [] told mine.picks picked theirs;
-          })
-          (λ i x _ old. rule.each i x old) j k at);
-    }
+    same_content items views (set (set views pass w) other spent_view) rule
+    (let change = sum_by-changed (λ (known : Known). known.parts) views pass v w here in
+    let spent = sum_by-changed (λ (known : Known). known.parts) (set views pass w) other u spent_view there in
+    omega (arith, change, spent, rule.whole))
+    (λ weight.
+    let change = sum_by-changed (weight_known weight) views pass v w here in
+    let spent = sum_by-changed (weight_known weight) (set views pass w) other u spent_view there in
+    omega (arith, change, spent, weight-told weight told picked))
+    (each_set (Fits rule.owner rule.offered rule.taken rule.drained) (set views pass w) other spent_view
+    (fits_fresh rule.owner rule.offered rule.taken rule.drained 0 other (λ some_part. absurd (omega (arith, some_part))))
+    (λ j k _ at. each_set (Fits rule.owner rule.offered rule.taken rule.drained) views pass w
+    (record {
+      sole = mine.sole;
+      offers = mine.offers;
+      drains = mine.drains;
+      works = λ off _. absurd (true≢false off);
+      idle = λ no_part. absurd (omega (arith, no_part));
+      picks = lists-told rule.taken [] told mine.picks picked theirs;
+    })
+    (λ i x _ old. rule.each i x old) j k at))
 
 -- the moves, at a view that is known
-pub offers_as : (n pass : ℕ) (v : Known) (work : WorkOf) (parts : ℕ) (offered : List WorkOf) → n ≡ 1040 → v ≡ owner_view parts offered [] []
+pub offers_as : (n pass : ℕ) (v : Known) (work : WorkOf) (parts : ℕ) (offered : List WorkOf) → n ≡ BENCH_CAPACITY
+    → v ≡ owner_view parts offered [] []
     → Pushes Holds n pass v work (AddsOffer v work) × Learns Holds pass v (HasOffered v)
 offers_as n pass v work parts offered capacity is =
     let may : v.offers ≡ true = ap (λ (u : Known). u.offers) is in

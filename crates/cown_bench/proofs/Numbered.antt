@@ -33,19 +33,11 @@ module _ {A : Type 0} where
     count-cons : (n : ℕ) (x : A) (xs : List A) → count n (x ∷ xs) ≡ cond {A = ℕ} (eqb n place) 1 0 + count (n + 1) xs
     count-cons n x xs = sum_by-cons (λ (pick : ℕ × A). cond (pick.0 == place) 1 0) (n, x) (enumerate_from (n + 1) xs)
 
-    before : (n : ℕ) (xs : List A) → place < n → count n xs ≡ 0
-    before n [] lt = refl
-    before n (x ∷ xs) lt =
-        let first : cond {A = ℕ} (eqb n place) 1 0 ≡ 0 = cond-false (eqb n place) 1 0 (ne_eqb n place (λ same. omega arith)) in
-        let rest : count (n + 1) xs ≡ 0 = before (n + 1) xs (omega arith) in
-        let parts : count n (x ∷ xs) ≡ cond {A = ℕ} (eqb n place) 1 0 + count (n + 1) xs = count-cons n x xs in
-        omega (arith, parts, first, rest)
-
-    behind : (n : ℕ) (xs : List A) → n + length xs ≤ place → count n xs ≡ 0
-    behind n [] le = refl
-    behind n (x ∷ xs) le =
-        let first : cond {A = ℕ} (eqb n place) 1 0 ≡ 0 = cond-false (eqb n place) 1 0 (ne_eqb n place (λ same. omega arith)) in
-        let rest : count (n + 1) xs ≡ 0 = behind (n + 1) xs (omega arith) in
+    outside : (n : ℕ) (xs : List A) → (n ≤ place → n + length xs ≤ place) → count n xs ≡ 0
+    outside n [] out = refl
+    outside n (x ∷ xs) out =
+        let first : cond {A = ℕ} (eqb n place) 1 0 ≡ 0 = cond-false (eqb n place) 1 0 (ne_eqb n place (λ same. omega (arith, out))) in
+        let rest : count (n + 1) xs ≡ 0 = outside (n + 1) xs (λ le. omega (arith, out, le)) in
         let parts : count n (x ∷ xs) ≡ cond {A = ℕ} (eqb n place) 1 0 + count (n + 1) xs = count-cons n x xs in
         omega (arith, parts, first, rest)
 
@@ -56,7 +48,7 @@ module _ {A : Type 0} where
         ⊎_elim
         (λ (same : n ≡ place).
         let first : cond {A = ℕ} (eqb n place) 1 0 ≡ 1 = cond-true (eqb n place) 1 0 (eq-eqb n place same) in
-        let rest : count (n + 1) xs ≡ 0 = before (n + 1) xs (omega arith) in
+        let rest : count (n + 1) xs ≡ 0 = outside (n + 1) xs (λ later. absurd (omega (arith, later, same))) in
         let all : count n (x ∷ xs) ≡ 1 = omega (arith, parts, first, rest) in all)
         (λ (apart : n ≡ place → ⊥).
         let first : cond {A = ℕ} (eqb n place) 1 0 ≡ 0 = cond-false (eqb n place) 1 0 (ne_eqb n place apart) in
@@ -66,9 +58,10 @@ module _ {A : Type 0} where
         (cases_eq n place)
 
     -- each place below the length stands there once, and no other
-    pub count_by-enumerate_from : (xs : List A) → count_by (λ (pick : ℕ × A). pick.0 == place) (enumerate_from 0 xs) ≡ (if nat_lt place (length xs) then 1 else 0)
+    pub count_by-enumerate_from : (xs : List A)
+        → count_by (λ (pick : ℕ × A). pick.0 == place) (enumerate_from 0 xs) ≡ (if nat_lt place (length xs) then 1 else 0)
     count_by-enumerate_from xs =
         ⊎_elim
         (λ (lt : place < length xs). within 0 xs (omega arith) (omega arith) ∙ sym (cond-true (ltb place (length xs)) 1 0 (lt-ltb place (length xs) lt)))
-        (λ (le : length xs ≤ place). behind 0 xs (omega arith) ∙ sym (cond-false (ltb place (length xs)) 1 0 (le-ltb place (length xs) le)))
+        (λ (le : length xs ≤ place). outside 0 xs (λ _. omega arith) ∙ sym (cond-false (ltb place (length xs)) 1 0 (le-ltb place (length xs) le)))
         (cases_lt place (length xs))

@@ -9,7 +9,8 @@ use Rattle.cown_bench.specs.Work.{WorkOf}
 use Rattle.cown_bench.specs.declared.known.Known.{Known}
 
 -- a worker's, with the pick at its end
-with_pick : (old new : Pass WorkOf Known) (seen : WorkerOf) (work : WorkOf) → worker_of old ≡ seen → new.table_id ≡ old.table_id → AddsPick (view old) work (view new)
+with_pick : (old new : Pass WorkOf Known) (seen : WorkerOf) (work : WorkOf)
+    → worker_of old ≡ seen → new.table_id ≡ old.table_id → AddsPick (view old) work (view new)
     → (place : ℕ) × (worker_of new ≡ record seen { picked = seen.picked ++ (place, work) ∷ [] })
 with_pick old new seen work is same adds =
     let place : ℕ = adds.0 in

@@ -48,7 +48,8 @@ module _ {A : Type 0} where
     pub sole_sum : (f : A → ℕ) → f spent ≡ 0 → ((j : ℕ) (b : A) → get_elem? l j ≡ some b → p b ≡ 0 → f b ≡ 0) → sum_by f l ≡ f a
     sole_sum f none follows =
         let rest : sum_by f (set l i spent) ≡ 0 = all_none p f (set l i spent)
-        (λ j b there. ⊎_elim (λ (x : (j ≡ i) × (spent ≡ b)). λ (_ : p b ≡ 0). ap f (sym x.1) ∙ none) (λ (x : (j ≢ i) × (get_elem? l j ≡ some b)). follows j b x.1)
+        (λ j b there. ⊎_elim (λ (x : (j ≡ i) × (spent ≡ b)). λ (_ : p b ≡ 0). ap f (sym x.1) ∙ none)
+        (λ (x : (j ≢ i) × (get_elem? l j ≡ some b)). follows j b x.1)
         (at_set l i j spent b there)) others_sum in
         let change = sum_by-changed f l i a spent here in
         omega (arith, change, rest, none)

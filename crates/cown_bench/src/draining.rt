@@ -3,6 +3,7 @@ ghost use Rattle.std.specs.Prelude.{◌≡◌, ◌≤◌, [], vec_capacity};
 ghost use Rattle.crossbeam_queue.specs.Passes.{IsPassOf, view};
 ghost use Rattle.cown_bench.specs.Parting.{IsPartedInto, WeighAlike};
 ghost use Rattle.cown_bench.specs.Views.{all_parts, owner_view};
+ghost use Rattle.cown_bench.specs.declared.bench.TheConstants.{BENCH_CAPACITY};
 
 use crate::known::Known;
 use crate::rule::{Drains, Queue};
@@ -20,7 +21,7 @@ pub(crate) fn drain<R: Wait>(
     requires queue { IsPassOf queue.now pass }
     requires all { view pass ≡ owner_view all_parts (view pass).offered (view pass).told [] }
     requires empty { left.items ≡ [] }
-    requires room { 1040 ≤ vec_capacity left }
+    requires room { BENCH_CAPACITY ≤ vec_capacity left }
     ensures parted { IsPartedInto (view pass).offered (view pass).told result.items }
     ensures weights { WeighAlike (view pass).offered (view pass).told result.items }
 {

@@ -3,6 +3,7 @@ ghost use Rattle.std.specs.Prelude.{◌≡◌, ◌-◌, ◌≤◌, [], All, leng
 ghost use Rattle.crossbeam_queue.specs.Passes.{IsPassOf, view};
 ghost use Rattle.cown_bench.specs.Passes.{picked_of};
 ghost use Rattle.cown_bench.specs.Views.{all_parts, owner_view};
+ghost use Rattle.cown_bench.specs.declared.bench.TheConstants.{WORKERS};
 
 use crate::known::Known;
 use crate::passes::{OwnerPass, WorkerPass};
@@ -17,7 +18,7 @@ pub(crate) fn cut(
     workers: usize,
     passes: &mut Vec<WorkerPass>,
 )
-    requires few { workers ≤ 16 }
+    requires few { workers ≤ WORKERS }
     requires empty { passes.old.items ≡ [] }
     requires room { workers ≤ vec_capacity passes.old }
     requires queue { IsPassOf queue.now owner.old }
