@@ -8,9 +8,9 @@ use Rattle.std.proofs.lemmas.Bool.{true≢false, false≢true}
 use Rattle.std.proofs.lemmas.List.Sums.{sum_by_push}
 use Rattle.crossbeam_queue.specs.Fifo.{Pushes, Pops, Forks, Merges, Learns}
 use Rattle.crossbeam_queue.proofs.Lists.{at_set}
-use Rattle.cown_bench.specs.Rule.{weight_known, Fits, Holds, AddsOffer, AddsPick, HasOffered}
+use Rattle.cown_bench.specs.BenchRule.{weight_known, Fits, Holds, AddsOffer, AddsPick, HasOffered}
+use Rattle.cown_bench.specs.Picks.{WorkOf, PickOf}
 use Rattle.cown_bench.specs.Views.{all_parts, owner_view, worker_view, spent_view, with_one_cut, with_taken_in}
-use Rattle.cown_bench.specs.Work.{WorkOf, PickOf}
 use Rattle.cown_bench.specs.declared.bench.TheConstants.{BENCH_CAPACITY}
 use Rattle.cown_bench.specs.declared.known.Known.{Known}
 use Rattle.cown_bench.proofs.Numbered.{enumerate_from-push}

@@ -2,10 +2,10 @@
 use Rattle.std.proofs.Common.{◌≡◌, ℕ, Option, Some, None, [], ◌∷◌, ◌++◌, ap, ◌∙◌}
 use Rattle.std.specs.Prelude.{IfSome, MatchOption}
 use Rattle.crossbeam_queue.specs.Passes.{Pass, view}
-use Rattle.cown_bench.specs.Passes.{WorkerOf}
-use Rattle.cown_bench.specs.Rule.{AddsPick}
+use Rattle.cown_bench.specs.BenchPasses.{WorkerOf}
+use Rattle.cown_bench.specs.BenchRule.{AddsPick}
+use Rattle.cown_bench.specs.Picks.{WorkOf}
 use Rattle.cown_bench.specs.Views.{worker_of}
-use Rattle.cown_bench.specs.Work.{WorkOf}
 use Rattle.cown_bench.specs.declared.known.Known.{Known}
 
 -- a worker's, with the pick at its end

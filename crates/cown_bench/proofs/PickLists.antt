@@ -5,9 +5,9 @@ use Rattle.std.proofs.lemmas.List.Elements.{All-nil, All-cons, All-head, All-tai
 use Rattle.std.proofs.lemmas.List.Quantifiers.{all_pairs_push}
 use Rattle.std.proofs.lemmas.List.Sums.{sum_by-cons, sum_by_push}
 use Rattle.std.proofs.lemmas.Option.{none-some, slice_get_within}
+use Rattle.cown_bench.specs.BenchRule.{ArePicks}
 use Rattle.cown_bench.specs.Parting.{AreOffered}
-use Rattle.cown_bench.specs.Rule.{ArePicks}
-use Rattle.cown_bench.specs.Work.{WorkOf, PickOf}
+use Rattle.cown_bench.specs.Picks.{WorkOf, PickOf}
 
 slice_get-front : {A : Type 0} (xs ys : List A) (k : ℕ) (x : A) → slice_get xs k ≡ Some x → slice_get (xs ++ ys) k ≡ Some x
 slice_get-front [] ys k x here = absurd (none-some x here)

@@ -7,10 +7,10 @@ use Rattle.std.proofs.lemmas.List.{drop_at}
 use Rattle.std.proofs.lemmas.List.Elements.{All-weaker}
 use Rattle.std.proofs.lemmas.List.Sums.{sum_by-append}
 use Rattle.crossbeam_queue.specs.Fifo.{Pops, Learns}
+use Rattle.cown_bench.specs.BenchRule.{weight_known, ArePicks, Fits, Holds, AddsLeft, KnowsAll}
 use Rattle.cown_bench.specs.Parting.{AreRising, AreOffered}
-use Rattle.cown_bench.specs.Rule.{weight_known, ArePicks, Fits, Holds, AddsLeft, KnowsAll}
+use Rattle.cown_bench.specs.Picks.{WorkOf, PickOf}
 use Rattle.cown_bench.specs.Views.{all_parts, owner_view, spent_view}
-use Rattle.cown_bench.specs.Work.{WorkOf, PickOf}
 use Rattle.cown_bench.specs.declared.known.Known.{Known}
 use Rattle.cown_bench.proofs.Numbered.{sum_by-enumerate_from, count_by-enumerate_from}
 use Rattle.cown_bench.proofs.PickLists.{AreOffered-longer, told_picks, weight-own}

@@ -1,5 +1,5 @@
+pub mod BenchPasses
+pub mod BenchRule
 pub mod Parting
-pub mod Passes
-pub mod Rule
+pub mod Picks
 pub mod Views
-pub mod Work

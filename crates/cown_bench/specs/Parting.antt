@@ -1,6 +1,6 @@
 -- What becomes of all that is offered: it is picked or left.
 use Rattle.std.specs.Prelude.{◌≡◌, ℕ, ◌+◌, ◌<◌, ◌≤◌, ◌==◌, nat_lt, if◌then◌else◌, Some, List, All, AllPairs, length, drop, sum_by, count_by, slice_get}
-use Rattle.cown_bench.specs.Work.{WorkOf, PickOf}
+use Rattle.cown_bench.specs.Picks.{WorkOf, PickOf}
 
 -- each place is above those before it
 abbrev pub AreRising : List PickOf → Type 0

@@ -1,8 +1,8 @@
 -- What the passes of a bench know.
 use Rattle.std.specs.Prelude.{◌≡◌, ℕ, ◌+◌, ◌-◌, ◌≤◌, true, false, List, [], ◌∷◌, ◌++◌}
 use Rattle.crossbeam_queue.specs.Passes.{Pass, view}
-use Rattle.cown_bench.specs.Passes.{OwnerOf, WorkerOf}
-use Rattle.cown_bench.specs.Work.{WorkOf, PickOf}
+use Rattle.cown_bench.specs.BenchPasses.{OwnerOf, WorkerOf}
+use Rattle.cown_bench.specs.Picks.{WorkOf, PickOf}
 use Rattle.cown_bench.specs.declared.bench.TheConstants.{BENCH_CAPACITY, WORKERS}
 use Rattle.cown_bench.specs.declared.known.Known.{Known}
 
@@ -29,8 +29,7 @@ with_one_cut known = record known { parts = known.parts - 1 }
 
 -- the owner's once it has taken a worker's pass in
 abbrev pub with_taken_in : Known → Known → Known
-with_taken_in known other =
-    record known { parts = known.parts + other.parts; told = known.told ++ other.picked ∷ [] }
+with_taken_in known other = record known { parts = known.parts + other.parts; told = known.told ++ other.picked ∷ [] }
 
 -- what contracts see of the owner's pass
 abbrev pub owner_of : Pass WorkOf Known → OwnerOf

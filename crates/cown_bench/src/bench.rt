@@ -1,7 +1,7 @@
 //! The bench.
 ghost use Rattle.std.specs.Prelude.{◌≡◌, ℕ, ◌≤◌, [], ◌∷◌, ◌++◌, All, length, IfErr, IfNone, IfOk, IfSome, OnErr, OnOk};
+ghost use Rattle.cown_bench.specs.BenchPasses.{picked_of};
 ghost use Rattle.cown_bench.specs.Parting.{IsPartedInto, WeighAlike};
-ghost use Rattle.cown_bench.specs.Passes.{picked_of};
 
 use crate::draining::drain;
 use crate::passes::{OwnerPass, WorkerPass};
@@ -31,7 +31,7 @@ pub struct Bench {
 impl Model for Bench {
     ghost use Rattle.std.specs.Prelude.{vec_capacity};
     ghost use Rattle.crossbeam_queue.specs.Passes.{ruled_capacity};
-    ghost use Rattle.cown_bench.specs.Passes.{BenchId};
+    ghost use Rattle.cown_bench.specs.BenchPasses.{BenchId};
     ghost use Rattle.cown_bench.specs.Views.{HasRoom};
 
     ghost Value = { BenchId };

@@ -12,7 +12,7 @@ pub struct OwnerPass {
 }
 
 impl Model for OwnerPass {
-    ghost use Rattle.cown_bench.specs.Passes.{OwnerOf};
+    ghost use Rattle.cown_bench.specs.BenchPasses.{OwnerOf};
 
     ghost Value = { OwnerOf };
 
@@ -31,7 +31,7 @@ pub struct WorkerPass {
 }
 
 impl Model for WorkerPass {
-    ghost use Rattle.cown_bench.specs.Passes.{WorkerOf};
+    ghost use Rattle.cown_bench.specs.BenchPasses.{WorkerOf};
 
     ghost Value = { WorkerOf };
 

@@ -9,8 +9,8 @@ pub(crate) struct PickedOrLeft;
 
 impl Protocol<Work, Known> for PickedOrLeft {
     ghost use Rattle.std.specs.Prelude.{[]};
+    ghost use Rattle.cown_bench.specs.BenchRule.{Holds};
     ghost use Rattle.cown_bench.specs.Views.{all_parts, owner_view};
-    ghost use Rattle.cown_bench.specs.Rule.{Holds};
 
     ghost holds = { λ items views. Holds items views };
 
@@ -21,13 +21,13 @@ impl Protocol<Work, Known> for PickedOrLeft {
 pub(crate) struct Offers;
 
 impl Outcome<Work, Known> for Offers {
-    ghost use Rattle.cown_bench.specs.Rule.{AddsOffer};
+    ghost use Rattle.cown_bench.specs.BenchRule.{AddsOffer};
 
     ghost then = { λ known work after. AddsOffer known work after };
 }
 
 impl Lesson<Work, Known> for Offers {
-    ghost use Rattle.cown_bench.specs.Rule.{HasOffered};
+    ghost use Rattle.cown_bench.specs.BenchRule.{HasOffered};
 
     ghost fact = { λ known items. HasOffered known items };
 }
@@ -36,7 +36,7 @@ impl Lesson<Work, Known> for Offers {
 pub(crate) struct Picks;
 
 impl Outcome<Work, Known> for Picks {
-    ghost use Rattle.cown_bench.specs.Rule.{AddsPick};
+    ghost use Rattle.cown_bench.specs.BenchRule.{AddsPick};
 
     ghost then = { λ known work after. AddsPick known work after };
 }
@@ -51,13 +51,13 @@ impl Lesson<Work, Known> for Picks {
 pub(crate) struct Drains;
 
 impl Outcome<Work, Known> for Drains {
-    ghost use Rattle.cown_bench.specs.Rule.{AddsLeft};
+    ghost use Rattle.cown_bench.specs.BenchRule.{AddsLeft};
 
     ghost then = { λ known work after. AddsLeft known work after };
 }
 
 impl Lesson<Work, Known> for Drains {
-    ghost use Rattle.cown_bench.specs.Rule.{KnowsAll};
+    ghost use Rattle.cown_bench.specs.BenchRule.{KnowsAll};
 
     ghost fact = { λ known items. KnowsAll known items };
 }

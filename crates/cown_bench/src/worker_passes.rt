@@ -1,7 +1,7 @@
 //! The workers' passes, which are cut from the owner's and taken in again.
 ghost use Rattle.std.specs.Prelude.{◌≡◌, ◌-◌, ◌≤◌, [], All, length, vec_capacity};
 ghost use Rattle.crossbeam_queue.specs.Passes.{IsPassOf, view};
-ghost use Rattle.cown_bench.specs.Passes.{picked_of};
+ghost use Rattle.cown_bench.specs.BenchPasses.{picked_of};
 ghost use Rattle.cown_bench.specs.Views.{all_parts, owner_view};
 ghost use Rattle.cown_bench.specs.declared.bench.TheConstants.{WORKERS};
 

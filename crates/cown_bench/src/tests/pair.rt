@@ -16,7 +16,7 @@ pub(super) struct Pair {
 
 impl Model for Pair {
     ghost use Rattle.std.specs.Prelude.{◌≡◌};
-    ghost use Rattle.cown_bench.specs.Passes.{BenchId};
+    ghost use Rattle.cown_bench.specs.BenchPasses.{BenchId};
 
     ghost Value = { BenchId };
 

@@ -1,7 +1,7 @@
 use Rattle.std.proofs.Common.{◌≡◌, ◌+◌, ◌-◌, ◌<◌, ℕ, [], ◌∷◌, length, sym, ap, ◌∙◌, subst, length-append, arith}
 use Rattle.std.specs.Prelude.{All}
 use Rattle.std.proofs.lemmas.List.Elements.{All-push}
-use Rattle.cown_bench.specs.Passes.{WorkerOf}
+use Rattle.cown_bench.specs.BenchPasses.{WorkerOf}
 use Rattle.cown_bench.specs.Views.{all_parts, owner_view, with_one_cut, worker_of}
 use Rattle.cown_bench.proofs.Moves.{cuts_as}
 use Rattle.cown_bench.proofs.worker_passes.cut.Goals as goal

@@ -2,7 +2,7 @@
 use Rattle.std.proofs.Common.{◌≡◌, ◌-◌, ◌≤◌, [], length, vec_capacity}
 use Rattle.std.specs.Prelude.{All}
 use Rattle.crossbeam_queue.specs.Passes.{IsPassOf, view}
-use Rattle.cown_bench.specs.Passes.{WorkerOf}
+use Rattle.cown_bench.specs.BenchPasses.{WorkerOf}
 use Rattle.cown_bench.specs.Views.{all_parts, owner_view}
 use Rattle.cown_bench.proofs.worker_passes.cut.Given as goal
 

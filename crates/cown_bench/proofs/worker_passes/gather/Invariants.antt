@@ -2,7 +2,7 @@
 use Rattle.std.proofs.Common.{◌≡◌, ◌+◌, ◌-◌, ◌++◌, [], length}
 use Rattle.std.specs.Vec.Iter.{into_iter_items}
 use Rattle.crossbeam_queue.specs.Passes.{IsPassOf, view}
-use Rattle.cown_bench.specs.Passes.{picked_of}
+use Rattle.cown_bench.specs.BenchPasses.{picked_of}
 use Rattle.cown_bench.specs.Views.{all_parts, owner_view}
 use Rattle.cown_bench.proofs.worker_passes.gather.Given as goal
 

@@ -4,8 +4,8 @@ use Rattle.std.specs.List.{enumerate_from}
 use mathlib.Core.Option.{some}
 use lib.ListN.{get_elem?}
 use Rattle.cown_bench.specs.Parting.{AreRising, AreOffered, IsPartedInto, WeighAlike}
+use Rattle.cown_bench.specs.Picks.{WorkOf, PickOf}
 use Rattle.cown_bench.specs.Views.{all_parts}
-use Rattle.cown_bench.specs.Work.{WorkOf, PickOf}
 use Rattle.cown_bench.specs.declared.bench.TheConstants.{BENCH_CAPACITY}
 use Rattle.cown_bench.specs.declared.known.Known.{Known}
 

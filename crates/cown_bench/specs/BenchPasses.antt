@@ -1,7 +1,7 @@
 -- A bench and its passes, as contracts see them.
 use Rattle.std.specs.Prelude.{ℕ, List, map}
 use Rattle.atomic_table.specs.Seated.{TableId}
-use Rattle.cown_bench.specs.Work.{WorkOf, PickOf}
+use Rattle.cown_bench.specs.Picks.{WorkOf, PickOf}
 
 -- which bench it is
 abbrev pub BenchId : Type 0
