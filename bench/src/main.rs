@@ -23,12 +23,17 @@ const RUNS: usize = 5;
 const SEED: u64 = 20;
 const FAULTY_INPUTS: u64 = 500;
 
-// Customers and lines of each row of the table.
-const ROWS: [(u32, u32); 4] = [
-    (20_000, 1_000),
-    (20_000, 100_000),
-    (20_000, 900_000),
-    (65_536, 1_000),
+/// Makes a workload from a seed and its numbers of customers and lines.
+type Maker = fn(u64, u32, u32) -> Workload;
+
+// Which calls each row of the table has, how they are made, and its customers and lines.
+const ROWS: [(&str, Maker, u32, u32); 6] = [
+    ("of all kinds", Workload::new, 20_000, 1_000),
+    ("of all kinds", Workload::new, 20_000, 100_000),
+    ("of all kinds", Workload::new, 20_000, 900_000),
+    ("of all kinds", Workload::new, 65_536, 1_000),
+    ("of one customer", Workload::one_customer, 20_000, 900_000),
+    ("amalgamates", Workload::amalgamates, 1_000, 900_000),
 ];
 
 type Answer<T> = Result<T, Box<dyn Error>>;
@@ -72,7 +77,7 @@ impl Bench {
     }
 
     /// Measures both on one workload, in turn, and prints a row of the table.
-    fn compare_large(&self, workload: &Workload) -> Answer<()> {
+    fn compare_large(&self, calls: &str, workload: &Workload) -> Answer<()> {
         let input = self.folder.join("input.txt");
         let mut file = BufWriter::new(File::create(&input)?);
         workload.write(&mut file)?;
@@ -90,7 +95,12 @@ impl Bench {
         if !same_bytes(&outputs.0, &outputs.1)? {
             return Err(format!("their outputs differ on {}", input.display()).into());
         }
-        print_row(workload, Measure::median(&product), Measure::median(&plain));
+        print_row(
+            calls,
+            workload,
+            Measure::median(&product),
+            Measure::median(&plain),
+        );
         Ok(())
     }
 }
@@ -119,11 +129,11 @@ fn same_bytes(first: &Path, second: &Path) -> io::Result<bool> {
     }
 }
 
-fn print_row(workload: &Workload, product: Measure, plain: Measure) {
+fn print_row(calls: &str, workload: &Workload, product: Measure, plain: Measure) {
     let milliseconds = |measure: &Measure| measure.time.as_secs_f64() * 1e3;
     let megabytes = |measure: &Measure| measure.peak_kib as f64 / 1024.0;
     println!(
-        "| {} | {} | {:.1} | {:.1} | {:.2} | {:.0} | {:.1} | {:.1} | {:.2} |",
+        "| {calls} | {} | {} | {:.1} | {:.1} | {:.2} | {:.0} | {:.1} | {:.1} | {:.2} |",
         workload.customers,
         workload.lines,
         milliseconds(&product),
@@ -138,9 +148,9 @@ fn print_row(workload: &Workload, product: Measure, plain: Measure) {
 
 fn print_head() {
     println!(
-        "| customers | lines | ms | ms, plain | ratio | lines a second | MiB | MiB, plain | ratio |"
+        "| calls | customers | lines | ms | ms, plain | ratio | lines a second | MiB | MiB, plain | ratio |"
     );
-    println!("|---|---|---|---|---|---|---|---|---|");
+    println!("|---|---|---|---|---|---|---|---|---|---|");
 }
 
 fn main() -> Answer<()> {
@@ -158,8 +168,8 @@ fn main() -> Answer<()> {
             };
             bench.compare_small()?;
             print_head();
-            for (customers, lines) in ROWS {
-                bench.compare_large(&Workload::new(SEED, customers, lines))?;
+            for (calls, workload, customers, lines) in ROWS {
+                bench.compare_large(calls, &workload(SEED, customers, lines))?;
             }
         }
         _ => {

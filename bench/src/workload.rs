@@ -20,8 +20,10 @@ pub struct Workload {
     pub repeated: u32,
     /// Of 100 repeats, how many have another call.
     pub changed: u32,
-    /// How many customers get half of the calls.
+    /// How many customers are hot.
     pub hot: u32,
+    /// Of 100 calls, how many are of hot customers. The others are of any.
+    pub hot_calls: u32,
 }
 
 struct Ask {
@@ -31,7 +33,7 @@ struct Ask {
 }
 
 impl Workload {
-    /// The mix of the table.
+    /// Calls of all kinds, half of them of a few customers.
     pub fn new(seed: u64, customers: u32, lines: u32) -> Self {
         Workload {
             seed,
@@ -42,6 +44,24 @@ impl Workload {
             repeated: 10,
             changed: 10,
             hot: customers.min(100),
+            hot_calls: 50,
+        }
+    }
+
+    /// Calls of all kinds, each of one customer.
+    pub fn one_customer(seed: u64, customers: u32, lines: u32) -> Self {
+        Workload {
+            hot: 1,
+            hot_calls: 100,
+            ..Workload::new(seed, customers, lines)
+        }
+    }
+
+    /// Amalgamates alone, half of them of a few customers.
+    pub fn amalgamates(seed: u64, customers: u32, lines: u32) -> Self {
+        Workload {
+            mix: [0, 0, 0, 0, 1],
+            ..Workload::new(seed, customers, lines)
         }
     }
 
@@ -91,7 +111,7 @@ impl Workload {
     }
 
     fn customer(&self, random: &mut Random) -> String {
-        let among = if random.percent(50) {
+        let among = if random.percent(self.hot_calls) {
             self.hot
         } else {
             self.customers
