@@ -1,12 +1,22 @@
-//! Crews that carry ops out, and the draining of a board by one.
+//! Crews that carry ops out, in place or in threads, and the draining of a board by one.
 #![tactic(auto)]
 
+mod back_off;
+mod bench_crew;
 mod crew;
+mod crew_fault;
 mod draining;
+mod gate;
+mod in_threads;
 mod inline_crew;
 #[cfg(test)]
 mod tests;
+mod worker;
 
+pub use bench_crew::BenchCrew;
 pub use crew::{Crew, CrewGone};
+pub use crew_fault::CrewFault;
 pub use draining::drain;
+pub use gate::{Gate, OpenGate};
+pub use in_threads::with_crew;
 pub use inline_crew::InlineCrew;

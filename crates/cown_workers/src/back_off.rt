@@ -1,0 +1,38 @@
+//! How a worker waits for the next job.
+use std::thread;
+use std::time::{Clock, Duration};
+
+// How often it only lets others run, before it sleeps.
+const YIELDS: u32 = 64;
+
+// How many microseconds it sleeps at first.
+const SHORTEST: u64 = 1;
+
+// How many it sleeps at most.
+const LONGEST: u64 = 100;
+
+// Waits longer each time: at first it lets others run, then it sleeps for moments that grow.
+#[derive(Drop)]
+pub(crate) struct BackOff {
+    yields: u32,
+    micros: u64,
+}
+
+impl BackOff {
+    pub(crate) fn new() -> BackOff {
+        BackOff {
+            yields: 0,
+            micros: SHORTEST,
+        }
+    }
+
+    pub(crate) fn wait(&mut self, clock: &impl Clock) {
+        if self.yields < YIELDS {
+            self.yields += 1;
+            thread::yield_now();
+            return;
+        }
+        thread::sleep(clock, Duration::from_micros(self.micros));
+        self.micros = self.micros.saturating_mul(2).min(LONGEST);
+    }
+}

@@ -1,0 +1,100 @@
+//! A crew that works at a bench.
+ghost use Rattle.std.specs.Prelude.{◌≡◌, true, ⊤};
+
+use crate::crew::Crew;
+use cown_bench::{Bench, OwnerPass, Work};
+use cown_board::{Done, Job};
+use crossbeam_channel::Receiver;
+use sb_calls::Op;
+use std::marker::Model;
+use std::sync::Wait;
+use std::thread;
+
+/// The owner's side of a crew in threads: what is given lies on a bench until a worker picks it, and what the
+/// workers have carried out comes in through a channel. Nothing is told of the crew but that it may keep jobs.
+#[derive(Drop)]
+pub struct BenchCrew<'a, R: Wait> {
+    rt: &'a R,
+    bench: &'a Bench,
+    pass: OwnerPass,
+    inbox: Receiver<Done<Op>>,
+}
+
+impl<'a, R: Wait> Model for BenchCrew<'a, R> {
+    ghost use Rattle.std.specs.Prelude.{◌≡◌, ⊤};
+
+    ghost Value = { ⊤ };
+
+    ghost view = { λ crew. tt };
+
+    ghost invariant = { λ crew. crew.pass.bench ≡ crew.bench.now };
+}
+
+impl<'a, R: Wait> BenchCrew<'a, R> {
+    pub(crate) fn new(
+        rt: &'a R,
+        bench: &'a Bench,
+        pass: OwnerPass,
+        inbox: Receiver<Done<Op>>,
+    ) -> BenchCrew<'a, R>
+        requires { pass.bench ≡ bench.now }
+    {
+        BenchCrew {
+            rt,
+            bench,
+            pass,
+            inbox,
+        }
+    }
+
+    // Lays out a `Stop` for each of so many workers, and waits until the last one has gone.
+    pub(crate) fn send_home(mut self, workers: usize) {
+        for _ in 0..workers {
+            self.lay_out_a_stop();
+        }
+        // A worker has an end of the channel, so the channel is at its end once all are gone.
+        for _ in self.rt.forever() {
+            if self.next().is_none() {
+                break;
+            }
+        }
+    }
+
+    // Where the bench is full, the workers have to get on: what they did is taken in, so that none waits with it.
+    fn lay_out_a_stop(&mut self) {
+        for _ in self.rt.forever() {
+            if self
+                .bench
+                .offer(self.rt, &mut self.pass, Work::Stop)
+                .is_ok()
+            {
+                return;
+            }
+            let _ = self.inbox.try_recv(self.rt);
+            thread::yield_now();
+        }
+        unreachable!()
+    }
+}
+
+impl<'a, R: Wait> Crew for BenchCrew<'a, R> {
+    ghost keeps = { λ crew. true };
+
+    ghost acts = { λ old step new. Unit {0} };
+
+    fn keeps(&self) -> bool {
+        true
+    }
+
+    fn give(&mut self, job: Job<Op>) -> Result<(), Job<Op>> {
+        match self.bench.offer(self.rt, &mut self.pass, Work::Run(job)) {
+            Ok(()) => Ok(()),
+            Err(Work::Run(back)) => Err(back),
+            Err(Work::Stop) => unreachable!(),
+        }
+    }
+
+    fn next(&mut self) -> Option<Done<Op>> {
+        self.inbox.recv(self.rt).ok()
+    }
+}

@@ -1,0 +1,102 @@
+//! A crew in threads.
+ghost use Rattle.std.specs.Prelude.{◌≡◌, ◌≤◌, All, IfOk};
+ghost use Rattle.std.specs.Fn.{FnOnceReturnsAtMut};
+
+use crate::bench_crew::BenchCrew;
+use crate::crew_fault::CrewFault;
+use crate::gate::Gate;
+use crate::worker::Worker;
+use cown_bench::{BENCH_CAPACITY, Bench, WorkerPass};
+use cown_board::Done;
+use crossbeam_channel::{Sender, bounded};
+use sb_calls::Op;
+use std::alloc::{AllocError, Global};
+use std::sync::Wait;
+use std::thread;
+use std::thread::{Scope, Threads};
+use std::time::Clock;
+
+/// Hands a crew of this many workers to `f`, each in a thread of its own, and answers what `f` answers.
+pub fn with_crew<R, G, T, F>(
+    rt: &R,
+    alloc: Global,
+    workers: usize,
+    gate: &G,
+    f: F,
+) -> Result<T, CrewFault>
+where
+    R: Threads + Wait + Clock + Sync,
+    G: Gate + Sync,
+    F: FnOnce(&mut BenchCrew<'_, R>) -> T,
+    requires some { 1 ≤ workers }
+    requires few { workers ≤ 16 }
+    requires callable { F.IsAlwaysCallable f }
+    ensures answer { IfOk result (λ answer. (before : _) × (after : _) ×
+        FnOnceReturnsAtMut F.FnOnce f before answer after) }
+{
+    let (bench, pass, passes) = Bench::new(alloc, workers)?;
+    let (outbox, inbox) = bounded(alloc, BENCH_CAPACITY)?;
+    let crew = BenchCrew::new(rt, &bench, pass, inbox);
+    let workers = workers_at(rt, alloc, &bench, passes, gate, outbox)?;
+    thread::scope(
+        thread::scope_env(),
+        rt,
+        move |scope| -> Result<T, CrewFault>
+            requires { F.IsAlwaysCallable f }
+            ensures { IfOk result (λ answer. (before : _) × (after : _) ×
+                FnOnceReturnsAtMut F.FnOnce f before answer after) }
+        {
+            let mut crew = crew;
+            let hired = workers.len();
+            if start(scope, workers).is_err() {
+                crew.send_home(hired);
+                return Err(CrewFault::CrewGone);
+            }
+            let answer = f(&mut crew);
+            crew.send_home(hired);
+            Ok(answer)
+        },
+    )
+}
+
+// A worker for each of these passes.
+fn workers_at<'a, R: Wait + Clock, G: Gate>(
+    rt: &'a R,
+    alloc: Global,
+    bench: &'a Bench,
+    passes: Vec<WorkerPass>,
+    gate: &'a G,
+    outbox: Sender<Done<Op>>,
+) -> Result<Vec<Worker<'a, R, G>>, AllocError>
+    requires { All (λ pass. pass.bench ≡ bench.now) passes.items }
+{
+    let mut workers = Vec::with_capacity(alloc, passes.len())?;
+    for pass in passes {
+        let outbox = outbox.clone()?;
+        workers.push(Worker {
+            rt,
+            bench,
+            pass,
+            gate,
+            outbox,
+        })?;
+    }
+    Ok(workers)
+}
+
+// Starts a thread for each worker. Where one can't be made, the workers that have none are gone.
+fn start<'s, E, R, G>(
+    scope: &'s Scope<'s, E>,
+    workers: Vec<Worker<'s, R, G>>,
+) -> Result<(), CrewFault>
+where
+    R: Wait + Clock + Sync,
+    G: Gate + Sync,
+{
+    for worker in workers {
+        if scope.spawn(move || worker.work()).is_err() {
+            return Err(CrewFault::CrewGone);
+        }
+    }
+    Ok(())
+}
