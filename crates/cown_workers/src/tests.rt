@@ -11,7 +11,9 @@ use std::test::Fail;
 
 mod crews;
 mod drains;
+mod gates;
 mod owners;
+mod threads;
 
 const OPENING: &str = "alice 100.00 50.00\nbob 0.00 20.00\ncarol 10.00 0.00\nbegin\n";
 
