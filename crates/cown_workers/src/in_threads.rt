@@ -16,7 +16,11 @@ use std::thread;
 use std::thread::{Scope, Threads};
 use std::time::Clock;
 
-/// Hands a crew of this many workers to `f`, each in a thread of its own, and answers what `f` answers.
+/// Hands a crew of this many workers, each in a thread of its own, to `f`. Once `f` has answered and all workers
+/// are gone it answers the same.
+///
+/// Fails where memory is refused or a thread can't be started; then `f` isn't called. Each job stands between two
+/// calls of the gate. What `f` gave and didn't take in is carried out and let go.
 pub fn with_crew<R, G, T, F>(
     rt: &R,
     alloc: Global,
@@ -36,7 +40,7 @@ where
 {
     let (bench, pass, passes) = Bench::new(alloc, workers)?;
     let (outbox, inbox) = bounded(alloc, BENCH_CAPACITY)?;
-    let crew = BenchCrew::new(rt, &bench, pass, inbox);
+    let mut crew = BenchCrew::new(rt, &bench, pass, inbox);
     let workers = workers_at(rt, alloc, &bench, passes, gate, outbox)?;
     thread::scope(
         thread::scope_env(),
@@ -46,11 +50,10 @@ where
             ensures { IfOk result (λ answer. (before : _) × (after : _) ×
                 FnOnceReturnsAtMut F.FnOnce f before answer after) }
         {
-            let mut crew = crew;
             let hired = workers.len();
-            if start(scope, workers).is_err() {
+            if let Err(fault) = start(scope, workers) {
                 crew.send_home(hired);
-                return Err(CrewFault::CrewGone);
+                return Err(fault);
             }
             let answer = f(&mut crew);
             crew.send_home(hired);
