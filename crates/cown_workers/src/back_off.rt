@@ -1,4 +1,6 @@
 //! How a worker waits for the next job.
+ghost use Rattle.std.specs.Prelude.{◌≤◌};
+
 use std::thread;
 use std::time::{Clock, Duration};
 
@@ -16,6 +18,8 @@ const LONGEST: u64 = 100;
 pub(crate) struct BackOff {
     yields: u32,
     micros: u64,
+    // At most a tenth of a millisecond.
+    ghost short: { micros ≤ 100 },
 }
 
 impl BackOff {

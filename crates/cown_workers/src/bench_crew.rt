@@ -10,8 +10,10 @@ use std::marker::Model;
 use std::sync::Wait;
 use std::thread;
 
-/// The owner's side of a crew in threads: what is given lies on a bench until a worker picks it, and what the
-/// workers have carried out comes in through a channel. Nothing is told of the crew but that it may keep jobs.
+/// A crew in threads, as the owner of a board has it. What is given lies on a bench until a worker picks it, and comes
+/// back where the bench is full; what is carried out comes in through a channel. `next` waits until something
+/// does, so it is to be asked only while the crew has a job. Contracts tell nothing of this crew, but that it may keep
+/// what it is given.
 #[derive(Drop)]
 pub struct BenchCrew<'a, R: Wait> {
     rt: &'a R,
@@ -47,20 +49,25 @@ impl<'a, R: Wait> BenchCrew<'a, R> {
         }
     }
 
-    // Lays out a `Stop` for each of so many workers, and waits until the last one has gone.
+    // Lays out a `Stop` for each of so many workers, and waits until all are gone.
     pub(crate) fn send_home(mut self, workers: usize) {
         for _ in 0..workers {
             self.lay_out_a_stop();
         }
-        // A worker has an end of the channel, so the channel is at its end once all are gone.
-        for _ in self.rt.forever() {
-            if self.next().is_none() {
-                break;
-            }
-        }
+        self.outlast_the_workers();
     }
 
-    // Where the bench is full, the workers have to get on: what they did is taken in, so that none waits with it.
+    // Each worker has an end of the channel, so nothing more comes once all are gone.
+    fn outlast_the_workers(mut self) {
+        for _ in self.rt.forever() {
+            if self.next().is_none() {
+                return;
+            }
+        }
+        unreachable!()
+    }
+
+    // Where the bench is full, what is carried out is taken in, so that no worker waits for room in the channel.
     fn lay_out_a_stop(&mut self) {
         for _ in self.rt.forever() {
             if self
