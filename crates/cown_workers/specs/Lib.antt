@@ -1,1 +1,2 @@
+pub mod CrewFaults
 pub mod Draining
