@@ -1,2 +1,3 @@
+pub mod BenchCrews
 pub mod CrewFaults
 pub mod Draining

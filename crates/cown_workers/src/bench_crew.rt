@@ -1,5 +1,6 @@
 //! A crew that works at a bench.
-ghost use Rattle.std.specs.Prelude.{◌≡◌, true, ⊤};
+ghost use Rattle.std.specs.Prelude.{◌≡◌, true};
+ghost use Rattle.cown_workers.specs.BenchCrews.{LaysOut};
 
 use crate::crew::Crew;
 use cown_bench::{Bench, OwnerPass, Work};
@@ -12,8 +13,7 @@ use std::thread;
 
 /// A crew in threads, as the owner of a board has it. What is given lies on a bench until a worker picks it, and comes
 /// back where the bench is full; what is carried out comes in through a channel. `next` waits until something
-/// does, so it is to be asked only while the crew has a job. Contracts tell nothing of this crew, but that it may keep
-/// what it is given.
+/// does, so it is to be asked only while the crew has a job. Contracts see the crew as what it laid out.
 #[derive(Drop)]
 pub struct BenchCrew<'a, R: Wait> {
     rt: &'a R,
@@ -23,11 +23,12 @@ pub struct BenchCrew<'a, R: Wait> {
 }
 
 impl<'a, R: Wait> Model for BenchCrew<'a, R> {
-    ghost use Rattle.std.specs.Prelude.{◌≡◌, ⊤};
+    ghost use Rattle.std.specs.Prelude.{◌≡◌, List};
+    ghost use Rattle.cown_bench.specs.Picks.{WorkOf};
 
-    ghost Value = { ⊤ };
+    ghost Value = { List WorkOf };
 
-    ghost view = { λ crew. tt };
+    ghost view = { λ crew. crew.pass.offered };
 
     ghost invariant = { λ crew. crew.pass.bench ≡ crew.bench.now };
 }
@@ -40,6 +41,7 @@ impl<'a, R: Wait> BenchCrew<'a, R> {
         inbox: Receiver<Done<Op>>,
     ) -> BenchCrew<'a, R>
         requires { pass.bench ≡ bench.now }
+        ensures { result ≡ pass.offered }
     {
         BenchCrew {
             rt,
@@ -87,7 +89,7 @@ impl<'a, R: Wait> BenchCrew<'a, R> {
 impl<'a, R: Wait> Crew for BenchCrew<'a, R> {
     ghost keeps = { λ crew. true };
 
-    ghost acts = { λ old step new. Unit {0} };
+    ghost acts = { λ old step new. LaysOut old step new };
 
     fn keeps(&self) -> bool {
         true

@@ -1,5 +1,5 @@
 //! A crew in threads.
-ghost use Rattle.std.specs.Prelude.{◌≡◌, ◌≤◌, All, IfOk};
+ghost use Rattle.std.specs.Prelude.{◌≡◌, ◌≤◌, [], All, IfOk};
 ghost use Rattle.std.specs.Fn.{FnOnceReturnsAtMut};
 
 use crate::bench_crew::BenchCrew;
@@ -35,8 +35,8 @@ where
     requires some { 1 ≤ workers }
     requires few { workers ≤ 16 }
     requires callable { F.IsAlwaysCallable f }
-    ensures answer { IfOk result (λ answer. (before : _) × (after : _) ×
-        FnOnceReturnsAtMut F.FnOnce f before answer after) }
+    ensures answer { IfOk result (λ answer. (after : _) ×
+        FnOnceReturnsAtMut F.FnOnce f [] answer after) }
 {
     let (bench, pass, passes) = Bench::new(alloc, workers)?;
     let (outbox, inbox) = bounded(alloc, BENCH_CAPACITY)?;
@@ -46,9 +46,10 @@ where
         thread::scope_env(),
         rt,
         move |scope| -> Result<T, CrewFault>
-            requires { F.IsAlwaysCallable f }
-            ensures { IfOk result (λ answer. (before : _) × (after : _) ×
-                FnOnceReturnsAtMut F.FnOnce f before answer after) }
+            requires callable { F.IsAlwaysCallable f }
+            requires fresh { crew ≡ [] }
+            ensures { IfOk result (λ answer. (after : _) ×
+                FnOnceReturnsAtMut F.FnOnce f [] answer after) }
         {
             let hired = workers.len();
             if let Err(fault) = start(scope, workers) {

@@ -1,0 +1,6 @@
+-- The closure was called once, on a crew that was given nothing before.
+use Rattle.std.proofs.Common.{refl}
+use Rattle.cown_workers.proofs.in_threads.fn.with_crew.scope.Goals as goal
+
+pub returns : goal.returns
+returns g c = (_, record { shown = _; shows = c.requires.fresh; left = _; met = c.f-answer.ensures; leaves = refl })
