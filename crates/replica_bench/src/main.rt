@@ -3,6 +3,7 @@
 
 use anyhow::Result;
 use measured::Measured;
+use rounds::{Payees, drain_rounds};
 use std::env;
 use std::process::ExitCode;
 use words::{Action, Words, read_words};
@@ -12,11 +13,14 @@ mod boarding;
 mod checkpoints;
 mod delivering;
 mod entries;
+mod holding;
 mod measured;
 mod random;
+mod rounds;
 mod words;
 
-const USAGE: &str = "usage: replica_bench deliver|board|write|read NUMBER";
+const USAGE: &str =
+    "usage: replica_bench deliver|board|write|read|one-customer|many-customers NUMBER";
 
 fn main(rt: HostRuntime) -> ExitCode {
     let status = match start(&rt) {
@@ -50,5 +54,7 @@ fn measure(rt: &HostRuntime, words: Words) -> Result<Measured> {
         Action::Board => boarding::board(rt, alloc, words.number),
         Action::Write => checkpoints::write(rt, alloc, words.number),
         Action::Read => checkpoints::read(rt, alloc, words.number),
+        Action::OneCustomer => drain_rounds(rt, alloc, Payees::One, words.number),
+        Action::ManyCustomers => drain_rounds(rt, alloc, Payees::Many, words.number),
     }
 }

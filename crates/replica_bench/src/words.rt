@@ -11,6 +11,10 @@ pub enum Action {
     Write,
     /// A checkpoint is read.
     Read,
+    /// Deposits to one customer are drained by a crew that holds jobs.
+    OneCustomer,
+    /// As many deposits are, each to another customer.
+    ManyCustomers,
 }
 
 /// What the program is to do.
@@ -18,7 +22,7 @@ pub enum Action {
 pub struct Words {
     /// What is measured.
     pub action: Action,
-    /// How many frames, or how often.
+    /// How many frames, how often, or how many rounds.
     pub number: u32,
 }
 
@@ -32,6 +36,8 @@ pub fn read_words(words: &[String]) -> Option<Words> {
         "board" => Action::Board,
         "write" => Action::Write,
         "read" => Action::Read,
+        "one-customer" => Action::OneCustomer,
+        "many-customers" => Action::ManyCustomers,
         _ => return None,
     };
     let number = number.parse::<u32>().ok()?;

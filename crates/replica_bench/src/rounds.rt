@@ -1,0 +1,94 @@
+//! Rounds of deposits that a crew with sixteen jobs in hand drains: all to one customer, or each to another.
+ghost use Rattle.std.specs.Prelude.{◌≡◌, ◌*◌, length, OnOk};
+ghost use Rattle.sb_calls.specs.Cowns.{held_of};
+
+use crate::bank::open_bank;
+use crate::delivering::BALANCES;
+use crate::holding::HoldingCrew;
+use crate::measured::Measured;
+use anyhow::{Context, Result};
+use cown_board::{Board, OPEN_BEHAVIOURS};
+use cown_workers::drain;
+use lane_audit::bank_total;
+use sb_amount::Cents;
+use sb_calls::{Call, Op, resolve};
+use sb_rows::Directory;
+use std::alloc::Global;
+use std::time::{Clock, Instant};
+
+/// Who is paid in a round.
+#[derive(Clone, Copy, Debug, PartialEq, Eq)]
+pub enum Payees {
+    /// One customer: each deposit waits for the one before.
+    One,
+    /// Each deposit is another customer's: none waits.
+    Many,
+}
+
+/// Submits as many deposits as may be unfinished and drains them, this often. It comes to the log's length and
+/// the bank's total.
+pub fn drain_rounds(
+    clock: &impl Clock,
+    alloc: Global,
+    payees: Payees,
+    count: u32,
+) -> Result<Measured> {
+    let opening = open_bank(alloc, OPEN_BEHAVIOURS as u32, BALANCES)?;
+    let calls = deposits(alloc, &opening.directory, payees)?;
+    let mut board = Board::open(alloc, opening.columns, 0, Vec::new(alloc))?;
+    let start = Instant::now(clock)?;
+    run_rounds(alloc, &opening.directory, &calls, count, &mut board)?;
+    let time = start.elapsed(clock)?;
+    let columns = board
+        .settled_columns()
+        .context("something is unfinished")?;
+    Ok(Measured {
+        length: board.length(),
+        sum: bank_total(columns),
+        time,
+    })
+}
+
+// A deposit for each behaviour that may be unfinished.
+fn deposits(alloc: Global, directory: &Directory, payees: Payees) -> Result<Vec<Call>> {
+    let amount = Cents::new(1).context("one cent")?;
+    let mut calls = Vec::with_capacity(alloc, OPEN_BEHAVIOURS)?;
+    for place in 0..OPEN_BEHAVIOURS as u32 {
+        let payee = match payees {
+            Payees::One => 0,
+            Payees::Many => place,
+        };
+        let name = directory.name(payee).context("no such customer")?;
+        calls.push(Call::DepositChecking(name, amount))?;
+    }
+    Ok(calls)
+}
+
+// Submits and drains the calls this often.
+fn run_rounds(
+    alloc: Global,
+    directory: &Directory,
+    calls: &[Call],
+    count: u32,
+    board: &mut Board<Op>,
+) -> Result<()>
+    requires { length (held_of board.old.opening) ≡ 2 * length directory.now }
+{
+    let mut crew = HoldingCrew::new(alloc)?;
+    for _ in 0..count {
+        submit_all(directory, calls, board)?;
+        drain(board, &mut crew)?;
+    }
+    Ok(())
+}
+
+// Submits the calls.
+fn submit_all(directory: &Directory, calls: &[Call], board: &mut Board<Op>) -> Result<()>
+    requires { length (held_of board.old.opening) ≡ 2 * length directory.now }
+    ensures { OnOk result (board.new.opening ≡ board.old.opening) }
+{
+    for call in calls {
+        board.submit(resolve(directory, call))?;
+    }
+    Ok(())
+}
