@@ -2,7 +2,8 @@
 ghost use Rattle.std.specs.Prelude.{◌≡◌};
 ghost use Rattle.smallbank.specs.Faults.{exit_status};
 
-use crate::fault::{ProgramFault, RunFault};
+use crate::fault::ProgramFault;
+use bank_server::RunFault;
 use schedule_player::ScheduleFault;
 use std::fmt;
 
