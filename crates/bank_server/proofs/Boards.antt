@@ -5,15 +5,14 @@ use Rattle.std.proofs.lemmas.Bool.{cases_lt, true≢false, lt-leb, ne_eqb}
 use Rattle.std.proofs.lemmas.List.{length-map, take_all}
 use Rattle.sb_rows.specs.Balances.{Balances, IsBalances}
 use Rattle.sb_rows.specs.Rows.{Rows, SameCustomers, rows_of}
-use Rattle.sb_calls.proofs.AppliedOps as balances
 use Rattle.sb_calls.proofs.Holding.{held_of-injective}
 use Rattle.sb_calls.specs.Behaviour.{declared_cowns, effect_of}
 use Rattle.sb_calls.proofs.Log.{slice_get-replies_to}
 use Rattle.sb_calls.proofs.OneByOneRuns.{log_by_cowns}
-use Rattle.sb_calls.specs.Cowns.{AreBelow, held_of}
+use Rattle.sb_calls.specs.Cowns.{held_of}
 use Rattle.sb_calls.specs.Log.{replies_to, rows_after}
 use Rattle.sb_calls.specs.OneByOne.{reply_by_log, held_after}
-use Rattle.sb_calls.specs.Op.{IsOpWithin, resolved}
+use Rattle.sb_calls.specs.Op.{resolved}
 use Rattle.sb_calls.specs.Procedures.{procedure}
 use Rattle.sb_calls.specs.declared.ask.Key.{Key}
 use Rattle.sb_calls.specs.declared.call.Call.{Call}
@@ -26,7 +25,8 @@ use Rattle.cown_board.specs.declared.state.State.{State}
 use Rattle.cown_board.specs.declared.state.State.TheVariants.{Waiting, Out, Finished}
 use Rattle.cown_workers.specs.Draining.{NoneOut, Drains}
 use Rattle.sb_sequencer.specs.Numbering.{call_at}
-use Rattle.bank_server.specs.Execution.{IsCarriedOut, IsOneByOne, IsPut, Tells}
+use Rattle.sb_replica_log.specs.Offers.{accepted}
+use Rattle.bank_server.specs.Execution.{ArePut, IsCarriedOut, IsOneByOne, Tells}
 use Rattle.bank_server.specs.Output.{calls_of}
 
 none_is_some : {A : Type 0} {x : A} → ◌≡◌ {A = Option A} None (Some x) → ⊥
@@ -58,12 +58,6 @@ waits_not_out : ◌≡◌ {A = Option State} (Some Waiting) (Some Out) → true 
 unfolding waits
 waits_not_out h = ap waits h
 
--- an op at places of customers declares cowns of theirs
-pub declared_below : (directory : List (List ℕ)) (b : Balances) (op : Op) → SameCustomers directory b → IsOpWithin (length directory) op
-    → AreBelow (length (held_of b)) (declared_cowns op)
-declared_below directory b op same within =
-    balances.declared_below b op same.balances.same (subst (λ n. IsOpWithin n op) (sym same.places) within)
-
 -- where nothing is unfinished nothing is out
 pub idle_none_out : (board : BoardOf Op) → open_of board ≡ 0 → NoneOut board
 idle_none_out board idle k out = true≢false (sym (ap (state_is is_open) out) ∙ all_finished board.states k idle)
@@ -75,8 +69,7 @@ none_out_more [] none (suc k) h = absurd (no_out h)
 none_out_more (s ∷ states) none zero h = none 0 h
 none_out_more (s ∷ states) none (suc k) h = none_out_more states (λ j. none (suc j)) k h
 
-pub put_after : (op : Op) (old new : BoardOf Op) → NoneOut old → new ≡ record old { log = old.log ++ op ∷ []; states = old.states ++ Waiting ∷ [] }
-    → IsPut op old new
+pub put_after : (op : Op) (old new : BoardOf Op) → NoneOut old → new ≡ accepted old op → ArePut (op ∷ []) old new
 put_after op old new none is = record {
   opening = ap (λ (b : BoardOf Op). b.opening) is;
   earlier = ap (λ (b : BoardOf Op). b.earlier) is;
@@ -84,14 +77,14 @@ put_after op old new none is = record {
   none_out = subst NoneOut (sym is) (none_out_more old.states none);
 }
 
-pub put_after_run : (op : Op) (old same mid new : BoardOf Op) → same ≡ old → Drains same mid → NoneOut mid
-    → new ≡ record mid { log = mid.log ++ op ∷ []; states = mid.states ++ Waiting ∷ [] } → IsPut op old new
-put_after_run op old same mid new is drained none put =
+-- the same where what was unfinished was carried out between
+pub put_after_run : (op : Op) (old mid new : BoardOf Op) → Drains old mid → NoneOut mid → new ≡ accepted mid op → ArePut (op ∷ []) old new
+put_after_run op old mid new drained none put =
     let made = put_after op mid new none put in
     record {
-      opening = made.opening ∙ drained.opening ∙ ap (λ (b : BoardOf Op). b.opening) is;
-      earlier = made.earlier ∙ drained.earlier ∙ ap (λ (b : BoardOf Op). b.earlier) is;
-      log = made.log ∙ ap (λ l. l ++ op ∷ []) (drained.log ∙ ap (λ (b : BoardOf Op). b.log) is);
+      opening = made.opening ∙ drained.opening;
+      earlier = made.earlier ∙ drained.earlier;
+      log = made.log ∙ ap (λ l. l ++ op ∷ []) drained.log;
       none_out = made.none_out;
     }
 
@@ -141,7 +134,8 @@ reply_at board k none =
     after
     ∙ ap (λ n. option_and_then finished_reply (slice_get board.states n)) at
 
-past : {A : Type 0} (xs : List A) (k : ℕ) → length xs ≤ k → slice_get xs k ≡ None
+-- nothing is past the end of a list
+pub past : {A : Type 0} (xs : List A) (k : ℕ) → length xs ≤ k → slice_get xs k ≡ None
 past [] k le = refl
 past (x ∷ xs) zero le = absurd (omega (arith, le))
 past (x ∷ xs) (suc k) le = past xs k (omega (arith, le))
@@ -239,14 +233,9 @@ told_of board replies number answer tells beside counted is told =
     told)
 
 -- ops that were carried out are the calls that come to them, one by one
-pub one_by_one : (directory : List (List ℕ)) (b c : Balances) (calls : List Call) (ops : List Op) (board : BoardOf Op) → SameCustomers directory b
-    → IsBalances c
-    → board.opening ≡ b → IsCarriedOut ops board → ops ≡ map (resolved directory) calls → IsAfterAll declared_cowns effect_of board c
-    → IsOneByOne directory calls b c board
-one_by_one directory b c calls ops board same valid opening carried is after =
-    let rows = all_rows directory b c calls board same valid opening (carried.log ∙ is) after in
-    record {
-      replies = all_replies directory b calls board same opening (carried.log ∙ is) carried.idle carried.earlier;
-      rows = rows.1;
-      customers = rows.0;
-    }
+pub one_by_one : (directory : List (List ℕ)) (b : Balances) (calls : List Call) (ops : List Op) (board : BoardOf Op) → SameCustomers directory b
+    → board.opening ≡ b → IsCarriedOut ops board → ops ≡ map (resolved directory) calls → IsOneByOne directory calls b board
+one_by_one directory b calls ops board same opening carried is = record {
+  replies = all_replies directory b calls board same opening (carried.log ∙ is) carried.idle carried.earlier;
+  rows = λ c valid after. all_rows directory b c calls board same valid opening (carried.log ∙ is) after;
+}

@@ -1,11 +1,11 @@
 -- What a fault of a run says.
-use Rattle.std.specs.Prelude.{◌≡◌, ℕ, Option, Result, Ok, Err, List}
+use Rattle.std.specs.Prelude.{◌≡◌, ◌≢◌, ℕ, Bool, false, Option, Result, Ok, Err, List}
 use Rattle.std.specs.Io.KnownBytes.{Appends, Keeps}
 use Rattle.sb_text.specs.declared.input.ReadFault.{ReadFault}
 use Rattle.sb_text.specs.declared.input.ReadFault.TheVariants as reading
 use Rattle.bank_server.specs.declared.fault.InputFault.{InputFault}
 use Rattle.bank_server.specs.declared.fault.RunFault.{RunFault}
-use Rattle.bank_server.specs.declared.fault.RunFault.TheVariants.{Input, Device, OutOfMemory}
+use Rattle.bank_server.specs.declared.fault.RunFault.TheVariants.{Input, Strayed, CrewGone, Device, OutOfMemory}
 
 -- the output was written, which an input at fault has none of
 abbrev pub Writes : Result (List ℕ) (ℕ × InputFault) → Option (List ℕ) → Option (List ℕ) → Type 0
@@ -15,18 +15,25 @@ Writes (Err fault) old new = ⊥
 -- an input fault is the first of the input
 abbrev pub Blames : {A : Type 0} → RunFault → Result A (ℕ × InputFault) → Type 0
 Blames (Input line fault) read = read ≡ Err (line, fault)
+Blames (Strayed node) read = Unit {0}
+Blames CrewGone read = Unit {0}
 Blames Device read = Unit {0}
 Blames OutOfMemory read = Unit {0}
 
--- the same of a text that is in memory already: no device has a part in it
+-- the same of a text that is in memory already, where nothing is carried out: no device, no node and no crew has a
+-- part in it
 abbrev pub BlamesText : {A : Type 0} → RunFault → Result A (ℕ × InputFault) → Type 0
 BlamesText (Input line fault) read = read ≡ Err (line, fault)
+BlamesText (Strayed node) read = ⊥
+BlamesText CrewGone read = ⊥
 BlamesText Device read = ⊥
 BlamesText OutOfMemory read = Unit {0}
 
 -- after an input fault nothing was written
 abbrev pub WritesNothing : RunFault → Option (List ℕ) → Option (List ℕ) → Type 0
 WritesNothing (Input line fault) old new = Keeps old new
+WritesNothing (Strayed node) old new = Unit {0}
+WritesNothing CrewGone old new = Unit {0}
 WritesNothing Device old new = Unit {0}
 WritesNothing OutOfMemory old new = Unit {0}
 
@@ -38,5 +45,15 @@ of_read_fault reading.OutOfMemory = OutOfMemory
 -- the number of a fault
 abbrev pub fault_number : RunFault → ℕ
 fault_number (Input line fault) = 1
+fault_number (Strayed node) = 2
+fault_number CrewGone = 3
 fault_number Device = 4
 fault_number OutOfMemory = 5
+
+-- memory was refused, or the crew is gone, which one that keeps no job never is
+abbrev pub IsCrewFault : Bool → RunFault → Type 0
+IsCrewFault keeps (Input line fault) = ⊥
+IsCrewFault keeps (Strayed node) = ⊥
+IsCrewFault keeps CrewGone = keeps ≢ false
+IsCrewFault keeps Device = ⊥
+IsCrewFault keeps OutOfMemory = Unit {0}

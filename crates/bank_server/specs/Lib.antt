@@ -1,3 +1,4 @@
+pub mod Agreement
 pub mod Asking
 pub mod Asks
 pub mod Execution
@@ -5,4 +6,5 @@ pub mod Faults
 pub mod Input
 pub mod LogNumber
 pub mod Output
+pub mod Prepared
 pub mod Standing

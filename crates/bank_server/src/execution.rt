@@ -1,87 +1,115 @@
-//! Carrying out the ops of a log over a board.
-ghost use Rattle.std.specs.Prelude.{◌≡◌, ◌≢◌, ◌≤◌, ℕ, List, [], length, map, IfOk, OnOk};
+//! Carrying out the ops of a log over a replica.
+ghost use Rattle.std.specs.Prelude.{◌≡◌, ◌≢◌, ◌≤◌, ◌<◌, ◌+◌, List, [], ◌∷◌, false, length, map, IfErr, OnOk};
 ghost use Rattle.sb_rows.specs.Rows.{SameCustomers};
-ghost use Rattle.sb_calls.specs.Behaviour.{declared_cowns};
-ghost use Rattle.sb_calls.specs.Cowns.{AreBelow, held_of};
-ghost use Rattle.sb_calls.specs.Op.{resolved};
+ghost use Rattle.sb_calls.specs.Op.{IsOpWithin, resolved};
 ghost use Rattle.sb_calls.specs.declared.call.Call.{Call as AnyCall};
 ghost use Rattle.cown_board.specs.Board.{length_of, open_of};
 ghost use Rattle.cown_workers.specs.Draining.{Drains, NoneOut};
-ghost use Rattle.bank_server.specs.Execution.{AreBelowCowns, IsCarriedOut, IsOneByOne, IsOpened, IsPut};
+ghost use Rattle.sb_replica.specs.Replica.{beside_of};
+ghost use Rattle.bank_server.specs.Execution.{ArePut, AreWithin, IsCarriedOut, IsOneByOne, IsOpened};
+ghost use Rattle.bank_server.specs.Faults.{IsCrewFault};
 
-use cown_board::{Board, SubmitFault};
-use cown_workers::{InlineCrew, drain};
+use crate::fault::RunFault;
+use cown_workers::{Crew, drain};
 use sb_calls::{LOG_CALLS, Op};
-use sb_rows::Columns;
-use std::alloc::{AllocError, Global};
+use sb_checkpoint::CheckpointStore;
+use sb_replica::Replica;
+use sb_replica_log::Offered;
 
-/// Carries out the ops of a log on these columns, each as soon as its cowns are free, and answers the
-/// board, which has the replies, and the columns after the last one.
-pub fn carry_out(
-    alloc: Global,
+/// Carries out the ops of a log over a replica that has nothing yet, each as soon as its cowns are free.
+///
+/// Fails with
+/// - [`RunFault::CrewGone`] where the crew leaves something unfinished, which one that keeps no job never does,
+/// - [`RunFault::OutOfMemory`] where memory is refused.
+pub fn carry_out<S: CheckpointStore, C: Crew>(
     ops: &[Op],
-    columns: Columns,
-) -> Result<(Board<Op>, Columns), AllocError>
+    replica: &mut Replica<S>,
+    crew: &mut C,
+) -> Result<(), RunFault>
+    requires opened { IsOpened replica.old.board }
     requires few { length ops.now ≤ LOG_CALLS }
-    requires cowns { AreBelowCowns (length (held_of columns)) ops.now }
-    ensures finished { IfOk result (λ done. IsCarriedOut ops.now done.0) }
+    requires within { AreWithin (length replica.old.names) ops.now }
+    ensures finished { OnOk result (IsCarriedOut ops.now replica.new.board) }
+    ensures opening { OnOk result (replica.new.board.opening ≡ replica.old.board.opening) }
     // Where calls come to these ops, it is as if they were carried out one by one.
-    ensures one_by_one { IfOk result (λ done. (directory : List (List ℕ)) (calls : List AnyCall)
-        → SameCustomers directory columns → ops.now ≡ map (resolved directory) calls
-        → IsOneByOne directory calls columns done.1 done.0) }
+    ensures one_by_one { OnOk result ((calls : List AnyCall)
+        → SameCustomers replica.old.names replica.old.board.opening
+        → ops.now ≡ map (resolved replica.old.names) calls
+        → IsOneByOne replica.old.names calls replica.old.board.opening replica.new.board) }
+    ensures beside { beside_of replica.new ≡ beside_of replica.old }
+    ensures fault { IfErr result (IsCrewFault (C.keeps crew.old)) }
+    ensures stays { C.keeps crew.old ≡ false → C.keeps crew.new ≡ false }
 {
-    let mut board = Board::open(alloc, columns, 0, Vec::new(alloc))?;
-    board.reserve(ops.len())?;
-    submit_all(ops, &mut board)?;
-    run_all(&mut board);
-    let after = board.columns()?.unwrap();
-    Ok((board, after))
+    replica.reserve(ops.len())?;
+    submit_all(ops, replica, crew)?;
+    settle(replica, crew)
 }
 
-// Submits each op.
-fn submit_all(ops: &[Op], board: &mut Board<Op>) -> Result<(), AllocError>
-    requires opened { IsOpened board.old }
-    requires few { length ops.now ≤ LOG_CALLS }
-    requires cowns { AreBelowCowns (length (held_of board.old.opening)) ops.now }
-    ensures opening { OnOk result (board.new.opening ≡ board.old.opening) }
-    ensures earlier { OnOk result (board.new.earlier ≡ []) }
-    ensures log { OnOk result (board.new.log ≡ ops.now) }
-    ensures none_out { OnOk result (NoneOut board.new) }
+/// Submits these ops, last in the log. Where as many are unfinished as may be, those are carried out first.
+///
+/// Fails as [`carry_out`].
+pub fn submit_all<S: CheckpointStore, C: Crew>(
+    ops: &[Op],
+    replica: &mut Replica<S>,
+    crew: &mut C,
+) -> Result<(), RunFault>
+    requires few { length_of replica.old.board + length ops.now ≤ LOG_CALLS }
+    requires within { AreWithin (length replica.old.names) ops.now }
+    requires none_out { NoneOut replica.old.board }
+    ensures put { OnOk result (ArePut ops.now replica.old.board replica.new.board) }
+    ensures beside { beside_of replica.new ≡ beside_of replica.old }
+    ensures fault { IfErr result (IsCrewFault (C.keeps crew.old)) }
+    ensures stays { C.keeps crew.old ≡ false → C.keeps crew.new ≡ false }
 {
     for op in ops {
-        submit(op, board)?;
+        submit(op, replica, crew)?;
     }
     Ok(())
 }
 
 // Submits an op. Where as many are unfinished as may be, these are carried out first.
-fn submit(op: &Op, board: &mut Board<Op>) -> Result<(), AllocError>
-    requires cowns { AreBelow (length (held_of board.old.opening)) (declared_cowns op.now) }
-    requires room { length_of board.old ≢ LOG_CALLS }
-    requires none_out { NoneOut board.old }
-    ensures { OnOk result (IsPut op.now board.old board.new) }
+fn submit<S: CheckpointStore, C: Crew>(
+    op: &Op,
+    replica: &mut Replica<S>,
+    crew: &mut C,
+) -> Result<(), RunFault>
+    requires room { length_of replica.old.board < LOG_CALLS }
+    requires within { IsOpWithin (length replica.old.names) op.now }
+    requires none_out { NoneOut replica.old.board }
+    ensures put { OnOk result (ArePut (op.now ∷ []) replica.old.board replica.new.board) }
+    ensures beside { beside_of replica.new ≡ beside_of replica.old }
+    ensures fault { IfErr result (IsCrewFault (C.keeps crew.old)) }
+    ensures stays { C.keeps crew.old ≡ false → C.keeps crew.new ≡ false }
 {
-    match board.submit(*op) {
-        Ok(_) => return Ok(()),
-        Err(SubmitFault::Busy) => run_all(board),
-        Err(SubmitFault::LogFull) => unreachable!(),
-        Err(SubmitFault::OutOfMemory) => return Err(AllocError),
+    let number = replica.length() + 1;
+    match replica.offer_entry(number, *op)? {
+        Offered::Next => return Ok(()),
+        Offered::Busy(_) => settle(replica, crew)?,
+        Offered::Repeat | Offered::Gap(_) => unreachable!(),
     }
-    match board.submit(*op) {
-        Ok(_) => Ok(()),
+    match replica.offer_entry(number, *op)? {
+        Offered::Next => Ok(()),
         // Nothing is unfinished by now, and the log is as long as it was.
-        Err(SubmitFault::Busy | SubmitFault::LogFull) => unreachable!(),
-        Err(SubmitFault::OutOfMemory) => Err(AllocError),
+        Offered::Repeat | Offered::Gap(_) | Offered::Busy(_) => unreachable!(),
     }
 }
 
-// Carries out all that is unfinished.
-fn run_all(board: &mut Board<Op>)
-    requires { NoneOut board.old }
-    ensures idle { open_of board.new ≡ 0 }
-    ensures log { Drains board.old board.new }
+/// Carries out all that is unfinished.
+///
+/// Fails with [`RunFault::CrewGone`] where the crew leaves something unfinished.
+pub fn settle<S: CheckpointStore, C: Crew>(
+    replica: &mut Replica<S>,
+    crew: &mut C,
+) -> Result<(), RunFault>
+    requires none_out { NoneOut replica.old.board }
+    ensures idle { OnOk result (open_of replica.new.board ≡ 0) }
+    ensures log { Drains replica.old.board replica.new.board }
+    ensures beside { beside_of replica.new ≡ beside_of replica.old }
+    ensures fault { IfErr result (IsCrewFault (C.keeps crew.old)) }
+    ensures stays { C.keeps crew.old ≡ false → C.keeps crew.new ≡ false }
 {
-    let drained = drain(board, &mut InlineCrew).is_ok();
-    // A crew that keeps nothing is never gone.
-    prove!(drained);
+    match drain(replica, crew) {
+        Ok(()) => Ok(()),
+        Err(_) => Err(RunFault::CrewGone),
+    }
 }

@@ -31,6 +31,12 @@ pub enum RunFault {
         /// What is wrong with it.
         fault: InputFault,
     },
+    /// This node, a follower, couldn't be started, or differs from node 0. Nothing was written.
+    #[error("node {0} strayed")]
+    Strayed(usize),
+    /// The workers left something unfinished. Nothing was written.
+    #[error("crew gone")]
+    CrewGone,
     /// A read or a write failed. A part of the output may be written.
     #[error("device")]
     Device,
@@ -46,6 +52,8 @@ impl RunFault {
     {
         match self {
             RunFault::Input { .. } => 1,
+            RunFault::Strayed(_) => 2,
+            RunFault::CrewGone => 3,
             RunFault::Device => 4,
             RunFault::OutOfMemory => 5,
         }

@@ -1,7 +1,7 @@
 //! Looking up the names of a whole log.
 ghost use Rattle.std.specs.Prelude.{◌≡◌, ◌≤◌, length, map, IfOk};
 ghost use Rattle.sb_calls.specs.Op.{resolved};
-ghost use Rattle.bank_server.specs.Execution.{DeclareCownsOf};
+ghost use Rattle.bank_server.specs.Execution.{AreWithin};
 ghost use Rattle.bank_server.specs.Output.{calls_of};
 
 use sb_calls::{LOG_CALLS, Op, resolve};
@@ -20,7 +20,7 @@ pub fn resolve_all(
 ) -> Result<Vec<Op>, AllocError>
     ensures value { IfOk result (λ ops. ops.items ≡ map (resolved directory.now) (calls_of log.now.log)) }
     ensures few { IfOk result (λ ops. length ops.items ≤ LOG_CALLS) }
-    ensures cowns { IfOk result (λ ops. DeclareCownsOf directory.now ops.items) }
+    ensures within { IfOk result (λ ops. AreWithin (length directory.now) ops.items) }
 {
     let mut ops = Vec::with_capacity(alloc, log.length() as usize)?;
     for place in 0..log.length() {

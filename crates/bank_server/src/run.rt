@@ -1,15 +1,19 @@
 //! A whole run: what is written is a stated function of what is read.
-ghost use Rattle.std.specs.Prelude.{◌≡◌, Ok, IfSome, IfErr, OnOk, MatchResult};
-ghost use Rattle.bank_server.specs.Faults.{Writes, Blames, BlamesText, WritesNothing};
+ghost use Rattle.std.specs.Prelude.{◌≡◌, ◌≤◌, false, length, Ok, IfSome, IfOk, IfErr, OnOk, MatchResult};
+ghost use Rattle.bank_server.specs.Execution.{AreWithin, HasRun};
+ghost use Rattle.bank_server.specs.Faults.{Writes, Blames, BlamesText, IsCrewFault, WritesNothing};
 ghost use Rattle.bank_server.specs.Output.{output_of};
 
-use crate::answers::push_answers;
-use crate::asking::ask_lines;
+use crate::answers::push_output;
 use crate::execution::carry_out;
-use crate::fault::{InputFault, RunFault};
-use crate::resolving::resolve_all;
-use sb_rows::{OpeningFault, read_opening};
-use sb_text::{list_rows, read_all, write_whole};
+use crate::fault::RunFault;
+use crate::preparing::prepare;
+use cown_workers::InlineCrew;
+use sb_calls::{LOG_CALLS, Op};
+use sb_checkpoint::MemoryStore;
+use sb_replica::Replica;
+use sb_rows::{Columns, Directory};
+use sb_text::{read_all, write_whole};
 use std::alloc::Global;
 use std::io::{Read, Write};
 
@@ -49,27 +53,34 @@ fn output_text(alloc: Global, input: Vec<u8>) -> Result<Vec<u8>, RunFault>
         (λ output. output_of input.items ≡ Ok output.items)
         (λ fault. BlamesText fault (output_of input.items)) }
 {
-    let opening = match read_opening(alloc, &input) {
-        Ok(opening) => opening,
-        Err(OpeningFault::OutOfMemory) => return Err(RunFault::OutOfMemory),
-        Err(OpeningFault::Line { line, fault }) => {
-            return Err(RunFault::Input {
-                line,
-                fault: InputFault::Opening(fault),
-            });
-        }
-    };
-    let first_line = opening.directory.len() + 2;
-    let asking = ask_lines(alloc, &input[opening.consumed..], first_line)?;
-    let ops = resolve_all(alloc, &asking.sequencer, &opening.directory)?;
+    let prepared = prepare(alloc, &input)?;
     // The board may take the log's place in memory.
-    drop(asking.sequencer);
-    let (board, columns) = carry_out(alloc, &ops, opening.columns)?;
-    drop(ops);
+    drop(prepared.sequencer);
+    let node = run_log(alloc, prepared.directory, prepared.columns, &prepared.ops)?;
+    drop(prepared.ops);
     // The output takes the input's place in memory, whose pages are there already.
     let mut output = input;
     output.clear();
-    push_answers(&asking.standings, &board, &mut output)?;
-    list_rows(&opening.directory, &columns, &mut output)?;
-    Ok(output)
+    match push_output(&prepared.standings, &node, &mut output) {
+        Ok(()) => Ok(output),
+        Err(_) => Err(RunFault::OutOfMemory),
+    }
+}
+
+// Node 0 once it has carried out a log, from this opening on.
+fn run_log(
+    alloc: Global,
+    directory: Directory,
+    columns: Columns,
+    ops: &[Op],
+) -> Result<Replica<MemoryStore>, RunFault>
+    requires customers { length columns.savings ≡ length directory }
+    requires few { length ops.now ≤ LOG_CALLS }
+    requires within { AreWithin (length directory) ops.now }
+    ensures run { IfOk result (λ node. HasRun directory columns ops.now node) }
+    ensures fault { IfErr result (IsCrewFault false) }
+{
+    let mut node = Replica::open(alloc, 0, directory, columns, MemoryStore::new(alloc))?;
+    carry_out(ops, &mut node, &mut InlineCrew)?;
+    Ok(node)
 }

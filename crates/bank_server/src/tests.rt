@@ -5,6 +5,7 @@ use std::alloc::Global;
 use std::process::Abort;
 use std::test::Fail;
 
+mod agreements;
 mod devices;
 mod faults;
 mod limits;

@@ -1,15 +1,17 @@
 -- How the program ends after a fault.
 use Rattle.std.specs.Prelude.{ℕ}
 use Rattle.bank_server.specs.declared.fault.RunFault.{RunFault}
-use Rattle.bank_server.specs.declared.fault.RunFault.TheVariants.{Input, Device, OutOfMemory}
+use Rattle.bank_server.specs.declared.fault.RunFault.TheVariants.{Input, Strayed, CrewGone, Device, OutOfMemory}
 use Rattle.schedule_player.specs.declared.fault.ScheduleFault.{ScheduleFault}
 use Rattle.schedule_player.specs.declared.fault.ScheduleFault.TheVariants as schedule
 use Rattle.smallbank.specs.declared.fault.ProgramFault.{ProgramFault}
 use Rattle.smallbank.specs.declared.fault.ProgramFault.TheVariants.{Run, Play}
 
--- 1 for an input that is refused, 3 for a device's fault or want of memory
+-- 1 for an input that is refused, 3 for all else
 abbrev pub run_status : RunFault → ℕ
 run_status (Input line fault) = 1
+run_status (Strayed node) = 3
+run_status CrewGone = 3
 run_status Device = 3
 run_status OutOfMemory = 3
 

@@ -114,10 +114,16 @@ fn calls_at_fault(rt: HostRuntime) -> Result<(), Fail> {
 #[test]
 fn faults_shown(rt: HostRuntime) -> Result<(), Fail> {
     let alloc = rt.alloc();
+    let strayed = RunFault::Strayed(7);
+    assert!(rt; format!(in alloc; "{strayed}")?.as_str() == "node 7 strayed");
+    let gone = RunFault::CrewGone;
+    assert!(rt; format!(in alloc; "{gone}")?.as_str() == "crew gone");
     let device = RunFault::Device;
     assert!(rt; format!(in alloc; "{device}")?.as_str() == "device");
     let memory = RunFault::OutOfMemory;
     assert!(rt; format!(in alloc; "{memory}")?.as_str() == "out of memory");
+    assert!(rt; strayed.number() == 2);
+    assert!(rt; gone.number() == 3);
     assert!(rt; device.number() == 4);
     assert!(rt; memory.number() == 5);
     let fault = InputFault::Call(CallFault::BadName);

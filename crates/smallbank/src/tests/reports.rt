@@ -28,6 +28,10 @@ fn faults_told(rt: HostRuntime) -> Result<(), Fail> {
     let fault = InputFault::Call(CallFault::BadName);
     let refused = ProgramFault::Run(RunFault::Input { line: 7, fault });
     expect_told(&rt, alloc, refused, 1, "smallbank: line 7: bad name")?;
+    let strayed = ProgramFault::Run(RunFault::Strayed(5));
+    expect_told(&rt, alloc, strayed, 3, "smallbank: node 5 strayed")?;
+    let gone = ProgramFault::Run(RunFault::CrewGone);
+    expect_told(&rt, alloc, gone, 3, "smallbank: crew gone")?;
     let device = ProgramFault::Run(RunFault::Device);
     expect_told(&rt, alloc, device, 3, "smallbank: device")?;
     let memory = ProgramFault::Play(ScheduleFault::OutOfMemory);

@@ -7,6 +7,6 @@ use Rattle.bank_server.proofs.answers.push_answers.Given as goal
 
 -- what is written and what is left to write are all
 abbrev pub invariant-loop-standing : goal.invariant-loop-standing
-invariant-loop-standing l = (replies : List Reply) → Tells l.board replies
+invariant-loop-standing g l = (replies : List Reply) → Tells l.replica.board replies
     → l.out.items ++ unlines (map (standing_line replies) (drop l.standing-index l.standings)) ≡ l.fn.out.items
     ++ unlines (map (standing_line replies) l.standings)

@@ -8,15 +8,15 @@ use Rattle.bank_server.proofs.Boards.{some_reply, told_of}
 use Rattle.bank_server.proofs.answers.reply_to.Goals as goal
 
 pub unwrap-requires : goal.unwrap-requires
-unwrap-requires c =
-    let board = c.args.board.now in
+unwrap-requires g c =
+    let board = c.args.replica.now.board in
     let asked : c.from.result ≡ c.args.number = c.from.ensures ∙ c.value.ensures.value in
     some_reply board c.args.number c.reply.result c.requires.idle c.requires.earlier c.idle.ensures.beside
     c.value.ensures.within.counted c.requires.number (c.reply.ensures.value ∙ ap (reply_in board) asked)
 
 pub returns : goal.returns
-returns c replies tells =
-    let board = c.args.board.now in
+returns g c replies tells =
+    let board = c.args.replica.now.board in
     let asked : c.from.result ≡ c.args.number = c.from.ensures ∙ c.value.ensures.value in
     sym (told_of board replies c.args.number c.reply.result tells c.idle.ensures.beside
     c.value.ensures.within.counted (c.reply.ensures.value ∙ ap (reply_in board) asked)

@@ -1,13 +1,11 @@
 use Rattle.std.proofs.Common.{◌≡◌, ◌+◌, ◌++◌, ◌∷◌, [], List, Some, length, map, take, sym, ap, subst, ◌∙◌, arith}
 use Rattle.std.specs.Option.{option_copied}
 use Rattle.std.proofs.lemmas.List.Elements.{All-push}
-use Rattle.sb_calls.specs.Behaviour.{declared_cowns}
-use Rattle.sb_calls.specs.Cowns.{AreBelow, held_of}
-use Rattle.sb_calls.specs.Op.{resolved}
+use Rattle.sb_calls.specs.Op.{IsOpWithin, resolved}
 use Rattle.sb_calls.specs.declared.op.Op.{Op}
 use Rattle.sb_sequencer.specs.Numbering.{call_at}
-use Rattle.bank_server.proofs.Boards.{declared_below, one_more_call}
-use Rattle.bank_server.specs.Execution.{AreBelowCowns}
+use Rattle.bank_server.proofs.Boards.{one_more_call}
+use Rattle.bank_server.specs.Execution.{AreWithin}
 use Rattle.bank_server.specs.Output.{calls_of}
 use Rattle.bank_server.proofs.resolving.resolve_all.Goals as goal
 
@@ -24,7 +22,6 @@ loop-place-preserved c =
       value = pushed ∙ ap (λ (ops : List Op). ops ++ op ∷ []) kept.value ∙ ap (λ (o : Op). so_far ++ o ∷ []) c.resolve.ensures.value
           ∙ sym (one_more_call (resolved directory) c.args.log.now.log c.loop-place.place call at);
       count = omega (arith, kept.count, c.in_ok-push.ensures.len);
-      cowns = λ b same. subst (AreBelowCowns (length (held_of b))) (sym pushed)
-          (All-push (λ (o : Op). AreBelow (length (held_of b)) (declared_cowns o)) c.loop-place.ops.items op (kept.cowns b same)
-          (declared_below directory b op same c.resolve.ensures.within));
+      within = subst (AreWithin (length directory)) (sym pushed)
+          (All-push (IsOpWithin (length directory)) c.loop-place.ops.items op kept.within c.resolve.ensures.within);
     }
