@@ -1,5 +1,5 @@
 -- What a fault of a run says.
-use Rattle.std.specs.Prelude.{◌≡◌, ◌≢◌, ℕ, Bool, false, Option, Result, Ok, Err, List}
+use Rattle.std.specs.Prelude.{◌≡◌, ◌≢◌, ◌<◌, ◌≤◌, ℕ, Bool, false, Option, Result, Ok, Err, List}
 use Rattle.std.specs.Io.KnownBytes.{Appends, Keeps}
 use Rattle.sb_text.specs.declared.input.ReadFault.{ReadFault}
 use Rattle.sb_text.specs.declared.input.ReadFault.TheVariants as reading
@@ -57,3 +57,28 @@ IsCrewFault keeps (Strayed node) = ⊥
 IsCrewFault keeps CrewGone = keeps ≢ false
 IsCrewFault keeps Device = ⊥
 IsCrewFault keeps OutOfMemory = Unit {0}
+
+-- what ends a run of so many nodes and workers after its input was read: a follower strayed, the crew is gone, where
+-- there is one, or memory was refused
+abbrev pub IsNodesFault : ℕ → ℕ → RunFault → Type 0
+IsNodesFault nodes workers (Input line fault) = ⊥
+IsNodesFault nodes workers (Strayed node) = (1 ≤ node) × (node < nodes)
+IsNodesFault nodes workers CrewGone = 0 < workers
+IsNodesFault nodes workers Device = ⊥
+IsNodesFault nodes workers OutOfMemory = Unit {0}
+
+-- only a follower strays, of so many nodes
+abbrev pub StraysAmong : ℕ → RunFault → Type 0
+StraysAmong nodes (Input line fault) = Unit {0}
+StraysAmong nodes (Strayed node) = (1 ≤ node) × (node < nodes)
+StraysAmong nodes CrewGone = Unit {0}
+StraysAmong nodes Device = Unit {0}
+StraysAmong nodes OutOfMemory = Unit {0}
+
+-- a crew is gone only where there is one, of so many workers
+abbrev pub GoesAmong : ℕ → RunFault → Type 0
+GoesAmong workers (Input line fault) = Unit {0}
+GoesAmong workers (Strayed node) = Unit {0}
+GoesAmong workers CrewGone = 0 < workers
+GoesAmong workers Device = Unit {0}
+GoesAmong workers OutOfMemory = Unit {0}

@@ -10,21 +10,27 @@ ghost use Rattle.bank_server.specs.Execution.{ArePut, AreWithin, IsCarriedOut, I
 ghost use Rattle.bank_server.specs.Faults.{IsCrewFault};
 
 use crate::fault::RunFault;
+use crate::feeding::Feed;
 use cown_workers::{Crew, drain};
 use sb_calls::{LOG_CALLS, Op};
 use sb_checkpoint::CheckpointStore;
 use sb_replica::Replica;
 use sb_replica_log::Offered;
 
-/// Carries out the ops of a log over a replica that has nothing yet, each as soon as its cowns are free.
+// How many entries are submitted between two words to the feed.
+const PART: usize = 1024;
+
+/// Carries out the ops of a log over a replica that has nothing yet, each as soon as its cowns are free. The feed hears
+/// of each part of the log before it is submitted, and of the log's end before all is carried out.
 ///
 /// Fails with
 /// - [`RunFault::CrewGone`] where the crew leaves something unfinished, which one that keeps no job never does,
 /// - [`RunFault::OutOfMemory`] where memory is refused.
-pub fn carry_out<S: CheckpointStore, C: Crew>(
+pub fn carry_out<S: CheckpointStore, C: Crew, F: Feed>(
     ops: &[Op],
     replica: &mut Replica<S>,
     crew: &mut C,
+    feed: &mut F,
 ) -> Result<(), RunFault>
     requires opened { IsOpened replica.old.board }
     requires few { length ops.now ≤ LOG_CALLS }
@@ -41,8 +47,34 @@ pub fn carry_out<S: CheckpointStore, C: Crew>(
     ensures stays { C.keeps crew.old ≡ false → C.keeps crew.new ≡ false }
 {
     replica.reserve(ops.len())?;
-    submit_all(ops, replica, crew)?;
+    submit_parts(ops, replica, crew, feed)?;
+    feed.end()?;
     settle(replica, crew)
+}
+
+// Submits these ops in parts, each once the feed heard of it.
+fn submit_parts<S: CheckpointStore, C: Crew, F: Feed>(
+    ops: &[Op],
+    replica: &mut Replica<S>,
+    crew: &mut C,
+    feed: &mut F,
+) -> Result<(), RunFault>
+    requires few { length_of replica.old.board + length ops.now ≤ LOG_CALLS }
+    requires within { AreWithin (length replica.old.names) ops.now }
+    requires none_out { NoneOut replica.old.board }
+    ensures put { OnOk result (ArePut ops.now replica.old.board replica.new.board) }
+    ensures beside { beside_of replica.new ≡ beside_of replica.old }
+    ensures fault { IfErr result (IsCrewFault (C.keeps crew.old)) }
+    ensures stays { C.keeps crew.old ≡ false → C.keeps crew.new ≡ false }
+{
+    let mut done = 0;
+    while done < ops.len() {
+        let end = done + PART.min(ops.len() - done);
+        feed.part(done, end)?;
+        submit_all(&ops[done..end], replica, crew)?;
+        done = end;
+    }
+    Ok(())
 }
 
 /// Submits these ops, last in the log. Where as many are unfinished as may be, those are carried out first.

@@ -37,7 +37,7 @@ fn start(rt: &HostRuntime) -> Result<u8, ProgramFault> {
     };
     match read_words(rt.alloc(), &words) {
         Ok(Words::Run) => {
-            run_text(rt.alloc(), &mut rt.stdin(), &mut rt.stdout())?;
+            run_text(rt, rt.alloc(), &mut rt.stdin(), &mut rt.stdout(), 1)?;
             Ok(0)
         }
         Ok(Words::Play) => {

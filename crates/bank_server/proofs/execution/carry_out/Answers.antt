@@ -14,7 +14,7 @@ pub returns-clause-one_by_one : goal.returns-clause-one_by_one
 returns-clause-one_by_one g c =
     let old = c.args.replica.now.board in
     let kept = ap (λ (r : ReplicaOf g.row.S.Denot). r.board) c.in_ok-reserve.ensures in
-    let put = c.in_ok-submit_all.ensures.put in
+    let put = c.in_ok-submit_parts.ensures.put in
     let run = c.settle.ensures.log in
     on_ok c.settle.result
     (λ idle calls same is. one_by_one c.args.replica.now.names old.opening calls c.args.ops.now c.settle.new.replica.board same

@@ -10,29 +10,29 @@ use Rattle.bank_server.proofs.Runs.{ran, among, output}
 use Rattle.bank_server.proofs.run.output_text.Goals as goal
 
 pub push_output-requires-clause-ran : goal.push_output-requires-clause-ran
-push_output-requires-clause-ran c =
-    let prepared = c.in_ok-prepared.prepared in
+push_output-requires-clause-ran g c =
+    let prepared = c.args.prepared in
     let node = c.in_ok-node.node in (
       calls_of prepared.sequencer.log,
-      ran c.deref.result.now prepared node c.in_ok-prepared.ensures
-          (subst (λ (ops : List Op). HasRun prepared.directory prepared.columns ops node) c.deref-2.ensures.value c.in_ok-node.ensures.run),
+      ran c.args.input.items prepared node c.requires.prepared
+          (subst (λ (ops : List Op). HasRun prepared.directory prepared.columns ops node) c.deref.ensures.value c.in_ok-node.ensures.run),
     )
 
 pub push_output-requires-clause-numbers : goal.push_output-requires-clause-numbers
-push_output-requires-clause-numbers c =
-    let prepared = c.in_ok-prepared.prepared in
+push_output-requires-clause-numbers g c =
+    let prepared = c.args.prepared in
     let node = c.in_ok-node.node in
-    subst (λ (standings : List Standing). All (StandsAmong (length node.board.log)) standings) (sym c.deref-3.ensures.value)
-    (among c.deref.result.now prepared node c.in_ok-prepared.ensures
-    (subst (λ (ops : List Op). HasRun prepared.directory prepared.columns ops node) c.deref-2.ensures.value c.in_ok-node.ensures.run))
+    subst (λ (standings : List Standing). All (StandsAmong (length node.board.log)) standings) (sym c.deref-2.ensures.value)
+    (among c.args.input.items prepared node c.requires.prepared
+    (subst (λ (ops : List Op). HasRun prepared.directory prepared.columns ops node) c.deref.ensures.value c.in_ok-node.ensures.run))
 
-pub returns-in-Ok : goal.returns-in-Ok
-returns-in-Ok c =
-    let prepared = c.in_ok-prepared.prepared in
+pub returns-in-Ok-clause-value : goal.returns-in-Ok-clause-value
+returns-in-Ok-clause-value g c =
+    let prepared = c.args.prepared in
     let node = c.in_ok-node.node in
     let calls = calls_of prepared.sequencer.log in
-    let ready = subst (λ (text : List ℕ). IsPreparedOf text prepared) c.deref.ensures.value c.in_ok-prepared.ensures in
-    let run = subst (λ (ops : List Op). HasRun prepared.directory prepared.columns ops node) c.deref-2.ensures.value c.in_ok-node.ensures.run in
+    let ready = c.requires.prepared in
+    let run = subst (λ (ops : List Op). HasRun prepared.directory prepared.columns ops node) c.deref.ensures.value c.in_ok-node.ensures.run in
     let written = c.in-Ok.ensures calls (ran c.args.input.items prepared node ready run) in
     output c.args.input.items prepared node ready run
-    ∙ ap Ok (sym (written ∙ λ j. c.clear.ensures.items j ++ output_after node.names node.board.opening calls (c.deref-3.ensures.value j)))
+    ∙ ap Ok (sym (written ∙ λ j. c.clear.ensures.items j ++ output_after node.names node.board.opening calls (c.deref-2.ensures.value j)))
