@@ -1,5 +1,5 @@
 -- An entry that is heard as accepted is the next of the log.
-use Rattle.std.proofs.Common.{◌≡◌, ℕ, suc, Bool, true, false, arith, Result, Ok, Err, refl}
+use Rattle.std.proofs.Common.{◌≡◌, ℕ, suc, Bool, true, false, arith, Result, Ok, refl}
 use Rattle.std.proofs.lemmas.Bool.{leb-false, ltb-false, or_parts}
 use Rattle.std.specs.Prelude.{◌||◌, nat_le, nat_lt, ◌==◌, if◌then◌else◌}
 use Rattle.sb_calls.specs.declared.call.TheConstants.{LOG_CALLS}
@@ -14,9 +14,6 @@ use Rattle.sb_replica.specs.declared.heard.Heard.TheVariants as heard
 
 pub ok_is : {A E : Type 0} {x y : A} → ◌≡◌ {A = Result A E} (Ok x) (Ok y) → x ≡ y
 ok_is h = cc
-
-pub err_is_ok : {A E : Type 0} {x : E} {y : A} → ◌≡◌ {A = Result A E} (Err x) (Ok y) → ⊥
-err_is_ok h = cc
 
 -- it was the next one, under its own number
 pub accepted_next : (number n : ℕ) (answer : Offered) → heard_of number answer ≡ heard.Accepted n → (answer ≡ Next) × (number ≡ n)

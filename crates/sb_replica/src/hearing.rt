@@ -1,5 +1,5 @@
 //! Frames from the network.
-ghost use Rattle.std.specs.Prelude.{◌≡◌, ℕ, Ok, MatchResult};
+ghost use Rattle.std.specs.Prelude.{◌≡◌, ℕ, Ok, IfOk, OnErr, MatchResult};
 ghost use Rattle.sb_replica.specs.Hearing as spec;
 ghost use Rattle.sb_replica.specs.Hearing.{Accepts, Hears, IsHearingFault};
 ghost use Rattle.sb_replica.specs.declared.heard.Heard.TheVariants as heard;
@@ -11,6 +11,7 @@ use sb_calls::resolve;
 use sb_checkpoint::CheckpointStore;
 use sb_frames::{Frame, FrameFault, decode};
 use sb_replica_log::Offered;
+use std::alloc::AllocError;
 
 // The frame that all of these bytes are.
 fn whole_frame(bytes: &[u8]) -> Result<Frame, FrameFault>
@@ -54,13 +55,32 @@ impl<S: CheckpointStore> Replica<S> {
             Ok(frame) => frame,
             Err(fault) => return Err(ReplicaFault::BadFrame(fault)),
         };
+        match self.hear(&frame) {
+            Ok(heard) => Ok(heard),
+            Err(_) => Err(ReplicaFault::OutOfMemory),
+        }
+    }
+
+    /// Hears a frame, as [`Replica::on_frame`] does its bytes.
+    ///
+    /// Fails where memory is refused for an entry that would be accepted; nothing changes then.
+    pub fn hear(&mut self, frame: &Frame) -> Result<Heard, AllocError>
+        ensures answer { IfOk result (λ answer. answer ≡ spec.heard self.old.board frame.now) }
+        ensures err { OnErr result ((number : ℕ) × (spec.heard self.old.board frame.now ≡ heard.Accepted number)) }
+        ensures state { MatchResult result
+            (λ answer. self.new ≡ record self.old {
+              board = spec.after_frame self.old.names self.old.board frame.now;
+            })
+            (λ refused. self.new ≡ self.old) }
+        // After any calls on its board, with this one too, the board is true to its log.
+        ensures played { (number : ℕ) → result ≡ Ok (heard.Accepted number) →
+            Accepts self.old.board number self.new.board }
+    {
         let Frame::Entry { number, call } = frame else {
             return Ok(Heard::Ignored);
         };
-        let op = resolve(&self.directory, &call);
-        match self.log.offer_entry(number, op) {
-            Ok(offered) => Ok(heard_of(number, offered)),
-            Err(_) => Err(ReplicaFault::OutOfMemory),
-        }
+        let op = resolve(&self.directory, call);
+        let offered = self.log.offer_entry(*number, op)?;
+        Ok(heard_of(*number, offered))
     }
 }

@@ -1,20 +1,22 @@
 //! A replica, and what it tells.
-ghost use Rattle.std.specs.Prelude.{◌≡◌, ◌≢◌, ◌↔◌, ◌<◌, ◌≤◌, ◌-◌, [], length, IsTrue, IfOk, IfSome, OnErr, Some, MatchOption, MatchResult, option_map};
+ghost use Rattle.std.specs.Prelude.{◌≡◌, ◌≢◌, ◌↔◌, ◌<◌, ◌≤◌, ◌-◌, suc, Ok, [], length, IsTrue, IfOk, IfSome, OnErr, Some, MatchOption, MatchResult, option_map};
 ghost use Rattle.sb_rows.specs.Balances.{IsBalances};
 ghost use Rattle.sb_calls.specs.Behaviour.{declared_cowns, effect_of};
 ghost use Rattle.sb_calls.specs.Cowns.{held_of};
 ghost use Rattle.sb_calls.specs.OneByOne.{reply_by_log};
+ghost use Rattle.sb_calls.specs.Op.{IsOpWithin};
 ghost use Rattle.sb_calls.specs.Replies.{IsReply};
 ghost use Rattle.cown_board.specs.Board.{length_of, open_of, reply_in, IsAfterAll};
-ghost use Rattle.cown_board.specs.Played.{opened_with};
+ghost use Rattle.cown_board.specs.Played.{opened_with, StaysTrueToLog, Submitted};
 ghost use Rattle.sb_checkpoint.specs.Stores.{StoreDoes, Got, NotGot};
 ghost use Rattle.sb_frames.specs.declared.frame.Frame.TheVariants as frames;
+ghost use Rattle.sb_replica_log.specs.Offers.{offered, after_offer};
 
 use cown_board::{Board, Runs};
-use sb_calls::{LOG_CALLS, Reply, WireReply};
+use sb_calls::{LOG_CALLS, Op, Reply, WireReply};
 use sb_checkpoint::{CheckpointStore, How, MemoryStore, StoreFault};
 use sb_frames::Frame;
-use sb_replica_log::ReplicaLog;
+use sb_replica_log::{Offered, ReplicaLog};
 use sb_rows::{Columns, Directory};
 use std::alloc::{AllocError, Global};
 use std::marker::Model;
@@ -80,6 +82,36 @@ impl<S: CheckpointStore> Replica<S> {
             log: ReplicaLog::open(board),
             store,
         })
+    }
+
+    /// Offers the entry with this number to the log, as [`ReplicaLog::offer_entry`]. All beside the board stays.
+    pub fn offer_entry(&mut self, number: u64, op: Op) -> Result<Offered, AllocError>
+        requires { IsOpWithin (length self.old.names) op }
+        ensures answer { IfOk result (λ answer. answer ≡ offered self.old.board number) }
+        ensures err { OnErr result (offered self.old.board number ≡ Offered.Next) }
+        ensures state { MatchResult result
+            (λ answer. self.new ≡ record self.old { board = after_offer self.old.board op answer })
+            (λ refused. self.new ≡ self.old) }
+        // After any calls on its board, with this one too, the board is true to its log.
+        ensures played { IfOk result (λ answer. answer ≡ Offered.Next →
+            StaysTrueToLog declared_cowns effect_of self.old.board
+            (Submitted op (Ok (suc (length_of self.old.board)))) self.new.board) }
+    {
+        self.log.offer_entry(number, op)
+    }
+
+    /// Makes room for this many entries more, as [`ReplicaLog::reserve`].
+    pub fn reserve(&mut self, additional: usize) -> Result<(), AllocError>
+        ensures { self.new ≡ self.old }
+    {
+        self.log.reserve(additional)
+    }
+
+    /// The customers' names by place.
+    pub fn directory(&self) -> &Directory
+        ensures { result.now ≡ self.now.names }
+    {
+        &self.directory
     }
 
     /// The number of the last entry that was accepted.

@@ -1,60 +1,27 @@
--- What a fault of a run says.
-use Rattle.std.specs.Prelude.{◌≡◌, ℕ, Option, Result, Ok, Err, List}
-use Rattle.std.specs.Io.KnownBytes.{Appends, Keeps}
-use Rattle.sb_text.specs.declared.input.ReadFault.{ReadFault}
-use Rattle.sb_text.specs.declared.input.ReadFault.TheVariants as reading
-use Rattle.smallbank.specs.declared.fault.InputFault.{InputFault}
+-- How the program ends after a fault.
+use Rattle.std.specs.Prelude.{ℕ}
+use Rattle.bank_server.specs.declared.fault.RunFault.{RunFault}
+use Rattle.bank_server.specs.declared.fault.RunFault.TheVariants.{Input, Strayed, CrewGone, Device, OutOfMemory}
 use Rattle.schedule_player.specs.declared.fault.ScheduleFault.{ScheduleFault}
 use Rattle.schedule_player.specs.declared.fault.ScheduleFault.TheVariants as schedule
 use Rattle.smallbank.specs.declared.fault.ProgramFault.{ProgramFault}
 use Rattle.smallbank.specs.declared.fault.ProgramFault.TheVariants.{Run, Play}
-use Rattle.smallbank.specs.declared.fault.RunFault.{RunFault}
-use Rattle.smallbank.specs.declared.fault.RunFault.TheVariants.{Input, Device, OutOfMemory}
 
--- the output was written, which an input at fault has none of
-abbrev pub Writes : Result (List ℕ) (ℕ × InputFault) → Option (List ℕ) → Option (List ℕ) → Type 0
-Writes (Ok output) old new = Appends old new output
-Writes (Err fault) old new = ⊥
-
--- an input fault is the first of the input
-abbrev pub Blames : {A : Type 0} → RunFault → Result A (ℕ × InputFault) → Type 0
-Blames (Input line fault) read = read ≡ Err (line, fault)
-Blames Device read = Unit {0}
-Blames OutOfMemory read = Unit {0}
-
--- the same of a text that is in memory already: no device has a part in it
-abbrev pub BlamesText : {A : Type 0} → RunFault → Result A (ℕ × InputFault) → Type 0
-BlamesText (Input line fault) read = read ≡ Err (line, fault)
-BlamesText Device read = ⊥
-BlamesText OutOfMemory read = Unit {0}
-
--- after an input fault nothing was written
-abbrev pub WritesNothing : RunFault → Option (List ℕ) → Option (List ℕ) → Type 0
-WritesNothing (Input line fault) old new = Keeps old new
-WritesNothing Device old new = Unit {0}
-WritesNothing OutOfMemory old new = Unit {0}
-
--- how a run ends whose input isn't read
-abbrev pub of_read_fault : ReadFault → RunFault
-of_read_fault reading.Device = Device
-of_read_fault reading.OutOfMemory = OutOfMemory
-
-abbrev pub fault_number : RunFault → ℕ
-fault_number (Input line fault) = 1
-fault_number Device = 4
-fault_number OutOfMemory = 5
-
--- 1 for an input that is refused, 3 for a device's fault or want of memory
+-- 1 for an input that is refused, 3 for all else
 abbrev pub run_status : RunFault → ℕ
 run_status (Input line fault) = 1
+run_status (Strayed node) = 3
+run_status CrewGone = 3
 run_status Device = 3
 run_status OutOfMemory = 3
 
+-- the same of the playing of a schedule
 abbrev pub play_status : ScheduleFault → ℕ
 play_status (schedule.Input line fault) = 1
 play_status schedule.Device = 3
 play_status schedule.OutOfMemory = 3
 
+-- the exit status
 abbrev pub exit_status : ProgramFault → ℕ
 exit_status (Run fault) = run_status fault
 exit_status (Play fault) = play_status fault

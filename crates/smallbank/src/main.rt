@@ -1,25 +1,16 @@
 //! `smallbank`: a bank store whose output is a stated function of its input.
 #![tactic(auto)]
 
+use bank_server::{RunFault, run_text};
 use clap::error::ErrorKind;
-use fault::{ProgramFault, RunFault};
-use run::run_text;
+use fault::ProgramFault;
 use schedule_player::run_schedule;
 use std::env;
 use std::process::ExitCode;
 use told::told;
 use words::{Words, read_words};
 
-pub mod answers;
-pub mod asking;
-pub mod execution;
 pub mod fault;
-pub mod laws;
-pub mod log_number;
-#[cfg(test)]
-mod plain;
-pub mod resolving;
-pub mod run;
 #[cfg(test)]
 mod tests;
 pub mod told;
@@ -46,7 +37,7 @@ fn start(rt: &HostRuntime) -> Result<u8, ProgramFault> {
     };
     match read_words(rt.alloc(), &words) {
         Ok(Words::Run) => {
-            run_text(rt.alloc(), &mut rt.stdin(), &mut rt.stdout())?;
+            run_text(rt, rt.alloc(), &mut rt.stdin(), &mut rt.stdout(), 1)?;
             Ok(0)
         }
         Ok(Words::Play) => {

@@ -2,14 +2,15 @@
 ghost use Rattle.std.specs.Prelude.{◌≡◌};
 ghost use Rattle.smallbank.specs.Faults.{exit_status};
 
-use crate::fault::{ProgramFault, RunFault};
+use crate::fault::ProgramFault;
+use bank_server::RunFault;
 use schedule_player::ScheduleFault;
 use std::fmt;
 
 /// How a fault ends the program: its exit status, and its text by `Display`.
 #[derive(Clone, Copy, Debug, PartialEq, Eq)]
 pub struct Report {
-    /// 1 for an input that is refused, 3 for a device's fault or want of memory.
+    /// 1 for an input that is refused, 3 for all else.
     pub status: u8,
     /// What is told.
     pub fault: ProgramFault,
@@ -23,7 +24,9 @@ pub fn told(fault: ProgramFault) -> Report
     let status = match fault {
         ProgramFault::Run(RunFault::Input { .. })
         | ProgramFault::Play(ScheduleFault::Input { .. }) => 1,
-        ProgramFault::Run(RunFault::Device | RunFault::OutOfMemory)
+        ProgramFault::Run(
+            RunFault::Strayed(_) | RunFault::CrewGone | RunFault::Device | RunFault::OutOfMemory,
+        )
         | ProgramFault::Play(ScheduleFault::Device | ScheduleFault::OutOfMemory) => 3,
     };
     Report { status, fault }

@@ -1,0 +1,83 @@
+-- From the sequencer's answer to the standing of a line.
+use Rattle.std.proofs.Common.{◌≡◌, ℕ, ◌+◌, ◌<◌, ◌≤◌, ◌^◌, length, arith, Option, Some, None, Result, Ok, Err, is_some, false, List, [], ◌∷◌, ◌++◌, refl, sym, ap, ◌∙◌}
+use Rattle.std.proofs.lemmas.List.Quantifiers.{position-Some}
+use Rattle.sb_calls.specs.declared.ask.Asked.{Asked}
+use Rattle.sb_calls.specs.declared.ask.Key.{Key}
+use Rattle.sb_calls.specs.declared.call.Call.{Call}
+use Rattle.sb_calls.specs.declared.call.TheConstants.{LOG_CALLS}
+use Rattle.sb_sequencer.proofs.Keys.{has_key-place}
+use Rattle.sb_sequencer.proofs.Logs.{first_asks-push, log_with-full}
+use Rattle.sb_sequencer.specs.Answer.{IsAnswered, LogAfter, Numbers}
+use Rattle.sb_sequencer.specs.Numbering.{same_key, has_key, first_asks, place_of_key}
+use Rattle.sb_sequencer.specs.declared.answer.AskFault.{AskFault}
+use Rattle.sb_sequencer.specs.declared.answer.AskFault.TheVariants as faults
+use Rattle.sb_sequencer.specs.declared.answer.Numbered.{Numbered}
+use Rattle.sb_sequencer.specs.declared.answer.Numbered.TheVariants.{New, Repeat}
+use Rattle.bank_server.specs.Asking.{IsAfter, IsOfLog, AsksOne, AsksLine, standing_of_answer}
+use Rattle.bank_server.specs.Asks.{key_of_line, keyed}
+use Rattle.bank_server.specs.LogNumber.{IsLogNumber}
+use Rattle.bank_server.specs.Standing.{standing_of}
+use Rattle.bank_server.specs.declared.asking.Standing.TheVariants.{LogFull}
+use Rattle.bank_server.proofs.Keyed.{own_key, absent_from_log, full_log}
+use Rattle.bank_server.proofs.Standings.{answered_new, answered_repeat, answered_mismatch, answered_full}
+
+-- an standing by the log as it was is one by the log as it is, which stayed
+by_same_log : {A : Type 0} {old new : List (Key × Call)} {x : A} (f : List (Key × Call) → A) → new ≡ old → x ≡ f old → x ≡ f new
+by_same_log f e h = h ∙ ap f (sym e)
+
+-- what the sequencer promises of an answer gives the standing
+pub asks_one : (asks old new : List (Key × Call)) (ask : Key × Call) (answer : Result Numbered AskFault) → old ≡ first_asks asks
+    → IsAnswered old ask answer → LogAfter old ask answer new → Numbers asks old ask answer new → AsksOne asks ask new (standing_of_answer answer)
+asks_one asks old new ask (Ok (New n)) e answered log numbered = (numbered e, by_same_log (λ l. standing_of l ask) log (answered_new old ask n answered))
+asks_one asks old new ask (Ok (Repeat n)) e answered log numbered = (numbered e, by_same_log (λ l. standing_of l ask) log (answered_repeat old ask n answered))
+asks_one asks old new ask (Err (faults.Mismatch n)) e answered log numbered =
+    (numbered e, by_same_log (λ l. standing_of l ask) log (answered_mismatch old ask n answered))
+asks_one asks old new ask (Err faults.LogFull) e answered log numbered =
+    (numbered e, by_same_log (λ l. standing_of l ask) log (answered_full old ask answered.0))
+asks_one asks old new ask (Err faults.OutOfMemory) e answered log numbered = refl
+
+-- a place of a key is one of the log
+place_within : (log : List (Key × Call)) (ask : Key × Call) (k : ℕ) → place_of_key log ask.0 ≡ Some k → k < length log
+place_within log ask k at = (position-Some (λ entry. same_key ask.0 entry.0) log k ask at).0
+
+kept : (old new : List (Key × Call)) (ask : Key × Call) (n k : ℕ) → length new ≤ LOG_CALLS → new ≡ old → place_of_key old ask.0 ≡ Some k → n ≡ k + 1
+    → IsLogNumber n
+kept old new ask n k few log at is = record {
+  counted = omega (arith, is);
+  few = omega (arith, ap {B = ℕ} length log, is, place_within old ask k at);
+}
+
+-- and so is the number that is answered
+pub number_within : (old new : List (Key × Call)) (ask : Key × Call) (answer : Result Numbered AskFault) → length new ≤ LOG_CALLS → IsAnswered old ask answer
+    → LogAfter old ask answer new → IsOfLog answer
+number_within old new ask (Ok (New n)) few answered log = record { counted = omega (arith, answered.2); few = omega (arith, answered.1, answered.2) }
+number_within old new ask (Ok (Repeat n)) few answered log = kept old new ask n answered.0 few log answered.1 answered.2
+number_within old new ask (Err (faults.Mismatch n)) few answered log = kept old new ask n answered.0 few log answered.1 answered.2
+number_within old new ask (Err faults.LogFull) few answered log = tt
+number_within old new ask (Err faults.OutOfMemory) few answered log = tt
+
+some_is_false : (k : ℕ) → is_some (Some k) ≡ false → ⊥
+some_is_false k e = cc
+
+-- a key that no entry has is without a place
+no_place : (log : List (Key × Call)) (key : Key) → has_key log key ≡ false → place_of_key log key ≡ None
+no_place log key e = by (place_of_key log key) refl
+  where
+    by : (place : Option ℕ) → place_of_key log key ≡ place → place_of_key log key ≡ None
+    by None f = f
+    by (Some k) f = absurd (some_is_false k (sym (has_key-place log key ∙ ap is_some f) ∙ e))
+
+-- past what a request can be, the log is full and has no such key
+pub asks_past_requests : (asks : List Asked) (running : ℕ) (asked : Asked) (log : List (Key × Call)) → IsAfter asks running log → asked.key ≡ None
+    → 2 ^ 32 ≤ running
+    → AsksLine asks running asked log (Ok LogFull)
+asks_past_requests asks running asked log after none past =
+    let first : List (Key × Call) = first_asks (keyed asks) in
+    let ask : Key × Call = (key_of_line running asked.key, asked.call) in
+    let full : log ≡ first_asks (keyed asks ++ ask ∷ []) =
+    after.log_is ∙ sym (first_asks-push (keyed asks) ask ∙ log_with-full first ask (full_log asks running after.keys after.running_is past)) in
+    let absent : place_of_key log (key_of_line running asked.key) ≡ None =
+    ap (λ l. place_of_key l (key_of_line running asked.key)) after.log_is
+    ∙ ap (λ key. place_of_key first (key_of_line running key)) none
+    ∙ no_place first (own_key running) (absent_from_log asks running after.keys after.running_is) in
+    (full, answered_full log ask absent)

@@ -1,0 +1,10 @@
+pub mod Agreements
+pub mod Answered
+pub mod AskedLines
+pub mod Boards
+pub mod ForGood
+pub mod Keyed
+pub mod Offers
+pub mod Runs
+pub mod Standings
+pub mod Whole

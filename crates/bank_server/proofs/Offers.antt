@@ -1,0 +1,27 @@
+-- The next entry, offered to a log.
+use Rattle.std.proofs.Common.{◌≡◌, ℕ, suc, ◌<◌, ◌+◌, ap, ◌∙◌, arith}
+use Rattle.std.proofs.lemmas.Bool.{lt-leb, le-ltb, ne_eqb}
+use Rattle.std.specs.Prelude.{◌||◌, nat_lt, ◌==◌, if◌then◌else◌}
+use Rattle.sb_calls.specs.declared.call.TheConstants.{LOG_CALLS}
+use Rattle.sb_calls.specs.declared.op.Op.{Op}
+use Rattle.cown_board.specs.Board.{BoardOf, length_of, open_of}
+use Rattle.cown_board.specs.declared.board.TheConstants.{OPEN_BEHAVIOURS}
+use Rattle.sb_replica_log.specs.Offers.{offered}
+use Rattle.sb_replica_log.specs.declared.offered.Offered.TheVariants.{Next, Repeat, Gap, Busy}
+
+-- the number after the log's last one is taken, unless too much is unfinished
+pub next_offered : (board : BoardOf Op) (number : ℕ) → number ≡ length_of board + 1 → length_of board < LOG_CALLS
+    → offered board number ≡ (if open_of board == OPEN_BEHAVIOURS then Busy (length_of board) else Next)
+next_offered board number is room =
+    ap (λ b. if b then Repeat else if nat_lt (suc (length_of board)) number || nat_lt LOG_CALLS number then Gap (length_of board)
+    else if open_of board == OPEN_BEHAVIOURS then Busy (length_of board) else Next) (lt-leb number (length_of board) (omega (arith, is)))
+    ∙ ap (λ b. if b || nat_lt LOG_CALLS number then Gap (length_of board) else if open_of board == OPEN_BEHAVIOURS then Busy (length_of board) else Next)
+    (le-ltb (suc (length_of board)) number (omega (arith, is)))
+    ∙ ap (λ b. if b then Gap (length_of board) else if open_of board == OPEN_BEHAVIOURS then Busy (length_of board) else Next)
+    (le-ltb LOG_CALLS number (omega (arith, is, room)))
+
+-- where nothing is unfinished it is taken
+pub next_taken : (board : BoardOf Op) (number : ℕ) → number ≡ length_of board + 1 → length_of board < LOG_CALLS → open_of board ≡ 0 → offered board number ≡ Next
+next_taken board number is room idle =
+    next_offered board number is room
+    ∙ ap (λ b. if b then Busy (length_of board) else Next) (ne_eqb (open_of board) OPEN_BEHAVIOURS (λ same. omega (arith, same, idle)))

@@ -1,0 +1,22 @@
+use Rattle.std.proofs.Common.{◌≡◌, ◌+◌, ◌≤◌, List, [], length, map}
+use Rattle.sb_calls.specs.declared.ask.Asked.{Asked}
+use Rattle.sb_rows.specs.Text.{lines}
+use Rattle.bank_server.specs.Asking.{IsAfter}
+use Rattle.bank_server.specs.Asks.{keyed}
+use Rattle.bank_server.specs.Input.{asks_from}
+use Rattle.bank_server.specs.Standing.{standing_of}
+use Rattle.bank_server.proofs.asking.ask_lines.Given as goal
+
+-- there are the asks so far: with those of what is left they are all, and the log and the standings are theirs
+abbrev pub invariant-loop-line : goal.invariant-loop-line
+invariant-loop-line l = (asks : List Asked) × record {
+  all : asks_from l.first_line asks (lines l.left) ≡ asks_from l.first_line [] (lines l.text);
+  after : IsAfter asks l.running l.sequencer.log;
+  standings : l.standings.items ≡ map (standing_of l.sequencer.log) (keyed asks);
+  room : length asks + length l.left ≤ length l.text;
+  count : length l.standings.items ≡ length asks;
+  few : l.running ≤ length asks + 1;
+}
+
+abbrev pub decreases-loop-line : goal.decreases-loop-line
+decreases-loop-line l = length l.left

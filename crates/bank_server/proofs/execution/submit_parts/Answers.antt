@@ -1,0 +1,25 @@
+use Rattle.std.proofs.Common.{◌≡◌, ℕ, ◌+◌, ◌-◌, List, ◌++◌, take, drop, sym, ap, ◌∙◌, arith, append_assoc}
+use Rattle.std.proofs.Math.Seq.{take-add}
+use Rattle.bank_server.proofs.execution.submit_parts.Goals as goal
+
+-- one part more is submitted
+next_part : {A : Type 0} (before log new xs : List A) (done size : ℕ) → log ≡ before ++ take done xs
+    → new ≡ log ++ take (done + size - done) (drop done xs) → new ≡ before ++ take (done + size) xs
+next_part before log new xs done size is put =
+    put ∙ ap (λ l. l ++ take (done + size - done) (drop done xs)) is ∙ append_assoc before (take done xs) (take (done + size - done) (drop done xs))
+    ∙ ap (λ n. before ++ (take done xs ++ take n (drop done xs))) (omega arith) ∙ ap (λ l. before ++ l) (sym (take-add done size xs))
+
+pub loop-done-preserved : goal.loop-done-preserved
+loop-done-preserved g c =
+    let kept = c.loop-done.invariant in
+    let put = c.in_ok-submit_all.ensures.put in
+    record {
+      opening = put.opening ∙ kept.opening;
+      earlier = put.earlier ∙ kept.earlier;
+      log = next_part c.args.replica.now.board.log c.loop-done.replica.board.log c.submit_all.new.replica.board.log c.args.ops.now c.loop-done.done
+          c.min.result kept.log put.log;
+      within = omega (arith, c.min.ensures, kept.within, c.loop-done-test.true);
+      none_out = put.none_out;
+      beside = c.submit_all.ensures.beside ∙ kept.beside;
+      stays = λ e. c.submit_all.ensures.stays (kept.stays e);
+    }

@@ -1,0 +1,60 @@
+-- What carrying out the log over a board keeps.
+use Rattle.std.specs.Prelude.{◌≡◌, ℕ, suc, ◌<◌, List, [], ◌++◌, length, slice_get}
+use Rattle.sb_calls.specs.Behaviour.{declared_cowns, effect_of}
+use Rattle.std.specs.List.{All}
+use Rattle.sb_rows.specs.Balances.{Balances, IsBalances}
+use Rattle.sb_rows.specs.Rows.{SameCustomers, rows_of}
+use Rattle.sb_calls.specs.Cowns.{held_of}
+use Rattle.sb_calls.specs.Log.{rows_after, replies_to}
+use Rattle.sb_calls.specs.OneByOne.{reply_by_log}
+use Rattle.sb_calls.specs.Op.{IsOpWithin}
+use Rattle.sb_calls.specs.declared.call.Call.{Call}
+use Rattle.sb_calls.specs.declared.op.Op.{Op}
+use Rattle.sb_calls.specs.declared.reply.Reply.{Reply}
+use Rattle.cown_board.specs.Board.{BoardOf, open_of, IsAfterAll}
+use Rattle.cown_workers.specs.Draining.{NoneOut}
+use Rattle.sb_replica.specs.Replica.{ReplicaOf}
+
+-- each op is at places of this many customers
+abbrev pub AreWithin : ℕ → List Op → Type 0
+AreWithin customers ops = All (IsOpWithin customers) ops
+
+-- nothing was submitted, and there are no numbers before
+pub record IsOpened (board : BoardOf Op) : Type 0 where
+  pub earlier : board.earlier ≡ []
+  pub log : board.log ≡ []
+  pub states : board.states ≡ []
+
+-- these ops are last in the log, and no op is out
+pub record ArePut (ops : List Op) (old new : BoardOf Op) : Type 0 where
+  pub opening : new.opening ≡ old.opening
+  pub earlier : new.earlier ≡ old.earlier
+  pub log : new.log ≡ old.log ++ ops
+  pub none_out : NoneOut new
+
+-- these ops are the board's whole log, and all are finished
+pub record IsCarriedOut (ops : List Op) (board : BoardOf Op) : Type 0 where
+  pub idle : open_of board ≡ 0
+  pub earlier : board.earlier ≡ []
+  pub log : board.log ≡ ops
+
+-- an idle board with no numbers before, and a reply to each op of its log: that of the log run one by one
+pub record Tells (board : BoardOf Op) (replies : List Reply) : Type 0 where
+  pub idle : open_of board ≡ 0
+  pub earlier : board.earlier ≡ []
+  pub all : length replies ≡ length board.log
+  pub each : (k : ℕ) → k < length board.log
+      → slice_get replies k ≡ reply_by_log declared_cowns effect_of (held_of board.opening) board.log (suc k)
+
+-- the replies on the board are those of the calls one by one, and columns that hold what its log leaves are the rows
+-- after them
+pub record IsOneByOne (directory : List (List ℕ)) (calls : List Call) (before : Balances) (board : BoardOf Op) : Type 0 where
+  pub replies : Tells board (replies_to (rows_of directory before) calls)
+  pub rows : (after : Balances) → IsBalances after → IsAfterAll declared_cowns effect_of board after
+      → SameCustomers directory after × (rows_of directory after ≡ rows_after calls (rows_of directory before))
+
+-- a replica that began with these names and balances, and carried out these ops
+pub record HasRun {S : Type 0} (names : List (List ℕ)) (opening : Balances) (ops : List Op) (replica : ReplicaOf S) : Type 0 where
+  pub names_are : replica.names ≡ names
+  pub opening_is : replica.board.opening ≡ opening
+  pub carried : IsCarriedOut ops replica.board

@@ -1,0 +1,84 @@
+-- What a fault of a run says.
+use Rattle.std.specs.Prelude.{◌≡◌, ◌≢◌, ◌<◌, ◌≤◌, ℕ, Bool, false, Option, Result, Ok, Err, List}
+use Rattle.std.specs.Io.KnownBytes.{Appends, Keeps}
+use Rattle.sb_text.specs.declared.input.ReadFault.{ReadFault}
+use Rattle.sb_text.specs.declared.input.ReadFault.TheVariants as reading
+use Rattle.bank_server.specs.declared.fault.InputFault.{InputFault}
+use Rattle.bank_server.specs.declared.fault.RunFault.{RunFault}
+use Rattle.bank_server.specs.declared.fault.RunFault.TheVariants.{Input, Strayed, CrewGone, Device, OutOfMemory}
+
+-- the output was written, which an input at fault has none of
+abbrev pub Writes : Result (List ℕ) (ℕ × InputFault) → Option (List ℕ) → Option (List ℕ) → Type 0
+Writes (Ok output) old new = Appends old new output
+Writes (Err fault) old new = ⊥
+
+-- an input fault is the first of the input
+abbrev pub Blames : {A : Type 0} → RunFault → Result A (ℕ × InputFault) → Type 0
+Blames (Input line fault) read = read ≡ Err (line, fault)
+Blames (Strayed node) read = Unit {0}
+Blames CrewGone read = Unit {0}
+Blames Device read = Unit {0}
+Blames OutOfMemory read = Unit {0}
+
+-- the same of a text that is in memory already, where nothing is carried out: no device, no node and no crew has a
+-- part in it
+abbrev pub BlamesText : {A : Type 0} → RunFault → Result A (ℕ × InputFault) → Type 0
+BlamesText (Input line fault) read = read ≡ Err (line, fault)
+BlamesText (Strayed node) read = ⊥
+BlamesText CrewGone read = ⊥
+BlamesText Device read = ⊥
+BlamesText OutOfMemory read = Unit {0}
+
+-- after an input fault nothing was written
+abbrev pub WritesNothing : RunFault → Option (List ℕ) → Option (List ℕ) → Type 0
+WritesNothing (Input line fault) old new = Keeps old new
+WritesNothing (Strayed node) old new = Unit {0}
+WritesNothing CrewGone old new = Unit {0}
+WritesNothing Device old new = Unit {0}
+WritesNothing OutOfMemory old new = Unit {0}
+
+-- how a run ends whose input isn't read
+abbrev pub of_read_fault : ReadFault → RunFault
+of_read_fault reading.Device = Device
+of_read_fault reading.OutOfMemory = OutOfMemory
+
+-- the number of a fault
+abbrev pub fault_number : RunFault → ℕ
+fault_number (Input line fault) = 1
+fault_number (Strayed node) = 2
+fault_number CrewGone = 3
+fault_number Device = 4
+fault_number OutOfMemory = 5
+
+-- memory was refused, or the crew is gone, which one that keeps no job never is
+abbrev pub IsCrewFault : Bool → RunFault → Type 0
+IsCrewFault keeps (Input line fault) = ⊥
+IsCrewFault keeps (Strayed node) = ⊥
+IsCrewFault keeps CrewGone = keeps ≢ false
+IsCrewFault keeps Device = ⊥
+IsCrewFault keeps OutOfMemory = Unit {0}
+
+-- what ends a run of so many nodes and workers after its input was read: a follower strayed, the crew is gone, where
+-- there is one, or memory was refused
+abbrev pub IsNodesFault : ℕ → ℕ → RunFault → Type 0
+IsNodesFault nodes workers (Input line fault) = ⊥
+IsNodesFault nodes workers (Strayed node) = (1 ≤ node) × (node < nodes)
+IsNodesFault nodes workers CrewGone = 0 < workers
+IsNodesFault nodes workers Device = ⊥
+IsNodesFault nodes workers OutOfMemory = Unit {0}
+
+-- only a follower strays, of so many nodes
+abbrev pub StraysAmong : ℕ → RunFault → Type 0
+StraysAmong nodes (Input line fault) = Unit {0}
+StraysAmong nodes (Strayed node) = (1 ≤ node) × (node < nodes)
+StraysAmong nodes CrewGone = Unit {0}
+StraysAmong nodes Device = Unit {0}
+StraysAmong nodes OutOfMemory = Unit {0}
+
+-- a crew is gone only where there is one, of so many workers
+abbrev pub GoesAmong : ℕ → RunFault → Type 0
+GoesAmong workers (Input line fault) = Unit {0}
+GoesAmong workers (Strayed node) = Unit {0}
+GoesAmong workers CrewGone = 0 < workers
+GoesAmong workers Device = Unit {0}
+GoesAmong workers OutOfMemory = Unit {0}

@@ -1,0 +1,52 @@
+-- How an ask stands in a log.
+use Rattle.std.specs.Prelude.{ℕ, ◌≤◌, ◌+◌, ◌-◌, Bool, false, ◌&&◌, if◌then◌else◌, Option, Some, None, List, [], ◌∷◌, ◌++◌, slice_get, decimal, codes}
+use Rattle.std.specs.Ordering.{int_eq}
+use Rattle.std.specs.Str.{bytes_eq}
+use Rattle.sb_calls.specs.Reply.{reply_text}
+use Rattle.sb_calls.specs.declared.ask.Key.{Key}
+use Rattle.sb_calls.specs.declared.call.Call.{Call}
+use Rattle.sb_calls.specs.declared.call.Call.TheVariants.{Balance, DepositChecking, TransactSavings, Amalgamate, WriteCheck}
+use Rattle.sb_calls.specs.declared.reply.Reply.{Reply}
+use Rattle.sb_sequencer.specs.Numbering.{place_of_key}
+use Rattle.bank_server.specs.declared.asking.Standing.{Standing}
+use Rattle.bank_server.specs.declared.asking.Standing.TheVariants.{Number, Mismatch, LogFull}
+
+-- whether two calls are the same
+unfoldable pub same_call : Call → Call → Bool
+same_call (Balance a) (Balance b) = bytes_eq a b
+same_call (DepositChecking a v) (DepositChecking b w) = bytes_eq a b && int_eq v w
+same_call (TransactSavings a v) (TransactSavings b w) = bytes_eq a b && int_eq v w
+same_call (Amalgamate a c) (Amalgamate b d) = bytes_eq a b && bytes_eq c d
+same_call (WriteCheck a v) (WriteCheck b w) = bytes_eq a b && int_eq v w
+same_call a b = false
+
+-- what a call comes to whose key has number n with this entry
+abbrev pub numbered_standing : ℕ → Call → Option (Key × Call) → Standing
+numbered_standing n call None = LogFull
+numbered_standing n call (Some entry) = if same_call entry.1 call then Number n else Mismatch n
+
+-- what an ask comes to whose key has this place in the log, if it has one
+abbrev pub standing_at : List (Key × Call) → Call → Option ℕ → Standing
+standing_at log call None = LogFull
+standing_at log call (Some k) = numbered_standing (k + 1) call (slice_get log k)
+
+-- the number of its key, where the call is the same; else a mismatch; and where its key has no number the log is full
+abbrev pub standing_of : List (Key × Call) → Key × Call → Standing
+standing_of log ask = standing_at log ask.1 (place_of_key log ask.0)
+
+-- N REPLY of a number that has this reply
+abbrev pub reply_line : ℕ → Option Reply → List ℕ
+reply_line n None = []
+reply_line n (Some reply) = decimal n ++ (32 ∷ reply_text reply)
+
+-- its line, where these are the replies to the log: N REPLY, `mismatch N` or `log full`
+abbrev pub standing_line : List Reply → Standing → List ℕ
+standing_line replies (Number n) = reply_line n (slice_get replies (n - 1))
+standing_line replies (Mismatch n) = codes "mismatch " ++ decimal n
+standing_line replies LogFull = codes "log full"
+
+-- its number, where it has one, is one of this many
+abbrev pub StandsAmong : ℕ → Standing → Type 0
+StandsAmong calls (Number n) = n ≤ calls
+StandsAmong calls (Mismatch n) = n ≤ calls
+StandsAmong calls LogFull = Unit {0}

@@ -1,0 +1,115 @@
+//! The answers to the asking lines, and the rows after them.
+ghost use Rattle.std.specs.Prelude.{◌≡◌, ◌≤◌, ◌-◌, List, Some, [], ◌∷◌, ◌++◌, length, map, slice_get, decimal, codes, OnOk};
+ghost use Rattle.std.specs.List.{All};
+ghost use Rattle.sb_rows.specs.Text.{unlines};
+ghost use Rattle.sb_calls.specs.declared.call.Call.{Call as AnyCall};
+ghost use Rattle.sb_calls.specs.declared.reply.Reply.{Reply as AnyReply};
+ghost use Rattle.cown_board.specs.Board.{open_of};
+ghost use Rattle.bank_server.specs.Execution.{IsOneByOne, Tells};
+ghost use Rattle.bank_server.specs.Prepared.{output_after};
+ghost use Rattle.bank_server.specs.Standing.{StandsAmong, standing_line, reply_line};
+
+use crate::asking::Standing;
+use crate::log_number::LogNumber;
+use cown_board::Runs;
+use itoa::Buffer;
+use sb_calls::{Reply, print_reply};
+use sb_checkpoint::CheckpointStore;
+use sb_replica::Replica;
+use sb_text::list_rows;
+use std::alloc::AllocError;
+
+/// Writes a line for each ask, as it stands in the log that a replica carried out, then the rows and their total.
+pub fn push_output<S: CheckpointStore>(
+    standings: &[Standing],
+    replica: &Replica<S>,
+    out: &mut Vec<u8>,
+) -> Result<(), AllocError>
+    requires ran { (calls : List AnyCall)
+        × IsOneByOne replica.now.names calls replica.now.board.opening replica.now.board }
+    requires numbers { All (StandsAmong (length replica.now.board.log)) standings.now }
+    ensures { (calls : List AnyCall)
+        → IsOneByOne replica.now.names calls replica.now.board.opening replica.now.board
+        → OnOk result (out.new.items ≡ out.old.items
+        ++ output_after replica.now.names replica.now.board.opening calls standings.now) }
+{
+    push_answers(standings, replica, out)?;
+    // Nothing is unfinished.
+    let columns = replica.settled_columns().unwrap();
+    list_rows(replica.directory(), columns, out)?;
+    Ok(())
+}
+
+/// Writes a line for each ask, as it stands in the log, with the replies of the replica that carried the
+/// log out.
+pub fn push_answers<S: CheckpointStore>(
+    standings: &[Standing],
+    replica: &Replica<S>,
+    out: &mut Vec<u8>,
+) -> Result<(), AllocError>
+    requires idle { open_of replica.now.board ≡ 0 }
+    requires earlier { replica.now.board.earlier ≡ [] }
+    requires numbers { All (StandsAmong (length replica.now.board.log)) standings.now }
+    ensures { (replies : List AnyReply) → Tells replica.now.board replies
+        → OnOk result (out.new.items
+        ≡ out.old.items ++ unlines (map (standing_line replies) standings.now)) }
+{
+    for standing in standings {
+        push_answer(*standing, replica, out)?;
+    }
+    Ok(())
+}
+
+// Writes the line of an ask that stands so in the log.
+fn push_answer<S: CheckpointStore>(
+    standing: Standing,
+    replica: &Replica<S>,
+    out: &mut Vec<u8>,
+) -> Result<(), AllocError>
+    requires idle { open_of replica.now.board ≡ 0 }
+    requires earlier { replica.now.board.earlier ≡ [] }
+    requires number { StandsAmong (length replica.now.board.log) standing }
+    ensures { (replies : List AnyReply) → Tells replica.now.board replies
+        → OnOk result (out.new.items ≡ out.old.items ++ standing_line replies standing ++ 10 ∷ []) }
+{
+    match standing {
+        Standing::Number(number) => push_reply(number, reply_to(replica, number), out)?,
+        Standing::Mismatch(number) => push_mismatch(number, out)?,
+        Standing::LogFull => out.extend_from_slice(b"log full")?,
+    }
+    out.push(b'\n')?;
+    Ok(())
+}
+
+// The reply of a replica to a number of its log.
+fn reply_to<S: CheckpointStore>(replica: &Replica<S>, number: LogNumber) -> Reply
+    requires idle { open_of replica.now.board ≡ 0 }
+    requires earlier { replica.now.board.earlier ≡ [] }
+    requires number { number ≤ length replica.now.board.log }
+    ensures { (replies : List AnyReply) → Tells replica.now.board replies → slice_get replies (number - 1) ≡ Some result }
+{
+    // Its contract says that each op of the log is somewhere.
+    prove!(replica.idle());
+    replica.reply(u64::from(number.value())).unwrap()
+}
+
+// Writes a number and its reply.
+fn push_reply(number: LogNumber, reply: Reply, out: &mut Vec<u8>) -> Result<(), AllocError>
+    ensures { OnOk result (out.new.items ≡ out.old.items ++ reply_line number (Some reply)) }
+{
+    let mut buffer = Buffer::new();
+    out.extend_from_slice(buffer.format(number.value()).as_bytes())?;
+    out.push(b' ')?;
+    out.extend_from_slice(print_reply(reply).as_str().as_bytes())?;
+    Ok(())
+}
+
+// Writes the number of another call under the same key.
+fn push_mismatch(number: LogNumber, out: &mut Vec<u8>) -> Result<(), AllocError>
+    ensures { OnOk result (out.new.items ≡ out.old.items ++ codes "mismatch " ++ decimal number) }
+{
+    let mut buffer = Buffer::new();
+    out.extend_from_slice(b"mismatch ")?;
+    out.extend_from_slice(buffer.format(number.value()).as_bytes())?;
+    Ok(())
+}

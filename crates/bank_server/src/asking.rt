@@ -1,0 +1,122 @@
+//! The asks of an input, numbered into one log.
+ghost use Rattle.std.specs.Prelude.{◌≡◌, ◌+◌, ◌<◌, ◌≤◌, ◌^◌, None, List, [], length, MatchOption, MatchResult};
+ghost use Rattle.sb_rows.specs.Text.{lines};
+ghost use Rattle.sb_calls.specs.Ask.{IsKey};
+ghost use Rattle.sb_calls.specs.declared.ask.Asked.{Asked as AnyAsked};
+ghost use Rattle.bank_server.specs.Asking.{IsAsking, IsAfter, IsOfLog, AsksLine, standing_of_answer};
+ghost use Rattle.bank_server.specs.Asks.{key_of_line};
+ghost use Rattle.bank_server.specs.Faults.{BlamesText};
+ghost use Rattle.bank_server.specs.Input.{asks_from, in_call};
+
+use crate::fault::{InputFault, RunFault};
+use crate::log_number::LogNumber;
+use sb_calls::{Asked, Key, LOG_CALLS, read_ask};
+use sb_rows::next_line;
+use sb_sequencer::{AskFault, Numbered, Sequencer};
+use std::alloc::Global;
+
+// How many bytes an asking line takes, as a rule. Room is made by that; where lines are shorter, the lists grow.
+const USUAL_LINE: usize = 32;
+
+/// How an ask stands in the log.
+#[derive(Clone, Copy, Debug, PartialEq, Eq)]
+pub enum Standing {
+    /// Its call has this number.
+    Number(LogNumber),
+    /// Its key has this number, with another call.
+    Mismatch(LogNumber),
+    /// Its key has no number, since the log was full.
+    LogFull,
+}
+
+/// All asks of an input.
+#[derive(Drop)]
+pub struct Asking {
+    /// The log.
+    pub sequencer: Sequencer,
+    /// How each line stands in it, in order.
+    pub standings: Vec<Standing>,
+}
+
+/// Asks for each line of a text; the first line has this number.
+///
+/// A line without `ask` is asked by client 0, with its running number among such lines.
+pub fn ask_lines(alloc: Global, text: &[u8], first_line: usize) -> Result<Asking, RunFault>
+    requires { first_line + length text.now < 2 ^ 64 }
+    ensures { MatchResult result
+        (λ asking. IsAsking (asks_from first_line [] (lines text.now)) asking.sequencer.log asking.standings.items)
+        (λ fault. BlamesText fault (in_call (asks_from first_line [] (lines text.now)))) }
+{
+    let expected = text.len() / USUAL_LINE;
+    let mut sequencer = Sequencer::with_capacity(alloc, 1, expected.min(LOG_CALLS))?;
+    let mut standings = Vec::with_capacity(alloc, expected)?;
+    let mut running = 1u64;
+    let mut left = text;
+    while let Some((line, rest)) = next_line(left) {
+        let asked = match read_ask(line) {
+            Ok(asked) => asked,
+            Err(fault) => {
+                return Err(RunFault::Input {
+                    line: first_line + standings.len(),
+                    fault: InputFault::Call(fault),
+                });
+            }
+        };
+        standings.push(ask(&mut sequencer, running, &asked)?)?;
+        if asked.key.is_none() {
+            running += 1;
+        }
+        left = rest;
+    }
+    Ok(Asking {
+        sequencer,
+        standings,
+    })
+}
+
+// Asks for one line, where the next line without a key has this running number.
+fn ask(sequencer: &mut Sequencer, running: u64, asked: &Asked) -> Result<Standing, RunFault>
+    requires { IsKey asked.now.key }
+    ensures { (asks : List AnyAsked) → IsAfter asks running sequencer.old.log
+        → AsksLine asks running asked.now sequencer.new.log result }
+{
+    match key_of(running, asked.key) {
+        Some(key) => {
+            let answer = sequencer.ask(key.client, key.request, &asked.call);
+            // The log has no more numbers than it takes.
+            prove!(sequencer.length() <= LOG_CALLS as u64);
+            standing_of(answer)
+        }
+        // So many keys came before this one that the log is full.
+        None => Ok(Standing::LogFull),
+    }
+}
+
+// The key of a line, or `None` where the running number passes what a request can be.
+fn key_of(running: u64, key: Option<Key>) -> Option<Key>
+    ensures { MatchOption result
+        ((key ≡ None) × (2 ^ 32 ≤ running))
+        (λ found. found ≡ key_of_line running key) }
+{
+    match key {
+        Some(key) => Some(key),
+        None => match u32::try_from(running) {
+            Ok(request) => Some(Key { client: 0, request }),
+            Err(_) => None,
+        },
+    }
+}
+
+// How an ask stands that the sequencer answered so.
+fn standing_of(answer: Result<Numbered, AskFault>) -> Result<Standing, RunFault>
+    requires { IsOfLog answer }
+    ensures { result ≡ standing_of_answer answer }
+{
+    match answer {
+        Ok(Numbered::New(number)) => Ok(Standing::Number(LogNumber::new(number))),
+        Ok(Numbered::Repeat(number)) => Ok(Standing::Number(LogNumber::new(number))),
+        Err(AskFault::Mismatch(number)) => Ok(Standing::Mismatch(LogNumber::new(number))),
+        Err(AskFault::LogFull) => Ok(Standing::LogFull),
+        Err(AskFault::OutOfMemory) => Err(RunFault::OutOfMemory),
+    }
+}

@@ -1,0 +1,88 @@
+//! Why a run ends without its output.
+ghost use Rattle.std.specs.Prelude.{◌≡◌};
+ghost use Rattle.bank_server.specs.Faults.{fault_number, of_read_fault};
+ghost use Rattle.bank_server.specs.declared.fault.RunFault.TheVariants.{OutOfMemory};
+
+use sb_calls::CallFault;
+use sb_rows::LineFault;
+use sb_text::ReadFault;
+use std::alloc::{AllocError, AllocFailed};
+use thiserror::Error;
+
+/// What is wrong with a line of an input.
+#[derive(Clone, Copy, Debug, PartialEq, Eq, Error)]
+pub enum InputFault {
+    /// The line belongs to the opening.
+    #[error(transparent)]
+    Opening(LineFault),
+    /// The line is an asking line.
+    #[error(transparent)]
+    Call(CallFault),
+}
+
+/// Why a run ends without its output.
+#[derive(Clone, Copy, Debug, PartialEq, Eq, Error)]
+pub enum RunFault {
+    /// The first line at fault, numbered from 1, and its fault. Nothing was written.
+    #[error("line {line}: {fault}")]
+    Input {
+        /// The number of the line.
+        line: usize,
+        /// What is wrong with it.
+        fault: InputFault,
+    },
+    /// This node, a follower, couldn't be started, or differs from node 0. Nothing was written.
+    #[error("node {0} strayed")]
+    Strayed(usize),
+    /// The workers left something unfinished. Nothing was written.
+    #[error("crew gone")]
+    CrewGone,
+    /// A read or a write failed. A part of the output may be written.
+    #[error("device")]
+    Device,
+    /// Memory was refused.
+    #[error("out of memory")]
+    OutOfMemory,
+}
+
+impl RunFault {
+    /// The number of the fault.
+    pub fn number(&self) -> u8
+        ensures { result ≡ fault_number self.now }
+    {
+        match self {
+            RunFault::Input { .. } => 1,
+            RunFault::Strayed(_) => 2,
+            RunFault::CrewGone => 3,
+            RunFault::Device => 4,
+            RunFault::OutOfMemory => 5,
+        }
+    }
+}
+
+impl From<ReadFault> for RunFault {
+    ghost from_gives = { λ read fault. fault ≡ of_read_fault read };
+
+    fn from(read: ReadFault) -> RunFault {
+        match read {
+            ReadFault::Device => RunFault::Device,
+            ReadFault::OutOfMemory => RunFault::OutOfMemory,
+        }
+    }
+}
+
+impl From<AllocError> for RunFault {
+    ghost from_gives = { λ _ fault. fault ≡ OutOfMemory };
+
+    fn from(_: AllocError) -> RunFault {
+        RunFault::OutOfMemory
+    }
+}
+
+impl<T: Drop> From<AllocFailed<T>> for RunFault {
+    ghost from_gives = { λ _ fault. fault ≡ OutOfMemory };
+
+    fn from(_: AllocFailed<T>) -> RunFault {
+        RunFault::OutOfMemory
+    }
+}

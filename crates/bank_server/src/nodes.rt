@@ -1,0 +1,202 @@
+//! Node 0 and its followers, which carry out one log.
+ghost use Rattle.std.specs.Prelude.{◌≡◌, ◌≤◌, false, length, IfOk, IfErr};
+ghost use Rattle.bank_server.specs.Execution.{AreWithin, HasRun, IsOpened};
+ghost use Rattle.bank_server.specs.Faults.{IsCrewFault, IsNodesFault};
+
+use crate::agreement::agree;
+use crate::execution::carry_out;
+use crate::fault::RunFault;
+use crate::feeding::{Feed, NoFollowers};
+use crate::follower::Follower;
+use crate::frames::{Frames, MESSAGES, Message};
+use cown_workers::InlineCrew;
+use crossbeam_channel::{Sender, bounded};
+use sb_calls::{LOG_CALLS, Op};
+use sb_checkpoint::MemoryStore;
+use sb_frames::Stream;
+use sb_replica::Replica;
+use sb_rows::{Columns, Directory};
+use sb_sequencer::Sequencer;
+use std::alloc::{AllocError, Global};
+use std::sync::Wait;
+use std::thread;
+use std::thread::{JoinHandle, Scope, Threads};
+
+/// What a bank begins with, and the log that it carries out.
+#[derive(Drop)]
+pub(crate) struct Bank {
+    pub(crate) directory: Directory,
+    pub(crate) columns: Columns,
+    pub(crate) log: Sequencer,
+}
+
+/// Node 0 once it has carried out a log, and the other nodes came to the same.
+pub(crate) fn run_nodes<H: Threads + Wait + Sync>(
+    rt: &H,
+    alloc: Global,
+    bank: Bank,
+    ops: &[Op],
+    nodes: usize,
+) -> Result<Replica<MemoryStore>, RunFault>
+    requires nodes { nodes ≤ 8 }
+    requires customers { length bank.columns.savings ≡ length bank.directory }
+    requires few { length ops.now ≤ LOG_CALLS }
+    requires within { AreWithin (length bank.directory) ops.now }
+    ensures run { IfOk result (λ node. HasRun bank.directory bank.columns ops.now node) }
+    ensures fault { IfErr result (IsNodesFault nodes 0) }
+{
+    if nodes <= 1 {
+        // The board may take the log's place in memory.
+        drop(bank.log);
+        let node = open_node(alloc, 0, bank.directory, bank.columns)?;
+        return run_node(node, ops, NoFollowers);
+    }
+    let (ends, followers) = open_followers(alloc, &bank, nodes)?;
+    let feed = Frames {
+        rt,
+        alloc,
+        log: bank.log,
+        ends,
+    };
+    let node = open_node(alloc, 0, bank.directory, bank.columns)?;
+    run_beside(rt, alloc, node, ops, feed, followers, nodes)
+}
+
+// A replica at the opening of a bank, over a store in memory.
+fn open_node(
+    alloc: Global,
+    id: u8,
+    directory: Directory,
+    columns: Columns,
+) -> Result<Replica<MemoryStore>, AllocError>
+    requires { length columns.savings ≡ length directory }
+    ensures names { IfOk result (λ node. node.names ≡ directory) }
+    ensures opening { IfOk result (λ node. node.board.opening ≡ columns) }
+    ensures opened { IfOk result (λ node. IsOpened node.board) }
+{
+    Replica::open(alloc, id, directory, columns, MemoryStore::new(alloc))
+}
+
+// Carries out a log on a node, and tells this feed of it.
+fn run_node<F: Feed + Drop>(
+    node: Replica<MemoryStore>,
+    ops: &[Op],
+    feed: F,
+) -> Result<Replica<MemoryStore>, RunFault>
+    requires opened { IsOpened node.board }
+    requires few { length ops.now ≤ LOG_CALLS }
+    requires within { AreWithin (length node.names) ops.now }
+    ensures run { IfOk result (λ done. HasRun node.names node.board.opening ops.now done) }
+    ensures fault { IfErr result (IsCrewFault false) }
+{
+    let mut node = node;
+    let mut feed = feed;
+    carry_out(ops, &mut node, &mut InlineCrew, &mut feed)?;
+    Ok(node)
+}
+
+// The followers of node 0, each with its own names and columns, and the ends of the channels to them.
+fn open_followers(
+    alloc: Global,
+    bank: &Bank,
+    nodes: usize,
+) -> Result<(Vec<Sender<Message>>, Vec<Follower>), AllocError>
+    requires customers { length bank.now.columns.savings ≡ length bank.now.directory }
+    requires few { nodes ≤ 8 }
+{
+    let mut ends = Vec::new(alloc);
+    let mut followers = Vec::new(alloc);
+    for id in 1..nodes {
+        let (end, inbox) = bounded(alloc, MESSAGES)?;
+        let directory = bank.directory.copy()?;
+        let replica = open_node(alloc, id as u8, directory, bank.columns.copy()?)?;
+        let stream = Stream::new(alloc);
+        ends.push(end)?;
+        followers.push(Follower {
+            replica,
+            stream,
+            inbox,
+        })?;
+    }
+    Ok((ends, followers))
+}
+
+// Node 0 once it has carried out a log beside its followers, which came to the same.
+fn run_beside<H: Threads + Wait + Sync>(
+    rt: &H,
+    alloc: Global,
+    node: Replica<MemoryStore>,
+    ops: &[Op],
+    feed: Frames<'_, H>,
+    followers: Vec<Follower>,
+    nodes: usize,
+) -> Result<Replica<MemoryStore>, RunFault>
+    requires opened { IsOpened node.board }
+    requires few { length ops.now ≤ LOG_CALLS }
+    requires within { AreWithin (length node.names) ops.now }
+    ensures run { IfOk result (λ done. HasRun node.names node.board.opening ops.now done) }
+    ensures fault { IfErr result (IsNodesFault nodes 0) }
+{
+    thread::scope(
+        thread::scope_env(),
+        rt,
+        move |scope| -> Result<Replica<MemoryStore>, RunFault>
+            requires opened { IsOpened node.board }
+            requires few { length ops.now ≤ LOG_CALLS }
+            requires within { AreWithin (length node.names) ops.now }
+            ensures run { IfOk result (λ done. HasRun node.names node.board.opening ops.entry.now done) }
+            ensures fault { IfErr result (IsNodesFault nodes 0) }
+        {
+            let threads = start(scope, rt, alloc, followers, nodes)?;
+            // The channels end with the feed, after a fault too, and then the followers do.
+            let node = run_node(node, ops, feed)?;
+            compare(rt, &node, threads, nodes)?;
+            Ok(node)
+        },
+    )
+}
+
+// Starts a thread for each follower.
+fn start<'s, E, R: Wait + Sync>(
+    scope: &'s Scope<'s, E>,
+    rt: &'s R,
+    alloc: Global,
+    followers: Vec<Follower>,
+    nodes: usize,
+) -> Result<Vec<JoinHandle<Replica<MemoryStore>>>, RunFault>
+    ensures fault { IfErr result (IsNodesFault nodes 0) }
+{
+    let mut threads = Vec::with_capacity(alloc, followers.len())?;
+    let mut followers = followers.into_iter();
+    for number in 1..nodes {
+        let Some(follower) = followers.next() else {
+            return Err(RunFault::Strayed(number));
+        };
+        match scope.spawn(move || follower.follow(rt)) {
+            Ok(thread) => threads.push(thread)?,
+            Err(_) => return Err(RunFault::Strayed(number)),
+        }
+    }
+    Ok(threads)
+}
+
+// Compares node 0 with what its followers came to.
+fn compare<R: Threads>(
+    rt: &R,
+    node: &Replica<MemoryStore>,
+    threads: Vec<JoinHandle<Replica<MemoryStore>>>,
+    nodes: usize,
+) -> Result<(), RunFault>
+    ensures fault { IfErr result (IsNodesFault nodes 0) }
+{
+    let mut threads = threads.into_iter();
+    for number in 1..nodes {
+        let Some(thread) = threads.next() else {
+            return Err(RunFault::Strayed(number));
+        };
+        if !agree(node, &thread.join(rt))? {
+            return Err(RunFault::Strayed(number));
+        }
+    }
+    Ok(())
+}

@@ -1,0 +1,85 @@
+//! A whole run: what is written is a stated function of what is read.
+ghost use Rattle.std.specs.Prelude.{◌≡◌, ◌≤◌, Ok, IfSome, IfOk, IfErr, OnOk};
+ghost use Rattle.bank_server.specs.Faults.{Writes, Blames, GoesAmong, IsNodesFault, StraysAmong, WritesNothing};
+ghost use Rattle.bank_server.specs.Output.{output_of};
+ghost use Rattle.bank_server.specs.Prepared.{IsPreparedOf};
+
+use crate::answers::push_output;
+use crate::fault::RunFault;
+use crate::nodes::{Bank, run_nodes};
+use crate::preparing::{Prepared, prepare};
+use sb_text::{read_all, write_whole};
+use std::alloc::Global;
+use std::io::{Read, Write};
+use std::sync::Wait;
+use std::thread::Threads;
+
+/// Reads an opening text and asking lines, and writes the answers, the rows and the total.
+///
+/// The whole input is read and checked before anything is written. Node 0 carries the log out, and so does each of
+/// the other nodes, the followers, in a thread of its own; node 0 is compared with them before anything is written.
+/// Fails with
+/// - [`RunFault::Input`] at the first line at fault; nothing was written then,
+/// - [`RunFault::Strayed`] where a follower can't be started, or differs from node 0; nothing was written then,
+/// - [`RunFault::Device`] where a read or a write fails, or the input takes more than
+///   [`sb_text::READS`] reads; a part of the output may be written,
+/// - [`RunFault::OutOfMemory`] where memory is refused.
+pub fn run_text<H: Threads + Wait + Sync, R: Read, W: Write>(
+    rt: &H,
+    alloc: Global,
+    reader: &mut R,
+    writer: &mut W,
+    nodes: usize,
+) -> Result<(), RunFault>
+    requires nodes { (1 ≤ nodes) × (nodes ≤ 8) }
+    // No line was at fault, and the output of all that was read is written.
+    ensures done { OnOk result (IfSome (R.remaining reader.old) (λ input.
+        Writes (output_of input) (W.contents writer.old) (W.contents writer.new))) }
+    // An input fault is the first of what was read.
+    ensures first { IfErr result (λ fault. IfSome (R.remaining reader.old) (λ input.
+        Blames fault (output_of input))) }
+    // After it nothing was written.
+    ensures unwritten { IfErr result (λ fault.
+        WritesNothing fault (W.contents writer.old) (W.contents writer.new)) }
+    // Only a follower strays.
+    ensures strayed { IfErr result (StraysAmong nodes) }
+    // Without workers none are gone.
+    ensures gone { IfErr result (GoesAmong 0) }
+{
+    let input = read_all(alloc, reader)?;
+    let prepared = prepare(alloc, &input)?;
+    let output = output_text(rt, alloc, prepared, input, nodes)?;
+    match write_whole(writer, &output) {
+        Ok(()) => Ok(()),
+        Err(_) => Err(RunFault::Device),
+    }
+}
+
+// The output of an input that was prepared, made by so many nodes.
+fn output_text<H: Threads + Wait + Sync>(
+    rt: &H,
+    alloc: Global,
+    prepared: Prepared,
+    input: Vec<u8>,
+    nodes: usize,
+) -> Result<Vec<u8>, RunFault>
+    requires prepared { IsPreparedOf input.items prepared }
+    requires nodes { nodes ≤ 8 }
+    ensures value { IfOk result (λ output. output_of input.items ≡ Ok output.items) }
+    ensures fault { IfErr result (IsNodesFault nodes 0) }
+{
+    let bank = Bank {
+        directory: prepared.directory,
+        columns: prepared.columns,
+        log: prepared.sequencer,
+    };
+    let node = run_nodes(rt, alloc, bank, &prepared.ops, nodes)?;
+    drop(prepared.ops);
+    // The output takes the input's place in memory, whose pages are there already.
+    let mut output = input;
+    output.clear();
+    match push_output(&prepared.standings, &node, &mut output) {
+        Ok(()) => Ok(output),
+        Err(_) => Err(RunFault::OutOfMemory),
+    }
+}

@@ -1,0 +1,79 @@
+//! What no clause says: worked inputs, texts of faults, readers and writers that fail.
+ghost use Rattle.std.specs.Prelude.{◌≤◌};
+
+use crate::fault::{InputFault, RunFault};
+use crate::run::run_text;
+use std::alloc::Global;
+use std::process::Abort;
+use std::sync::Wait;
+use std::test::Fail;
+use std::thread::Threads;
+
+mod agreements;
+mod devices;
+mod faults;
+mod limits;
+mod runs;
+
+const OPENING: &[u8] = b"alice 100.00 50.00\nbob 0.00 20.00\ncarol 10.00 0.00\nbegin\n";
+
+// Runs an opening of three customers with these calls, and compares what is written.
+fn expect_after_opening(
+    rt: &(impl Abort + Threads + Wait + Sync),
+    alloc: Global,
+    calls: &[u8],
+    output: &[u8],
+) -> Result<(), Fail> {
+    let mut input = Vec::from_slice(alloc, OPENING)?;
+    input.extend_from_slice(calls)?;
+    expect_output(rt, alloc, &input, output);
+    Ok(())
+}
+
+// Runs an input with one, two and eight nodes, and compares what is written.
+fn expect_output(
+    rt: &(impl Abort + Threads + Wait + Sync),
+    alloc: Global,
+    input: &[u8],
+    output: &[u8],
+) {
+    expect_output_of(rt, alloc, input, output, 1);
+    expect_output_of(rt, alloc, input, output, 2);
+    expect_output_of(rt, alloc, input, output, 8);
+}
+
+// Runs an input with so many nodes, and compares what is written.
+fn expect_output_of(
+    rt: &(impl Abort + Threads + Wait + Sync),
+    alloc: Global,
+    input: &[u8],
+    output: &[u8],
+    nodes: usize,
+)
+    requires { (1 ≤ nodes) × (nodes ≤ 8) }
+{
+    let mut reader = input;
+    let mut written: Vec<u8> = Vec::new(alloc);
+    let result = run_text(rt, alloc, &mut reader, &mut written, nodes);
+    assert!(rt; result == Ok(()), "with {nodes} nodes");
+    assert!(rt; written.as_slice() == output, "with {nodes} nodes");
+}
+
+// Runs an input that is at fault, and compares its fault and the fault's text.
+fn expect_fault(
+    rt: &(impl Abort + Threads + Wait + Sync),
+    alloc: Global,
+    input: &[u8],
+    line: usize,
+    fault: InputFault,
+    text: &str,
+) -> Result<(), Fail> {
+    let mut reader = input;
+    let mut written: Vec<u8> = Vec::new(alloc);
+    let result = run_text(rt, alloc, &mut reader, &mut written, 1);
+    let fault = RunFault::Input { line, fault };
+    assert!(rt; result == Err(fault));
+    assert!(rt; written.is_empty());
+    assert!(rt; format!(in alloc; "{fault}")?.as_str() == text);
+    Ok(())
+}

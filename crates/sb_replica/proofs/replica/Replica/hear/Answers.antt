@@ -1,0 +1,23 @@
+use Rattle.std.proofs.Common.{◌≡◌, ℕ, Ok, suc, sym, subst, ◌∙◌}
+use Rattle.cown_board.specs.Board.{length_of}
+use Rattle.cown_board.specs.Played.{StaysTrueToLog, Submitted}
+use Rattle.sb_calls.specs.Behaviour.{declared_cowns, effect_of}
+use Rattle.sb_replica.proofs.AcceptedEntries.{accepted_next, next_number, ok_is}
+use Rattle.sb_replica.specs.Hearing.{Accepts}
+use Rattle.sb_replica.specs.Replica.{ReplicaOf}
+use Rattle.sb_replica.proofs.replica.Replica.hear.Goals as goal
+
+pub returns-clause-played : goal.returns-clause-played
+returns-clause-played g c number e =
+    let log = c.self.inside.log in
+    let op = c.resolve-op.result in
+    let entry = c.in-Entry.number in
+    let offer = c.in_ok-offered in
+    let both = accepted_next entry number offer.offered (sym c.heard_of.ensures ∙ ok_is e) in
+    let next : suc (length_of log) ≡ number = sym (next_number log entry (sym offer.ensures.answer ∙ both.0)) ∙ both.1 in
+    subst (λ (r : ReplicaOf g.row.S.Denot). Accepts r.board number c.offer_entry.new.self) c.self.view_is
+    (record {
+      op = op;
+      played = subst (λ (n : ℕ). StaysTrueToLog declared_cowns effect_of log (Submitted op (Ok n)) c.offer_entry.new.self) next
+          (offer.ensures.played both.0);
+    })
