@@ -1,6 +1,8 @@
 //! How a worker waits for the next job.
 ghost use Rattle.std.specs.Prelude.{◌≤◌};
 
+use crate::bell::Bell;
+use std::sync::Wait;
 use std::thread;
 use std::time::{Clock, Duration};
 
@@ -13,7 +15,8 @@ const SHORTEST: u64 = 1;
 // How many it sleeps at most.
 const LONGEST: u64 = 100;
 
-// Waits longer each time: at first it lets others run, then it sleeps for moments that grow.
+// Waits longer each time: at first it lets others run, then it sleeps for moments that grow, and then it rests until
+// the owner's bell is rung.
 #[derive(Drop)]
 pub(crate) struct BackOff {
     yields: u32,
@@ -30,13 +33,15 @@ impl BackOff {
         }
     }
 
-    pub(crate) fn wait(&mut self, clock: &impl Clock) {
+    pub(crate) fn wait<R: Wait + Clock>(&mut self, rt: &R, bell: &Bell) {
         if self.yields < YIELDS {
             self.yields += 1;
             thread::yield_now();
-            return;
+        } else if self.micros < LONGEST {
+            thread::sleep(rt, Duration::from_micros(self.micros));
+            self.micros = self.micros.saturating_mul(2).min(LONGEST);
+        } else {
+            bell.rest(rt);
         }
-        thread::sleep(clock, Duration::from_micros(self.micros));
-        self.micros = self.micros.saturating_mul(2).min(LONGEST);
     }
 }

@@ -2,6 +2,7 @@
 ghost use Rattle.std.specs.Prelude.{◌≡◌, true};
 ghost use Rattle.cown_workers.specs.BenchCrews.{LaysOut};
 
+use crate::bell::Bell;
 use crate::crew::Crew;
 use cown_bench::{Bench, OwnerPass, Work};
 use cown_board::{Done, Job};
@@ -18,6 +19,7 @@ use std::thread;
 pub struct BenchCrew<'a, R: Wait> {
     rt: &'a R,
     bench: &'a Bench,
+    bell: &'a Bell,
     pass: OwnerPass,
     inbox: Receiver<Done<Op>>,
 }
@@ -37,6 +39,7 @@ impl<'a, R: Wait> BenchCrew<'a, R> {
     pub(crate) fn new(
         rt: &'a R,
         bench: &'a Bench,
+        bell: &'a Bell,
         pass: OwnerPass,
         inbox: Receiver<Done<Op>>,
     ) -> BenchCrew<'a, R>
@@ -46,6 +49,7 @@ impl<'a, R: Wait> BenchCrew<'a, R> {
         BenchCrew {
             rt,
             bench,
+            bell,
             pass,
             inbox,
         }
@@ -77,6 +81,7 @@ impl<'a, R: Wait> BenchCrew<'a, R> {
                 .offer(self.rt, &mut self.pass, Work::Stop)
                 .is_ok()
             {
+                self.bell.ring(self.rt);
                 return;
             }
             let _ = self.inbox.try_recv(self.rt);
@@ -97,7 +102,10 @@ impl<'a, R: Wait> Crew for BenchCrew<'a, R> {
 
     fn give(&mut self, job: Job<Op>) -> Result<(), Job<Op>> {
         match self.bench.offer(self.rt, &mut self.pass, Work::Run(job)) {
-            Ok(()) => Ok(()),
+            Ok(()) => {
+                self.bell.ring(self.rt);
+                Ok(())
+            }
             Err(Work::Run(back)) => Err(back),
             Err(Work::Stop) => unreachable!(),
         }

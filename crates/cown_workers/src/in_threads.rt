@@ -2,6 +2,7 @@
 ghost use Rattle.std.specs.Prelude.{◌≡◌, ◌≤◌, [], All, IfOk};
 ghost use Rattle.std.specs.Fn.{FnOnceReturnsAtMut};
 
+use crate::bell::Bell;
 use crate::bench_crew::BenchCrew;
 use crate::crew_fault::CrewFault;
 use crate::gate::Gate;
@@ -40,8 +41,9 @@ where
 {
     let (bench, pass, passes) = Bench::new(alloc, workers)?;
     let (outbox, inbox) = bounded(alloc, BENCH_CAPACITY)?;
-    let mut crew = BenchCrew::new(rt, &bench, pass, inbox);
-    let workers = workers_at(rt, alloc, &bench, passes, gate, outbox)?;
+    let bell = Bell::new(alloc, workers)?;
+    let mut crew = BenchCrew::new(rt, &bench, &bell, pass, inbox);
+    let workers = workers_at(rt, alloc, &bench, passes, gate, &bell, outbox)?;
     thread::scope(
         thread::scope_env(),
         rt,
@@ -70,6 +72,7 @@ fn workers_at<'a, R: Wait + Clock, G: Gate>(
     bench: &'a Bench,
     passes: Vec<WorkerPass>,
     gate: &'a G,
+    bell: &'a Bell,
     outbox: Sender<Done<Op>>,
 ) -> Result<Vec<Worker<'a, R, G>>, AllocError>
     requires { All (λ pass. pass.bench ≡ bench.now) passes.items }
@@ -82,6 +85,7 @@ fn workers_at<'a, R: Wait + Clock, G: Gate>(
             bench,
             pass,
             gate,
+            bell,
             outbox,
         })?;
     }

@@ -2,6 +2,7 @@
 #![tactic(auto)]
 
 mod back_off;
+mod bell;
 mod bench_crew;
 mod crew;
 mod crew_fault;

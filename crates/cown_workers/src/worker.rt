@@ -2,6 +2,7 @@
 ghost use Rattle.std.specs.Prelude.{◌≡◌};
 
 use crate::back_off::BackOff;
+use crate::bell::Bell;
 use crate::gate::Gate;
 use cown_bench::{Bench, Work, WorkerPass};
 use cown_board::{Done, Job};
@@ -18,6 +19,7 @@ pub(crate) struct Worker<'a, R: Wait + Clock, G: Gate> {
     pub(crate) bench: &'a Bench,
     pub(crate) pass: WorkerPass,
     pub(crate) gate: &'a G,
+    pub(crate) bell: &'a Bell,
     pub(crate) outbox: Sender<Done<Op>>,
     pub(crate) ghost of_the_bench: { pass.bench ≡ bench.now },
 }
@@ -30,6 +32,7 @@ impl<'a, R: Wait + Clock, G: Gate> Worker<'a, R, G> {
             bench,
             mut pass,
             gate,
+            bell,
             outbox,
         } = self;
         let mut back_off = BackOff::new();
@@ -40,7 +43,7 @@ impl<'a, R: Wait + Clock, G: Gate> Worker<'a, R, G> {
                     back_off = BackOff::new();
                 }
                 Some(Work::Stop) => return,
-                None => back_off.wait(rt),
+                None => back_off.wait(rt, bell),
             }
         }
         unreachable!()
