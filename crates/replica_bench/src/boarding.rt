@@ -21,14 +21,25 @@ use std::time::{Clock, Instant};
 pub fn board(clock: &impl Clock, alloc: Global, count: u32) -> Result<Measured> {
     let opening = open_bank(alloc, CUSTOMERS, BALANCES)?;
     let entries = make_entries(alloc, &opening.directory, count)?;
-    let mut board = Board::open(alloc, opening.columns, 0, Vec::new(alloc))?;
+    let board = Board::open(alloc, opening.columns, 0, Vec::new(alloc))?;
+    carry_out_on(clock, &entries, &opening.directory, board)
+}
+
+fn carry_out_on(
+    clock: &impl Clock,
+    entries: &Entries,
+    directory: &Directory,
+    mut board: Board<Op>,
+) -> Result<Measured>
+    requires { length (held_of board.opening) ≡ 2 * length directory.now }
+{
     let start = Instant::now(clock)?;
-    carry_out(&entries, &opening.directory, &mut board)?;
+    carry_out(entries, directory, &mut board)?;
     let time = start.elapsed(clock)?;
-    let columns = board.columns()?.context("something is unfinished")?;
+    let columns = board.settled_columns().context("something is unfinished")?;
     Ok(Measured {
         length: board.length(),
-        sum: bank_total(&columns),
+        sum: bank_total(columns),
         time,
     })
 }

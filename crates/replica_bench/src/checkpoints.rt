@@ -20,15 +20,28 @@ const BALANCES: &str = "1000.25 -200.75";
 pub fn write(clock: &impl Clock, alloc: Global, count: u32) -> Result<Measured> {
     let opening = open_bank(alloc, CUSTOMERS as u32, BALANCES)?;
     let replies = all_replies(alloc)?;
+    write_often(clock, alloc, &opening.columns, &replies, count)
+}
+
+fn write_often(
+    clock: &impl Clock,
+    alloc: Global,
+    columns: &Columns,
+    replies: &[Reply],
+    count: u32,
+) -> Result<Measured>
+    requires few { length replies.now ≤ LOG_CALLS }
+    requires valid { All IsReply replies.now }
+{
     let mut sum = 0;
     let start = Instant::now(clock)?;
     for _ in 0..count {
-        let bytes = write_checkpoint(alloc, &opening.columns, &replies)?;
+        let bytes = write_checkpoint(alloc, columns, replies)?;
         sum = with_last(sum, &bytes);
     }
     let time = start.elapsed(clock)?;
     // Once more, to be looked at beside the clock.
-    let bytes = write_checkpoint(alloc, &opening.columns, &replies)?;
+    let bytes = write_checkpoint(alloc, columns, replies)?;
     Ok(Measured {
         length: bytes.len() as u64,
         sum: with_all(sum, &bytes),
@@ -40,15 +53,19 @@ pub fn write(clock: &impl Clock, alloc: Global, count: u32) -> Result<Measured> 
 pub fn read(clock: &impl Clock, alloc: Global, count: u32) -> Result<Measured> {
     let opening = open_bank(alloc, CUSTOMERS as u32, BALANCES)?;
     let bytes = write_checkpoint(alloc, &opening.columns, &all_replies(alloc)?)?;
+    read_often(clock, alloc, &bytes, count)
+}
+
+fn read_often(clock: &impl Clock, alloc: Global, bytes: &[u8], count: u32) -> Result<Measured> {
     let mut sum = 0;
     let start = Instant::now(clock)?;
     for _ in 0..count {
-        let checkpoint = read_checkpoint(alloc, &bytes, CUSTOMERS)?;
+        let checkpoint = read_checkpoint(alloc, bytes, CUSTOMERS)?;
         sum = with_last_reply(sum, checkpoint.replies());
     }
     let time = start.elapsed(clock)?;
     // Once more, to be looked at beside the clock.
-    let checkpoint = read_checkpoint(alloc, &bytes, CUSTOMERS)?;
+    let checkpoint = read_checkpoint(alloc, bytes, CUSTOMERS)?;
     let sum = with_shown(sum, checkpoint.replies());
     Ok(Measured {
         length: checkpoint.replies().len() as u64,

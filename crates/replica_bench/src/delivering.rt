@@ -1,4 +1,5 @@
 //! Frames delivered to a replica.
+ghost use Rattle.std.specs.Prelude.{◌≡◌, length};
 
 use crate::bank::open_bank;
 use crate::entries::{Entries, make_entries};
@@ -8,6 +9,7 @@ use cown_workers::{InlineCrew, drain};
 use lane_audit::bank_total;
 use sb_checkpoint::MemoryStore;
 use sb_replica::{Heard, Replica};
+use sb_rows::Opening;
 use std::alloc::Global;
 use std::time::{Clock, Instant};
 
@@ -21,15 +23,32 @@ pub const BALANCES: &str = "1000.00 1000.00";
 pub fn deliver(clock: &impl Clock, alloc: Global, count: u32) -> Result<Measured> {
     let opening = open_bank(alloc, CUSTOMERS, BALANCES)?;
     let entries = make_entries(alloc, &opening.directory, count)?;
+    deliver_to(clock, &entries, replica_of(alloc, opening)?)
+}
+
+// A replica at this opening.
+fn replica_of(alloc: Global, opening: Opening) -> Result<Replica<MemoryStore>>
+    requires { length opening.columns.savings ≡ length opening.directory }
+{
     let store = MemoryStore::new(alloc);
-    let mut replica = Replica::open(alloc, 1, opening.directory, opening.columns, store)?;
+    let replica = Replica::open(alloc, 1, opening.directory, opening.columns, store)?;
+    Ok(replica)
+}
+
+fn deliver_to(
+    clock: &impl Clock,
+    entries: &Entries,
+    mut replica: Replica<MemoryStore>,
+) -> Result<Measured> {
     let start = Instant::now(clock)?;
-    deliver_all(&entries, &mut replica)?;
+    deliver_all(entries, &mut replica)?;
     let time = start.elapsed(clock)?;
-    let columns = replica.columns()?.context("something is unfinished")?;
+    let columns = replica
+        .settled_columns()
+        .context("something is unfinished")?;
     Ok(Measured {
         length: replica.length(),
-        sum: bank_total(&columns),
+        sum: bank_total(columns),
         time,
     })
 }

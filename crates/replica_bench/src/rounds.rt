@@ -35,13 +35,24 @@ pub fn drain_rounds(
 ) -> Result<Measured> {
     let opening = open_bank(alloc, OPEN_BEHAVIOURS as u32, BALANCES)?;
     let calls = deposits(alloc, &opening.directory, payees)?;
-    let mut board = Board::open(alloc, opening.columns, 0, Vec::new(alloc))?;
+    let board = Board::open(alloc, opening.columns, 0, Vec::new(alloc))?;
+    run_on(clock, alloc, &opening.directory, &calls, count, board)
+}
+
+fn run_on(
+    clock: &impl Clock,
+    alloc: Global,
+    directory: &Directory,
+    calls: &[Call],
+    count: u32,
+    mut board: Board<Op>,
+) -> Result<Measured>
+    requires { length (held_of board.opening) ≡ 2 * length directory.now }
+{
     let start = Instant::now(clock)?;
-    run_rounds(alloc, &opening.directory, &calls, count, &mut board)?;
+    run_rounds(alloc, directory, calls, count, &mut board)?;
     let time = start.elapsed(clock)?;
-    let columns = board
-        .settled_columns()
-        .context("something is unfinished")?;
+    let columns = board.settled_columns().context("something is unfinished")?;
     Ok(Measured {
         length: board.length(),
         sum: bank_total(columns),

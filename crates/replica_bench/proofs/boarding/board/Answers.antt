@@ -6,8 +6,8 @@ use Rattle.sb_calls.specs.declared.op.Op.{Op}
 use Rattle.cown_board.specs.Board.{BoardOf}
 use Rattle.replica_bench.proofs.boarding.board.Goals as goal
 
-pub carry_out-requires : goal.carry_out-requires
-carry_out-requires g c =
+pub carry_out_on-requires : goal.carry_out_on-requires
+carry_out_on-requires g c =
     let opening = c.in_ok-opening.opening in
     ap (λ (b : BoardOf Op). length (held_of b.opening)) c.in_ok-board.ensures
     ∙ length-held_of opening.columns opening.same_customers.balances.same
