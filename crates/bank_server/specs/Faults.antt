@@ -3,6 +3,8 @@ use Rattle.std.specs.Prelude.{◌≡◌, ◌≢◌, ◌<◌, ◌≤◌, ℕ, Boo
 use Rattle.std.specs.Io.KnownBytes.{Appends, Keeps}
 use Rattle.sb_text.specs.declared.input.ReadFault.{ReadFault}
 use Rattle.sb_text.specs.declared.input.ReadFault.TheVariants as reading
+use Rattle.cown_workers.specs.declared.crew_fault.CrewFault.{CrewFault}
+use Rattle.cown_workers.specs.declared.crew_fault.CrewFault.TheVariants as crew
 use Rattle.bank_server.specs.declared.fault.InputFault.{InputFault}
 use Rattle.bank_server.specs.declared.fault.RunFault.{RunFault}
 use Rattle.bank_server.specs.declared.fault.RunFault.TheVariants.{Input, Strayed, CrewGone, Device, OutOfMemory}
@@ -57,6 +59,27 @@ IsCrewFault keeps (Strayed node) = ⊥
 IsCrewFault keeps CrewGone = keeps ≢ false
 IsCrewFault keeps Device = ⊥
 IsCrewFault keeps OutOfMemory = Unit {0}
+
+-- memory was refused, or a follower of so many nodes strayed
+abbrev pub IsFollowersFault : ℕ → RunFault → Type 0
+IsFollowersFault nodes (Input line fault) = ⊥
+IsFollowersFault nodes (Strayed node) = (1 ≤ node) × (node < nodes)
+IsFollowersFault nodes CrewGone = ⊥
+IsFollowersFault nodes Device = ⊥
+IsFollowersFault nodes OutOfMemory = Unit {0}
+
+-- memory was refused, or the crew is gone, of so many workers: without any none are gone
+abbrev pub IsWorkersFault : ℕ → RunFault → Type 0
+IsWorkersFault workers (Input line fault) = ⊥
+IsWorkersFault workers (Strayed node) = ⊥
+IsWorkersFault workers CrewGone = 0 < workers
+IsWorkersFault workers Device = ⊥
+IsWorkersFault workers OutOfMemory = Unit {0}
+
+-- how a run ends that has no crew
+abbrev pub of_crew_fault : CrewFault → RunFault
+of_crew_fault crew.CrewGone = CrewGone
+of_crew_fault crew.OutOfMemory = OutOfMemory
 
 -- what ends a run of so many nodes and workers after its input was read: a follower strayed, the crew is gone, where
 -- there is one, or memory was refused

@@ -1,8 +1,9 @@
 //! Why a run ends without its output.
 ghost use Rattle.std.specs.Prelude.{◌≡◌};
-ghost use Rattle.bank_server.specs.Faults.{fault_number, of_read_fault};
+ghost use Rattle.bank_server.specs.Faults.{fault_number, of_crew_fault, of_read_fault};
 ghost use Rattle.bank_server.specs.declared.fault.RunFault.TheVariants.{OutOfMemory};
 
+use cown_workers::CrewFault;
 use sb_calls::CallFault;
 use sb_rows::LineFault;
 use sb_text::ReadFault;
@@ -67,6 +68,17 @@ impl From<ReadFault> for RunFault {
         match read {
             ReadFault::Device => RunFault::Device,
             ReadFault::OutOfMemory => RunFault::OutOfMemory,
+        }
+    }
+}
+
+impl From<CrewFault> for RunFault {
+    ghost from_gives = { λ crew fault. fault ≡ of_crew_fault crew };
+
+    fn from(crew: CrewFault) -> RunFault {
+        match crew {
+            CrewFault::CrewGone => RunFault::CrewGone,
+            CrewFault::OutOfMemory => RunFault::OutOfMemory,
         }
     }
 }

@@ -4,6 +4,7 @@
 mod agreement;
 mod answers;
 mod asking;
+mod carrying;
 mod execution;
 mod fault;
 mod feeding;

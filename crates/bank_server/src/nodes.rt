@@ -1,15 +1,15 @@
 //! Node 0 and its followers, which carry out one log.
-ghost use Rattle.std.specs.Prelude.{◌≡◌, ◌≤◌, false, length, IfOk, IfErr};
+ghost use Rattle.std.specs.Prelude.{◌≡◌, ◌≤◌, length, IfOk, IfErr};
 ghost use Rattle.bank_server.specs.Execution.{AreWithin, HasRun, IsOpened};
-ghost use Rattle.bank_server.specs.Faults.{IsCrewFault, IsNodesFault};
+ghost use Rattle.bank_server.specs.Faults.{IsFollowersFault, IsNodesFault};
 
 use crate::agreement::agree;
-use crate::execution::carry_out;
+use crate::carrying::run_node;
 use crate::fault::RunFault;
-use crate::feeding::{Feed, NoFollowers};
+use crate::feeding::NoFollowers;
 use crate::follower::Follower;
 use crate::frames::{Frames, MESSAGES, Message};
-use cown_workers::InlineCrew;
+use cown_workers::Gate;
 use crossbeam_channel::{Sender, bounded};
 use sb_calls::{LOG_CALLS, Op};
 use sb_checkpoint::MemoryStore;
@@ -21,6 +21,7 @@ use std::alloc::{AllocError, Global};
 use std::sync::Wait;
 use std::thread;
 use std::thread::{JoinHandle, Scope, Threads};
+use std::time::Clock;
 
 /// What a bank begins with, and the log that it carries out.
 #[derive(Drop)]
@@ -30,26 +31,29 @@ pub(crate) struct Bank {
     pub(crate) log: Sequencer,
 }
 
-/// Node 0 once it has carried out a log, and the other nodes came to the same.
-pub(crate) fn run_nodes<H: Threads + Wait + Sync>(
+/// Node 0 once it has carried out a log with this many workers, and the other nodes came to the same.
+pub(crate) fn run_nodes<H: Threads + Wait + Clock + Sync, G: Gate + Sync>(
     rt: &H,
     alloc: Global,
     bank: Bank,
     ops: &[Op],
     nodes: usize,
+    workers: usize,
+    gate: &G,
 ) -> Result<Replica<MemoryStore>, RunFault>
     requires nodes { nodes ≤ 8 }
+    requires workers { workers ≤ 16 }
     requires customers { length bank.columns.savings ≡ length bank.directory }
     requires few { length ops.now ≤ LOG_CALLS }
     requires within { AreWithin (length bank.directory) ops.now }
     ensures run { IfOk result (λ node. HasRun bank.directory bank.columns ops.now node) }
-    ensures fault { IfErr result (IsNodesFault nodes 0) }
+    ensures fault { IfErr result (IsNodesFault nodes workers) }
 {
     if nodes <= 1 {
         // The board may take the log's place in memory.
         drop(bank.log);
         let node = open_node(alloc, 0, bank.directory, bank.columns)?;
-        return run_node(node, ops, NoFollowers);
+        return run_node(rt, alloc, node, ops, NoFollowers, workers, gate);
     }
     let (ends, followers) = open_followers(alloc, &bank, nodes)?;
     let feed = Frames {
@@ -59,7 +63,7 @@ pub(crate) fn run_nodes<H: Threads + Wait + Sync>(
         ends,
     };
     let node = open_node(alloc, 0, bank.directory, bank.columns)?;
-    run_beside(rt, alloc, node, ops, feed, followers, nodes)
+    run_beside(rt, alloc, node, ops, feed, followers, nodes, workers, gate)
 }
 
 // A replica at the opening of a bank, over a store in memory.
@@ -75,24 +79,6 @@ fn open_node(
     ensures opened { IfOk result (λ node. IsOpened node.board) }
 {
     Replica::open(alloc, id, directory, columns, MemoryStore::new(alloc))
-}
-
-// Carries out a log on a node, and tells this feed of it.
-fn run_node<F: Feed + Drop>(
-    node: Replica<MemoryStore>,
-    ops: &[Op],
-    feed: F,
-) -> Result<Replica<MemoryStore>, RunFault>
-    requires opened { IsOpened node.board }
-    requires few { length ops.now ≤ LOG_CALLS }
-    requires within { AreWithin (length node.names) ops.now }
-    ensures run { IfOk result (λ done. HasRun node.names node.board.opening ops.now done) }
-    ensures fault { IfErr result (IsCrewFault false) }
-{
-    let mut node = node;
-    let mut feed = feed;
-    carry_out(ops, &mut node, &mut InlineCrew, &mut feed)?;
-    Ok(node)
 }
 
 // The followers of node 0, each with its own names and columns, and the ends of the channels to them.
@@ -122,7 +108,7 @@ fn open_followers(
 }
 
 // Node 0 once it has carried out a log beside its followers, which came to the same.
-fn run_beside<H: Threads + Wait + Sync>(
+fn run_beside<H: Threads + Wait + Clock + Sync, G: Gate + Sync>(
     rt: &H,
     alloc: Global,
     node: Replica<MemoryStore>,
@@ -130,26 +116,30 @@ fn run_beside<H: Threads + Wait + Sync>(
     feed: Frames<'_, H>,
     followers: Vec<Follower>,
     nodes: usize,
+    workers: usize,
+    gate: &G,
 ) -> Result<Replica<MemoryStore>, RunFault>
+    requires workers { workers ≤ 16 }
     requires opened { IsOpened node.board }
     requires few { length ops.now ≤ LOG_CALLS }
     requires within { AreWithin (length node.names) ops.now }
     ensures run { IfOk result (λ done. HasRun node.names node.board.opening ops.now done) }
-    ensures fault { IfErr result (IsNodesFault nodes 0) }
+    ensures fault { IfErr result (IsNodesFault nodes workers) }
 {
     thread::scope(
         thread::scope_env(),
         rt,
         move |scope| -> Result<Replica<MemoryStore>, RunFault>
+            requires workers { workers ≤ 16 }
             requires opened { IsOpened node.board }
             requires few { length ops.now ≤ LOG_CALLS }
             requires within { AreWithin (length node.names) ops.now }
             ensures run { IfOk result (λ done. HasRun node.names node.board.opening ops.entry.now done) }
-            ensures fault { IfErr result (IsNodesFault nodes 0) }
+            ensures fault { IfErr result (IsNodesFault nodes workers) }
         {
             let threads = start(scope, rt, alloc, followers, nodes)?;
             // The channels end with the feed, after a fault too, and then the followers do.
-            let node = run_node(node, ops, feed)?;
+            let node = run_node(rt, alloc, node, ops, feed, workers, gate)?;
             compare(rt, &node, threads, nodes)?;
             Ok(node)
         },
@@ -164,7 +154,7 @@ fn start<'s, E, R: Wait + Sync>(
     followers: Vec<Follower>,
     nodes: usize,
 ) -> Result<Vec<JoinHandle<Replica<MemoryStore>>>, RunFault>
-    ensures fault { IfErr result (IsNodesFault nodes 0) }
+    ensures fault { IfErr result (IsFollowersFault nodes) }
 {
     let mut threads = Vec::with_capacity(alloc, followers.len())?;
     let mut followers = followers.into_iter();
@@ -187,7 +177,7 @@ fn compare<R: Threads>(
     threads: Vec<JoinHandle<Replica<MemoryStore>>>,
     nodes: usize,
 ) -> Result<(), RunFault>
-    ensures fault { IfErr result (IsNodesFault nodes 0) }
+    ensures fault { IfErr result (IsFollowersFault nodes) }
 {
     let mut threads = threads.into_iter();
     for number in 1..nodes {

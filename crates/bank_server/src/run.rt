@@ -8,30 +8,40 @@ use crate::answers::push_output;
 use crate::fault::RunFault;
 use crate::nodes::{Bank, run_nodes};
 use crate::preparing::{Prepared, prepare};
+use cown_workers::Gate;
 use sb_text::{read_all, write_whole};
 use std::alloc::Global;
 use std::io::{Read, Write};
 use std::sync::Wait;
 use std::thread::Threads;
+use std::time::Clock;
 
 /// Reads an opening text and asking lines, and writes the answers, the rows and the total.
 ///
 /// The whole input is read and checked before anything is written. Node 0 carries the log out, and so does each of
 /// the other nodes, the followers, in a thread of its own; node 0 is compared with them before anything is written.
+/// With workers each of node 0's calls is carried out by one of them, between two calls of the gate; without any it is
+/// carried out in place. What is written is the same for every number of nodes and of workers.
+///
 /// Fails with
 /// - [`RunFault::Input`] at the first line at fault; nothing was written then,
 /// - [`RunFault::Strayed`] where a follower can't be started, or differs from node 0; nothing was written then,
+/// - [`RunFault::CrewGone`] where a worker can't be started, or the workers left something unfinished; nothing was
+///   written then,
 /// - [`RunFault::Device`] where a read or a write fails, or the input takes more than
 ///   [`sb_text::READS`] reads; a part of the output may be written,
 /// - [`RunFault::OutOfMemory`] where memory is refused.
-pub fn run_text<H: Threads + Wait + Sync, R: Read, W: Write>(
+pub fn run_text<H: Threads + Wait + Clock + Sync, R: Read, W: Write, G: Gate + Sync>(
     rt: &H,
     alloc: Global,
     reader: &mut R,
     writer: &mut W,
     nodes: usize,
+    workers: usize,
+    gate: &G,
 ) -> Result<(), RunFault>
     requires nodes { (1 ≤ nodes) × (nodes ≤ 8) }
+    requires workers { workers ≤ 16 }
     // No line was at fault, and the output of all that was read is written.
     ensures done { OnOk result (IfSome (R.remaining reader.old) (λ input.
         Writes (output_of input) (W.contents writer.old) (W.contents writer.new))) }
@@ -44,36 +54,39 @@ pub fn run_text<H: Threads + Wait + Sync, R: Read, W: Write>(
     // Only a follower strays.
     ensures strayed { IfErr result (StraysAmong nodes) }
     // Without workers none are gone.
-    ensures gone { IfErr result (GoesAmong 0) }
+    ensures gone { IfErr result (GoesAmong workers) }
 {
     let input = read_all(alloc, reader)?;
     let prepared = prepare(alloc, &input)?;
-    let output = output_text(rt, alloc, prepared, input, nodes)?;
+    let output = output_text(rt, alloc, prepared, input, nodes, workers, gate)?;
     match write_whole(writer, &output) {
         Ok(()) => Ok(()),
         Err(_) => Err(RunFault::Device),
     }
 }
 
-// The output of an input that was prepared, made by so many nodes.
-fn output_text<H: Threads + Wait + Sync>(
+// The output of an input that was prepared, made by so many nodes and workers.
+fn output_text<H: Threads + Wait + Clock + Sync, G: Gate + Sync>(
     rt: &H,
     alloc: Global,
     prepared: Prepared,
     input: Vec<u8>,
     nodes: usize,
+    workers: usize,
+    gate: &G,
 ) -> Result<Vec<u8>, RunFault>
     requires prepared { IsPreparedOf input.items prepared }
     requires nodes { nodes ≤ 8 }
+    requires workers { workers ≤ 16 }
     ensures value { IfOk result (λ output. output_of input.items ≡ Ok output.items) }
-    ensures fault { IfErr result (IsNodesFault nodes 0) }
+    ensures fault { IfErr result (IsNodesFault nodes workers) }
 {
     let bank = Bank {
         directory: prepared.directory,
         columns: prepared.columns,
         log: prepared.sequencer,
     };
-    let node = run_nodes(rt, alloc, bank, &prepared.ops, nodes)?;
+    let node = run_nodes(rt, alloc, bank, &prepared.ops, nodes, workers, gate)?;
     drop(prepared.ops);
     // The output takes the input's place in memory, whose pages are there already.
     let mut output = input;

@@ -1,6 +1,7 @@
 //! Readers and writers that give and take little, and fail.
 use crate::fault::RunFault;
 use crate::run::run_text;
+use cown_workers::OpenGate;
 use std::io;
 use std::io::{ErrorKind, Read, Write};
 use std::test::Fail;
@@ -45,7 +46,7 @@ fn reads_in_pieces(rt: HostRuntime) -> Result<(), Fail> {
         fails: true,
     };
     let mut written: Vec<u8> = Vec::new(alloc);
-    assert!(rt; run_text(&rt, alloc, &mut reader, &mut written, 1) == Ok(()));
+    assert!(rt; run_text(&rt, alloc, &mut reader, &mut written, 1, 0, &OpenGate) == Ok(()));
     assert!(rt; written.as_slice() == b"1 done\na 1.00 2.50\ntotal 3.50\n".as_slice());
     Ok(())
 }
@@ -61,7 +62,8 @@ fn a_read_that_fails(rt: HostRuntime) -> Result<(), Fail> {
         };
         let mut written: Vec<u8> = Vec::new(alloc);
         assert!(rt;
-            run_text(&rt, alloc, &mut reader, &mut written, 1) == Err(RunFault::Device),
+            run_text(&rt, alloc, &mut reader, &mut written, 1, 0, &OpenGate)
+                == Err(RunFault::Device),
             "after {reads} reads"
         );
         assert!(rt; written.is_empty());
@@ -111,7 +113,7 @@ fn a_write_that_fails(rt: HostRuntime) -> Result<(), Fail> {
             room,
             flushes: true,
         };
-        let result = run_text(&rt, alloc, &mut reader, &mut writer, 1);
+        let result = run_text(&rt, alloc, &mut reader, &mut writer, 1, 0, &OpenGate);
         let Narrow { taken, .. } = writer;
         assert!(rt; taken.as_slice() == &output[..room.min(36)]);
         let wanted = if room < 36 {
@@ -132,7 +134,10 @@ fn a_flush_that_fails(rt: HostRuntime) {
         room: 100,
         flushes: false,
     };
-    assert!(rt; run_text(&rt, rt.alloc(), &mut reader, &mut writer, 1) == Err(RunFault::Device));
+    assert!(rt;
+        run_text(&rt, rt.alloc(), &mut reader, &mut writer, 1, 0, &OpenGate)
+            == Err(RunFault::Device)
+    );
     let Narrow { taken, .. } = writer;
     assert!(rt; taken.as_slice() == b"total 0.00\n".as_slice());
 }

@@ -1,5 +1,5 @@
 //! Inputs at the limits.
-use super::{expect_fault, expect_output_of};
+use super::{expect_fault, expect_output_by, expect_output_of};
 use crate::fault::InputFault;
 use sb_rows::LineFault;
 use std::io::Write;
@@ -39,7 +39,7 @@ fn calls_past_a_full_log(rt: HostRuntime) -> Result<(), Fail> {
     output.extend_from_slice(
         b"log full\nlog full\n1 done\nmismatch 1\na 0.00 10000.00\ntotal 10000.00\n",
     )?;
-    expect_output_of(&rt, alloc, &input, &output, 2);
+    expect_output_by(&rt, alloc, &input, &output, 2, 0);
     Ok(())
 }
 

@@ -1,6 +1,6 @@
-use Rattle.std.proofs.Common.{◌≡◌, ap, ◌∙◌}
+use Rattle.std.proofs.Common.{ap}
 use Rattle.sb_replica.specs.Replica.{BesideOf}
-use Rattle.bank_server.proofs.nodes.run_node.Goals as goal
+use Rattle.bank_server.proofs.carrying.run_by.Goals as goal
 
 pub returns-clause-run : goal.returns-clause-run
 returns-clause-run g c = record {
