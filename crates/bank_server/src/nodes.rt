@@ -140,8 +140,7 @@ fn run_beside<H: Threads + Wait + Clock + Sync, G: Gate + Sync>(
             let threads = start(scope, rt, alloc, followers, nodes)?;
             // The channels end with the feed, after a fault too, and then the followers do.
             let node = run_node(rt, alloc, node, ops, feed, workers, gate)?;
-            compare(rt, &node, threads, nodes)?;
-            Ok(node)
+            compared(rt, node, threads, nodes)
         },
     )
 }
@@ -170,13 +169,14 @@ fn start<'s, E, R: Wait + Sync>(
     Ok(threads)
 }
 
-// Compares node 0 with what its followers came to.
-fn compare<R: Threads>(
+// Node 0, where its followers came to the same.
+fn compared<R: Threads>(
     rt: &R,
-    node: &Replica<MemoryStore>,
+    node: Replica<MemoryStore>,
     threads: Vec<JoinHandle<Replica<MemoryStore>>>,
     nodes: usize,
-) -> Result<(), RunFault>
+) -> Result<Replica<MemoryStore>, RunFault>
+    ensures same { IfOk result (λ same. same ≡ node) }
     ensures fault { IfErr result (IsFollowersFault nodes) }
 {
     let mut threads = threads.into_iter();
@@ -184,9 +184,9 @@ fn compare<R: Threads>(
         let Some(thread) = threads.next() else {
             return Err(RunFault::Strayed(number));
         };
-        if !agree(node, &thread.join(rt))? {
+        if !agree(&node, &thread.join(rt))? {
             return Err(RunFault::Strayed(number));
         }
     }
-    Ok(())
+    Ok(node)
 }
