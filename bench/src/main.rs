@@ -2,7 +2,8 @@
 //! table tells the time and the memory of each.
 //!
 //! `beside PRODUCT PLAIN FOLDER`; inputs and outputs are kept in the folder.
-//! `beside workload SEED CUSTOMERS LINES` writes a workload to standard output, `beside faulty SEED` a small input.
+//! `beside workload SEED CUSTOMERS LINES` writes a workload to standard output, `beside faulty SEED` a small
+//! input.
 
 mod faulty;
 mod measure;

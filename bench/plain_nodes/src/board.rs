@@ -51,8 +51,8 @@ struct Slot {
     next: [u32; OP_COWNS],
 }
 
-/// A log of ops, of which those are handed out whose cowns are free. At each cown there is a queue of unfinished
-/// ops, linked from each to the next.
+/// A log of ops, of which those are handed out whose cowns are free. At each cown there is a queue of
+/// unfinished ops, linked from each to the next.
 pub struct Board {
     // By cown: the savings of customer i, then the checking balance.
     balances: Vec<i64>,

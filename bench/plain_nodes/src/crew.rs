@@ -6,7 +6,8 @@ use crossbeam_queue::ArrayQueue;
 use std::thread::{self, Builder, Scope};
 use std::time::Duration;
 
-// How many jobs lie in the queue, or done in the channel, at most: all that may be unfinished, and a stop a worker.
+// How many jobs lie in the queue, or done in the channel, at most: all that may be unfinished, and a stop
+// a worker.
 const CAPACITY: usize = 1_040;
 // How often a worker that finds nothing only lets others run, before it sleeps.
 const YIELDS: u32 = 64;

@@ -1,8 +1,10 @@
-//! What `smallbank run --nodes N --workers W` does, in plain Rust: nothing proved, std and crossbeam, written for speed.
+//! What `smallbank run --nodes N --workers W` does, in plain Rust: nothing proved, std and crossbeam, written
+//! for speed.
 //!
-//! `plain_nodes NODES WORKERS < INPUT`. Node 0 is this thread: it hands jobs to worker threads over a bounded queue and
-//! takes back what they did over a channel, or carries them out itself where there are none. The other nodes are
-//! threads, each with a bank of its own, fed with frames. At the end all must agree with node 0.
+//! `plain_nodes NODES WORKERS < INPUT`. Node 0 is this thread: it hands jobs to worker threads over a bounded
+//! queue and takes back what they did over a channel, or carries them out itself where there are none. The
+//! other nodes are threads, each with a bank of its own, fed with frames. At the end each must agree with
+//! node 0.
 
 mod board;
 mod crew;

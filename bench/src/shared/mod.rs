@@ -1,5 +1,5 @@
-//! What plain programs that do the job of `smallbank run` have in common: limits, and the texts that they read
-//! and write.
+//! What the plain programs that do the job of `smallbank run` have in common: limits, and the texts that they
+//! read and write.
 
 pub mod bank;
 pub mod input;
