@@ -2,8 +2,8 @@
 //! table tells the time and the memory of each.
 //!
 //! `beside PRODUCT PLAIN FOLDER`; inputs and outputs are kept in the folder.
-//! `beside workload SEED CUSTOMERS LINES` writes a workload to standard output, `beside faulty SEED` a small
-//! input.
+//! `beside workload SEED CUSTOMERS LINES` writes a workload to standard output, `beside row NUMBER` that of
+//! a row of the table, counted from 0, `beside faulty SEED` a small input.
 
 mod faulty;
 mod measure;
@@ -21,7 +21,7 @@ use std::{env, fs};
 use workload::Workload;
 
 const USAGE: &str = "usage: beside PRODUCT PLAIN FOLDER, \
-    or beside workload SEED CUSTOMERS LINES, or beside faulty SEED";
+    or beside workload SEED CUSTOMERS LINES, or beside row NUMBER, or beside faulty SEED";
 const RUNS: usize = 5;
 const SEED: u64 = 20;
 const FAULTY_INPUTS: u64 = 500;
@@ -162,6 +162,11 @@ fn main() -> Answer<()> {
         ["workload", seed, customers, lines] => {
             let workload = Workload::new(seed.parse()?, customers.parse()?, lines.parse()?);
             workload.write(&mut BufWriter::new(io::stdout().lock()))?;
+        }
+        ["row", number] => {
+            let row = ROWS.get(number.parse::<usize>()?).ok_or(USAGE)?;
+            let (_, workload, customers, lines) = row;
+            workload(SEED, *customers, *lines).write(&mut BufWriter::new(io::stdout().lock()))?;
         }
         ["faulty", seed] => {
             io::stdout()
