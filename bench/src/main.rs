@@ -2,7 +2,8 @@
 //! table tells the time and the memory of each.
 //!
 //! `beside PRODUCT PLAIN FOLDER`; inputs and outputs are kept in the folder.
-//! `beside workload SEED CUSTOMERS LINES` writes a workload to standard output.
+//! `beside workload SEED CUSTOMERS LINES` writes a workload to standard output, `beside row NUMBER` that of
+//! a row of the table, counted from 0, `beside faulty SEED` a small input.
 
 mod faulty;
 mod measure;
@@ -19,6 +20,8 @@ use std::process::{Command, Output, Stdio};
 use std::{env, fs};
 use workload::Workload;
 
+const USAGE: &str = "usage: beside PRODUCT PLAIN FOLDER, \
+    or beside workload SEED CUSTOMERS LINES, or beside row NUMBER, or beside faulty SEED";
 const RUNS: usize = 5;
 const SEED: u64 = 20;
 const FAULTY_INPUTS: u64 = 500;
@@ -160,6 +163,16 @@ fn main() -> Answer<()> {
             let workload = Workload::new(seed.parse()?, customers.parse()?, lines.parse()?);
             workload.write(&mut BufWriter::new(io::stdout().lock()))?;
         }
+        ["row", number] => {
+            let row = ROWS.get(number.parse::<usize>()?).ok_or(USAGE)?;
+            let (_, workload, customers, lines) = row;
+            workload(SEED, *customers, *lines).write(&mut BufWriter::new(io::stdout().lock()))?;
+        }
+        ["faulty", seed] => {
+            io::stdout()
+                .lock()
+                .write_all(&faulty::input(seed.parse()?))?;
+        }
         [product, plain, folder] => {
             let bench = Bench {
                 product: product.into(),
@@ -173,10 +186,7 @@ fn main() -> Answer<()> {
             }
         }
         _ => {
-            return Err(
-                "usage: beside PRODUCT PLAIN FOLDER, or beside workload SEED CUSTOMERS LINES"
-                    .into(),
-            );
+            return Err(USAGE.into());
         }
     }
     Ok(())

@@ -1,0 +1,61 @@
+//! What `smallbank run --nodes N --workers W` does, in plain Rust: nothing proved, std and crossbeam, written
+//! for speed.
+//!
+//! `plain_nodes NODES WORKERS < INPUT`. Node 0 is this thread: it hands jobs to worker threads over a bounded
+//! queue and takes back what they did over a channel, or carries them out itself where there are none. The
+//! other nodes are threads, each with a bank of its own, fed with frames. At the end each must agree with
+//! node 0.
+
+mod board;
+mod crew;
+mod follower;
+mod frames;
+mod log;
+mod node;
+mod op;
+mod running;
+#[path = "../../src/shared/mod.rs"]
+mod shared;
+
+use running::{Fault, output_of};
+use std::env;
+use std::io::{self, Read, Write};
+use std::process::ExitCode;
+
+/// How many nodes and workers there are.
+#[derive(Clone, Copy)]
+struct Size {
+    nodes: usize,
+    workers: usize,
+}
+
+fn size() -> Option<Size> {
+    let mut words = env::args().skip(1);
+    let nodes = words.next()?.parse().ok()?;
+    let workers = words.next()?.parse().ok()?;
+    let is_known = (1..=8).contains(&nodes) && workers <= 16 && words.next().is_none();
+    is_known.then_some(Size { nodes, workers })
+}
+
+fn run(size: Size) -> Result<(), Fault> {
+    let mut input = Vec::new();
+    io::stdin().lock().read_to_end(&mut input)?;
+    let output = output_of(&input, size)?;
+    let mut stdout = io::stdout().lock();
+    stdout.write_all(&output)?;
+    Ok(stdout.flush()?)
+}
+
+fn main() -> ExitCode {
+    let Some(size) = size() else {
+        eprintln!("usage: plain_nodes 1..8 0..16 < INPUT");
+        return ExitCode::from(2);
+    };
+    match run(size) {
+        Ok(()) => ExitCode::SUCCESS,
+        Err(fault) => {
+            eprintln!("smallbank: {fault}");
+            ExitCode::from(fault.status())
+        }
+    }
+}

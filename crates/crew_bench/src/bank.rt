@@ -1,0 +1,90 @@
+//! The bank whose board is drained.
+ghost use Rattle.std.specs.Prelude.{◌≡◌, ◌*◌, length};
+ghost use Rattle.sb_calls.specs.Behaviour.{declared_cowns};
+ghost use Rattle.sb_calls.specs.Cowns.{AreBelow, held_of};
+
+use crate::fault::Fault;
+use cown_board::{Board, SubmitFault};
+use cown_workers::{Crew, drain};
+use lane_audit::bank_total;
+use sb_amount::Cents;
+use sb_calls::{Call, Op, resolve};
+use sb_rows::{Directory, Opening, read_opening};
+use std::alloc::Global;
+
+/// How many customers it has: as many as calls may be unfinished at once, so that these share no cown.
+const CUSTOMERS: u32 = 1_024;
+
+/// A bank's names, and its board.
+#[derive(Drop)]
+pub struct Bank {
+    directory: Directory,
+    board: Board<Op>,
+    // Each customer has two cowns.
+    ghost cowns: { length (held_of board.opening) ≡ 2 * length directory },
+}
+
+impl Bank {
+    /// A bank whose customers have nothing.
+    pub fn open(alloc: Global) -> Result<Bank, Fault> {
+        let opening = opening(alloc)?;
+        let board = Board::open(alloc, opening.columns, 0, Vec::new(alloc))?;
+        Ok(Bank {
+            directory: opening.directory,
+            board,
+        })
+    }
+
+    /// Deposits a cent so often, each time with the next customer, and has the crew carry it out. Where the
+    /// board is busy it is drained first.
+    pub fn deposit(&mut self, crew: &mut impl Crew, calls: u32) -> Result<(), Fault> {
+        for call in 0..calls {
+            self.deposit_to(call % CUSTOMERS, crew)?;
+        }
+        drain(&mut self.board, crew)?;
+        Ok(())
+    }
+
+    /// How many calls there were.
+    pub fn length(&self) -> u64 {
+        self.board.length()
+    }
+
+    /// What all customers have, or `None` while something is unfinished.
+    pub fn total(&self) -> Option<i64> {
+        Some(bank_total(self.board.settled_columns()?))
+    }
+
+    // Deposits a cent to the customer at this place.
+    fn deposit_to(&mut self, place: u32, crew: &mut impl Crew) -> Result<(), Fault> {
+        let name = self.directory.name(place).ok_or(Fault::Bank)?;
+        let cent = Cents::new(1).ok_or(Fault::Bank)?;
+        let op = resolve(&self.directory, &Call::DepositChecking(name, cent));
+        submit(&op, &mut self.board, crew)
+    }
+}
+
+// Submits an op. Where the board is busy it is drained first.
+fn submit(op: &Op, board: &mut Board<Op>, crew: &mut impl Crew) -> Result<(), Fault>
+    requires { AreBelow (length (held_of board.old.opening)) (declared_cowns op.now) }
+    ensures { board.new.opening ≡ board.old.opening }
+{
+    match board.submit(*op) {
+        Ok(_) => return Ok(()),
+        Err(SubmitFault::Busy) => drain(board, crew)?,
+        Err(fault) => return Err(fault.into()),
+    }
+    board.submit(*op)?;
+    Ok(())
+}
+
+// The opening of the customers `c0`, `c1`, ..
+fn opening(alloc: Global) -> Result<Opening, Fault> {
+    let mut text = String::new(alloc);
+    for place in 0..CUSTOMERS {
+        let line = format!(in alloc; "c{place} 0.00 0.00\n")?;
+        text.push_str(line.as_str())?;
+    }
+    text.push_str("begin\n")?;
+    read_opening(alloc, text.as_str().as_bytes()).map_err(|_| Fault::Bank)
+}

@@ -1,0 +1,57 @@
+//! `crew_bench`: times how a crew drains a board, in place or in threads, for `bench/nodes`.
+#![tactic(auto)]
+
+use fault::Fault;
+use measured::Measured;
+use running::measure;
+use std::env;
+use std::process::ExitCode;
+use words::{Action, read_words};
+
+mod bank;
+mod fault;
+mod gates;
+mod in_place;
+mod measured;
+mod running;
+mod words;
+
+const USAGE: &str = "usage: crew_bench none STEPS CALLS|workers WORKERS STEPS CALLS|wait WORKERS";
+
+fn main(rt: HostRuntime) -> ExitCode {
+    let action = match action(&rt) {
+        Ok(Some(action)) => action,
+        Ok(None) => {
+            let _ = eprintln!(rt; "{USAGE}");
+            return ExitCode::from(2);
+        }
+        Err(fault) => return failed(&rt, fault),
+    };
+    let told = match measure(&rt, rt.alloc(), action) {
+        Ok(measured) => print(&rt, measured),
+        Err(fault) => Err(fault),
+    };
+    match told {
+        Ok(()) => ExitCode::SUCCESS,
+        Err(fault) => failed(&rt, fault),
+    }
+}
+
+// What the program's words say, or `None` where they say nothing.
+fn action(rt: &HostRuntime) -> Result<Option<Action>, Fault> {
+    let words: Vec<String> = env::args(rt)?.collect(rt.alloc())?;
+    Ok(read_words(&words))
+}
+
+// The counts go to standard output, and the time to standard error.
+fn print(rt: &HostRuntime, measured: Measured) -> Result<(), Fault> {
+    let milliseconds = measured.time.as_secs_f64() * 1e3;
+    println!(rt; "{} {}", measured.length, measured.total)?;
+    eprintln!(rt; "{milliseconds:.3} ms")?;
+    Ok(())
+}
+
+fn failed(rt: &HostRuntime, fault: Fault) -> ExitCode {
+    let _ = eprintln!(rt; "crew_bench: {fault}");
+    ExitCode::from(3)
+}
