@@ -3,21 +3,27 @@
 
 use bank_server::{RunFault, run_text};
 use clap::error::ErrorKind;
+use cown_workers::OpenGate;
 use fault::ProgramFault;
 use schedule_player::run_schedule;
 use std::env;
 use std::process::ExitCode;
+use std::sync::Wait;
+use std::thread::Threads;
+use std::time::Clock;
 use told::told;
 use words::{Words, read_words};
 
+pub mod command;
 pub mod fault;
+pub mod options;
 #[cfg(test)]
 mod tests;
 pub mod told;
 pub mod words;
 
 fn main(rt: HostRuntime) -> ExitCode {
-    let status = match start(&rt) {
+    let status = match start(&rt, &rt) {
         Ok(status) => status,
         Err(fault) => {
             let report = told(fault);
@@ -29,15 +35,27 @@ fn main(rt: HostRuntime) -> ExitCode {
     ExitCode::from(status)
 }
 
-// Does what the program's words say, and gives the exit status.
-fn start(rt: &HostRuntime) -> Result<u8, ProgramFault> {
+// Does what the program's words say, and gives the exit status. Threads are the second handle's.
+fn start<H: Threads + Wait + Clock + Sync>(
+    rt: &HostRuntime,
+    threads: &H,
+) -> Result<u8, ProgramFault> {
     let words: Vec<String> = match env::args(rt) {
         Ok(words) => words.collect(rt.alloc())?,
         Err(_) => return Err(ProgramFault::Run(RunFault::OutOfMemory)),
     };
     match read_words(rt.alloc(), &words) {
-        Ok(Words::Run) => {
-            run_text(rt, rt.alloc(), &mut rt.stdin(), &mut rt.stdout(), 1)?;
+        Ok(Words::Run { nodes, workers }) => {
+            let (reader, writer) = (&mut rt.stdin(), &mut rt.stdout());
+            run_text(
+                threads,
+                rt.alloc(),
+                reader,
+                writer,
+                nodes,
+                workers,
+                &OpenGate,
+            )?;
             Ok(0)
         }
         Ok(Words::Play) => {

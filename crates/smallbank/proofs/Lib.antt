@@ -1,0 +1,3 @@
+pub mod Looking
+pub mod Running
+pub mod Standing

@@ -1,0 +1,52 @@
+-- What stands for an option, from word to word.
+use Rattle.std.proofs.Common.{◌≡◌, ◌≢◌, ◌++◌, ◌∷◌, [], List, ℕ, inl, inr, refl, ap, arith, length, length-append, ◌+◌, ◌∙◌}
+use Rattle.smallbank.specs.Words.{Stands}
+
+abbrev pub Text : Type 0
+Text = List ℕ
+
+cons_head : (x y : Text) (xs ys : List Text) → x ∷ xs ≡ y ∷ ys → x ≡ y
+cons_head x y xs ys e = cc
+
+cons_tail : (x y : Text) (xs ys : List Text) → x ∷ xs ≡ y ∷ ys → xs ≡ ys
+cons_tail x y xs ys e = cc
+
+not_empty : (before rest : List Text) (x : Text) → [] ≡ before ++ (x ∷ rest) → ⊥
+not_empty [] rest x e = cc
+not_empty (b ∷ before) rest x e = cc
+
+not_longer : (option value : Text) → option ≢ option ++ (61 ∷ value)
+not_longer option value e = let same : length option ≡ length option + length (61 ∷ value) = ap length e ∙ length-append option (61 ∷ value) in
+    absurd (omega (arith, same))
+
+-- the next word's value
+pub stands-next : (option value : Text) (others : List Text) → Stands option value (option ∷ value ∷ others)
+stands-next option value others = ([], others, inl refl)
+
+-- the value in the same word
+pub stands-same : (word option value : Text) (others : List Text) → word ≡ option ++ (61 ∷ value) → Stands option value (word ∷ others)
+stands-same word option value others e = ([], others, inr (ap (λ w. w ∷ others) e))
+
+-- it stands with a word before, too
+pub stands-later : (word option value : Text) (others : List Text) → Stands option value others → Stands option value (word ∷ others)
+stands-later word option value others (before, after, inl e) = (word ∷ before, after, inl (ap (λ ws. word ∷ ws) e))
+stands-later word option value others (before, after, inr e) = (word ∷ before, after, inr (ap (λ ws. word ∷ ws) e))
+
+-- after a word that is neither it stands where it stood
+pub stands-only : (word option value : Text) (others : List Text) → word ≢ option → word ≢ option ++ (61 ∷ value) → Stands option value (word ∷ others) → Stands option value others
+stands-only word option value others other bare ([], after, inl e) = absurd (other (cons_head word option others (value ∷ after) e))
+stands-only word option value others other bare ([], after, inr e) = absurd (bare (cons_head word (option ++ (61 ∷ value)) others after e))
+stands-only word option value others other bare (b ∷ before, after, inl e) = (before, after, inl (cons_tail word b others (before ++ (option ∷ value ∷ after)) e))
+stands-only word option value others other bare (b ∷ before, after, inr e) = (before, after, inr (cons_tail word b others (before ++ ((option ++ (61 ∷ value)) ∷ after)) e))
+
+-- nothing stands in no words
+pub stands-nowhere : (option value : Text) → ¬ (Stands option value [])
+stands-nowhere option value (before, after, inl e) = not_empty before (value ∷ after) option e
+stands-nowhere option value (before, after, inr e) = not_empty before after (option ++ (61 ∷ value)) e
+
+-- nor where the option is the last word
+pub stands-last : (option value : Text) → ¬ (Stands option value (option ∷ []))
+stands-last option value ([], after, inl e) = let tails : ◌≡◌ {A = List Text} [] (value ∷ after) = cons_tail option option [] (value ∷ after) e in not_empty [] after value tails
+stands-last option value ([], after, inr e) = not_longer option value (cons_head option (option ++ (61 ∷ value)) [] after e)
+stands-last option value (b ∷ before, after, inl e) = not_empty before (value ∷ after) option (cons_tail option b [] (before ++ (option ∷ value ∷ after)) e)
+stands-last option value (b ∷ before, after, inr e) = not_empty before after (option ++ (61 ∷ value)) (cons_tail option b [] (before ++ ((option ++ (61 ∷ value)) ∷ after)) e)

@@ -1,0 +1,13 @@
+use Rattle.std.proofs.Common.{List, ℕ, length, map, string_bytes}
+use Rattle.smallbank.specs.Words.{Stands}
+use Rattle.smallbank.proofs.options.value.Given as goal
+
+-- what stands for the option stands in the words that are left
+abbrev pub invariant-loop-word : goal.invariant-loop-word
+invariant-loop-word l = record {
+  stands : (text : List ℕ) → Stands l.option text (map string_bytes l.rest) → Stands l.option text (map string_bytes l.words);
+  left : (text : List ℕ) → Stands l.option text (map string_bytes l.words) → Stands l.option text (map string_bytes l.rest);
+}
+
+abbrev pub decreases-loop-word : goal.decreases-loop-word
+decreases-loop-word l = length l.rest

@@ -1,0 +1,44 @@
+//! What stands for an option among the program's words.
+ghost use Rattle.std.specs.Prelude.{◌≡◌, ◌≢◌, ◌++◌, ◌∷◌, IfSome, MatchOption, map, string_bytes};
+ghost use Rattle.smallbank.specs.Words.{Counts, Stands};
+
+/// The number that stands for an option, or the standard one; `None` for what is no number.
+pub fn count(words: &[String], option: &str, standard: usize) -> Option<usize>
+    ensures { IfSome result
+        (λ number. Counts option.now standard number (map string_bytes words.now)) }
+{
+    match value(words, option) {
+        Some(text) => text.parse::<usize>().ok(),
+        None => Some(standard),
+    }
+}
+
+// The first value that stands for an option.
+fn value<'a>(words: &'a [String], option: &str) -> Option<&'a str>
+    ensures { MatchOption result
+        ((text : _) → ¬ (Stands option.now text (map string_bytes words.entry.now)))
+        (λ text. Stands option.now text.now (map string_bytes words.entry.now)) }
+{
+    let mut rest = words;
+    while let Some((word, others)) = rest.split_first() {
+        let word = word.as_str();
+        if word == option {
+            let (next, _) = others.split_first()?;
+            return Some(next.as_str());
+        }
+        if let Some(value) = after_equals(word, option) {
+            return Some(value);
+        }
+        rest = others;
+    }
+    None
+}
+
+// What follows the option and `=`.
+fn after_equals<'a>(word: &'a str, option: &str) -> Option<&'a str>
+    ensures { MatchOption result
+        ((text : _) → word.entry.now ≢ option.now ++ (61 ∷ text))
+        (λ text. word.entry.now ≡ option.now ++ (61 ∷ text.now)) }
+{
+    word.strip_prefix(option)?.strip_prefix('=')
+}
