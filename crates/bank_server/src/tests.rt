@@ -70,8 +70,8 @@ fn expect_output_by(
     nodes: usize,
     workers: usize,
 )
-    requires { (1 ≤ nodes) × (nodes ≤ 8) }
-    requires { workers ≤ 16 }
+    requires nodes { (1 ≤ nodes) × (nodes ≤ 8) }
+    requires workers { workers ≤ 16 }
 {
     let mut reader = input;
     let mut written: Vec<u8> = Vec::new(alloc);
