@@ -8,7 +8,7 @@ use clap::Error;
 use clap::error::ErrorKind;
 use std::alloc::Global;
 
-// What is told of a number that clap takes and Rust doesn't, as `-0`.
+// What is told of words that clap takes and `named` doesn't. None are known.
 const UNREAD: &str = "a run takes 1 to 8 nodes and 0 to 16 workers, as plain numbers";
 
 /// What the program is to do.

@@ -84,7 +84,7 @@ fn refused_words(rt: HostRuntime) -> Result<(), Fail> {
         "17 is not in 0..=16",
     )?;
     expect_told(&rt, alloc, &["run", "--nodes", "two"], 2, "<1..8>")?;
-    expect_told(&rt, alloc, &["run", "--workers=-0"], 2, "0 to 16 workers")?;
+    expect_told(&rt, alloc, &["run", "--workers=-0"], 2, "<0..16>")?;
     expect_told(&rt, alloc, &["run", "--nodes"], 2, "<1..8>")?;
     expect_told(&rt, alloc, &["run", "--nodes=2", "--nodes=3"], 2, "--nodes")?;
     expect_told(&rt, alloc, &["play", "again"], 2, "again")?;
