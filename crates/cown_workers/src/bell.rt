@@ -8,9 +8,10 @@ use std::time::{Clock, Duration};
 // How many milliseconds a worker rests at most. A ring that comes just before it lies down is missed for no longer.
 const LONGEST: u64 = 2;
 
-// A bell that an owner rings when it lays something out while a worker rests.
+// A bell that an owner rings when it lays something out for which too few workers are up.
 #[derive(Drop)]
 pub(crate) struct Bell {
+    workers: usize,
     resting: AtomicUsize,
     rope: Sender<()>,
     ear: Receiver<()>,
@@ -21,15 +22,17 @@ impl Bell {
     pub(crate) fn new(alloc: Global, workers: usize) -> Result<Bell, AllocError> {
         let (rope, ear) = bounded(alloc, workers)?;
         Ok(Bell {
+            workers,
             resting: AtomicUsize::new(0),
             rope,
             ear,
         })
     }
 
-    // Wakes a worker, if one rests.
-    pub(crate) fn ring<R: Wait>(&self, rt: &R) {
-        if self.resting.load(Ordering::SeqCst) > 0 {
+    // Wakes a worker, if one rests and fewer are up than there are jobs with the crew.
+    pub(crate) fn ring<R: Wait>(&self, rt: &R, jobs: usize) {
+        let resting = self.resting.load(Ordering::SeqCst);
+        if resting > 0 && self.workers.saturating_sub(resting) < jobs {
             // Where it can't be rung once more, each worker has a ring to hear yet.
             let _ = self.rope.try_send(rt, ());
         }

@@ -6,11 +6,14 @@ use crate::bell::Bell;
 use crate::crew::Crew;
 use cown_bench::{Bench, OwnerPass, Work};
 use cown_board::{Done, Job};
-use crossbeam_channel::Receiver;
+use crossbeam_channel::{Receiver, TryRecvError};
 use sb_calls::Op;
 use std::marker::Model;
 use std::sync::Wait;
 use std::thread;
+
+// How often the owner looks for what is done before it waits: to be woken takes longer than most jobs.
+const LOOKS: u32 = 64;
 
 /// A crew in threads, as the owner of a board has it. What is given lies on a bench until a worker picks it, and comes
 /// back where the bench is full; what is carried out comes in through a channel. `next` waits until something
@@ -22,6 +25,8 @@ pub struct BenchCrew<'a, R: Wait> {
     bell: &'a Bell,
     pass: OwnerPass,
     inbox: Receiver<Done<Op>>,
+    // How many jobs it has.
+    jobs: usize,
 }
 
 impl<'a, R: Wait> Model for BenchCrew<'a, R> {
@@ -52,6 +57,7 @@ impl<'a, R: Wait> BenchCrew<'a, R> {
             bell,
             pass,
             inbox,
+            jobs: 0,
         }
     }
 
@@ -73,6 +79,18 @@ impl<'a, R: Wait> BenchCrew<'a, R> {
         unreachable!()
     }
 
+    // What a worker hands over next, or `None` where all are gone.
+    fn take_in(&self) -> Option<Done<Op>> {
+        for _ in 0..LOOKS {
+            match self.inbox.try_recv(self.rt) {
+                Ok(done) => return Some(done),
+                Err(TryRecvError::Disconnected) => return None,
+                Err(TryRecvError::Empty) => thread::yield_now(),
+            }
+        }
+        self.inbox.recv(self.rt).ok()
+    }
+
     // Where the bench is full, what is carried out is taken in, so that no worker waits for room in the channel.
     fn lay_out_a_stop(&mut self) {
         for _ in self.rt.forever() {
@@ -81,7 +99,7 @@ impl<'a, R: Wait> BenchCrew<'a, R> {
                 .offer(self.rt, &mut self.pass, Work::Stop)
                 .is_ok()
             {
-                self.bell.ring(self.rt);
+                self.bell.ring(self.rt, usize::MAX);
                 return;
             }
             let _ = self.inbox.try_recv(self.rt);
@@ -103,7 +121,8 @@ impl<'a, R: Wait> Crew for BenchCrew<'a, R> {
     fn give(&mut self, job: Job<Op>) -> Result<(), Job<Op>> {
         match self.bench.offer(self.rt, &mut self.pass, Work::Run(job)) {
             Ok(()) => {
-                self.bell.ring(self.rt);
+                self.jobs = self.jobs.saturating_add(1);
+                self.bell.ring(self.rt, self.jobs);
                 Ok(())
             }
             Err(Work::Run(back)) => Err(back),
@@ -112,6 +131,8 @@ impl<'a, R: Wait> Crew for BenchCrew<'a, R> {
     }
 
     fn next(&mut self) -> Option<Done<Op>> {
-        self.inbox.recv(self.rt).ok()
+        let done = self.take_in()?;
+        self.jobs = self.jobs.saturating_sub(1);
+        Some(done)
     }
 }
