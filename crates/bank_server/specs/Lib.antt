@@ -3,6 +3,7 @@ pub mod Asking
 pub mod Asks
 pub mod Execution
 pub mod Faults
+pub mod Following
 pub mod Input
 pub mod LogNumber
 pub mod Output

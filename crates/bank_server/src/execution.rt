@@ -18,7 +18,7 @@ use sb_replica::Replica;
 use sb_replica_log::Offered;
 
 // How many entries are submitted between two words to the feed.
-const PART: usize = 1024;
+pub(crate) const PART: usize = 1024;
 
 /// Carries out the ops of a log over a replica that has nothing yet, each as soon as its cowns are free. The feed hears
 /// of each part of the log before it is submitted, and of the log's end before all is carried out.

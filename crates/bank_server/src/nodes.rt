@@ -95,10 +95,12 @@ fn open_followers(
     for id in 1..nodes {
         let (end, inbox) = bounded(alloc, MESSAGES)?;
         let directory = bank.directory.copy()?;
-        let replica = open_node(alloc, id as u8, directory, bank.columns.copy()?)?;
+        let mut replica = open_node(alloc, id as u8, directory, bank.columns.copy()?)?;
+        replica.reserve(bank.log.length() as usize)?;
         let stream = Stream::new(alloc);
         ends.push(end)?;
         followers.push(Follower {
+            alloc,
             replica,
             stream,
             inbox,

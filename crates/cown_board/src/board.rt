@@ -261,6 +261,7 @@ impl<B: Behaviour> Board<B> {
 
     /// The reply to a number: the one that was handed in for a number before the board's, and else that of a
     /// finished behaviour.
+    #[inline]
     pub fn reply(&self, number: u64) -> Option<Reply>
         ensures value { result ≡ reply_in self.now number }
         // It is that of the log run one by one.

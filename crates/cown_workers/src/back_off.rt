@@ -3,10 +3,16 @@ ghost use Rattle.std.specs.Prelude.{◌≤◌};
 
 use crate::bell::Bell;
 use std::sync::Wait;
-use std::thread;
 use std::time::{Clock, Duration};
+use std::{hint, thread};
 
-// How often it only lets others run, before it sleeps.
+// How often it only holds still at first, and for how many turns of a processor: meanwhile the other side runs
+// ahead, and the two don't take turns at the same cache lines.
+const HOLDS: u32 = 8;
+
+const TURNS: u32 = 32;
+
+// How often it then lets others run, before it sleeps.
 const YIELDS: u32 = 64;
 
 // How many microseconds it sleeps at first.
@@ -15,10 +21,18 @@ const SHORTEST: u64 = 1;
 // How many it sleeps at most.
 const LONGEST: u64 = 100;
 
-// Waits longer each time: at first it lets others run, then it sleeps for moments that grow, and then it rests until
-// the owner's bell is rung.
+// Holds still for a moment.
+pub(crate) fn hold_still() {
+    for _ in 0..TURNS {
+        hint::spin_loop();
+    }
+}
+
+// Waits longer each time: at first it holds still, then it lets others run, then it sleeps for moments that grow, and
+// then it rests until the owner's bell is rung.
 #[derive(Drop)]
 pub(crate) struct BackOff {
+    holds: u32,
     yields: u32,
     micros: u64,
     // At most a tenth of a millisecond.
@@ -28,13 +42,17 @@ pub(crate) struct BackOff {
 impl BackOff {
     pub(crate) fn new() -> BackOff {
         BackOff {
+            holds: 0,
             yields: 0,
             micros: SHORTEST,
         }
     }
 
     pub(crate) fn wait<R: Wait + Clock>(&mut self, rt: &R, bell: &Bell) {
-        if self.yields < YIELDS {
+        if self.holds < HOLDS {
+            self.holds += 1;
+            hold_still();
+        } else if self.yields < YIELDS {
             self.yields += 1;
             thread::yield_now();
         } else if self.micros < LONGEST {

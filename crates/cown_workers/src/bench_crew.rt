@@ -4,16 +4,13 @@ ghost use Rattle.cown_workers.specs.BenchCrews.{LaysOut};
 
 use crate::bell::Bell;
 use crate::crew::Crew;
+use crate::inbox::Inbox;
 use cown_bench::{Bench, OwnerPass, Work};
 use cown_board::{Done, Job};
-use crossbeam_channel::{Receiver, TryRecvError};
 use sb_calls::Op;
 use std::marker::Model;
 use std::sync::Wait;
 use std::thread;
-
-// How often the owner looks for what is done before it waits: to be woken takes longer than most jobs.
-const LOOKS: u32 = 64;
 
 /// A crew in threads, as the owner of a board has it. What is given lies on a bench until a worker picks it, and comes
 /// back where the bench is full; what is carried out comes in through a channel. `next` waits until something
@@ -24,7 +21,7 @@ pub struct BenchCrew<'a, R: Wait> {
     bench: &'a Bench,
     bell: &'a Bell,
     pass: OwnerPass,
-    inbox: Receiver<Done<Op>>,
+    inbox: Inbox,
     // How many jobs it has.
     jobs: usize,
 }
@@ -46,7 +43,7 @@ impl<'a, R: Wait> BenchCrew<'a, R> {
         bench: &'a Bench,
         bell: &'a Bell,
         pass: OwnerPass,
-        inbox: Receiver<Done<Op>>,
+        inbox: Inbox,
     ) -> BenchCrew<'a, R>
         requires { pass.bench ≡ bench.now }
         ensures { result ≡ pass.offered }
@@ -77,18 +74,6 @@ impl<'a, R: Wait> BenchCrew<'a, R> {
             }
         }
         unreachable!()
-    }
-
-    // What a worker hands over next, or `None` where all are gone.
-    fn take_in(&self) -> Option<Done<Op>> {
-        for _ in 0..LOOKS {
-            match self.inbox.try_recv(self.rt) {
-                Ok(done) => return Some(done),
-                Err(TryRecvError::Disconnected) => return None,
-                Err(TryRecvError::Empty) => thread::yield_now(),
-            }
-        }
-        self.inbox.recv(self.rt).ok()
     }
 
     // Where the bench is full, what is carried out is taken in, so that no worker waits for room in the channel.
@@ -131,7 +116,7 @@ impl<'a, R: Wait> Crew for BenchCrew<'a, R> {
     }
 
     fn next(&mut self) -> Option<Done<Op>> {
-        let done = self.take_in()?;
+        let done = self.inbox.next(self.rt)?;
         self.jobs = self.jobs.saturating_sub(1);
         Some(done)
     }

@@ -6,11 +6,9 @@ use crate::bell::Bell;
 use crate::bench_crew::BenchCrew;
 use crate::crew_fault::CrewFault;
 use crate::gate::Gate;
+use crate::inbox::{Outbox, open_inbox};
 use crate::worker::Worker;
-use cown_bench::{BENCH_CAPACITY, Bench, WorkerPass};
-use cown_board::Done;
-use crossbeam_channel::{Sender, bounded};
-use sb_calls::Op;
+use cown_bench::{Bench, WorkerPass};
 use std::alloc::{AllocError, Global};
 use std::sync::Wait;
 use std::thread;
@@ -40,7 +38,7 @@ where
         FnOnceReturnsAtMut F.FnOnce f [] answer after) }
 {
     let (bench, pass, passes) = Bench::new(alloc, workers)?;
-    let (outbox, inbox) = bounded(alloc, BENCH_CAPACITY)?;
+    let (outbox, inbox) = open_inbox(alloc)?;
     let bell = Bell::new(alloc, workers)?;
     let mut crew = BenchCrew::new(rt, &bench, &bell, pass, inbox);
     let workers = workers_at(rt, alloc, &bench, passes, gate, &bell, outbox)?;
@@ -73,13 +71,13 @@ fn workers_at<'a, R: Wait + Clock, G: Gate>(
     passes: Vec<WorkerPass>,
     gate: &'a G,
     bell: &'a Bell,
-    outbox: Sender<Done<Op>>,
+    mut outbox: Outbox,
 ) -> Result<Vec<Worker<'a, R, G>>, AllocError>
     requires { All (λ pass. pass.bench ≡ bench.now) passes.items }
 {
     let mut workers = Vec::with_capacity(alloc, passes.len())?;
     for pass in passes {
-        let outbox = outbox.clone()?;
+        let outbox = outbox.another()?;
         workers.push(Worker {
             rt,
             bench,

@@ -9,6 +9,7 @@ mod crew_fault;
 mod draining;
 mod gate;
 mod in_threads;
+mod inbox;
 mod inline_crew;
 #[cfg(test)]
 mod tests;

@@ -4,9 +4,9 @@ ghost use Rattle.std.specs.Prelude.{◌≡◌};
 use crate::back_off::BackOff;
 use crate::bell::Bell;
 use crate::gate::Gate;
+use crate::inbox::Outbox;
 use cown_bench::{Bench, Work, WorkerPass};
 use cown_board::{Done, Job};
-use crossbeam_channel::Sender;
 use sb_calls::Op;
 use std::sync::Wait;
 use std::thread;
@@ -20,7 +20,7 @@ pub(crate) struct Worker<'a, R: Wait + Clock, G: Gate> {
     pub(crate) pass: WorkerPass,
     pub(crate) gate: &'a G,
     pub(crate) bell: &'a Bell,
-    pub(crate) outbox: Sender<Done<Op>>,
+    pub(crate) outbox: Outbox,
     pub(crate) ghost of_the_bench: { pass.bench ≡ bench.now },
 }
 
@@ -33,13 +33,13 @@ impl<'a, R: Wait + Clock, G: Gate> Worker<'a, R, G> {
             mut pass,
             gate,
             bell,
-            outbox,
+            mut outbox,
         } = self;
         let mut back_off = BackOff::new();
         for _ in rt.forever() {
             match bench.pick(rt, &mut pass) {
                 Some(Work::Run(job)) => {
-                    carry_out(rt, gate, &outbox, job);
+                    carry_out(rt, gate, &mut outbox, job);
                     back_off = BackOff::new();
                 }
                 Some(Work::Stop) => return,
@@ -51,7 +51,7 @@ impl<'a, R: Wait + Clock, G: Gate> Worker<'a, R, G> {
 }
 
 // Carries a job out between the two calls of the gate, and hands it over.
-fn carry_out<R: Wait, G: Gate>(rt: &R, gate: &G, outbox: &Sender<Done<Op>>, job: Job<Op>) {
+fn carry_out<R: Wait, G: Gate>(rt: &R, gate: &G, outbox: &mut Outbox, job: Job<Op>) {
     let number = job.number();
     gate.before(number);
     let done = job.run();
@@ -60,12 +60,12 @@ fn carry_out<R: Wait, G: Gate>(rt: &R, gate: &G, outbox: &Sender<Done<Op>>, job:
 }
 
 // Sends what is done. While it is refused it is tried again.
-fn hand_over<R: Wait>(rt: &R, outbox: &Sender<Done<Op>>, done: Done<Op>) {
+fn hand_over<R: Wait>(rt: &R, outbox: &mut Outbox, done: Done<Op>) {
     let mut unsent = done;
     for _ in rt.forever() {
         match outbox.send(rt, unsent) {
             Ok(()) => return,
-            Err(refused) => unsent = refused.into_inner(),
+            Err(refused) => unsent = refused,
         }
         thread::yield_now();
     }

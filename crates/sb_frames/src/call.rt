@@ -17,6 +17,7 @@ pub(crate) const AMALGAMATE: u8 = 4;
 
 pub(crate) const WRITE_CHECK: u8 = 5;
 
+#[inline]
 #[tactic(auto, unfolding(crate::specs::Calls::call_at))]
 pub(crate) fn read_call(fields: &mut Fields) -> Result<Call, FrameFault>
     ensures { TakesField result fields.new (call_at fields.old) }

@@ -37,6 +37,7 @@ fn read_ask(fields: &mut Fields) -> Result<Frame, FrameFault>
     })
 }
 
+#[inline]
 #[tactic(auto, unfolding(crate::specs::Decoding::entry_at))]
 fn read_entry(fields: &mut Fields) -> Result<Frame, FrameFault>
     ensures { TakesField result fields.new (spec.entry_at fields.old) }
@@ -78,7 +79,9 @@ fn read_outcome_frame(fields: &mut Fields) -> Result<Frame, FrameFault>
     })
 }
 
-// The frame, by its tag.
+// The frame, by its tag. This and what it leads to are inlined: a frame handed from one to the next would be copied
+// each time.
+#[inline]
 #[tactic(auto, unfolding(crate::specs::Decoding::tagged_at))]
 fn read_tagged(fields: &mut Fields) -> Result<Frame, FrameFault>
     ensures { TakesField result fields.new (spec.tagged_at fields.old) }
@@ -95,6 +98,7 @@ fn read_tagged(fields: &mut Fields) -> Result<Frame, FrameFault>
 }
 
 // The frame that a body is, with nothing after its fields.
+#[inline]
 #[tactic(auto, unfolding(crate::specs::Decoding::frame_of))]
 fn frame_of(body: &[u8]) -> Result<Frame, FrameFault>
     ensures { result ≡ spec.frame_of body.now }
@@ -117,6 +121,7 @@ fn stated_length(bytes: &[u8]) -> usize
 }
 
 // The frame whose body has this length, behind the two bytes that state it.
+#[inline]
 #[tactic(auto, unfolding(crate::specs::Decoding::with_length))]
 fn with_length(size: usize, bytes: &[u8]) -> Result<(Frame, usize), FrameFault>
     requires { LENGTH_BYTES ≤ length bytes.now }
@@ -134,6 +139,7 @@ fn with_length(size: usize, bytes: &[u8]) -> Result<(Frame, usize), FrameFault>
 }
 
 // The frame, by the order of the faults.
+#[inline]
 #[tactic(auto, unfolding(crate::specs::Decoding::decoded))]
 fn first_frame(bytes: &[u8]) -> Result<(Frame, usize), FrameFault>
     ensures { result ≡ decoded bytes.now }
@@ -149,6 +155,7 @@ fn first_frame(bytes: &[u8]) -> Result<(Frame, usize), FrameFault>
 ///
 /// Fails with the first fault of the bytes from the left. With [`FrameFault::Short`] the bytes may be the
 /// beginning of a frame; with any other fault they are no frame's, whatever bytes follow.
+#[inline]
 pub fn decode(bytes: &[u8]) -> Result<(Frame, usize), FrameFault>
     // What is decoded is spelled so.
     ensures spelled { IfOk result (λ found.

@@ -38,6 +38,7 @@ impl<'a> Fields<'a> {
         self.bytes.is_empty()
     }
 
+    #[inline]
     pub(crate) fn byte(&mut self) -> Result<u8, FrameFault>
         ensures { TakesField result self.new (spec.byte_at self.old) }
     {
@@ -51,6 +52,7 @@ impl<'a> Fields<'a> {
     }
 
     // This many bytes.
+    #[inline]
     #[tactic(auto, unfolding(crate::specs::Reading::bytes_at))]
     fn bytes(&mut self, count: usize) -> Result<&'a [u8], FrameFault>
         ensures read { TakesBytes result self.new (spec.bytes_at count self.old) }
@@ -72,6 +74,7 @@ impl<'a> Fields<'a> {
         Ok(u32::from_be_bytes([cells[0], cells[1], cells[2], cells[3]]))
     }
 
+    #[inline]
     #[tactic(auto, unfolding(crate::specs::Reading::number_at))]
     pub(crate) fn u64(&mut self) -> Result<u64, FrameFault>
         ensures { TakesField result self.new (spec.number_at w64 self.old) }
@@ -82,6 +85,7 @@ impl<'a> Fields<'a> {
         ]))
     }
 
+    #[inline]
     #[tactic(auto, unfolding(crate::specs::Reading::signed_at))]
     pub(crate) fn i64(&mut self) -> Result<i64, FrameFault>
         ensures { TakesField result self.new (spec.signed_at self.old) }
@@ -89,6 +93,7 @@ impl<'a> Fields<'a> {
         Ok(self.u64()?.cast_signed())
     }
 
+    #[inline]
     #[tactic(auto, unfolding(crate::specs::Reading::amount_at))]
     pub(crate) fn amount(&mut self) -> Result<Cents, FrameFault>
         ensures { TakesField result self.new (spec.amount_at self.old) }
@@ -96,6 +101,7 @@ impl<'a> Fields<'a> {
         Cents::new(self.i64()?).ok_or(FrameFault::BadAmount)
     }
 
+    #[inline]
     #[tactic(auto, unfolding(crate::specs::Reading::name_at))]
     pub(crate) fn name(&mut self) -> Result<Name, FrameFault>
         ensures { TakesField result self.new (spec.name_at self.old) }

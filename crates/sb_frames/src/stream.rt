@@ -61,6 +61,7 @@ impl Stream {
     ///
     /// Fails with [`StreamFault::Bad`] where the unread bytes begin with no frame, however they go on.
     /// From then on the stream has failed: it fails with [`StreamFault::Failed`], and nothing changes.
+    #[inline]
     pub fn next(&mut self) -> Result<Option<Frame>, StreamFault>
         ensures state { (result, self.new) ≡ next_of self.old }
         ensures step { Step self.old (Next result) self.new }

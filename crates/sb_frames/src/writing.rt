@@ -33,6 +33,7 @@ const REPLY_FIELD: usize = 1 + AMOUNT_FIELD;
 const OUTCOME_FIELD: usize = 1 + REPLY_FIELD;
 
 /// Puts bytes last.
+#[inline]
 pub(crate) fn put(body: &mut Body, bytes: &[u8])
     requires { length body.old.items + length bytes.now ≤ MAX_BODY }
     ensures { body.new.items ≡ body.old.items ++ bytes.now }
@@ -41,6 +42,7 @@ pub(crate) fn put(body: &mut Body, bytes: &[u8])
 }
 
 // At most `NAME_FIELD` bytes.
+#[inline]
 fn put_name(body: &mut Body, name: &Name)
     requires { length body.old.items + NAME_FIELD ≤ MAX_BODY }
     ensures spelled { body.new.items ≡ body.old.items ++ name_field name.now }
@@ -52,6 +54,7 @@ fn put_name(body: &mut Body, name: &Name)
     put(body, text);
 }
 
+#[inline]
 #[tactic(auto, unfolding(sb_calls::specs::Replies::number_field))]
 fn put_cents(body: &mut Body, cents: i64)
     requires { length body.old.items + AMOUNT_FIELD ≤ MAX_BODY }
@@ -61,6 +64,7 @@ fn put_cents(body: &mut Body, cents: i64)
 }
 
 // A call of a kind that takes a name and an amount.
+#[inline]
 fn put_name_and_amount(body: &mut Body, kind: u8, name: &Name, amount: Cents)
     requires { length body.old.items + NAME_AND_AMOUNT ≤ MAX_BODY }
     ensures spelled { body.new.items
@@ -73,6 +77,7 @@ fn put_name_and_amount(body: &mut Body, kind: u8, name: &Name, amount: Cents)
 }
 
 /// At most `CALL_FIELD` bytes.
+#[inline]
 pub(crate) fn put_call(body: &mut Body, call: &Call)
     requires { length body.old.items + CALL_FIELD ≤ MAX_BODY }
     ensures spelled { body.new.items ≡ body.old.items ++ call_field call.now }

@@ -124,6 +124,7 @@ impl<S: CheckpointStore> Replica<S> {
 
     /// The reply to a number: one of the checkpoint that it was restarted from, or that of a finished entry. It is
     /// the reply of the log run one by one from there on.
+    #[inline]
     pub fn reply(&self, number: u64) -> Option<Reply>
         ensures value { result ≡ reply_in self.now.board number }
         ensures by_log { IfSome result (λ reply. length self.now.board.earlier < number →

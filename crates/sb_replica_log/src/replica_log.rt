@@ -43,6 +43,7 @@ impl ReplicaLog {
     /// Offers the entry with this number. It is taken where it is the next one, and else nothing changes.
     ///
     /// Fails where memory is refused for an entry that would be taken; nothing changes then.
+    #[inline]
     pub fn offer_entry(&mut self, number: u64, op: Op) -> Result<Offered, AllocError>
         requires { IsOpWithin (length self.old.opening.savings) op }
         ensures answer { IfOk result (λ answer. answer ≡ offered self.old number) }
@@ -80,6 +81,7 @@ impl ReplicaLog {
     }
 
     /// The number of the last entry.
+    #[inline]
     pub fn length(&self) -> u64
         ensures value { result ≡ length_of self.now }
         ensures few { length_of self.now ≤ LOG_CALLS }
@@ -89,6 +91,7 @@ impl ReplicaLog {
     }
 
     /// The reply to a number, as [`Board::reply`].
+    #[inline]
     pub fn reply(&self, number: u64) -> Option<Reply>
         ensures value { result ≡ reply_in self.now number }
         ensures by_log { IfSome result (λ reply. length self.now.earlier < number →

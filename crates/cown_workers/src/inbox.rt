@@ -1,0 +1,101 @@
+//! How what is carried out comes back to the owner.
+ghost use Rattle.std.specs.Prelude.{◌≡◌, IfErr};
+ghost use Rattle.crossbeam_channel.specs.Claims.{IsSeatAt};
+ghost use Rattle.crossbeam_channel.specs.Ends.{receives_on, sends_on};
+
+use crate::back_off::hold_still;
+use cown_bench::BENCH_CAPACITY;
+use cown_board::Done;
+use crossbeam_channel::protocol::{Free, Split};
+use crossbeam_channel::{Pass, RuledReceiver, RuledSender, TryRecvError, bounded_with};
+use sb_calls::Op;
+use std::alloc::{AllocError, Global};
+use std::sync::Wait;
+use std::thread;
+
+// How often the owner looks for what is done before it waits: to be woken takes longer than most jobs. At first it
+// holds still between two looks, so that the workers get ahead, and then it lets others run.
+const HOLDS: u32 = 16;
+
+const LOOKS: u32 = 64;
+
+// A pass of the channel, whose rule asks nothing and tells nothing: the channel under a rule is the one without a lock.
+type FreePass = Pass<Done<Op>, ()>;
+
+// One pass more is made of another. There is nothing to know.
+struct OneMore;
+
+impl Split<()> for OneMore {
+    ghost left = { λ _. tt };
+
+    ghost right = { λ _. tt };
+}
+
+// A worker's end.
+#[derive(Drop)]
+pub(crate) struct Outbox {
+    sender: RuledSender<Done<Op>, (), Free>,
+    pass: FreePass,
+    ghost tied: { IsSeatAt (sends_on sender) pass },
+}
+
+// The owner's end.
+#[derive(Drop)]
+pub(crate) struct Inbox {
+    receiver: RuledReceiver<Done<Op>, (), Free>,
+    pass: FreePass,
+    ghost tied: { IsSeatAt (receives_on receiver) pass },
+}
+
+// Both ends of a channel that holds as much as a bench does.
+pub(crate) fn open_inbox(alloc: Global) -> Result<(Outbox, Inbox), AllocError> {
+    let (sender, receiver, mut pass) = bounded_with::<Done<Op>, (), Free, Global>(
+        alloc,
+        BENCH_CAPACITY,
+    )?;
+    let other = sender.another::<OneMore>(&mut pass);
+    let outbox = Outbox {
+        sender,
+        pass: other,
+    };
+    Ok((outbox, Inbox { receiver, pass }))
+}
+
+impl Outbox {
+    // One end more.
+    pub(crate) fn another(&mut self) -> Result<Outbox, AllocError> {
+        let sender = self.sender.try_clone()?;
+        let pass = self.sender.another::<OneMore>(&mut self.pass);
+        Ok(Outbox { sender, pass })
+    }
+
+    // Hands over what is done. It comes back where the owner is gone.
+    pub(crate) fn send<R: Wait>(&mut self, rt: &R, done: Done<Op>) -> Result<(), Done<Op>>
+        ensures { IfErr result (λ back. back ≡ done) }
+    {
+        match self.sender.send_as::<Free, R>(rt, &mut self.pass, done) {
+            Ok(()) => Ok(()),
+            Err(refused) => Err(refused.into_inner()),
+        }
+    }
+}
+
+impl Inbox {
+    // What comes next, if something is there.
+    pub(crate) fn try_recv<R: Wait>(&mut self, rt: &R) -> Result<Done<Op>, TryRecvError> {
+        self.receiver.try_recv_as::<Free, R>(rt, &mut self.pass)
+    }
+
+    // What a worker hands over next, or `None` where all are gone.
+    pub(crate) fn next<R: Wait>(&mut self, rt: &R) -> Option<Done<Op>> {
+        for look in 0..LOOKS {
+            match self.try_recv(rt) {
+                Ok(done) => return Some(done),
+                Err(TryRecvError::Disconnected) => return None,
+                Err(TryRecvError::Empty) if look < HOLDS => hold_still(),
+                Err(TryRecvError::Empty) => thread::yield_now(),
+            }
+        }
+        self.receiver.recv_as::<Free, R>(rt, &mut self.pass).ok()
+    }
+}
