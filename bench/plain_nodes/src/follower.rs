@@ -1,7 +1,7 @@
 //! Nodes in threads of their own, which are fed with frames.
 
 use crate::crew::{CrewGone, InPlace};
-use crate::frames::{BadFrame, Frame, push_frame, read_frame};
+use crate::frames::{Frame, FrameFault, push_frame, read_frame};
 use crate::node::Node;
 use crate::shared::bank::Bank;
 use crate::shared::input::Call;
@@ -23,8 +23,8 @@ pub struct Strayed(pub usize);
 // Why a follower stopped.
 struct Stopped;
 
-impl From<BadFrame> for Stopped {
-    fn from(_: BadFrame) -> Self {
+impl From<FrameFault> for Stopped {
+    fn from(_: FrameFault) -> Self {
         Stopped
     }
 }
@@ -139,8 +139,8 @@ fn hear_all(node: &mut Node, message: &[u8]) -> Result<(), Stopped> {
             Frame::Entry { number, call } if number == node.board.length() + 1 => {
                 node.hear(&call, &mut InPlace)?;
             }
-            Frame::Entry { .. } => return Err(Stopped),
             Frame::Flush => node.settle(&mut InPlace)?,
+            _ => return Err(Stopped),
         }
         rest = behind;
     }

@@ -42,7 +42,7 @@ pub struct LineFault {
 }
 
 /// What is asked for: names, and an amount where the call has one.
-#[derive(Clone, Copy, PartialEq, Eq)]
+#[derive(Clone, Copy, Debug, PartialEq, Eq)]
 pub enum Call<'a> {
     Balance(&'a [u8]),
     Deposit(&'a [u8], i64),

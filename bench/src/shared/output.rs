@@ -1,6 +1,6 @@
 //! Lines of an output.
 
-#[derive(Clone, Copy, PartialEq, Eq)]
+#[derive(Clone, Copy, Debug, PartialEq, Eq)]
 pub enum Reply {
     Shown(i64),
     Done,
