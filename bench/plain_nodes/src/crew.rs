@@ -63,8 +63,8 @@ pub struct Bench {
     queue: ArrayQueue<Work>,
 }
 
-impl Bench {
-    pub fn new() -> Self {
+impl Default for Bench {
+    fn default() -> Self {
         Bench {
             queue: ArrayQueue::new(CAPACITY),
         }

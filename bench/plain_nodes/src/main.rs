@@ -1,33 +1,15 @@
-//! What `smallbank run --nodes N --workers W` does, in plain Rust: nothing proved, std and crossbeam, written
-//! for speed.
+//! What `smallbank run --nodes N --workers W` does, in plain Rust.
 //!
 //! `plain_nodes NODES WORKERS < INPUT`. Node 0 is this thread: it hands jobs to worker threads over a bounded
 //! queue and takes back what they did over a channel, or carries them out itself where there are none. The
 //! other nodes are threads, each with a bank of its own, fed with frames. At the end each must agree with
 //! node 0.
 
-mod board;
-mod crew;
-mod follower;
-mod frames;
-mod log;
-mod node;
-mod op;
-mod running;
-#[path = "../../src/shared/mod.rs"]
-mod shared;
-
-use running::{Fault, output_of};
+use plain_nodes::Size;
+use plain_nodes::running::{Fault, output_of};
 use std::env;
 use std::io::{self, Read, Write};
 use std::process::ExitCode;
-
-/// How many nodes and workers there are.
-#[derive(Clone, Copy)]
-struct Size {
-    nodes: usize,
-    workers: usize,
-}
 
 fn size() -> Option<Size> {
     let mut words = env::args().skip(1);

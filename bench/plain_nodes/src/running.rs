@@ -73,7 +73,7 @@ pub fn output_of(input: &[u8], size: Size) -> Result<Vec<u8>, Fault> {
     let log = Log::read(lines)?;
     let mut node = Node::open(&bank);
     node.board.reserve(log.calls.len());
-    let bench = Bench::new();
+    let bench = Bench::default();
     thread::scope(|scope| -> Result<(), Fault> {
         let mut followers = Followers::start(scope, &bank, size.nodes, log.calls.len())?;
         if size.workers == 0 {
@@ -86,13 +86,15 @@ pub fn output_of(input: &[u8], size: Size) -> Result<Vec<u8>, Fault> {
     })?;
     let mut output = Vec::new();
     push_answers(&mut output, &log, &node.board);
-    let balances = node.board.balances().chunks_exact(2);
-    let rows = bank.names.iter().zip(balances);
-    push_rows(
-        &mut output,
-        rows.map(|(name, held)| (*name, held[0], held[1])),
-    );
+    push_state(&mut output, &bank, &node.board);
     Ok(output)
+}
+
+/// The rows of an idle board, and their total.
+pub fn push_state(output: &mut Vec<u8>, bank: &Bank, board: &Board) {
+    let balances = board.balances().chunks_exact(2);
+    let rows = bank.names.iter().zip(balances);
+    push_rows(output, rows.map(|(name, held)| (*name, held[0], held[1])));
 }
 
 // Carries the log out on node 0, while the others get it too.
