@@ -51,6 +51,7 @@ pub enum Frame<'a> {
 // ---- writing
 
 /// Puts a frame behind others.
+#[inline]
 pub fn push_frame(out: &mut Vec<u8>, frame: &Frame) {
     let start = out.len();
     out.extend_from_slice(&[0; 2]);
@@ -139,6 +140,7 @@ fn reply_bytes(reply: Reply) -> [u8; REPLY] {
 // ---- reading
 
 /// The first frame of these bytes, and what is behind it.
+#[inline]
 pub fn read_frame(bytes: &[u8]) -> Result<(Frame<'_>, &[u8]), FrameFault> {
     let (length, rest) = bytes.split_first_chunk().ok_or(FrameFault::Short)?;
     let length = usize::from(u16::from_be_bytes(*length));
