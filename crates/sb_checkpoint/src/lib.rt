@@ -4,10 +4,13 @@
 mod checkpoint;
 mod fault;
 mod fields;
+mod file_store;
+mod folder_file;
 mod laws;
 mod layout;
 mod memory_store;
 mod reading;
+mod spared;
 mod store;
 #[cfg(test)]
 mod tests;
@@ -15,8 +18,11 @@ mod writing;
 
 pub use checkpoint::Checkpoint;
 pub use fault::CheckpointFault;
+pub use file_store::FileStore;
+pub use folder_file::FolderFile;
 pub use laws::{one_checkpoint, spelled_is_taken};
 pub use memory_store::{How, MemoryStore};
 pub use reading::read_checkpoint;
+pub use spared::FileWithSpare;
 pub use store::{CheckpointStore, StoreFault};
 pub use writing::write_checkpoint;

@@ -1,11 +1,14 @@
 use super::*;
+use sb_amount::Cents;
 use sb_calls::Reply;
 use std::alloc::Global;
 use std::process::Abort;
 use std::test::*;
 
 mod faults;
+mod files;
 mod limits;
+mod pairs;
 mod spellings;
 mod stores;
 mod texts;

@@ -1,9 +1,8 @@
 use super::*;
-use sb_amount::Cents;
 use sb_rows::Columns;
 
 // Many customers, each with savings of 1 cent and the same checking balance.
-fn bank(alloc: Global, customers: usize, checking: Cents) -> Result<Columns, Fail> {
+pub(super) fn bank(alloc: Global, customers: usize, checking: Cents) -> Result<Columns, Fail> {
     let savings = Cents::new(1).ok_or("past the limit")?;
     let mut columns = Columns::new(alloc);
     for _ in 0..customers {

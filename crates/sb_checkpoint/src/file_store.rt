@@ -1,0 +1,102 @@
+//! A store in a file.
+ghost use Rattle.std.specs.Prelude.{◌≡◌, None, OnOk, MatchResult};
+ghost use Rattle.sb_checkpoint.specs.FileStore.{FileActs};
+ghost use Rattle.sb_checkpoint.specs.MemoryStore.{one_more};
+ghost use Rattle.sb_checkpoint.specs.declared.store.StoreFault.TheVariants.{Device};
+
+use crate::spared::FileWithSpare;
+use crate::store::{CheckpointStore, StoreFault};
+use std::marker::Model;
+
+/// Holds a checkpoint in a file, which each put replaces whole.
+///
+/// It is honest where its file is: after a put that fails, the file holds wholly the old or wholly the new bytes.
+#[derive(Drop)]
+pub struct FileStore<P: FileWithSpare> {
+    file: P,
+    failures: u64,
+}
+
+impl<P: FileWithSpare> Model for FileStore<P> {
+    ghost use Rattle.sb_checkpoint.specs.FileStore.{FileStoreOf};
+
+    ghost Value = { FileStoreOf P };
+
+    ghost view = { λ s. record {
+      file = s.file;
+      failures = s.failures;
+    } };
+}
+
+impl<P: FileWithSpare> FileStore<P> {
+    /// A store in this file, whose device has not failed yet. The file isn't touched.
+    pub fn new(file: P) -> FileStore<P>
+        ensures { result ≡ record { file = file; failures = 0 } }
+    {
+        FileStore { file, failures: 0 }
+    }
+
+    /// Tells whether a put could be made: writes an empty spare and removes it. The checkpoint stays as it is.
+    ///
+    /// `Device`, counted as any other, says that the folder isn't there, or that no file can be made, synced and
+    /// removed in it. Memory is never refused.
+    pub fn probe(&mut self) -> Result<(), StoreFault>
+        ensures honest { P.IsHonest self.old.file → P.IsHonest self.new.file }
+        ensures stays { P.IsHonest self.old.file → P.held self.new.file ≡ P.held self.old.file }
+        ensures gone { P.IsHonest self.old.file → OnOk result (P.spare self.new.file ≡ None) }
+        ensures counted { MatchResult result
+            (λ done. self.new.failures ≡ self.old.failures)
+            (λ fault. (fault ≡ Device) × (self.new.failures ≡ one_more self.old.failures)) }
+    {
+        let written = self.file.write_spare(&[]);
+        let removed = self.file.remove_spare();
+        if written.is_err() || removed.is_err() {
+            return Err(self.failed());
+        }
+        Ok(())
+    }
+
+    // The device failed once more.
+    fn failed(&mut self) -> StoreFault
+        ensures fault { result ≡ Device }
+        ensures counted { self.new ≡ record self.old { failures = one_more self.old.failures } }
+    {
+        self.failures = self.failures.saturating_add(1);
+        StoreFault::Device
+    }
+}
+
+impl<P: FileWithSpare> CheckpointStore for FileStore<P> {
+    ghost slot = { λ store. P.held store.file };
+
+    ghost IsHonest = { λ store. P.IsHonest store.file };
+
+    ghost failed = { λ store. store.failures };
+
+    ghost acts = { FileActs P.IsHonest P.spare };
+
+    fn put(&mut self, bytes: &[u8]) -> Result<(), StoreFault> {
+        let mut done = self.file.write_spare(bytes);
+        if done.is_ok() {
+            done = self.file.place_spare();
+        }
+        if done.is_ok() {
+            return Ok(());
+        }
+        // It may not be there, or may not go; the put has failed either way.
+        let _ = self.file.remove_spare();
+        Err(self.failed())
+    }
+
+    fn get(&mut self) -> Result<Option<Vec<u8>>, StoreFault> {
+        match self.file.read() {
+            Ok(found) => Ok(found),
+            Err(StoreFault::Device) => Err(self.failed()),
+            Err(StoreFault::OutOfMemory) => Err(StoreFault::OutOfMemory),
+        }
+    }
+
+    fn failures(&self) -> u64 {
+        self.failures
+    }
+}

@@ -1,0 +1,144 @@
+//! A file in a folder of the system.
+ghost use Rattle.std.specs.Prelude.{◌≡◌, None, IfOk, IfSome, OnOk};
+ghost use Rattle.std.specs.Io.KnownBytes.{Appends};
+ghost use Rattle.sb_checkpoint.specs.FolderFile.{file_in};
+
+use crate::spared::FileWithSpare;
+use crate::store::StoreFault;
+use std::alloc::{AllocError, Global};
+use std::fs::{Files, OpenFile};
+use std::io::{ErrorKind, Read, Write};
+use std::marker::Model;
+use std::path::PathBuf;
+use std::{fs, io};
+
+// How many reads a file may take; one more counts as a failed read.
+const READS: u32 = 1_000_000_000;
+
+// How many bytes are asked of a file at once.
+const CHUNK: usize = 65_536;
+
+/// A file in a folder. Its spare is there only during a put or a probe, under the file's name and `.tmp`.
+///
+/// Nothing is promised of what the two hold: that is up to the system, whose files no contract tells of.
+#[derive(Drop)]
+pub struct FolderFile<F: Files + Drop> {
+    alloc: Global,
+    files: F,
+    folder: PathBuf,
+    path: PathBuf,
+    spare: PathBuf,
+}
+
+impl<F: Files + Drop> Model for FolderFile<F> {
+    ghost use Rattle.std.specs.Path.{path_buf_bytes};
+    ghost use Rattle.sb_checkpoint.specs.FolderFile.{FolderFileOf};
+
+    ghost Value = { FolderFileOf F };
+
+    ghost view = { λ f. record {
+      files = f.files;
+      folder = path_buf_bytes f.folder;
+      path = path_buf_bytes f.path;
+      spare = path_buf_bytes f.spare;
+    } };
+}
+
+impl<F: Files + Drop> FolderFile<F> {
+    /// The file with this name in this folder. Nothing is touched. Fails where memory is refused.
+    pub fn new(
+        alloc: Global,
+        files: F,
+        folder: &str,
+        name: &str,
+    ) -> Result<FolderFile<F>, AllocError>
+        ensures { IfOk result (λ file. file ≡ file_in files folder.now name.now) }
+    {
+        let folder = PathBuf::from_str(alloc, folder)?;
+        let path = folder.join(alloc, name)?;
+        let mut spare = String::from_str(alloc, path.as_str())?;
+        spare.push_str(".tmp")?;
+        Ok(FolderFile {
+            alloc,
+            files,
+            folder,
+            path,
+            spare: PathBuf::from(spare),
+        })
+    }
+}
+
+// Writes these bytes last, and syncs them. A write that was interrupted is made again.
+fn write_synced<W: Write + OpenFile>(file: &mut W, bytes: &[u8]) -> io::Result<()>
+    ensures { OnOk result (Appends (W.contents file.old) (W.contents file.new) bytes.now) }
+{
+    file.write_all(bytes)?;
+    file.sync_all()
+}
+
+// All that a reader gives, with room made for this many bytes at first. A read that was interrupted is made again,
+// and counts as one.
+fn read_whole<R: Read>(alloc: Global, room: usize, reader: &mut R) -> Result<Vec<u8>, StoreFault>
+    ensures { IfOk result (λ bytes. IfSome (R.remaining reader.old) (λ held. bytes.items ≡ held)) }
+{
+    let mut bytes = Vec::new(alloc);
+    if bytes.reserve(room).is_err() {
+        return Err(StoreFault::OutOfMemory);
+    }
+    let mut chunk = [0u8; CHUNK];
+    for _ in 0..READS {
+        match reader.read(&mut chunk) {
+            Ok(0) => return Ok(bytes),
+            Ok(count) => {
+                if bytes.extend_from_slice(&chunk[..count]).is_err() {
+                    return Err(StoreFault::OutOfMemory);
+                }
+            }
+            Err(error) => {
+                if error.kind() != ErrorKind::Interrupted {
+                    return Err(StoreFault::Device);
+                }
+            }
+        }
+    }
+    Err(StoreFault::Device)
+}
+
+impl<F: Files + Drop> FileWithSpare for FolderFile<F> {
+    ghost held = { λ file. None };
+
+    ghost spare = { λ file. None };
+
+    // What a file holds is in no contract, so this is told of none.
+    ghost IsHonest = { λ file. ⊥ };
+
+    fn write_spare(&mut self, bytes: &[u8]) -> io::Result<()> {
+        let mut spare = fs::create(&self.files, &self.spare)?;
+        write_synced(&mut spare, bytes)
+    }
+
+    // The folder is opened first, so that where it can't be the file stays as it is.
+    fn place_spare(&mut self) -> io::Result<()> {
+        let folder = fs::open(&self.files, &self.folder)?;
+        fs::rename(&self.files, &self.spare, &self.path)?;
+        folder.sync_all()
+    }
+
+    fn remove_spare(&mut self) -> io::Result<()> {
+        fs::remove_file(&self.files, &self.spare)?;
+        fs::open(&self.files, &self.folder)?.sync_all()
+    }
+
+    fn read(&mut self) -> Result<Option<Vec<u8>>, StoreFault> {
+        let mut file = match fs::open(&self.files, &self.path) {
+            Ok(file) => file,
+            Err(error) if error.kind() == ErrorKind::NotFound => return Ok(None),
+            Err(_) => return Err(StoreFault::Device),
+        };
+        // Where the length can't be told, room is made as the bytes come.
+        let room = file
+            .metadata()
+            .map_or(0, |metadata| metadata.len() as usize);
+        Ok(Some(read_whole(self.alloc, room, &mut file)?))
+    }
+}
