@@ -1,8 +1,6 @@
 //! How a worker waits for the next job.
 ghost use Rattle.std.specs.Prelude.{◌≤◌};
 
-use crate::bell::Bell;
-use std::sync::Wait;
 use std::time::{Clock, Duration};
 use std::{hint, thread};
 
@@ -28,8 +26,7 @@ pub(crate) fn hold_still() {
     }
 }
 
-// Waits longer each time: at first it holds still, then it lets others run, then it sleeps for moments that grow, and
-// then it rests until the owner's bell is rung.
+// Waits longer each time: at first it holds still, then it lets others run, and then it sleeps for moments that grow.
 #[derive(Drop)]
 pub(crate) struct BackOff {
     holds: u32,
@@ -48,18 +45,21 @@ impl BackOff {
         }
     }
 
-    pub(crate) fn wait<R: Wait + Clock>(&mut self, rt: &R, bell: &Bell) {
+    // Whether it waited as often as it does. It is time to rest then.
+    pub(crate) fn is_over(&self) -> bool {
+        self.micros >= LONGEST
+    }
+
+    pub(crate) fn wait<R: Clock>(&mut self, rt: &R) {
         if self.holds < HOLDS {
             self.holds += 1;
             hold_still();
         } else if self.yields < YIELDS {
             self.yields += 1;
             thread::yield_now();
-        } else if self.micros < LONGEST {
+        } else {
             thread::sleep(rt, Duration::from_micros(self.micros));
             self.micros = self.micros.saturating_mul(2).min(LONGEST);
-        } else {
-            bell.rest(rt);
         }
     }
 }

@@ -1,14 +1,22 @@
 //! What wakes workers that rest.
+ghost use Rattle.std.specs.Prelude.{◌≡◌, ℕ, ◌∷◌, ◌++◌, [], IfNone, IfSome};
+
+use cown_bench::{Bench, Work, WorkerPass};
 use crossbeam_channel::{Receiver, Sender, bounded};
 use std::alloc::{AllocError, Global};
 use std::sync::Wait;
 use std::sync::atomic::{AtomicUsize, Ordering};
 use std::time::{Clock, Duration};
 
-// How many milliseconds a worker rests at most. A ring that comes just before it lies down is missed for no longer.
-const LONGEST: u64 = 2;
+// How many milliseconds a worker rests at most. No ring is missed, so this is only what one would cost that is lost for
+// a reason that nobody saw; sixteen workers that wake so seldom take next to nothing of a processor.
+const LONGEST: u64 = 50;
 
 // A bell that an owner rings when it lays something out for which too few workers are up.
+//
+// The owner lays out, then reads how many rest. A worker is counted as resting, then looks at the bench once more, and
+// only then sleeps. All four are steps that every thread sees in one order (`SeqCst`). So either the owner's look comes
+// after the worker was counted, and it rings; or it comes before, and the worker finds what was laid out.
 #[derive(Drop)]
 pub(crate) struct Bell {
     workers: usize,
@@ -29,8 +37,11 @@ impl Bell {
         })
     }
 
-    // Wakes a worker, if one rests and fewer are up than there are jobs with the crew.
+    // Wakes a worker, if one rests and fewer are up than there are jobs with the crew. What they are woken for lies on
+    // the bench by now.
     pub(crate) fn ring<R: Wait>(&self, rt: &R, jobs: usize) {
+        // No fence stands before this look: each step on the bench is `SeqCst`, as this one is, so it can't come before
+        // the step that laid the job out.
         let resting = self.resting.load(Ordering::SeqCst);
         if resting > 0 && self.workers.saturating_sub(resting) < jobs {
             // Where it can't be rung once more, each worker has a ring to hear yet.
@@ -38,10 +49,26 @@ impl Bell {
         }
     }
 
-    // Waits until the bell is rung, or for a while.
-    pub(crate) fn rest<R: Wait + Clock>(&self, rt: &R) {
+    // Picks up what lies on the bench longest. Where nothing does it waits until the bell is rung, or for a while, and
+    // picks nothing.
+    pub(crate) fn rest<R: Wait + Clock>(
+        &self,
+        rt: &R,
+        bench: &Bench,
+        pass: &mut WorkerPass,
+    ) -> Option<Work>
+        requires { pass.old.bench ≡ bench.now }
+        ensures some { IfSome result (λ work. (place : ℕ) × (pass.new ≡
+            record pass.old { picked = pass.old.picked ++ (place, work) ∷ [] })) }
+        ensures none { IfNone result (pass.new ≡ pass.old) }
+    {
         self.resting.fetch_add(1, Ordering::SeqCst);
-        let _ = self.ear.recv_timeout(rt, Duration::from_millis(LONGEST));
+        // For what was laid out before this worker was counted nobody has rung.
+        let work = bench.pick(rt, pass);
+        if work.is_none() {
+            let _ = self.ear.recv_timeout(rt, Duration::from_millis(LONGEST));
+        }
         self.resting.fetch_sub(1, Ordering::SeqCst);
+        work
     }
 }

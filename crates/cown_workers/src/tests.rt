@@ -9,6 +9,7 @@ use std::alloc::{AllocError, Global};
 use std::process::Abort;
 use std::test::Fail;
 
+mod bells;
 mod crews;
 mod drains;
 mod gates;

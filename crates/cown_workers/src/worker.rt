@@ -1,5 +1,5 @@
 //! What each thread of a crew does.
-ghost use Rattle.std.specs.Prelude.{◌≡◌};
+ghost use Rattle.std.specs.Prelude.{◌≡◌, ℕ, ◌∷◌, ◌++◌, [], IfNone, IfSome};
 
 use crate::back_off::BackOff;
 use crate::bell::Bell;
@@ -37,17 +37,42 @@ impl<'a, R: Wait + Clock, G: Gate> Worker<'a, R, G> {
         } = self;
         let mut back_off = BackOff::new();
         for _ in rt.forever() {
-            match bench.pick(rt, &mut pass) {
+            match pick_or_wait(rt, bench, &mut pass, bell, &mut back_off) {
                 Some(Work::Run(job)) => {
                     carry_out(rt, gate, &mut outbox, job);
                     back_off = BackOff::new();
                 }
                 Some(Work::Stop) => return,
-                None => back_off.wait(rt, bell),
+                None => {}
             }
         }
         unreachable!()
     }
+}
+
+// Picks up what lies on the bench longest. Where nothing does it waits, each time longer, and in the end until the
+// owner rings; then it picks nothing, or what was laid out meanwhile.
+fn pick_or_wait<R: Wait + Clock>(
+    rt: &R,
+    bench: &Bench,
+    pass: &mut WorkerPass,
+    bell: &Bell,
+    back_off: &mut BackOff,
+) -> Option<Work>
+    requires { pass.old.bench ≡ bench.now }
+    ensures some { IfSome result (λ work. (place : ℕ) × (pass.new ≡
+        record pass.old { picked = pass.old.picked ++ (place, work) ∷ [] })) }
+    ensures none { IfNone result (pass.new ≡ pass.old) }
+{
+    let work = bench.pick(rt, pass);
+    if work.is_some() {
+        return work;
+    }
+    if back_off.is_over() {
+        return bell.rest(rt, bench, pass);
+    }
+    back_off.wait(rt);
+    None
 }
 
 // Carries a job out between the two calls of the gate, and hands it over.

@@ -11,7 +11,8 @@ pub record FileStoreOf (P : Type 0) : Type 0 where
 
 -- each failure is counted once, and nothing else is. A put is never refused memory, and one that ends well leaves no
 -- spare beside an honest file
-abbrev pub FileActs : {P : Type 0} → (P → Type 0) → (P → Option (List ℕ)) → FileStoreOf P → StoreStep → FileStoreOf P → Type 0
+abbrev pub FileActs : {P : Type 0} → (P → Type 0) → (P → Option (List ℕ))
+    → FileStoreOf P → StoreStep → FileStoreOf P → Type 0
 FileActs IsHonest spare old (Put bytes (Ok done)) new =
     (new.failures ≡ old.failures) × (IsHonest old.file → spare new.file ≡ None)
 FileActs IsHonest spare old (Put bytes (Err Device)) new = new.failures ≡ one_more old.failures

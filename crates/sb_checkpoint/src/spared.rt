@@ -43,5 +43,6 @@ pub trait FileWithSpare: Drop {
     fn read(&mut self) -> Result<Option<Vec<u8>>, StoreFault>
         ensures honest { IsHonest self.old → IsHonest self.new }
         ensures stays { IsHonest self.old → held self.new ≡ held self.old }
-        ensures value { IsHonest self.old → IfOk result (λ found. option_map (λ bytes. bytes.items) found ≡ held self.old) };
+        ensures value { IsHonest self.old
+            → IfOk result (λ found. option_map (λ bytes. bytes.items) found ≡ held self.old) };
 }

@@ -1,5 +1,5 @@
 -- A replica's checkpoint, put into its store.
-use Rattle.std.specs.Prelude.{◌≡◌, ◌≢◌, ◌⊎◌, ℕ, Result, Err, List}
+use Rattle.std.specs.Prelude.{◌≡◌, ◌≢◌, ◌⊎◌, ℕ, Result, Ok, Err, List}
 use Rattle.sb_rows.specs.Balances.{Balances}
 use Rattle.sb_calls.specs.Behaviour.{declared_cowns, effect_of}
 use Rattle.cown_board.specs.Board.{open_of, IsAfterAll}
@@ -21,6 +21,10 @@ module _ {S : Type 0} (does : S → StoreStep → S → Type 0) where
     pub spelled : Spells (record { columns = columns; replies = replies_held old.board }) bytes
     pub put : does old.store (Put bytes answer) new.store
     pub stays : new ≡ record old { store = new.store }
+
+  -- a checkpoint of all that was spelled so, and put
+  abbrev pub PutsBytes : ReplicaOf S → List ℕ → ReplicaOf S → Type 0
+  PutsBytes old bytes new = (puts : Puts old (Ok tt) new) × (puts.bytes ≡ bytes)
 
   -- something is unfinished, and nothing changes; the store failed; or memory was refused, to it or before it was
   -- asked

@@ -5,7 +5,7 @@ ghost use Rattle.sb_calls.specs.Replies.{IsReply};
 ghost use Rattle.cown_board.specs.Board.{length_of, open_of};
 ghost use Rattle.sb_checkpoint.specs.Stores.{StoreDoes};
 ghost use Rattle.sb_checkpoint.specs.declared.store.StoreFault.{StoreFault as AnyFault};
-ghost use Rattle.sb_replica.specs.Marking.{IsMarkFaultOf, Puts};
+ghost use Rattle.sb_replica.specs.Marking.{IsMarkFaultOf, Puts, PutsBytes};
 ghost use Rattle.sb_replica.specs.Replica.{replies_held};
 
 use crate::fault::MarkFault;
@@ -27,6 +27,21 @@ impl<S: CheckpointStore> Replica<S> {
         ensures err { IfErr result (λ fault.
             IsMarkFaultOf (StoreDoes S.slot S.IsHonest S.failed S.acts) self.old fault self.new) }
     {
+        self.put_checkpoint()?;
+        Ok(self.length())
+    }
+
+    /// Puts a checkpoint of the log so far into the store, and answers the bytes that were put. Nothing but the store
+    /// changes.
+    ///
+    /// Fails as [`Replica::mark`].
+    pub fn put_checkpoint(&mut self) -> Result<Vec<u8>, MarkFault>
+        ensures busy { IsErrOf result MarkFault.Busy ↔ (open_of self.old.board ≢ 0) }
+        ensures ok { IfOk result (λ bytes.
+            PutsBytes (StoreDoes S.slot S.IsHonest S.failed S.acts) self.old bytes.items self.new) }
+        ensures err { IfErr result (λ fault.
+            IsMarkFaultOf (StoreDoes S.slot S.IsHonest S.failed S.acts) self.old fault self.new) }
+    {
         let Some(columns) = self.log.settled_columns() else {
             return Err(MarkFault::Busy);
         };
@@ -38,7 +53,7 @@ impl<S: CheckpointStore> Replica<S> {
             return Err(MarkFault::OutOfMemory);
         };
         match self.store.put(&bytes) {
-            Ok(()) => Ok(self.length()),
+            Ok(()) => Ok(bytes),
             Err(StoreFault::Device) => Err(MarkFault::Device),
             Err(StoreFault::OutOfMemory) => Err(MarkFault::OutOfMemory),
         }

@@ -6,7 +6,6 @@ use sb_frames::{Frame, encode};
 use sb_rows::read_opening;
 use std::alloc::Global;
 use std::process::Abort;
-use std::test::Fail;
 
 mod faults;
 mod frames;
@@ -16,14 +15,16 @@ mod restarts;
 const OPENING: &str = "alice 100.00 50.00\nbob 0.00 20.00\ncarol 10.00 0.00\nbegin\n";
 
 // Replica 1 of the three, over a store in memory.
-fn open(alloc: Global) -> Result<Replica<MemoryStore>, Fail> {
-    open_over(alloc, MemoryStore::new(alloc))
+fn open(rt: &impl Abort, alloc: Global) -> Replica<MemoryStore> {
+    open_over(rt, alloc, MemoryStore::new(alloc))
 }
 
-fn open_over(alloc: Global, store: MemoryStore) -> Result<Replica<MemoryStore>, Fail> {
-    let opening = read_opening(alloc, OPENING.as_bytes())?;
-    let replica = Replica::open(alloc, 1, opening.directory, opening.columns, store)?;
-    Ok(replica)
+fn open_over(rt: &impl Abort, alloc: Global, store: MemoryStore) -> Replica<MemoryStore> {
+    let opening = read_opening(alloc, OPENING.as_bytes()).expect(rt, "an opening");
+    Replica::open(alloc, 1, opening.directory, opening.columns, store).expect(
+        rt,
+        "memory for a replica",
+    )
 }
 
 // The frame of an entry with this call is answered so.
@@ -77,14 +78,11 @@ fn carries_out(
 }
 
 // Nothing is unfinished, and these are the checking balances of the three.
-fn ends_with(
-    rt: &impl Abort,
-    replica: &Replica<MemoryStore>,
-    length: u64,
-    checking: [i64; 3],
-) -> Result<(), Fail> {
+fn ends_with(rt: &impl Abort, replica: &Replica<MemoryStore>, length: u64, checking: [i64; 3]) {
     assert!(rt; replica.length() == length);
-    let columns = replica.columns()?.ok_or("no columns")?;
+    let columns = replica
+        .columns()
+        .expect(rt, "memory for columns")
+        .expect(rt, "no columns");
     assert!(rt; columns.checking() == checking.as_slice());
-    Ok(())
 }

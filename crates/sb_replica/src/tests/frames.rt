@@ -4,8 +4,8 @@ use sb_calls::WireReply;
 use sb_frames::FrameFault;
 
 #[test]
-fn only_the_next_entry_is_accepted(rt: HostRuntime) -> Result<(), Fail> {
-    let mut replica = open(rt.alloc())?;
+fn only_the_next_entry_is_accepted(rt: HostRuntime) {
+    let mut replica = open(&rt, rt.alloc());
     hears(&rt, &mut replica, 2, "deposit bob 1.00", Heard::Gap(0));
     hears(
         &rt,
@@ -18,12 +18,12 @@ fn only_the_next_entry_is_accepted(rt: HostRuntime) -> Result<(), Fail> {
     hears(&rt, &mut replica, 2, "deposit bob 1.00", Heard::Accepted(2));
     runs(&rt, &mut replica, 1, Reply::Done);
     runs(&rt, &mut replica, 2, Reply::Done);
-    ends_with(&rt, &replica, 2, [5_100, 2_100, 0])
+    ends_with(&rt, &replica, 2, [5_100, 2_100, 0]);
 }
 
 #[test]
-fn an_entry_waits_while_too_many_are_unfinished(rt: HostRuntime) -> Result<(), Fail> {
-    let mut replica = open(rt.alloc())?;
+fn an_entry_waits_while_too_many_are_unfinished(rt: HostRuntime) {
+    let mut replica = open(&rt, rt.alloc());
     for number in 1..=1_024 {
         hears(
             &rt,
@@ -48,7 +48,6 @@ fn an_entry_waits_while_too_many_are_unfinished(rt: HostRuntime) -> Result<(), F
         "deposit alice 0.01",
         Heard::Accepted(1_025),
     );
-    Ok(())
 }
 
 // These bytes are refused, and nothing changes.
@@ -61,20 +60,19 @@ fn refuses(rt: &impl Abort, replica: &mut Replica<MemoryStore>, bytes: &[u8], fa
 }
 
 #[test]
-fn what_is_no_whole_frame_is_refused(rt: HostRuntime) -> Result<(), Fail> {
-    let mut replica = open(rt.alloc())?;
+fn what_is_no_whole_frame_is_refused(rt: HostRuntime) {
+    let mut replica = open(&rt, rt.alloc());
     refuses(&rt, &mut replica, &[], FrameFault::Short);
     refuses(&rt, &mut replica, &[0, 1, 9], FrameFault::UnknownTag);
     // A whole frame, and a byte after it.
     refuses(&rt, &mut replica, &[0, 1, 6, 0], FrameFault::BadLength);
     assert!(rt; replica.on_frame(&[0, 1, 6]) == Ok(Heard::Ignored));
     assert!(rt; replica.length() == 0);
-    Ok(())
 }
 
 #[test]
-fn it_says_its_length_and_its_replies(rt: HostRuntime) -> Result<(), Fail> {
-    let mut replica = open(rt.alloc())?;
+fn it_says_its_length_and_its_replies(rt: HostRuntime) {
+    let mut replica = open(&rt, rt.alloc());
     accepts(&rt, &mut replica, 1, "balance alice");
     let ack = Frame::Ack {
         replica: 1,
@@ -83,9 +81,8 @@ fn it_says_its_length_and_its_replies(rt: HostRuntime) -> Result<(), Fail> {
     assert!(rt; replica.ack_frame() == ack);
     assert!(rt; replica.answer_frame(1).is_none());
     runs(&rt, &mut replica, 1, Reply::Shown(15_000));
-    let reply = WireReply::new(Reply::Shown(15_000)).ok_or("no reply")?;
+    let reply = WireReply::new(Reply::Shown(15_000)).expect(&rt, "a reply");
     let answer = Frame::Answer { number: 1, reply };
     assert!(rt; replica.answer_frame(1) == Some(answer));
     assert!(rt; replica.answer_frame(0).is_none());
-    Ok(())
 }
