@@ -1,5 +1,5 @@
 -- From the sequencer's answer to the standing of a line.
-use Rattle.std.proofs.Common.{◌≡◌, ℕ, ◌+◌, ◌<◌, ◌≤◌, ◌^◌, length, arith, Option, Some, None, Result, Ok, Err, is_some, false, List, [], ◌∷◌, ◌++◌, refl, sym, ap, ◌∙◌}
+use Rattle.std.proofs.Common.{◌≡◌, ℕ, ◌+◌, ◌<◌, ◌≤◌, ◌^◌, length, arith, Option, Some, None, Result, Ok, Err, is_some, false, List, [], ◌∷◌, ◌++◌, refl, sym, ap, ◌∙◌, append-nil}
 use Rattle.std.proofs.lemmas.List.Quantifiers.{position-Some}
 use Rattle.sb_calls.specs.declared.ask.Asked.{Asked}
 use Rattle.sb_calls.specs.declared.ask.Key.{Key}
@@ -9,14 +9,16 @@ use Rattle.sb_sequencer.proofs.Keys.{has_key-place}
 use Rattle.sb_sequencer.proofs.Logs.{first_asks-push, log_with-full}
 use Rattle.sb_sequencer.specs.Answer.{IsAnswered, LogAfter, Numbers}
 use Rattle.sb_sequencer.specs.Numbering.{same_key, has_key, first_asks, place_of_key}
+use Rattle.sb_sequencer.specs.Sequencer.{SequencerOf, after_ask}
 use Rattle.sb_sequencer.specs.declared.answer.AskFault.{AskFault}
 use Rattle.sb_sequencer.specs.declared.answer.AskFault.TheVariants as faults
 use Rattle.sb_sequencer.specs.declared.answer.Numbered.{Numbered}
 use Rattle.sb_sequencer.specs.declared.answer.Numbered.TheVariants.{New, Repeat}
-use Rattle.bank_server.specs.Asking.{IsAfter, IsOfLog, AsksOne, AsksLine, standing_of_answer}
+use Rattle.bank_server.specs.Asking.{IsAfter, IsOfLog, AsksOne, AsksLine, GoesOn, standing_of_answer}
 use Rattle.bank_server.specs.Asks.{key_of_line, keyed}
 use Rattle.bank_server.specs.LogNumber.{IsLogNumber}
 use Rattle.bank_server.specs.Standing.{standing_of}
+use Rattle.bank_server.specs.declared.asking.Standing.{Standing}
 use Rattle.bank_server.specs.declared.asking.Standing.TheVariants.{LogFull}
 use Rattle.bank_server.proofs.Keyed.{own_key, absent_from_log, full_log}
 use Rattle.bank_server.proofs.Standings.{answered_new, answered_repeat, answered_mismatch, answered_full}
@@ -25,16 +27,50 @@ use Rattle.bank_server.proofs.Standings.{answered_new, answered_repeat, answered
 by_same_log : {A : Type 0} {old new : List (Key × Call)} {x : A} (f : List (Key × Call) → A) → new ≡ old → x ≡ f old → x ≡ f new
 by_same_log f e h = h ∙ ap f (sym e)
 
+some_is : {A : Type 0} {x y : A} → ◌≡◌ {A = Option A} (Some x) (Some y) → x ≡ y
+some_is h = cc
+
+none_is_some : {A : Type 0} {x : A} → ◌≡◌ {A = Option A} None (Some x) → ⊥
+none_is_some h = cc
+
+-- it is the standing in the log as it is, whatever was asked before
+pub stands_so : (old new : List (Key × Call)) (ask : Key × Call) (answer : Result Numbered AskFault) (standing : Standing)
+    → standing_of_answer answer ≡ Some standing → IsAnswered old ask answer → LogAfter old ask answer new → standing ≡ standing_of new ask
+stands_so old new ask (Ok (New n)) standing is answered log = sym (some_is is) ∙ by_same_log (λ l. standing_of l ask) log (answered_new old ask n answered)
+stands_so old new ask (Ok (Repeat n)) standing is answered log = sym (some_is is) ∙ by_same_log (λ l. standing_of l ask) log (answered_repeat old ask n answered)
+stands_so old new ask (Err (faults.Mismatch n)) standing is answered log =
+    sym (some_is is) ∙ by_same_log (λ l. standing_of l ask) log (answered_mismatch old ask n answered)
+stands_so old new ask (Err faults.LogFull) standing is answered log =
+    sym (some_is is) ∙ by_same_log (λ l. standing_of l ask) log (answered_full old ask answered.0)
+stands_so old new ask (Err faults.OutOfMemory) standing is answered log = absurd (none_is_some is)
+
+numbers_so : (asks old new : List (Key × Call)) (ask : Key × Call) (answer : Result Numbered AskFault) (standing : Standing)
+    → standing_of_answer answer ≡ Some standing → old ≡ first_asks asks → Numbers asks old ask answer new → new ≡ first_asks (asks ++ ask ∷ [])
+numbers_so asks old new ask (Ok (New n)) standing is e numbered = numbered e
+numbers_so asks old new ask (Ok (Repeat n)) standing is e numbered = numbered e
+numbers_so asks old new ask (Err (faults.Mismatch n)) standing is e numbered = numbered e
+numbers_so asks old new ask (Err faults.LogFull) standing is e numbered = numbered e
+numbers_so asks old new ask (Err faults.OutOfMemory) standing is e numbered = absurd (none_is_some is)
+
 -- what the sequencer promises of an answer gives the standing
-pub asks_one : (asks old new : List (Key × Call)) (ask : Key × Call) (answer : Result Numbered AskFault) → old ≡ first_asks asks
-    → IsAnswered old ask answer → LogAfter old ask answer new → Numbers asks old ask answer new → AsksOne asks ask new (standing_of_answer answer)
-asks_one asks old new ask (Ok (New n)) e answered log numbered = (numbered e, by_same_log (λ l. standing_of l ask) log (answered_new old ask n answered))
-asks_one asks old new ask (Ok (Repeat n)) e answered log numbered = (numbered e, by_same_log (λ l. standing_of l ask) log (answered_repeat old ask n answered))
-asks_one asks old new ask (Err (faults.Mismatch n)) e answered log numbered =
-    (numbered e, by_same_log (λ l. standing_of l ask) log (answered_mismatch old ask n answered))
-asks_one asks old new ask (Err faults.LogFull) e answered log numbered =
-    (numbered e, by_same_log (λ l. standing_of l ask) log (answered_full old ask answered.0))
-asks_one asks old new ask (Err faults.OutOfMemory) e answered log numbered = refl
+pub asks_one : (asks old new : List (Key × Call)) (ask : Key × Call) (answer : Result Numbered AskFault) (standing : Standing)
+    → standing_of_answer answer ≡ Some standing → old ≡ first_asks asks
+    → IsAnswered old ask answer → LogAfter old ask answer new → Numbers asks old ask answer new → AsksOne asks ask new standing
+asks_one asks old new ask answer standing is e answered log numbered =
+    (numbers_so asks old new ask answer standing is e numbered, stands_so old new ask answer standing is answered log)
+
+-- a log that was asked goes on
+pub goes_on : (old new : List (Key × Call)) (ask : Key × Call) (answer : Result Numbered AskFault) → LogAfter old ask answer new → GoesOn old new
+goes_on old new ask (Ok (New n)) log = (ask ∷ [], log)
+goes_on old new ask (Ok (Repeat n)) log = ([], log ∙ sym (append-nil old))
+goes_on old new ask (Err fault) log = ([], log ∙ sym (append-nil old))
+
+-- where memory was refused nothing changed
+pub not_asked : (old new : SequencerOf) (ask : Key × Call) (answer : Result Numbered AskFault) → standing_of_answer answer ≡ None
+    → new ≡ after_ask old ask answer → new ≡ old
+not_asked old new ask (Ok (New n)) is after = absurd (none_is_some (sym is))
+not_asked old new ask (Ok (Repeat n)) is after = after
+not_asked old new ask (Err fault) is after = after
 
 -- a place of a key is one of the log
 place_within : (log : List (Key × Call)) (ask : Key × Call) (k : ℕ) → place_of_key log ask.0 ≡ Some k → k < length log

@@ -69,24 +69,33 @@ none_out_more [] none (suc k) h = absurd (no_out h)
 none_out_more (s ∷ states) none zero h = none 0 h
 none_out_more (s ∷ states) none (suc k) h = none_out_more states (λ j. none (suc j)) k h
 
-pub put_after : (op : Op) (old new : BoardOf Op) → NoneOut old → new ≡ accepted old op → ArePut (op ∷ []) old new
-put_after op old new none is = record {
+pub put_after : (op : Op) (old new : BoardOf Op) → new ≡ accepted old op → ArePut (op ∷ []) old new
+put_after op old new is = record {
   opening = ap (λ (b : BoardOf Op). b.opening) is;
   earlier = ap (λ (b : BoardOf Op). b.earlier) is;
   log = ap (λ (b : BoardOf Op). b.log) is;
-  none_out = subst NoneOut (sym is) (none_out_more old.states none);
+  none_out = λ none. subst NoneOut (sym is) (none_out_more old.states none);
 }
 
 -- the same where what was unfinished was carried out between
 pub put_after_run : (op : Op) (old mid new : BoardOf Op) → Drains old mid → NoneOut mid → new ≡ accepted mid op → ArePut (op ∷ []) old new
 put_after_run op old mid new drained none put =
-    let made = put_after op mid new none put in
+    let made = put_after op mid new put in
     record {
       opening = made.opening ∙ drained.opening;
       earlier = made.earlier ∙ drained.earlier;
       log = made.log ∙ ap (λ l. l ++ op ∷ []) drained.log;
-      none_out = made.none_out;
+      none_out = λ before. made.none_out none;
     }
+
+-- a board that is as it was drained nothing
+pub drains_same : (old new : BoardOf Op) → new ≡ old → Drains old new
+drains_same old new is = record {
+  opening = ap (λ (b : BoardOf Op). b.opening) is;
+  earlier = ap (λ (b : BoardOf Op). b.earlier) is;
+  log = ap (λ (b : BoardOf Op). b.log) is;
+  finished = λ k reply at. ap (λ (b : BoardOf Op). slice_get b.states k) is ∙ at;
+}
 
 -- ---- the log so far
 

@@ -14,11 +14,7 @@ use Rattle.sb_sequencer.specs.declared.answer.Numbered.TheVariants.{New, Repeat}
 use Rattle.bank_server.specs.Asking.{AnsweredForGood, standing_of_answer}
 use Rattle.bank_server.specs.Standing.{standing_of}
 use Rattle.bank_server.specs.declared.asking.Standing.{Standing}
-use Rattle.bank_server.specs.declared.fault.RunFault.{RunFault}
 use Rattle.bank_server.proofs.Standings.{answered_new, answered_repeat, answered_mismatch, answered_full, standings_after}
-
-ok_is : {a b : Standing} → ◌≡◌ {A = Result Standing RunFault} (Ok a) (Ok b) → a ≡ b
-ok_is h = cc
 
 some_is : {A : Type 0} {x y : A} → ◌≡◌ {A = Option A} (Some x) (Some y) → x ≡ y
 some_is h = cc
@@ -28,16 +24,16 @@ none_is h = cc
 
 -- in the log with the ask
 at_once : (log : List (Key × Call)) (ask : Key × Call) (answer : Result Numbered AskFault) (standing : Standing)
-    → IsAnswered log ask answer → standing_of_answer answer ≡ Ok standing → standing_of (log_with log ask) ask ≡ standing
+    → IsAnswered log ask answer → standing_of_answer answer ≡ Some standing → standing_of (log_with log ask) ask ≡ standing
 at_once log ask (Ok (New n)) standing h is =
-    ap (λ l. standing_of l ask) (log_with-new log ask h.0 h.1) ∙ sym (answered_new log ask n h) ∙ ok_is is
+    ap (λ l. standing_of l ask) (log_with-new log ask h.0 h.1) ∙ sym (answered_new log ask n h) ∙ some_is is
 at_once log ask (Ok (Repeat n)) standing h is =
-    ap (λ l. standing_of l ask) (log_with-known log ask h.0 h.1) ∙ sym (answered_repeat log ask n h) ∙ ok_is is
+    ap (λ l. standing_of l ask) (log_with-known log ask h.0 h.1) ∙ sym (answered_repeat log ask n h) ∙ some_is is
 at_once log ask (Err (faults.Mismatch n)) standing h is =
-    ap (λ l. standing_of l ask) (log_with-known log ask h.0 h.1) ∙ sym (answered_mismatch log ask n h) ∙ ok_is is
+    ap (λ l. standing_of l ask) (log_with-known log ask h.0 h.1) ∙ sym (answered_mismatch log ask n h) ∙ some_is is
 at_once log ask (Err faults.LogFull) standing h is =
-    ap (λ l. standing_of l ask) (log_with-full log ask h.1) ∙ sym (answered_full log ask h.0) ∙ ok_is is
-at_once log ask (Err faults.OutOfMemory) standing h is = absurd cc
+    ap (λ l. standing_of l ask) (log_with-full log ask h.1) ∙ sym (answered_full log ask h.0) ∙ some_is is
+at_once log ask (Err faults.OutOfMemory) standing h is = absurd (none_is is)
 
 map_at : {A : Type 0} (f g : A → Standing) (xs : List A) (k : ℕ) (x : A) → slice_get xs k ≡ Some x → map f xs ≡ map g xs → f x ≡ g x
 map_at f g [] k x at same = absurd (none_is at)

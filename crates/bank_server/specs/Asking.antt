@@ -1,5 +1,5 @@
 -- What asking for each line comes to.
-use Rattle.std.specs.Prelude.{◌≡◌, ℕ, Result, Ok, Err, List, ◌∷◌, [], ◌++◌, map}
+use Rattle.std.specs.Prelude.{◌≡◌, ℕ, Option, Some, None, Result, Ok, Err, List, ◌∷◌, [], ◌++◌, map}
 use Rattle.std.specs.List.{AllByRecursion}
 use Rattle.sb_calls.specs.Ask.{IsKey}
 use Rattle.sb_calls.specs.declared.ask.Asked.{Asked}
@@ -45,26 +45,31 @@ IsOfLog (Err (faults.Mismatch n)) = IsLogNumber n
 IsOfLog (Err faults.LogFull) = Unit {0}
 IsOfLog (Err faults.OutOfMemory) = Unit {0}
 
--- how an ask stands in the log that was answered so
-abbrev pub standing_of_answer : Result Numbered AskFault → Result Standing RunFault
-standing_of_answer (Ok (New n)) = Ok (Number n)
-standing_of_answer (Ok (Repeat n)) = Ok (Number n)
-standing_of_answer (Err (faults.Mismatch n)) = Ok (Mismatch n)
-standing_of_answer (Err faults.LogFull) = Ok LogFull
-standing_of_answer (Err faults.OutOfMemory) = Err OutOfMemory
+-- how an ask stands in the log that was answered so, unless memory was refused
+abbrev pub standing_of_answer : Result Numbered AskFault → Option Standing
+standing_of_answer (Ok (New n)) = Some (Number n)
+standing_of_answer (Ok (Repeat n)) = Some (Number n)
+standing_of_answer (Err (faults.Mismatch n)) = Some (Mismatch n)
+standing_of_answer (Err faults.LogFull) = Some LogFull
+standing_of_answer (Err faults.OutOfMemory) = None
 
--- one more ask was made, and so it stands in the log; or memory was refused
-abbrev pub AsksOne : List (Key × Call) → Key × Call → List (Key × Call) → Result Standing RunFault → Type 0
-AsksOne asks ask new (Ok standing) = (new ≡ first_asks (asks ++ ask ∷ [])) × (standing ≡ standing_of new ask)
-AsksOne asks ask new (Err fault) = fault ≡ OutOfMemory
+-- a log begins with another
+abbrev pub GoesOn : List (Key × Call) → List (Key × Call) → Type 0
+GoesOn old new = (more : List (Key × Call)) × (new ≡ old ++ more)
+
+-- one more ask was made, and so it stands in the log
+abbrev pub AsksOne : List (Key × Call) → Key × Call → List (Key × Call) → Standing → Type 0
+AsksOne asks ask new standing = (new ≡ first_asks (asks ++ ask ∷ [])) × (standing ≡ standing_of new ask)
 
 -- one more line was asked, and so it stands in the log; or memory was refused
 abbrev pub AsksLine : List Asked → ℕ → Asked → List (Key × Call) → Result Standing RunFault → Type 0
-AsksLine asks running asked new result = AsksOne (keyed asks) (key_of_line running asked.key, asked.call) new result
+AsksLine asks running asked new (Ok standing) =
+    AsksOne (keyed asks) (key_of_line running asked.key, asked.call) new standing
+AsksLine asks running asked new (Err fault) = fault ≡ OutOfMemory
 
 -- what the sequencer answers an ask is how it stands in the log for good, whatever is asked after it
 abbrev pub AnsweredForGood : Type 0
 AnsweredForGood =
     (before after : List (Key × Call)) (ask : Key × Call) (answer : Result Numbered AskFault) (standing : Standing)
-    → IsAnswered (first_asks before) ask answer → standing_of_answer answer ≡ Ok standing
+    → IsAnswered (first_asks before) ask answer → standing_of_answer answer ≡ Some standing
     → standing_of (first_asks (before ++ ask ∷ after)) ask ≡ standing

@@ -25,12 +25,12 @@ pub record IsOpened (board : BoardOf Op) : Type 0 where
   pub log : board.log ≡ []
   pub states : board.states ≡ []
 
--- these ops are last in the log, and no op is out
+-- these ops are last in the log, and where no op was out none is
 pub record ArePut (ops : List Op) (old new : BoardOf Op) : Type 0 where
   pub opening : new.opening ≡ old.opening
   pub earlier : new.earlier ≡ old.earlier
   pub log : new.log ≡ old.log ++ ops
-  pub none_out : NoneOut new
+  pub none_out : NoneOut old → NoneOut new
 
 -- these ops are the board's whole log, and all are finished
 pub record IsCarriedOut (ops : List Op) (board : BoardOf Op) : Type 0 where
@@ -48,13 +48,15 @@ pub record Tells (board : BoardOf Op) (replies : List Reply) : Type 0 where
 
 -- the replies on the board are those of the calls one by one, and columns that hold what its log leaves are the rows
 -- after them
-pub record IsOneByOne (directory : List (List ℕ)) (calls : List Call) (before : Balances) (board : BoardOf Op) : Type 0 where
+pub record IsOneByOne (directory : List (List ℕ)) (calls : List Call) (before : Balances) (board : BoardOf Op)
+    : Type 0 where
   pub replies : Tells board (replies_to (rows_of directory before) calls)
   pub rows : (after : Balances) → IsBalances after → IsAfterAll declared_cowns effect_of board after
       → SameCustomers directory after × (rows_of directory after ≡ rows_after calls (rows_of directory before))
 
 -- a replica that began with these names and balances, and carried out these ops
-pub record HasRun {S : Type 0} (names : List (List ℕ)) (opening : Balances) (ops : List Op) (replica : ReplicaOf S) : Type 0 where
+pub record HasRun {S : Type 0} (names : List (List ℕ)) (opening : Balances) (ops : List Op) (replica : ReplicaOf S)
+    : Type 0 where
   pub names_are : replica.names ≡ names
   pub opening_is : replica.board.opening ≡ opening
   pub carried : IsCarriedOut ops replica.board

@@ -5,6 +5,11 @@ use Rattle.sb_text.specs.declared.input.ReadFault.{ReadFault}
 use Rattle.sb_text.specs.declared.input.ReadFault.TheVariants as reading
 use Rattle.cown_workers.specs.declared.crew_fault.CrewFault.{CrewFault}
 use Rattle.cown_workers.specs.declared.crew_fault.CrewFault.TheVariants as crew
+use Rattle.cown_board.specs.Board.{BoardOf}
+use Rattle.cown_workers.specs.Draining.{NoneOut}
+use Rattle.sb_calls.specs.declared.op.Op.{Op}
+use Rattle.bank_server.specs.declared.carry_fault.CarryFault.{CarryFault}
+use Rattle.bank_server.specs.declared.carry_fault.CarryFault.TheVariants as carry
 use Rattle.bank_server.specs.declared.fault.InputFault.{InputFault}
 use Rattle.bank_server.specs.declared.fault.RunFault.{RunFault}
 use Rattle.bank_server.specs.declared.fault.RunFault.TheVariants.{Input, Strayed, CrewGone, Device, OutOfMemory}
@@ -51,6 +56,16 @@ fault_number (Strayed node) = 2
 fault_number CrewGone = 3
 fault_number Device = 4
 fault_number OutOfMemory = 5
+
+-- memory was refused, or the crew is gone, which one that keeps no job never is where none was out
+abbrev pub IsCarryFault : Bool → BoardOf Op → CarryFault → Type 0
+IsCarryFault keeps board carry.CrewGone = keeps ≡ false → ¬ NoneOut board
+IsCarryFault keeps board carry.OutOfMemory = Unit {0}
+
+-- how a run ends whose log isn't carried out
+abbrev pub of_carry_fault : CarryFault → RunFault
+of_carry_fault carry.CrewGone = CrewGone
+of_carry_fault carry.OutOfMemory = OutOfMemory
 
 -- memory was refused, or the crew is gone, which one that keeps no job never is
 abbrev pub IsCrewFault : Bool → RunFault → Type 0

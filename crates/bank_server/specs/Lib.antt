@@ -3,9 +3,16 @@ pub mod Asking
 pub mod Asks
 pub mod Execution
 pub mod Faults
+pub mod Followers
 pub mod Following
 pub mod Input
 pub mod LogNumber
 pub mod Output
+pub mod Place
 pub mod Prepared
+pub mod Primary
+pub mod Saving
+pub mod Served
+pub mod Session
+pub mod SessionFaults
 pub mod Standing

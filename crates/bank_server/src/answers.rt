@@ -2,6 +2,7 @@
 ghost use Rattle.std.specs.Prelude.{◌≡◌, ◌≤◌, ◌-◌, List, Some, [], ◌∷◌, ◌++◌, length, map, slice_get, decimal, codes, OnOk};
 ghost use Rattle.std.specs.List.{All};
 ghost use Rattle.sb_rows.specs.Text.{unlines};
+ghost use Rattle.sb_calls.specs.Replies.{IsReply};
 ghost use Rattle.sb_calls.specs.declared.call.Call.{Call as AnyCall};
 ghost use Rattle.sb_calls.specs.declared.reply.Reply.{Reply as AnyReply};
 ghost use Rattle.cown_board.specs.Board.{open_of};
@@ -81,12 +82,14 @@ fn push_answer<S: CheckpointStore>(
     Ok(())
 }
 
-// The reply of a replica to a number of its log.
-fn reply_to<S: CheckpointStore>(replica: &Replica<S>, number: LogNumber) -> Reply
+/// The reply of a replica to a number of its log.
+pub(crate) fn reply_to<S: CheckpointStore>(replica: &Replica<S>, number: LogNumber) -> Reply
     requires idle { open_of replica.now.board ≡ 0 }
     requires earlier { replica.now.board.earlier ≡ [] }
     requires number { number ≤ length replica.now.board.log }
-    ensures { (replies : List AnyReply) → Tells replica.now.board replies → slice_get replies (number - 1) ≡ Some result }
+    ensures value { (replies : List AnyReply) → Tells replica.now.board replies
+        → slice_get replies (number - 1) ≡ Some result }
+    ensures valid { IsReply result }
 {
     // Its contract says that each op of the log is somewhere.
     prove!(replica.idle());

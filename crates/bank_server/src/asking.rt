@@ -1,19 +1,23 @@
 //! The asks of an input, numbered into one log.
-ghost use Rattle.std.specs.Prelude.{◌≡◌, ◌+◌, ◌<◌, ◌≤◌, ◌^◌, None, List, [], length, MatchOption, MatchResult};
+ghost use Rattle.std.specs.Prelude.{◌≡◌, ◌+◌, ◌<◌, ◌≤◌, ◌^◌, None, List, [], length, IfOk, OnErr, MatchOption, MatchResult};
 ghost use Rattle.sb_rows.specs.Text.{lines};
 ghost use Rattle.sb_calls.specs.Ask.{IsKey};
 ghost use Rattle.sb_calls.specs.declared.ask.Asked.{Asked as AnyAsked};
-ghost use Rattle.bank_server.specs.Asking.{IsAsking, IsAfter, IsOfLog, AsksLine, standing_of_answer};
+ghost use Rattle.sb_calls.specs.declared.ask.Key.{Key as AnyKey};
+ghost use Rattle.sb_calls.specs.declared.call.Call.{Call as AnyCall};
+ghost use Rattle.sb_sequencer.specs.Numbering.{IsLog, first_asks};
+ghost use Rattle.bank_server.specs.Asking.{IsAsking, IsAfter, IsOfLog, AsksLine, AsksOne, GoesOn, standing_of_answer};
 ghost use Rattle.bank_server.specs.Asks.{key_of_line};
 ghost use Rattle.bank_server.specs.Faults.{BlamesText};
 ghost use Rattle.bank_server.specs.Input.{asks_from, in_call};
+ghost use Rattle.bank_server.specs.Standing.{StandsAmong};
 
 use crate::fault::{InputFault, RunFault};
 use crate::log_number::LogNumber;
-use sb_calls::{Asked, Key, LOG_CALLS, read_ask};
+use sb_calls::{Asked, Call, Key, LOG_CALLS, read_ask};
 use sb_rows::next_line;
 use sb_sequencer::{AskFault, Numbered, Sequencer};
-use std::alloc::Global;
+use std::alloc::{AllocError, Global};
 
 // How many bytes an asking line takes, as a rule. Room is made by that; where lines are shorter, the lists grow.
 const USUAL_LINE: usize = 32;
@@ -81,14 +85,33 @@ fn ask(sequencer: &mut Sequencer, running: u64, asked: &Asked) -> Result<Standin
         → AsksLine asks running asked.now sequencer.new.log result }
 {
     match key_of(running, asked.key) {
-        Some(key) => {
-            let answer = sequencer.ask(key.client, key.request, &asked.call);
-            // The log has no more numbers than it takes.
-            prove!(sequencer.length() <= LOG_CALLS as u64);
-            standing_of(answer)
-        }
+        Some(key) => Ok(ask_key(sequencer, key, &asked.call)?),
         // So many keys came before this one that the log is full.
         None => Ok(Standing::LogFull),
+    }
+}
+
+/// Asks for a call under a key, and answers how the ask stands in the log.
+///
+/// Fails where memory is refused; nothing changes then.
+pub(crate) fn ask_key(
+    sequencer: &mut Sequencer,
+    key: Key,
+    call: &Call,
+) -> Result<Standing, AllocError>
+    ensures asked { IfOk result (λ standing. (asks : List (AnyKey × AnyCall)) → sequencer.old.log ≡ first_asks asks
+        → AsksOne asks (key, call.now) sequencer.new.log standing) }
+    ensures among { IfOk result (StandsAmong (length sequencer.new.log)) }
+    ensures log { IfOk result (λ standing. GoesOn sequencer.old.log sequencer.new.log) }
+    ensures valid { IsLog sequencer.new.log }
+    ensures err { OnErr result (sequencer.new ≡ sequencer.old) }
+{
+    let answer = sequencer.ask(key.client, key.request, call);
+    // The log has no more numbers than it takes.
+    prove!(sequencer.length() <= LOG_CALLS as u64);
+    match standing_of(answer) {
+        Some(standing) => Ok(standing),
+        None => Err(AllocError),
     }
 }
 
@@ -107,16 +130,16 @@ fn key_of(running: u64, key: Option<Key>) -> Option<Key>
     }
 }
 
-// How an ask stands that the sequencer answered so.
-fn standing_of(answer: Result<Numbered, AskFault>) -> Result<Standing, RunFault>
+// How an ask stands that the sequencer answered so, or `None` where memory was refused.
+fn standing_of(answer: Result<Numbered, AskFault>) -> Option<Standing>
     requires { IsOfLog answer }
     ensures { result ≡ standing_of_answer answer }
 {
     match answer {
-        Ok(Numbered::New(number)) => Ok(Standing::Number(LogNumber::new(number))),
-        Ok(Numbered::Repeat(number)) => Ok(Standing::Number(LogNumber::new(number))),
-        Err(AskFault::Mismatch(number)) => Ok(Standing::Mismatch(LogNumber::new(number))),
-        Err(AskFault::LogFull) => Ok(Standing::LogFull),
-        Err(AskFault::OutOfMemory) => Err(RunFault::OutOfMemory),
+        Ok(Numbered::New(number)) => Some(Standing::Number(LogNumber::new(number))),
+        Ok(Numbered::Repeat(number)) => Some(Standing::Number(LogNumber::new(number))),
+        Err(AskFault::Mismatch(number)) => Some(Standing::Mismatch(LogNumber::new(number))),
+        Err(AskFault::LogFull) => Some(Standing::LogFull),
+        Err(AskFault::OutOfMemory) => None,
     }
 }

@@ -1,5 +1,5 @@
 //! Carrying out the ops of a log over a replica.
-ghost use Rattle.std.specs.Prelude.{◌≡◌, ◌≢◌, ◌≤◌, ◌<◌, ◌+◌, List, [], ◌∷◌, false, length, map, IfErr, OnOk};
+ghost use Rattle.std.specs.Prelude.{◌≡◌, ◌≢◌, ◌≤◌, ◌<◌, ◌+◌, List, [], ◌∷◌, false, length, map, IfErr, OnOk, OnErr};
 ghost use Rattle.sb_rows.specs.Rows.{SameCustomers};
 ghost use Rattle.sb_calls.specs.Op.{IsOpWithin, resolved};
 ghost use Rattle.sb_calls.specs.declared.call.Call.{Call as AnyCall};
@@ -7,11 +7,11 @@ ghost use Rattle.cown_board.specs.Board.{length_of, open_of};
 ghost use Rattle.cown_workers.specs.Draining.{Drains, NoneOut};
 ghost use Rattle.sb_replica.specs.Replica.{beside_of};
 ghost use Rattle.bank_server.specs.Execution.{ArePut, AreWithin, IsCarriedOut, IsOneByOne, IsOpened};
-ghost use Rattle.bank_server.specs.Faults.{IsCrewFault};
+ghost use Rattle.bank_server.specs.Faults.{IsCarryFault};
 
-use crate::fault::RunFault;
+use crate::carry_fault::CarryFault;
 use crate::feeding::Feed;
-use cown_workers::{Crew, drain};
+use cown_workers::{Crew, CrewGone, drain};
 use sb_calls::{LOG_CALLS, Op};
 use sb_checkpoint::CheckpointStore;
 use sb_replica::Replica;
@@ -24,14 +24,14 @@ pub(crate) const PART: usize = 1024;
 /// of each part of the log before it is submitted, and of the log's end before all is carried out.
 ///
 /// Fails with
-/// - [`RunFault::CrewGone`] where the crew leaves something unfinished, which one that keeps no job never does,
-/// - [`RunFault::OutOfMemory`] where memory is refused.
+/// - [`CarryFault::CrewGone`] where the crew leaves something unfinished, which one that keeps no job never does,
+/// - [`CarryFault::OutOfMemory`] where memory is refused.
 pub fn carry_out<S: CheckpointStore, C: Crew, F: Feed>(
     ops: &[Op],
     replica: &mut Replica<S>,
     crew: &mut C,
     feed: &mut F,
-) -> Result<(), RunFault>
+) -> Result<(), CarryFault>
     requires opened { IsOpened replica.old.board }
     requires few { length ops.now ≤ LOG_CALLS }
     requires within { AreWithin (length replica.old.names) ops.now }
@@ -43,7 +43,7 @@ pub fn carry_out<S: CheckpointStore, C: Crew, F: Feed>(
         → ops.now ≡ map (resolved replica.old.names) calls
         → IsOneByOne replica.old.names calls replica.old.board.opening replica.new.board) }
     ensures beside { beside_of replica.new ≡ beside_of replica.old }
-    ensures fault { IfErr result (IsCrewFault (C.keeps crew.old)) }
+    ensures fault { IfErr result (IsCarryFault (C.keeps crew.old) replica.old.board) }
     ensures stays { C.keeps crew.old ≡ false → C.keeps crew.new ≡ false }
 {
     replica.reserve(ops.len())?;
@@ -58,13 +58,12 @@ fn submit_parts<S: CheckpointStore, C: Crew, F: Feed>(
     replica: &mut Replica<S>,
     crew: &mut C,
     feed: &mut F,
-) -> Result<(), RunFault>
+) -> Result<(), CarryFault>
     requires few { length_of replica.old.board + length ops.now ≤ LOG_CALLS }
     requires within { AreWithin (length replica.old.names) ops.now }
-    requires none_out { NoneOut replica.old.board }
     ensures put { OnOk result (ArePut ops.now replica.old.board replica.new.board) }
     ensures beside { beside_of replica.new ≡ beside_of replica.old }
-    ensures fault { IfErr result (IsCrewFault (C.keeps crew.old)) }
+    ensures fault { IfErr result (IsCarryFault (C.keeps crew.old) replica.old.board) }
     ensures stays { C.keeps crew.old ≡ false → C.keeps crew.new ≡ false }
 {
     let mut done = 0;
@@ -84,13 +83,12 @@ pub fn submit_all<S: CheckpointStore, C: Crew>(
     ops: &[Op],
     replica: &mut Replica<S>,
     crew: &mut C,
-) -> Result<(), RunFault>
+) -> Result<(), CarryFault>
     requires few { length_of replica.old.board + length ops.now ≤ LOG_CALLS }
     requires within { AreWithin (length replica.old.names) ops.now }
-    requires none_out { NoneOut replica.old.board }
     ensures put { OnOk result (ArePut ops.now replica.old.board replica.new.board) }
     ensures beside { beside_of replica.new ≡ beside_of replica.old }
-    ensures fault { IfErr result (IsCrewFault (C.keeps crew.old)) }
+    ensures fault { IfErr result (IsCarryFault (C.keeps crew.old) replica.old.board) }
     ensures stays { C.keeps crew.old ≡ false → C.keeps crew.new ≡ false }
 {
     for op in ops {
@@ -99,18 +97,21 @@ pub fn submit_all<S: CheckpointStore, C: Crew>(
     Ok(())
 }
 
-// Submits an op. Where as many are unfinished as may be, these are carried out first.
-fn submit<S: CheckpointStore, C: Crew>(
+/// Submits an op, last in the log. Where as many are unfinished as may be, these are carried out first.
+///
+/// Fails as [`carry_out`]. The log is as it was then.
+pub(crate) fn submit<S: CheckpointStore, C: Crew>(
     op: &Op,
     replica: &mut Replica<S>,
     crew: &mut C,
-) -> Result<(), RunFault>
+) -> Result<(), CarryFault>
     requires room { length_of replica.old.board < LOG_CALLS }
     requires within { IsOpWithin (length replica.old.names) op.now }
-    requires none_out { NoneOut replica.old.board }
     ensures put { OnOk result (ArePut (op.now ∷ []) replica.old.board replica.new.board) }
+    // After a fault the log is as it was.
+    ensures err { OnErr result (Drains replica.old.board replica.new.board) }
     ensures beside { beside_of replica.new ≡ beside_of replica.old }
-    ensures fault { IfErr result (IsCrewFault (C.keeps crew.old)) }
+    ensures fault { IfErr result (IsCarryFault (C.keeps crew.old) replica.old.board) }
     ensures stays { C.keeps crew.old ≡ false → C.keeps crew.new ≡ false }
 {
     let number = replica.length() + 1;
@@ -128,20 +129,19 @@ fn submit<S: CheckpointStore, C: Crew>(
 
 /// Carries out all that is unfinished.
 ///
-/// Fails with [`RunFault::CrewGone`] where the crew leaves something unfinished.
+/// Fails with [`CarryFault::CrewGone`] where the crew leaves something unfinished.
 pub fn settle<S: CheckpointStore, C: Crew>(
     replica: &mut Replica<S>,
     crew: &mut C,
-) -> Result<(), RunFault>
-    requires none_out { NoneOut replica.old.board }
+) -> Result<(), CarryFault>
     ensures idle { OnOk result (open_of replica.new.board ≡ 0) }
     ensures log { Drains replica.old.board replica.new.board }
     ensures beside { beside_of replica.new ≡ beside_of replica.old }
-    ensures fault { IfErr result (IsCrewFault (C.keeps crew.old)) }
+    ensures fault { IfErr result (IsCarryFault (C.keeps crew.old) replica.old.board) }
     ensures stays { C.keeps crew.old ≡ false → C.keeps crew.new ≡ false }
 {
     match drain(replica, crew) {
         Ok(()) => Ok(()),
-        Err(_) => Err(RunFault::CrewGone),
+        Err(CrewGone) => Err(CarryFault::CrewGone),
     }
 }

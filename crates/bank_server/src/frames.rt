@@ -15,16 +15,41 @@ const USUAL_PART: usize = 1 << 16;
 /// Some whole frames, which all followers share.
 pub(crate) type Message = Arc<Vec<u8>, Global>;
 
-/// The log, and the ends of the channels to the followers.
+/// The ends of the channels to the followers.
 #[derive(Drop)]
-pub(crate) struct Frames<'a, R: Wait> {
+pub(crate) struct Ends<'a, R: Wait> {
     pub(crate) rt: &'a R,
     pub(crate) alloc: Global,
-    pub(crate) log: Sequencer,
     pub(crate) ends: Vec<Sender<Message>>,
 }
 
-impl<'a, R: Wait> Frames<'a, R> {
+impl<'a, R: Wait> Ends<'a, R> {
+    /// Sends the entries of a log after the first `from`, up to the first `to`.
+    pub(crate) fn part(&self, log: &Sequencer, from: usize, to: usize) -> Result<(), AllocError> {
+        if self.ends.is_empty() {
+            return Ok(());
+        }
+        let mut bytes = Vec::with_capacity(self.alloc, USUAL_PART)?;
+        for place in from..to {
+            if let Some(entry) = log.entry(place as u64 + 1) {
+                bytes.extend_from_slice(&encode(&entry))?;
+            }
+        }
+        self.send(bytes)
+    }
+
+    /// Has the followers carry out what was sent.
+    pub(crate) fn flush(&self) -> Result<(), AllocError> {
+        let mut bytes = Vec::new(self.alloc);
+        bytes.extend_from_slice(&encode(&Frame::Flush))?;
+        self.send(bytes)
+    }
+
+    /// Sends nothing more.
+    pub(crate) fn close(&mut self) {
+        self.ends = Vec::new(self.alloc);
+    }
+
     // Sends these bytes to each follower. One that is gone is found out by what it gave back.
     fn send(&self, bytes: Vec<u8>) -> Result<(), AllocError> {
         let message = Arc::new(self.alloc, bytes)?;
@@ -35,20 +60,19 @@ impl<'a, R: Wait> Frames<'a, R> {
     }
 }
 
+/// A log that followers hear of as a run goes on.
+#[derive(Drop)]
+pub(crate) struct Frames<'a, R: Wait> {
+    pub(crate) log: Sequencer,
+    pub(crate) ends: Ends<'a, R>,
+}
+
 impl<'a, R: Wait> Feed for Frames<'a, R> {
     fn part(&mut self, from: usize, to: usize) -> Result<(), AllocError> {
-        let mut bytes = Vec::with_capacity(self.alloc, USUAL_PART)?;
-        for place in from..to {
-            if let Some(entry) = self.log.entry(place as u64 + 1) {
-                bytes.extend_from_slice(&encode(&entry))?;
-            }
-        }
-        self.send(bytes)
+        self.ends.part(&self.log, from, to)
     }
 
     fn end(&mut self) -> Result<(), AllocError> {
-        let mut bytes = Vec::new(self.alloc);
-        bytes.extend_from_slice(&encode(&Frame::Flush))?;
-        self.send(bytes)
+        self.ends.flush()
     }
 }

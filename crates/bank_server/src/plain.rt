@@ -12,7 +12,7 @@ struct Account<'a> {
 }
 
 // What is written for an input without faults or keys.
-pub fn plain_output(alloc: Global, input: &str) -> Result<String, Fail> {
+pub(crate) fn plain_output(alloc: Global, input: &str) -> Result<String, Fail> {
     let mut accounts: Vec<Account> = Vec::new(alloc);
     let mut output = String::new(alloc);
     let mut number = 0u32;

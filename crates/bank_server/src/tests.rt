@@ -14,9 +14,15 @@ use std::time::Clock;
 mod agreements;
 mod devices;
 mod faults;
+mod followers;
 mod gates;
 mod limits;
+mod primaries;
 mod runs;
+mod saves;
+mod sessions;
+mod sockets;
+mod wire;
 
 const OPENING: &[u8] = b"alice 100.00 50.00\nbob 0.00 20.00\ncarol 10.00 0.00\nbegin\n";
 

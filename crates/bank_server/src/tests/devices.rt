@@ -8,10 +8,10 @@ use std::test::Fail;
 
 // Gives a text a byte at a time, and fails, or ends, after so many reads. Each other read is interrupted.
 #[derive(Drop)]
-struct Bytewise<'a> {
-    left: &'a [u8],
-    reads: u32,
-    fails: bool,
+pub(super) struct Bytewise<'a> {
+    pub(super) left: &'a [u8],
+    pub(super) reads: u32,
+    pub(super) fails: bool,
 }
 
 impl Read for Bytewise<'_> {
@@ -73,10 +73,10 @@ fn a_read_that_fails(rt: HostRuntime) -> Result<(), Fail> {
 
 // Takes so many bytes, one a write, and then fails.
 #[derive(Drop)]
-struct Narrow {
-    taken: Vec<u8>,
-    room: usize,
-    flushes: bool,
+pub(super) struct Narrow {
+    pub(super) taken: Vec<u8>,
+    pub(super) room: usize,
+    pub(super) flushes: bool,
 }
 
 impl Write for Narrow {

@@ -1,8 +1,14 @@
 //! Inputs at fault, and how faults are shown.
 use super::expect_fault;
 use crate::fault::{InputFault, RunFault};
+use crate::save_fault::SaveFault;
+use crate::session_fault::SessionFault;
 use sb_calls::CallFault;
+use sb_frames::FrameFault;
 use sb_rows::LineFault;
+use std::alloc::Global;
+use std::fmt;
+use std::process::Abort;
 use std::test::Fail;
 
 #[test]
@@ -129,4 +135,39 @@ fn faults_shown(rt: HostRuntime) -> Result<(), Fail> {
     let fault = InputFault::Call(CallFault::BadName);
     assert!(rt; RunFault::Input { line: 1, fault }.number() == 1);
     Ok(())
+}
+
+// Compares the text of a fault.
+fn expect_text(rt: &impl Abort, alloc: Global, fault: &impl fmt::Display, text: &str) {
+    let shown = format!(in alloc; "{fault}").expect(rt, "memory for a text");
+    assert!(rt; shown.as_str() == text);
+}
+
+#[test]
+fn faults_of_sessions_shown(rt: HostRuntime) {
+    let faults = [
+        (SessionFault::Unexpected, "unexpected frame"),
+        (SessionFault::CrewGone, "crew gone"),
+        (SessionFault::Device, "device"),
+        (SessionFault::OutOfMemory, "out of memory"),
+    ];
+    for (fault, text) in faults {
+        expect_text(&rt, rt.alloc(), &fault, text);
+    }
+    let fault = SessionFault::Frame(FrameFault::BadLength);
+    assert!(&rt; fault.number() == 1 && SessionFault::OutOfMemory.number() == 5);
+}
+
+#[test]
+fn faults_of_saves_shown(rt: HostRuntime) {
+    let faults = [
+        (SaveFault::Device, "device"),
+        (SaveFault::ReadBack, "read back"),
+        (SaveFault::OutOfMemory, "out of memory"),
+        (SaveFault::Busy, "busy"),
+    ];
+    for (fault, text) in faults {
+        expect_text(&rt, rt.alloc(), &fault, text);
+    }
+    assert!(&rt; SaveFault::Device.number() == 1 && SaveFault::Busy.number() == 4);
 }

@@ -14,8 +14,8 @@ unwrap-requires g c =
     some_reply board c.args.number c.reply.result c.requires.idle c.requires.earlier c.idle.ensures.beside
     c.value.ensures.within.counted c.requires.number (c.reply.ensures.value ∙ ap (reply_in board) asked)
 
-pub returns : goal.returns
-returns g c replies tells =
+pub returns-clause-value : goal.returns-clause-value
+returns-clause-value g c replies tells =
     let board = c.args.replica.now.board in
     let asked : c.from.result ≡ c.args.number = c.from.ensures ∙ c.value.ensures.value in
     sym (told_of board replies c.args.number c.reply.result tells c.idle.ensures.beside

@@ -10,7 +10,7 @@ invariant-loop-op g l = record {
   earlier : l.replica.board.earlier ≡ l.fn.replica.board.earlier;
   log : l.replica.board.log ++ drop l.op-index l.ops ≡ l.fn.replica.board.log ++ l.ops;
   count : length l.replica.board.log ≡ length l.fn.replica.board.log + l.op-index;
-  none_out : NoneOut l.replica.board;
+  none_out : NoneOut l.fn.replica.board → NoneOut l.replica.board;
   beside : beside_of l.replica ≡ beside_of l.fn.replica;
   stays : g.C.Crew.keeps l.fn.crew ≡ false → g.C.Crew.keeps l.crew ≡ false;
 }

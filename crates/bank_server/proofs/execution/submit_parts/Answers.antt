@@ -1,5 +1,7 @@
 use Rattle.std.proofs.Common.{◌≡◌, ℕ, ◌+◌, ◌-◌, List, ◌++◌, take, drop, sym, ap, ◌∙◌, arith, append_assoc}
 use Rattle.std.proofs.Math.Seq.{take-add}
+use Rattle.std.proofs.lemmas.Result.{err_from_is_err_and}
+use Rattle.bank_server.proofs.Carried.{fault_behind}
 use Rattle.bank_server.proofs.execution.submit_parts.Goals as goal
 
 -- one part more is submitted
@@ -19,7 +21,14 @@ loop-done-preserved g c =
       log = next_part c.args.replica.now.board.log c.loop-done.replica.board.log c.submit_all.new.replica.board.log c.args.ops.now c.loop-done.done
           c.min.result kept.log put.log;
       within = omega (arith, c.min.ensures, kept.within, c.loop-done-test.true);
-      none_out = put.none_out;
+      none_out = λ none. put.none_out (kept.none_out none);
       beside = c.submit_all.ensures.beside ∙ kept.beside;
       stays = λ e. c.submit_all.ensures.stays (kept.stays e);
     }
+
+pub returns-in_err-submit_all-clause-fault : goal.returns-in_err-submit_all-clause-fault
+returns-in_err-submit_all-clause-fault g c =
+    let p = err_from_is_err_and c.from_residual-in_err-submit_all.result c.from_residual-in_err-submit_all.ensures.1 in
+    let kept = c.loop-done.invariant in
+    rw (p.1, p.2) (fault_behind (g.C.Crew.keeps c.args.crew.now) (g.C.Crew.keeps c.loop-done.crew) c.args.replica.now.board c.loop-done.replica.board
+    c.in_err-submit_all.field-0.0 kept.stays kept.none_out c.in_err-submit_all.ensures.fault)

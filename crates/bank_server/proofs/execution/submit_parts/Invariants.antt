@@ -10,7 +10,7 @@ invariant-loop-done g l = record {
   earlier : l.replica.board.earlier ≡ l.fn.replica.board.earlier;
   log : l.replica.board.log ≡ l.fn.replica.board.log ++ take l.done l.ops;
   within : l.done ≤ length l.ops;
-  none_out : NoneOut l.replica.board;
+  none_out : NoneOut l.fn.replica.board → NoneOut l.replica.board;
   beside : beside_of l.replica ≡ beside_of l.fn.replica;
   stays : g.C.Crew.keeps l.fn.crew ≡ false → g.C.Crew.keeps l.crew ≡ false;
 }

@@ -1,9 +1,9 @@
-use Rattle.std.proofs.Common.{Ok, List, ◌++◌, ℕ, length, sym, ap, subst, ◌∙◌}
+use Rattle.std.proofs.Common.{Ok, List, ◌++◌, length, sym, ap, subst, ◌∙◌}
 use Rattle.std.specs.List.{All}
 use Rattle.sb_calls.specs.declared.op.Op.{Op}
 use Rattle.bank_server.specs.Execution.{HasRun}
 use Rattle.bank_server.specs.Output.{calls_of}
-use Rattle.bank_server.specs.Prepared.{IsPreparedOf, output_after}
+use Rattle.bank_server.specs.Prepared.{output_after}
 use Rattle.bank_server.specs.Standing.{StandsAmong}
 use Rattle.bank_server.specs.declared.asking.Standing.{Standing}
 use Rattle.bank_server.proofs.Runs.{ran, among, output}

@@ -1,0 +1,36 @@
+-- What a save comes to.
+use Rattle.std.proofs.Common.{◌≡◌, ℕ, Option, Some, List, refl, sym, ap, ◌∙◌, inr}
+use Rattle.std.specs.Prelude.{◌≢◌}
+use Rattle.sb_checkpoint.specs.Stores.{StoreStep, Got, NotGot}
+use Rattle.sb_checkpoint.specs.declared.store.StoreFault.{StoreFault}
+use Rattle.sb_checkpoint.specs.declared.store.StoreFault.TheVariants as store
+use Rattle.sb_replica.specs.Marking.{PutsBytes}
+use Rattle.sb_replica.specs.Replica.{ReplicaOf}
+use Rattle.bank_server.specs.Saving.{IsSaveFaultOf, PutsThen, ReadsOther, Saves, save_of_store_fault}
+use Rattle.bank_server.specs.declared.save_fault.SaveFault.TheVariants.{ReadBack}
+
+module _ {S : Type 0} (does : S → StoreStep → S → Type 0) (old mid new : ReplicaOf S) (bytes : List ℕ) (puts : PutsBytes does old bytes mid)
+    (rest : new ≡ record mid { store = new.store }) where
+  then : (step : List ℕ → StoreStep → Type 0) (read : StoreStep) → does mid.store read new.store → step puts.0.bytes read → PutsThen does old step new
+  then step read does_so which = record {
+    mid = mid;
+    puts = puts.0;
+    read = read;
+    does_so = does_so;
+    which = which;
+    stays = rest ∙ ap (λ (r : ReplicaOf S). record r { store = new.store }) puts.0.stays;
+  }
+
+  -- what was put wasn't read back
+  pub not_read : (fault : StoreFault) → does mid.store (NotGot fault) new.store → IsSaveFaultOf does old (save_of_store_fault fault) new
+  not_read store.Device does_so = inr (then (λ bytes read. read ≡ NotGot store.Device) (NotGot store.Device) does_so refl)
+  not_read store.OutOfMemory does_so = inr (then (λ bytes read. read ≡ NotGot store.OutOfMemory) (NotGot store.OutOfMemory) does_so refl)
+
+  -- it was
+  pub read_back : (held : Option (List ℕ)) → does mid.store (Got held) new.store → held ≡ Some bytes → Saves does old new
+  read_back held does_so same = then (λ bytes read. read ≡ Got (Some bytes)) (Got held) does_so (ap Got (same ∙ ap Some (sym puts.1)))
+
+  -- another was
+  pub read_other : (held : Option (List ℕ)) → does mid.store (Got held) new.store → held ≢ Some bytes → IsSaveFaultOf does old ReadBack new
+  read_other held does_so other =
+      then ReadsOther (Got held) does_so (held, (λ same. other (same ∙ ap Some puts.1)), refl)

@@ -1,0 +1,210 @@
+-- A session from its first byte to its last.
+use Rattle.std.proofs.Common.{◌≡◌, ℕ, true, true≢false, Option, Some, None, List, [], ◌++◌, take, refl, sym, ap, subst, ◌∙◌, append_assoc, append-nil, inl, inr}
+use Rattle.std.specs.Prelude.{◌≢◌, ◌⊎◌, IfSome, Err}
+use Rattle.std.specs.Io.KnownBytes.{Appends, Consumes, IsAtEnd, Keeps}
+use Rattle.std.specs.List.{flat_map}
+use Rattle.std.proofs.lemmas.Grind.{flat_map-append}
+use Rattle.std.proofs.lemmas.List.Elements.{All-nil}
+use Rattle.sb_rows.specs.Rows.{Rows}
+use Rattle.sb_calls.specs.declared.ask.Key.{Key}
+use Rattle.sb_calls.specs.declared.call.Call.{Call}
+use Rattle.sb_frames.specs.Decoding.{decoded}
+use Rattle.sb_frames.specs.Grammar.{spelling}
+use Rattle.sb_frames.specs.Streaming.{IsShort, StreamState}
+use Rattle.sb_frames.specs.declared.frame.Frame as frames
+use Rattle.sb_sequencer.specs.Numbering.{IsLog, first_asks}
+use Rattle.bank_server.specs.Place.{Comes, Hears, IsLeftAt, Place, Stops}
+use Rattle.bank_server.specs.Served.{IsAt, IsCutShort, IsServed, IsTold, IsToldBefore}
+use Rattle.bank_server.specs.Session.{IsClients, log_of_session, outcomes_of}
+use Rattle.bank_server.specs.SessionFaults.{IsEndFault, IsSettleFault}
+use Rattle.bank_server.specs.declared.session_fault.SessionFault.{SessionFault}
+use Rattle.bank_server.specs.declared.session_fault.SessionFault.TheVariants.{Frame, Unexpected, CrewGone, Device, OutOfMemory}
+use Rattle.bank_server.proofs.OwnLog.{own_log}
+
+-- these bytes were frames that led from a log to here, and then what is unread
+pub record Heard (opening : Rows) (before : List (Key × Call)) (start : Option (List ℕ)) (bytes : List ℕ) (at : Place) (unread : List ℕ)
+    : Type 0 where
+  pub frames : List frames.Frame
+  pub comes : Comes opening before start frames at
+  pub bytes_are : bytes ≡ flat_map spelling frames ++ unread
+
+-- ---- on the way
+
+appends_nothing : (start : Option (List ℕ)) → Appends start start []
+appends_nothing None = tt
+appends_nothing (Some xs) = sym (append-nil xs)
+
+-- a log in which nothing more is asked stays
+pub nothing_asked : (before : List (Key × Call)) → IsLog before → log_of_session before [] ≡ before
+nothing_asked before is = ap first_asks (append-nil before) ∙ own_log before is
+
+-- before the first byte
+pub heard_nothing : (opening : Rows) (before : List (Key × Call)) (start : Option (List ℕ)) (at : Place) → IsLog before → at.log ≡ before
+    → at.waiting ≡ [] → at.written ≡ start → Heard opening before start [] at []
+heard_nothing opening before start at is log waiting written = record {
+  frames = [];
+  comes = record {
+    clients = All-nil IsClients;
+    log_is = log ∙ sym (nothing_asked before is);
+    waiting_are = waiting;
+    written = subst (λ (w : Option (List ℕ)). Appends start w []) (sym written) (appends_nothing start);
+  };
+  bytes_are = refl;
+}
+
+further : (bytes chunk unread left : List ℕ) (frames more : List frames.Frame) → bytes ≡ flat_map spelling frames ++ unread
+    → unread ++ chunk ≡ flat_map spelling more ++ left → bytes ++ chunk ≡ flat_map spelling (frames ++ more) ++ left
+further bytes chunk unread left frames more bytes_are read =
+    ap (λ (l : List ℕ). l ++ chunk) bytes_are ∙ append_assoc (flat_map spelling frames) unread chunk
+    ∙ ap (λ (l : List ℕ). flat_map spelling frames ++ l) read ∙ sym (append_assoc (flat_map spelling frames) (flat_map spelling more) left)
+    ∙ ap (λ (l : List ℕ). l ++ left) (sym (flat_map-append spelling frames more))
+
+-- one read more
+pub heard_more : (opening : Rows) (before : List (Key × Call)) (start : Option (List ℕ)) (bytes chunk : List ℕ) (mid : Place) (unread : List ℕ)
+    (new : Place) (left : List ℕ) → Heard opening before start bytes mid unread → Hears opening mid (unread ++ chunk) new left
+    → Heard opening before start (bytes ++ chunk) new left
+heard_more opening before start bytes chunk mid unread new left heard hears = record {
+  frames = heard.frames ++ hears.more;
+  comes = hears.leads before start heard.frames heard.comes;
+  bytes_are = further bytes chunk unread left heard.frames hears.more heard.bytes_are hears.read;
+}
+
+-- ---- the end
+
+told_at : (opening : Rows) (before : List (Key × Call)) (start : Option (List ℕ)) (frames : List frames.Frame) (at : Place) (log : List (Key × Call))
+    → log ≡ at.log → Comes opening before start frames at → IsTold opening before frames log start at.written
+told_at opening before start frames at log same came = record {
+  log_is = same ∙ came.log_is;
+  written = subst (λ (l : List (Key × Call)). Appends start at.written (flat_map spelling (outcomes_of opening l frames))) (sym same) came.written;
+}
+
+pub served : (opening : Rows) (before : List (Key × Call)) (start : Option (List ℕ)) (input : List ℕ) (at : Place) (unread : List ℕ)
+    (log : List (Key × Call)) → Heard opening before start input at unread → unread ≡ [] → log ≡ at.log
+    → IsServed opening before log start at.written input
+served opening before start input at unread log heard all same = record {
+  frames = heard.frames;
+  clients = heard.comes.clients;
+  input_is = heard.bytes_are ∙ ap (λ (l : List ℕ). flat_map spelling heard.frames ++ l) all ∙ append-nil (flat_map spelling heard.frames);
+  told = told_at opening before start heard.frames at log same heard.comes;
+}
+
+-- ---- faults
+
+told_before : (fault : SessionFault) (opening : Rows) (before : List (Key × Call)) (start : Option (List ℕ)) (frames : List frames.Frame)
+    (there new : Place) → Comes opening before start frames there → IsLeftAt fault there new
+    → IsToldBefore fault opening before frames new.log start new.written
+told_before (Frame fault) opening before start frames there new came left =
+    told_at opening before start frames new new.log refl (subst (Comes opening before start frames) (sym left) came)
+told_before Unexpected opening before start frames there new came left =
+    told_at opening before start frames new new.log refl (subst (Comes opening before start frames) (sym left) came)
+told_before CrewGone opening before start frames there new came left = left ∙ came.log_is
+told_before Device opening before start frames there new came left = left ∙ came.log_is
+told_before OutOfMemory opening before start frames there new came left = left ∙ came.log_is
+
+-- a fault within a read
+pub stopped : (opening : Rows) (before : List (Key × Call)) (start : Option (List ℕ)) (bytes chunk behind input : List ℕ) (mid : Place)
+    (unread : List ℕ) (new : Place) (fault : SessionFault) → Heard opening before start bytes mid unread → Stops opening mid (unread ++ chunk) fault new
+    → input ≡ (bytes ++ chunk) ++ behind → IsCutShort opening before new.log start new.written input fault
+stopped opening before start bytes chunk behind input mid unread new fault heard stops input_is = record {
+  frames = on.frames;
+  clients = on.comes.clients;
+  rest = stops.rest ++ behind;
+  input_is = input_is ∙ ap (λ (l : List ℕ). l ++ behind) on.bytes_are ∙ append_assoc (flat_map spelling on.frames) stops.rest behind;
+  at = stops.at behind;
+  told = told_before fault opening before start on.frames stops.there new on.comes stops.left;
+}
+  where
+    on : Heard opening before start (bytes ++ chunk) stops.there stops.rest
+    on = heard_more opening before start bytes chunk mid unread stops.there stops.rest heard stops.hears
+
+-- a fault between two reads, or at the end
+pub ended : (opening : Rows) (before : List (Key × Call)) (start : Option (List ℕ)) (bytes behind input : List ℕ) (at : Place) (unread : List ℕ)
+    (new : Place) (fault : SessionFault) → Heard opening before start bytes at unread → input ≡ bytes ++ behind → IsAt fault (unread ++ behind)
+    → IsLeftAt fault at new → IsCutShort opening before new.log start new.written input fault
+ended opening before start bytes behind input at unread new fault heard input_is is_at left = record {
+  frames = heard.frames;
+  clients = heard.comes.clients;
+  rest = unread ++ behind;
+  input_is = input_is ∙ ap (λ (l : List ℕ). l ++ behind) heard.bytes_are ∙ append_assoc (flat_map spelling heard.frames) unread behind;
+  at = is_at;
+  told = told_before fault opening before start heard.frames at new heard.comes left;
+}
+
+-- what says that the last frame isn't whole
+pub end_at : (fault : SessionFault) (stream : StreamState) → IsShort stream → IsEndFault stream fault → IsAt fault (stream.unread ++ [])
+end_at (Frame fault) stream short is =
+    subst (λ (rest : List ℕ). (decoded rest ≡ Err fault) × (rest ≢ [])) (sym (append-nil stream.unread))
+    (short.1 ∙ ap Err (sym is.0), some is.1)
+  where
+    some : (stream.unread ≢ []) ⊎ (stream.failed ≡ true) → stream.unread ≢ []
+    some (inl unread) = unread
+    some (inr failed) = absurd (true≢false (sym failed ∙ short.0))
+end_at Unexpected stream short is = absurd is
+end_at CrewGone stream short is = tt
+end_at Device stream short is = absurd is
+end_at OutOfMemory stream short is = tt
+
+-- at the end nothing was written, and the log stays
+pub end_left : (fault : SessionFault) (stream : StreamState) (at new : Place) → IsEndFault stream fault → new ≡ at → IsLeftAt fault at new
+end_left (Frame fault) stream at new is same = same
+end_left Unexpected stream at new is same = same
+end_left CrewGone stream at new is same = ap (λ (p : Place). p.log) same
+end_left Device stream at new is same = ap (λ (p : Place). p.log) same
+end_left OutOfMemory stream at new is same = ap (λ (p : Place). p.log) same
+
+-- a log that isn't carried out at first
+pub settle_at : (fault : SessionFault) (rest : List ℕ) → IsSettleFault fault → IsAt fault rest
+settle_at (Frame fault) rest is = absurd is
+settle_at Unexpected rest is = absurd is
+settle_at CrewGone rest is = tt
+settle_at Device rest is = absurd is
+settle_at OutOfMemory rest is = tt
+
+pub settle_left : (fault : SessionFault) (at new : Place) → IsSettleFault fault → new.log ≡ at.log → IsLeftAt fault at new
+settle_left (Frame fault) at new is same = absurd is
+settle_left Unexpected at new is same = absurd is
+settle_left CrewGone at new is same = same
+settle_left Device at new is same = same
+settle_left OutOfMemory at new is same = same
+
+-- ---- what a reader had
+
+-- what follows of an input whose front was read
+pub of_front : (P : List ℕ → Type 0) (old now : Option (List ℕ)) (bytes : List ℕ) → Consumes old now bytes
+    → ((input behind : List ℕ) → input ≡ bytes ++ behind → P input) → IfSome old P
+of_front P None now bytes read f = tt
+of_front P (Some xs) None bytes read f = absurd read
+of_front P (Some xs) (Some ys) bytes read f = f xs ys read
+
+-- and of one that was read whole
+pub of_whole : (P : List ℕ → Type 0) (old now : Option (List ℕ)) (bytes : List ℕ) → Consumes old now bytes → IsAtEnd now
+    → ((input : List ℕ) → input ≡ bytes → P input) → IfSome old P
+of_whole P None now bytes read end f = tt
+of_whole P (Some xs) None bytes read end f = absurd read
+of_whole P (Some xs) (Some ys) bytes read end f = f xs (read ∙ ap (λ (l : List ℕ). bytes ++ l) end ∙ append-nil bytes)
+
+pub consumes_nothing : (old : Option (List ℕ)) → Consumes old old []
+consumes_nothing None = tt
+consumes_nothing (Some xs) = refl
+
+pub consumes_more : (old mid now : Option (List ℕ)) (bytes more : List ℕ) → Consumes old mid bytes → Consumes mid now more
+    → Consumes old now (bytes ++ more)
+consumes_more None mid now bytes more first second = tt
+consumes_more (Some xs) None now bytes more first second = absurd first
+consumes_more (Some xs) (Some ys) None bytes more first second = absurd second
+consumes_more (Some xs) (Some ys) (Some zs) bytes more first second =
+    first ∙ ap (λ (l : List ℕ). bytes ++ l) second ∙ sym (append_assoc bytes more zs)
+
+-- what is kept was not read
+pub consumes_kept : (old mid now : Option (List ℕ)) (bytes : List ℕ) → Consumes old mid bytes → Keeps mid now → Consumes old now bytes
+consumes_kept None mid now bytes first kept = tt
+consumes_kept (Some xs) None now bytes first kept = absurd first
+consumes_kept (Some xs) (Some ys) None bytes first kept = absurd kept
+consumes_kept (Some xs) (Some ys) (Some zs) bytes first kept = first ∙ ap (λ (l : List ℕ). bytes ++ l) (sym kept)
+
+-- a read that gave nothing
+pub consumes_none : (old mid now : Option (List ℕ)) (bytes buffer : List ℕ) (n : ℕ) → Consumes old mid bytes → Consumes mid now (take n buffer) → n ≡ 0
+    → Consumes old now bytes
+consumes_none old mid now bytes buffer n first second none =
+    subst (λ (l : List ℕ). Consumes old now l) (ap (λ k. bytes ++ take k buffer) none ∙ append-nil bytes)
+    (consumes_more old mid now bytes (take n buffer) first second)

@@ -1,0 +1,45 @@
+use Rattle.std.proofs.Common.{◌≡◌, ℕ, suc, ◌++◌, ◌∷◌, [], List, Some, length, sym, ap, ◌∙◌, arith, length-append}
+use Rattle.std.specs.Prelude.{slice_get}
+use Rattle.std.specs.Option.{option_copied}
+use Rattle.std.proofs.lemmas.Result.{err_from_is_err_and}
+use Rattle.sb_calls.specs.Op.{resolved}
+use Rattle.sb_calls.specs.declared.op.Op.{Op}
+use Rattle.sb_replica.specs.Replica.{BesideOf}
+use Rattle.sb_sequencer.specs.Numbering.{call_at}
+use Rattle.bank_server.specs.Primary.{ops_of}
+use Rattle.bank_server.proofs.Carried.{fault_behind, op_here, one_more_op}
+use Rattle.bank_server.proofs.catching_up.catch_up.Goals as goal
+
+pub returns-in_err-submit-clause-fault : goal.returns-in_err-submit-clause-fault
+returns-in_err-submit-clause-fault g c =
+    let p = err_from_is_err_and c.from_residual.result c.from_residual.ensures.1 in
+    let kept = c.loop-number.invariant in
+    rw (p.1, p.2) (fault_behind (g.C.Crew.keeps c.args.crew.now) (g.C.Crew.keeps c.loop-number.crew) c.args.node.now.board c.loop-number.node.board
+    c.in_err-submit.field-0.0 kept.stays kept.none_out c.in_err-submit.ensures.fault)
+
+pub loop-number-preserved : goal.loop-number-preserved
+loop-number-preserved g c =
+    let kept = c.loop-number.invariant in
+    let put = c.in_ok-submit.ensures.put in
+    let names : List (List ℕ) = c.args.node.now.names in
+    let log = c.args.log.now.log in
+    let so_far : List Op = c.loop-number.node.board.log in
+    let call = c.unwrap-call.result.now in
+    let op = c.resolve-op.result in
+    let looked_up : resolved names call ≡ op =
+    ap (λ (ns : List (List ℕ)). resolved ns call) (sym (c.directory.ensures ∙ ap (λ (b : BesideOf _). b.names) kept.beside)) ∙ sym c.resolve-op.ensures.value in
+    let next : suc (length so_far) ≡ c.loop-number.number = omega (arith, kept.count) in
+    let at : call_at log (suc (length so_far)) ≡ Some call = ap (call_at log) next ∙ sym c.call.ensures ∙ ap option_copied c.unwrap-call.ensures in
+    let here : slice_get (ops_of names log) (length so_far) ≡ Some op = op_here (resolved names) log (length so_far) call at ∙ ap Some looked_up in
+    let more = one_more_op (ops_of names log) so_far kept.behind.begins.0 op kept.behind.begins.1 here in
+    record {
+      behind = record {
+        earlier = put.earlier ∙ kept.behind.earlier;
+        begins = (more.0, more.1 ∙ ap (λ (l : List Op). l ++ more.0) (sym put.log));
+      };
+      count = omega (arith, ap {B = ℕ} length put.log, length-append so_far (op ∷ []), kept.count);
+      opening = put.opening ∙ kept.opening;
+      beside = c.submit.ensures.beside ∙ kept.beside;
+      none_out = λ none. put.none_out (kept.none_out none);
+      stays = λ e. c.submit.ensures.stays (kept.stays e);
+    }

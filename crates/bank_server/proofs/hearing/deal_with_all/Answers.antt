@@ -1,0 +1,64 @@
+use Rattle.std.proofs.Common.{Option, Err, ◌++◌, ◌∷◌, [], refl, sym, ap, subst, ◌∙◌}
+use Rattle.std.specs.Prelude.{IfSome}
+use Rattle.std.proofs.lemmas.Result.{err_from_is_err_and}
+use Rattle.sb_rows.specs.Rows.{Rows}
+use Rattle.sb_frames.specs.Streaming.{HandsOut, StreamState}
+use Rattle.sb_frames.specs.declared.fault.StreamFault.TheVariants.{Bad}
+use Rattle.sb_frames.specs.declared.frame.Frame.{Frame}
+use Rattle.bank_server.specs.Place.{Leads, place_of}
+use Rattle.bank_server.specs.Primary.{opening_of}
+use Rattle.bank_server.proofs.Hearings.{bad_stops, hears_frame, keeps_on, loses_behind, refused_stops}
+use Rattle.bank_server.proofs.Tellings.{same_opening}
+use Rattle.bank_server.proofs.hearing.deal_with_all.Goals as goal
+
+pub loop-frame-preserved : goal.loop-frame-preserved
+loop-frame-preserved g c =
+    let loop = c.loop-frame in
+    let kept = loop.invariant in
+    let step = c.in_ok-deal_with-in-Ok-Some.ensures in
+    let handed : HandsOut c.loop-frame.hearing.stream c.in-Ok-Some.frame c.next.new.self =
+    subst (λ (o : Option Frame). IfSome o (λ frame. HandsOut c.loop-frame.hearing.stream frame c.next.new.self)) c.in-Ok-Some.field-0-is c.in-Ok-Some.ensures.frame in
+    let old = place_of c.args.primary.now.log c.args.hearing.now (g.W.Write.contents c.args.writer.now) in
+    let mid = place_of loop.primary.log loop.hearing (g.W.Write.contents loop.writer) in
+    let new = place_of c.deal_with.new.primary.log c.deal_with.new.hearing (g.W.Write.contents c.deal_with.new.writer) in
+    let leads : Leads (opening_of c.args.primary.now) mid (c.in-Ok-Some.frame ∷ []) new =
+    subst (λ (rows : Rows). Leads rows mid (c.in-Ok-Some.frame ∷ []) new) (same_opening c.args.primary.now loop.primary kept.bank) step.leads in
+    record {
+      hears = hears_frame (opening_of c.args.primary.now) old mid new c.args.hearing.now.stream.unread loop.hearing.stream.unread
+          c.deal_with.new.hearing.stream.unread c.in-Ok-Some.frame handed.spelled.0 kept.hears handed.spelled.1
+          (handed.spelled.2 ∙ ap (λ (s : StreamState). handed.spelled.0 ++ s.unread) (sym step.stream)) leads;
+      among = step.among;
+      going = ap (λ (s : StreamState). s.failed) step.stream ∙ handed.going;
+      bank = keeps_on c.args.primary.now loop.primary c.deal_with.new.primary kept.bank step.bank;
+      none_out = λ none. step.none_out (kept.none_out none);
+      stays = λ e. step.stays (kept.stays e);
+    }
+
+pub returns-in_err-deal_with-in-Ok-Some-clause-stops : goal.returns-in_err-deal_with-in-Ok-Some-clause-stops
+returns-in_err-deal_with-in-Ok-Some-clause-stops g c =
+    let p = err_from_is_err_and c.from_residual.result c.from_residual.ensures.1 in
+    let loop = c.loop-frame in
+    let handed : HandsOut c.loop-frame.hearing.stream c.in-Ok-Some.frame c.next.new.self =
+    subst (λ (o : Option Frame). IfSome o (λ frame. HandsOut c.loop-frame.hearing.stream frame c.next.new.self)) c.in-Ok-Some.field-0-is c.in-Ok-Some.ensures.frame in
+    let old = place_of c.args.primary.now.log c.args.hearing.now (g.W.Write.contents c.args.writer.now) in
+    let mid = place_of loop.primary.log loop.hearing (g.W.Write.contents loop.writer) in
+    let new = place_of c.deal_with.new.primary.log c.deal_with.new.hearing (g.W.Write.contents c.deal_with.new.writer) in
+    rw (p.1, p.2) (refused_stops (opening_of c.args.primary.now) old mid new c.args.hearing.now.stream.unread loop.hearing.stream.unread
+    c.next.new.self.unread c.in-Ok-Some.frame handed.spelled.0 c.in_err-deal_with-in-Ok-Some.field-0.0 loop.invariant.hears handed.spelled.1
+    handed.spelled.2 c.in_err-deal_with-in-Ok-Some.ensures.refused)
+
+pub returns-in_err-deal_with-in-Ok-Some-clause-gone : goal.returns-in_err-deal_with-in-Ok-Some-clause-gone
+returns-in_err-deal_with-in-Ok-Some-clause-gone g c =
+    let p = err_from_is_err_and c.from_residual.result c.from_residual.ensures.1 in
+    let kept = c.loop-frame.invariant in
+    rw (p.1, p.2) (loses_behind (g.C.Crew.keeps c.args.crew.now) (g.C.Crew.keeps c.loop-frame.crew) c.args.primary.now.node.board
+    c.loop-frame.primary.node.board c.in_err-deal_with-in-Ok-Some.field-0.0 kept.stays kept.none_out c.in_err-deal_with-in-Ok-Some.ensures.gone)
+
+pub returns-in-Err-Bad-clause-stops : goal.returns-in-Err-Bad-clause-stops
+returns-in-Err-Bad-clause-stops g c =
+    let loop = c.loop-frame in
+    let old = place_of c.args.primary.now.log c.args.hearing.now (g.W.Write.contents c.args.writer.now) in
+    let at = place_of loop.primary.log loop.hearing (g.W.Write.contents loop.writer) in
+    let why = (c.in-Err-Bad.ensures.fault (Bad c.in-Err-Bad.fault)).0 (ap Err c.in-Err-Bad.field-0-is) in
+    bad_stops (opening_of c.args.primary.now) old at at c.args.hearing.now.stream.unread loop.hearing.stream.unread c.in-Err-Bad.fault loop.invariant.hears
+    why.1 why.2 refl

@@ -1,0 +1,44 @@
+-- The log and node 0, which carries it out.
+use Rattle.std.specs.Prelude.{◌≡◌, ℕ, List, [], ◌++◌, map}
+use Rattle.sb_rows.specs.Rows.{Rows, SameCustomers, rows_of}
+use Rattle.sb_calls.specs.Op.{resolved}
+use Rattle.sb_calls.specs.declared.ask.Key.{Key}
+use Rattle.sb_calls.specs.declared.call.Call.{Call}
+use Rattle.sb_calls.specs.declared.op.Op.{Op}
+use Rattle.cown_board.specs.Board.{BoardOf}
+use Rattle.sb_replica.specs.Replica.{ReplicaOf, beside_of}
+use Rattle.sb_sequencer.specs.Numbering.{IsLog}
+use Rattle.bank_server.specs.Execution.{IsCarriedOut}
+use Rattle.bank_server.specs.Output.{calls_of}
+
+-- the ops of a log's calls, by these names
+abbrev pub ops_of : List (List ℕ) → List (Key × Call) → List Op
+ops_of names log = map (resolved names) (calls_of log)
+
+-- a board has a beginning of these ops, and no numbers before
+pub record IsBehind (ops : List Op) (board : BoardOf Op) : Type 0 where
+  pub earlier : board.earlier ≡ []
+  pub begins : (rest : List Op) × (ops ≡ board.log ++ rest)
+
+pub record PrimaryOf (S : Type 0) : Type 0 where
+  pub log : List (Key × Call)
+  pub node : ReplicaOf S
+
+-- the rows that the log is carried out over
+abbrev pub opening_of : {S : Type 0} → PrimaryOf S → Rows
+opening_of primary = rows_of primary.node.names primary.node.board.opening
+
+-- what is always so of the two
+pub record IsPrimary {S : Type 0} (primary : PrimaryOf S) : Type 0 where
+  pub log : IsLog primary.log
+  pub customers : SameCustomers primary.node.names primary.node.board.opening
+  pub behind : IsBehind (ops_of primary.node.names primary.log) primary.node.board
+
+-- node 0 has carried out the whole log
+abbrev pub HasAll : {S : Type 0} → PrimaryOf S → Type 0
+HasAll primary = IsCarriedOut (ops_of primary.node.names primary.log) primary.node.board
+
+-- node 0 stays who it is, with its names and store, over the same opening
+pub record KeepsBank {S : Type 0} (old new : PrimaryOf S) : Type 0 where
+  pub beside : beside_of new.node ≡ beside_of old.node
+  pub opening : new.node.board.opening ≡ old.node.board.opening

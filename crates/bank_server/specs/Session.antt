@@ -1,0 +1,74 @@
+-- What a client's session comes to.
+use Rattle.std.specs.Prelude.{◌-◌, Bool, true, false, if◌then◌else◌, Option, Some, None, List, [], ◌∷◌, ◌++◌, slice_get}
+use Rattle.std.specs.List.{flat_map, list_any}
+use Rattle.sb_rows.specs.Rows.{Rows}
+use Rattle.sb_calls.specs.Log.{replies_to}
+use Rattle.sb_calls.specs.declared.ask.Key.{Key}
+use Rattle.sb_calls.specs.declared.call.Call.{Call}
+use Rattle.sb_calls.specs.declared.reply.Reply.{Reply}
+use Rattle.sb_frames.specs.declared.frame.AskOutcome.TheVariants as ended
+use Rattle.sb_frames.specs.declared.frame.Frame.{Frame}
+use Rattle.sb_frames.specs.declared.frame.Frame.TheVariants.{Ask, Entry, Ack, Answer, Outcome, Flush}
+use Rattle.sb_sequencer.specs.Numbering.{first_asks}
+use Rattle.bank_server.specs.Output.{calls_of}
+use Rattle.bank_server.specs.Standing.{standing_of}
+use Rattle.bank_server.specs.declared.asking.Standing.{Standing}
+use Rattle.bank_server.specs.declared.asking.Standing.TheVariants.{Number, Mismatch, LogFull}
+
+-- a client sends asks and flushes, and nothing else
+abbrev pub IsClients : Frame → Type 0
+IsClients (Ask client request call) = Unit {0}
+IsClients (Entry number call) = ⊥
+IsClients (Ack replica size) = ⊥
+IsClients (Answer number reply) = ⊥
+IsClients (Outcome client request outcome) = ⊥
+IsClients Flush = Unit {0}
+
+abbrev pub is_flush : Frame → Bool
+is_flush (Ask client request call) = false
+is_flush (Entry number call) = false
+is_flush (Ack replica size) = false
+is_flush (Answer number reply) = false
+is_flush (Outcome client request outcome) = false
+is_flush Flush = true
+
+-- what a frame asks, if it is an ask
+abbrev pub ask_in : Frame → List (Key × Call)
+ask_in (Ask client request call) = (record { client = client; request = request }, call) ∷ []
+ask_in (Entry number call) = []
+ask_in (Ack replica size) = []
+ask_in (Answer number reply) = []
+ask_in (Outcome client request outcome) = []
+ask_in Flush = []
+
+-- what is asked, in order
+abbrev pub asks_in : List Frame → List (Key × Call)
+asks_in frames = flat_map ask_in frames
+
+-- the asks that a flush follows: the client is told how these ended
+abbrev pub told_in : List Frame → List (Key × Call)
+told_in [] = []
+told_in (frame ∷ frames) = if list_any is_flush frames then ask_in frame ++ told_in frames else []
+
+-- the log after a session: the first ask of each key, among those before and then the session's
+abbrev pub log_of_session : List (Key × Call) → List Frame → List (Key × Call)
+log_of_session before frames = first_asks (before ++ asks_in frames)
+
+-- that a call was run, with this reply
+abbrev pub replied : Key → Option Reply → List Frame
+replied key None = []
+replied key (Some reply) = Outcome key.client key.request (ended.Replied reply) ∷ []
+
+-- how an ask ended that stands so in a log with these replies
+abbrev pub outcome_by : List Reply → Key → Standing → List Frame
+outcome_by replies key (Number n) = replied key (slice_get replies (n - 1))
+outcome_by replies key (Mismatch n) = Outcome key.client key.request ended.Mismatch ∷ []
+outcome_by replies key LogFull = Outcome key.client key.request ended.LogFull ∷ []
+
+-- how an ask ended in a log over these rows
+abbrev pub outcome_of : Rows → List (Key × Call) → Key × Call → List Frame
+outcome_of opening log ask = outcome_by (replies_to opening (calls_of log)) ask.0 (standing_of log ask)
+
+-- what a client is told in a session: of each ask that a flush follows, in order, how it ended
+abbrev pub outcomes_of : Rows → List (Key × Call) → List Frame → List Frame
+outcomes_of opening log frames = flat_map (outcome_of opening log) (told_in frames)

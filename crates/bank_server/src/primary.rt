@@ -1,0 +1,170 @@
+//! The log and node 0, which carries it out.
+ghost use Rattle.std.specs.Prelude.{◌≡◌, ◌≢◌, ◌≤◌, ◌↔◌, [], List, length, false, Some, IfOk, IfErr, IsErrOf, IsTrue, OnOk, OnErr, option_map};
+ghost use Rattle.sb_calls.specs.declared.ask.Key.{Key as AnyKey};
+ghost use Rattle.sb_calls.specs.declared.call.Call.{Call as AnyCall};
+ghost use Rattle.cown_board.specs.Board.{length_of, open_of};
+ghost use Rattle.cown_board.specs.Played.{opened_with};
+ghost use Rattle.cown_workers.specs.Draining.{NoneOut};
+ghost use Rattle.sb_checkpoint.specs.Stores.{StoreDoes};
+ghost use Rattle.sb_replica.specs.Replica.{beside_of};
+ghost use Rattle.sb_sequencer.specs.Numbering.{IsLog, first_asks};
+ghost use Rattle.bank_server.specs.Asking.{AsksOne};
+ghost use Rattle.bank_server.specs.Primary.{HasAll, IsPrimary, KeepsBank};
+ghost use Rattle.bank_server.specs.Saving.{HoldsCheckpoint, IsSaveFaultOf, Saves};
+ghost use Rattle.bank_server.specs.SessionFaults.{IsSettleFault, LosesCrew};
+ghost use Rattle.bank_server.specs.Standing.{StandsAmong};
+
+use crate::asking::{Standing, ask_key};
+use crate::catching_up::catch_up;
+use crate::execution::settle;
+use crate::save_fault::SaveFault;
+use crate::session_fault::SessionFault;
+use cown_workers::Crew;
+use sb_calls::{Call, Key};
+use sb_checkpoint::CheckpointStore;
+use sb_replica::Replica;
+use sb_rows::Opening;
+use sb_sequencer::Sequencer;
+use std::alloc::{AllocError, Global};
+use std::marker::Model;
+
+/// The log, and node 0, which has carried out a beginning of it.
+#[derive(Drop)]
+pub struct Primary<S: CheckpointStore> {
+    log: Sequencer,
+    node: Replica<S>,
+}
+
+impl<S: CheckpointStore> Model for Primary<S> {
+    ghost use Rattle.bank_server.specs.Primary.{PrimaryOf, IsPrimary};
+
+    ghost Value = { PrimaryOf S };
+
+    ghost view = { λ p. record { log = p.log.log; node = p.node } };
+
+    ghost invariant = { λ p. IsPrimary (record { log = p.log.log; node = p.node }) };
+}
+
+impl<S: CheckpointStore> Primary<S> {
+    /// An empty log, and node 0 at this opening. The store isn't touched.
+    pub fn open(alloc: Global, opening: Opening, store: S) -> Result<Primary<S>, AllocError>
+        ensures log { IfOk result (λ primary. primary.log ≡ []) }
+        ensures node { IfOk result (λ primary. primary.node ≡ record {
+          id = 0;
+          names = opening.directory;
+          opening = opening.columns;
+          board = opened_with opening.columns [];
+          store = store;
+        }) }
+    {
+        let log = Sequencer::open(alloc, 1);
+        let node = Replica::open(alloc, 0, opening.directory, opening.columns, store)?;
+        Ok(Primary { log, node })
+    }
+
+    /// The log.
+    pub fn log(&self) -> &Sequencer
+        ensures { result.now.log ≡ self.now.log }
+    {
+        &self.log
+    }
+
+    /// Node 0.
+    pub fn node(&self) -> &Replica<S>
+        ensures value { result.now ≡ self.now.node }
+        // It has a beginning of the log.
+        ensures valid { IsPrimary self.now }
+    {
+        &self.node
+    }
+
+    /// Asks for a call under a key, and answers how the ask stands in the log.
+    ///
+    /// Fails where memory is refused; nothing changes then.
+    pub(crate) fn ask(&mut self, key: Key, call: &Call) -> Result<Standing, AllocError>
+        ensures asked { IfOk result (λ standing. (asks : List (AnyKey × AnyCall)) → self.old.log ≡ first_asks asks
+            → AsksOne asks (key, call.now) self.new.log standing) }
+        ensures among { IfOk result (StandsAmong (length self.new.log)) }
+        ensures grows { length self.old.log ≤ length self.new.log }
+        ensures node { self.new.node ≡ self.old.node }
+        ensures err { OnErr result (self.new ≡ self.old) }
+    {
+        ask_key(&mut self.log, key, call)
+    }
+
+    /// Offers node 0 the entries of the log that it lacks.
+    ///
+    /// Fails as [`Primary::settle`].
+    pub(crate) fn offer_rest<C: Crew>(&mut self, crew: &mut C) -> Result<(), SessionFault>
+        ensures log { self.new.log ≡ self.old.log }
+        ensures bank { KeepsBank self.old self.new }
+        ensures none_out { OnOk result (NoneOut self.old.node.board → NoneOut self.new.node.board) }
+        ensures fault { IfErr result IsSettleFault }
+        ensures gone { IfErr result (LosesCrew (C.keeps crew.old) self.old.node.board) }
+        ensures stays { C.keeps crew.old ≡ false → C.keeps crew.new ≡ false }
+    {
+        Ok(catch_up(&self.log, &mut self.node, crew)?)
+    }
+
+    /// Has node 0 carry out all of the log.
+    ///
+    /// Fails with
+    /// - [`SessionFault::CrewGone`] where the crew leaves something unfinished, which one that keeps no job never
+    ///   does where none was out,
+    /// - [`SessionFault::OutOfMemory`] where memory is refused.
+    ///
+    /// The log stays, and node 0 may have carried out more of it then.
+    pub fn settle<C: Crew>(&mut self, crew: &mut C) -> Result<(), SessionFault>
+        ensures all { OnOk result (HasAll self.new) }
+        ensures log { self.new.log ≡ self.old.log }
+        // It has one number a key.
+        ensures one_each { IsLog self.new.log }
+        ensures bank { KeepsBank self.old self.new }
+        ensures fault { IfErr result IsSettleFault }
+        ensures gone { IfErr result (LosesCrew (C.keeps crew.old) self.old.node.board) }
+        ensures stays { C.keeps crew.old ≡ false → C.keeps crew.new ≡ false }
+    {
+        catch_up(&self.log, &mut self.node, crew)?;
+        Ok(settle(&mut self.node, crew)?)
+    }
+
+    /// Puts a checkpoint of all that node 0 carried out into its store, reads it back, and answers how many entries of
+    /// the log it is of. After [`Primary::settle`] these are all.
+    ///
+    /// Fails with
+    /// - [`SaveFault::Device`] where a put or a get fails,
+    /// - [`SaveFault::ReadBack`] where what is read back isn't what was put, which an honest store never does,
+    /// - [`SaveFault::OutOfMemory`] where memory is refused,
+    /// - [`SaveFault::Busy`] exactly where node 0 has something unfinished.
+    ///
+    /// The log and the rows stay.
+    pub fn save(&mut self) -> Result<u64, SaveFault>
+        ensures saved { OnOk result (Saves (StoreDoes S.slot S.IsHonest S.failed S.acts) self.old.node self.new.node) }
+        ensures size { IfOk result (λ size. size ≡ length_of self.old.node.board) }
+        // An honest store holds the checkpoint then.
+        ensures held { OnOk result (S.IsHonest self.old.node.store
+            → HoldsCheckpoint S.slot self.old.node self.new.node) }
+        ensures fault { IfErr result (λ fault. IsSaveFaultOf (StoreDoes S.slot S.IsHonest S.failed S.acts)
+            self.old.node fault self.new.node) }
+        ensures busy { IsErrOf result SaveFault.Busy ↔ (open_of self.old.node.board ≢ 0) }
+        ensures honest { S.IsHonest self.old.node.store → ¬ IsErrOf result SaveFault.ReadBack }
+        ensures stays { self.new ≡ record self.old { node = record self.old.node { store = self.new.node.store } } }
+    {
+        let put = self.node.put_checkpoint()?;
+        let held = self.node.stored()?;
+        if !is_same(&held, &put) {
+            return Err(SaveFault::ReadBack);
+        }
+        Ok(self.node.length())
+    }
+}
+
+// Whether these bytes are held.
+fn is_same(held: &Option<Vec<u8>>, bytes: &[u8]) -> bool
+    ensures { IsTrue result ↔ (option_map (λ held. held.items) held.now ≡ Some bytes.now) }
+{
+    match held {
+        Some(held) => held.as_slice() == bytes,
+        None => false,
+    }
+}

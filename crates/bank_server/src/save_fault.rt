@@ -1,0 +1,61 @@
+//! Why a bank isn't saved.
+ghost use Rattle.std.specs.Prelude.{◌≡◌};
+ghost use Rattle.bank_server.specs.Saving.{save_fault_number, save_of_mark_fault, save_of_store_fault};
+
+use sb_checkpoint::StoreFault;
+use sb_replica::MarkFault;
+use thiserror::Error;
+
+/// Why a bank isn't saved. The log and the rows are as they were.
+#[derive(Clone, Copy, Debug, PartialEq, Eq, Error)]
+pub enum SaveFault {
+    /// A put or a get of the store failed. It holds wholly the old or wholly the new checkpoint.
+    #[error("device")]
+    Device,
+    /// What was read back isn't what was put. An honest store never does that.
+    #[error("read back")]
+    ReadBack,
+    /// Memory was refused. The store may hold the new checkpoint already.
+    #[error("out of memory")]
+    OutOfMemory,
+    /// Something is unfinished. The store wasn't touched.
+    #[error("busy")]
+    Busy,
+}
+
+impl SaveFault {
+    /// The number of the fault, from 1 to 4 in the order of the variants.
+    pub fn number(&self) -> u8
+        ensures { result ≡ save_fault_number self.now }
+    {
+        match self {
+            SaveFault::Device => 1,
+            SaveFault::ReadBack => 2,
+            SaveFault::OutOfMemory => 3,
+            SaveFault::Busy => 4,
+        }
+    }
+}
+
+impl From<MarkFault> for SaveFault {
+    ghost from_gives = { λ mark fault. fault ≡ save_of_mark_fault mark };
+
+    fn from(mark: MarkFault) -> SaveFault {
+        match mark {
+            MarkFault::Busy => SaveFault::Busy,
+            MarkFault::Device => SaveFault::Device,
+            MarkFault::OutOfMemory => SaveFault::OutOfMemory,
+        }
+    }
+}
+
+impl From<StoreFault> for SaveFault {
+    ghost from_gives = { λ store fault. fault ≡ save_of_store_fault store };
+
+    fn from(store: StoreFault) -> SaveFault {
+        match store {
+            StoreFault::Device => SaveFault::Device,
+            StoreFault::OutOfMemory => SaveFault::OutOfMemory,
+        }
+    }
+}

@@ -1,0 +1,88 @@
+//! A client's session.
+ghost use Rattle.std.specs.Prelude.{◌≡◌, [], false, IfErr, IfSome, OnOk};
+ghost use Rattle.bank_server.specs.Primary.{HasAll, KeepsBank, opening_of};
+ghost use Rattle.bank_server.specs.SessionFaults.{IsEndFault, LosesCrew};
+ghost use Rattle.bank_server.specs.Served.{IsServed, IsCutShort};
+
+use crate::hearing::{Hearing, hear};
+use crate::primary::Primary;
+use crate::session_fault::SessionFault;
+use cown_workers::Crew;
+use sb_checkpoint::CheckpointStore;
+use sb_frames::FrameFault;
+use sb_text::READS;
+use std::alloc::Global;
+use std::io::{ErrorKind, Read, Write};
+
+// How many bytes are asked of a reader at once.
+const CHUNK: usize = 65_536;
+
+/// Serves one client, from its first byte to its last: each ask is numbered and offered to node 0, and at each flush
+/// node 0 carries out all of the log and the client is told how each ask since the flush before ended.
+///
+/// Every whole frame that was read is dealt with before more is read. Asks after the last flush are numbered and
+/// carried out, and their client isn't told.
+///
+/// Fails with
+/// - [`SessionFault::Frame`] where bytes come that no frame begins with, or the last frame isn't whole,
+/// - [`SessionFault::Unexpected`] where a frame comes that is neither an ask nor a flush,
+/// - [`SessionFault::CrewGone`] where the crew leaves something unfinished,
+/// - [`SessionFault::Device`] where a read or a write fails, or the client takes more than [`READS`] reads,
+/// - [`SessionFault::OutOfMemory`] where memory is refused.
+///
+/// The log keeps what was numbered by then, and another session can be served.
+pub fn serve_session<R: Read, W: Write, S: CheckpointStore, C: Crew>(
+    alloc: Global,
+    reader: &mut R,
+    writer: &mut W,
+    primary: &mut Primary<S>,
+    crew: &mut C,
+) -> Result<(), SessionFault>
+    // All that was read was asks and flushes; the log is that of the session, and its outcomes are written.
+    ensures served { OnOk result (IfSome (R.remaining reader.old) (IsServed (opening_of primary.old)
+        primary.old.log primary.new.log (W.contents writer.old) (W.contents writer.new))) }
+    ensures all { OnOk result (HasAll primary.new) }
+    // After a fault the log is that of a beginning of the session, and the fault came behind it.
+    ensures cut_short { IfErr result (λ fault. IfSome (R.remaining reader.old) (λ input.
+        IsCutShort (opening_of primary.old) primary.old.log primary.new.log (W.contents writer.old)
+        (W.contents writer.new) input fault)) }
+    ensures bank { KeepsBank primary.old primary.new }
+    ensures gone { IfErr result (LosesCrew (C.keeps crew.old) primary.old.node.board) }
+    ensures stays { C.keeps crew.old ≡ false → C.keeps crew.new ≡ false }
+{
+    primary.settle(crew)?;
+    let mut hearing = Hearing::new(alloc);
+    let mut chunk = [0u8; CHUNK];
+    for _ in 0..READS {
+        match reader.read(&mut chunk) {
+            Ok(0) => return end(&hearing, primary, crew),
+            Ok(count) => hear(&chunk[..count], &mut hearing, writer, primary, crew)?,
+            Err(error) => {
+                if error.kind() != ErrorKind::Interrupted {
+                    return Err(SessionFault::Device);
+                }
+            }
+        }
+    }
+    Err(SessionFault::Device)
+}
+
+// Ends a session at the end of what its client sent.
+fn end<S: CheckpointStore, C: Crew>(
+    hearing: &Hearing,
+    primary: &mut Primary<S>,
+    crew: &mut C,
+) -> Result<(), SessionFault>
+    ensures whole { OnOk result (hearing.now.stream.unread ≡ []) }
+    ensures all { OnOk result (HasAll primary.new) }
+    ensures log { primary.new.log ≡ primary.old.log }
+    ensures fault { IfErr result (IsEndFault hearing.now.stream) }
+    ensures bank { KeepsBank primary.old primary.new }
+    ensures gone { IfErr result (LosesCrew (C.keeps crew.old) primary.old.node.board) }
+    ensures stays { C.keeps crew.old ≡ false → C.keeps crew.new ≡ false }
+{
+    if !hearing.stream.ended() {
+        return Err(SessionFault::Frame(FrameFault::Short));
+    }
+    primary.settle(crew)
+}

@@ -1,0 +1,65 @@
+//! Why a session ends before its client does.
+ghost use Rattle.std.specs.Prelude.{◌≡◌};
+ghost use Rattle.bank_server.specs.SessionFaults.{session_fault_number, session_of_carry_fault};
+ghost use Rattle.bank_server.specs.declared.session_fault.SessionFault.TheVariants.{OutOfMemory};
+
+use crate::carry_fault::CarryFault;
+use sb_frames::FrameFault;
+use std::alloc::AllocError;
+use thiserror::Error;
+
+/// Why a session ends before its client does. The log keeps what was numbered.
+#[derive(Clone, Copy, Debug, PartialEq, Eq, Error)]
+pub enum SessionFault {
+    /// The client sent bytes that no frame begins with, or ended within a frame. All before it was numbered, and
+    /// what a flush followed was told.
+    #[error("bad frame: {0}")]
+    Frame(FrameFault),
+    /// The client sent a frame that is neither an ask nor a flush. All before it was numbered, and what a flush
+    /// followed was told.
+    #[error("unexpected frame")]
+    Unexpected,
+    /// The crew left something unfinished.
+    #[error("crew gone")]
+    CrewGone,
+    /// A read or a write failed, or the session takes more than [`sb_text::READS`] reads.
+    #[error("device")]
+    Device,
+    /// Memory was refused.
+    #[error("out of memory")]
+    OutOfMemory,
+}
+
+impl SessionFault {
+    /// The number of the fault, from 1 to 5 in the order of the variants.
+    pub fn number(&self) -> u8
+        ensures { result ≡ session_fault_number self.now }
+    {
+        match self {
+            SessionFault::Frame(_) => 1,
+            SessionFault::Unexpected => 2,
+            SessionFault::CrewGone => 3,
+            SessionFault::Device => 4,
+            SessionFault::OutOfMemory => 5,
+        }
+    }
+}
+
+impl From<CarryFault> for SessionFault {
+    ghost from_gives = { λ carry fault. fault ≡ session_of_carry_fault carry };
+
+    fn from(carry: CarryFault) -> SessionFault {
+        match carry {
+            CarryFault::CrewGone => SessionFault::CrewGone,
+            CarryFault::OutOfMemory => SessionFault::OutOfMemory,
+        }
+    }
+}
+
+impl From<AllocError> for SessionFault {
+    ghost from_gives = { λ _ fault. fault ≡ OutOfMemory };
+
+    fn from(_: AllocError) -> SessionFault {
+        SessionFault::OutOfMemory
+    }
+}
