@@ -1,3 +1,5 @@
+pub mod Ended
 pub mod Looking
+pub mod Printed
 pub mod Running
 pub mod Standing

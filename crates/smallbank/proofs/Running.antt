@@ -1,21 +1,41 @@
--- What a run's own words say is what all words say.
+-- What the words after the program's own say is what all words say.
 use Rattle.std.proofs.Common.{◌≡◌, ◌≤◌, ◌-◌, ◌∷◌, [], List, String, Option, Some, None, IfSome, arith, length, length-drop, take, drop, subst}
 use Rattle.std.proofs.lemmas.List.{take_all}
-use Rattle.smallbank.specs.Words.{IsRunOf, Says}
+use Rattle.smallbank.specs.Words.{IsRunOf, IsServeOf, Says}
 use Rattle.smallbank.specs.declared.words.Words.{Words}
-use Rattle.smallbank.specs.declared.words.Words.TheVariants.{Run, Play}
+use Rattle.smallbank.specs.declared.words.Words.TheVariants.{Run, Play, Serve}
 
 module _ {A : Type 0} where
-  says_after : (read : Option Words) (words : List (String A)) → 2 ≤ length words → IfSome read (λ r. IsRunOf (drop 2 words) r) → IfSome read (λ r. Says r words)
-  says_after None words long said = tt
-  says_after (Some (Run nodes workers)) [] long said = absurd (omega (arith, long))
-  says_after (Some (Run nodes workers)) (name ∷ []) long said = absurd (omega (arith, long))
-  says_after (Some (Run nodes workers)) (name ∷ program ∷ options) long said = said.1
-  says_after (Some Play) words long said = tt
+  -- as all words after the first two say
+  abbrev By : (List (String A) → Words → Type 0) → Option Words → List (String A) → Type 0
+  By IsOf read words = IfSome read (λ r. IsOf (take (length words - 2) (drop 2 words)) r)
 
-  -- from all the words after the first two
-  pub says_of : (read : Option Words) (words : List (String A)) → 2 ≤ length words → IfSome read (λ r. IsRunOf (take (length words - 2) (drop 2 words)) r)
-      → IfSome read (λ r. Says r words)
-  says_of read words long said =
+  all_after : (IsOf : List (String A) → Words → Type 0) (read : Option Words) (words : List (String A)) → 2 ≤ length words → By IsOf read words
+      → IfSome read (λ r. IsOf (drop 2 words) r)
+  all_after IsOf read words long said =
       let all : take (length words - 2) (drop 2 words) ≡ drop 2 words = take_all (length words - 2) (drop 2 words) (omega (arith, length-drop 2 words)) in
-      says_after read words long (subst (λ options. IfSome read (λ r. IsRunOf options r)) all said)
+      subst (λ options. IfSome read (λ r. IsOf options r)) all said
+
+  run_says : (read : Option Words) (words : List (String A)) → 2 ≤ length words → IfSome read (λ r. IsRunOf (drop 2 words) r) → IfSome read (λ r. Says r words)
+  run_says None words long said = tt
+  run_says (Some (Run nodes workers)) [] long said = absurd (omega (arith, long))
+  run_says (Some (Run nodes workers)) (name ∷ []) long said = absurd (omega (arith, long))
+  run_says (Some (Run nodes workers)) (name ∷ program ∷ options) long said = said.1
+  run_says (Some Play) words long said = absurd said
+  run_says (Some (Serve port sessions nodes workers store)) words long said = absurd said
+
+  serve_says : (read : Option Words) (words : List (String A)) → 2 ≤ length words → IfSome read (λ r. IsServeOf (drop 2 words) r) → IfSome read (λ r. Says r words)
+  serve_says None words long said = tt
+  serve_says (Some (Run nodes workers)) words long said = absurd said
+  serve_says (Some Play) words long said = absurd said
+  serve_says (Some (Serve port sessions nodes workers store)) [] long said = absurd (omega (arith, long))
+  serve_says (Some (Serve port sessions nodes workers store)) (name ∷ []) long said = absurd (omega (arith, long))
+  serve_says (Some (Serve port sessions nodes workers store)) (name ∷ program ∷ options) long said = said.1
+
+  -- from all the words after `run`
+  pub says_of : (read : Option Words) (words : List (String A)) → 2 ≤ length words → By IsRunOf read words → IfSome read (λ r. Says r words)
+  says_of read words long said = run_says read words long (all_after IsRunOf read words long said)
+
+  -- from all the words after `serve`
+  pub says_of_serve : (read : Option Words) (words : List (String A)) → 2 ≤ length words → By IsServeOf read words → IfSome read (λ r. Says r words)
+  says_of_serve read words long said = serve_says read words long (all_after IsServeOf read words long said)

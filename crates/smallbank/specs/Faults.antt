@@ -5,7 +5,9 @@ use Rattle.bank_server.specs.declared.fault.RunFault.TheVariants.{Input, Strayed
 use Rattle.schedule_player.specs.declared.fault.ScheduleFault.{ScheduleFault}
 use Rattle.schedule_player.specs.declared.fault.ScheduleFault.TheVariants as schedule
 use Rattle.smallbank.specs.declared.fault.ProgramFault.{ProgramFault}
-use Rattle.smallbank.specs.declared.fault.ProgramFault.TheVariants.{Run, Play}
+use Rattle.smallbank.specs.declared.fault.ProgramFault.TheVariants.{Run, Play, Serve}
+use Rattle.smallbank.specs.declared.serve_fault.ServeFault.{ServeFault}
+use Rattle.smallbank.specs.declared.serve_fault.ServeFault.TheVariants as serve
 
 -- 1 for an input that is refused, 3 for all else
 abbrev pub run_status : RunFault → ℕ
@@ -21,7 +23,15 @@ play_status (schedule.Input line fault) = 1
 play_status schedule.Device = 3
 play_status schedule.OutOfMemory = 3
 
+-- the same of the serving of a bank
+abbrev pub serve_status : ServeFault → ℕ
+serve_status (serve.Run fault) = run_status fault
+serve_status serve.ReadBack = 3
+serve_status serve.Store = 3
+serve_status (serve.PortTaken port) = 3
+
 -- the exit status
 abbrev pub exit_status : ProgramFault → ℕ
 exit_status (Run fault) = run_status fault
 exit_status (Play fault) = play_status fault
+exit_status (Serve fault) = serve_status fault

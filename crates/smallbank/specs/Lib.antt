@@ -1,2 +1,5 @@
 pub mod Faults
+pub mod Opening
+pub mod ServeFaults
+pub mod Served
 pub mod Words

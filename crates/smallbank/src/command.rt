@@ -16,30 +16,83 @@ prints
   alice 100.00 51.00
   total 151.00";
 
+const SERVE: &str = "Serves clients over TCP, one after the other, on this machine alone.
+
+Reads an opening from standard input, as `run` does, with nothing behind its line `begin`. Prints where
+it listens, a line as each session ends, and at the end the rows of all customers and the total. A
+client at fault ends its own session, which is told by the number of the fault: 1 is a bad frame, 2 a
+frame that is no request, and 4 a connection that broke.";
+
+const SERVE_EXAMPLE: &str = "Example:
+  printf 'alice 100.00 50.00\\nbegin\\n' | smallbank serve --port 4000
+prints, once a client has deposited 1.00 for alice
+  listening 127.0.0.1:4000
+  session 1 ok
+  alice 100.00 51.00
+  total 151.00";
+
 /// The command whose grammar the program's words have.
 pub fn command<'a>(alloc: Global) -> Result<Command<'a>, AllocError> {
-    let nodes = Arg::new(alloc, "nodes")
-        .long("nodes")
-        .value_name("1..8")
-        .value_parser(value_parser!(usize).range(1..=8))
-        .default_value("1")
-        .help("How many nodes carry the calls out, each in a thread; all must end alike");
-    let workers = Arg::new(alloc, "workers")
-        .long("workers")
-        .value_name("0..16")
-        .value_parser(value_parser!(usize).range(0..=16))
-        .default_value("0")
-        .help("How many threads work for the first node; with 0 it works alone");
     let run = Command::new(alloc, "run")
         .about("Runs calls from standard input")
         .long_about(RUN)
         .after_help(EXAMPLE)
-        .arg(nodes)?
-        .arg(workers)?;
+        .arg(nodes(alloc))?
+        .arg(workers(alloc))?;
     let play = Command::new(alloc, "play").about("Plays a schedule from standard input");
     Command::new(alloc, "smallbank")
         .version("0.1.0")
         .about("A SmallBank store, proved")
         .subcommand(run)?
-        .subcommand(play)
+        .subcommand(play)?
+        .subcommand(serve(alloc)?)
+}
+
+// The part of the command that serves.
+fn serve<'a>(alloc: Global) -> Result<Command<'a>, AllocError> {
+    let port = Arg::new(alloc, "port")
+        .long("port")
+        .value_name("0..65535")
+        .value_parser(value_parser!(usize).range(0..=65_535))
+        .required(true)
+        .help("Where to listen, at 127.0.0.1; with 0 at any free port");
+    let sessions = Arg::new(alloc, "sessions")
+        .long("sessions")
+        .value_name("1..1000")
+        .value_parser(value_parser!(usize).range(1..=1_000))
+        .default_value("1")
+        .help("How many clients are served before the program ends");
+    let store = Arg::new(alloc, "store")
+        .long("store")
+        .value_name("FOLDER")
+        .help("Where the first node saves a checkpoint after each session, as node0.ckpt");
+    Command::new(alloc, "serve")
+        .about("Serves clients over TCP")
+        .long_about(SERVE)
+        .after_help(SERVE_EXAMPLE)
+        .arg(port)?
+        .arg(sessions)?
+        .arg(nodes(alloc))?
+        .arg(workers(alloc))?
+        .arg(store)
+}
+
+// How many nodes there are.
+fn nodes<'a>(alloc: Global) -> Arg<'a> {
+    Arg::new(alloc, "nodes")
+        .long("nodes")
+        .value_name("1..8")
+        .value_parser(value_parser!(usize).range(1..=8))
+        .default_value("1")
+        .help("How many nodes carry the calls out, each in a thread; all must end alike")
+}
+
+// How many workers the first node has.
+fn workers<'a>(alloc: Global) -> Arg<'a> {
+    Arg::new(alloc, "workers")
+        .long("workers")
+        .value_name("0..16")
+        .value_parser(value_parser!(usize).range(0..=16))
+        .default_value("0")
+        .help("How many threads work for the first node; with 0 it works alone")
 }

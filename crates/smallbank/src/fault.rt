@@ -1,4 +1,5 @@
 //! Why the program ends without its output.
+use crate::serve_fault::ServeFault;
 use bank_server::RunFault;
 use schedule_player::ScheduleFault;
 use std::alloc::{AllocError, AllocFailed};
@@ -13,6 +14,9 @@ pub enum ProgramFault {
     /// The playing of a schedule.
     #[error(transparent)]
     Play(ScheduleFault),
+    /// The serving of a bank.
+    #[error(transparent)]
+    Serve(ServeFault),
 }
 
 impl From<RunFault> for ProgramFault {
@@ -24,6 +28,12 @@ impl From<RunFault> for ProgramFault {
 impl From<ScheduleFault> for ProgramFault {
     fn from(fault: ScheduleFault) -> ProgramFault {
         ProgramFault::Play(fault)
+    }
+}
+
+impl From<ServeFault> for ProgramFault {
+    fn from(fault: ServeFault) -> ProgramFault {
+        ProgramFault::Serve(fault)
     }
 }
 

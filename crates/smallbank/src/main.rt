@@ -6,7 +6,10 @@ use clap::error::ErrorKind;
 use cown_workers::OpenGate;
 use fault::ProgramFault;
 use schedule_player::run_schedule;
+use serve_program::serve_program;
+use serving::Plan;
 use std::env;
+use std::net::Net;
 use std::process::ExitCode;
 use std::sync::Wait;
 use std::thread::Threads;
@@ -14,9 +17,18 @@ use std::time::Clock;
 use told::told;
 use words::{Words, read_words};
 
+mod client;
 pub mod command;
 pub mod fault;
+mod hanging_up;
+mod keeping;
+pub mod listening;
+pub mod opening;
 pub mod options;
+mod printing;
+pub mod serve_fault;
+pub mod serve_program;
+pub mod serving;
 #[cfg(test)]
 mod tests;
 pub mod told;
@@ -36,7 +48,7 @@ fn main(rt: HostRuntime) -> ExitCode {
 }
 
 // Does what the program's words say, and gives the exit status. Threads are the second handle's.
-fn start<H: Threads + Wait + Clock + Sync>(
+fn start<H: Threads + Wait + Clock + Sync + Net>(
     rt: &HostRuntime,
     threads: &H,
 ) -> Result<u8, ProgramFault> {
@@ -60,6 +72,24 @@ fn start<H: Threads + Wait + Clock + Sync>(
         }
         Ok(Words::Play) => {
             run_schedule(rt.alloc(), &mut rt.stdin(), &mut rt.stdout())?;
+            Ok(0)
+        }
+        Ok(
+            Words::Serve {
+                port,
+                sessions,
+                nodes,
+                workers,
+                store,
+            },
+        ) => {
+            let plan = Plan {
+                sessions,
+                nodes,
+                workers,
+                saves: store.is_some(),
+            };
+            serve_program(rt, threads, port as u16, store, plan)?;
             Ok(0)
         }
         Err(error) => {

@@ -1,6 +1,6 @@
 //! What stands for an option among the program's words.
 ghost use Rattle.std.specs.Prelude.{◌≡◌, ◌≢◌, ◌++◌, ◌∷◌, IfSome, MatchOption, map, string_bytes};
-ghost use Rattle.smallbank.specs.Words.{Counts, Stands};
+ghost use Rattle.smallbank.specs.Words.{Counts, Numbers, Stands};
 
 /// The number that stands for an option, or the standard one; `None` for what is no number.
 pub fn count(words: &[String], option: &str, standard: usize) -> Option<usize>
@@ -13,8 +13,15 @@ pub fn count(words: &[String], option: &str, standard: usize) -> Option<usize>
     }
 }
 
-// The first value that stands for an option.
-fn value<'a>(words: &'a [String], option: &str) -> Option<&'a str>
+/// The number that stands for an option; `None` for what is no number, and where nothing stands for it.
+pub fn number(words: &[String], option: &str) -> Option<usize>
+    ensures { IfSome result (λ number. Numbers option.now number (map string_bytes words.now)) }
+{
+    value(words, option)?.parse::<usize>().ok()
+}
+
+/// The first value that stands for an option.
+pub fn value<'a>(words: &'a [String], option: &str) -> Option<&'a str>
     ensures { MatchOption result
         ((text : _) → ¬ (Stands option.now text (map string_bytes words.entry.now)))
         (λ text. Stands option.now text.now (map string_bytes words.entry.now)) }

@@ -1,3 +1,7 @@
-//! What no clause says: the program's words, and how faults are told.
+//! What no clause says: the program's words, how faults are told, and banks that are served.
+mod clients;
+mod openings;
 mod reports;
+mod served;
+mod sockets;
 mod words;

@@ -1,8 +1,10 @@
 //! How a fault is told.
 ghost use Rattle.std.specs.Prelude.{◌≡◌};
+ghost use Rattle.smallbank.specs.Faults as spec;
 ghost use Rattle.smallbank.specs.Faults.{exit_status};
 
 use crate::fault::ProgramFault;
+use crate::serve_fault::ServeFault;
 use bank_server::RunFault;
 use schedule_player::ScheduleFault;
 use std::fmt;
@@ -22,14 +24,24 @@ pub fn told(fault: ProgramFault) -> Report
     ensures fault { result.fault ≡ fault }
 {
     let status = match fault {
-        ProgramFault::Run(RunFault::Input { .. })
-        | ProgramFault::Play(ScheduleFault::Input { .. }) => 1,
-        ProgramFault::Run(
-            RunFault::Strayed(_) | RunFault::CrewGone | RunFault::Device | RunFault::OutOfMemory,
-        )
-        | ProgramFault::Play(ScheduleFault::Device | ScheduleFault::OutOfMemory) => 3,
+        ProgramFault::Run(fault) | ProgramFault::Serve(ServeFault::Run(fault)) => run_status(fault),
+        ProgramFault::Play(ScheduleFault::Input { .. }) => 1,
+        ProgramFault::Play(ScheduleFault::Device | ScheduleFault::OutOfMemory)
+        | ProgramFault::Serve(
+            ServeFault::ReadBack | ServeFault::Store | ServeFault::PortTaken(_),
+        ) => 3,
     };
     Report { status, fault }
+}
+
+// The status of a run's fault, which ends the serving of a bank too.
+fn run_status(fault: RunFault) -> u8
+    ensures { result ≡ spec.run_status fault }
+{
+    match fault {
+        RunFault::Input { .. } => 1,
+        RunFault::Strayed(_) | RunFault::CrewGone | RunFault::Device | RunFault::OutOfMemory => 3,
+    }
 }
 
 impl fmt::Display for Report {

@@ -1,39 +1,65 @@
 //! How faults are told.
 use crate::fault::ProgramFault;
+use crate::serve_fault::ServeFault;
 use crate::told::told;
 use bank_server::{InputFault, RunFault};
 use sb_calls::CallFault;
 use schedule_player::ScheduleFault;
 use std::alloc::Global;
 use std::process::Abort;
-use std::test::Fail;
 
 // Tells a fault, and compares the status and the text.
-fn expect_told(
-    rt: &impl Abort,
-    alloc: Global,
-    fault: ProgramFault,
-    status: u8,
-    text: &str,
-) -> Result<(), Fail> {
+fn expect_told(rt: &impl Abort, alloc: Global, fault: ProgramFault, status: u8, text: &str) {
     let report = told(fault);
     assert!(rt; report.status == status);
-    assert!(rt; format!(in alloc; "{report}")?.as_str() == text);
-    Ok(())
+    let told = format!(in alloc; "{report}").expect(rt, "memory for a text");
+    assert!(rt; told.as_str() == text);
 }
 
 #[test]
-fn faults_told(rt: HostRuntime) -> Result<(), Fail> {
-    let alloc = rt.alloc();
+fn faults_told(rt: HostRuntime) {
     let fault = InputFault::Call(CallFault::BadName);
-    let refused = ProgramFault::Run(RunFault::Input { line: 7, fault });
-    expect_told(&rt, alloc, refused, 1, "smallbank: line 7: bad name")?;
-    let strayed = ProgramFault::Run(RunFault::Strayed(5));
-    expect_told(&rt, alloc, strayed, 3, "smallbank: node 5 strayed")?;
-    let gone = ProgramFault::Run(RunFault::CrewGone);
-    expect_told(&rt, alloc, gone, 3, "smallbank: crew gone")?;
-    let device = ProgramFault::Run(RunFault::Device);
-    expect_told(&rt, alloc, device, 3, "smallbank: device")?;
-    let memory = ProgramFault::Play(ScheduleFault::OutOfMemory);
-    expect_told(&rt, alloc, memory, 3, "smallbank: out of memory")
+    let refused = RunFault::Input { line: 7, fault };
+    let strayed = RunFault::Strayed(5);
+    for (fault, status, text) in [
+        (ProgramFault::Run(refused), 1, "smallbank: line 7: bad name"),
+        (ProgramFault::Run(strayed), 3, "smallbank: node 5 strayed"),
+        (
+            ProgramFault::Run(RunFault::CrewGone),
+            3,
+            "smallbank: crew gone",
+        ),
+        (ProgramFault::Run(RunFault::Device), 3, "smallbank: device"),
+        (
+            ProgramFault::Play(ScheduleFault::OutOfMemory),
+            3,
+            "smallbank: out of memory",
+        ),
+    ] {
+        expect_told(&rt, rt.alloc(), fault, status, text);
+    }
+}
+
+#[test]
+fn faults_of_a_server_told(rt: HostRuntime) {
+    let fault = InputFault::Call(CallFault::BadName);
+    let refused = RunFault::Input { line: 7, fault };
+    let strayed = RunFault::Strayed(5);
+    for (fault, status, text) in [
+        (ServeFault::Run(refused), 1, "smallbank: line 7: bad name"),
+        (ServeFault::Run(strayed), 3, "smallbank: node 5 strayed"),
+        (ServeFault::ReadBack, 3, "smallbank: read back"),
+        (
+            ServeFault::Store,
+            3,
+            "smallbank: the store's folder takes no file",
+        ),
+        (
+            ServeFault::PortTaken(4000),
+            3,
+            "smallbank: port 4000 is taken",
+        ),
+    ] {
+        expect_told(&rt, rt.alloc(), ProgramFault::Serve(fault), status, text);
+    }
 }

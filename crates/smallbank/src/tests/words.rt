@@ -2,58 +2,47 @@
 use crate::words::{Words, read_words};
 use std::alloc::Global;
 use std::process::Abort;
-use std::test::Fail;
 
-/// A refusal, or a help that is shown: its exit status and its text.
-type Told = (i32, String);
-
-const USUAL: Words = Words::Run {
+const USUAL: Words<'static> = Words::Run {
     nodes: 1,
     workers: 0,
 };
 
-// Reads these words after the program's name.
-fn read(alloc: Global, words: &[&str]) -> Result<Result<Words, Told>, Fail> {
+// These words after the program's name.
+fn words_of(rt: &impl Abort, alloc: Global, words: &[&str]) -> Vec<String> {
     let mut all: Vec<String> = Vec::new(alloc);
-    all.push(String::from_str(alloc, "smallbank")?)?;
+    push(rt, alloc, "smallbank", &mut all);
     for word in words {
-        all.push(String::from_str(alloc, word)?)?;
+        push(rt, alloc, word, &mut all);
     }
-    Ok(match read_words(alloc, &all) {
-        Ok(words) => Ok(words),
-        Err(error) => Err((error.exit_code(), format!(in alloc; "{error}")?)),
-    })
+    all
+}
+
+fn push(rt: &impl Abort, alloc: Global, word: &str, all: &mut Vec<String>) {
+    let word = String::from_str(alloc, word).expect(rt, "memory for a word");
+    all.push(word).expect(rt, "memory for a word");
 }
 
 // These words are read so.
-fn expect(rt: &impl Abort, alloc: Global, words: &[&str], wanted: Words) -> Result<(), Fail> {
-    match read(alloc, words)? {
+fn expect(rt: &impl Abort, alloc: Global, words: &[&str], wanted: Words) {
+    let all = words_of(rt, alloc, words);
+    match read_words(alloc, &all) {
         Ok(read) => assert!(rt; read == wanted),
         Err(_) => assert!(rt; false),
     }
-    Ok(())
 }
 
 // These words end with this status and a text that has this part.
-fn expect_told(
-    rt: &impl Abort,
-    alloc: Global,
-    words: &[&str],
-    status: i32,
-    part: &str,
-) -> Result<(), Fail> {
-    match read(alloc, words)? {
-        Ok(_) => assert!(rt; false),
-        Err((told, text)) => {
-            assert!(rt; told == status);
-            assert!(rt; text.as_str().contains(part));
-        }
-    }
-    Ok(())
+fn expect_told(rt: &impl Abort, alloc: Global, words: &[&str], status: i32, part: &str) {
+    let all = words_of(rt, alloc, words);
+    let error = read_words(alloc, &all).err().expect(rt, "a fault");
+    assert!(rt; error.exit_code() == status);
+    let told = format!(in alloc; "{error}").expect(rt, "memory for a text");
+    assert!(rt; told.as_str().contains(part));
 }
 
 #[test]
-fn words_of_the_program(rt: HostRuntime) -> Result<(), Fail> {
+fn words_of_the_program(rt: HostRuntime) {
     let alloc = rt.alloc();
     let both = Words::Run {
         nodes: 8,
@@ -63,40 +52,116 @@ fn words_of_the_program(rt: HostRuntime) -> Result<(), Fail> {
         nodes: 2,
         workers: 0,
     };
-    expect(&rt, alloc, &[], USUAL)?;
-    expect(&rt, alloc, &["run"], USUAL)?;
-    expect(&rt, alloc, &["run", "--nodes", "8", "--workers=16"], both)?;
-    expect(&rt, alloc, &["run", "--workers", "16", "--nodes=8"], both)?;
-    expect(&rt, alloc, &["run", "--nodes", "2"], two)?;
-    expect(&rt, alloc, &["play"], Words::Play)
+    expect(&rt, alloc, &[], USUAL);
+    expect(&rt, alloc, &["run"], USUAL);
+    expect(&rt, alloc, &["run", "--nodes", "8", "--workers=16"], both);
+    expect(&rt, alloc, &["run", "--workers", "16", "--nodes=8"], both);
+    expect(&rt, alloc, &["run", "--nodes", "2"], two);
+    expect(&rt, alloc, &["play"], Words::Play);
 }
 
 #[test]
-fn refused_words(rt: HostRuntime) -> Result<(), Fail> {
+fn words_of_a_server(rt: HostRuntime) {
     let alloc = rt.alloc();
-    expect_told(&rt, alloc, &["run", "--nodes", "0"], 2, "0 is not in 1..=8")?;
-    expect_told(&rt, alloc, &["run", "--nodes", "9"], 2, "9 is not in 1..=8")?;
+    let usual = Words::Serve {
+        port: 0,
+        sessions: 1,
+        nodes: 1,
+        workers: 0,
+        store: None,
+    };
+    let all = Words::Serve {
+        port: 65_535,
+        sessions: 1_000,
+        nodes: 8,
+        workers: 16,
+        store: Some("a folder"),
+    };
+    let port = ["--port=65535", "--sessions=1000"];
+    expect(&rt, alloc, &["serve", "--port", "0"], usual);
+    expect(
+        &rt,
+        alloc,
+        &[
+            "serve",
+            "--store",
+            "a folder",
+            "--workers",
+            "16",
+            "--nodes",
+            "8",
+            port[0],
+            port[1],
+        ],
+        all,
+    );
+    expect(
+        &rt,
+        alloc,
+        &[
+            "serve",
+            port[1],
+            port[0],
+            "--store=a folder",
+            "--nodes=8",
+            "--workers=16",
+        ],
+        all,
+    );
+}
+
+#[test]
+fn refused_words_of_a_server(rt: HostRuntime) {
+    let alloc = rt.alloc();
+    for (value, part) in [
+        ("65536", "65536 is not in 0..=65535"),
+        ("http", "<0..65535>"),
+    ] {
+        expect_told(&rt, alloc, &["serve", "--port", value], 2, part);
+    }
+    for (option, value, part) in [
+        ("--sessions", "0", "0 is not in 1..=1000"),
+        ("--sessions", "1001", "1001 is not in 1..=1000"),
+        ("--nodes", "9", "9 is not in 1..=8"),
+        ("--workers", "17", "17 is not in 0..=16"),
+    ] {
+        let words = ["serve", option, value, "--port=1"];
+        expect_told(&rt, alloc, &words, 2, part);
+    }
+    expect_told(&rt, alloc, &["serve"], 2, "--port <0..65535>");
+    expect_told(&rt, alloc, &["serve", "--port"], 2, "<0..65535>");
+    expect_told(&rt, alloc, &["serve", "--port=1", "--store"], 2, "<FOLDER>");
+    expect_told(&rt, alloc, &["serve", "--port=1", "--port=2"], 2, "--port");
+}
+
+#[test]
+fn refused_words(rt: HostRuntime) {
+    let alloc = rt.alloc();
+    expect_told(&rt, alloc, &["run", "--nodes", "0"], 2, "0 is not in 1..=8");
+    expect_told(&rt, alloc, &["run", "--nodes", "9"], 2, "9 is not in 1..=8");
     expect_told(
         &rt,
         alloc,
         &["run", "--workers", "17"],
         2,
         "17 is not in 0..=16",
-    )?;
-    expect_told(&rt, alloc, &["run", "--nodes", "two"], 2, "<1..8>")?;
-    expect_told(&rt, alloc, &["run", "--workers=-0"], 2, "<0..16>")?;
-    expect_told(&rt, alloc, &["run", "--nodes"], 2, "<1..8>")?;
-    expect_told(&rt, alloc, &["run", "--nodes=2", "--nodes=3"], 2, "--nodes")?;
-    expect_told(&rt, alloc, &["play", "again"], 2, "again")?;
-    expect_told(&rt, alloc, &["serve"], 2, "serve")
+    );
+    expect_told(&rt, alloc, &["run", "--nodes", "two"], 2, "<1..8>");
+    expect_told(&rt, alloc, &["run", "--workers=-0"], 2, "<0..16>");
+    expect_told(&rt, alloc, &["run", "--nodes"], 2, "<1..8>");
+    expect_told(&rt, alloc, &["run", "--nodes=2", "--nodes=3"], 2, "--nodes");
+    expect_told(&rt, alloc, &["play", "again"], 2, "again");
+    expect_told(&rt, alloc, &["server"], 2, "server");
 }
 
 #[test]
-fn help_and_version(rt: HostRuntime) -> Result<(), Fail> {
+fn help_and_version(rt: HostRuntime) {
     let alloc = rt.alloc();
     let example = "printf 'alice 100.00 50.00\\nbegin\\ndeposit alice 1.00\\n' \
         | smallbank run --nodes 2\n";
-    expect_told(&rt, alloc, &["--version"], 0, "smallbank 0.1.0\n")?;
-    expect_told(&rt, alloc, &["--help"], 0, "Plays a schedule")?;
-    expect_told(&rt, alloc, &["run", "--help"], 0, example)
+    expect_told(&rt, alloc, &["--version"], 0, "smallbank 0.1.0\n");
+    expect_told(&rt, alloc, &["--help"], 0, "Plays a schedule");
+    expect_told(&rt, alloc, &["run", "--help"], 0, example);
+    let example = "printf 'alice 100.00 50.00\\nbegin\\n' | smallbank serve --port 4000\n";
+    expect_told(&rt, alloc, &["serve", "--help"], 0, example);
 }

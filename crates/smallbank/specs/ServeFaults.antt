@@ -1,0 +1,79 @@
+-- What a fault of a bank that is served says.
+use Rattle.std.specs.Prelude.{◌≡◌, ◌≤◌, ℕ, Bool, true}
+use Rattle.bank_server.specs.declared.fault.RunFault.{RunFault}
+use Rattle.bank_server.specs.declared.fault.RunFault.TheVariants.{Input, Strayed, CrewGone, Device, OutOfMemory}
+use Rattle.smallbank.specs.declared.serve_fault.ServeFault.{ServeFault}
+use Rattle.smallbank.specs.declared.serve_fault.ServeFault.TheVariants.{Run, ReadBack, Store, PortTaken}
+
+-- a device failed, or memory was refused
+abbrev pub IsPrintRunFault : RunFault → Type 0
+IsPrintRunFault (Input line fault) = ⊥
+IsPrintRunFault (Strayed node) = ⊥
+IsPrintRunFault CrewGone = ⊥
+IsPrintRunFault Device = Unit {0}
+IsPrintRunFault OutOfMemory = Unit {0}
+
+abbrev pub IsPrintFault : ServeFault → Type 0
+IsPrintFault (Run fault) = IsPrintRunFault fault
+IsPrintFault ReadBack = ⊥
+IsPrintFault Store = ⊥
+IsPrintFault (PortTaken port) = ⊥
+
+-- a device failed
+abbrev pub IsDeviceFault : RunFault → Type 0
+IsDeviceFault (Input line fault) = ⊥
+IsDeviceFault (Strayed node) = ⊥
+IsDeviceFault CrewGone = ⊥
+IsDeviceFault Device = Unit {0}
+IsDeviceFault OutOfMemory = ⊥
+
+-- this port is taken, or a device failed
+abbrev pub IsPortFault : ℕ → ServeFault → Type 0
+IsPortFault port (Run fault) = IsDeviceFault fault
+IsPortFault port ReadBack = ⊥
+IsPortFault port Store = ⊥
+IsPortFault port (PortTaken taken) = taken ≡ port
+
+-- the crew is gone, a device failed, or memory was refused
+abbrev pub IsKeepRunFault : RunFault → Type 0
+IsKeepRunFault (Input line fault) = ⊥
+IsKeepRunFault (Strayed node) = ⊥
+IsKeepRunFault CrewGone = Unit {0}
+IsKeepRunFault Device = Unit {0}
+IsKeepRunFault OutOfMemory = Unit {0}
+
+-- the same, or the store gives back something else, where it is asked
+abbrev pub IsKeepFault : Bool → ServeFault → Type 0
+IsKeepFault saves (Run fault) = IsKeepRunFault fault
+IsKeepFault saves ReadBack = saves ≡ true
+IsKeepFault saves Store = ⊥
+IsKeepFault saves (PortTaken port) = ⊥
+
+-- the same, or a follower strayed, which node 0 isn't
+abbrev pub IsServingRunFault : RunFault → Type 0
+IsServingRunFault (Input line fault) = ⊥
+IsServingRunFault (Strayed node) = 1 ≤ node
+IsServingRunFault CrewGone = Unit {0}
+IsServingRunFault Device = Unit {0}
+IsServingRunFault OutOfMemory = Unit {0}
+
+abbrev pub IsServingFault : Bool → ServeFault → Type 0
+IsServingFault saves (Run fault) = IsServingRunFault fault
+IsServingFault saves ReadBack = saves ≡ true
+IsServingFault saves Store = ⊥
+IsServingFault saves (PortTaken port) = ⊥
+
+-- the same, or a line of the opening is at fault
+abbrev pub IsProgramRunFault : RunFault → Type 0
+IsProgramRunFault (Input line fault) = Unit {0}
+IsProgramRunFault (Strayed node) = 1 ≤ node
+IsProgramRunFault CrewGone = Unit {0}
+IsProgramRunFault Device = Unit {0}
+IsProgramRunFault OutOfMemory = Unit {0}
+
+-- the same, or the store gives back something else, or takes nothing, where there is one, or this port is taken
+abbrev pub IsProgramFault : ℕ → Bool → Bool → ServeFault → Type 0
+IsProgramFault port saves stores (Run fault) = IsProgramRunFault fault
+IsProgramFault port saves stores ReadBack = saves ≡ true
+IsProgramFault port saves stores Store = stores ≡ true
+IsProgramFault port saves stores (PortTaken taken) = taken ≡ port

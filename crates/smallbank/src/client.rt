@@ -1,0 +1,48 @@
+//! One client.
+ghost use Rattle.std.specs.Prelude.{◌≡◌, false, IfErr};
+ghost use Rattle.bank_server.specs.Primary.{KeepsBank};
+ghost use Rattle.bank_server.specs.SessionFaults.{LosesCrew};
+
+use crate::hanging_up::hang_up;
+use bank_server::{Primary, SessionFault, serve_session};
+use cown_workers::Crew;
+use sb_checkpoint::CheckpointStore;
+use std::alloc::Global;
+use std::io;
+use std::io::{Read, Write};
+use std::net::OpenStream;
+
+/// Serves a client, as [`serve_session`], and hangs up.
+///
+/// A client that sent what it may not still gets all that it was told. Where the stream can't be set up, it is as if it
+/// had failed at once.
+pub(crate) fn serve_client<T, S, C>(
+    alloc: Global,
+    stream: T,
+    primary: &mut Primary<S>,
+    crew: &mut C,
+) -> Result<(), SessionFault>
+where
+    T: Read + Write + OpenStream + Drop,
+    S: CheckpointStore,
+    C: Crew,
+    ensures bank { KeepsBank primary.old primary.new }
+    ensures gone { IfErr result (LosesCrew (C.keeps crew.old) primary.old.node.board) }
+    ensures stays { C.keeps crew.old ≡ false → C.keeps crew.new ≡ false }
+{
+    let mut reader = stream;
+    let Ok(mut writer) = writer_of(&reader) else {
+        return Err(SessionFault::Device);
+    };
+    let served = serve_session(alloc, &mut reader, &mut writer, primary, crew);
+    if let Err(SessionFault::Frame(_) | SessionFault::Unexpected) = served {
+        hang_up(&mut reader);
+    }
+    served
+}
+
+// Another end of the stream, to write to. What is written is sent at once.
+fn writer_of<T: OpenStream>(stream: &T) -> io::Result<T> {
+    stream.set_nodelay(true)?;
+    stream.try_clone()
+}

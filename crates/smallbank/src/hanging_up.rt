@@ -1,0 +1,44 @@
+//! Leaving a client at fault.
+use std::io::{ErrorKind, Read};
+use std::net::{OpenStream, Shutdown};
+use std::time::Duration;
+
+// How many bytes of a client at fault are passed over, in how many reads at most.
+const PASSED_OVER: usize = 1024 * 1024;
+
+const READS: u32 = 4_096;
+
+// How many bytes are asked of it at once.
+const CHUNK: usize = 65_536;
+
+// How long it may be silent, in seconds.
+const PATIENCE: u64 = 3;
+
+/// Tells a client that nothing more comes, and passes over what it still sends: where that was left unread, what the
+/// client was told could get lost on the way. A client that is silent, or sends on and on, is left.
+pub(crate) fn hang_up<S: Read + OpenStream>(stream: &mut S) {
+    let patience = Duration::from_secs(PATIENCE);
+    if stream.set_read_timeout(Some(patience)).is_ok() && stream.shutdown(Shutdown::Write).is_ok() {
+        pass_over(stream);
+    }
+}
+
+// Reads on until the end, a failure, or as much as is passed over.
+fn pass_over<R: Read>(reader: &mut R) {
+    let mut chunk = [0u8; CHUNK];
+    let mut left = PASSED_OVER;
+    for _ in 0..READS {
+        match reader.read(&mut chunk) {
+            Ok(0) => return,
+            Ok(count) => left = left.saturating_sub(count),
+            Err(error) => {
+                if error.kind() != ErrorKind::Interrupted {
+                    return;
+                }
+            }
+        }
+        if left == 0 {
+            return;
+        }
+    }
+}

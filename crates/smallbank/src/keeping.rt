@@ -1,0 +1,72 @@
+//! What a bank does after a session.
+ghost use Rattle.std.specs.Prelude.{◌≡◌, false, true, IfErr, OnOk};
+ghost use Rattle.bank_server.specs.Primary.{HasAll};
+ghost use Rattle.smallbank.specs.ServeFaults.{IsKeepFault};
+ghost use Rattle.smallbank.specs.Served.{IsSameBank};
+
+use crate::serve_fault::ServeFault;
+use bank_server::{Followers, Primary, RunFault, SaveFault, SessionFault};
+use cown_workers::Crew;
+use sb_checkpoint::CheckpointStore;
+use std::sync::Wait;
+
+/// Has node 0 carry out all of the log, tells the followers of it, and puts a checkpoint into node 0's store where
+/// that is asked for.
+///
+/// Fails with
+/// - [`ServeFault::Run`] where the crew is gone, the store's device fails, or memory is refused,
+/// - [`ServeFault::ReadBack`] where the store doesn't give back what was put.
+pub(crate) fn keep<R: Wait, S: CheckpointStore, C: Crew>(
+    primary: &mut Primary<S>,
+    followers: &mut Followers<'_, R>,
+    saves: bool,
+    crew: &mut C,
+) -> Result<(), ServeFault>
+    ensures bank { OnOk result (IsSameBank primary.old primary.new) }
+    ensures all { OnOk result (HasAll primary.new) }
+    ensures fault { IfErr result (IsKeepFault saves) }
+    ensures stays { C.keeps crew.old ≡ false → C.keeps crew.new ≡ false }
+{
+    settle(primary, crew)?;
+    followers.feed(primary.log())?;
+    if saves {
+        save(primary)?;
+    }
+    Ok(())
+}
+
+// Has node 0 carry out all of the log.
+fn settle<S: CheckpointStore, C: Crew>(
+    primary: &mut Primary<S>,
+    crew: &mut C,
+) -> Result<(), ServeFault>
+    ensures bank { IsSameBank primary.old primary.new }
+    ensures all { OnOk result (HasAll primary.new) }
+    ensures fault { IfErr result (IsKeepFault false) }
+    ensures stays { C.keeps crew.old ≡ false → C.keeps crew.new ≡ false }
+{
+    match primary.settle(crew) {
+        Ok(()) => Ok(()),
+        Err(SessionFault::CrewGone) => Err(ServeFault::Run(RunFault::CrewGone)),
+        Err(SessionFault::OutOfMemory) => Err(ServeFault::Run(RunFault::OutOfMemory)),
+        // Nobody is read from or written to.
+        Err(_) => unreachable!(),
+    }
+}
+
+// Puts a checkpoint of node 0 into its store.
+fn save<S: CheckpointStore>(primary: &mut Primary<S>) -> Result<(), ServeFault>
+    requires all { HasAll primary.old }
+    ensures bank { IsSameBank primary.old primary.new }
+    ensures all { HasAll primary.new }
+    ensures fault { IfErr result (IsKeepFault true) }
+{
+    match primary.save() {
+        Ok(_) => Ok(()),
+        Err(SaveFault::Device) => Err(ServeFault::Run(RunFault::Device)),
+        Err(SaveFault::ReadBack) => Err(ServeFault::ReadBack),
+        Err(SaveFault::OutOfMemory) => Err(ServeFault::Run(RunFault::OutOfMemory)),
+        // Nothing is unfinished.
+        Err(SaveFault::Busy) => unreachable!(),
+    }
+}

@@ -1,0 +1,89 @@
+//! What is printed of a bank that is served.
+ghost use Rattle.std.specs.Prelude.{◌≡◌, [], ◌∷◌, ◌++◌, IfErr, OnOk};
+ghost use Rattle.bank_server.specs.Primary.{HasAll};
+ghost use Rattle.smallbank.specs.ServeFaults.{IsPrintFault};
+ghost use Rattle.smallbank.specs.Served.{PrintsLines, PrintsPort, PrintsRows, end_text, session_line};
+
+use crate::serve_fault::ServeFault;
+use bank_server::{Primary, SessionFault};
+use itoa::Buffer;
+use sb_checkpoint::CheckpointStore;
+use sb_text::{list_rows, write_whole};
+use std::alloc::{AllocError, Global};
+use std::io::Write;
+use std::net::OpenListener;
+
+/// Prints where clients are listened to.
+///
+/// Fails where that can't be told, where a write fails, and where memory is refused.
+pub(crate) fn print_port<L: OpenListener, W: Write>(
+    alloc: Global,
+    listener: &L,
+    writer: &mut W,
+) -> Result<(), ServeFault>
+    ensures printed { OnOk result (PrintsPort (W.contents writer.old) (W.contents writer.new)) }
+    ensures fault { IfErr result IsPrintFault }
+{
+    let mut buffer = Buffer::new();
+    let mut line = Vec::from_slice(alloc, b"listening 127.0.0.1:")?;
+    let port = listener.local_addr()?.port();
+    line.extend_from_slice(buffer.format(port).as_bytes())?;
+    line.push(b'\n')?;
+    Ok(write_whole(writer, &line)?)
+}
+
+/// Prints how a session ended.
+///
+/// Fails where a write fails, and where memory is refused.
+pub(crate) fn print_session<W: Write>(
+    alloc: Global,
+    number: usize,
+    served: Result<(), SessionFault>,
+    writer: &mut W,
+) -> Result<(), ServeFault>
+    ensures printed { OnOk result (PrintsLines (session_line number served ∷ [])
+        (W.contents writer.old) (W.contents writer.new)) }
+    ensures fault { IfErr result IsPrintFault }
+{
+    let mut buffer = Buffer::new();
+    let mut line = Vec::from_slice(alloc, b"session ")?;
+    line.extend_from_slice(buffer.format(number).as_bytes())?;
+    push_ending(served, &mut line)?;
+    line.push(b'\n')?;
+    Ok(write_whole(writer, &line)?)
+}
+
+// Writes how a session ended.
+fn push_ending(served: Result<(), SessionFault>, out: &mut Vec<u8>) -> Result<(), AllocError>
+    ensures { OnOk result (out.new.items ≡ out.old.items ++ end_text served) }
+{
+    match served {
+        Ok(()) => out.extend_from_slice(b" ok")?,
+        Err(fault) => {
+            let mut buffer = Buffer::new();
+            out.extend_from_slice(b" fault ")?;
+            out.extend_from_slice(buffer.format(fault.number()).as_bytes())?;
+        }
+    }
+    Ok(())
+}
+
+/// Prints the rows of a bank and their total.
+///
+/// Fails where a write fails, and where memory is refused.
+pub(crate) fn print_rows<S: CheckpointStore, W: Write>(
+    alloc: Global,
+    primary: &Primary<S>,
+    writer: &mut W,
+) -> Result<(), ServeFault>
+    requires all { HasAll primary.now }
+    ensures printed { OnOk result (PrintsRows primary.now (W.contents writer.old) (W.contents writer.new)) }
+    ensures fault { IfErr result IsPrintFault }
+{
+    let mut rows = Vec::new(alloc);
+    let node = primary.node();
+    // Nothing is unfinished.
+    let columns = node.settled_columns().unwrap();
+    list_rows(node.directory(), columns, &mut rows)?;
+    Ok(write_whole(writer, &rows)?)
+}

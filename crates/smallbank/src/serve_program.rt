@@ -1,0 +1,89 @@
+//! The program that serves.
+ghost use Rattle.std.specs.Prelude.{◌≡◌, ◌≤◌, false, is_some, IfErr};
+ghost use Rattle.smallbank.specs.ServeFaults.{IsProgramFault};
+
+use crate::listening::listen;
+use crate::opening::whole_opening;
+use crate::serve_fault::ServeFault;
+use crate::serving::{Plan, serve};
+use sb_checkpoint::{CheckpointStore, FileStore, FileWithSpare, FolderFile, MemoryStore};
+use sb_rows::Opening;
+use sb_text::read_all;
+use std::io::{Read, Write};
+use std::net::{Net, OpenStream};
+use std::sync::Wait;
+use std::thread::Threads;
+use std::time::Clock;
+
+// The name of node 0's checkpoint.
+const CHECKPOINT: &str = "node0.ckpt";
+
+/// Serves the bank of the opening in standard input at a port, and keeps node 0's checkpoint in this folder, if there
+/// is one.
+///
+/// Nothing is listened to before the whole input was read and checked, and the folder was tried.
+pub fn serve_program<H>(
+    rt: &HostRuntime,
+    threads: &H,
+    port: u16,
+    folder: Option<&str>,
+    plan: Plan,
+) -> Result<(), ServeFault>
+where
+    H: Threads + Wait + Clock + Sync + Net,
+    requires nodes { plan.nodes ≤ 8 }
+    requires workers { plan.workers ≤ 16 }
+    ensures fault { IfErr result (IsProgramFault port plan.saves (is_some folder.entry)) }
+{
+    let alloc = rt.alloc();
+    let input = read_all(alloc, &mut rt.stdin())?;
+    let opening = whole_opening(alloc, &input)?;
+    drop(input);
+    match folder {
+        Some(folder) => {
+            let store = store_in(FolderFile::new(alloc, *rt, folder, CHECKPOINT)?)?;
+            serve_at(rt, threads, port, opening, store, plan)
+        }
+        None => serve_at(rt, threads, port, opening, MemoryStore::new(alloc), plan),
+    }
+}
+
+// A store in a file, which can be written.
+fn store_in<P: FileWithSpare>(file: P) -> Result<FileStore<P>, ServeFault>
+    ensures { IfErr result (λ fault. fault ≡ ServeFault.Store) }
+{
+    let mut store = FileStore::new(file);
+    match store.probe() {
+        Ok(()) => Ok(store),
+        Err(_) => Err(ServeFault::Store),
+    }
+}
+
+// Serves a bank at a port, with node 0's store.
+fn serve_at<H, S>(
+    rt: &HostRuntime,
+    threads: &H,
+    port: u16,
+    opening: Opening,
+    store: S,
+    plan: Plan,
+) -> Result<(), ServeFault>
+where
+    H: Threads + Wait + Clock + Sync + Net,
+    S: CheckpointStore,
+    requires nodes { plan.nodes ≤ 8 }
+    requires workers { plan.workers ≤ 16 }
+    ensures fault { IfErr result (IsProgramFault port plan.saves false) }
+{
+    let listener = listen(threads, port)?;
+    serve(
+        threads,
+        rt.alloc(),
+        &listener,
+        opening,
+        store,
+        plan,
+        rt.stdout(),
+    )?;
+    Ok(())
+}

@@ -1,0 +1,127 @@
+//! Clients in memory, who connect one after the other.
+use std::cell::{Cell, RefCell};
+use std::io;
+use std::io::{ErrorKind, Read, Write};
+use std::net::{IpAddr, Ipv4Addr, OpenListener, OpenStream, Shutdown, SocketAddr};
+use std::time::Duration;
+
+/// How a client's stream behaves.
+#[derive(Clone, Copy, PartialEq, Eq)]
+pub enum Manner {
+    /// It gives all that was sent.
+    Plain,
+    /// It can't be set up.
+    Stubborn,
+    /// It takes nothing.
+    Deaf,
+    /// It breaks once all that was sent is read.
+    Broken,
+}
+
+/// What a client sends, in pieces of three bytes, and how its stream behaves.
+#[derive(Clone, Copy)]
+pub struct Client<'a> {
+    pub sent: &'a [u8],
+    pub manner: Manner,
+}
+
+/// All that clients are told, and how often the server hangs up before they do.
+#[derive(Drop)]
+pub struct Told {
+    pub bytes: RefCell<Vec<u8>>,
+    pub hung_up: Cell<usize>,
+}
+
+/// The server's end of a client's stream.
+#[derive(Drop)]
+pub struct End<'a> {
+    client: Client<'a>,
+    told: &'a Told,
+}
+
+impl Read for End<'_> {
+    fn read(&mut self, buf: &mut [u8]) -> io::Result<usize> {
+        let count = self.client.sent.len().min(buf.len()).min(3);
+        if count == 0 && self.client.manner == Manner::Broken {
+            return Err(io::Error::from(ErrorKind::ConnectionReset));
+        }
+        let (piece, rest) = self.client.sent.split_at(count);
+        buf[..count].copy_from_slice(piece);
+        self.client.sent = rest;
+        Ok(count)
+    }
+}
+
+impl Write for End<'_> {
+    fn write(&mut self, buf: &[u8]) -> io::Result<usize> {
+        if self.client.manner == Manner::Deaf {
+            return Err(io::Error::from(ErrorKind::BrokenPipe));
+        }
+        let Ok(mut bytes) = self.told.bytes.try_borrow_mut() else {
+            return Err(io::Error::from(ErrorKind::Other));
+        };
+        bytes.extend_from_slice(buf)?;
+        Ok(buf.len())
+    }
+
+    fn flush(&mut self) -> io::Result<()> {
+        Ok(())
+    }
+}
+
+impl OpenStream for End<'_> {
+    fn set_nodelay(&self, _nodelay: bool) -> io::Result<()> {
+        if self.client.manner == Manner::Stubborn {
+            return Err(io::Error::from(ErrorKind::InvalidInput));
+        }
+        Ok(())
+    }
+
+    fn set_read_timeout(&self, _dur: Option<Duration>) -> io::Result<()> {
+        Ok(())
+    }
+
+    fn shutdown(&self, _how: Shutdown) -> io::Result<()> {
+        self.told
+            .hung_up
+            .set(self.told.hung_up.get().wrapping_add(1));
+        Ok(())
+    }
+
+    fn try_clone(&self) -> io::Result<Self> {
+        Ok(End {
+            client: self.client,
+            told: self.told,
+        })
+    }
+}
+
+/// Lets clients in, in order. There is no other, and the next accept fails.
+#[derive(Drop)]
+pub struct Door<'a> {
+    pub clients: &'a [Client<'a>],
+    pub let_in: Cell<usize>,
+    pub told: &'a Told,
+}
+
+impl<'a> OpenListener for Door<'a> {
+    type Stream = End<'a>;
+
+    fn accept(&self) -> io::Result<(End<'a>, SocketAddr)> {
+        let place = self.let_in.get();
+        let Some(client) = self.clients.get(place) else {
+            return Err(io::Error::from(ErrorKind::ConnectionAborted));
+        };
+        let here = self.local_addr()?;
+        self.let_in.set(place.wrapping_add(1));
+        let end = End {
+            client: *client,
+            told: self.told,
+        };
+        Ok((end, here))
+    }
+
+    fn local_addr(&self) -> io::Result<SocketAddr> {
+        Ok(SocketAddr::new(IpAddr::V4(Ipv4Addr::LOCALHOST), 4000))
+    }
+}

@@ -1,0 +1,197 @@
+//! Banks that are served to clients in memory.
+ghost use Rattle.std.specs.Prelude.{◌≤◌, None};
+
+use super::clients::{Client, Door, Manner, Told};
+use crate::serve_fault::ServeFault;
+use crate::serving::{Plan, serve};
+use bank_server::RunFault;
+use sb_checkpoint::{CheckpointStore, How, MemoryStore, StoreFault};
+use sb_rows::read_opening;
+use std::alloc::Global;
+use std::cell::{Cell, RefCell};
+use std::process::Abort;
+use std::sync::Wait;
+use std::thread::Threads;
+use std::time::Clock;
+
+const OPENING: &[u8] = b"alice 100.00 50.00\nbob 0.00 20.00\nbegin\n";
+
+// Client 7 asks for alice's balance, deposits 5.00 for bob, and is told of both.
+const ASKED: &[u8] = b"\x00\x10\x01\0\0\0\x07\0\0\0\x01\x01\x05alice\
+\x00\x16\x01\0\0\0\x07\0\0\0\x02\x02\x03bob\0\0\0\0\0\0\x01\xf4\
+\x00\x01\x06";
+
+const TOLD: &[u8] = b"\x00\x13\x05\0\0\0\x07\0\0\0\x01\0\0\0\0\0\0\0\0\x3a\x98\
+\x00\x13\x05\0\0\0\x07\0\0\0\x02\0\x01\0\0\0\0\0\0\0\0";
+
+// The deposit alone, of which nobody is told.
+const DEPOSIT: &[u8] = b"\x00\x16\x01\0\0\0\x07\0\0\0\x02\x02\x03bob\0\0\0\0\0\0\x01\xf4";
+
+// A flush, and an acknowledgement, which no client may send.
+const ACK: &[u8] = b"\x00\x01\x06\x00\x0a\x03\x01\0\0\0\0\0\0\0\x02";
+
+const GARBAGE: &[u8] = b"GET / HTTP/1.1\r\n";
+
+fn plain(sent: &[u8]) -> Client<'_> {
+    let manner = Manner::Plain;
+    Client { sent, manner }
+}
+
+/// A store that holds nothing after its puts.
+#[derive(Drop)]
+struct Forgetful;
+
+impl CheckpointStore for Forgetful {
+    ghost slot = { λ store. None };
+
+    ghost IsHonest = { λ store. ⊥ };
+
+    ghost failed = { λ store. 0 };
+
+    ghost acts = { λ before step after. Unit {0} };
+
+    fn put(&mut self, _bytes: &[u8]) -> Result<(), StoreFault> {
+        Ok(())
+    }
+
+    fn get(&mut self) -> Result<Option<Vec<u8>>, StoreFault> {
+        Ok(None)
+    }
+
+    fn failures(&self) -> u64 {
+        0
+    }
+}
+
+// Serves a bank to these clients with this store, and compares how that ends, what is printed and what they are told.
+fn expect<S: CheckpointStore>(
+    rt: &(impl Abort + Threads + Wait + Clock + Sync),
+    alloc: Global,
+    clients: &[Client],
+    store: S,
+    plan: Plan,
+    ends: Result<(), ServeFault>,
+    printed: &str,
+    told: &[u8],
+) -> usize
+    requires nodes { plan.nodes ≤ 8 }
+    requires workers { plan.workers ≤ 16 }
+{
+    let all = Told {
+        bytes: RefCell::new(Vec::new(alloc)),
+        hung_up: Cell::new(0),
+    };
+    let door = Door {
+        clients,
+        let_in: Cell::new(0),
+        told: &all,
+    };
+    let opening = read_opening(alloc, OPENING).expect(rt, "an opening");
+    let mut written: Vec<u8> = Vec::new(alloc);
+    let served = serve(rt, alloc, &door, opening, store, plan, &mut written);
+    assert!(rt; served.map(|_| ()) == ends);
+    assert!(rt; written.as_slice() == printed.as_bytes());
+    let hung_up = all.hung_up.get();
+    let bytes = all.bytes.into_inner();
+    assert!(rt; bytes.as_slice() == told);
+    hung_up
+}
+
+#[test]
+fn two_sessions_and_one_at_fault(rt: HostRuntime) {
+    let alloc = rt.alloc();
+    let clients = [plain(ASKED), plain(GARBAGE), plain(DEPOSIT)];
+    let printed = "listening 127.0.0.1:4000\nsession 1 ok\nsession 2 fault 1\nsession 3 ok\n\
+        alice 100.00 50.00\nbob 0.00 25.00\ntotal 175.00\n";
+    for (nodes, workers) in [(1, 0), (1, 2), (3, 0), (8, 16)] {
+        for saves in [false, true] {
+            let plan = Plan {
+                sessions: 3,
+                nodes,
+                workers,
+                saves,
+            };
+            let store = MemoryStore::new(alloc);
+            let hung_up = expect(&rt, alloc, &clients, store, plan, Ok(()), printed, TOLD);
+            assert!(&rt; hung_up == 1);
+        }
+    }
+}
+
+#[test]
+fn sessions_at_fault(rt: HostRuntime) {
+    let alloc = rt.alloc();
+    let clients = [
+        plain(&ASKED[..17]),
+        plain(ACK),
+        Client {
+            sent: ASKED,
+            manner: Manner::Stubborn,
+        },
+        Client {
+            sent: ASKED,
+            manner: Manner::Deaf,
+        },
+        Client {
+            sent: DEPOSIT,
+            manner: Manner::Broken,
+        },
+        plain(ASKED),
+        plain(b""),
+    ];
+    let plan = Plan {
+        sessions: 7,
+        nodes: 2,
+        workers: 1,
+        saves: true,
+    };
+    let printed = "listening 127.0.0.1:4000\nsession 1 fault 1\nsession 2 fault 2\n\
+        session 3 fault 4\nsession 4 fault 4\nsession 5 fault 4\nsession 6 ok\nsession 7 ok\n\
+        alice 100.00 50.00\nbob 0.00 25.00\ntotal 175.00\n";
+    let store = MemoryStore::new(alloc);
+    let hung_up = expect(&rt, alloc, &clients, store, plan, Ok(()), printed, TOLD);
+    assert!(&rt; hung_up == 2);
+}
+
+#[test]
+fn nobody_else_is_let_in(rt: HostRuntime) {
+    let alloc = rt.alloc();
+    let plan = Plan {
+        sessions: 2,
+        nodes: 1,
+        workers: 0,
+        saves: false,
+    };
+    let ends = Err(ServeFault::Run(RunFault::Device));
+    let printed = "listening 127.0.0.1:4000\nsession 1 ok\n";
+    let store = MemoryStore::new(alloc);
+    expect(
+        &rt,
+        alloc,
+        &[plain(ASKED)],
+        store,
+        plan,
+        ends,
+        printed,
+        TOLD,
+    );
+}
+
+#[test]
+fn stores_that_fail(rt: HostRuntime) {
+    let alloc = rt.alloc();
+    let clients = [plain(ASKED), plain(b"")];
+    let plan = Plan {
+        sessions: 2,
+        nodes: 1,
+        workers: 0,
+        saves: true,
+    };
+    let printed = "listening 127.0.0.1:4000\n";
+    let ends = Err(ServeFault::ReadBack);
+    expect(&rt, alloc, &clients, Forgetful, plan, ends, printed, TOLD);
+    let mut store = MemoryStore::new(alloc);
+    store.tell(How::New);
+    let ends = Err(ServeFault::Run(RunFault::Device));
+    expect(&rt, alloc, &clients, store, plan, ends, printed, TOLD);
+}
