@@ -1,7 +1,9 @@
 //! The bank whose board is drained.
-ghost use Rattle.std.specs.Prelude.{◌≡◌, ◌*◌, length};
-ghost use Rattle.sb_calls.specs.Behaviour.{declared_cowns};
+ghost use Rattle.std.specs.Prelude.{◌≡◌, ◌≢◌, ◌*◌, ◌++◌, ◌∷◌, [], length, slice_get, IfOk, OnOk, MatchOption};
+ghost use Rattle.sb_calls.specs.Behaviour.{declared_cowns, effect_of};
 ghost use Rattle.sb_calls.specs.Cowns.{AreBelow, held_of};
+ghost use Rattle.cown_board.specs.Board.{length_of, open_of};
+ghost use Rattle.crew_bench.specs.Deposits.{IsTotalAfterAll, cent_for, cents_in_turn};
 
 use crate::fault::Fault;
 use cown_board::{Board, SubmitFault};
@@ -26,7 +28,10 @@ pub struct Bank {
 
 impl Bank {
     /// A bank whose customers have nothing.
-    pub fn open(alloc: Global) -> Result<Bank, Fault> {
+    pub fn open(alloc: Global) -> Result<Bank, Fault>
+        ensures no_call { IfOk result (λ bank. bank.board ≡
+            record { opening = bank.board.opening; earlier = []; log = []; states = [] }) }
+    {
         let opening = opening(alloc)?;
         let board = Board::open(alloc, opening.columns, 0, Vec::new(alloc))?;
         Ok(Bank {
@@ -37,7 +42,14 @@ impl Bank {
 
     /// Deposits a cent so often, each time with the next customer, and has the crew carry it out. Where the
     /// board is busy it is drained first.
-    pub fn deposit(&mut self, crew: &mut impl Crew, calls: u32) -> Result<(), Fault> {
+    pub fn deposit(&mut self, crew: &mut impl Crew, calls: u32) -> Result<(), Fault>
+        ensures added { OnOk result (self.new.board.log ≡
+            self.old.board.log ++ cents_in_turn self.old.directory calls) }
+        ensures idle { OnOk result (open_of self.new.board ≡ 0) }
+        ensures earlier { self.new.board.earlier ≡ self.old.board.earlier }
+        ensures opening { self.new.board.opening ≡ self.old.board.opening }
+        ensures directory { self.new.directory ≡ self.old.directory }
+    {
         for call in 0..calls {
             self.deposit_to(call % CUSTOMERS, crew)?;
         }
@@ -46,17 +58,28 @@ impl Bank {
     }
 
     /// How many calls there were.
-    pub fn length(&self) -> u64 {
+    pub fn length(&self) -> u64
+        ensures { result ≡ length_of self.now.board }
+    {
         self.board.length()
     }
 
     /// What all customers have, or `None` while something is unfinished.
-    pub fn total(&self) -> Option<i64> {
+    pub fn total(&self) -> Option<i64>
+        ensures { MatchOption result (open_of self.now.board ≢ 0)
+            (λ cents. (open_of self.now.board ≡ 0) × IsTotalAfterAll self.now.board cents) }
+    {
         Some(bank_total(self.board.settled_columns()?))
     }
 
     // Deposits a cent to the customer at this place.
-    fn deposit_to(&mut self, place: u32, crew: &mut impl Crew) -> Result<(), Fault> {
+    fn deposit_to(&mut self, place: u32, crew: &mut impl Crew) -> Result<(), Fault>
+        ensures added { OnOk result (self.new.board.log ≡
+            self.old.board.log ++ cent_for self.old.directory (slice_get self.old.directory place) ∷ []) }
+        ensures earlier { self.new.board.earlier ≡ self.old.board.earlier }
+        ensures opening { self.new.board.opening ≡ self.old.board.opening }
+        ensures directory { self.new.directory ≡ self.old.directory }
+    {
         let name = self.directory.name(place).ok_or(Fault::Bank)?;
         let cent = Cents::new(1).ok_or(Fault::Bank)?;
         let op = resolve(&self.directory, &Call::DepositChecking(name, cent));
@@ -67,7 +90,9 @@ impl Bank {
 // Submits an op. Where the board is busy it is drained first.
 fn submit(op: &Op, board: &mut Board<Op>, crew: &mut impl Crew) -> Result<(), Fault>
     requires { AreBelow (length (held_of board.old.opening)) (declared_cowns op.now) }
-    ensures { board.new.opening ≡ board.old.opening }
+    ensures added { OnOk result (board.new.log ≡ board.old.log ++ op.now ∷ []) }
+    ensures earlier { board.new.earlier ≡ board.old.earlier }
+    ensures opening { board.new.opening ≡ board.old.opening }
 {
     match board.submit(*op) {
         Ok(_) => return Ok(()),
@@ -82,9 +107,14 @@ fn submit(op: &Op, board: &mut Board<Op>, crew: &mut impl Crew) -> Result<(), Fa
 fn opening(alloc: Global) -> Result<Opening, Fault> {
     let mut text = String::new(alloc);
     for place in 0..CUSTOMERS {
-        let line = format!(in alloc; "c{place} 0.00 0.00\n")?;
-        text.push_str(line.as_str())?;
+        push_customer(alloc, place, &mut text)?;
     }
     text.push_str("begin\n")?;
     read_opening(alloc, text.as_str().as_bytes()).map_err(|_| Fault::Bank)
+}
+
+fn push_customer(alloc: Global, place: u32, text: &mut String) -> Result<(), Fault> {
+    let line = format!(in alloc; "c{place} 0.00 0.00\n")?;
+    text.push_str(line.as_str())?;
+    Ok(())
 }

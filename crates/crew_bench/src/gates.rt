@@ -1,4 +1,5 @@
 //! Gates that hold a worker up.
+ghost use Rattle.std.specs.Prelude.{◌≡◌};
 
 use cown_workers::Gate;
 use std::sync::atomic::{AtomicBool, Ordering};
@@ -16,7 +17,9 @@ pub struct Computing {
 
 impl Computing {
     /// A gate of so many steps.
-    pub fn of(steps: u64) -> Computing {
+    pub fn of(steps: u64) -> Computing
+        ensures { result.steps ≡ steps }
+    {
         Computing {
             steps,
             came_to_nothing: AtomicBool::new(false),

@@ -16,7 +16,8 @@ mod measured;
 mod running;
 mod words;
 
-const USAGE: &str = "usage: crew_bench none STEPS CALLS|workers WORKERS STEPS CALLS|wait WORKERS";
+const USAGE: &str =
+    "usage: crew_bench none STEPS CALLS|workers WORKERS STEPS CALLS|wait WORKERS|idle WORKERS|late WORKERS";
 
 fn main(rt: HostRuntime) -> ExitCode {
     let action = match action(&rt) {

@@ -7,14 +7,23 @@ use crate::gates::{Computing, Waiting};
 use crate::in_place::InPlace;
 use crate::measured::Measured;
 use crate::words::Action;
-use cown_workers::{Gate, with_crew};
+use cown_workers::{Crew, Gate, OpenGate, with_crew};
 use std::alloc::Global;
 use std::sync::Wait;
+use std::thread;
 use std::thread::Threads;
-use std::time::{Clock, Instant};
+use std::time::{Clock, Duration, Instant};
+
+/// For how many seconds a crew is given nothing at all.
+const IDLE: u64 = 10;
+
+/// For how many milliseconds it is given nothing before each late call, and how many such calls there are.
+const PAUSE: u64 = 200;
+
+const LATE_CALLS: u32 = 50;
 
 /// Measures an action.
-pub fn measure<R: Threads + Wait + Clock + Sync>(
+pub(crate) fn measure<R: Threads + Wait + Clock + Sync>(
     rt: &R,
     alloc: Global,
     action: Action,
@@ -27,6 +36,8 @@ pub fn measure<R: Threads + Wait + Clock + Sync>(
             calls,
         } => in_threads(rt, alloc, workers, &Computing::of(steps), calls),
         Action::Wait { workers } => in_threads(rt, alloc, workers, &Waiting { clock: rt }, 1),
+        Action::Idle { workers } => idle(rt, alloc, workers),
+        Action::Late { workers } => late(rt, alloc, workers),
     }
 }
 
@@ -38,9 +49,20 @@ fn in_place(
     calls: u32,
 ) -> Result<Measured, Fault> {
     let mut bank = Bank::open(alloc)?;
+    let time = deposit_in_place(clock, gate, &mut bank, calls);
+    measured(time, &bank)
+}
+
+// How long these calls took.
+fn deposit_in_place(
+    clock: &impl Clock,
+    gate: &impl Gate,
+    bank: &mut Bank,
+    calls: u32,
+) -> Result<Duration, Fault> {
     let start = Instant::now(clock)?;
     bank.deposit(&mut InPlace { gate }, calls)?;
-    measured(clock, start, &bank)
+    Ok(start.elapsed(clock)?)
 }
 
 // So many calls, carried out by so many workers.
@@ -58,20 +80,114 @@ where
     if workers < 1 || workers > 16 {
         return Err(Fault::Workers);
     }
-    let bank = Bank::open(alloc)?;
-    let start = Instant::now(rt)?;
-    let (bank, ended) = with_crew(rt, alloc, workers, gate, move |crew| {
-        let mut bank = bank;
-        let ended = bank.deposit(crew, calls);
-        (bank, ended)
-    })?;
-    ended?;
-    measured(rt, start, &bank)
+    let mut bank = Bank::open(alloc)?;
+    let time = deposit_in_threads(rt, alloc, workers, gate, &mut bank, calls);
+    measured(time, &bank)
 }
 
-// What the calls came to, which began then.
-fn measured(clock: &impl Clock, start: Instant, bank: &Bank) -> Result<Measured, Fault> {
-    let time = start.elapsed(clock)?;
+// How long these calls took, with the start and the end of the threads.
+fn deposit_in_threads<R, G>(
+    rt: &R,
+    alloc: Global,
+    workers: usize,
+    gate: &G,
+    bank: &mut Bank,
+    calls: u32,
+) -> Result<Duration, Fault>
+where
+    R: Threads + Wait + Clock + Sync,
+    G: Gate + Sync,
+    requires some { 1 ≤ workers }
+    requires few { workers ≤ 16 }
+{
+    let start = Instant::now(rt)?;
+    with_crew(
+        rt,
+        alloc,
+        workers,
+        gate,
+        move |crew| bank.deposit(crew, calls),
+    )??;
+    Ok(start.elapsed(rt)?)
+}
+
+// So many workers, who have nothing to do.
+fn idle<R: Threads + Wait + Clock + Sync>(
+    rt: &R,
+    alloc: Global,
+    workers: usize,
+) -> Result<Measured, Fault> {
+    if workers < 1 || workers > 16 {
+        return Err(Fault::Workers);
+    }
+    let bank = Bank::open(alloc)?;
+    let time = wait_idle(rt, alloc, workers);
+    measured(time, &bank)
+}
+
+// How long they had nothing to do.
+fn wait_idle<R: Threads + Wait + Clock + Sync>(
+    rt: &R,
+    alloc: Global,
+    workers: usize,
+) -> Result<Duration, Fault>
+    requires some { 1 ≤ workers }
+    requires few { workers ≤ 16 }
+{
+    let start = Instant::now(rt)?;
+    with_crew(rt, alloc, workers, &OpenGate, |_| {
+        thread::sleep(rt, Duration::from_secs(IDLE))
+    })?;
+    Ok(start.elapsed(rt)?)
+}
+
+// So many workers, who have nothing to do before each call. The time is that of the calls alone.
+fn late<R: Threads + Wait + Clock + Sync>(
+    rt: &R,
+    alloc: Global,
+    workers: usize,
+) -> Result<Measured, Fault> {
+    if workers < 1 || workers > 16 {
+        return Err(Fault::Workers);
+    }
+    let mut bank = Bank::open(alloc)?;
+    let time = deposit_late_in_threads(rt, alloc, workers, &mut bank);
+    measured(time, &bank)
+}
+
+// How long the late calls took.
+fn deposit_late_in_threads<R: Threads + Wait + Clock + Sync>(
+    rt: &R,
+    alloc: Global,
+    workers: usize,
+    bank: &mut Bank,
+) -> Result<Duration, Fault>
+    requires some { 1 ≤ workers }
+    requires few { workers ≤ 16 }
+{
+    with_crew(rt, alloc, workers, &OpenGate, move |crew| {
+        deposit_late(rt, bank, crew)
+    })?
+}
+
+fn deposit_late(
+    clock: &impl Clock,
+    bank: &mut Bank,
+    crew: &mut impl Crew,
+) -> Result<Duration, Fault> {
+    let mut time = Duration::ZERO;
+    for _ in 0..LATE_CALLS {
+        thread::sleep(clock, Duration::from_millis(PAUSE));
+        let start = Instant::now(clock)?;
+        bank.deposit(crew, 1)?;
+        time = time.saturating_add(start.elapsed(clock)?);
+    }
+    Ok(time)
+}
+
+// What the calls came to that took so long, if they were carried out.
+fn measured(time: Result<Duration, Fault>, bank: &Bank) -> Result<Measured, Fault> {
+    let time = time?;
     Ok(Measured {
         length: bank.length(),
         total: bank.total().ok_or(Fault::Unfinished)?,

@@ -1,4 +1,6 @@
 //! The program's words.
+ghost use Rattle.std.specs.Prelude.{◌≡◌, IfSome, IsTrue, Some, map, slice_get, string_bytes};
+ghost use Rattle.crew_bench.specs.Actions.{Asks, Says, Spells};
 
 /// What is measured.
 #[derive(Clone, Copy, Debug, PartialEq, Eq)]
@@ -18,25 +20,78 @@ pub enum Action {
     Wait {
         workers: usize,
     },
+    /// So many workers have nothing to do for ten seconds.
+    Idle {
+        workers: usize,
+    },
+    /// So many workers carry fifty calls out, each of which comes once they had nothing to do for 0.2 seconds.
+    Late {
+        workers: usize,
+    },
 }
 
 /// Reads the program's words, of which the first is its name.
-pub fn read_words(words: &[String]) -> Option<Action> {
-    match words {
-        [_, action, workers] if action.as_str() == "wait" => Some(Action::Wait {
-            workers: workers.parse::<usize>().ok()?,
-        }),
-        [_, action, steps, calls] if action.as_str() == "none" => Some(Action::InPlace {
-            steps: steps.parse::<u64>().ok()?,
-            calls: calls.parse::<u32>().ok()?,
-        }),
-        [_, action, workers, steps, calls] if action.as_str() == "workers" => Some(
-            Action::InThreads {
-                workers: workers.parse::<usize>().ok()?,
-                steps: steps.parse::<u64>().ok()?,
-                calls: calls.parse::<u32>().ok()?,
-            },
-        ),
-        _ => None,
+pub fn read_words(words: &[String]) -> Option<Action>
+    ensures { IfSome result (λ action. Says action words.now) }
+{
+    if asks(words, 3, "wait") {
+        let workers = number(words, 2)? as usize;
+        return Some(Action::Wait { workers });
     }
+    if asks(words, 3, "idle") {
+        let workers = number(words, 2)? as usize;
+        return Some(Action::Idle { workers });
+    }
+    if asks(words, 3, "late") {
+        let workers = number(words, 2)? as usize;
+        return Some(Action::Late { workers });
+    }
+    if asks(words, 4, "none") {
+        let steps = number(words, 2)?;
+        let calls = few(words, 3)?;
+        return Some(Action::InPlace { steps, calls });
+    }
+    if asks(words, 5, "workers") {
+        let workers = number(words, 2)? as usize;
+        let steps = number(words, 3)?;
+        let calls = few(words, 4)?;
+        return Some(Action::InThreads {
+            workers,
+            steps,
+            calls,
+        });
+    }
+    None
+}
+
+// Whether there are so many words, and the second is this one.
+fn asks(words: &[String], many: usize, action: &str) -> bool
+    ensures { IsTrue result → Asks words.now many action.now }
+{
+    match text(words, 1) {
+        Some(word) if words.len() == many => word == action,
+        _ => false,
+    }
+}
+
+// The word at this place.
+fn text<'a>(words: &'a [String], place: usize) -> Option<&'a str>
+    ensures { IfSome result
+        (λ text. slice_get (map string_bytes words.entry.now) place ≡ Some text.now) }
+{
+    Some(words.get(place)?.as_str())
+}
+
+// The number that the word at this place spells.
+fn number(words: &[String], place: usize) -> Option<u64>
+    ensures { IfSome result (λ number. Spells words.now place number) }
+{
+    text(words, place)?.parse::<u64>().ok()
+}
+
+// The same, where it is below 2^32.
+fn few(words: &[String], place: usize) -> Option<u32>
+    ensures { IfSome result (λ number. Spells words.now place number) }
+{
+    text(words, place)?.parse::<u32>().ok()
 }

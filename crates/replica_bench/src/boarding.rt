@@ -6,42 +6,61 @@ ghost use Rattle.sb_calls.specs.Cowns.{AreBelow, held_of};
 use crate::bank::open_bank;
 use crate::delivering::{BALANCES, CUSTOMERS};
 use crate::entries::{Entries, make_entries};
-use crate::measured::Measured;
+use crate::measured::{Measured, log_measured};
 use anyhow::{Context, Result, bail};
 use cown_board::{Board, SubmitFault};
 use cown_workers::{InlineCrew, drain};
-use lane_audit::bank_total;
 use sb_calls::{Call, Op, resolve};
 use sb_frames::{Frame, decode};
 use sb_rows::Directory;
 use std::alloc::Global;
-use std::time::{Clock, Instant};
+use std::time::{Clock, Duration, Instant};
 
 /// Decodes this many entries, and carries out their calls. It comes to the log's length and the bank's total.
 pub fn board(clock: &impl Clock, alloc: Global, count: u32) -> Result<Measured> {
     let opening = open_bank(alloc, CUSTOMERS, BALANCES)?;
-    let entries = make_entries(alloc, &opening.directory, count)?;
     let board = Board::open(alloc, opening.columns, 0, Vec::new(alloc))?;
-    carry_out_on(clock, &entries, &opening.directory, board)
+    carry_out_on(clock, alloc, &opening.directory, count, board)
 }
 
 fn carry_out_on(
     clock: &impl Clock,
-    entries: &Entries,
+    alloc: Global,
     directory: &Directory,
+    count: u32,
     mut board: Board<Op>,
 ) -> Result<Measured>
     requires { length (held_of board.opening) ≡ 2 * length directory.now }
 {
+    let time = carry_out_entries(clock, alloc, directory, count, &mut board);
+    log_measured(time, board.length(), board.settled_columns())
+}
+
+// Makes the entries, and tells how long it took to carry them out.
+fn carry_out_entries(
+    clock: &impl Clock,
+    alloc: Global,
+    directory: &Directory,
+    count: u32,
+    board: &mut Board<Op>,
+) -> Result<Duration>
+    requires { length (held_of board.old.opening) ≡ 2 * length directory.now }
+{
+    let entries = make_entries(alloc, directory, count)?;
+    time_carrying(clock, &entries, directory, board)
+}
+
+fn time_carrying(
+    clock: &impl Clock,
+    entries: &Entries,
+    directory: &Directory,
+    board: &mut Board<Op>,
+) -> Result<Duration>
+    requires { length (held_of board.old.opening) ≡ 2 * length directory.now }
+{
     let start = Instant::now(clock)?;
-    carry_out(entries, directory, &mut board)?;
-    let time = start.elapsed(clock)?;
-    let columns = board.settled_columns().context("something is unfinished")?;
-    Ok(Measured {
-        length: board.length(),
-        sum: bank_total(columns),
-        time,
-    })
+    carry_out(entries, directory, board)?;
+    Ok(start.elapsed(clock)?)
 }
 
 // Carries out the calls of all frames.

@@ -51,9 +51,22 @@ fn write_often(
 
 /// Reads a checkpoint of the greatest size this often. It comes to how many replies it has, and what it adds up to.
 pub fn read(clock: &impl Clock, alloc: Global, count: u32) -> Result<Measured> {
-    let opening = open_bank(alloc, CUSTOMERS as u32, BALANCES)?;
-    let bytes = write_checkpoint(alloc, &opening.columns, &all_replies(alloc)?)?;
+    let bytes = written(alloc)?;
     read_often(clock, alloc, &bytes, count)
+}
+
+// The checkpoint that is read.
+fn written(alloc: Global) -> Result<Vec<u8>> {
+    let opening = open_bank(alloc, CUSTOMERS as u32, BALANCES)?;
+    let replies = all_replies(alloc)?;
+    write_once(alloc, &opening.columns, &replies)
+}
+
+fn write_once(alloc: Global, columns: &Columns, replies: &[Reply]) -> Result<Vec<u8>>
+    requires few { length replies.now ≤ LOG_CALLS }
+    requires valid { All IsReply replies.now }
+{
+    Ok(write_checkpoint(alloc, columns, replies)?)
 }
 
 fn read_often(clock: &impl Clock, alloc: Global, bytes: &[u8], count: u32) -> Result<Measured> {

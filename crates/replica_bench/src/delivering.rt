@@ -3,15 +3,14 @@ ghost use Rattle.std.specs.Prelude.{◌≡◌, length};
 
 use crate::bank::open_bank;
 use crate::entries::{Entries, make_entries};
-use crate::measured::Measured;
+use crate::measured::{Measured, log_measured};
 use anyhow::{Context, Result, bail};
 use cown_workers::{InlineCrew, drain};
-use lane_audit::bank_total;
 use sb_checkpoint::MemoryStore;
 use sb_replica::{Heard, Replica};
 use sb_rows::Opening;
 use std::alloc::Global;
-use std::time::{Clock, Instant};
+use std::time::{Clock, Duration, Instant};
 
 /// How many customers the bank has.
 pub const CUSTOMERS: u32 = 40_000;
@@ -23,7 +22,7 @@ pub const BALANCES: &str = "1000.00 1000.00";
 pub fn deliver(clock: &impl Clock, alloc: Global, count: u32) -> Result<Measured> {
     let opening = open_bank(alloc, CUSTOMERS, BALANCES)?;
     let entries = make_entries(alloc, &opening.directory, count)?;
-    deliver_to(clock, &entries, replica_of(alloc, opening)?)
+    deliver_to(clock, &entries, replica_of(alloc, opening))
 }
 
 // A replica at this opening.
@@ -35,22 +34,25 @@ fn replica_of(alloc: Global, opening: Opening) -> Result<Replica<MemoryStore>>
     Ok(replica)
 }
 
+// Delivers the entries to this replica, if there is one.
 fn deliver_to(
     clock: &impl Clock,
     entries: &Entries,
-    mut replica: Replica<MemoryStore>,
+    replica: Result<Replica<MemoryStore>>,
 ) -> Result<Measured> {
+    let mut replica = replica?;
+    let time = time_delivering(clock, entries, &mut replica);
+    log_measured(time, replica.length(), replica.settled_columns())
+}
+
+fn time_delivering(
+    clock: &impl Clock,
+    entries: &Entries,
+    replica: &mut Replica<MemoryStore>,
+) -> Result<Duration> {
     let start = Instant::now(clock)?;
-    deliver_all(entries, &mut replica)?;
-    let time = start.elapsed(clock)?;
-    let columns = replica
-        .settled_columns()
-        .context("something is unfinished")?;
-    Ok(Measured {
-        length: replica.length(),
-        sum: bank_total(columns),
-        time,
-    })
+    deliver_all(entries, replica)?;
+    Ok(start.elapsed(clock)?)
 }
 
 fn deliver_all(entries: &Entries, replica: &mut Replica<MemoryStore>) -> Result<()> {

@@ -22,18 +22,28 @@ pub struct Entries {
 /// The frames of this many entries, numbered from 1 on, with calls of all kinds.
 pub fn make_entries(alloc: Global, directory: &Directory, count: u32) -> Result<Entries> {
     let mut random = Random::new(SEED);
-    let mut bytes = Vec::new(alloc);
-    let mut lengths = Vec::new(alloc);
+    let mut entries = Entries {
+        bytes: Vec::new(alloc),
+        lengths: Vec::new(alloc),
+    };
     for number in 0..u64::from(count) {
-        let call = any_call(&mut random, directory).context("making a call")?;
-        let frame = encode(&Frame::Entry {
-            number: number + 1,
-            call,
-        });
-        bytes.extend_from_slice(&frame)?;
-        lengths.push(frame.len())?;
+        push_entry(&mut random, directory, number + 1, &mut entries)?;
     }
-    Ok(Entries { bytes, lengths })
+    Ok(entries)
+}
+
+// One frame more.
+fn push_entry(
+    random: &mut Random,
+    directory: &Directory,
+    number: u64,
+    entries: &mut Entries,
+) -> Result<()> {
+    let call = any_call(random, directory).context("making a call")?;
+    let frame = encode(&Frame::Entry { number, call });
+    entries.bytes.extend_from_slice(&frame)?;
+    entries.lengths.push(frame.len())?;
+    Ok(())
 }
 
 // A call of any kind, of any customers, with any amount below 100.00 and above nothing.

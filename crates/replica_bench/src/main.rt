@@ -35,8 +35,7 @@ fn main(rt: HostRuntime) -> ExitCode {
 
 // Does what the program's words say, and gives the exit status.
 fn start(rt: &HostRuntime) -> Result<u8> {
-    let words: Vec<String> = env::args(rt)?.collect(rt.alloc())?;
-    let Some(words) = read_words(&words) else {
+    let Some(words) = asked(rt)? else {
         eprintln!(rt; "{USAGE}")?;
         return Ok(2);
     };
@@ -45,6 +44,12 @@ fn start(rt: &HostRuntime) -> Result<u8> {
     println!(rt; "{} {}", measured.length, measured.sum)?;
     eprintln!(rt; "{milliseconds:.3} ms")?;
     Ok(0)
+}
+
+// What the program's words say, or `None` where they say nothing.
+fn asked(rt: &HostRuntime) -> Result<Option<Words>> {
+    let words: Vec<String> = env::args(rt)?.collect(rt.alloc())?;
+    Ok(read_words(&words))
 }
 
 fn measure(rt: &HostRuntime, words: Words) -> Result<Measured> {

@@ -1,5 +1,8 @@
 //! What a measured action came to.
 
+use anyhow::{Context, Result};
+use lane_audit::bank_total;
+use sb_rows::Columns;
 use std::time::Duration;
 
 /// What is printed of an action, and the time of its measured part.
@@ -11,4 +14,19 @@ pub struct Measured {
     pub sum: i64,
     /// How long it took.
     pub time: Duration,
+}
+
+/// What a log of this length came to, if it was carried out: the bank's total.
+pub fn log_measured(
+    time: Result<Duration>,
+    length: u64,
+    columns: Option<&Columns>,
+) -> Result<Measured> {
+    let time = time?;
+    let columns = columns.context("something is unfinished")?;
+    Ok(Measured {
+        length,
+        sum: bank_total(columns),
+        time,
+    })
 }

@@ -5,16 +5,15 @@ ghost use Rattle.sb_calls.specs.Cowns.{held_of};
 use crate::bank::open_bank;
 use crate::delivering::BALANCES;
 use crate::holding::HoldingCrew;
-use crate::measured::Measured;
+use crate::measured::{Measured, log_measured};
 use anyhow::{Context, Result};
 use cown_board::{Board, OPEN_BEHAVIOURS};
 use cown_workers::drain;
-use lane_audit::bank_total;
 use sb_amount::Cents;
 use sb_calls::{Call, Op, resolve};
 use sb_rows::Directory;
 use std::alloc::Global;
-use std::time::{Clock, Instant};
+use std::time::{Clock, Duration, Instant};
 
 /// Who is paid in a round.
 #[derive(Clone, Copy, Debug, PartialEq, Eq)]
@@ -34,30 +33,52 @@ pub fn drain_rounds(
     count: u32,
 ) -> Result<Measured> {
     let opening = open_bank(alloc, OPEN_BEHAVIOURS as u32, BALANCES)?;
-    let calls = deposits(alloc, &opening.directory, payees)?;
     let board = Board::open(alloc, opening.columns, 0, Vec::new(alloc))?;
-    run_on(clock, alloc, &opening.directory, &calls, count, board)
+    run_on(clock, alloc, &opening.directory, payees, count, board)
 }
 
 fn run_on(
     clock: &impl Clock,
     alloc: Global,
     directory: &Directory,
-    calls: &[Call],
+    payees: Payees,
     count: u32,
     mut board: Board<Op>,
 ) -> Result<Measured>
     requires { length (held_of board.opening) ≡ 2 * length directory.now }
 {
+    let time = run_deposits(clock, alloc, directory, payees, count, &mut board);
+    log_measured(time, board.length(), board.settled_columns())
+}
+
+// Makes the deposits, and tells how long their rounds took.
+fn run_deposits(
+    clock: &impl Clock,
+    alloc: Global,
+    directory: &Directory,
+    payees: Payees,
+    count: u32,
+    board: &mut Board<Op>,
+) -> Result<Duration>
+    requires { length (held_of board.old.opening) ≡ 2 * length directory.now }
+{
+    let calls = deposits(alloc, directory, payees)?;
+    time_rounds(clock, alloc, directory, &calls, count, board)
+}
+
+fn time_rounds(
+    clock: &impl Clock,
+    alloc: Global,
+    directory: &Directory,
+    calls: &[Call],
+    count: u32,
+    board: &mut Board<Op>,
+) -> Result<Duration>
+    requires { length (held_of board.old.opening) ≡ 2 * length directory.now }
+{
     let start = Instant::now(clock)?;
-    run_rounds(alloc, directory, calls, count, &mut board)?;
-    let time = start.elapsed(clock)?;
-    let columns = board.settled_columns().context("something is unfinished")?;
-    Ok(Measured {
-        length: board.length(),
-        sum: bank_total(columns),
-        time,
-    })
+    run_rounds(alloc, directory, calls, count, board)?;
+    Ok(start.elapsed(clock)?)
 }
 
 // A deposit for each behaviour that may be unfinished.
