@@ -1,60 +1,86 @@
 //! A crew that works at a bench.
-ghost use Rattle.std.specs.Prelude.{◌≡◌, true};
+ghost use Rattle.std.specs.Prelude.{◌≡◌, true, IfSome};
 ghost use Rattle.cown_workers.specs.BenchCrews.{LaysOut};
 
 use crate::bell::Bell;
 use crate::crew::Crew;
+use crate::gate::{Gate, carry_out};
 use crate::inbox::Inbox;
-use cown_bench::{Bench, OwnerPass, Work};
+use cown_bench::{Bench, OwnerPass, Work, WorkerPass};
 use cown_board::{Done, Job};
+use crossbeam_channel::TryRecvError;
 use sb_calls::Op;
 use std::marker::Model;
 use std::sync::Wait;
 use std::thread;
 
 /// A crew in threads, as the owner of a board has it. What is given lies on a bench until a worker picks it, and comes
-/// back where the bench is full; what is carried out comes in through a channel. `next` waits until something
-/// does, so it is to be asked only while the crew has a job. Contracts see the crew as what it laid out.
+/// back where the bench is full; what is carried out comes in through a channel. Where nothing has come in, `next` is one
+/// more worker: it carries out a job that nobody picked yet, as long as the bench has fewer workers than it may have. Else
+/// it waits, so it is to be asked only while the crew has a job. Contracts see the crew as what it laid out.
 #[derive(Drop)]
-pub struct BenchCrew<'a, R: Wait> {
+pub struct BenchCrew<'a, R: Wait, G: Gate> {
     rt: &'a R,
     bench: &'a Bench,
     bell: &'a Bell,
+    gate: &'a G,
     pass: OwnerPass,
+    // What it picks with itself.
+    hands: Option<WorkerPass>,
     inbox: Inbox,
     // How many jobs it has.
     jobs: usize,
 }
 
-impl<'a, R: Wait> Model for BenchCrew<'a, R> {
-    ghost use Rattle.std.specs.Prelude.{◌≡◌, List};
+impl<'a, R: Wait, G: Gate> Model for BenchCrew<'a, R, G> {
+    ghost use Rattle.std.specs.Prelude.{◌≡◌, List, IfSome};
     ghost use Rattle.cown_bench.specs.Picks.{WorkOf};
 
     ghost Value = { List WorkOf };
 
     ghost view = { λ crew. crew.pass.offered };
 
-    ghost invariant = { λ crew. crew.pass.bench ≡ crew.bench.now };
+    ghost invariant = { λ crew. (crew.pass.bench ≡ crew.bench.now)
+        × IfSome crew.hands (λ hands. hands.bench ≡ crew.bench.now) };
 }
 
-impl<'a, R: Wait> BenchCrew<'a, R> {
+impl<'a, R: Wait, G: Gate> BenchCrew<'a, R, G> {
     pub(crate) fn new(
         rt: &'a R,
         bench: &'a Bench,
         bell: &'a Bell,
+        gate: &'a G,
         pass: OwnerPass,
+        hands: Option<WorkerPass>,
         inbox: Inbox,
-    ) -> BenchCrew<'a, R>
-        requires { pass.bench ≡ bench.now }
+    ) -> BenchCrew<'a, R, G>
+        requires owner { pass.bench ≡ bench.now }
+        requires hands { IfSome hands (λ hands. hands.bench ≡ bench.now) }
         ensures { result ≡ pass.offered }
     {
         BenchCrew {
             rt,
             bench,
             bell,
+            gate,
             pass,
+            hands,
             inbox,
             jobs: 0,
+        }
+    }
+
+    // Carries out what lies on the bench longest, if the owner picks too and something lies there.
+    fn help(&mut self) -> Option<Done<Op>>
+        ensures { self.new ≡ self.old }
+    {
+        let Some(hands) = &mut self.hands else {
+            return None;
+        };
+        match self.bench.pick(self.rt, hands)? {
+            Work::Run(job) => Some(carry_out(self.gate, job)),
+            // Nothing is asked of a crew once it goes home.
+            Work::Stop => None,
         }
     }
 
@@ -68,8 +94,9 @@ impl<'a, R: Wait> BenchCrew<'a, R> {
 
     // Each worker has an end of the channel, so nothing more comes once all are gone.
     fn outlast_the_workers(mut self) {
-        for _ in self.rt.forever() {
-            if self.next().is_none() {
+        let rt = self.rt;
+        for _ in rt.forever() {
+            if self.inbox.next(rt).is_none() {
                 return;
             }
         }
@@ -94,7 +121,7 @@ impl<'a, R: Wait> BenchCrew<'a, R> {
     }
 }
 
-impl<'a, R: Wait> Crew for BenchCrew<'a, R> {
+impl<'a, R: Wait, G: Gate> Crew for BenchCrew<'a, R, G> {
     ghost keeps = { λ crew. true };
 
     ghost acts = { λ old step new. LaysOut old step new };
@@ -107,7 +134,9 @@ impl<'a, R: Wait> Crew for BenchCrew<'a, R> {
         match self.bench.offer(self.rt, &mut self.pass, Work::Run(job)) {
             Ok(()) => {
                 self.jobs = self.jobs.saturating_add(1);
-                self.bell.ring(self.rt, self.jobs);
+                // One of them is left to the owner.
+                let others = self.jobs.saturating_sub(usize::from(self.hands.is_some()));
+                self.bell.ring(self.rt, others);
                 Ok(())
             }
             Err(Work::Run(back)) => Err(back),
@@ -116,7 +145,14 @@ impl<'a, R: Wait> Crew for BenchCrew<'a, R> {
     }
 
     fn next(&mut self) -> Option<Done<Op>> {
-        let done = self.inbox.next(self.rt)?;
+        let done = match self.inbox.try_recv(self.rt) {
+            Ok(done) => done,
+            Err(TryRecvError::Disconnected) => return None,
+            Err(TryRecvError::Empty) => match self.help() {
+                Some(done) => done,
+                None => self.inbox.next(self.rt)?,
+            },
+        };
         self.jobs = self.jobs.saturating_sub(1);
         Some(done)
     }

@@ -1,6 +1,9 @@
-//! Who is told of each job that a worker carries out.
+//! Who is told of each job that a crew carries out.
+use cown_board::{Done, Job};
+use sb_calls::Op;
 
-/// Is told by workers, in their threads, of each job that they carry out. It may hold a worker up.
+/// Is told by workers, in their threads, of each job that they carry out. It may hold a worker up. The owner of a board is
+/// one more worker while it waits for its crew.
 pub trait Gate {
     /// A worker is about to carry out the job with this number.
     fn before(&self, number: u64);
@@ -17,4 +20,13 @@ impl Gate for OpenGate {
     fn before(&self, _number: u64) {}
 
     fn after(&self, _number: u64) {}
+}
+
+// Carries a job out between the two calls of a gate.
+pub(crate) fn carry_out<G: Gate>(gate: &G, job: Job<Op>) -> Done<Op> {
+    let number = job.number();
+    gate.before(number);
+    let done = job.run();
+    gate.after(number);
+    done
 }

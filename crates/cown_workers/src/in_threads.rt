@@ -1,5 +1,6 @@
 //! A crew in threads.
-ghost use Rattle.std.specs.Prelude.{◌≡◌, ◌≤◌, [], All, IfOk};
+ghost use Rattle.std.specs.Prelude.{◌≡◌, ◌≤◌, [], All, IfOk, IfSome};
+ghost use Rattle.cown_bench.specs.BenchPasses.{BenchId};
 ghost use Rattle.std.specs.Fn.{FnOnceReturnsAtMut};
 
 use crate::bell::Bell;
@@ -8,7 +9,7 @@ use crate::crew_fault::CrewFault;
 use crate::gate::Gate;
 use crate::inbox::{Outbox, open_inbox};
 use crate::worker::Worker;
-use cown_bench::{Bench, WorkerPass};
+use cown_bench::{Bench, WORKERS, WorkerPass};
 use std::alloc::{AllocError, Global};
 use std::sync::Wait;
 use std::thread;
@@ -16,7 +17,7 @@ use std::thread::{Scope, Threads};
 use std::time::Clock;
 
 /// Hands a crew of this many workers, each in a thread of its own, to `f`. Once `f` has answered and all workers
-/// are gone it answers the same.
+/// are gone it answers the same. With fewer than sixteen `f`'s own thread carries jobs out too while it waits for one.
 ///
 /// Fails where memory is refused or a thread can't be started; then `f` isn't called. Each job stands between two
 /// calls of the gate. What `f` gave and didn't take in is carried out and let go.
@@ -30,17 +31,19 @@ pub fn with_crew<R, G, T, F>(
 where
     R: Threads + Wait + Clock + Sync,
     G: Gate + Sync,
-    F: FnOnce(&mut BenchCrew<'_, R>) -> T,
+    F: FnOnce(&mut BenchCrew<'_, R, G>) -> T,
     requires some { 1 ≤ workers }
     requires few { workers ≤ 16 }
     requires callable { F.IsAlwaysCallable f }
     ensures answer { IfOk result (λ answer. (after : _) ×
         FnOnceReturnsAtMut F.FnOnce f [] answer after) }
 {
-    let (bench, pass, passes) = Bench::new(alloc, workers)?;
+    let (bench, pass, mut passes) = Bench::new(alloc, WORKERS.min(workers + 1))?;
+    // One pass more is the owner's, who picks too while it waits.
+    let hands = take_above(&mut passes, workers);
     let (outbox, inbox) = open_inbox(alloc)?;
     let bell = Bell::new(alloc, workers)?;
-    let mut crew = BenchCrew::new(rt, &bench, &bell, pass, inbox);
+    let mut crew = BenchCrew::new(rt, &bench, &bell, gate, pass, hands, inbox);
     let workers = workers_at(rt, alloc, &bench, passes, gate, &bell, outbox)?;
     thread::scope(
         thread::scope_env(),
@@ -61,6 +64,20 @@ where
             Ok(answer)
         },
     )
+}
+
+// The last of these passes, where there are more than this.
+fn take_above(passes: &mut Vec<WorkerPass>, workers: usize) -> Option<WorkerPass>
+    ensures taken { (bench : BenchId) → All (λ pass. pass.bench ≡ bench) passes.old.items
+        → IfSome result (λ pass. pass.bench ≡ bench) }
+    ensures left { (bench : BenchId) → All (λ pass. pass.bench ≡ bench) passes.old.items
+        → All (λ pass. pass.bench ≡ bench) passes.new.items }
+{
+    if passes.len() > workers {
+        passes.pop()
+    } else {
+        None
+    }
 }
 
 // A worker for each of these passes.

@@ -3,10 +3,10 @@ ghost use Rattle.std.specs.Prelude.{◌≡◌, ℕ, ◌∷◌, ◌++◌, [], IfN
 
 use crate::back_off::BackOff;
 use crate::bell::Bell;
-use crate::gate::Gate;
+use crate::gate::{Gate, carry_out};
 use crate::inbox::Outbox;
 use cown_bench::{Bench, Work, WorkerPass};
-use cown_board::{Done, Job};
+use cown_board::Done;
 use sb_calls::Op;
 use std::sync::Wait;
 use std::thread;
@@ -39,7 +39,7 @@ impl<'a, R: Wait + Clock, G: Gate> Worker<'a, R, G> {
         for _ in rt.forever() {
             match pick_or_wait(rt, bench, &mut pass, bell, &mut back_off) {
                 Some(Work::Run(job)) => {
-                    carry_out(rt, gate, &mut outbox, job);
+                    hand_over(rt, &mut outbox, carry_out(gate, job));
                     back_off = BackOff::new();
                 }
                 Some(Work::Stop) => return,
@@ -73,15 +73,6 @@ fn pick_or_wait<R: Wait + Clock>(
     }
     back_off.wait(rt);
     None
-}
-
-// Carries a job out between the two calls of the gate, and hands it over.
-fn carry_out<R: Wait, G: Gate>(rt: &R, gate: &G, outbox: &mut Outbox, job: Job<Op>) {
-    let number = job.number();
-    gate.before(number);
-    let done = job.run();
-    gate.after(number);
-    hand_over(rt, outbox, done);
 }
 
 // Sends what is done. While it is refused it is tried again.

@@ -6,8 +6,8 @@ use std::thread;
 // How many turns a worker waits for another.
 const TURNS: u32 = 1_000_000;
 
-// The first two jobs each wait until the other one is about to be carried out. With one worker the first would
-// wait for nothing, and give up.
+// The first two jobs each wait until the other one is about to be carried out. If they were carried out one after the
+// other, the first would wait for nothing, and give up.
 #[derive(Default, Drop)]
 pub(super) struct Meeting {
     first: AtomicBool,

@@ -85,9 +85,28 @@ fn sixteen_workers_drain_what_is_ready_and_what_waits(rt: HostRuntime) -> Result
 
 #[test]
 fn two_jobs_that_share_nothing_are_out_at_once(rt: HostRuntime) -> Result<(), Fail> {
-    let board = board_of(rt.alloc(), &["deposit alice 1.00", "deposit bob 1.00"])?;
+    two_jobs_meet(&rt, rt.alloc(), 2)?;
+    // Here the owner carries nothing out, so these are two workers.
+    two_jobs_meet(&rt, rt.alloc(), 16)
+}
+
+#[test]
+fn an_owner_that_waits_is_one_more_worker(rt: HostRuntime) -> Result<(), Fail> {
+    two_jobs_meet(&rt, rt.alloc(), 1)
+}
+
+// So many workers, and perhaps the owner, carry two jobs out, each of which waits for the other.
+fn two_jobs_meet<R: Threads + Wait + Clock + Sync + Abort>(
+    rt: &R,
+    alloc: Global,
+    workers: usize,
+) -> Result<(), Fail>
+    requires some { 1 ≤ workers }
+    requires few { workers ≤ 16 }
+{
+    let board = board_of(alloc, &["deposit alice 1.00", "deposit bob 1.00"])?;
     let gate = Meeting::default();
-    let board = drained(&rt, rt.alloc(), 2, &gate, board)?;
+    let board = drained(rt, alloc, workers, &gate, board)?;
     assert!(rt; gate.took_place());
     assert!(rt; holds(&board, [10_000, 0, 1_000], [5_100, 2_100, 0])?);
     Ok(())
