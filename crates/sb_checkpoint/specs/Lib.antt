@@ -1,4 +1,5 @@
 pub mod Checkpoint
+pub mod Drafts
 pub mod Faults
 pub mod FileStore
 pub mod FolderFile

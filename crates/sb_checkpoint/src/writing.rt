@@ -1,15 +1,17 @@
 //! A checkpoint as bytes.
-ghost use Rattle.std.specs.Prelude.{◌≡◌, ◌≤◌, ◌+◌, ◌*◌, ◌++◌, IfOk, length, vec_len, vec_capacity};
-ghost use Rattle.std.specs.Int.{w32, w64};
+ghost use Rattle.std.specs.Prelude.{◌≡◌, ◌≤◌, ◌<◌, ◌-◌, ◌++◌, IfOk, List, length};
 ghost use Rattle.std.specs.List.{All, flat_map};
-ghost use Rattle.sb_calls.specs.Replies.{IsReply, number_field, amount_field, reply_field};
+ghost use Rattle.sb_calls.specs.Replies.{IsReply, reply_field};
+ghost use Rattle.sb_calls.specs.declared.reply.Reply.{Reply as AnyReply};
 ghost use Rattle.sb_checkpoint.specs.Checkpoint.{Spells};
 
-use crate::layout::{AMOUNT, BALANCES, EMPTY, MAGIC, REPLY};
+use crate::layout::{BALANCES, EMPTY, MAGIC, REPLY};
+use crate::putting::{put, put_amount, put_amounts, put_customers, put_length, put_reply};
 use lane_audit::bank_total;
 use sb_calls::{LOG_CALLS, Reply};
 use sb_rows::Columns;
 use std::alloc::{AllocError, Global};
+use std::marker::Model;
 
 /// The bytes of a checkpoint, in one allocation of its exact size.
 pub fn write_checkpoint(
@@ -22,94 +24,74 @@ pub fn write_checkpoint(
     ensures { IfOk result (λ bytes.
         Spells (record { columns = columns.now; replies = replies.now }) bytes.items) }
 {
-    let customers = columns.customers();
-    let size = EMPTY + BALANCES * customers + REPLY * replies.len();
-    let mut bytes = Vec::with_capacity(alloc, size)?;
-    put(&mut bytes, &MAGIC);
-    put_length(&mut bytes, replies.len() as u64);
-    put_customers(&mut bytes, customers as u32);
-    put_amounts(&mut bytes, columns.savings());
-    put_amounts(&mut bytes, columns.checking());
-    put_amount(&mut bytes, bank_total(columns));
-    put_replies(&mut bytes, replies);
-    Ok(bytes)
-}
-
-// Puts bytes last, where there is room for them.
-#[inline]
-fn put(out: &mut Vec<u8>, bytes: &[u8])
-    requires { vec_len out.old + length bytes.now ≤ vec_capacity out.old }
-    ensures items { out.new.items ≡ out.old.items ++ bytes.now }
-    ensures len { vec_len out.new ≡ vec_len out.old + length bytes.now }
-    ensures room { vec_capacity out.old ≤ vec_capacity out.new }
-{
-    out.extend_from_slice(bytes).unwrap();
-}
-
-#[inline]
-#[tactic(auto, unfolding(sb_calls::specs::Replies::number_field))]
-fn put_length(out: &mut Vec<u8>, length: u64)
-    requires { vec_len out.old + 8 ≤ vec_capacity out.old }
-    ensures items { out.new.items ≡ out.old.items ++ number_field w64 length }
-    ensures len { vec_len out.new ≡ vec_len out.old + 8 }
-    ensures room { vec_capacity out.old ≤ vec_capacity out.new }
-{
-    put(out, &length.to_be_bytes());
-}
-
-#[inline]
-#[tactic(auto, unfolding(sb_calls::specs::Replies::number_field))]
-fn put_customers(out: &mut Vec<u8>, customers: u32)
-    requires { vec_len out.old + 4 ≤ vec_capacity out.old }
-    ensures items { out.new.items ≡ out.old.items ++ number_field w32 customers }
-    ensures len { vec_len out.new ≡ vec_len out.old + 4 }
-    ensures room { vec_capacity out.old ≤ vec_capacity out.new }
-{
-    put(out, &customers.to_be_bytes());
-}
-
-#[inline]
-#[tactic(auto, unfolding(sb_calls::specs::Replies::number_field))]
-fn put_amount(out: &mut Vec<u8>, amount: i64)
-    requires { vec_len out.old + AMOUNT ≤ vec_capacity out.old }
-    ensures items { out.new.items ≡ out.old.items ++ amount_field amount }
-    ensures len { vec_len out.new ≡ vec_len out.old + AMOUNT }
-    ensures room { vec_capacity out.old ≤ vec_capacity out.new }
-{
-    put(out, &amount.to_be_bytes());
-}
-
-fn put_amounts(out: &mut Vec<u8>, amounts: &[i64])
-    requires { vec_len out.old + AMOUNT * length amounts.now ≤ vec_capacity out.old }
-    ensures items { out.new.items ≡ out.old.items ++ flat_map amount_field amounts.now }
-    ensures len { vec_len out.new ≡ vec_len out.old + AMOUNT * length amounts.now }
-    ensures room { vec_capacity out.old ≤ vec_capacity out.new }
-{
-    for amount in amounts {
-        put_amount(out, *amount);
-    }
-}
-
-// In one piece, which takes a third less time than two.
-#[inline]
-#[tactic(auto, unfolding(sb_calls::specs::Replies::number_field))]
-fn put_reply(out: &mut Vec<u8>, reply: Reply)
-    requires { vec_len out.old + REPLY ≤ vec_capacity out.old }
-    ensures items { out.new.items ≡ out.old.items ++ reply_field reply }
-    ensures len { vec_len out.new ≡ vec_len out.old + REPLY }
-    ensures room { vec_capacity out.old ≤ vec_capacity out.new }
-{
-    let (code, total) = reply.code_and_total();
-    let mut cells = [code; REPLY];
-    cells[1..].copy_from_slice(&total.to_be_bytes());
-    put(out, &cells);
-}
-
-fn put_replies(out: &mut Vec<u8>, replies: &[Reply])
-    requires { vec_len out.old + REPLY * length replies.now ≤ vec_capacity out.old }
-    ensures { out.new.items ≡ out.old.items ++ flat_map reply_field replies.now }
-{
+    let mut draft = Draft::begin(alloc, columns, replies.len())?;
     for reply in replies {
-        put_reply(out, *reply);
+        draft.push(*reply);
+    }
+    Ok(draft.finish())
+}
+
+/// The bytes of a checkpoint as far as they are there: some of its replies are missing. So these needn't stand in a
+/// list of their own before they are spelled.
+#[derive(Drop)]
+pub struct Draft {
+    bytes: Vec<u8>,
+    missing: usize,
+}
+
+impl Model for Draft {
+    ghost use Rattle.std.specs.Prelude.{◌+◌, ◌*◌, ◌≤◌, vec_len, vec_capacity};
+    ghost use Rattle.sb_checkpoint.specs.Drafts.{DraftOf};
+
+    ghost Value = { DraftOf };
+
+    ghost view = { λ d. record { bytes = d.bytes.items; missing = d.missing } };
+
+    // There is room for those that are missing.
+    ghost invariant = { λ d. vec_len d.bytes + 9 * d.missing ≤ vec_capacity d.bytes };
+}
+
+impl Draft {
+    /// The checkpoint of these balances and of so many replies, which are all missing. All memory is taken here.
+    pub fn begin(alloc: Global, columns: &Columns, replies: usize) -> Result<Draft, AllocError>
+        requires few { replies ≤ LOG_CALLS }
+        ensures missing { IfOk result (λ draft. draft.missing ≡ replies) }
+        // Behind it all of them make a checkpoint.
+        ensures begins { IfOk result (λ draft. (all : List AnyReply) → length all ≡ replies → All IsReply all
+            → Spells (record { columns = columns.now; replies = all }) (draft.bytes ++ flat_map reply_field all)) }
+    {
+        let customers = columns.customers();
+        let size = EMPTY + BALANCES * customers + REPLY * replies;
+        let mut bytes = Vec::with_capacity(alloc, size)?;
+        put(&mut bytes, &MAGIC);
+        put_length(&mut bytes, replies as u64);
+        put_customers(&mut bytes, customers as u32);
+        put_amounts(&mut bytes, columns.savings());
+        put_amounts(&mut bytes, columns.checking());
+        put_amount(&mut bytes, bank_total(columns));
+        Ok(Draft {
+            bytes,
+            missing: replies,
+        })
+    }
+
+    /// Puts the next reply.
+    #[inline]
+    pub fn push(&mut self, reply: Reply)
+        requires missing { 0 < self.old.missing }
+        ensures { self.new ≡ record {
+          bytes = self.old.bytes ++ reply_field reply;
+          missing = self.old.missing - 1;
+        } }
+    {
+        put_reply(&mut self.bytes, reply);
+        self.missing -= 1;
+    }
+
+    /// What is there.
+    pub fn finish(self) -> Vec<u8>
+        ensures { result.items ≡ self.bytes }
+    {
+        self.bytes
     }
 }

@@ -3,6 +3,7 @@ ghost use Rattle.std.specs.Prelude.{◌≡◌, ◌≢◌, ◌↔◌, ◌≤◌, 
 ghost use Rattle.std.specs.List.{All};
 ghost use Rattle.sb_calls.specs.Replies.{IsReply};
 ghost use Rattle.cown_board.specs.Board.{length_of, open_of};
+ghost use Rattle.sb_checkpoint.specs.Checkpoint.{Spells};
 ghost use Rattle.sb_checkpoint.specs.Stores.{StoreDoes};
 ghost use Rattle.sb_checkpoint.specs.declared.store.StoreFault.{StoreFault as AnyFault};
 ghost use Rattle.sb_replica.specs.Marking.{IsMarkFaultOf, Puts, PutsBytes};
@@ -12,7 +13,8 @@ use crate::fault::MarkFault;
 use crate::replica::Replica;
 use cown_board::Runs;
 use sb_calls::{LOG_CALLS, Reply};
-use sb_checkpoint::{CheckpointStore, StoreFault, write_checkpoint};
+use sb_checkpoint::{CheckpointStore, Draft, StoreFault};
+use sb_rows::Columns;
 use std::alloc::AllocError;
 
 impl<S: CheckpointStore> Replica<S> {
@@ -45,11 +47,7 @@ impl<S: CheckpointStore> Replica<S> {
         let Some(columns) = self.log.settled_columns() else {
             return Err(MarkFault::Busy);
         };
-        let bytes = match self.replies() {
-            Ok(replies) => write_checkpoint(self.alloc, columns, &replies),
-            Err(refused) => Err(refused),
-        };
-        let Ok(bytes) = bytes else {
+        let Ok(bytes) = self.spelled(columns) else {
             return Err(MarkFault::OutOfMemory);
         };
         match self.store.put(&bytes) {
@@ -57,6 +55,28 @@ impl<S: CheckpointStore> Replica<S> {
             Err(StoreFault::Device) => Err(MarkFault::Device),
             Err(StoreFault::OutOfMemory) => Err(MarkFault::OutOfMemory),
         }
+    }
+
+    // The checkpoint of these columns and of the replies to all numbers, where none is unfinished. Each reply is spelled
+    // as it's read: a list of them would be longer than the checkpoint, and pass through memory twice.
+    fn spelled(&self, columns: &Columns) -> Result<Vec<u8>, AllocError>
+        requires { open_of self.now.board ≡ 0 }
+        ensures { IfOk result (λ bytes. Spells (record {
+          columns = columns.now;
+          replies = replies_held self.now.board;
+        }) bytes.items) }
+    {
+        // Each entry is finished.
+        prove!(self.log.idle());
+        let length = self.length();
+        let mut draft = Draft::begin(self.alloc, columns, length as usize)?;
+        for place in 0..length {
+            let Some(reply) = self.reply(place + 1) else {
+                unreachable!();
+            };
+            draft.push(reply);
+        }
+        Ok(draft.finish())
     }
 
     /// The replies to all numbers in order, where none is unfinished. Fails where memory is refused.

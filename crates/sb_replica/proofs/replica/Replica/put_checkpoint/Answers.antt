@@ -11,5 +11,5 @@ returns-in-Ok-put-clause-ok g c =
     record { id = node.id; names = node.directory; opening = node.opening; board = node.log; store = c.put.new.self } in
     let puts : Puts (StoreDoes g.S.CheckpointStore.slot g.S.CheckpointStore.IsHonest g.S.CheckpointStore.failed g.S.CheckpointStore.acts)
     c.args.self.now (Ok tt) new = search rules in
-    let same : puts.bytes ≡ c.in-Ok-bytes.bytes.items = search rules in
+    let same : puts.bytes ≡ c.in-Ok.bytes.items = search rules in
     (puts, same)

@@ -1,7 +1,7 @@
 use Rattle.std.proofs.Common.{◌≡◌, ◌≤◌, ◌+◌, ◌*◌, ◌++◌, vec_len, vec_capacity, take}
 use Rattle.std.specs.List.{flat_map}
 use Rattle.sb_calls.specs.Replies.{amount_field}
-use Rattle.sb_checkpoint.proofs.writing.put_amounts.Given as goal
+use Rattle.sb_checkpoint.proofs.putting.put_amounts.Given as goal
 
 abbrev pub invariant-loop-amount : goal.invariant-loop-amount
 invariant-loop-amount l = record {

@@ -1,0 +1,57 @@
+use Rattle.std.proofs.Common.{◌≡◌, ℕ, List, ◌+◌, ◌<◌, [], ◌∷◌, ◌++◌, suc, length, take, sym, ap, subst, ◌∙◌, arith, append_assoc, append-nil}
+use Rattle.std.proofs.Math.Seq.{take-length}
+use Rattle.std.proofs.lemmas.Grind.{flat_map-append}
+use Rattle.std.proofs.lemmas.List.Elements.{All-push}
+use Rattle.std.specs.List.{All, flat_map}
+use Rattle.std.specs.Prelude.{IfSome}
+use Rattle.sb_calls.specs.Replies.{IsReply, reply_field}
+use Rattle.sb_calls.specs.declared.reply.Reply.{Reply}
+use Rattle.sb_checkpoint.specs.Checkpoint.{Spells}
+use Rattle.sb_replica.specs.Replica.{replies_held}
+use Rattle.sb_replica.proofs.IdleReplies.{reply_at, length_held, none_missing, take_one_more}
+use Rattle.sb_replica.proofs.replica.Replica.spelled.Goals as goal
+
+-- one reply more is spelled last
+one_more : (before : List ℕ) (replies : List Reply) (reply : Reply)
+    → before ++ flat_map reply_field (replies ++ reply ∷ []) ≡ before ++ flat_map reply_field replies ++ reply_field reply
+one_more before replies reply =
+    ap (λ bytes. before ++ bytes) (flat_map-append reply_field replies (reply ∷ [])
+    ∙ ap (λ bytes. flat_map reply_field replies ++ bytes) (append-nil (reply_field reply)))
+    ∙ sym (append_assoc before (flat_map reply_field replies) (reply_field reply))
+
+pub unreachable-requires : goal.unreachable-requires
+unreachable-requires g c =
+    none_missing c.args.self.now.board c.loop-place.place c.requires
+    (subst (λ r. length r.board.log ≡ length r.board.states) c.self.view_is c.idle.ensures.beside)
+    (subst (λ n. c.loop-place.place < n) c.length-length.ensures.value c.loop-place-test.true)
+    (sym c.reply.ensures.value ∙ c.in_default.is)
+
+pub loop-place-preserved : goal.loop-place-preserved
+loop-place-preserved g c =
+    let board = c.args.self.now.board in
+    let held = replies_held board in
+    let place = c.loop-place.place in
+    let reply = c.in-Some.reply in
+    let next : place + 1 ≡ suc place = omega arith in
+    let more : take (place + 1) held ≡ take place held ++ reply ∷ [] =
+    ap (λ n. take n held) next ∙ take_one_more held place reply (sym (reply_at board place c.requires) ∙ sym c.reply.ensures.value ∙ c.in-Some.is) in
+    record {
+      bytes = ap (λ d. d.bytes) c.push.ensures ∙ ap (λ bytes. bytes ++ reply_field reply) c.loop-place.invariant.bytes
+          ∙ sym (ap (λ xs. c.in_ok-draft.draft.bytes ++ flat_map reply_field xs) more
+          ∙ one_more c.in_ok-draft.draft.bytes (take place held) reply);
+      missing = omega (arith, ap (λ d. d.missing) c.push.ensures, c.loop-place.invariant.missing, c.loop-place-test.true);
+      valid = subst (All IsReply) (sym more)
+          (All-push IsReply (take place held) reply c.loop-place.invariant.valid (subst (λ o. IfSome o IsReply) c.in-Some.is c.reply.ensures.valid));
+    }
+
+pub returns : goal.returns
+returns g c =
+    let board = c.args.self.now.board in
+    let held = replies_held board in
+    let beside = subst (λ r. length r.board.log ≡ length r.board.states) c.self.view_is c.idle.ensures.beside in
+    let size : length held ≡ c.length-length.result = length_held board c.requires beside ∙ sym c.length-length.ensures.value in
+    let all : c.loop-place.place ≡ length held = omega (arith, c.loop-place-test.false, c.loop-place.auto.place-end, size) in
+    let whole : take c.loop-place.place held ≡ held = ap (λ n. take n held) all ∙ take-length held in
+    subst (Spells (record { columns = c.args.columns.now; replies = held }))
+    (sym (c.finish.ensures ∙ c.loop-place.invariant.bytes ∙ ap (λ xs. c.in_ok-draft.draft.bytes ++ flat_map reply_field xs) whole))
+    (c.in_ok-draft.ensures.begins held size (subst (All IsReply) whole c.loop-place.invariant.valid))
