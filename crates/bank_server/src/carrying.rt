@@ -40,7 +40,7 @@ pub(crate) fn run_node<H: Threads + Wait + Clock + Sync, G: Gate + Sync, F: Feed
         alloc,
         workers,
         gate,
-        move |crew: &mut BenchCrew<'_, H>| -> Result<Replica<MemoryStore>, RunFault>
+        move |crew: &mut BenchCrew<'_, H, G>| -> Result<Replica<MemoryStore>, RunFault>
             requires opened { IsOpened node.board }
             requires few { length ops.now ≤ LOG_CALLS }
             requires within { AreWithin (length node.names) ops.now }

@@ -118,7 +118,7 @@ where
         alloc,
         plan.workers,
         &OpenGate,
-        move |crew: &mut BenchCrew<'_, H>| -> Result<W, ServeFault>
+        move |crew: &mut BenchCrew<'_, H, OpenGate>| -> Result<W, ServeFault>
             requires all { HasAll primary }
             ensures printed { IfOk result (λ after. PrintsAll primary plan.sessions
                 (W.contents writer) (W.contents after)) }
