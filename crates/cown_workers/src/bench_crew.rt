@@ -3,6 +3,7 @@ ghost use Rattle.std.specs.Prelude.{◌≡◌, true, IfSome};
 ghost use Rattle.cown_workers.specs.BenchCrews.{LaysOut};
 
 use crate::bell::Bell;
+use crate::burst::Burst;
 use crate::crew::Crew;
 use crate::gate::{Gate, carry_out};
 use crate::inbox::Inbox;
@@ -13,13 +14,14 @@ use sb_calls::Op;
 use std::marker::Model;
 use std::sync::Wait;
 use std::thread;
+use std::time::Clock;
 
 /// A crew in threads, as the owner of a board has it. What is given lies on a bench until a worker picks it, and comes
 /// back where the bench is full; what is carried out comes in through a channel. Where nothing has come in, `next` is one
 /// more worker: it carries out a job that nobody picked yet, as long as the bench has fewer workers than it may have. Else
 /// it waits, so it is to be asked only while the crew has a job. Contracts see the crew as what it laid out.
 #[derive(Drop)]
-pub struct BenchCrew<'a, R: Wait, G: Gate> {
+pub struct BenchCrew<'a, R: Wait + Clock, G: Gate> {
     rt: &'a R,
     bench: &'a Bench,
     bell: &'a Bell,
@@ -28,11 +30,12 @@ pub struct BenchCrew<'a, R: Wait, G: Gate> {
     // What it picks with itself.
     hands: Option<WorkerPass>,
     inbox: Inbox,
-    // How many jobs it has.
+    // How many jobs it has, and since when it has some.
     jobs: usize,
+    burst: Burst,
 }
 
-impl<'a, R: Wait, G: Gate> Model for BenchCrew<'a, R, G> {
+impl<'a, R: Wait + Clock, G: Gate> Model for BenchCrew<'a, R, G> {
     ghost use Rattle.std.specs.Prelude.{◌≡◌, List, IfSome};
     ghost use Rattle.cown_bench.specs.Picks.{WorkOf};
 
@@ -44,7 +47,7 @@ impl<'a, R: Wait, G: Gate> Model for BenchCrew<'a, R, G> {
         × IfSome crew.hands (λ hands. hands.bench ≡ crew.bench.now) };
 }
 
-impl<'a, R: Wait, G: Gate> BenchCrew<'a, R, G> {
+impl<'a, R: Wait + Clock, G: Gate> BenchCrew<'a, R, G> {
     pub(crate) fn new(
         rt: &'a R,
         bench: &'a Bench,
@@ -67,16 +70,21 @@ impl<'a, R: Wait, G: Gate> BenchCrew<'a, R, G> {
             hands,
             inbox,
             jobs: 0,
+            burst: Burst::new(),
         }
     }
 
-    // Carries out what lies on the bench longest, if the owner picks too and something lies there.
+    // Carries out what lies on the bench longest, if the owner picks too and something lies there. Once that has gone on
+    // for a while it wakes workers for the other jobs; one that rests looks at the bench by itself too, only later.
     fn help(&mut self) -> Option<Done<Op>>
         ensures { self.new ≡ self.old }
     {
         let Some(hands) = &mut self.hands else {
             return None;
         };
+        if self.jobs > 1 && self.burst.is_long(self.rt) {
+            self.bell.ring(self.rt, self.jobs - 1);
+        }
         match self.bench.pick(self.rt, hands)? {
             Work::Run(job) => Some(carry_out(self.gate, job)),
             // Nothing is asked of a crew once it goes home.
@@ -121,7 +129,7 @@ impl<'a, R: Wait, G: Gate> BenchCrew<'a, R, G> {
     }
 }
 
-impl<'a, R: Wait, G: Gate> Crew for BenchCrew<'a, R, G> {
+impl<'a, R: Wait + Clock, G: Gate> Crew for BenchCrew<'a, R, G> {
     ghost keeps = { λ crew. true };
 
     ghost acts = { λ old step new. LaysOut old step new };
@@ -133,10 +141,14 @@ impl<'a, R: Wait, G: Gate> Crew for BenchCrew<'a, R, G> {
     fn give(&mut self, job: Job<Op>) -> Result<(), Job<Op>> {
         match self.bench.offer(self.rt, &mut self.pass, Work::Run(job)) {
             Ok(()) => {
+                if self.jobs == 0 {
+                    self.burst.begin(self.rt);
+                }
                 self.jobs = self.jobs.saturating_add(1);
-                // One of them is left to the owner.
-                let others = self.jobs.saturating_sub(usize::from(self.hands.is_some()));
-                self.bell.ring(self.rt, others);
+                // An owner that picks too begins alone.
+                if self.hands.is_none() {
+                    self.bell.ring(self.rt, self.jobs);
+                }
                 Ok(())
             }
             Err(Work::Run(back)) => Err(back),

@@ -4,6 +4,7 @@
 mod back_off;
 mod bell;
 mod bench_crew;
+mod burst;
 mod crew;
 mod crew_fault;
 mod draining;
