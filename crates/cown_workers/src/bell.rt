@@ -37,6 +37,11 @@ impl Bell {
         })
     }
 
+    // Whether no worker is up.
+    pub(crate) fn all_rest(&self) -> bool {
+        self.resting.load(Ordering::SeqCst) == self.workers
+    }
+
     // Wakes a worker, if one rests and fewer are up than there are jobs with the crew. What they are woken for lies on
     // the bench by now.
     pub(crate) fn ring<R: Wait>(&self, rt: &R, jobs: usize) {

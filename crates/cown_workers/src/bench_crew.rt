@@ -9,7 +9,6 @@ use crate::gate::{Gate, carry_out};
 use crate::inbox::Inbox;
 use cown_bench::{Bench, OwnerPass, Work, WorkerPass};
 use cown_board::{Done, Job};
-use crossbeam_channel::TryRecvError;
 use sb_calls::Op;
 use std::marker::Model;
 use std::sync::Wait;
@@ -72,6 +71,16 @@ impl<'a, R: Wait + Clock, G: Gate> BenchCrew<'a, R, G> {
             jobs: 0,
             burst: Burst::new(),
         }
+    }
+
+    // What a worker that is up has handed over, if anything. While all rest the bench comes first.
+    fn handed_over(&mut self) -> Option<Done<Op>>
+        ensures { self.new ≡ self.old }
+    {
+        if self.bell.all_rest() {
+            return None;
+        }
+        self.inbox.try_recv(self.rt).ok()
     }
 
     // Carries out what lies on the bench longest, if the owner picks too and something lies there. Once that has gone on
@@ -157,10 +166,9 @@ impl<'a, R: Wait + Clock, G: Gate> Crew for BenchCrew<'a, R, G> {
     }
 
     fn next(&mut self) -> Option<Done<Op>> {
-        let done = match self.inbox.try_recv(self.rt) {
-            Ok(done) => done,
-            Err(TryRecvError::Disconnected) => return None,
-            Err(TryRecvError::Empty) => match self.help() {
+        let done = match self.handed_over() {
+            Some(done) => done,
+            None => match self.help() {
                 Some(done) => done,
                 None => self.inbox.next(self.rt)?,
             },

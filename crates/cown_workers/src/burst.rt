@@ -2,8 +2,8 @@
 use std::time::{Clock, Duration, Instant};
 
 // How many microseconds an owner is at work alone. To wake a worker takes some ten, and what two threads carry out in turn comes
-// and goes between their processors: for less than this it doesn't pay. Where a job takes longer, only one or two are late.
-const ALONE: u64 = 200;
+// and goes between their processors: for a thousand short jobs it doesn't pay. Of longer ones only the first few are late.
+const ALONE: u64 = 500;
 
 // Since when an owner has had jobs with its crew, without a pause.
 #[derive(Drop)]
