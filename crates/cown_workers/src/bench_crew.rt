@@ -16,9 +16,9 @@ use std::thread;
 use std::time::Clock;
 
 /// A crew in threads, as the owner of a board has it. What is given lies on a bench until a worker picks it, and comes
-/// back where the bench is full; what is carried out comes in through a channel. Where nothing has come in, `next` is one
-/// more worker: it carries out a job that nobody picked yet, as long as the bench has fewer workers than it may have. Else
-/// it waits, so it is to be asked only while the crew has a job. Contracts see the crew as what it laid out.
+/// back where the bench is full; what is carried out comes in through a channel. Where nothing has come in, `next` is
+/// one more worker: it carries out a job that nobody picked yet, as long as the bench has fewer workers than it may
+/// have. Else it waits, so it is to be asked only while the crew has a job. Contracts see the crew as what it laid out.
 #[derive(Drop)]
 pub struct BenchCrew<'a, R: Wait + Clock, G: Gate> {
     rt: &'a R,
@@ -83,8 +83,8 @@ impl<'a, R: Wait + Clock, G: Gate> BenchCrew<'a, R, G> {
         self.inbox.try_recv(self.rt).ok()
     }
 
-    // Carries out what lies on the bench longest, if the owner picks too and something lies there. Once that has gone on
-    // for a while it wakes workers for the other jobs; one that rests looks at the bench by itself too, only later.
+    // Carries out what lies on the bench longest, if the owner picks too and something lies there. Once that has gone
+    // on for a while it wakes workers for the other jobs; one that rests looks at the bench by itself too, only later.
     fn help(&mut self) -> Option<Done<Op>>
         ensures { self.new ≡ self.old }
     {

@@ -1,8 +1,9 @@
 //! When an owner wakes its workers.
 use std::time::{Clock, Duration, Instant};
 
-// How many microseconds an owner is at work alone. To wake a worker takes some ten, and what two threads carry out in turn comes
-// and goes between their processors: for a thousand short jobs it doesn't pay. Of longer ones only the first few are late.
+// How many microseconds an owner is at work alone. To wake a worker takes some ten, and what two threads carry out in
+// turn comes and goes between their processors: for a thousand short jobs it doesn't pay. Of long ones the first are late,
+// and a few long ones are carried out one after the other.
 const ALONE: u64 = 500;
 
 // Since when an owner has had jobs with its crew, without a pause.

@@ -2,8 +2,8 @@
 use cown_board::{Done, Job};
 use sb_calls::Op;
 
-/// Is told by workers, in their threads, of each job that they carry out. It may hold a worker up. The owner of a board is
-/// one more worker while it waits for its crew.
+/// Is told by workers, in their threads, of each job that they carry out. It may hold a worker up. The owner of a board
+/// is one more worker while it waits for its crew.
 pub trait Gate {
     /// A worker is about to carry out the job with this number.
     fn before(&self, number: u64);

@@ -57,8 +57,8 @@ impl<S: CheckpointStore> Replica<S> {
         }
     }
 
-    // The checkpoint of these columns and of the replies to all numbers, where none is unfinished. Each reply is spelled
-    // as it's read: a list of them would be longer than the checkpoint, and pass through memory twice.
+    // The checkpoint of these columns and of the replies to all numbers, where none is unfinished. Each reply is
+    // spelled as it's read: a list of them would be longer than the checkpoint, and pass through memory twice.
     fn spelled(&self, columns: &Columns) -> Result<Vec<u8>, AllocError>
         requires { open_of self.now.board ≡ 0 }
         ensures { IfOk result (λ bytes. Spells (record {
