@@ -2,4 +2,5 @@ mod CarryingOut
 mod Changing
 mod Counting
 mod Exchanging
+mod Picking
 mod Settled

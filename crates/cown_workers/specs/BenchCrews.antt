@@ -1,12 +1,43 @@
 -- What a crew at a bench does at one exchange.
-use Rattle.std.specs.Prelude.{◌≡◌, ◌≤◌, List, [], ◌∷◌, ◌++◌, length}
-use Rattle.cown_bench.specs.Picks.{WorkOf}
-use Rattle.cown_bench.specs.declared.work.Work.TheVariants.{Run}
-use Rattle.cown_workers.specs.Draining.{CrewStep, Kept, CameBack, HandedOver}
+use Rattle.std.specs.Prelude.{◌≡◌, ℕ, ◌≤◌, ◌⊎◌, Option, Some, None, List, [], ◌∷◌, ◌++◌, length}
+use Rattle.sb_calls.specs.declared.op.Op.{Op}
+use Rattle.cown_board.specs.Job.{DoneOf}
+use Rattle.cown_bench.specs.Picks.{WorkOf, PickOf}
+use Rattle.cown_bench.specs.BenchPasses.{WorkerOf}
+use Rattle.cown_bench.specs.declared.work.Work.TheVariants.{Run, Stop}
+use Rattle.cown_workers.specs.Draining.{CrewStep, Kept, CameBack, HandedOver, IsOf}
 
--- what was laid out before and after an exchange: a job that is kept is laid out behind the others; one comes back
--- only where at least 1,040 were laid out; and what is handed over changes nothing there
-abbrev pub LaysOut : List WorkOf → CrewStep → List WorkOf → Type 0
-LaysOut old (Kept job) new = new ≡ old ++ Run job ∷ []
-LaysOut old (CameBack job) new = (new ≡ old) × (1040 ≤ length old)
-LaysOut old (HandedOver answer) new = new ≡ old
+-- a crew at a bench: what it laid out, and what its owner picked itself, both in order
+pub record BenchCrewOf : Type 0 where
+  pub offered : List WorkOf
+  pub picked : List PickOf
+
+-- what was picked with a pass, which is nothing where there is none
+abbrev pub picked_with : Option WorkerOf → List PickOf
+picked_with None = []
+picked_with (Some pass) = pass.picked
+
+-- the owner picked this Work, at some place, and nothing else changed
+abbrev pub PicksItself : BenchCrewOf → WorkOf → BenchCrewOf → Type 0
+PicksItself old work new = (place : ℕ) × (new ≡ record old { picked = old.picked ++ (place, work) ∷ [] })
+
+-- what an owner hands over that picked this Work: of a job what was done of it. Of a `Stop` nothing is said, since
+-- nothing is asked of a crew once it goes home.
+abbrev pub IsMadeOf : WorkOf → Option (DoneOf Op) → Type 0
+IsMadeOf (Run job) (Some done) = IsOf done job
+IsMadeOf (Run job) None = ⊥
+IsMadeOf Stop answer = Unit {0}
+
+-- the owner picked a Work, and hands over what it made of it
+pub record HandsOverItsOwn (old : BenchCrewOf) (answer : Option (DoneOf Op)) (new : BenchCrewOf) : Type 0 where
+  pub work : WorkOf
+  pub picks : PicksItself old work new
+  pub made : IsMadeOf work answer
+
+-- what was laid out and picked before and after an exchange. A job that is kept is laid out behind the others; one
+-- comes back only where at least 1,040 were laid out. What is handed over came from a worker, if any did, and then
+-- nothing changed; or it is what the owner made of what it picked.
+abbrev pub LaysOut : BenchCrewOf → CrewStep → BenchCrewOf → Type 0
+LaysOut old (Kept job) new = new ≡ record old { offered = old.offered ++ Run job ∷ [] }
+LaysOut old (CameBack job) new = (new ≡ old) × (1040 ≤ length old.offered)
+LaysOut old (HandedOver answer) new = (new ≡ old) ⊎ HandsOverItsOwn old answer new

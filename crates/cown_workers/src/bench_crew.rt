@@ -1,6 +1,9 @@
 //! A crew that works at a bench.
-ghost use Rattle.std.specs.Prelude.{◌≡◌, true, IfSome};
-ghost use Rattle.cown_workers.specs.BenchCrews.{LaysOut};
+ghost use Rattle.std.specs.Prelude.{◌≡◌, ℕ, ◌⊎◌, [], ◌∷◌, ◌++◌, true, IfNone, IfSome};
+ghost use Rattle.cown_board.specs.Job.{JobOf};
+ghost use Rattle.sb_calls.specs.declared.op.Op.{Op};
+ghost use Rattle.cown_workers.specs.BenchCrews.{picked_with, PicksItself, LaysOut};
+ghost use Rattle.cown_workers.specs.Draining.{IsOf};
 
 use crate::bell::Bell;
 use crate::burst::Burst;
@@ -18,7 +21,8 @@ use std::time::Clock;
 /// A crew in threads, as the owner of a board has it. What is given lies on a bench until a worker picks it, and comes
 /// back where the bench is full; what is carried out comes in through a channel. Where nothing has come in, `next` is
 /// one more worker: it carries out a job that nobody picked yet, as long as the bench has fewer workers than it may
-/// have. Else it waits, so it is to be asked only while the crew has a job. Contracts see the crew as what it laid out.
+/// have. Else it waits, so it is to be asked only while the crew has a job. Contracts see the crew as what it laid out,
+/// and what the owner picked itself.
 #[derive(Drop)]
 pub struct BenchCrew<'a, R: Wait + Clock, G: Gate> {
     rt: &'a R,
@@ -35,12 +39,12 @@ pub struct BenchCrew<'a, R: Wait + Clock, G: Gate> {
 }
 
 impl<'a, R: Wait + Clock, G: Gate> Model for BenchCrew<'a, R, G> {
-    ghost use Rattle.std.specs.Prelude.{◌≡◌, List, IfSome};
-    ghost use Rattle.cown_bench.specs.Picks.{WorkOf};
+    ghost use Rattle.std.specs.Prelude.{◌≡◌, IfSome};
+    ghost use Rattle.cown_workers.specs.BenchCrews.{BenchCrewOf, picked_with};
 
-    ghost Value = { List WorkOf };
+    ghost Value = { BenchCrewOf };
 
-    ghost view = { λ crew. crew.pass.offered };
+    ghost view = { λ crew. record { offered = crew.pass.offered; picked = picked_with crew.hands } };
 
     ghost invariant = { λ crew. (crew.pass.bench ≡ crew.bench.now)
         × IfSome crew.hands (λ hands. hands.bench ≡ crew.bench.now) };
@@ -58,7 +62,7 @@ impl<'a, R: Wait + Clock, G: Gate> BenchCrew<'a, R, G> {
     ) -> BenchCrew<'a, R, G>
         requires owner { pass.bench ≡ bench.now }
         requires hands { IfSome hands (λ hands. hands.bench ≡ bench.now) }
-        ensures { result ≡ pass.offered }
+        ensures { result ≡ record { offered = pass.offered; picked = picked_with hands } }
     {
         BenchCrew {
             rt,
@@ -86,7 +90,9 @@ impl<'a, R: Wait + Clock, G: Gate> BenchCrew<'a, R, G> {
     // Carries out what lies on the bench longest, if the owner picks too and something lies there. Once that has gone
     // on for a while it wakes workers for the other jobs; one that rests looks at the bench by itself too, only later.
     fn help(&mut self) -> Option<Done<Op>>
-        ensures { self.new ≡ self.old }
+        ensures some { IfSome result (λ done. (job : JobOf Op) ×
+            PicksItself self.old (Work.Run job) self.new × IsOf done job) }
+        ensures none { IfNone result ((self.new ≡ self.old) ⊎ PicksItself self.old Work.Stop self.new) }
     {
         let Some(hands) = &mut self.hands else {
             return None;
@@ -94,11 +100,7 @@ impl<'a, R: Wait + Clock, G: Gate> BenchCrew<'a, R, G> {
         if self.jobs > 1 && self.burst.is_long(self.rt) {
             self.bell.ring(self.rt, self.jobs - 1);
         }
-        match self.bench.pick(self.rt, hands)? {
-            Work::Run(job) => Some(carry_out(self.gate, job)),
-            // Nothing is asked of a crew once it goes home.
-            Work::Stop => None,
-        }
+        pick_and_carry_out(self.rt, self.bench, hands, self.gate)
     }
 
     // Lays out a `Stop` for each of so many workers, and waits until all are gone.
@@ -175,5 +177,25 @@ impl<'a, R: Wait + Clock, G: Gate> Crew for BenchCrew<'a, R, G> {
         };
         self.jobs = self.jobs.saturating_sub(1);
         Some(done)
+    }
+}
+
+// Carries out what lies on a bench longest, if something lies there.
+fn pick_and_carry_out<R: Wait, G: Gate>(
+    rt: &R,
+    bench: &Bench,
+    hands: &mut WorkerPass,
+    gate: &G,
+) -> Option<Done<Op>>
+    requires { hands.old.bench ≡ bench.now }
+    ensures some { IfSome result (λ done. (job : JobOf Op) × (place : ℕ) × (hands.new ≡
+        record hands.old { picked = hands.old.picked ++ (place, Work.Run job) ∷ [] }) × IsOf done job) }
+    ensures none { IfNone result ((hands.new ≡ hands.old) ⊎ ((place : ℕ) × (hands.new ≡
+        record hands.old { picked = hands.old.picked ++ (place, Work.Stop) ∷ [] }))) }
+{
+    match bench.pick(rt, hands)? {
+        Work::Run(job) => Some(carry_out(gate, job)),
+        // Nothing is asked of a crew once it goes home.
+        Work::Stop => None,
     }
 }

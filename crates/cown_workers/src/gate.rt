@@ -1,4 +1,6 @@
 //! Who is told of each job that a crew carries out.
+ghost use Rattle.cown_workers.specs.Draining.{IsOf};
+
 use cown_board::{Done, Job};
 use sb_calls::Op;
 
@@ -23,7 +25,9 @@ impl Gate for OpenGate {
 }
 
 // Carries a job out between the two calls of a gate.
-pub(crate) fn carry_out<G: Gate>(gate: &G, job: Job<Op>) -> Done<Op> {
+pub(crate) fn carry_out<G: Gate>(gate: &G, job: Job<Op>) -> Done<Op>
+    ensures { IsOf result job }
+{
     let number = job.number();
     gate.before(number);
     let done = job.run();

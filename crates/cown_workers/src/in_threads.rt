@@ -1,6 +1,6 @@
 //! A crew in threads.
-ghost use Rattle.std.specs.Prelude.{◌≡◌, ◌≤◌, [], All, IfOk, IfSome};
-ghost use Rattle.cown_bench.specs.BenchPasses.{BenchId};
+ghost use Rattle.std.specs.Prelude.{◌≡◌, ◌≤◌, [], ◌++◌, All, IfOk};
+ghost use Rattle.std.specs.Option.{option_to_list};
 ghost use Rattle.std.specs.Fn.{FnOnceReturnsAtMut};
 
 use crate::bell::Bell;
@@ -36,7 +36,7 @@ where
     requires few { workers ≤ 16 }
     requires callable { F.IsAlwaysCallable f }
     ensures answer { IfOk result (λ answer. (after : _) ×
-        FnOnceReturnsAtMut F.FnOnce f [] answer after) }
+        FnOnceReturnsAtMut F.FnOnce f (record { offered = []; picked = [] }) answer after) }
 {
     let (bench, pass, mut passes) = Bench::new(alloc, WORKERS.min(workers + 1))?;
     // One pass more is the owner's, who picks too while it waits.
@@ -50,9 +50,9 @@ where
         rt,
         move |scope| -> Result<T, CrewFault>
             requires callable { F.IsAlwaysCallable f }
-            requires fresh { crew ≡ [] }
+            requires fresh { crew ≡ record { offered = []; picked = [] } }
             ensures { IfOk result (λ answer. (after : _) ×
-                FnOnceReturnsAtMut F.FnOnce f [] answer after) }
+                FnOnceReturnsAtMut F.FnOnce f (record { offered = []; picked = [] }) answer after) }
         {
             let hired = workers.len();
             if let Err(fault) = start(scope, workers) {
@@ -68,10 +68,7 @@ where
 
 // The last of these passes, where there are more than this.
 fn take_above(passes: &mut Vec<WorkerPass>, workers: usize) -> Option<WorkerPass>
-    ensures taken { (bench : BenchId) → All (λ pass. pass.bench ≡ bench) passes.old.items
-        → IfSome result (λ pass. pass.bench ≡ bench) }
-    ensures left { (bench : BenchId) → All (λ pass. pass.bench ≡ bench) passes.old.items
-        → All (λ pass. pass.bench ≡ bench) passes.new.items }
+    ensures { passes.old.items ≡ passes.new.items ++ option_to_list result }
 {
     if passes.len() > workers {
         passes.pop()
