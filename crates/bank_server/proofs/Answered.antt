@@ -37,7 +37,8 @@ none_is_some h = cc
 pub stands_so : (old new : List (Key × Call)) (ask : Key × Call) (answer : Result Numbered AskFault) (standing : Standing)
     → standing_of_answer answer ≡ Some standing → IsAnswered old ask answer → LogAfter old ask answer new → standing ≡ standing_of new ask
 stands_so old new ask (Ok (New n)) standing is answered log = sym (some_is is) ∙ by_same_log (λ l. standing_of l ask) log (answered_new old ask n answered)
-stands_so old new ask (Ok (Repeat n)) standing is answered log = sym (some_is is) ∙ by_same_log (λ l. standing_of l ask) log (answered_repeat old ask n answered)
+stands_so old new ask (Ok (Repeat n)) standing is answered log = sym (some_is is)
+    ∙ by_same_log (λ l. standing_of l ask) log (answered_repeat old ask n answered)
 stands_so old new ask (Err (faults.Mismatch n)) standing is answered log =
     sym (some_is is) ∙ by_same_log (λ l. standing_of l ask) log (answered_mismatch old ask n answered)
 stands_so old new ask (Err faults.LogFull) standing is answered log =

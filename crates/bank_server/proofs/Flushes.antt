@@ -48,7 +48,8 @@ untold_more (f ∷ frames) frame never =
     ap (λ b. if b then untold_in (frames ++ frame ∷ []) else asks_in (f ∷ frames ++ frame ∷ [])) (any_same frames frame never)
     ∙ by (untold_more frames frame never) (list_any is_flush frames)
   where
-    by : untold_in (frames ++ frame ∷ []) ≡ untold_in frames ++ ask_in frame → (b : Bool) → (if b then untold_in (frames ++ frame ∷ []) else asks_in (f ∷ frames ++ frame ∷ []))
+    by : untold_in (frames ++ frame ∷ []) ≡ untold_in frames ++ ask_in frame
+        → (b : Bool) → (if b then untold_in (frames ++ frame ∷ []) else asks_in (f ∷ frames ++ frame ∷ []))
         ≡ (if b then untold_in frames else asks_in (f ∷ frames)) ++ ask_in frame
     by behind true = behind
     by behind false = asks_push (f ∷ frames) frame

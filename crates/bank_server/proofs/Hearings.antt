@@ -26,7 +26,8 @@ pub hears_nothing : (opening : Rows) (at : Place) (unread : List ℕ) → Hears 
 hears_nothing opening at unread = record { more = []; read = refl; leads = leads_nowhere opening at }
 
 -- one frame more
-pub hears_frame : (opening : Rows) (old mid new : Place) (unread left behind : List ℕ) (frame : frames.Frame) (bytes : List ℕ) → Hears opening old unread mid left
+pub hears_frame : (opening : Rows) (old mid new : Place) (unread left behind : List ℕ) (frame : frames.Frame) (bytes : List ℕ)
+    → Hears opening old unread mid left
     → Spells frame bytes → left ≡ bytes ++ behind → Leads opening mid (frame ∷ []) new → Hears opening old unread new behind
 hears_frame opening old mid new unread left behind frame bytes heard spells is leads =
     let before = flat_map spelling heard.more in record {

@@ -77,7 +77,8 @@ ask_leads opening old new key call standing asked waiting written before start f
 
     parts : (map (standing_of (first_asks (asks ++ ask ∷ []))) (told_in frames) ≡ map (standing_of (first_asks asks)) (told_in frames))
         × (map (standing_of (first_asks (asks ++ ask ∷ []))) (untold_in frames) ≡ map (standing_of (first_asks asks)) (untold_in frames))
-    parts = subst (λ (l : List (Key × Call)). (map (standing_of (first_asks (l ++ ask ∷ []))) (told_in frames) ≡ map (standing_of (first_asks l)) (told_in frames))
+    parts = subst (λ (l : List (Key × Call)). (map (standing_of (first_asks (l ++ ask ∷ []))) (told_in frames)
+        ≡ map (standing_of (first_asks l)) (told_in frames))
         × (map (standing_of (first_asks (l ++ ask ∷ []))) (untold_in frames) ≡ map (standing_of (first_asks l)) (untold_in frames))) (sym split)
         (same_in_parts before (told_in frames) (untold_in frames) ask)
 

@@ -21,7 +21,8 @@ next_offered board number is room =
     (le-ltb LOG_CALLS number (omega (arith, is, room)))
 
 -- where nothing is unfinished it is taken
-pub next_taken : (board : BoardOf Op) (number : ℕ) → number ≡ length_of board + 1 → length_of board < LOG_CALLS → open_of board ≡ 0 → offered board number ≡ Next
+pub next_taken : (board : BoardOf Op) (number : ℕ) → number ≡ length_of board + 1
+    → length_of board < LOG_CALLS → open_of board ≡ 0 → offered board number ≡ Next
 next_taken board number is room idle =
     next_offered board number is room
     ∙ ap (λ b. if b then Busy (length_of board) else Next) (ne_eqb (open_of board) OPEN_BEHAVIOURS (λ same. omega (arith, same, idle)))

@@ -31,9 +31,11 @@ module _ {A : Type 0} where
       subst (λ ws. Stands option value ws) (sym (texts word rest others first)) (stands-later (string_bytes word) option value (map string_bytes others) stands)
 
   pub only_later : (option value : Text) (word : String A) (rest others : List (String A)) → rest ≡ word ∷ others
-      → string_bytes word ≢ option → string_bytes word ≢ option ++ (61 ∷ value) → Stands option value (map string_bytes rest) → Stands option value (map string_bytes others)
+      → string_bytes word ≢ option → string_bytes word ≢ option ++ (61 ∷ value)
+      → Stands option value (map string_bytes rest) → Stands option value (map string_bytes others)
   only_later option value word rest others first other bare stands =
-      stands-only (string_bytes word) option value (map string_bytes others) other bare (subst (λ ws. Stands option value ws) (texts word rest others first) stands)
+      stands-only (string_bytes word) option value (map string_bytes others) other bare
+      (subst (λ ws. Stands option value ws) (texts word rest others first) stands)
 
   pub last_word : (option value : Text) (word : String A) (rest others : List (String A)) → rest ≡ word ∷ others → length others ≡ 0
       → string_bytes word ≡ option → ¬ (Stands option value (map string_bytes rest))

@@ -24,7 +24,8 @@ module _ {A : Type 0} where
   run_says (Some Play) words long said = absurd said
   run_says (Some (Serve port sessions nodes workers store)) words long said = absurd said
 
-  serve_says : (read : Option Words) (words : List (String A)) → 2 ≤ length words → IfSome read (λ r. IsServeOf (drop 2 words) r) → IfSome read (λ r. Says r words)
+  serve_says : (read : Option Words) (words : List (String A)) → 2 ≤ length words
+      → IfSome read (λ r. IsServeOf (drop 2 words) r) → IfSome read (λ r. Says r words)
   serve_says None words long said = tt
   serve_says (Some (Run nodes workers)) words long said = absurd said
   serve_says (Some Play) words long said = absurd said

@@ -33,11 +33,14 @@ stands-later word option value others (before, after, inl e) = (word ∷ before,
 stands-later word option value others (before, after, inr e) = (word ∷ before, after, inr (ap (λ ws. word ∷ ws) e))
 
 -- after a word that is neither it stands where it stood
-pub stands-only : (word option value : Text) (others : List Text) → word ≢ option → word ≢ option ++ (61 ∷ value) → Stands option value (word ∷ others) → Stands option value others
+pub stands-only : (word option value : Text) (others : List Text) → word ≢ option → word ≢ option ++ (61 ∷ value)
+    → Stands option value (word ∷ others) → Stands option value others
 stands-only word option value others other bare ([], after, inl e) = absurd (other (cons_head word option others (value ∷ after) e))
 stands-only word option value others other bare ([], after, inr e) = absurd (bare (cons_head word (option ++ (61 ∷ value)) others after e))
-stands-only word option value others other bare (b ∷ before, after, inl e) = (before, after, inl (cons_tail word b others (before ++ (option ∷ value ∷ after)) e))
-stands-only word option value others other bare (b ∷ before, after, inr e) = (before, after, inr (cons_tail word b others (before ++ ((option ++ (61 ∷ value)) ∷ after)) e))
+stands-only word option value others other bare (b ∷ before, after, inl e) =
+    (before, after, inl (cons_tail word b others (before ++ (option ∷ value ∷ after)) e))
+stands-only word option value others other bare (b ∷ before, after, inr e) =
+    (before, after, inr (cons_tail word b others (before ++ ((option ++ (61 ∷ value)) ∷ after)) e))
 
 -- nothing stands in no words
 pub stands-nowhere : (option value : Text) → ¬ (Stands option value [])
@@ -46,7 +49,10 @@ stands-nowhere option value (before, after, inr e) = not_empty before after (opt
 
 -- nor where the option is the last word
 pub stands-last : (option value : Text) → ¬ (Stands option value (option ∷ []))
-stands-last option value ([], after, inl e) = let tails : ◌≡◌ {A = List Text} [] (value ∷ after) = cons_tail option option [] (value ∷ after) e in not_empty [] after value tails
+stands-last option value ([], after, inl e) =
+    let tails : ◌≡◌ {A = List Text} [] (value ∷ after) = cons_tail option option [] (value ∷ after) e in
+    not_empty [] after value tails
 stands-last option value ([], after, inr e) = not_longer option value (cons_head option (option ++ (61 ∷ value)) [] after e)
 stands-last option value (b ∷ before, after, inl e) = not_empty before (value ∷ after) option (cons_tail option b [] (before ++ (option ∷ value ∷ after)) e)
-stands-last option value (b ∷ before, after, inr e) = not_empty before after (option ++ (61 ∷ value)) (cons_tail option b [] (before ++ ((option ++ (61 ∷ value)) ∷ after)) e)
+stands-last option value (b ∷ before, after, inr e)
+    = not_empty before after (option ++ (61 ∷ value)) (cons_tail option b [] (before ++ ((option ++ (61 ∷ value)) ∷ after)) e)

@@ -1,4 +1,6 @@
 pub mod Faults
+pub mod Heard
+pub mod Kept
 pub mod Opening
 pub mod ServeFaults
 pub mod Served

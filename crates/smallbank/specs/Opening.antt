@@ -14,7 +14,8 @@ with_nothing_behind opening (byte ∷ rest) = Err (length opening.names + 2, Ope
 
 -- what a text says that is an opening alone, or its first line at fault with its fault
 abbrev pub whole_opening_of : List ℕ → Result OpeningText (ℕ × InputFault)
-whole_opening_of text = in_opening (opening_of text) >>= λ opening. with_nothing_behind opening (drop opening.consumed text)
+whole_opening_of text =
+    in_opening (opening_of text) >>= λ opening. with_nothing_behind opening (drop opening.consumed text)
 
 -- it is this opening
 abbrev pub IsOpeningOf : Result OpeningText (ℕ × InputFault) → AnyOpening → Type 0

@@ -1,5 +1,5 @@
 -- What a fault of a bank that is served says.
-use Rattle.std.specs.Prelude.{◌≡◌, ◌≤◌, ℕ, Bool, true}
+use Rattle.std.specs.Prelude.{◌≡◌, ◌<◌, ◌≤◌, ℕ, Bool, true}
 use Rattle.bank_server.specs.declared.fault.RunFault.{RunFault}
 use Rattle.bank_server.specs.declared.fault.RunFault.TheVariants.{Input, Strayed, CrewGone, Device, OutOfMemory}
 use Rattle.smallbank.specs.declared.serve_fault.ServeFault.{ServeFault}
@@ -49,31 +49,31 @@ IsKeepFault saves ReadBack = saves ≡ true
 IsKeepFault saves Store = ⊥
 IsKeepFault saves (PortTaken port) = ⊥
 
--- the same, or a follower strayed, which node 0 isn't
-abbrev pub IsServingRunFault : RunFault → Type 0
-IsServingRunFault (Input line fault) = ⊥
-IsServingRunFault (Strayed node) = 1 ≤ node
-IsServingRunFault CrewGone = Unit {0}
-IsServingRunFault Device = Unit {0}
-IsServingRunFault OutOfMemory = Unit {0}
+-- the same, or one of so many nodes strayed, which node 0 isn't
+abbrev pub IsServingRunFault : ℕ → RunFault → Type 0
+IsServingRunFault nodes (Input line fault) = ⊥
+IsServingRunFault nodes (Strayed node) = (1 ≤ node) × (node < nodes)
+IsServingRunFault nodes CrewGone = Unit {0}
+IsServingRunFault nodes Device = Unit {0}
+IsServingRunFault nodes OutOfMemory = Unit {0}
 
-abbrev pub IsServingFault : Bool → ServeFault → Type 0
-IsServingFault saves (Run fault) = IsServingRunFault fault
-IsServingFault saves ReadBack = saves ≡ true
-IsServingFault saves Store = ⊥
-IsServingFault saves (PortTaken port) = ⊥
+abbrev pub IsServingFault : ℕ → Bool → ServeFault → Type 0
+IsServingFault nodes saves (Run fault) = IsServingRunFault nodes fault
+IsServingFault nodes saves ReadBack = saves ≡ true
+IsServingFault nodes saves Store = ⊥
+IsServingFault nodes saves (PortTaken port) = ⊥
 
 -- the same, or a line of the opening is at fault
-abbrev pub IsProgramRunFault : RunFault → Type 0
-IsProgramRunFault (Input line fault) = Unit {0}
-IsProgramRunFault (Strayed node) = 1 ≤ node
-IsProgramRunFault CrewGone = Unit {0}
-IsProgramRunFault Device = Unit {0}
-IsProgramRunFault OutOfMemory = Unit {0}
+abbrev pub IsProgramRunFault : ℕ → RunFault → Type 0
+IsProgramRunFault nodes (Input line fault) = Unit {0}
+IsProgramRunFault nodes (Strayed node) = (1 ≤ node) × (node < nodes)
+IsProgramRunFault nodes CrewGone = Unit {0}
+IsProgramRunFault nodes Device = Unit {0}
+IsProgramRunFault nodes OutOfMemory = Unit {0}
 
 -- the same, or the store gives back something else, or takes nothing, where there is one, or this port is taken
-abbrev pub IsProgramFault : ℕ → Bool → Bool → ServeFault → Type 0
-IsProgramFault port saves stores (Run fault) = IsProgramRunFault fault
-IsProgramFault port saves stores ReadBack = saves ≡ true
-IsProgramFault port saves stores Store = stores ≡ true
-IsProgramFault port saves stores (PortTaken taken) = taken ≡ port
+abbrev pub IsProgramFault : ℕ → ℕ → Bool → Bool → ServeFault → Type 0
+IsProgramFault port nodes saves stores (Run fault) = IsProgramRunFault nodes fault
+IsProgramFault port nodes saves stores ReadBack = saves ≡ true
+IsProgramFault port nodes saves stores Store = stores ≡ true
+IsProgramFault port nodes saves stores (PortTaken taken) = taken ≡ port

@@ -1,5 +1,5 @@
 -- What is printed of a bank that is served.
-use Rattle.std.specs.Prelude.{◌≡◌, ℕ, ◌+◌, Option, Result, Ok, Err, List, [], ◌∷◌, ◌++◌, length, decimal, codes}
+use Rattle.std.specs.Prelude.{◌≡◌, ℕ, ◌+◌, Option, Ok, Err, List, [], ◌∷◌, ◌++◌, length, decimal, codes}
 use Rattle.std.specs.List.{All}
 use Rattle.std.specs.Io.KnownBytes.{Appends}
 use Rattle.sb_rows.specs.Balances.{Balances}
@@ -8,17 +8,12 @@ use Rattle.sb_rows.specs.Text.{unlines}
 use Rattle.sb_calls.specs.Log.{rows_after}
 use Rattle.sb_calls.specs.declared.ask.Key.{Key}
 use Rattle.sb_calls.specs.declared.call.Call.{Call}
-use Rattle.sb_sequencer.specs.Numbering.{IsLog}
 use Rattle.sb_text.specs.Listing.{row_lines}
 use Rattle.bank_server.specs.Output.{calls_of}
 use Rattle.bank_server.specs.Primary.{PrimaryOf}
 use Rattle.bank_server.specs.SessionFaults.{session_fault_number}
-use Rattle.bank_server.specs.declared.session_fault.SessionFault.{SessionFault}
 use Rattle.bank_server.specs.declared.session_fault.SessionFault.TheVariants.{Frame, Unexpected, CrewGone, Device, OutOfMemory}
-
--- how a session ended
-abbrev pub End : Type 0
-End = Result (Unit {0}) SessionFault
+use Rattle.smallbank.specs.Heard.{End, HearsFirst}
 
 -- others can be served after it
 abbrev pub GoesOn : End → Type 0
@@ -55,13 +50,23 @@ PrintsLines lines old new = Appends old new (unlines lines)
 abbrev pub PrintsPort : Option (List ℕ) → Option (List ℕ) → Type 0
 PrintsPort old new = (port : ℕ) × PrintsLines (port_line port ∷ []) old new
 
--- the next session is printed, after which others can be served
-abbrev pub PrintsSession : ℕ → Option (List ℕ) → Option (List ℕ) → Type 0
-PrintsSession number old new = (end : End) × GoesOn end × PrintsLines (session_line number end ∷ []) old new
+module _ {T : Type 0} (sends : T → Option (List ℕ)) where
+  -- the next client is served, which is printed, and others can be served then
+  pub record ServesNext (number : ℕ) (coming left : Option (List T)) (before after : List (Key × Call))
+      (old new : Option (List ℕ)) : Type 0 where
+    pub end : End
+    pub goes_on : GoesOn end
+    pub heard : HearsFirst sends coming left before (end ∷ []) after
+    pub printed : PrintsLines (session_line number end ∷ []) old new
 
--- so many sessions are printed, and after each others can be served
-abbrev pub PrintsSessions : ℕ → Option (List ℕ) → Option (List ℕ) → Type 0
-PrintsSessions count old new = (ends : List End) × (length ends ≡ count) × All GoesOn ends × PrintsLines (session_lines 1 ends) old new
+  -- so many clients are served, one after the other, and each session is printed
+  pub record ServesAll (count : ℕ) (coming left : Option (List T)) (before after : List (Key × Call))
+      (old new : Option (List ℕ)) : Type 0 where
+    pub ends : List End
+    pub all : length ends ≡ count
+    pub go_on : All GoesOn ends
+    pub heard : HearsFirst sends coming left before ends after
+    pub printed : PrintsLines (session_lines 1 ends) old new
 
 -- the rows after a log, carried out one by one, and their total
 abbrev pub end_lines : List (List ℕ) → Balances → List (Key × Call) → List (List ℕ)
@@ -71,18 +76,14 @@ end_lines names opening log = row_lines names (rows_after (calls_of log) (rows_o
 abbrev pub PrintsRows : {S : Type 0} → PrimaryOf S → Option (List ℕ) → Option (List ℕ) → Type 0
 PrintsRows primary old new = PrintsLines (end_lines primary.node.names primary.node.board.opening primary.log) old new
 
--- all that is printed of a bank with this opening: where it listens, how each of so many sessions ended, and the rows
--- after some log, carried out one by one
-abbrev pub Prints : List (List ℕ) → Balances → ℕ → Option (List ℕ) → Option (List ℕ) → Type 0
-Prints names opening sessions old new = (port : ℕ) × (ends : List End) × (log : List (Key × Call))
-    × (length ends ≡ sessions) × All GoesOn ends × IsLog log
-    × PrintsLines (port_line port ∷ session_lines 1 ends ++ end_lines names opening log) old new
-
--- the same of a bank that stands so
-abbrev pub PrintsAll : {S : Type 0} → PrimaryOf S → ℕ → Option (List ℕ) → Option (List ℕ) → Type 0
-PrintsAll primary sessions old new = Prints primary.node.names primary.node.board.opening sessions old new
-
--- the bank has the same names, over the same opening
-pub record IsSameBank {S : Type 0} (old new : PrimaryOf S) : Type 0 where
-  pub names : new.node.names ≡ old.node.names
-  pub opening : new.node.board.opening ≡ old.node.board.opening
+-- a bank with this opening is served to so many of those who are coming, which leaves this log. Printed is where it
+-- listens, how each session ended, and the rows after the log, carried out one by one
+pub record ServesBank {T : Type 0} (sends : T → Option (List ℕ)) (names : List (List ℕ)) (opening : Balances)
+    (count : ℕ) (coming : Option (List T)) (log : List (Key × Call)) (old new : Option (List ℕ)) : Type 0 where
+  pub port : ℕ
+  pub ends : List End
+  pub all : length ends ≡ count
+  pub go_on : All GoesOn ends
+  pub left : Option (List T)
+  pub heard : HearsFirst sends coming left [] ends log
+  pub printed : PrintsLines (port_line port ∷ session_lines 1 ends ++ end_lines names opening log) old new

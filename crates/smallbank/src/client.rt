@@ -1,7 +1,9 @@
 //! One client.
-ghost use Rattle.std.specs.Prelude.{◌≡◌, false, IfErr};
+ghost use Rattle.std.specs.Prelude.{◌≡◌, false, IfErr, IfSome};
 ghost use Rattle.bank_server.specs.Primary.{KeepsBank};
 ghost use Rattle.bank_server.specs.SessionFaults.{LosesCrew};
+ghost use Rattle.sb_sequencer.specs.Numbering.{IsLog};
+ghost use Rattle.smallbank.specs.Heard.{IsHeard};
 
 use crate::hanging_up::hang_up;
 use bank_server::{Primary, SessionFault, serve_session};
@@ -26,6 +28,10 @@ where
     T: Read + Write + OpenStream + Drop,
     S: CheckpointStore,
     C: Crew,
+    requires one_each { IsLog primary.old.log }
+    // What the client sent was heard, and its asks are in the log.
+    ensures heard { IfSome (T.remaining stream) (λ sent.
+        IsHeard primary.old.log sent result primary.new.log) }
     ensures bank { KeepsBank primary.old primary.new }
     ensures gone { IfErr result (LosesCrew (C.keeps crew.old) primary.old.node.board) }
     ensures stays { C.keeps crew.old ≡ false → C.keeps crew.new ≡ false }

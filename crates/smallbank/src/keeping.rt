@@ -1,8 +1,9 @@
 //! What a bank does after a session.
 ghost use Rattle.std.specs.Prelude.{◌≡◌, false, true, IfErr, OnOk};
-ghost use Rattle.bank_server.specs.Primary.{HasAll};
+ghost use Rattle.bank_server.specs.Primary.{HasAll, KeepsBank};
+ghost use Rattle.sb_sequencer.specs.Numbering.{IsLog};
+ghost use Rattle.smallbank.specs.Kept.{IsLeft};
 ghost use Rattle.smallbank.specs.ServeFaults.{IsKeepFault};
-ghost use Rattle.smallbank.specs.Served.{IsSameBank};
 
 use crate::serve_fault::ServeFault;
 use bank_server::{Followers, Primary, RunFault, SaveFault, SessionFault};
@@ -22,8 +23,9 @@ pub(crate) fn keep<R: Wait, S: CheckpointStore, C: Crew>(
     saves: bool,
     crew: &mut C,
 ) -> Result<(), ServeFault>
-    ensures bank { OnOk result (IsSameBank primary.old primary.new) }
-    ensures all { OnOk result (HasAll primary.new) }
+    ensures log { primary.new.log ≡ primary.old.log }
+    ensures left { OnOk result (IsLeft S.slot S.IsHonest saves 1 primary.old primary.new) }
+    ensures nodes { followers.new.nodes ≡ followers.old.nodes }
     ensures fault { IfErr result (IsKeepFault saves) }
     ensures stays { C.keeps crew.old ≡ false → C.keeps crew.new ≡ false }
 {
@@ -40,7 +42,9 @@ fn settle<S: CheckpointStore, C: Crew>(
     primary: &mut Primary<S>,
     crew: &mut C,
 ) -> Result<(), ServeFault>
-    ensures bank { IsSameBank primary.old primary.new }
+    ensures bank { KeepsBank primary.old primary.new }
+    ensures log { primary.new.log ≡ primary.old.log }
+    ensures one_each { IsLog primary.new.log }
     ensures all { OnOk result (HasAll primary.new) }
     ensures fault { IfErr result (IsKeepFault false) }
     ensures stays { C.keeps crew.old ≡ false → C.keeps crew.new ≡ false }
@@ -56,9 +60,10 @@ fn settle<S: CheckpointStore, C: Crew>(
 
 // Puts a checkpoint of node 0 into its store.
 fn save<S: CheckpointStore>(primary: &mut Primary<S>) -> Result<(), ServeFault>
+    requires one_each { IsLog primary.old.log }
     requires all { HasAll primary.old }
-    ensures bank { IsSameBank primary.old primary.new }
-    ensures all { HasAll primary.new }
+    ensures log { primary.new.log ≡ primary.old.log }
+    ensures left { OnOk result (IsLeft S.slot S.IsHonest true 1 primary.old primary.new) }
     ensures fault { IfErr result (IsKeepFault true) }
 {
     match primary.save() {

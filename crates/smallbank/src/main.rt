@@ -19,6 +19,7 @@ use words::{Words, read_words};
 
 mod client;
 pub mod command;
+pub mod door;
 pub mod fault;
 mod hanging_up;
 mod keeping;

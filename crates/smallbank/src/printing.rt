@@ -4,6 +4,7 @@ ghost use Rattle.bank_server.specs.Primary.{HasAll};
 ghost use Rattle.smallbank.specs.ServeFaults.{IsPrintFault};
 ghost use Rattle.smallbank.specs.Served.{PrintsLines, PrintsPort, PrintsRows, end_text, session_line};
 
+use crate::door::Door;
 use crate::serve_fault::ServeFault;
 use bank_server::{Primary, SessionFault};
 use itoa::Buffer;
@@ -11,14 +12,13 @@ use sb_checkpoint::CheckpointStore;
 use sb_text::{list_rows, write_whole};
 use std::alloc::{AllocError, Global};
 use std::io::Write;
-use std::net::OpenListener;
 
 /// Prints where clients are listened to.
 ///
 /// Fails where that can't be told, where a write fails, and where memory is refused.
-pub(crate) fn print_port<L: OpenListener, W: Write>(
+pub(crate) fn print_port<D: Door, W: Write>(
     alloc: Global,
-    listener: &L,
+    door: &D,
     writer: &mut W,
 ) -> Result<(), ServeFault>
     ensures printed { OnOk result (PrintsPort (W.contents writer.old) (W.contents writer.new)) }
@@ -26,7 +26,7 @@ pub(crate) fn print_port<L: OpenListener, W: Write>(
 {
     let mut buffer = Buffer::new();
     let mut line = Vec::from_slice(alloc, b"listening 127.0.0.1:")?;
-    let port = listener.local_addr()?.port();
+    let port = door.port()?;
     line.extend_from_slice(buffer.format(port).as_bytes())?;
     line.push(b'\n')?;
     Ok(write_whole(writer, &line)?)

@@ -1,7 +1,8 @@
 //! The program that serves.
-ghost use Rattle.std.specs.Prelude.{◌≡◌, ◌≤◌, false, is_some, IfErr};
+ghost use Rattle.std.specs.Prelude.{◌≡◌, ◌≤◌, None, false, is_some, IfErr, IfOk};
 ghost use Rattle.smallbank.specs.ServeFaults.{IsProgramFault};
 
+use crate::door::ListenerDoor;
 use crate::listening::listen;
 use crate::opening::whole_opening;
 use crate::serve_fault::ServeFault;
@@ -33,7 +34,7 @@ where
     H: Threads + Wait + Clock + Sync + Net,
     requires nodes { plan.nodes ≤ 8 }
     requires workers { plan.workers ≤ 16 }
-    ensures fault { IfErr result (IsProgramFault port plan.saves (is_some folder.entry)) }
+    ensures fault { IfErr result (IsProgramFault port plan.nodes plan.saves (is_some folder.entry)) }
 {
     let alloc = rt.alloc();
     let input = read_all(alloc, &mut rt.stdin())?;
@@ -50,7 +51,10 @@ where
 
 // A store in a file, which can be written.
 fn store_in<P: FileWithSpare>(file: P) -> Result<FileStore<P>, ServeFault>
-    ensures { IfErr result (λ fault. fault ≡ ServeFault.Store) }
+    // It was tried: in an honest folder no spare is left, and the checkpoint stays.
+    ensures tried { IfOk result (λ store. P.IsHonest file → P.spare store.file ≡ None) }
+    ensures stays { IfOk result (λ store. P.IsHonest file → P.held store.file ≡ P.held file) }
+    ensures fault { IfErr result (λ fault. fault ≡ ServeFault.Store) }
 {
     let mut store = FileStore::new(file);
     match store.probe() {
@@ -73,17 +77,9 @@ where
     S: CheckpointStore,
     requires nodes { plan.nodes ≤ 8 }
     requires workers { plan.workers ≤ 16 }
-    ensures fault { IfErr result (IsProgramFault port plan.saves false) }
+    ensures fault { IfErr result (IsProgramFault port plan.nodes plan.saves false) }
 {
-    let listener = listen(threads, port)?;
-    serve(
-        threads,
-        rt.alloc(),
-        &listener,
-        opening,
-        store,
-        plan,
-        rt.stdout(),
-    )?;
+    let door = ListenerDoor::new(listen(threads, port)?);
+    serve(threads, rt.alloc(), door, opening, store, plan, rt.stdout())?;
     Ok(())
 }

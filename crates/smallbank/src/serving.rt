@@ -1,10 +1,13 @@
 //! A bank that is served: its clients, one after the other, and its rows at the end.
-ghost use Rattle.std.specs.Prelude.{◌≤◌, IfErr, IfOk, MatchOption, OnOk};
+ghost use Rattle.std.specs.Prelude.{◌≡◌, ◌≤◌, [], IfErr, IfOk, MatchOption, OnOk};
 ghost use Rattle.bank_server.specs.Primary.{HasAll};
+ghost use Rattle.sb_sequencer.specs.Numbering.{IsLog};
+ghost use Rattle.smallbank.specs.Kept.{IsKept, IsLeft};
 ghost use Rattle.smallbank.specs.ServeFaults.{IsKeepFault, IsKeepRunFault, IsServingFault};
-ghost use Rattle.smallbank.specs.Served.{GoesOn, IsSameBank, Prints, PrintsAll, PrintsSession, PrintsSessions};
+ghost use Rattle.smallbank.specs.Served.{GoesOn, ServesAll, ServesBank, ServesNext};
 
 use crate::client::serve_client;
+use crate::door::Door;
 use crate::keeping::keep;
 use crate::printing::{print_port, print_rows, print_session};
 use crate::serve_fault::ServeFault;
@@ -14,7 +17,7 @@ use sb_checkpoint::CheckpointStore;
 use sb_rows::Opening;
 use std::alloc::Global;
 use std::io::{Read, Write};
-use std::net::{OpenListener, OpenStream};
+use std::net::OpenStream;
 use std::sync::Wait;
 use std::thread::Threads;
 use std::time::Clock;
@@ -32,7 +35,16 @@ pub struct Plan {
     pub saves: bool,
 }
 
-/// Serves a bank with this opening to those that connect, and gives the writer back.
+/// A bank that was served.
+#[derive(Drop)]
+pub struct Served<S: CheckpointStore, W> {
+    /// Its log and node 0, which has carried out all of it.
+    pub primary: Primary<S>,
+    /// Where it was printed.
+    pub writer: W,
+}
+
+/// Serves a bank with this opening to those that come in at a door, and gives back the bank and the writer.
 ///
 /// It prints where clients are listened to, a line a session as soon as node 0 has carried out all that was asked and
 /// the followers were told, and at the end, once the followers came to the same, the rows and their total. A client at
@@ -40,31 +52,40 @@ pub struct Plan {
 ///
 /// Fails with
 /// - [`ServeFault::Run`] where a follower can't be started or differs from node 0, where the crew is gone, where a
-///   client isn't accepted, a write to the writer or the store's device fails, or where memory is refused,
+///   client isn't let in, a write to the writer or the store's device fails, or where memory is refused,
 /// - [`ServeFault::ReadBack`] where the store doesn't give back what was put.
 ///
 /// The rows aren't printed then.
-pub fn serve<H, L, S, W>(
+pub fn serve<H, D, S, W>(
     rt: &H,
     alloc: Global,
-    listener: &L,
+    door: D,
     opening: Opening,
     store: S,
     plan: Plan,
     writer: W,
-) -> Result<W, ServeFault>
+) -> Result<Served<S, W>, ServeFault>
 where
     H: Threads + Wait + Clock + Sync,
-    L: OpenListener,
-    L::Stream: Read + Write + OpenStream,
+    D: Door + Drop,
+    D::Stream: Read + Write + OpenStream,
     S: CheckpointStore,
     W: Write + Drop,
     requires nodes { plan.nodes ≤ 8 }
     requires workers { plan.workers ≤ 16 }
-    ensures printed { IfOk result (λ after. Prints opening.directory opening.columns plan.sessions
-        (W.contents writer) (W.contents after)) }
+    // The log is that of the clients' sessions, and the rows that are printed are those after it.
+    ensures served { IfOk result (λ bank. ServesBank D.Stream.remaining opening.directory
+        opening.columns plan.sessions (D.coming door) bank.primary.log
+        (W.contents writer) (W.contents bank.writer)) }
+    ensures one_each { IfOk result (λ bank. IsLog bank.primary.log) }
+    ensures all { IfOk result (λ bank. HasAll bank.primary) }
+    ensures names { IfOk result (λ bank. bank.primary.node.names ≡ opening.directory) }
+    ensures opening { IfOk result (λ bank. bank.primary.node.board.opening ≡ opening.columns) }
+    // What is saved is the checkpoint of all of that log.
+    ensures kept { IfOk result (λ bank. IsKept S.slot S.IsHonest plan.saves plan.sessions store
+        bank.primary.node) }
     // Node 0 never strays, and the store is asked only where the plan says so.
-    ensures fault { IfErr result (IsServingFault plan.saves) }
+    ensures fault { IfErr result (IsServingFault plan.nodes plan.saves) }
 {
     let own = Opening {
         directory: opening.directory.copy()?,
@@ -77,99 +98,113 @@ where
         alloc,
         &opening,
         plan.nodes,
-        move |followers: &mut Followers<'_, H>| -> Result<W, ServeFault>
+        move |followers: &mut Followers<'_, H>| -> Result<Served<S, W>, ServeFault>
             requires workers { plan.workers ≤ 16 }
             requires all { HasAll primary }
-            ensures printed { IfOk result (λ after. PrintsAll primary plan.sessions
-                (W.contents writer) (W.contents after)) }
-            ensures fault { IfErr result (IsServingFault plan.saves) }
-        { serve_beside(rt, alloc, listener, primary, followers, plan, writer) },
+            requires none { primary.log ≡ [] }
+            ensures served { IfOk result (λ bank. ServesBank D.Stream.remaining primary.node.names
+                primary.node.board.opening plan.sessions (D.coming door) bank.primary.log
+                (W.contents writer) (W.contents bank.writer)) }
+            ensures left { IfOk result (λ bank. IsLeft S.slot S.IsHonest plan.saves plan.sessions
+                primary bank.primary) }
+            ensures fault { IfErr result (IsServingFault followers.old.nodes plan.saves) }
+        { serve_beside(rt, alloc, door, primary, followers, plan, writer) },
     )?
 }
 
 // Serves a bank beside its followers, with workers where the plan has some.
-fn serve_beside<H, L, S, W>(
+fn serve_beside<H, D, S, W>(
     rt: &H,
     alloc: Global,
-    listener: &L,
+    door: D,
     primary: Primary<S>,
     followers: &mut Followers<'_, H>,
     plan: Plan,
     writer: W,
-) -> Result<W, ServeFault>
+) -> Result<Served<S, W>, ServeFault>
 where
     H: Threads + Wait + Clock + Sync,
-    L: OpenListener,
-    L::Stream: Read + Write + OpenStream,
+    D: Door + Drop,
+    D::Stream: Read + Write + OpenStream,
     S: CheckpointStore,
     W: Write + Drop,
     requires workers { plan.workers ≤ 16 }
     requires all { HasAll primary }
-    ensures printed { IfOk result (λ after. PrintsAll primary plan.sessions
-        (W.contents writer) (W.contents after)) }
-    ensures fault { IfErr result (IsServingFault plan.saves) }
+    requires none { primary.log ≡ [] }
+    ensures served { IfOk result (λ bank. ServesBank D.Stream.remaining primary.node.names
+        primary.node.board.opening plan.sessions (D.coming door) bank.primary.log
+        (W.contents writer) (W.contents bank.writer)) }
+    ensures left { IfOk result (λ bank. IsLeft S.slot S.IsHonest plan.saves plan.sessions
+        primary bank.primary) }
+    ensures fault { IfErr result (IsServingFault followers.old.nodes plan.saves) }
 {
     if plan.workers == 0 {
         let crew = &mut InlineCrew;
-        return serve_by(rt, alloc, listener, primary, followers, crew, plan, writer);
+        return serve_by(rt, alloc, door, primary, followers, crew, plan, writer);
     }
     with_crew(
         rt,
         alloc,
         plan.workers,
         &OpenGate,
-        move |crew: &mut BenchCrew<'_, H, OpenGate>| -> Result<W, ServeFault>
+        move |crew: &mut BenchCrew<'_, H, OpenGate>| -> Result<Served<S, W>, ServeFault>
             requires all { HasAll primary }
-            ensures printed { IfOk result (λ after. PrintsAll primary plan.sessions
-                (W.contents writer) (W.contents after)) }
-            ensures fault { IfErr result (IsServingFault plan.saves) }
-        { serve_by(rt, alloc, listener, primary, followers, crew, plan, writer) },
+            requires none { primary.log ≡ [] }
+            ensures served { IfOk result (λ bank. ServesBank D.Stream.remaining primary.node.names
+                primary.node.board.opening plan.sessions (D.coming door) bank.primary.log
+                (W.contents writer) (W.contents bank.writer)) }
+            ensures left { IfOk result (λ bank. IsLeft S.slot S.IsHonest plan.saves plan.sessions
+                primary bank.primary) }
+            ensures fault { IfErr result (IsServingFault followers.entry.now.nodes plan.saves) }
+        { serve_by(rt, alloc, door, primary, followers, crew, plan, writer) },
     )?
 }
 
 // Serves a bank by this crew.
-fn serve_by<H, L, S, C, W>(
+fn serve_by<H, D, S, C, W>(
     rt: &H,
     alloc: Global,
-    listener: &L,
-    primary: Primary<S>,
+    mut door: D,
+    mut primary: Primary<S>,
     followers: &mut Followers<'_, H>,
     crew: &mut C,
     plan: Plan,
-    writer: W,
-) -> Result<W, ServeFault>
+    mut writer: W,
+) -> Result<Served<S, W>, ServeFault>
 where
     H: Threads + Wait,
-    L: OpenListener,
-    L::Stream: Read + Write + OpenStream,
+    D: Door + Drop,
+    D::Stream: Read + Write + OpenStream,
     S: CheckpointStore,
     C: Crew,
     W: Write + Drop,
     requires all { HasAll primary }
-    ensures printed { IfOk result (λ after. PrintsAll primary plan.sessions
-        (W.contents writer) (W.contents after)) }
-    ensures fault { IfErr result (IsServingFault plan.saves) }
+    requires none { primary.log ≡ [] }
+    ensures served { IfOk result (λ bank. ServesBank D.Stream.remaining primary.node.names
+        primary.node.board.opening plan.sessions (D.coming door) bank.primary.log
+        (W.contents writer) (W.contents bank.writer)) }
+    ensures left { IfOk result (λ bank. IsLeft S.slot S.IsHonest plan.saves plan.sessions
+        primary bank.primary) }
+    ensures fault { IfErr result (IsServingFault followers.old.nodes plan.saves) }
 {
-    let mut primary = primary;
-    let mut writer = writer;
     serve_whole(
         rt,
         alloc,
-        listener,
+        &mut door,
         &mut primary,
         followers,
         crew,
         plan,
         &mut writer,
     )?;
-    Ok(writer)
+    Ok(Served { primary, writer })
 }
 
 // Serves a bank that is lent, and prints all that is printed of it.
-fn serve_whole<H, L, S, C, W>(
+fn serve_whole<H, D, S, C, W>(
     rt: &H,
     alloc: Global,
-    listener: &L,
+    door: &mut D,
     primary: &mut Primary<S>,
     followers: &mut Followers<'_, H>,
     crew: &mut C,
@@ -178,27 +213,31 @@ fn serve_whole<H, L, S, C, W>(
 ) -> Result<(), ServeFault>
 where
     H: Threads + Wait,
-    L: OpenListener,
-    L::Stream: Read + Write + OpenStream,
+    D: Door,
+    D::Stream: Read + Write + OpenStream,
     S: CheckpointStore,
     C: Crew,
     W: Write,
     requires all { HasAll primary.old }
-    ensures printed { OnOk result (PrintsAll primary.old plan.sessions
+    requires none { primary.old.log ≡ [] }
+    ensures served { OnOk result (ServesBank D.Stream.remaining primary.old.node.names
+        primary.old.node.board.opening plan.sessions (D.coming door.old) primary.new.log
         (W.contents writer.old) (W.contents writer.new)) }
-    ensures fault { IfErr result (IsServingFault plan.saves) }
+    ensures left { OnOk result (IsLeft S.slot S.IsHonest plan.saves plan.sessions
+        primary.old primary.new) }
+    ensures fault { IfErr result (IsServingFault followers.old.nodes plan.saves) }
 {
-    print_port(alloc, listener, writer)?;
-    serve_all(alloc, listener, primary, followers, crew, plan, writer)?;
+    print_port(alloc, door, writer)?;
+    serve_all(alloc, door, primary, followers, crew, plan, writer)?;
     followers.compare(rt, primary.node())?;
     print_rows(alloc, primary, writer)?;
     Ok(())
 }
 
 // Serves the clients, one after the other.
-fn serve_all<R, L, S, C, W>(
+fn serve_all<R, D, S, C, W>(
     alloc: Global,
-    listener: &L,
+    door: &mut D,
     primary: &mut Primary<S>,
     followers: &mut Followers<'_, R>,
     crew: &mut C,
@@ -207,22 +246,25 @@ fn serve_all<R, L, S, C, W>(
 ) -> Result<(), ServeFault>
 where
     R: Wait,
-    L: OpenListener,
-    L::Stream: Read + Write + OpenStream,
+    D: Door,
+    D::Stream: Read + Write + OpenStream,
     S: CheckpointStore,
     C: Crew,
     W: Write,
+    requires one_each { IsLog primary.old.log }
     requires all { HasAll primary.old }
-    ensures printed { OnOk result (PrintsSessions plan.sessions
+    ensures served { OnOk result (ServesAll D.Stream.remaining plan.sessions
+        (D.coming door.old) (D.coming door.new) primary.old.log primary.new.log
         (W.contents writer.old) (W.contents writer.new)) }
-    ensures bank { OnOk result (IsSameBank primary.old primary.new) }
-    ensures all { OnOk result (HasAll primary.new) }
+    ensures left { OnOk result (IsLeft S.slot S.IsHonest plan.saves plan.sessions
+        primary.old primary.new) }
+    ensures nodes { followers.new.nodes ≡ followers.old.nodes }
     ensures fault { IfErr result (IsKeepFault plan.saves) }
 {
     for before in 0..plan.sessions {
         serve_next(
             alloc,
-            listener,
+            door,
             before + 1,
             primary,
             followers,
@@ -235,9 +277,9 @@ where
 }
 
 // Serves the next client, and prints how that ended.
-fn serve_next<R, L, S, C, W>(
+fn serve_next<R, D, S, C, W>(
     alloc: Global,
-    listener: &L,
+    door: &mut D,
     number: usize,
     primary: &mut Primary<S>,
     followers: &mut Followers<'_, R>,
@@ -247,18 +289,20 @@ fn serve_next<R, L, S, C, W>(
 ) -> Result<(), ServeFault>
 where
     R: Wait,
-    L: OpenListener,
-    L::Stream: Read + Write + OpenStream,
+    D: Door,
+    D::Stream: Read + Write + OpenStream,
     S: CheckpointStore,
     C: Crew,
     W: Write,
-    ensures printed { OnOk result (PrintsSession number
+    requires one_each { IsLog primary.old.log }
+    ensures served { OnOk result (ServesNext D.Stream.remaining number
+        (D.coming door.old) (D.coming door.new) primary.old.log primary.new.log
         (W.contents writer.old) (W.contents writer.new)) }
-    ensures bank { OnOk result (IsSameBank primary.old primary.new) }
-    ensures all { OnOk result (HasAll primary.new) }
+    ensures left { OnOk result (IsLeft S.slot S.IsHonest saves 1 primary.old primary.new) }
+    ensures nodes { followers.new.nodes ≡ followers.old.nodes }
     ensures fault { IfErr result (IsKeepFault saves) }
 {
-    let (stream, _) = listener.accept()?;
+    let stream = door.let_in()?;
     let served = serve_client(alloc, stream, primary, crew);
     if let Some(fault) = ending(served) {
         print_session(alloc, number, served, writer)?;

@@ -1,8 +1,13 @@
 //! Clients in memory, who connect one after the other.
+ghost use Rattle.std.specs.Prelude.{Some};
+
+use crate::door::Door;
+use std::alloc::{AllocError, Global};
 use std::cell::{Cell, RefCell};
+use std::collections::VecDeque;
 use std::io;
 use std::io::{ErrorKind, Read, Write};
-use std::net::{IpAddr, Ipv4Addr, OpenListener, OpenStream, Shutdown, SocketAddr};
+use std::net::{OpenStream, Shutdown};
 use std::time::Duration;
 
 /// How a client's stream behaves.
@@ -34,12 +39,12 @@ pub struct Told {
 
 /// The server's end of a client's stream.
 #[derive(Drop)]
-pub struct End<'a> {
-    client: Client<'a>,
-    told: &'a Told,
+pub struct End<'c, 't> {
+    client: Client<'c>,
+    told: &'t Told,
 }
 
-impl Read for End<'_> {
+impl Read for End<'_, '_> {
     fn read(&mut self, buf: &mut [u8]) -> io::Result<usize> {
         let count = self.client.sent.len().min(buf.len()).min(3);
         if count == 0 && self.client.manner == Manner::Broken {
@@ -52,7 +57,7 @@ impl Read for End<'_> {
     }
 }
 
-impl Write for End<'_> {
+impl Write for End<'_, '_> {
     fn write(&mut self, buf: &[u8]) -> io::Result<usize> {
         if self.client.manner == Manner::Deaf {
             return Err(io::Error::from(ErrorKind::BrokenPipe));
@@ -69,7 +74,7 @@ impl Write for End<'_> {
     }
 }
 
-impl OpenStream for End<'_> {
+impl OpenStream for End<'_, '_> {
     fn set_nodelay(&self, _nodelay: bool) -> io::Result<()> {
         if self.client.manner == Manner::Stubborn {
             return Err(io::Error::from(ErrorKind::InvalidInput));
@@ -96,32 +101,41 @@ impl OpenStream for End<'_> {
     }
 }
 
-/// Lets clients in, in order. There is no other, and the next accept fails.
+/// Lets clients in, in order. There is no other, and nobody is let in then.
 #[derive(Drop)]
-pub struct Door<'a> {
-    pub clients: &'a [Client<'a>],
-    pub let_in: Cell<usize>,
-    pub told: &'a Told,
+pub struct Doorway<'c, 't> {
+    pub coming: VecDeque<End<'c, 't>>,
 }
 
-impl<'a> OpenListener for Door<'a> {
-    type Stream = End<'a>;
+impl<'c, 't> Doorway<'c, 't> {
+    /// The door to which these clients come, and where they are told.
+    pub fn of(
+        alloc: Global,
+        clients: &[Client<'c>],
+        told: &'t Told,
+    ) -> Result<Doorway<'c, 't>, AllocError> {
+        let mut coming = VecDeque::new(alloc);
+        for client in clients {
+            let client = *client;
+            coming.push_back(End { client, told })?;
+        }
+        Ok(Doorway { coming })
+    }
+}
 
-    fn accept(&self) -> io::Result<(End<'a>, SocketAddr)> {
-        let place = self.let_in.get();
-        let Some(client) = self.clients.get(place) else {
-            return Err(io::Error::from(ErrorKind::ConnectionAborted));
-        };
-        let here = self.local_addr()?;
-        self.let_in.set(place.wrapping_add(1));
-        let end = End {
-            client: *client,
-            told: self.told,
-        };
-        Ok((end, here))
+impl<'c, 't> Door for Doorway<'c, 't> {
+    type Stream = End<'c, 't>;
+
+    ghost coming = { λ door. Some door.coming.items };
+
+    fn let_in(&mut self) -> io::Result<End<'c, 't>> {
+        match self.coming.pop_front() {
+            Some(client) => Ok(client),
+            None => Err(io::Error::from(ErrorKind::ConnectionAborted)),
+        }
     }
 
-    fn local_addr(&self) -> io::Result<SocketAddr> {
-        Ok(SocketAddr::new(IpAddr::V4(Ipv4Addr::LOCALHOST), 4000))
+    fn port(&self) -> io::Result<u16> {
+        Ok(4000)
     }
 }

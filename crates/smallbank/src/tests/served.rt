@@ -1,7 +1,7 @@
 //! Banks that are served to clients in memory.
 ghost use Rattle.std.specs.Prelude.{◌≤◌, None};
 
-use super::clients::{Client, Door, Manner, Told};
+use super::clients::{Client, Doorway, Manner, Told};
 use crate::serve_fault::ServeFault;
 use crate::serving::{Plan, serve};
 use bank_server::RunFault;
@@ -81,14 +81,10 @@ fn expect<S: CheckpointStore>(
         bytes: RefCell::new(Vec::new(alloc)),
         hung_up: Cell::new(0),
     };
-    let door = Door {
-        clients,
-        let_in: Cell::new(0),
-        told: &all,
-    };
+    let door = Doorway::of(alloc, clients, &all).expect(rt, "a door");
     let opening = read_opening(alloc, OPENING).expect(rt, "an opening");
     let mut written: Vec<u8> = Vec::new(alloc);
-    let served = serve(rt, alloc, &door, opening, store, plan, &mut written);
+    let served = serve(rt, alloc, door, opening, store, plan, &mut written);
     assert!(rt; served.map(|_| ()) == ends);
     assert!(rt; written.as_slice() == printed.as_bytes());
     let hung_up = all.hung_up.get();

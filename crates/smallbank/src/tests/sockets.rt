@@ -1,4 +1,5 @@
 //! Banks that are served over the system's sockets.
+use crate::door::ListenerDoor;
 use crate::listening::listen;
 use crate::serve_fault::ServeFault;
 use crate::serving::{Plan, serve};
@@ -64,7 +65,8 @@ fn clients_over_sockets(rt: HostRuntime) {
                 workers: 1,
                 saves: true,
             };
-            serve(&rt, alloc, &listener, opening, store, plan, Vec::new(alloc))
+            let door = ListenerDoor::new(listener);
+            serve(&rt, alloc, door, opening, store, plan, Vec::new(alloc))
         },
         || -> io::Result<bool> {
             let first = is_told(&rt, port, &[DEPOSIT, b"GET /"], DONE)?;
@@ -72,7 +74,7 @@ fn clients_over_sockets(rt: HostRuntime) {
         },
     );
     assert!(&rt; told.expect(&rt, "a connection"));
-    let printed = served.expect(&rt, "a bank that was served");
+    let printed = served.expect(&rt, "a bank that was served").writer;
     let wanted = format!(in alloc;
         "listening 127.0.0.1:{port}\nsession 1 fault 1\nsession 2 ok\n\
         bob 0.00 25.00\ntotal 25.00\n"

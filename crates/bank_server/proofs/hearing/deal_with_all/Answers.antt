@@ -17,7 +17,8 @@ loop-frame-preserved g c =
     let kept = loop.invariant in
     let step = c.in_ok-deal_with-in-Ok-Some.ensures in
     let handed : HandsOut c.loop-frame.hearing.stream c.in-Ok-Some.frame c.next.new.self =
-    subst (λ (o : Option Frame). IfSome o (λ frame. HandsOut c.loop-frame.hearing.stream frame c.next.new.self)) c.in-Ok-Some.field-0-is c.in-Ok-Some.ensures.frame in
+    subst (λ (o : Option Frame). IfSome o (λ frame. HandsOut c.loop-frame.hearing.stream frame c.next.new.self))
+    c.in-Ok-Some.field-0-is c.in-Ok-Some.ensures.frame in
     let old = place_of c.args.primary.now.log c.args.hearing.now (g.W.Write.contents c.args.writer.now) in
     let mid = place_of loop.primary.log loop.hearing (g.W.Write.contents loop.writer) in
     let new = place_of c.deal_with.new.primary.log c.deal_with.new.hearing (g.W.Write.contents c.deal_with.new.writer) in
@@ -39,7 +40,8 @@ returns-in_err-deal_with-in-Ok-Some-clause-stops g c =
     let p = err_from_is_err_and c.from_residual.result c.from_residual.ensures.1 in
     let loop = c.loop-frame in
     let handed : HandsOut c.loop-frame.hearing.stream c.in-Ok-Some.frame c.next.new.self =
-    subst (λ (o : Option Frame). IfSome o (λ frame. HandsOut c.loop-frame.hearing.stream frame c.next.new.self)) c.in-Ok-Some.field-0-is c.in-Ok-Some.ensures.frame in
+    subst (λ (o : Option Frame). IfSome o (λ frame. HandsOut c.loop-frame.hearing.stream frame c.next.new.self))
+    c.in-Ok-Some.field-0-is c.in-Ok-Some.ensures.frame in
     let old = place_of c.args.primary.now.log c.args.hearing.now (g.W.Write.contents c.args.writer.now) in
     let mid = place_of loop.primary.log loop.hearing (g.W.Write.contents loop.writer) in
     let new = place_of c.deal_with.new.primary.log c.deal_with.new.hearing (g.W.Write.contents c.deal_with.new.writer) in

@@ -32,7 +32,8 @@ loop-word-preserved c =
     let other : string_bytes c.in-Some.word.now ≢ c.args.option.now = search rules in
     let bare : (text : List ℕ) → string_bytes c.in-Some.word.now ≢ c.args.option.now ++ (61 ∷ text) = search rules in
     record {
-      stands = λ text later. c.loop-word.invariant.stands text (later_word c.args.option.now text c.in-Some.word.now c.loop-word.rest.now c.in-Some.others.now first later);
+      stands = λ text later. c.loop-word.invariant.stands text (later_word c.args.option.now text c.in-Some.word.now
+          c.loop-word.rest.now c.in-Some.others.now first later);
       left = λ text stands. only_later c.args.option.now text c.in-Some.word.now c.loop-word.rest.now c.in-Some.others.now first other (bare text)
           (c.loop-word.invariant.left text stands);
     }

@@ -6,7 +6,7 @@ use Rattle.smallbank.proofs.printing.print_port.Goals as goal
 
 pub returns-clause-printed : goal.returns-clause-printed
 returns-clause-printed g c =
-    let port = c.port-port.result in
+    let port = c.in_ok-port.port in
     let line : c.deref.result.now ≡ port_line port ++ (10 ∷ []) =
     c.deref.ensures.value ∙ c.in_ok-push.ensures.items
     ∙ ap (λ (l : List ℕ). l ++ (10 ∷ []))

@@ -1,0 +1,49 @@
+-- What the sessions of a bank come to, by what its clients send.
+use Rattle.std.specs.Prelude.{◌≡◌, ℕ, Option, Some, Result, Ok, Err, List, [], ◌∷◌, ◌++◌, IfSome}
+use Rattle.std.specs.List.{All, flat_map}
+use Rattle.sb_calls.specs.declared.ask.Key.{Key}
+use Rattle.sb_calls.specs.declared.call.Call.{Call}
+use Rattle.sb_frames.specs.Grammar.{spelling}
+use Rattle.sb_frames.specs.declared.frame.Frame as frames
+use Rattle.bank_server.specs.Served.{IsAt}
+use Rattle.bank_server.specs.Session.{IsClients, log_of_session}
+use Rattle.bank_server.specs.declared.session_fault.SessionFault.{SessionFault}
+
+-- how a session ended
+abbrev pub End : Type 0
+End = Result (Unit {0}) SessionFault
+
+-- where a session ended so nothing is left of what its client sent, or the rest is what the fault says
+abbrev pub EndsAt : End → List ℕ → Type 0
+EndsAt (Ok done) rest = rest ≡ []
+EndsAt (Err fault) rest = IsAt fault rest
+
+-- a client sent this, and its session ended so: frames, each an ask or a flush, whose asks were numbered behind the
+-- log before, and then the rest
+pub record IsHeard (before : List (Key × Call)) (sent : List ℕ) (end : End) (after : List (Key × Call)) : Type 0 where
+  pub frames : List frames.Frame
+  pub clients : All IsClients frames
+  pub rest : List ℕ
+  pub sent_is : sent ≡ flat_map spelling frames ++ rest
+  pub at : EndsAt end rest
+  pub log_is : after ≡ log_of_session before frames
+
+module _ {T : Type 0} where
+  -- the first of those who are coming is let in
+  abbrev pub LetsIn : T → Option (List T) → Option (List T) → Type 0
+  LetsIn client coming left = IfSome coming (λ clients. (rest : List T) × (clients ≡ client ∷ rest) × (left ≡ Some rest))
+
+  module _ (sends : T → Option (List ℕ)) where
+    -- the sessions of these clients, each where it's told what it sends, ended so and led from one log to the other
+    abbrev pub AreHeard : List (Key × Call) → List T → List End → List (Key × Call) → Type 0
+    AreHeard before [] [] after = after ≡ before
+    AreHeard before [] (end ∷ ends) after = ⊥
+    AreHeard before (client ∷ clients) [] after = ⊥
+    AreHeard before (client ∷ clients) (end ∷ ends) after = (mid : List (Key × Call))
+        × IfSome (sends client) (λ sent. IsHeard before sent end mid) × AreHeard mid clients ends after
+
+    -- those who came were the first of those who were coming, and their sessions ended so
+    abbrev pub HearsFirst : Option (List T) → Option (List T) → List (Key × Call) → List End
+        → List (Key × Call) → Type 0
+    HearsFirst coming left before ends after = IfSome coming (λ clients. (came : List T) × (rest : List T)
+        × (clients ≡ came ++ rest) × (left ≡ Some rest) × AreHeard before came ends after)

@@ -1,0 +1,28 @@
+-- A bank after its sessions, and what its store holds then.
+use Rattle.std.specs.Prelude.{◌≡◌, ◌≤◌, ℕ, Bool, true, false, Option, List}
+use Rattle.bank_server.specs.Primary.{HasAll, PrimaryOf}
+use Rattle.bank_server.specs.Saving.{HoldsCheckpoint}
+use Rattle.sb_replica.specs.Replica.{ReplicaOf}
+use Rattle.sb_sequencer.specs.Numbering.{IsLog}
+
+-- whatever was saved after each of so many sessions, the store is honest where it was, and then holds the checkpoint of
+-- all that the node carried out; where nothing is saved the store stays as it was
+pub record IsKept {S : Type 0} (slot : S → Option (List ℕ)) (IsHonest : S → Type 0) (saves : Bool) (sessions : ℕ)
+    (store : S) (node : ReplicaOf S) : Type 0 where
+  pub honest : IsHonest store → IsHonest node.store
+  pub held : saves ≡ true → 1 ≤ sessions → IsHonest store → HoldsCheckpoint slot node node
+  pub stays : saves ≡ false → node.store ≡ store
+
+-- the bank has the same names, over the same opening
+pub record IsSameBank {S : Type 0} (old new : PrimaryOf S) : Type 0 where
+  pub names : new.node.names ≡ old.node.names
+  pub opening : new.node.board.opening ≡ old.node.board.opening
+
+-- the same bank after so many sessions: its log has one number a key, node 0 has carried out all of it, and its store
+-- is as told above
+pub record IsLeft {S : Type 0} (slot : S → Option (List ℕ)) (IsHonest : S → Type 0) (saves : Bool) (sessions : ℕ)
+    (old new : PrimaryOf S) : Type 0 where
+  pub bank : IsSameBank old new
+  pub one_each : IsLog new.log
+  pub all : HasAll new
+  pub kept : IsKept slot IsHonest saves sessions old.node.store new.node
