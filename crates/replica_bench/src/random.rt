@@ -1,5 +1,5 @@
 //! Numbers that look random, the same ones each time.
-ghost use Rattle.std.specs.Prelude.{◌<◌};
+ghost use Rattle.std.specs.Prelude.{◌≡◌, ◌<◌};
 
 /// A linear congruence of 64 bits (Knuth's MMIX), of which the upper bits are taken.
 #[derive(Clone, Copy, Debug)]
@@ -9,7 +9,9 @@ pub struct Random {
 
 impl Random {
     /// The numbers from this seed on.
-    pub fn new(seed: u64) -> Random {
+    pub fn new(seed: u64) -> Random
+        ensures { result.seed ≡ seed }
+    {
         Random { seed }
     }
 

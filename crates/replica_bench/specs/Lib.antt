@@ -1,0 +1,5 @@
+pub mod Actions
+pub mod Banks
+pub mod Checkpoints
+pub mod Entries
+pub mod Logs
