@@ -1,12 +1,11 @@
 -- One entry more.
-use Rattle.std.proofs.Common.{◌≡◌, ℕ, zero, suc, ◌+◌, List, [], ◌∷◌, ◌++◌, length, map, refl, sym, ap, ap₂, ◌∙◌, append_assoc, append-nil, arith}
+use Rattle.std.proofs.Common.{◌≡◌, ℕ, suc, ◌+◌, List, [], ◌∷◌, ◌++◌, length, map, refl, sym, ap, ◌∙◌, append_assoc, append-nil, arith}
 use Rattle.std.specs.List.{concat}
 use Rattle.std.proofs.lemmas.List.{length-append}
 use Rattle.sb_calls.specs.declared.call.Call.{Call}
 use Rattle.sb_frames.specs.Grammar.{spelling}
 use Rattle.sb_frames.specs.declared.frame.Frame.TheVariants.{Entry}
 use Rattle.replica_bench.specs.Entries.{AreEntries, Adds, frames_from}
-
 
 frames_from-snoc : (number : ℕ) (calls : List Call) (call : Call)
     → frames_from number (calls ++ call ∷ []) ≡ frames_from number calls ++ spelling (Entry (length calls + number) call) ∷ []
@@ -30,7 +29,7 @@ one_entry_more count bytes lengths new_bytes new_lengths are adds =
     let frames = frames_from 1 are.calls in
     let frame = spelling (Entry (count + 1) adds.call) in
     let here : frames_from 1 (are.calls ++ adds.call ∷ []) ≡ frames ++ frame ∷ [] =
-        frames_from-snoc 1 are.calls adds.call ∙ ap (λ n. frames ++ spelling (Entry (n + 1) adds.call) ∷ []) are.many in
+    frames_from-snoc 1 are.calls adds.call ∙ ap (λ n. frames ++ spelling (Entry (n + 1) adds.call) ∷ []) are.many in
     record {
       calls = are.calls ++ adds.call ∷ [];
       many = omega (arith, are.many, length-append are.calls (adds.call ∷ []));

@@ -1,5 +1,5 @@
 -- The banks that are measured.
-use Rattle.std.specs.Prelude.{◌≡◌, ℕ, zero, suc, Ok, List, [], ◌∷◌, ◌++◌, length, codes, decimal}
+use Rattle.std.specs.Prelude.{◌≡◌, ℕ, zero, suc, Ok, List, [], ◌++◌, length, codes, decimal}
 use Rattle.sb_rows.specs.Balances.{Balances}
 use Rattle.sb_rows.specs.Opening.{opening_of}
 

@@ -1,6 +1,7 @@
 //! Rounds of deposits that a crew with sixteen jobs in hand drains: all to one customer, or each to another.
 ghost use Rattle.std.specs.Prelude.{◌≡◌, ◌*◌, [], length, IfOk, OnOk};
 ghost use Rattle.sb_calls.specs.Cowns.{held_of};
+ghost use Rattle.replica_bench.specs.Payments.{deposits_to, payee_at};
 ghost use Rattle.replica_bench.specs.Logs.{BankComesTo, ComesTo, HasMore};
 
 use crate::bank::open_bank;
@@ -91,19 +92,42 @@ fn time_rounds(
 
 // A deposit for each behaviour that may be unfinished.
 fn deposits(alloc: Global, directory: &Directory, payees: Payees) -> Result<Vec<Call>>
-    ensures { IfOk result (λ calls. length calls.items ≡ OPEN_BEHAVIOURS) }
+    ensures many { IfOk result (λ calls. length calls.items ≡ OPEN_BEHAVIOURS) }
+    ensures calls { IfOk result (λ calls.
+        calls.items ≡ deposits_to directory.now payees OPEN_BEHAVIOURS) }
+{
+    deposits_below(alloc, directory, payees, OPEN_BEHAVIOURS as u32)
+}
+
+// A deposit for each place below a number.
+#[tactic(auto, unfolding(crate::specs::Payments::deposits_to))]
+fn deposits_below(
+    alloc: Global,
+    directory: &Directory,
+    payees: Payees,
+    count: u32,
+) -> Result<Vec<Call>>
+    ensures many { IfOk result (λ calls. length calls.items ≡ count) }
+    ensures calls { IfOk result (λ calls. calls.items ≡ deposits_to directory.now payees count) }
 {
     let amount = Cents::new(1).context("one cent")?;
-    let mut calls = Vec::with_capacity(alloc, OPEN_BEHAVIOURS)?;
-    for place in 0..OPEN_BEHAVIOURS as u32 {
-        let payee = match payees {
-            Payees::One => 0,
-            Payees::Many => place,
-        };
+    let mut calls = Vec::with_capacity(alloc, count as usize)?;
+    for place in 0..count {
+        let payee = payee_at(payees, place);
         let name = directory.name(payee).context("no such customer")?;
         calls.push(Call::DepositChecking(name, amount))?;
     }
     Ok(calls)
+}
+
+// The place of who is paid by the deposit at a place.
+fn payee_at(payees: Payees, place: u32) -> u32
+    ensures { result ≡ payee_at payees place }
+{
+    match payees {
+        Payees::One => 0,
+        Payees::Many => place,
+    }
 }
 
 // Submits and drains the calls this often.

@@ -1,5 +1,3 @@
-use Rattle.std.proofs.Common.{◌∷◌, [], length, ap, ◌∙◌, arith}
-use Rattle.std.proofs.lemmas.List.{length-append}
 use Rattle.replica_bench.proofs.OneMore.{one_entry_more, one_length_more}
 use Rattle.replica_bench.proofs.entries.make_entries.Goals as goal
 
