@@ -1,7 +1,8 @@
 //! The calls of frames carried out on a board: what a replica is measured against.
-ghost use Rattle.std.specs.Prelude.{◌≡◌, ◌*◌, length, OnOk};
+ghost use Rattle.std.specs.Prelude.{◌≡◌, ◌*◌, [], length, IfOk, OnOk};
 ghost use Rattle.sb_calls.specs.Behaviour.{declared_cowns};
 ghost use Rattle.sb_calls.specs.Cowns.{AreBelow, held_of};
+ghost use Rattle.replica_bench.specs.Logs.{BankComesTo, ComesTo, HasMore};
 
 use crate::bank::open_bank;
 use crate::delivering::{BALANCES, CUSTOMERS};
@@ -17,7 +18,9 @@ use std::alloc::Global;
 use std::time::{Clock, Duration, Instant};
 
 /// Decodes this many entries, and carries out their calls. It comes to the log's length and the bank's total.
-pub fn board(clock: &impl Clock, alloc: Global, count: u32) -> Result<Measured> {
+pub fn board(clock: &impl Clock, alloc: Global, count: u32) -> Result<Measured>
+    ensures { IfOk result (BankComesTo CUSTOMERS BALANCES.now count) }
+{
     let opening = open_bank(alloc, CUSTOMERS, BALANCES)?;
     let board = Board::open(alloc, opening.columns, 0, Vec::new(alloc))?;
     carry_out_on(clock, alloc, &opening.directory, count, board)
@@ -30,7 +33,9 @@ fn carry_out_on(
     count: u32,
     mut board: Board<Op>,
 ) -> Result<Measured>
-    requires { length (held_of board.opening) ≡ 2 * length directory.now }
+    requires cowns { length (held_of board.opening) ≡ 2 * length directory.now }
+    requires empty { (board.earlier ≡ []) × (board.log ≡ []) }
+    ensures { IfOk result (ComesTo board.opening count) }
 {
     let time = carry_out_entries(clock, alloc, directory, count, &mut board);
     log_measured(time, board.length(), board.settled_columns())
@@ -45,6 +50,7 @@ fn carry_out_entries(
     board: &mut Board<Op>,
 ) -> Result<Duration>
     requires { length (held_of board.old.opening) ≡ 2 * length directory.now }
+    ensures { OnOk result (HasMore count board.old board.new) }
 {
     let entries = make_entries(alloc, directory, count)?;
     time_carrying(clock, &entries, directory, board)
@@ -57,6 +63,7 @@ fn time_carrying(
     board: &mut Board<Op>,
 ) -> Result<Duration>
     requires { length (held_of board.old.opening) ≡ 2 * length directory.now }
+    ensures { OnOk result (HasMore (length entries.now.lengths.items) board.old board.new) }
 {
     let start = Instant::now(clock)?;
     carry_out(entries, directory, board)?;
@@ -66,6 +73,7 @@ fn time_carrying(
 // Carries out the calls of all frames.
 fn carry_out(entries: &Entries, directory: &Directory, board: &mut Board<Op>) -> Result<()>
     requires { length (held_of board.old.opening) ≡ 2 * length directory.now }
+    ensures { OnOk result (HasMore (length entries.now.lengths.items) board.old board.new) }
 {
     // As `smallbank run` does.
     board.reserve(entries.lengths.len())?;
@@ -91,7 +99,7 @@ fn call_of(bytes: &[u8]) -> Result<Call> {
 // Submits an op. Where the board is busy it is drained first.
 fn submit(op: &Op, board: &mut Board<Op>) -> Result<()>
     requires { AreBelow (length (held_of board.old.opening)) (declared_cowns op.now) }
-    ensures { OnOk result (board.new.opening ≡ board.old.opening) }
+    ensures { OnOk result (HasMore 1 board.old board.new) }
 {
     match board.submit(*op) {
         Ok(_) => return Ok(()),

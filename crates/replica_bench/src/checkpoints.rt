@@ -1,7 +1,8 @@
 //! Checkpoints, written and read over and over.
-ghost use Rattle.std.specs.Prelude.{◌≤◌, length, IfOk};
+ghost use Rattle.std.specs.Prelude.{◌≡◌, ◌≤◌, length, IfOk};
 ghost use Rattle.std.specs.List.{All};
 ghost use Rattle.sb_calls.specs.Replies.{IsReply};
+ghost use Rattle.replica_bench.specs.Checkpoints.{SpellsFull, size_of};
 
 use crate::bank::open_bank;
 use crate::measured::Measured;
@@ -11,18 +12,21 @@ use sb_calls::{LOG_CALLS, Reply};
 use sb_checkpoint::{read_checkpoint, write_checkpoint};
 use sb_rows::{CUSTOMERS, Columns};
 use std::alloc::Global;
-use std::time::{Clock, Instant};
+use std::time::{Clock, Duration, Instant};
 
 // What each customer has, savings and checking.
 const BALANCES: &str = "1000.25 -200.75";
 
 /// Writes a checkpoint of the greatest size this often. It comes to how many bytes it has, and their sum.
-pub fn write(clock: &impl Clock, alloc: Global, count: u32) -> Result<Measured> {
+pub fn write(clock: &impl Clock, alloc: Global, count: u32) -> Result<Measured>
+    ensures { IfOk result (λ measured. measured.length ≡ size_of CUSTOMERS LOG_CALLS) }
+{
     let opening = open_bank(alloc, CUSTOMERS as u32, BALANCES)?;
     let replies = all_replies(alloc)?;
     write_often(clock, alloc, &opening.columns, &replies, count)
 }
 
+#[tactic(auto, using(crate::proofs::Sizes::size_is))]
 fn write_often(
     clock: &impl Clock,
     alloc: Global,
@@ -32,6 +36,8 @@ fn write_often(
 ) -> Result<Measured>
     requires few { length replies.now ≤ LOG_CALLS }
     requires valid { All IsReply replies.now }
+    ensures { IfOk result (λ measured.
+        measured.length ≡ size_of (length columns.now.savings) (length replies.now)) }
 {
     let mut sum = 0;
     let start = Instant::now(clock)?;
@@ -50,26 +56,35 @@ fn write_often(
 }
 
 /// Reads a checkpoint of the greatest size this often. It comes to how many replies it has, and what it adds up to.
-pub fn read(clock: &impl Clock, alloc: Global, count: u32) -> Result<Measured> {
+pub fn read(clock: &impl Clock, alloc: Global, count: u32) -> Result<Measured>
+    ensures { IfOk result (λ measured. measured.length ≡ LOG_CALLS) }
+{
     let bytes = written(alloc)?;
     read_often(clock, alloc, &bytes, count)
 }
 
 // The checkpoint that is read.
-fn written(alloc: Global) -> Result<Vec<u8>> {
+fn written(alloc: Global) -> Result<Vec<u8>>
+    ensures { IfOk result (λ bytes. SpellsFull bytes.items) }
+{
     let opening = open_bank(alloc, CUSTOMERS as u32, BALANCES)?;
     let replies = all_replies(alloc)?;
     write_once(alloc, &opening.columns, &replies)
 }
 
+#[tactic(auto, using(crate::proofs::Sizes::is_full))]
 fn write_once(alloc: Global, columns: &Columns, replies: &[Reply]) -> Result<Vec<u8>>
-    requires few { length replies.now ≤ LOG_CALLS }
+    requires full { length replies.now ≡ LOG_CALLS }
     requires valid { All IsReply replies.now }
+    ensures { IfOk result (λ bytes. SpellsFull bytes.items) }
 {
     Ok(write_checkpoint(alloc, columns, replies)?)
 }
 
-fn read_often(clock: &impl Clock, alloc: Global, bytes: &[u8], count: u32) -> Result<Measured> {
+fn read_often(clock: &impl Clock, alloc: Global, bytes: &[u8], count: u32) -> Result<Measured>
+    requires { SpellsFull bytes.now }
+    ensures { IfOk result (λ measured. measured.length ≡ LOG_CALLS) }
+{
     let mut sum = 0;
     let start = Instant::now(clock)?;
     for _ in 0..count {
@@ -77,7 +92,14 @@ fn read_often(clock: &impl Clock, alloc: Global, bytes: &[u8], count: u32) -> Re
         sum = with_last_reply(sum, checkpoint.replies());
     }
     let time = start.elapsed(clock)?;
-    // Once more, to be looked at beside the clock.
+    read_once(alloc, bytes, sum, time)
+}
+
+// Reads it once more, to look at it beside the clock.
+fn read_once(alloc: Global, bytes: &[u8], sum: i64, time: Duration) -> Result<Measured>
+    requires { SpellsFull bytes.now }
+    ensures { IfOk result (λ measured. measured.length ≡ LOG_CALLS) }
+{
     let checkpoint = read_checkpoint(alloc, bytes, CUSTOMERS)?;
     let sum = with_shown(sum, checkpoint.replies());
     Ok(Measured {
@@ -89,7 +111,7 @@ fn read_often(clock: &impl Clock, alloc: Global, bytes: &[u8], count: u32) -> Re
 
 // As many replies as a log has, of which every third shows a total.
 fn all_replies(alloc: Global) -> Result<Vec<Reply>>
-    ensures few { IfOk result (λ replies. length replies.items ≤ LOG_CALLS) }
+    ensures many { IfOk result (λ replies. length replies.items ≡ LOG_CALLS) }
     ensures valid { IfOk result (λ replies. All IsReply replies.items) }
 {
     let mut replies = Vec::with_capacity(alloc, LOG_CALLS)?;

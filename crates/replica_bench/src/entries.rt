@@ -1,4 +1,6 @@
 //! Entries of a log as frames.
+ghost use Rattle.std.specs.Prelude.{◌≡◌, length, IfOk, OnOk};
+ghost use Rattle.replica_bench.specs.Entries.{AreEntries, Adds};
 
 use crate::random::Random;
 use anyhow::{Context, Result};
@@ -20,7 +22,11 @@ pub struct Entries {
 }
 
 /// The frames of this many entries, numbered from 1 on, with calls of all kinds.
-pub fn make_entries(alloc: Global, directory: &Directory, count: u32) -> Result<Entries> {
+#[tactic(auto, using(crate::proofs::OneMore::one_entry_more))]
+pub fn make_entries(alloc: Global, directory: &Directory, count: u32) -> Result<Entries>
+    ensures entries { IfOk result (λ made. AreEntries count made.bytes.items made.lengths.items) }
+    ensures many { IfOk result (λ made. length made.lengths.items ≡ count) }
+{
     let mut random = Random::new(SEED);
     let mut entries = Entries {
         bytes: Vec::new(alloc),
@@ -33,12 +39,16 @@ pub fn make_entries(alloc: Global, directory: &Directory, count: u32) -> Result<
 }
 
 // One frame more.
+#[tactic(auto, unfolding(sb_frames::specs::Grammar::spelling))]
 fn push_entry(
     random: &mut Random,
     directory: &Directory,
     number: u64,
     entries: &mut Entries,
-) -> Result<()> {
+) -> Result<()>
+    ensures { OnOk result (Adds number entries.old.bytes.items entries.old.lengths.items
+        entries.new.bytes.items entries.new.lengths.items) }
+{
     let call = any_call(random, directory).context("making a call")?;
     let frame = encode(&Frame::Entry { number, call });
     entries.bytes.extend_from_slice(&frame)?;

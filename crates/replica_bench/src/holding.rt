@@ -1,5 +1,5 @@
 //! A crew that holds jobs, without threads.
-ghost use Rattle.std.specs.Prelude.{true};
+ghost use Rattle.std.specs.Prelude.{◌≡◌, [], true, IfOk};
 
 use anyhow::Result;
 use cown_board::{Done, Job};
@@ -18,7 +18,9 @@ pub struct HoldingCrew {
 
 impl HoldingCrew {
     /// A crew that holds nothing yet.
-    pub fn new(alloc: Global) -> Result<HoldingCrew> {
+    pub fn new(alloc: Global) -> Result<HoldingCrew>
+        ensures { IfOk result (λ crew. crew.held.items ≡ []) }
+    {
         let held = Vec::with_capacity(alloc, HELD)?;
         Ok(HoldingCrew { held })
     }

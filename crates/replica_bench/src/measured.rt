@@ -1,4 +1,6 @@
 //! What a measured action came to.
+ghost use Rattle.std.specs.Prelude.{◌≡◌, Ok, IfOk, IsErr, IsSome, MatchOption, OnErr};
+ghost use Rattle.replica_bench.specs.Logs.{total_of};
 
 use anyhow::{Context, Result};
 use lane_audit::bank_total;
@@ -16,12 +18,19 @@ pub struct Measured {
     pub time: Duration,
 }
 
-/// What a log of this length came to, if it was carried out: the bank's total.
+/// What a log of this length came to, if it was carried out: the bank's total. Fails where it wasn't, or where
+/// something is unfinished.
 pub fn log_measured(
     time: Result<Duration>,
     length: u64,
     columns: Option<&Columns>,
-) -> Result<Measured> {
+) -> Result<Measured>
+    ensures time { IfOk result (λ measured. time ≡ Ok measured.time) }
+    ensures length { IfOk result (λ measured. measured.length ≡ length) }
+    ensures sum { MatchOption columns.entry (IsErr result)
+        (λ columns. IfOk result (λ measured. measured.sum ≡ total_of columns.now)) }
+    ensures fails { OnErr result (IsSome columns.entry → IsErr time) }
+{
     let time = time?;
     let columns = columns.context("something is unfinished")?;
     Ok(Measured {

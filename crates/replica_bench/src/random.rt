@@ -1,5 +1,6 @@
 //! Numbers that look random, the same ones each time.
-ghost use Rattle.std.specs.Prelude.{◌<◌};
+ghost use Rattle.std.specs.Prelude.{◌≡◌, ◌<◌, ◌/◌, ◌%◌, ◌^◌};
+ghost use Rattle.replica_bench.specs.Random.{next_seed};
 
 /// A linear congruence of 64 bits (Knuth's MMIX), of which the upper bits are taken.
 #[derive(Clone, Copy, Debug)]
@@ -9,14 +10,18 @@ pub struct Random {
 
 impl Random {
     /// The numbers from this seed on.
-    pub fn new(seed: u64) -> Random {
+    pub fn new(seed: u64) -> Random
+        ensures { result.seed ≡ seed }
+    {
         Random { seed }
     }
 
     /// The next number below a bound.
     pub fn below(&mut self, bound: u32) -> u32
         requires { 0 < bound }
-        ensures { result < bound }
+        ensures value { result ≡ self.new.seed / 2 ^ 32 % bound }
+        ensures below { result < bound }
+        ensures seed { self.new.seed ≡ next_seed self.old.seed }
     {
         self.seed = self
             .seed

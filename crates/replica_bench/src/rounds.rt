@@ -1,6 +1,8 @@
 //! Rounds of deposits that a crew with sixteen jobs in hand drains: all to one customer, or each to another.
-ghost use Rattle.std.specs.Prelude.{◌≡◌, ◌*◌, length, OnOk};
+ghost use Rattle.std.specs.Prelude.{◌≡◌, ◌*◌, [], length, IfOk, OnOk};
 ghost use Rattle.sb_calls.specs.Cowns.{held_of};
+ghost use Rattle.replica_bench.specs.Payments.{deposits_to, payee_at};
+ghost use Rattle.replica_bench.specs.Logs.{BankComesTo, ComesTo, HasMore};
 
 use crate::bank::open_bank;
 use crate::delivering::BALANCES;
@@ -31,7 +33,9 @@ pub fn drain_rounds(
     alloc: Global,
     payees: Payees,
     count: u32,
-) -> Result<Measured> {
+) -> Result<Measured>
+    ensures { IfOk result (BankComesTo OPEN_BEHAVIOURS BALANCES.now (OPEN_BEHAVIOURS * count)) }
+{
     let opening = open_bank(alloc, OPEN_BEHAVIOURS as u32, BALANCES)?;
     let board = Board::open(alloc, opening.columns, 0, Vec::new(alloc))?;
     run_on(clock, alloc, &opening.directory, payees, count, board)
@@ -45,7 +49,9 @@ fn run_on(
     count: u32,
     mut board: Board<Op>,
 ) -> Result<Measured>
-    requires { length (held_of board.opening) ≡ 2 * length directory.now }
+    requires cowns { length (held_of board.opening) ≡ 2 * length directory.now }
+    requires empty { (board.earlier ≡ []) × (board.log ≡ []) }
+    ensures { IfOk result (ComesTo board.opening (OPEN_BEHAVIOURS * count)) }
 {
     let time = run_deposits(clock, alloc, directory, payees, count, &mut board);
     log_measured(time, board.length(), board.settled_columns())
@@ -61,6 +67,7 @@ fn run_deposits(
     board: &mut Board<Op>,
 ) -> Result<Duration>
     requires { length (held_of board.old.opening) ≡ 2 * length directory.now }
+    ensures { OnOk result (HasMore (OPEN_BEHAVIOURS * count) board.old board.new) }
 {
     let calls = deposits(alloc, directory, payees)?;
     time_rounds(clock, alloc, directory, &calls, count, board)
@@ -74,7 +81,9 @@ fn time_rounds(
     count: u32,
     board: &mut Board<Op>,
 ) -> Result<Duration>
-    requires { length (held_of board.old.opening) ≡ 2 * length directory.now }
+    requires cowns { length (held_of board.old.opening) ≡ 2 * length directory.now }
+    requires many { length calls.now ≡ OPEN_BEHAVIOURS }
+    ensures { OnOk result (HasMore (OPEN_BEHAVIOURS * count) board.old board.new) }
 {
     let start = Instant::now(clock)?;
     run_rounds(alloc, directory, calls, count, board)?;
@@ -82,18 +91,43 @@ fn time_rounds(
 }
 
 // A deposit for each behaviour that may be unfinished.
-fn deposits(alloc: Global, directory: &Directory, payees: Payees) -> Result<Vec<Call>> {
+fn deposits(alloc: Global, directory: &Directory, payees: Payees) -> Result<Vec<Call>>
+    ensures many { IfOk result (λ calls. length calls.items ≡ OPEN_BEHAVIOURS) }
+    ensures calls { IfOk result (λ calls.
+        calls.items ≡ deposits_to directory.now payees OPEN_BEHAVIOURS) }
+{
+    deposits_below(alloc, directory, payees, OPEN_BEHAVIOURS as u32)
+}
+
+// A deposit for each place below a number.
+#[tactic(auto, unfolding(crate::specs::Payments::deposits_to))]
+fn deposits_below(
+    alloc: Global,
+    directory: &Directory,
+    payees: Payees,
+    count: u32,
+) -> Result<Vec<Call>>
+    ensures many { IfOk result (λ calls. length calls.items ≡ count) }
+    ensures calls { IfOk result (λ calls. calls.items ≡ deposits_to directory.now payees count) }
+{
     let amount = Cents::new(1).context("one cent")?;
-    let mut calls = Vec::with_capacity(alloc, OPEN_BEHAVIOURS)?;
-    for place in 0..OPEN_BEHAVIOURS as u32 {
-        let payee = match payees {
-            Payees::One => 0,
-            Payees::Many => place,
-        };
+    let mut calls = Vec::with_capacity(alloc, count as usize)?;
+    for place in 0..count {
+        let payee = payee_at(payees, place);
         let name = directory.name(payee).context("no such customer")?;
         calls.push(Call::DepositChecking(name, amount))?;
     }
     Ok(calls)
+}
+
+// The place of who is paid by the deposit at a place.
+fn payee_at(payees: Payees, place: u32) -> u32
+    ensures { result ≡ payee_at payees place }
+{
+    match payees {
+        Payees::One => 0,
+        Payees::Many => place,
+    }
 }
 
 // Submits and drains the calls this often.
@@ -104,10 +138,12 @@ fn run_rounds(
     count: u32,
     board: &mut Board<Op>,
 ) -> Result<()>
-    requires { length (held_of board.old.opening) ≡ 2 * length directory.now }
+    requires cowns { length (held_of board.old.opening) ≡ 2 * length directory.now }
+    requires many { length calls.now ≡ OPEN_BEHAVIOURS }
+    ensures { OnOk result (HasMore (OPEN_BEHAVIOURS * count) board.old board.new) }
 {
     let mut crew = HoldingCrew::new(alloc)?;
-    for _ in 0..count {
+    for _round in 0..count {
         submit_all(directory, calls, board)?;
         drain(board, &mut crew)?;
     }
@@ -117,7 +153,7 @@ fn run_rounds(
 // Submits the calls.
 fn submit_all(directory: &Directory, calls: &[Call], board: &mut Board<Op>) -> Result<()>
     requires { length (held_of board.old.opening) ≡ 2 * length directory.now }
-    ensures { OnOk result (board.new.opening ≡ board.old.opening) }
+    ensures { OnOk result (HasMore (length calls.now) board.old board.new) }
 {
     for call in calls {
         board.submit(resolve(directory, call))?;

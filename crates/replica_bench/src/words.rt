@@ -1,4 +1,6 @@
 //! The program's words.
+ghost use Rattle.std.specs.Prelude.{◌≡◌, IfSome, Some, map, slice_get, string_bytes};
+ghost use Rattle.replica_bench.specs.Actions.{Says, Spells, word_of};
 
 /// What is measured.
 #[derive(Clone, Copy, Debug, PartialEq, Eq)]
@@ -27,11 +29,30 @@ pub struct Words {
 }
 
 /// Reads the program's words, of which the first is its name.
-pub fn read_words(words: &[String]) -> Option<Words> {
-    let [_, action, number] = words else {
+pub fn read_words(words: &[String]) -> Option<Words>
+    ensures { IfSome result (λ asked. Says asked words.now) }
+{
+    if words.len() != 3 {
         return None;
-    };
-    let action = match action.as_str() {
+    }
+    let action = action_of(text(words, 1)?)?;
+    let number = number_of(text(words, 2)?)?;
+    Some(Words { action, number })
+}
+
+// The word at this place.
+fn text<'a>(words: &'a [String], place: usize) -> Option<&'a str>
+    ensures { IfSome result
+        (λ text. slice_get (map string_bytes words.entry.now) place ≡ Some text.now) }
+{
+    Some(words.get(place)?.as_str())
+}
+
+// What a word asks for.
+fn action_of(word: &str) -> Option<Action>
+    ensures { IfSome result (λ action. word.now ≡ word_of action) }
+{
+    let action = match word {
         "deliver" => Action::Deliver,
         "board" => Action::Board,
         "write" => Action::Write,
@@ -40,6 +61,12 @@ pub fn read_words(words: &[String]) -> Option<Words> {
         "many-customers" => Action::ManyCustomers,
         _ => return None,
     };
-    let number = number.parse::<u32>().ok()?;
-    Some(Words { action, number })
+    Some(action)
+}
+
+// The number that a word spells.
+fn number_of(word: &str) -> Option<u32>
+    ensures { IfSome result (λ number. Spells word.now number) }
+{
+    word.parse::<u32>().ok()
 }

@@ -1,14 +1,24 @@
--- Each customer has two cowns.
-use Rattle.std.proofs.Common.{◌*◌, length, ap, ◌∙◌}
+-- Each customer has two cowns, and the board is at the opening.
+use Rattle.std.proofs.Common.{◌*◌, length, refl, ap, ◌∙◌}
+use Rattle.std.proofs.lemmas.Result.{IfOk-weaker}
 use Rattle.sb_calls.proofs.Holding.{length-held_of}
 use Rattle.sb_calls.specs.Cowns.{held_of}
 use Rattle.sb_calls.specs.declared.op.Op.{Op}
 use Rattle.cown_board.specs.Board.{BoardOf}
+use Rattle.replica_bench.proofs.Logs.{bank_comes_to}
 use Rattle.replica_bench.proofs.boarding.board.Goals as goal
 
-pub carry_out_on-requires : goal.carry_out_on-requires
-carry_out_on-requires g c =
+pub carry_out_on-requires-clause-cowns : goal.carry_out_on-requires-clause-cowns
+carry_out_on-requires-clause-cowns g c =
     let opening = c.in_ok-opening.opening in
     ap (λ (b : BoardOf Op). length (held_of b.opening)) c.in_ok-board.ensures
     ∙ length-held_of opening.columns opening.same_customers.balances.same
     ∙ ap (λ n. 2 * n) opening.same_customers.places
+
+pub returns : goal.returns
+returns g c =
+    let opening = c.in_ok-opening in
+    IfOk-weaker _ _ _
+    (λ measured comes. bank_comes_to _ _ opening.opening.directory opening.opening.columns _ _ _ measured opening.ensures
+    (ap (λ (b : BoardOf Op). b.opening) c.in_ok-board.ensures) refl comes)
+    c.carry_out_on.ensures
