@@ -1,8 +1,8 @@
 -- What a board keeps, at each change of it.
-use Rattle.std.proofs.Common.{◌≡◌, ℕ, suc, ◌+◌, ◌-◌, ◌<◌, ◌≤◌, ℤ, true, false, Some, List, [], ◌∷◌, ◌++◌, length, length-append, get_or, refl, ap, subst, ◌∙◌, arith}
+use Rattle.std.proofs.Common.{◌≡◌, ℕ, suc, ◌+◌, ◌-◌, ◌<◌, ◌≤◌, ℤ, true, false, Option, Some, List, [], ◌∷◌, ◌++◌, length, length-append, get_or, refl, ap, subst, ◌∙◌, arith}
 use Rattle.std.specs.Prelude.{◌==◌, if◌then◌else◌, All, count_by, slice_get, slice_set, remove}
 use Rattle.std.proofs.lemmas.Bool.{and_parts}
-use Rattle.std.proofs.lemmas.Option.{slice_get_within}
+use Rattle.std.proofs.lemmas.Option.{slice_get_within, IfSome_then}
 use Rattle.sb_rows.specs.Balances.{Balances}
 use Rattle.sb_calls.specs.Cowns.{AreBelow, IsRising, held_of, write_cowns}
 use Rattle.sb_calls.specs.OneByOne.{is_among, inputs_of, held_after_first, reply_of}
@@ -12,6 +12,7 @@ use Rattle.cown_queue.specs.Queues.{Appends, Releases, fronts_of, list_of}
 use Rattle.cown_board.proofs.Behind.{counts_submitted, counts_taken, counts_finished, fronts_counted, fronts_wait}
 use Rattle.cown_board.proofs.CownLists.{below_among}
 use Rattle.cown_board.proofs.Counts.{count-append, count-set, count_some, few_places}
+use Rattle.cown_board.proofs.Cuts.{cut_submitted, cut_taken, any_cut_finished}
 use Rattle.cown_board.proofs.Finishing.{keeps_finished, clear_of_out}
 use Rattle.cown_board.proofs.Queued.{first_queued, queues_submitted, queues_taken, queues_finished}
 use Rattle.cown_board.proofs.States.{state_here, waiting_is_open}
@@ -20,9 +21,11 @@ use Rattle.cown_board.proofs.Taking.{keeps_taken}
 use Rattle.cown_board.specs.Due.{AreDue, is_due, times}
 use Rattle.cown_board.specs.Fronts.{is_held}
 use Rattle.cown_board.specs.Invariant.{BoardInside, IsBoard, QueuesAre, open_at, touches_at, waiting_at}
+use Rattle.cown_board.specs.Noted.{AreNoted}
 use Rattle.cown_board.specs.Readiness.{conflict_at, touched_by}
 use Rattle.cown_board.specs.State.{is_open}
 use Rattle.cown_board.specs.declared.board.TheConstants.{OPEN_BEHAVIOURS}
+use Rattle.cown_board.specs.declared.cut.Cut.{Cut}
 use Rattle.cown_board.specs.declared.state.State.{State}
 use Rattle.cown_board.specs.declared.state.State.TheVariants.{Waiting, Out, Finished}
 
@@ -54,6 +57,7 @@ module _ {B : Type 0} (touches : B → List ℕ) (effect : B → List ℤ → Re
         unfinished = let count = count-append inside.states Waiting in omega (arith, count, board.unfinished);
         few_open = omega (arith, few);
         few_numbers = omega (arith, more, longer, board.based);
+        cut = IfSome_then inside.cut board.cut (cut_submitted touches effect (held_of inside.opening) inside.base inside.log inside.states b same);
       }
 
   pub IsBoard-taken : (index k : ℕ) → slice_get inside.ready index ≡ Some k → slice_get inside.states k ≡ Some Waiting
@@ -68,6 +72,7 @@ module _ {B : Type 0} (touches : B → List ℕ) (effect : B → List ℤ → Re
     unfinished = let count = count-set inside.states k Waiting Out here in omega (arith, count, board.unfinished);
     few_open = board.few_open;
     few_numbers = board.few_numbers;
+    cut = IfSome_then inside.cut board.cut (cut_taken touches effect (held_of inside.opening) inside.base inside.log inside.states k here clear);
   }
 
   module _ (k : ℕ) (b : B) (new : List (List ℕ)) (here : slice_get inside.log k ≡ Some b) (out : slice_get inside.states k ≡ Some Out)
@@ -110,6 +115,7 @@ module _ {B : Type 0} (touches : B → List ℕ) (effect : B → List ℤ → Re
         → ((j : ℕ) → get_or behind j 0 + times j (fronts_of new (touches b)) ≡ get_or inside.behind j 0)
         → AreDue (waiting_at inside.states) behind (length inside.log) ready
         → inside.room ≤ room
+        → (cut : Option Cut) → AreNoted (suc (inside.base + k)) (touches b) outputs inside.cut cut
         → IsBoard touches effect (record inside {
           now = after;
           states = slice_set inside.states k (Finished reply);
@@ -118,8 +124,9 @@ module _ {B : Type 0} (touches : B → List ℕ) (effect : B → List ℤ → Re
           ready = ready;
           room = room;
           unfinished = inside.unfinished - 1;
+          cut = cut;
         })
-    IsBoard-finished reply outputs after behind ready room long replied left written same fewer due wide =
+    IsBoard-finished reply outputs after behind ready room long replied left written same fewer due wide cut noted =
         let some = count_some inside.states k Out out refl in
         record {
           based = board.based;
@@ -132,6 +139,8 @@ module _ {B : Type 0} (touches : B → List ℕ) (effect : B → List ℤ → Re
           unfinished = let count = count-set inside.states k Out (Finished reply) out in omega (arith, count, some, board.unfinished);
           few_open = omega (arith, board.few_open);
           few_numbers = board.few_numbers;
+          cut = any_cut_finished touches effect (held_of inside.opening) inside.base inside.log inside.states k b here out reply outputs
+              long replied left inside.cut cut noted board.cut;
         }
 
   -- the same, of lists that were changed in place

@@ -1,37 +1,35 @@
 -- What comes back and is accepted.
-use Rattle.std.proofs.Common.{◌≡◌, ◌≢◌, ℕ, suc, ◌+◌, ◌-◌, ◌<◌, ◌≤◌, ℤ, pos, Bool, true, false, Some, List, length, get_or, refl, sym, ap, subst, ◌∙◌, arith}
-use Rattle.std.specs.Prelude.{All, slice_get, slice_set, option_map}
+use Rattle.std.proofs.Common.{◌≡◌, ◌≢◌, ℕ, suc, ◌+◌, ◌-◌, ◌<◌, ◌≤◌, ℤ, Bool, true, false, Option, Some, List, length, get_or, take, refl, sym, ap, subst, ◌∙◌, arith}
+use Rattle.std.specs.Prelude.{All, IfSome, count_by, slice_get, slice_set, option_map}
 use Rattle.std.proofs.lemmas.Bool.{false≢true}
-use Rattle.std.proofs.lemmas.List.{ext_get_or, take_all}
-use Rattle.std.proofs.lemmas.Option.{slice_get_within}
+use Rattle.std.proofs.lemmas.Option.{slice_get_within, IfSome_then}
 use Rattle.sb_rows.specs.Balances.{Balances}
-use Rattle.sb_calls.specs.Cowns.{AreHeld, IsRising, held_of, read_cowns, write_cowns}
+use Rattle.sb_calls.specs.Cowns.{AreBelow, AreHeld, IsRising, held_of, read_cowns, write_cowns}
 use Rattle.sb_calls.specs.OneByOne.{is_among, inputs_of, held_after, held_after_first, reply_of}
 use Rattle.sb_calls.specs.declared.reply.Reply.{Reply}
 use Rattle.cown_queue.specs.Queues.{IsInFront, Releases, fronts_of}
+use Rattle.cown_board.proofs.AllFinished.{keeps_all}
 use Rattle.cown_board.proofs.Changes.{IsBoard-finished, few_ready, fronts_all_wait, fronts_were_behind}
-use Rattle.cown_board.proofs.Counts.{count_some, all_finished}
+use Rattle.cown_board.proofs.Counts.{count_some}
+use Rattle.cown_board.proofs.Cuts.{noted_number, some_of_cut}
 use Rattle.cown_board.proofs.Finishing.{clear_of_out}
 use Rattle.sb_calls.proofs.HeldLaws.{length-AreHeld}
-use Rattle.cown_board.proofs.Inputs.{holds_inputs, touched_within}
-use Rattle.cown_board.proofs.LogLaws.{length-after}
+use Rattle.cown_board.proofs.Inputs.{holds_inputs}
 use Rattle.cown_board.proofs.Queued.{fronts_from_clear, in_front_from}
 use Rattle.cown_board.proofs.States.{state_here}
-use Rattle.cown_board.proofs.TakenJob.{inputs_held}
-use Rattle.cown_board.specs.Board.{BoardOf, IsOutAt, IsOutHere, Finishes}
+use Rattle.cown_board.proofs.TakenJob.{seen, inputs_held, declared_below}
+use Rattle.cown_board.specs.Board.{IsOutAt, IsOutHere, Finishes, AreCut}
 use Rattle.cown_board.specs.Due.{AreDue, times}
-use Rattle.cown_board.specs.Invariant.{BoardInside, IsBoard, open_at, waiting_at}
+use Rattle.cown_board.specs.Invariant.{BoardInside, IsBoard, IsCut, waiting_at}
 use Rattle.cown_board.specs.Job.{DoneOf}
+use Rattle.cown_board.specs.Noted.{AreNoted}
 use Rattle.cown_board.specs.Readiness.{touched_by}
 use Rattle.cown_board.specs.State.{is_open}
+use Rattle.cown_board.specs.declared.cut.Cut.{Cut}
 use Rattle.cown_board.specs.declared.state.State.TheVariants.{Out, Finished}
 
 module _ {B : Type 0} (touches : B → List ℕ) (effect : B → List ℤ → Reply × List ℤ)
     {inside : BoardInside B} (board : IsBoard touches effect inside) where
-  -- what callers see of the board
-  abbrev pub seen : BoardOf B
-  seen = record { opening = inside.opening; earlier = inside.earlier; log = inside.log; states = inside.states }
-
   -- the cowns of one that is out hold what it was handed out with
   out_inputs : (k : ℕ) (b : B) → slice_get inside.log k ≡ Some b → slice_get inside.states k ≡ Some Out
       → read_cowns (held_of inside.now) (touches b) ≡ inputs_of touches effect (held_after_first touches effect (held_of inside.opening) inside.log k) b
@@ -44,7 +42,8 @@ module _ {B : Type 0} (touches : B → List ℕ) (effect : B → List ℤ → Re
   IsOutInside k done = (slice_get inside.states k ≡ Some Out) × (slice_get inside.log k ≡ Some done.behaviour) ×
       (done.inputs ≡ read_cowns (held_of inside.now) (touches done.behaviour))
 
-  pub out_from : (k : ℕ) (done : DoneOf B) → done.number ≡ suc (inside.base + k) → IsOutInside k done → IsOutAt touches effect seen done k
+  pub out_from : (k : ℕ) (done : DoneOf B) → done.number ≡ suc (inside.base + k) → IsOutInside k done
+      → IsOutAt touches effect (seen touches effect board) done k
   out_from k done numbered tested = record {
     number = omega (arith, numbered, board.based);
     out = tested.0;
@@ -52,7 +51,7 @@ module _ {B : Type 0} (touches : B → List ℕ) (effect : B → List ℤ → Re
     inputs = tested.2 ∙ out_inputs k done.behaviour tested.1 tested.0;
   }
 
-  pub out_to : (k : ℕ) (done : DoneOf B) → IsOutAt touches effect seen done k
+  pub out_to : (k : ℕ) (done : DoneOf B) → IsOutAt touches effect (seen touches effect board) done k
       → (done.number ≡ suc (inside.base + k)) × (k < length inside.log) × IsOutInside k done
   out_to k done out = (
     omega (arith, out.number, board.based),
@@ -61,10 +60,12 @@ module _ {B : Type 0} (touches : B → List ℕ) (effect : B → List ℤ → Re
   )
 
   -- a number that is none of the log's, or isn't out, is refused
-  pub not_numbered : (done : DoneOf B) → ((k : ℕ) → k < length inside.log → done.number ≢ suc (inside.base + k)) → ¬ IsOutHere touches effect seen done
+  pub not_numbered : (done : DoneOf B) → ((k : ℕ) → k < length inside.log → done.number ≢ suc (inside.base + k))
+      → ¬ IsOutHere touches effect (seen touches effect board) done
   not_numbered done none out = let found = out_to out.0 done out.1 in none out.0 found.1 found.0
 
-  pub not_inside : (k : ℕ) (done : DoneOf B) → done.number ≡ suc (inside.base + k) → ¬ IsOutInside k done → ¬ IsOutHere touches effect seen done
+  pub not_inside : (k : ℕ) (done : DoneOf B) → done.number ≡ suc (inside.base + k) → ¬ IsOutInside k done
+      → ¬ IsOutHere touches effect (seen touches effect board) done
   not_inside k done numbered not out =
       let found = out_to out.0 done out.1 in
       let same : out.0 ≡ k = omega (arith, numbered, found.0) in
@@ -104,6 +105,7 @@ module _ {B : Type 0} (touches : B → List ℕ) (effect : B → List ℤ → Re
         → ((waits : ℕ → Bool) (bound : ℕ) → All (λ place. (place < bound) × (waits place ≡ true)) (fronts_of new (touches done.behaviour))
         → AreDue waits inside.behind bound inside.ready → AreDue waits behind bound ready)
         → inside.room ≤ room
+        → (cut : Option Cut) → AreNoted done.number (touches done.behaviour) outputs inside.cut cut
         → IsBoard touches effect (record inside {
           now = after;
           states = slice_set inside.states k (Finished reply);
@@ -112,15 +114,25 @@ module _ {B : Type 0} (touches : B → List ℕ) (effect : B → List ℤ → Re
           ready = ready;
           room = room;
           unfinished = inside.unfinished - 1;
+          cut = cut;
         })
-    board_finished keeps rising reply outputs after new behind ready room replied left written released same fewer due wide =
+    board_finished keeps rising reply outputs after new behind ready room replied left written released same fewer due wide cut noted =
         IsBoard-finished touches effect board k done.behaviour new tested.1 tested.0 rising released reply outputs after behind ready room
         (length-AreHeld (touches done.behaviour) outputs (outputs_held keeps outputs left))
         (replied ∙ ap (λ i. (effect done.behaviour i).0) inputs_are)
         (left ∙ ap (λ i. (effect done.behaviour i).1) inputs_are) written same fewer
         (due (waiting_at inside.states) (length inside.log)
         (fronts_all_wait touches effect board k done.behaviour new tested.1 tested.0 rising released reply) board.counts.listed)
-        wide
+        wide cut (subst (λ n. AreNoted n (touches done.behaviour) outputs inside.cut cut) numbered noted)
+
+    -- its cowns are those of a cut's columns, and of a cut that has it one at least is unfinished
+    pub cowns_of_cut : IfSome inside.cut (λ cut. AreBelow (length (held_of cut.columns)) (touches done.behaviour))
+    cowns_of_cut = IfSome_then inside.cut board.cut (λ cut kept. rw kept.keeps.cowns_stay (declared_below touches effect board k done.behaviour tested.1))
+
+    pub unfinished_in_cut : IfSome inside.cut (λ cut. done.number ≤ cut.number → 1 ≤ cut.unfinished)
+    unfinished_in_cut = IfSome_then inside.cut board.cut (λ cut kept le.
+        some_of_cut touches effect (held_of inside.opening) inside.base inside.log inside.states k done.behaviour tested.1 tested.0 cut kept
+        (omega (arith, numbered, le)))
 
     -- what comes to the front was behind there, and there is room for it
     pub fronts_behind : ((b : B) → IsRising (touches b)) → Reply → (new : List (List ℕ)) (fronts : List ℕ) → Releases (touches done.behaviour) inside.lists new
@@ -135,31 +147,39 @@ module _ {B : Type 0} (touches : B → List ℕ) (effect : B → List ℤ → Re
         omega (arith, few, wide)
 
     pub finishes_from : (reply : Reply) → reply ≡ (effect done.behaviour done.inputs).0
-        → Finishes touches effect seen done reply
-        (record { opening = inside.opening; earlier = inside.earlier; log = inside.log; states = slice_set inside.states k (Finished reply) })
-    finishes_from reply replied = record {
+        → (number : ℕ) (cowns : List ℕ) (values : List ℤ) (cut : Option Cut) → AreNoted number cowns values inside.cut cut
+        → Finishes touches effect (seen touches effect board) done reply
+        (record (seen touches effect board) { states = slice_set inside.states k (Finished reply); cut = option_map (λ c. c.number) cut })
+    finishes_from reply replied number cowns values cut noted = record {
       place = k;
       here = out_from k done numbered tested;
       by_log = ap (option_map (reply_of touches effect (held_after_first touches effect (held_of inside.opening) inside.log k))) tested.1
           ∙ ap (λ r. Some r) (ap (λ i. (effect done.behaviour i).0) (sym inputs_are) ∙ sym replied);
-      finished = refl;
+      finished = ap (λ length. record (seen touches effect board) { states = slice_set inside.states k (Finished reply); cut = length })
+          (noted_number number cowns values inside.cut cut noted);
     }
 
   -- the columns after all of the log
   pub after_all : inside.unfinished ≡ 0 → held_of inside.now ≡ held_after touches effect (held_of inside.opening) inside.log
-  after_all idle =
-      let none : (j : ℕ) → open_at inside.states j ≡ false = λ j. all_finished inside.states j (sym board.unfinished ∙ idle) in
-      ext_get_or (pos 0) (held_of inside.now) (held_after touches effect (held_of inside.opening) inside.log)
-      (board.keeps.cowns_stay ∙ sym (length-after touches effect (held_of inside.opening) inside.log))
-      (λ cown lt. board.keeps.settled cown (length inside.log) (omega arith) (record {
-        before = λ j _ _. none j;
-        after = λ j ge among. absurd (let within = touched_within touches effect inside.log cown j among in omega (arith, within, ge));
-      }) ∙ ap (λ l. get_or (held_after touches effect (held_of inside.opening) l) cown (pos 0)) (take_all (length inside.log) inside.log (omega arith)))
+  after_all idle = keeps_all touches effect board.keeps (sym board.unfinished ∙ idle)
 
-  pub refused_done : (done : DoneOf B) → ¬ IsOutHere touches effect seen done
-      → (false ≡ true → IsOutHere touches effect seen done) × (IsOutHere touches effect seen done → false ≡ true)
+  -- and those of a cut, after the numbers up to its length
+  pub cut_settled : (cut : Cut) → inside.cut ≡ Some cut → cut.unfinished ≡ 0 → AreCut touches effect (seen touches effect board) (Some cut.columns)
+  cut_settled cut here idle =
+      let kept : IsCut touches effect (held_of inside.opening) inside.base inside.log inside.states cut =
+      subst (λ o. IfSome o (IsCut touches effect (held_of inside.opening) inside.base inside.log inside.states)) here board.cut in
+      let none : count_by is_open (take (cut.number - inside.base) inside.states) ≡ 0 = sym kept.unfinished ∙ idle in
+      let at : cut.number - length inside.earlier ≡ cut.number - inside.base = ap (λ n. cut.number - n) board.based in (
+        cut.number,
+        ap (option_map (λ c. c.number)) here,
+        ap (λ n. count_by is_open (take n inside.states)) at ∙ none,
+        keeps_all touches effect kept.keeps none ∙ ap (held_after_first touches effect (held_of inside.opening) inside.log) (sym at),
+      )
+
+  pub refused_done : (done : DoneOf B) → ¬ IsOutHere touches effect (seen touches effect board) done
+      → (false ≡ true → IsOutHere touches effect (seen touches effect board) done) × (IsOutHere touches effect (seen touches effect board) done → false ≡ true)
   refused_done done not = (λ h. absurd (false≢true h), λ out. absurd (not out))
 
   pub accepted_done : (k : ℕ) (done : DoneOf B) → done.number ≡ suc (inside.base + k) → IsOutInside k done
-      → (true ≡ true → IsOutHere touches effect seen done) × (IsOutHere touches effect seen done → true ≡ true)
+      → (true ≡ true → IsOutHere touches effect (seen touches effect board) done) × (IsOutHere touches effect (seen touches effect board) done → true ≡ true)
   accepted_done k done numbered tested = (λ h. (k, out_from k done numbered tested), λ out. refl)

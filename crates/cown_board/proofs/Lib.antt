@@ -1,8 +1,10 @@
+mod AllFinished
 mod Behind
 mod Changes
 pub mod Counts
 mod CownCounts
 mod CownLists
+pub mod Cuts
 mod FinishedJob
 mod Finishing
 mod FrontLaws

@@ -1,5 +1,5 @@
 -- A board as it is opened.
-use Rattle.std.proofs.Common.{◌≡◌, ℕ, ◌*◌, ◌≤◌, ℤ, pos, List, [], length, get_or, replicate, refl, sym, ap, ◌∙◌, arith}
+use Rattle.std.proofs.Common.{◌≡◌, ℕ, ◌*◌, ◌≤◌, ℤ, pos, None, List, [], length, get_or, replicate, refl, sym, ap, ◌∙◌, arith}
 use Rattle.std.proofs.lemmas.Bool.{true≢false}
 use Rattle.std.proofs.lemmas.List.{get_or-replicate, length-replicate}
 use Rattle.sb_rows.specs.Balances.{Balances, IsBalances}
@@ -29,6 +29,7 @@ module _ {B : Type 0} (touches : B → List ℕ) (effect : B → List ℤ → Re
         ready = [];
         room = room;
         unfinished = 0;
+        cut = None;
       })
   IsBoard-opened opening now base earlier lists room valid same based few empty =
       let two = length-held_of opening valid.same in
@@ -55,4 +56,5 @@ module _ {B : Type 0} (touches : B → List ℕ) (effect : B → List ℤ → Re
         unfinished = refl;
         few_open = omega arith;
         few_numbers = omega (arith, based, few);
+        cut = tt;
       }

@@ -1,16 +1,17 @@
 -- Each call of a board, as a call that is played.
-use Rattle.std.proofs.Common.{◌≡◌, ◌≢◌, ℕ, ◌+◌, ◌≤◌, ℤ, Some, None, Ok, Err, List, [], ◌∷◌, ◌++◌, length, refl, sym, ◌∙◌, arith}
+use Rattle.std.proofs.Common.{◌≡◌, ◌≢◌, ℕ, ◌+◌, ◌≤◌, ℤ, Some, None, Ok, Err, List, [], ◌∷◌, ◌++◌, length, refl, sym, ap, ◌∙◌, arith}
 use Rattle.sb_calls.specs.declared.call.TheConstants.{LOG_CALLS}
 use Rattle.sb_calls.specs.declared.reply.Reply.{Reply}
-use Rattle.cown_board.proofs.FinishedJob.{seen}
 use Rattle.cown_board.proofs.PlayedLaws.{played_by}
-use Rattle.cown_board.specs.Board.{BoardOf, IsOutHere, Takes, Finishes}
+use Rattle.cown_board.proofs.TakenJob.{seen}
+use Rattle.cown_board.specs.Board.{BoardOf, length_of, IsOutHere, Takes, Finishes}
 use Rattle.cown_board.specs.Invariant.{BoardInside, IsBoard}
 use Rattle.cown_board.specs.Job.{JobOf, DoneOf}
-use Rattle.cown_board.specs.Played.{Submitted, TakenAt, Returned, StaysTrueToLog}
+use Rattle.cown_board.specs.Played.{Submitted, TakenAt, Returned, CutMade, CutDropped, StaysTrueToLog}
 use Rattle.cown_board.specs.Readiness.{ready_places}
 use Rattle.cown_board.specs.declared.board.SubmitFault.TheVariants.{Busy, LogFull, OutOfMemory}
 use Rattle.cown_board.specs.declared.board.TheConstants.{OPEN_BEHAVIOURS}
+use Rattle.cown_board.specs.declared.cut.CutFault.TheVariants.{Pending, OutOfMemory as NoMemory}
 use Rattle.cown_board.specs.declared.state.State.TheVariants.{Waiting}
 
 module _ {B : Type 0} (touches : B → List ℕ) (effect : B → List ℤ → Reply × List ℤ) where
@@ -29,6 +30,20 @@ module _ {B : Type 0} (touches : B → List ℕ) (effect : B → List ℤ → Re
   pub played_refused : (old : BoardOf B) (done : DoneOf B) → ¬ IsOutHere touches effect old done
       → StaysTrueToLog touches effect old (Returned done (Err done)) old
   played_refused old done not = played_by touches effect old old (Returned done (Err done)) (not, refl, refl)
+
+  pub played_cut : (old : BoardOf B) (number : ℕ) → old.cut ≡ None → number ≡ length_of old
+      → StaysTrueToLog touches effect old (CutMade (Ok number)) (record old { cut = Some number })
+  played_cut old number none is =
+      played_by touches effect old (record old { cut = Some number }) (CutMade (Ok number)) (none, is, ap (λ n. record old { cut = Some n }) is)
+
+  pub played_pending : (old : BoardOf B) (number : ℕ) → old.cut ≡ Some number → StaysTrueToLog touches effect old (CutMade (Err (Pending number))) old
+  played_pending old number there = played_by touches effect old old (CutMade (Err (Pending number))) (there, refl)
+
+  pub played_uncopied : (old : BoardOf B) → old.cut ≡ None → StaysTrueToLog touches effect old (CutMade (Err NoMemory)) old
+  played_uncopied old none = played_by touches effect old old (CutMade (Err NoMemory)) (none, refl)
+
+  pub played_dropped : (old : BoardOf B) → StaysTrueToLog touches effect old CutDropped (record old { cut = None })
+  played_dropped old = played_by touches effect old (record old { cut = None }) CutDropped refl
 
   module _ {inside : BoardInside B} (board : IsBoard touches effect inside) where
     pub played_busy : (behaviour : B) → inside.unfinished ≡ OPEN_BEHAVIOURS
@@ -51,9 +66,9 @@ module _ {B : Type 0} (touches : B → List ℕ) (effect : B → List ℤ → Re
     pub played_put : (behaviour : B) (number : ℕ) → inside.unfinished ≢ OPEN_BEHAVIOURS → inside.base + length inside.log ≢ LOG_CALLS
         → number ≡ inside.base + length inside.log + 1
         → StaysTrueToLog touches effect (seen touches effect board) (Submitted behaviour (Ok number))
-        (record { opening = inside.opening; earlier = inside.earlier; log = inside.log ++ behaviour ∷ []; states = inside.states ++ Waiting ∷ [] })
+        (record (seen touches effect board) { log = inside.log ++ behaviour ∷ []; states = inside.states ++ Waiting ∷ [] })
     played_put behaviour number some room is =
         played_by touches effect (seen touches effect board)
-        (record { opening = inside.opening; earlier = inside.earlier; log = inside.log ++ behaviour ∷ []; states = inside.states ++ Waiting ∷ [] })
+        (record (seen touches effect board) { log = inside.log ++ behaviour ∷ []; states = inside.states ++ Waiting ∷ [] })
         (Submitted behaviour (Ok number))
         (λ busy. some (board.unfinished ∙ busy), λ full. room (omega (arith, full, board.based)), omega (arith, is, board.based), refl)

@@ -1,5 +1,5 @@
 -- A board over many calls.
-use Rattle.std.proofs.Common.{◌≡◌, ◌⊎◌, inl, inr, ℕ, suc, ◌+◌, ◌<◌, ℤ, true, false, ◌&&◌, Option, Some, None, Ok, Err, List, [], ◌∷◌, ◌++◌, length, length-append, refl, sym, ap, subst, ◌∙◌, arith}
+use Rattle.std.proofs.Common.{◌≡◌, ◌⊎◌, inl, inr, ℕ, suc, ◌+◌, ◌<◌, ◌≤◌, ℤ, true, false, ◌&&◌, Option, Some, None, Ok, Err, List, [], ◌∷◌, ◌++◌, length, length-append, refl, sym, ap, subst, ◌∙◌, arith}
 use Rattle.std.specs.Prelude.{slice_get, slice_set, option_map}
 use Rattle.std.proofs.lemmas.Bool.{cases_eq, cases_lt, and_from, true≢false, false_from_ne_true, and_parts}
 use Rattle.std.proofs.lemmas.List.{length-set, append_assoc}
@@ -14,12 +14,13 @@ use Rattle.cown_board.proofs.States.{slice_get-set_same, slice_get-set_other}
 use Rattle.cown_board.proofs.Submitting.{not_waiting}
 use Rattle.cown_board.proofs.Taking.{not_out}
 use Rattle.cown_board.proofs.Finishing.{same_reply}
-use Rattle.cown_board.specs.Board.{BoardOf}
+use Rattle.cown_board.specs.Board.{BoardOf, length_of}
 use Rattle.cown_board.specs.Invariant.{open_at, waiting_at}
-use Rattle.cown_board.specs.Played.{BoardCall, Submitted, TakenAt, Returned, Makes, Plays, StaysTrueToLog, BoardLaw, opened_with, put_by, put_by_all}
+use Rattle.cown_board.specs.Played.{BoardCall, Submitted, TakenAt, Returned, CutMade, CutDropped, Makes, Plays, StaysTrueToLog, BoardLaw, opened_with, put_by, put_by_all}
 use Rattle.cown_board.specs.Readiness.{conflict_at, is_clear_at, is_ready_at}
 use Rattle.cown_board.specs.State.{is_open, is_waiting, state_is}
 use Rattle.cown_board.specs.declared.board.SubmitFault.TheVariants.{Busy, LogFull, OutOfMemory}
+use Rattle.cown_board.specs.declared.cut.CutFault.TheVariants.{Pending, OutOfMemory as NoMemory}
 use Rattle.cown_board.specs.declared.state.State.{State}
 use Rattle.cown_board.specs.declared.state.State.TheVariants.{Waiting, Out, Finished}
 
@@ -39,6 +40,7 @@ module _ {B : Type 0} (touches : B → List ℕ) (effect : B → List ℤ → Re
     pub beside : length board.log ≡ length board.states
     pub replies : (k : ℕ) (reply : Reply) → slice_get board.states k ≡ Some (Finished reply)
         → reply_by_log touches effect (held_of columns) board.log (suc k) ≡ Some reply
+    pub cut : (number : ℕ) → board.cut ≡ Some number → (length earlier ≤ number) × (number ≤ length_of board)
 
   least_of : (board : BoardOf B) (k : ℕ) → open_at board.states k ≡ true → ((j : ℕ) → j < k → open_at board.states j ≡ false)
       → (is_ready_at touches board.log board.states k ≡ true) ⊎ (slice_get board.states k ≡ Some Out)
@@ -69,6 +71,10 @@ module _ {B : Type 0} (touches : B → List ℕ) (effect : B → List ℤ → Re
               ∙ good.replies k reply (sym (slice_get-left old.states (Waiting ∷ []) k before) ∙ finished)
           | inr last ↦ absurd (not_waiting (injective (sym (slice_get-right old.states (Waiting ∷ []) k 0 (omega (arith, lt, more, last))) ∙ finished)))
         ];
+    cut = λ number here.
+        let before = good.cut number here in
+        let more : length (old.log ++ b ∷ []) ≡ length old.log + 1 = length-append old.log (b ∷ []) in
+        (before.0, omega (arith, before.1, more));
   }
 
   good_set : (columns : Balances) (earlier : List Reply) (log : List B) (old : BoardOf B) (k : ℕ) (s : State) → IsGood columns earlier log old
@@ -86,6 +92,19 @@ module _ {B : Type 0} (touches : B → List ℕ) (effect : B → List ℤ → Re
           ∙ told reply (injective (sym (slice_get-set_same old.states k s lt) ∙ ap (slice_get (slice_set old.states k s)) (sym same) ∙ finished))
       | inr differs ↦ good.replies j reply (sym (slice_get-set_other old.states k j s differs) ∙ finished)
     ];
+    cut = good.cut;
+  }
+
+  good_cut : (columns : Balances) (earlier : List Reply) (log : List B) (old : BoardOf B) (cut : Option ℕ) → IsGood columns earlier log old
+      → ((number : ℕ) → cut ≡ Some number → (length earlier ≤ number) × (number ≤ length_of old))
+      → IsGood columns earlier (log ++ []) (record old { cut = cut })
+  good_cut columns earlier log old cut good within = record {
+    opening = good.opening;
+    before = good.before;
+    log = good.log ∙ sym (append_nothing log);
+    beside = good.beside;
+    replies = good.replies;
+    cut = within;
   }
 
   unchanged : (columns : Balances) (earlier : List Reply) (log : List B) (old new : BoardOf B) → new ≡ old → IsGood columns earlier log old
@@ -114,6 +133,13 @@ module _ {B : Type 0} (touches : B → List ℕ) (effect : B → List ℤ → Re
       ap (λ opening. reply_by_log touches effect (held_of opening) old.log (suc made.place)) (sym good.opening) ∙ made.by_log
       ∙ ap (λ x. Some x) (same_reply (ap (λ s. Some s) is)))))
   good_call columns earlier log old new (Returned done (Err back)) made good = unchanged columns earlier log old new made.2 good
+  good_call columns earlier log old new (CutMade (Ok number)) made good =
+      subst (IsGood columns earlier (log ++ [])) (sym made.2) (good_cut columns earlier log old (Some (length_of old)) good
+      (λ n is. let last = injective is in (omega (arith, last, ap length good.before), omega (arith, last))))
+  good_call columns earlier log old new (CutMade (Err (Pending number))) made good = unchanged columns earlier log old new made.1 good
+  good_call columns earlier log old new (CutMade (Err NoMemory)) made good = unchanged columns earlier log old new made.1 good
+  good_call columns earlier log old new CutDropped made good =
+      subst (IsGood columns earlier (log ++ [])) (sym made) (good_cut columns earlier log old None good (λ n is. absurd (no_some is)))
 
   good_calls : (columns : Balances) (earlier : List Reply) (log : List B) (old new : BoardOf B) (calls : List (BoardCall B))
       → Plays touches effect old calls new
@@ -125,14 +151,22 @@ module _ {B : Type 0} (touches : B → List ℕ) (effect : B → List ℤ → Re
 
   pub board_law : BoardLaw touches effect
   board_law columns earlier calls board played =
-      let good = good_calls columns earlier [] (record { opening = columns; earlier = earlier; log = []; states = [] }) board calls played
-      (record { opening = refl; before = refl; log = refl; beside = refl; replies = λ k reply finished. absurd (no_some finished) }) in
+      let good = good_calls columns earlier [] (opened_with columns earlier) board calls played
+      (record {
+        opening = refl;
+        before = refl;
+        log = refl;
+        beside = refl;
+        replies = λ k reply finished. absurd (no_some finished);
+        cut = λ number here. absurd (no_some here);
+      }) in
       record {
         opening = good.opening;
         before = good.before;
         log = good.log;
         replies = good.replies;
         least = least_of board;
+        cut = good.cut;
       }
 
   -- these calls, and one more

@@ -1,6 +1,6 @@
 -- The job that is handed out.
 use Rattle.std.proofs.Common.{◌≡◌, inl, inr, ℕ, ◌+◌, ◌<◌, ◌≤◌, ℤ, true, false, ◌&&◌, Option, Some, None, List, length, get_or, take, refl, sym, ap, subst, ◌∙◌, arith}
-use Rattle.std.specs.Prelude.{◌==◌, slice_get, slice_set, remove}
+use Rattle.std.specs.Prelude.{◌==◌, slice_get, slice_set, remove, option_map}
 use Rattle.std.proofs.lemmas.Bool.{cases_Bool, eqb-true, eq-eqb, and_parts, and_from, and_left, true≢false, both_ways, false_from_ne_true}
 use Rattle.sb_calls.specs.Cowns.{AreBelow, AreHeld, held_of, read_cowns}
 use Rattle.sb_calls.specs.OneByOne.{is_among, inputs_of, held_after_first}
@@ -14,7 +14,7 @@ use Rattle.cown_board.proofs.LogLaws.{AllHeld-after_first, length-after, some_at
 use Rattle.cown_board.proofs.PlacesLaws.{places-agree, place_is, none_below_at, none_below_from}
 use Rattle.cown_board.proofs.Queued.{fronts_from_clear, clear_from_fronts}
 use Rattle.cown_board.proofs.States.{waiting_is_open}
-use Rattle.cown_board.specs.Board.{Takes}
+use Rattle.cown_board.specs.Board.{BoardOf, Takes}
 use Rattle.cown_board.specs.Due.{is_due}
 use Rattle.cown_board.specs.Fronts.{behind_at, behind_of}
 use Rattle.cown_board.specs.Invariant.{BoardInside, IsBoard, open_at, waiting_at}
@@ -32,6 +32,16 @@ is_that (Some (Finished reply)) h = absurd (true≢false (sym h))
 
 module _ {B : Type 0} (touches : B → List ℕ) (effect : B → List ℤ → Reply × List ℤ)
     {inside : BoardInside B} (board : IsBoard touches effect inside) where
+  -- what callers see of the board
+  abbrev pub seen : BoardOf B
+  seen = record {
+    opening = inside.opening;
+    earlier = inside.earlier;
+    log = inside.log;
+    states = inside.states;
+    cut = option_map (λ cut. cut.number) inside.cut;
+  }
+
   -- the cowns of each behaviour are cowns
   pub declared_below : (k : ℕ) (b : B) → slice_get inside.log k ≡ Some b → AreBelow (length (held_of inside.opening)) (touches b)
   declared_below k b here = below_from (length (held_of inside.opening)) (touches b) (λ cown among.
@@ -136,9 +146,8 @@ module _ {B : Type 0} (touches : B → List ℕ) (effect : B → List ℤ → Re
 
   pub takes_from : (index k : ℕ) (b : B) (inputs : List ℤ) → slice_get (ready_places touches inside.log inside.states) index ≡ Some k
       → slice_get inside.log k ≡ Some b → inputs ≡ read_cowns (held_of inside.now) (touches b)
-      → Takes touches effect (record { opening = inside.opening; earlier = inside.earlier; log = inside.log; states = inside.states }) index
-      (record { number = inside.base + k + 1; behaviour = b; inputs = inputs })
-      (record { opening = inside.opening; earlier = inside.earlier; log = inside.log; states = slice_set inside.states k Out })
+      → Takes touches effect seen index (record { number = inside.base + k + 1; behaviour = b; inputs = inputs })
+      (record seen { states = slice_set inside.states k Out })
   takes_from index k b inputs ready here read = record {
     place = k;
     ready = ready;

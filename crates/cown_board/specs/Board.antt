@@ -1,5 +1,5 @@
 -- A board as its callers see it.
-use Rattle.std.specs.Prelude.{◌≡◌, ℕ, suc, ◌+◌, ◌-◌, ℤ, ◌==◌, nat_le, if◌then◌else◌, Option, Some, None, List, length, count_by, option_and_then, slice_get, slice_set}
+use Rattle.std.specs.Prelude.{◌≡◌, ◌≢◌, ℕ, suc, ◌+◌, ◌-◌, ℤ, ◌==◌, nat_le, if◌then◌else◌, Option, Some, None, List, length, count_by, take, option_and_then, slice_get, slice_set}
 use Rattle.sb_rows.specs.Balances.{Balances}
 use Rattle.sb_calls.specs.Cowns.{held_of}
 use Rattle.sb_calls.specs.OneByOne.{inputs_of, held_after, held_after_first, reply_by_log}
@@ -10,12 +10,14 @@ use Rattle.cown_board.specs.State.{is_open, finished_reply}
 use Rattle.cown_board.specs.declared.state.State.{State}
 use Rattle.cown_board.specs.declared.state.State.TheVariants.{Out, Finished}
 
--- the columns at the opening; the replies to the numbers before it; the behaviours submitted since, and where each is
+-- the columns at the opening; the replies to the numbers before it; the behaviours submitted since, and where each is;
+-- the length of its cut, where it has one
 pub record BoardOf (B : Type 0) : Type 0 where
   pub opening : Balances
   pub earlier : List Reply
   pub log : List B
   pub states : List State
+  pub cut : Option ℕ
 
 -- the greatest number so far
 abbrev pub length_of : {B : Type 0} → BoardOf B → ℕ
@@ -28,6 +30,10 @@ number_at board place = suc (length board.earlier + place)
 -- how many are unfinished
 abbrev pub open_of : {B : Type 0} → BoardOf B → ℕ
 open_of board = count_by is_open board.states
+
+-- how many of those up to a number are unfinished, where the earlier ones are finished
+abbrev pub open_up_to : {B : Type 0} → BoardOf B → ℕ → ℕ
+open_up_to board number = count_by is_open (take (number - length board.earlier) board.states)
 
 -- the reply to a number: one that was handed in, or that of a finished behaviour
 unfoldable pub reply_in : {B : Type 0} → BoardOf B → ℕ → Option Reply
@@ -71,3 +77,16 @@ module _ {B : Type 0} (touches : B → List ℕ) (effect : B → List ℤ → Re
   -- columns that hold what the whole log leaves
   abbrev pub IsAfterAll : BoardOf B → Balances → Type 0
   IsAfterAll board columns = held_of columns ≡ held_after touches effect (held_of board.opening) board.log
+
+  -- columns that hold what the log leaves up to a number
+  abbrev pub IsAfterFirst : BoardOf B → ℕ → Balances → Type 0
+  IsAfterFirst board number columns =
+      let place = number - length board.earlier in
+      held_of columns ≡ held_after_first touches effect (held_of board.opening) board.log place
+
+  -- the columns of a cut: all up to its length are finished, and the columns hold what these leave; where there are no
+  -- columns there is no cut, or something up to its length is unfinished
+  abbrev pub AreCut : BoardOf B → Option Balances → Type 0
+  AreCut board (Some columns) =
+      (number : ℕ) × (board.cut ≡ Some number) × (open_up_to board number ≡ 0) × IsAfterFirst board number columns
+  AreCut board None = (number : ℕ) → board.cut ≡ Some number → open_up_to board number ≢ 0

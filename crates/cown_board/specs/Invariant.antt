@@ -1,5 +1,5 @@
 -- What a board keeps, whatever is submitted, taken and finished.
-use Rattle.std.specs.Prelude.{◌≡◌, ℕ, ◌<◌, ◌≤◌, ◌+◌, ℤ, pos, Bool, true, false, ◌&&◌, Some, List, length, get_or, slice_get, option_map, count_by}
+use Rattle.std.specs.Prelude.{◌≡◌, ℕ, ◌<◌, ◌≤◌, ◌+◌, ◌-◌, ℤ, pos, Bool, true, false, ◌&&◌, Option, Some, IfSome, List, length, get_or, take, slice_get, option_map, count_by}
 use Rattle.sb_rows.specs.Balances.{Balances}
 use Rattle.sb_calls.specs.Cowns.{AllHeld, held_of}
 use Rattle.sb_calls.specs.OneByOne.{is_among, held_after_first, reply_of}
@@ -12,6 +12,7 @@ use Rattle.cown_board.specs.Places.{places}
 use Rattle.cown_board.specs.Readiness.{touched_by, conflict_at}
 use Rattle.cown_board.specs.State.{is_waiting, is_open, state_is}
 use Rattle.cown_board.specs.declared.board.TheConstants.{OPEN_BEHAVIOURS}
+use Rattle.cown_board.specs.declared.cut.Cut.{Cut}
 use Rattle.cown_board.specs.declared.state.State.{State}
 use Rattle.cown_board.specs.declared.state.State.TheVariants.{Finished}
 
@@ -23,7 +24,7 @@ waiting_at states k = state_is is_waiting (slice_get states k)
 
 -- what a board has inside: what its callers see, the columns as they are now, how many numbers there were
 -- before it, the queue of each cown, at how many of its cowns each isn't in front, the places of the ready ones,
--- how many of these their list has room for, and how many are unfinished
+-- how many of these their list has room for, how many are unfinished, and the cut
 pub record BoardInside (B : Type 0) : Type 0 where
   pub opening : Balances
   pub now : Balances
@@ -36,6 +37,7 @@ pub record BoardInside (B : Type 0) : Type 0 where
   pub ready : List ℕ
   pub room : ℕ
   pub unfinished : ℕ
+  pub cut : Option Cut
 
 module _ {B : Type 0} (touches : B → List ℕ) (effect : B → List ℤ → Reply × List ℤ) where
   -- whether the behaviour at a place declares a cown
@@ -79,6 +81,13 @@ module _ {B : Type 0} (touches : B → List ℕ) (effect : B → List ℤ → Re
     pub counted : (k : ℕ) → waiting_at states k ≡ true → get_or behind k 0 ≡ behind_of touches log lists k
     pub listed : AreDue (waiting_at states) behind (length log) ready
 
+  -- a cut keeps what the board would, had it taken no more than the numbers of the cut
+  pub record IsCut (opening : List ℤ) (base : ℕ) (log : List B) (states : List State) (cut : Cut) : Type 0 where
+    pub after : base ≤ cut.number
+    pub within : cut.number ≤ base + length log
+    pub keeps : Keeps opening (take (cut.number - base) log) (take (cut.number - base) states) (held_of cut.columns)
+    pub unfinished : cut.unfinished ≡ count_by is_open (take (cut.number - base) states)
+
   -- all that a board keeps
   pub record IsBoard (inside : BoardInside B) : Type 0 where
     pub based : length inside.earlier ≡ inside.base
@@ -90,3 +99,4 @@ module _ {B : Type 0} (touches : B → List ℕ) (effect : B → List ℤ → Re
     pub unfinished : inside.unfinished ≡ count_by is_open inside.states
     pub few_open : inside.unfinished ≤ OPEN_BEHAVIOURS
     pub few_numbers : length inside.earlier + length inside.log ≤ LOG_CALLS
+    pub cut : IfSome inside.cut (IsCut (held_of inside.opening) inside.base inside.log inside.states)

@@ -12,6 +12,8 @@ use Rattle.cown_board.specs.Readiness.{is_ready_at, ready_places}
 use Rattle.cown_board.specs.declared.board.SubmitFault.{SubmitFault}
 use Rattle.cown_board.specs.declared.board.SubmitFault.TheVariants.{Busy, LogFull, OutOfMemory}
 use Rattle.cown_board.specs.declared.board.TheConstants.{OPEN_BEHAVIOURS}
+use Rattle.cown_board.specs.declared.cut.CutFault.{CutFault}
+use Rattle.cown_board.specs.declared.cut.CutFault.TheVariants.{Pending, OutOfMemory as NoMemory}
 use Rattle.cown_board.specs.declared.state.State.TheVariants.{Waiting, Out, Finished}
 
 -- a call of a board, with its answer
@@ -19,6 +21,8 @@ pub data BoardCall (B : Type 0) : Type 0 where
   Submitted : (behaviour : B) (answer : Result ℕ SubmitFault) → BoardCall B
   TakenAt : (index : ℕ) (answer : Option (JobOf B)) → BoardCall B
   Returned : (done : DoneOf B) (answer : Result Reply (DoneOf B)) → BoardCall B
+  CutMade : (answer : Result ℕ CutFault) → BoardCall B
+  CutDropped : BoardCall B
 
 -- what a call puts into the log
 abbrev pub put_by : {B : Type 0} → BoardCall B → List B
@@ -26,14 +30,16 @@ put_by (Submitted behaviour (Ok number)) = behaviour ∷ []
 put_by (Submitted behaviour (Err fault)) = []
 put_by (TakenAt index answer) = []
 put_by (Returned done answer) = []
+put_by (CutMade answer) = []
+put_by CutDropped = []
 
 abbrev pub put_by_all : {B : Type 0} → List (BoardCall B) → List B
 put_by_all [] = []
 put_by_all (call ∷ calls) = put_by call ++ put_by_all calls
 
--- a board with an empty log
+-- a board with an empty log and no cut
 abbrev pub opened_with : {B : Type 0} → Balances → List Reply → BoardOf B
-opened_with columns earlier = record { opening = columns; earlier = earlier; log = []; states = [] }
+opened_with columns earlier = record { opening = columns; earlier = earlier; log = []; states = []; cut = None }
 
 module _ {B : Type 0} (touches : B → List ℕ) (effect : B → List ℤ → Reply × List ℤ) where
   -- one call: what its contract says
@@ -50,6 +56,11 @@ module _ {B : Type 0} (touches : B → List ℕ) (effect : B → List ℤ → Re
   Makes old (TakenAt index (Some job)) new = Takes touches effect old index job new
   Makes old (Returned done (Ok reply)) new = Finishes touches effect old done reply new
   Makes old (Returned done (Err back)) new = (¬ IsOutHere touches effect old done) × (back ≡ done) × (new ≡ old)
+  Makes old (CutMade (Ok number)) new =
+      (old.cut ≡ None) × (number ≡ length_of old) × (new ≡ record old { cut = Some (length_of old) })
+  Makes old (CutMade (Err (Pending number))) new = (old.cut ≡ Some number) × (new ≡ old)
+  Makes old (CutMade (Err NoMemory)) new = (old.cut ≡ None) × (new ≡ old)
+  Makes old CutDropped new = new ≡ record old { cut = None }
 
   -- these calls one after another
   abbrev pub Plays : BoardOf B → List (BoardCall B) → BoardOf B → Type 0
@@ -68,8 +79,10 @@ module _ {B : Type 0} (touches : B → List ℕ) (effect : B → List ℤ → Re
     -- the least unfinished one is ready or out
     pub least : (k : ℕ) → open_at board.states k ≡ true → ((j : ℕ) → j < k → open_at board.states j ≡ false)
         → (is_ready_at touches board.log board.states k ≡ true) ⊎ (slice_get board.states k ≡ Some Out)
+    -- the length of a cut lies between the number of earlier replies and the board's length
+    pub cut : (number : ℕ) → board.cut ≡ Some number → (length earlier ≤ number) × (number ≤ length_of board)
 
-  -- whatever was submitted, taken and given back, in whatever order
+  -- whatever was submitted, taken, given back and cut, in whatever order
   abbrev pub BoardLaw : Type 0
   BoardLaw = (columns : Balances) (earlier : List Reply) (calls : List (BoardCall B)) (board : BoardOf B)
       → Plays (opened_with columns earlier) calls board → IsTrueToLog columns earlier calls board

@@ -1,15 +1,16 @@
 //! The board.
-ghost use Rattle.std.specs.Prelude.{◌≡◌, ◌≢◌, ◌↔◌, ◌<◌, ◌≤◌, ◌+◌, ◌-◌, ◌++◌, [], ◌∷◌, suc, length, slice_get, IsTrue, IfOk, IfSome, OnOk, OnErr, IsErrOf, IsOk, Some, None, Ok, Err, MatchOption, MatchResult, vec_len, vec_capacity};
+ghost use Rattle.std.specs.Prelude.{◌≡◌, ◌≢◌, ◌↔◌, ◌<◌, ◌≤◌, ◌+◌, ◌-◌, ◌++◌, [], ◌∷◌, suc, length, slice_get, option_map, ℕ, IsTrue, IfOk, IfSome, OnOk, OnErr, IsErrOf, IsOk, Some, None, Ok, Err, MatchOption, MatchResult, vec_len, vec_capacity};
 ghost use Rattle.std.specs.VecDeque.{deque_capacity};
 ghost use Rattle.sb_rows.specs.Balances.{IsBalances};
 ghost use Rattle.sb_calls.specs.Cowns.{AreBelow, IsRising, held_of};
 ghost use Rattle.sb_calls.specs.OneByOne.{reply_by_log};
-ghost use Rattle.cown_board.specs.Board.{BoardOf, length_of, open_of, reply_in, Takes, Finishes, IsOutHere, IsAfterAll};
+ghost use Rattle.cown_board.specs.Board.{BoardOf, length_of, open_of, reply_in, Takes, Finishes, IsOutHere, IsAfterAll, AreCut};
 ghost use Rattle.cown_board.specs.Faults.{submit_fault_number};
-ghost use Rattle.cown_board.specs.Played.{StaysTrueToLog, Submitted, TakenAt, Returned};
+ghost use Rattle.cown_board.specs.Played.{StaysTrueToLog, Submitted, TakenAt, Returned, CutMade, CutDropped};
 ghost use Rattle.cown_board.specs.Readiness.{ready_places};
 
 use crate::accepting::{is_out_at, place_of};
+use crate::cut::{Cut, CutFault, note_finished};
 use crate::fronts::count_held;
 use crate::job::{Done, Job};
 use crate::ready_list::ReadyList;
@@ -67,10 +68,12 @@ pub struct Board<B: Behaviour> {
     queues: Queues,
     ready: ReadyList,
     unfinished: usize,
+    // What a checkpoint is made of, while later numbers run.
+    cut: Option<Cut>,
 }
 
 impl<B: Behaviour> Model for Board<B> {
-    ghost use Rattle.std.specs.Prelude.{◌≡◌, length};
+    ghost use Rattle.std.specs.Prelude.{◌≡◌, length, option_map};
     ghost use Rattle.std.specs.VecDeque.{deque_capacity};
     ghost use Rattle.cown_board.specs.Board.{BoardOf};
     ghost use Rattle.cown_board.specs.Invariant.{IsBoard};
@@ -82,6 +85,7 @@ impl<B: Behaviour> Model for Board<B> {
       earlier = b.earlier.items;
       log = b.log.items;
       states = b.states.items;
+      cut = option_map (λ c. c.number) b.cut;
     } };
 
     ghost invariant = { λ b. IsBoard B.touches B.effect (record {
@@ -96,6 +100,7 @@ impl<B: Behaviour> Model for Board<B> {
       ready = b.ready.ready.items;
       room = deque_capacity b.ready.ready;
       unfinished = b.unfinished;
+      cut = b.cut;
     }) };
 }
 
@@ -110,7 +115,7 @@ impl<B: Behaviour> Board<B> {
         requires replies { length replies.items ≡ base }
         requires few { base ≤ LOG_CALLS }
         ensures { IfOk result (λ board. board ≡
-            record { opening = columns; earlier = replies.items; log = []; states = [] }) }
+            record { opening = columns; earlier = replies.items; log = []; states = []; cut = None }) }
     {
         let opening = columns.copy()?;
         let queues = Queues::open(alloc, 2 * columns.customers())?;
@@ -124,6 +129,7 @@ impl<B: Behaviour> Board<B> {
             queues,
             ready: ReadyList::new(alloc),
             unfinished: 0,
+            cut: None,
         })
     }
 
@@ -141,8 +147,9 @@ impl<B: Behaviour> Board<B> {
     pub fn length(&self) -> u64
         ensures value { result ≡ length_of self.now }
         ensures few { length_of self.now ≤ LOG_CALLS }
-        // It was opened on the columns of a bank.
+        // It was opened on the columns of a bank, and each behaviour of the log is somewhere.
         ensures bank { IsBalances self.now.opening }
+        ensures beside { length self.now.log ≡ length self.now.states }
     {
         prove!(self.opening.customers() <= CUSTOMERS);
         self.base + self.log.len() as u64
@@ -243,7 +250,8 @@ impl<B: Behaviour> Board<B> {
             (λ reply. StaysTrueToLog B.touches B.effect self.old (Returned done (Ok reply)) self.new)
             (λ back. StaysTrueToLog B.touches B.effect self.old (Returned done (Err back)) self.new) }
     {
-        let Some(place) = place_of(self.base, self.log.len(), done.number()) else {
+        let number = done.number();
+        let Some(place) = place_of(self.base, self.log.len(), number) else {
             return Err(done);
         };
         if !is_out_at(&self.columns, &self.log, &self.states, place, &done) {
@@ -254,6 +262,7 @@ impl<B: Behaviour> Board<B> {
         let fronts = self.queues.release(place, cowns.as_slice());
         self.ready.come_forward(fronts.as_slice());
         write_cowns(&mut self.columns, cowns.as_slice(), outputs.as_slice());
+        note_finished(&mut self.cut, number, cowns.as_slice(), outputs.as_slice());
         self.states[place as usize] = State::Finished(reply);
         self.unfinished -= 1;
         Ok(reply)
@@ -302,6 +311,74 @@ impl<B: Behaviour> Board<B> {
         } else {
             None
         }
+    }
+
+    /// Makes a cut at the board's length, and answers that: columns that settle once the numbers up to it are
+    /// finished, while later ones run. All room that it takes is made here.
+    ///
+    /// Fails with the first fault that holds, in the order of [`CutFault`]'s variants; the board is as it was
+    /// then.
+    pub fn cut(&mut self) -> Result<u64, CutFault>
+        ensures number { IfOk result (λ number. number ≡ length_of self.old) }
+        ensures ok { OnOk result ((self.old.cut ≡ None) ×
+            (self.new ≡ record self.old { cut = Some (length_of self.old) })) }
+        ensures err { OnErr result (self.new ≡ self.old) }
+        ensures pending { (number : ℕ) →
+            IsErrOf result (CutFault.Pending number) ↔ (self.old.cut ≡ Some number) }
+        // After any calls, with this one too, the board is true to its log.
+        ensures played { StaysTrueToLog B.touches B.effect self.old (CutMade result) self.new }
+    {
+        let number = self.length();
+        if let Some(pending) = self.cut_length() {
+            return Err(CutFault::Pending(pending));
+        }
+        let Ok(columns) = self.columns.copy() else {
+            return Err(CutFault::OutOfMemory);
+        };
+        self.cut = Some(Cut {
+            number,
+            columns,
+            unfinished: self.unfinished,
+        });
+        Ok(number)
+    }
+
+    /// The length of the cut, where there is one.
+    pub fn cut_length(&self) -> Option<u64>
+        ensures value { result ≡ self.now.cut }
+        ensures within { IfSome result (λ number.
+            (length self.now.earlier ≤ number) × (number ≤ length_of self.now)) }
+    {
+        match &self.cut {
+            Some(cut) => Some(cut.number),
+            None => None,
+        }
+    }
+
+    /// The columns after the numbers up to the cut's length, lent, or `None` while there is no cut, or one of
+    /// these is unfinished.
+    pub fn cut_columns(&self) -> Option<&Columns>
+        ensures value { AreCut B.touches B.effect self.now (option_map (λ columns. columns.now) result) }
+        ensures bank { IfSome result (λ columns. IsBalances columns.now) }
+    {
+        let Some(cut) = &self.cut else {
+            return None;
+        };
+        prove!(cut.columns.customers() <= CUSTOMERS);
+        if cut.unfinished == 0 {
+            Some(&cut.columns)
+        } else {
+            None
+        }
+    }
+
+    /// Drops the cut, where there is one.
+    pub fn drop_cut(&mut self)
+        ensures state { self.new ≡ record self.old { cut = None } }
+        // After any calls, with this one too, the board is true to its log.
+        ensures played { StaysTrueToLog B.touches B.effect self.old CutDropped self.new }
+    {
+        self.cut = None;
     }
 }
 

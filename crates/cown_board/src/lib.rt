@@ -3,6 +3,7 @@
 
 mod accepting;
 mod board;
+mod cut;
 mod fronts;
 mod job;
 mod laws;
@@ -14,6 +15,7 @@ mod tests;
 mod turn;
 
 pub use board::{Board, OPEN_BEHAVIOURS, SubmitFault};
+pub use cut::CutFault;
 pub use job::{Done, Job};
 pub use laws::{limits, true_to_the_log};
 pub use runs::Runs;

@@ -6,6 +6,7 @@ use std::process::Abort;
 use std::test::Fail;
 
 mod bank;
+mod cuts;
 mod limits;
 mod looks;
 mod offers;

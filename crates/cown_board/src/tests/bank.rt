@@ -146,6 +146,37 @@ impl<B: Behaviour> Bank<B> {
         Ok(())
     }
 
+    // A cut is made, at the board's length.
+    pub(super) fn cuts(&mut self, rt: &impl Abort) {
+        assert_eq!(rt; self.cut(), Ok(self.length()));
+        assert_eq!(rt; self.cut_length(), Some(self.length()));
+    }
+
+    pub(super) fn cut(&mut self) -> Result<u64, CutFault> {
+        self.board.cut()
+    }
+
+    pub(super) fn cut_length(&self) -> Option<u64> {
+        self.board.cut_length()
+    }
+
+    pub(super) fn drop_cut(&mut self) {
+        self.board.drop_cut();
+    }
+
+    // There are no columns of a cut yet.
+    pub(super) fn has_no_cut_columns(&self, rt: &impl Abort) {
+        assert!(rt; self.board.cut_columns().is_none());
+    }
+
+    // The columns of the cut are those of another board.
+    pub(super) fn has_cut_of(&self, rt: &impl Abort, other: &Bank<B>) {
+        let cut = self.board.cut_columns().expect(rt, "a cut");
+        let columns = other.board.settled_columns().expect(rt, "columns");
+        assert_eq!(rt; cut.savings(), columns.savings());
+        assert_eq!(rt; cut.checking(), columns.checking());
+    }
+
     // Something is unfinished, and so there are no columns.
     pub(super) fn has_no_columns(&self, rt: &impl Abort) -> Result<(), AllocError> {
         assert!(rt; !self.idle());
@@ -175,5 +206,17 @@ impl Bank<Op> {
         assert!(rt; !self.idle());
         self.finishes(rt, job.run(), reply);
         Ok(())
+    }
+
+    // The last of the ready ones is run, of which there are at most three.
+    pub(super) fn runs_last(&mut self, rt: &impl Abort) {
+        let job = match self.take_at(2) {
+            Some(job) => job,
+            None => match self.take_at(1) {
+                Some(job) => job,
+                None => self.take_at(0).expect(rt, "a ready one"),
+            },
+        };
+        assert!(rt; self.finish(job.run()).is_ok());
     }
 }

@@ -1,16 +1,17 @@
-use Rattle.std.proofs.Common.{◌≡◌, ◌+◌, ◌<◌, get_or, true, false, Some, Err, length, refl, sym, ap, ◌∙◌, subst, arith}
-use Rattle.std.specs.Prelude.{All, slice_get}
+use Rattle.std.proofs.Common.{◌≡◌, ◌+◌, ◌<◌, ◌≤◌, get_or, true, false, Some, Err, length, refl, sym, ap, ◌∙◌, subst, arith}
+use Rattle.std.specs.Prelude.{All, IfSome, slice_get}
 use Rattle.std.specs.VecDeque.{deque_capacity}
 use Rattle.std.proofs.lemmas.Bool.{both_ways}
 use Rattle.std.proofs.lemmas.Option.{slice_get_read}
 use Rattle.sb_calls.specs.Cowns.{AreBelow, AreHeld, held_of, write_cowns}
 use Rattle.cown_queue.specs.Queues.{IsInFront, Releases, fronts_of}
-use Rattle.cown_board.proofs.FinishedJob.{not_numbered, not_inside, refused_done, accepted_done, released_in_front, some_unfinished, outputs_held, board_finished, fronts_behind, room_for_fronts, finishes_from, seen}
-use Rattle.cown_board.proofs.TakenJob.{declared_in_held}
+use Rattle.cown_board.proofs.FinishedJob.{not_numbered, not_inside, refused_done, accepted_done, released_in_front, some_unfinished, outputs_held, board_finished, fronts_behind, room_for_fronts, cowns_of_cut, unfinished_in_cut, finishes_from}
+use Rattle.cown_board.proofs.TakenJob.{declared_in_held, seen}
 use Rattle.cown_board.proofs.LogLaws.{injective}
 use Rattle.cown_board.proofs.PlayedCalls.{played_refused, played_finished}
 use Rattle.cown_board.specs.Board.{BoardOf, IsOutHere}
 use Rattle.cown_board.specs.Due.{times}
+use Rattle.cown_board.specs.Noted.{AreNoted}
 use Rattle.cown_board.specs.Played.{StaysTrueToLog, Returned}
 use Rattle.cown_board.proofs.board.Board.finish.Goals as goal
 
@@ -22,7 +23,7 @@ returns-in_default-clause-accepted g c =
     let done = c.args.done in
     subst (λ (v : BoardOf g.row.B.Denot). (false ≡ true → IsOutHere touches effect v done) × (IsOutHere touches effect v done → false ≡ true)) c.self.view_is
     (refused_done touches effect board done (not_numbered touches effect board done (λ k lt same.
-    c.in_default.ensures k (omega (arith, lt, c.len.ensures, c.self.inside.log.ok)) (c.number.ensures ∙ same))))
+    c.in_default.ensures k (omega (arith, lt, c.len.ensures, c.self.inside.log.ok)) (c.number-number.ensures ∙ same))))
 
 pub is_out_at-requires-clause-cowns : goal.is_out_at-requires-clause-cowns
 is_out_at-requires-clause-cowns g c k b here = declared_in_held g.B.Behaviour.touches g.B.Behaviour.effect c.self.invariant k b here
@@ -34,7 +35,7 @@ returns-then-not-is_out_at-clause-accepted g c =
     let board = c.self.invariant in
     let done = c.args.done in
     subst (λ (v : BoardOf g.row.B.Denot). (false ≡ true → IsOutHere touches effect v done) × (IsOutHere touches effect v done → false ≡ true)) c.self.view_is
-    (refused_done touches effect board done (not_inside touches effect board c.in-Some.place done (sym c.number.ensures ∙ c.in-Some.ensures.1)
+    (refused_done touches effect board done (not_inside touches effect board c.in-Some.place done (sym c.number-number.ensures ∙ c.in-Some.ensures.1)
     (λ inside. both_ways c.is_out_at.result c.if-not-is_out_at.true (c.is_out_at.ensures.1 inside))))
 
 pub release-fronts-requires-clause-front : goal.release-fronts-requires-clause-front
@@ -47,7 +48,7 @@ release-fronts-requires-clause-front g c =
     (omega (arith, c.in-Some.ensures.0, c.len.ensures, c.self.inside.log.ok)) c.index.ensures in
     let same : c.index.result.now ≡ c.args.done.behaviour = injective (sym here ∙ inside.1) in
     subst (λ cowns. IsInFront c.in-Some.place cowns c.self.inside.queues.lists) (sym (c.as_slice.ensures.value ∙ c.cowns-cowns.ensures ∙ ap touches same))
-    (released_in_front touches g.B.Behaviour.effect c.self.invariant c.in-Some.place c.args.done (sym c.number.ensures ∙ c.in-Some.ensures.1) inside)
+    (released_in_front touches g.B.Behaviour.effect c.self.invariant c.in-Some.place c.args.done (sym c.number-number.ensures ∙ c.in-Some.ensures.1) inside)
 
 pub write_cowns-requires-clause-cowns : goal.write_cowns-requires-clause-cowns
 write_cowns-requires-clause-cowns g c =
@@ -70,13 +71,48 @@ write_cowns-requires-clause-values g c =
     let same : c.index.result.now ≡ c.args.done.behaviour = injective (sym here ∙ inside.1) in
     subst (λ cowns. AreHeld cowns c.as_slice-4.result.now) (sym (c.as_slice-3.ensures.value ∙ c.cowns-cowns.ensures ∙ ap touches same))
     (outputs_held touches g.B.Behaviour.effect c.self.invariant c.in-Some.place c.args.done
-    (sym c.number.ensures ∙ c.in-Some.ensures.1) inside g.met.B.Behaviour.keeps
+    (sym c.number-number.ensures ∙ c.in-Some.ensures.1) inside g.met.B.Behaviour.keeps
     c.as_slice-4.result.now (c.as_slice-4.ensures.value ∙ c.into_effect-reply.ensures.outputs))
+
+pub note_finished-requires-clause-cowns : goal.note_finished-requires-clause-cowns
+note_finished-requires-clause-cowns g c =
+    let touches = g.B.Behaviour.touches in
+    let log = c.self.inside.log.items in
+    let inside = c.is_out_at.ensures.0 c.if-not-is_out_at.false in
+    let here : slice_get log c.in-Some.place ≡ Some c.index.result.now =
+    slice_get_read log (length log) c.in-Some.place c.index.result.now refl
+    (omega (arith, c.in-Some.ensures.0, c.len.ensures, c.self.inside.log.ok)) c.index.ensures in
+    let same : c.index.result.now ≡ c.args.done.behaviour = injective (sym here ∙ inside.1) in
+    subst (λ cowns. IfSome c.self.inside.cut (λ cut. AreBelow (length (held_of cut.columns)) cowns))
+    (sym (c.as_slice-5.ensures.value ∙ c.cowns-cowns.ensures ∙ ap touches same))
+    (cowns_of_cut touches g.B.Behaviour.effect c.self.invariant c.in-Some.place c.args.done (sym c.number-number.ensures ∙ c.in-Some.ensures.1) inside)
+
+pub note_finished-requires-clause-unfinished : goal.note_finished-requires-clause-unfinished
+note_finished-requires-clause-unfinished g c =
+    let inside = c.is_out_at.ensures.0 c.if-not-is_out_at.false in
+    subst (λ number. IfSome c.self.inside.cut (λ cut. number ≤ cut.number → 1 ≤ cut.unfinished)) (sym c.number-number.ensures)
+    (unfinished_in_cut g.B.Behaviour.touches g.B.Behaviour.effect c.self.invariant c.in-Some.place c.args.done
+    (sym c.number-number.ensures ∙ c.in-Some.ensures.1) inside)
+
+pub note_finished-requires-clause-values : goal.note_finished-requires-clause-values
+note_finished-requires-clause-values g c =
+    let touches = g.B.Behaviour.touches in
+    let log = c.self.inside.log.items in
+    let inside = c.is_out_at.ensures.0 c.if-not-is_out_at.false in
+    let here : slice_get log c.in-Some.place ≡ Some c.index.result.now =
+    slice_get_read log (length log) c.in-Some.place c.index.result.now refl
+    (omega (arith, c.in-Some.ensures.0, c.len.ensures, c.self.inside.log.ok)) c.index.ensures in
+    let same : c.index.result.now ≡ c.args.done.behaviour = injective (sym here ∙ inside.1) in
+    subst (λ cowns. AreHeld cowns c.as_slice-6.result.now) (sym (c.as_slice-5.ensures.value ∙ c.cowns-cowns.ensures ∙ ap touches same))
+    (outputs_held touches g.B.Behaviour.effect c.self.invariant c.in-Some.place c.args.done
+    (sym c.number-number.ensures ∙ c.in-Some.ensures.1) inside g.met.B.Behaviour.keeps
+    c.as_slice-6.result.now (c.as_slice-6.ensures.value ∙ c.into_effect-reply.ensures.outputs))
 
 pub overflow_sub-self : goal.overflow_sub-self
 overflow_sub-self g c =
     let inside = c.is_out_at.ensures.0 c.if-not-is_out_at.false in
-    some_unfinished g.B.Behaviour.touches g.B.Behaviour.effect c.self.invariant c.in-Some.place c.args.done (sym c.number.ensures ∙ c.in-Some.ensures.1) inside
+    some_unfinished g.B.Behaviour.touches g.B.Behaviour.effect c.self.invariant c.in-Some.place c.args.done
+    (sym c.number-number.ensures ∙ c.in-Some.ensures.1) inside
 
 pub come_forward-requires-clause-behind : goal.come_forward-requires-clause-behind
 come_forward-requires-clause-behind g c j =
@@ -89,7 +125,7 @@ come_forward-requires-clause-behind g c j =
     let same : c.index.result.now ≡ c.args.done.behaviour = injective (sym here ∙ inside.1) in
     let declared : c.as_slice.result.now ≡ touches c.args.done.behaviour = c.as_slice.ensures.value ∙ c.cowns-cowns.ensures ∙ ap touches same in
     fronts_behind touches g.B.Behaviour.effect c.self.invariant c.in-Some.place c.args.done
-    (sym c.number.ensures ∙ c.in-Some.ensures.1) inside g.met.B.Behaviour.rising c.into_effect-reply.result.0
+    (sym c.number-number.ensures ∙ c.in-Some.ensures.1) inside g.met.B.Behaviour.rising c.into_effect-reply.result.0
     c.release-fronts.new.self.lists c.as_slice-2.result.now
     (subst (λ cowns. Releases cowns c.self.inside.queues.lists c.release-fronts.new.self.lists) declared c.release-fronts.ensures.lists)
     (c.as_slice-2.ensures.value ∙ c.release-fronts.ensures.fronts ∙ ap (fronts_of c.release-fronts.new.self.lists) declared) j
@@ -98,7 +134,7 @@ pub come_forward-requires-clause-room : goal.come_forward-requires-clause-room
 come_forward-requires-clause-room g c =
     let inside = c.is_out_at.ensures.0 c.if-not-is_out_at.false in
     let room = room_for_fronts g.B.Behaviour.touches g.B.Behaviour.effect c.self.invariant c.in-Some.place c.args.done
-    (sym c.number.ensures ∙ c.in-Some.ensures.1) inside in
+    (sym c.number-number.ensures ∙ c.in-Some.ensures.1) inside in
     omega (arith, room, c.self.inside.ready.ready.ok)
 
 pub invariant_of-self : goal.invariant_of-self
@@ -115,7 +151,7 @@ invariant_of-self g c =
     let fronts : c.as_slice-2.result.now ≡ fronts_of c.release-fronts.new.self.lists (touches c.args.done.behaviour) =
     c.as_slice-2.ensures.value ∙ c.release-fronts.ensures.fronts ∙ ap (fronts_of c.release-fronts.new.self.lists) declared in
     board_finished touches g.B.Behaviour.effect c.self.invariant c.in-Some.place c.args.done
-    (sym c.number.ensures ∙ c.in-Some.ensures.1) inside g.met.B.Behaviour.keeps g.met.B.Behaviour.rising
+    (sym c.number-number.ensures ∙ c.in-Some.ensures.1) inside g.met.B.Behaviour.keeps g.met.B.Behaviour.rising
     c.into_effect-reply.result.0 c.as_slice-4.result.now c.write_cowns.new.columns c.release-fronts.new.self.lists
     c.come_forward.new.self.behind.items c.come_forward.new.self.ready.items (deque_capacity c.come_forward.new.self.ready)
     c.into_effect-reply.ensures.reply (c.as_slice-4.ensures.value ∙ c.into_effect-reply.ensures.outputs)
@@ -125,7 +161,12 @@ invariant_of-self g c =
     (λ j. subst (λ xs. get_or c.come_forward.new.self.behind.items j 0 + times j xs ≡ get_or c.self.inside.ready.behind.items j 0) fronts
     (c.come_forward.ensures.behind j))
     (λ waits bound all. c.come_forward.ensures.due waits bound (subst (All (λ place. (place < bound) × (waits place ≡ true))) (sym fronts) all))
-    c.come_forward.ensures.room
+    c.come_forward.ensures.room c.note_finished.new.cut
+    (subst (λ number. AreNoted number (touches c.args.done.behaviour) c.as_slice-4.result.now c.self.inside.cut c.note_finished.new.cut) c.number-number.ensures
+    (subst (λ cowns. AreNoted c.number-number.result cowns c.as_slice-4.result.now c.self.inside.cut c.note_finished.new.cut)
+    (c.as_slice-5.ensures.value ∙ c.cowns-cowns.ensures ∙ ap touches same)
+    (subst (λ values. AreNoted c.number-number.result c.as_slice-5.result.now values c.self.inside.cut c.note_finished.new.cut)
+    (c.as_slice-6.ensures.value ∙ sym c.as_slice-4.ensures.value) c.note_finished.ensures)))
 
 pub returns-clause-accepted : goal.returns-clause-accepted
 returns-clause-accepted g c =
@@ -134,7 +175,7 @@ returns-clause-accepted g c =
     let done = c.args.done in
     let inside = c.is_out_at.ensures.0 c.if-not-is_out_at.false in
     subst (λ (v : BoardOf g.row.B.Denot). (true ≡ true → IsOutHere touches effect v done) × (IsOutHere touches effect v done → true ≡ true)) c.self.view_is
-    (accepted_done touches effect c.self.invariant c.in-Some.place done (sym c.number.ensures ∙ c.in-Some.ensures.1) inside)
+    (accepted_done touches effect c.self.invariant c.in-Some.place done (sym c.number-number.ensures ∙ c.in-Some.ensures.1) inside)
 
 pub returns-clause-outcome : goal.returns-clause-outcome
 returns-clause-outcome g c =
@@ -142,7 +183,8 @@ returns-clause-outcome g c =
     let effect = g.B.Behaviour.effect in
     let inside = c.is_out_at.ensures.0 c.if-not-is_out_at.false in
     let finished = finishes_from touches effect c.self.invariant c.in-Some.place c.args.done
-    (sym c.number.ensures ∙ c.in-Some.ensures.1) inside c.into_effect-reply.result.0 c.into_effect-reply.ensures.reply in
+    (sym c.number-number.ensures ∙ c.in-Some.ensures.1) inside c.into_effect-reply.result.0 c.into_effect-reply.ensures.reply
+    c.number-number.result c.as_slice-5.result.now c.as_slice-6.result.now c.note_finished.new.cut c.note_finished.ensures in
     rw (sym c.self.view_is) finished
 
 pub returns-in_default-clause-played : goal.returns-in_default-clause-played
@@ -153,7 +195,7 @@ returns-in_default-clause-played g c =
     let done = c.args.done in
     subst (λ (v : BoardOf g.row.B.Denot). StaysTrueToLog touches effect v (Returned done (Err done)) v) c.self.view_is
     (played_refused touches effect (seen touches effect board) done (not_numbered touches effect board done (λ k lt same.
-    c.in_default.ensures k (omega (arith, lt, c.len.ensures, c.self.inside.log.ok)) (c.number.ensures ∙ same))))
+    c.in_default.ensures k (omega (arith, lt, c.len.ensures, c.self.inside.log.ok)) (c.number-number.ensures ∙ same))))
 
 pub returns-then-not-is_out_at-clause-played : goal.returns-then-not-is_out_at-clause-played
 returns-then-not-is_out_at-clause-played g c =
@@ -163,7 +205,7 @@ returns-then-not-is_out_at-clause-played g c =
     let done = c.args.done in
     subst (λ (v : BoardOf g.row.B.Denot). StaysTrueToLog touches effect v (Returned done (Err done)) v) c.self.view_is
     (played_refused touches effect (seen touches effect board) done
-    (not_inside touches effect board c.in-Some.place done (sym c.number.ensures ∙ c.in-Some.ensures.1)
+    (not_inside touches effect board c.in-Some.place done (sym c.number-number.ensures ∙ c.in-Some.ensures.1)
     (λ inside. both_ways c.is_out_at.result c.if-not-is_out_at.true (c.is_out_at.ensures.1 inside))))
 
 pub returns-clause-played : goal.returns-clause-played
@@ -172,5 +214,6 @@ returns-clause-played g c =
     let effect = g.B.Behaviour.effect in
     let inside = c.is_out_at.ensures.0 c.if-not-is_out_at.false in
     let finished = finishes_from touches effect c.self.invariant c.in-Some.place c.args.done
-    (sym c.number.ensures ∙ c.in-Some.ensures.1) inside c.into_effect-reply.result.0 c.into_effect-reply.ensures.reply in
+    (sym c.number-number.ensures ∙ c.in-Some.ensures.1) inside c.into_effect-reply.result.0 c.into_effect-reply.ensures.reply
+    c.number-number.result c.as_slice-5.result.now c.as_slice-6.result.now c.note_finished.new.cut c.note_finished.ensures in
     rw (sym c.self.view_is) (played_finished touches effect finished)

@@ -4,8 +4,8 @@ use Rattle.std.proofs.lemmas.Option.{slice_get_read}
 use Rattle.sb_calls.specs.Cowns.{held_of}
 use Rattle.sb_calls.specs.OneByOne.{reply_by_log}
 use Rattle.sb_calls.specs.declared.reply.Reply.{Reply}
-use Rattle.cown_board.proofs.FinishedJob.{seen}
 use Rattle.cown_board.proofs.Replies.{no_number, number_before, past_numbers, reply_at_place, reply_is_by_log}
+use Rattle.cown_board.proofs.TakenJob.{seen}
 use Rattle.cown_board.specs.Board.{BoardOf, reply_in}
 use Rattle.cown_board.specs.State.{finished_reply}
 use Rattle.cown_board.proofs.board.Board.reply.Goals as goal

@@ -1,0 +1,59 @@
+//! A copy of the columns that settles once the numbers up to one are finished.
+ghost use Rattle.std.specs.Prelude.{◌≡◌, ◌≤◌, length, IfSome};
+ghost use Rattle.sb_calls.specs.Cowns.{AreBelow, AreHeld, held_of};
+ghost use Rattle.cown_board.specs.Faults.{cut_fault_number};
+ghost use Rattle.cown_board.specs.Noted.{AreNoted};
+
+use sb_amount::Cents;
+use sb_calls::{Cown, write_cowns};
+use sb_rows::Columns;
+use thiserror::Error;
+
+/// Why no cut was made. The board is as it was.
+#[derive(Clone, Copy, Debug, PartialEq, Eq, Error, Drop)]
+pub enum CutFault {
+    /// There is a cut already, of this length.
+    #[error("pending {0}")]
+    Pending(u64),
+    /// Memory was refused.
+    #[error("out of memory")]
+    OutOfMemory,
+}
+
+impl CutFault {
+    /// The number of the fault, from 1 to 2 in the order of the variants.
+    pub fn number(&self) -> u8
+        ensures { result ≡ cut_fault_number self.now }
+    {
+        match self {
+            CutFault::Pending(_) => 1,
+            CutFault::OutOfMemory => 2,
+        }
+    }
+}
+
+// The columns that only the behaviours up to a number write.
+#[derive(Drop)]
+pub(crate) struct Cut {
+    pub(crate) number: u64,
+    pub(crate) columns: Columns,
+    // How many up to the number are unfinished.
+    pub(crate) unfinished: usize,
+}
+
+// The behaviour with this number is finished, and left these values in its cowns.
+pub(crate) fn note_finished(cut: &mut Option<Cut>, number: u64, cowns: &[Cown], values: &[Cents])
+    requires cowns { IfSome cut.old (λ c. AreBelow (length (held_of c.columns)) cowns.now) }
+    requires unfinished { IfSome cut.old (λ c. number ≤ c.number → 1 ≤ c.unfinished) }
+    requires values { AreHeld cowns.now values.now }
+    ensures { AreNoted number cowns.now values.now cut.old cut.new }
+{
+    let Some(cut) = cut else {
+        return;
+    };
+    // What comes after the cut isn't part of it.
+    if number <= cut.number {
+        write_cowns(&mut cut.columns, cowns, values);
+        cut.unfinished -= 1;
+    }
+}
