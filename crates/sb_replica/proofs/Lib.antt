@@ -1,3 +1,4 @@
 pub mod AcceptedEntries
 pub mod HeldReplies
 pub mod IdleReplies
+pub mod MarkedReplies

@@ -1,8 +1,9 @@
 -- A replica's checkpoint, put into its store.
-use Rattle.std.specs.Prelude.{◌≡◌, ◌≢◌, ◌⊎◌, ℕ, Result, Ok, Err, List}
+use Rattle.std.specs.Prelude.{◌≡◌, ◌≢◌, ◌⊎◌, ℕ, ◌-◌, Option, Some, None, Result, Ok, Err, List, length, take}
 use Rattle.sb_rows.specs.Balances.{Balances}
 use Rattle.sb_calls.specs.Behaviour.{declared_cowns, effect_of}
-use Rattle.cown_board.specs.Board.{open_of, IsAfterAll}
+use Rattle.sb_calls.specs.declared.op.Op.{Op}
+use Rattle.cown_board.specs.Board.{BoardOf, open_of, IsAfterAll}
 use Rattle.sb_checkpoint.specs.Checkpoint.{Spells}
 use Rattle.sb_checkpoint.specs.Stores.{StoreStep, Put}
 use Rattle.sb_checkpoint.specs.declared.store.StoreFault.{StoreFault}
@@ -11,24 +12,41 @@ use Rattle.sb_replica.specs.Replica.{ReplicaOf, replies_held}
 use Rattle.sb_replica.specs.declared.fault.MarkFault.{MarkFault}
 use Rattle.sb_replica.specs.declared.fault.MarkFault.TheVariants as mark
 
-module _ {S : Type 0} (does : S → StoreStep → S → Type 0) where
-  -- the balances after the whole log and all replies were spelled, and put with this answer
-  pub record Puts (old : ReplicaOf S) (answer : Result (Unit {0}) StoreFault) (new : ReplicaOf S) : Type 0 where
-    pub idle : open_of old.board ≡ 0
-    pub columns : Balances
-    pub after : IsAfterAll declared_cowns effect_of old.board columns
-    pub bytes : List ℕ
-    pub spelled : Spells (record { columns = columns; replies = replies_held old.board }) bytes
-    pub put : does old.store (Put bytes answer) new.store
-    pub stays : new ≡ record old { store = new.store }
+-- a board up to a cut, where there is one
+abbrev pub up_to : BoardOf Op → Option ℕ → BoardOf Op
+up_to board None = board
+up_to board (Some number) =
+    let places = number - length board.earlier in
+    record board { log = take places board.log; states = take places board.states }
 
-  -- a checkpoint of all that was spelled so, and put
+-- what a mark is of: the board up to its cut, and all of it where it has none
+abbrev pub marked : BoardOf Op → BoardOf Op
+marked board = up_to board board.cut
+
+-- once a checkpoint is put its cut is gone, and else it stays
+abbrev pub after_put : Result (Unit {0}) StoreFault → BoardOf Op → BoardOf Op
+after_put (Ok done) board = record board { cut = None }
+after_put (Err fault) board = board
+
+module _ {S : Type 0} (does : S → StoreStep → S → Type 0) where
+  -- the balances after all that is marked and all its replies were spelled, and put with this answer
+  pub record Puts (old : ReplicaOf S) (answer : Result (Unit {0}) StoreFault) (new : ReplicaOf S) : Type 0 where
+    pub idle : open_of (marked old.board) ≡ 0
+    pub columns : Balances
+    pub after : IsAfterAll declared_cowns effect_of (marked old.board) columns
+    pub bytes : List ℕ
+    pub spelled : Spells (record { columns = columns; replies = replies_held (marked old.board) }) bytes
+    pub put : does old.store (Put bytes answer) new.store
+    pub stays : new ≡ record old { board = after_put answer old.board; store = new.store }
+
+  -- a checkpoint was spelled so, and put
   abbrev pub PutsBytes : ReplicaOf S → List ℕ → ReplicaOf S → Type 0
   PutsBytes old bytes new = (puts : Puts old (Ok tt) new) × (puts.bytes ≡ bytes)
 
-  -- something is unfinished, and nothing changes; the store failed; or memory was refused, to it or before it was
-  -- asked
+  -- something that is marked is unfinished, and nothing changes; the store failed; or memory was refused, to it or
+  -- before it was asked
   abbrev pub IsMarkFaultOf : ReplicaOf S → MarkFault → ReplicaOf S → Type 0
-  IsMarkFaultOf old mark.Busy new = (open_of old.board ≢ 0) × (new ≡ old)
+  IsMarkFaultOf old mark.Busy new = (open_of (marked old.board) ≢ 0) × (new ≡ old)
   IsMarkFaultOf old mark.Device new = Puts old (Err Device) new
-  IsMarkFaultOf old mark.OutOfMemory new = (open_of old.board ≡ 0) × ((new ≡ old) ⊎ Puts old (Err OutOfMemory) new)
+  IsMarkFaultOf old mark.OutOfMemory new =
+      (open_of (marked old.board) ≡ 0) × ((new ≡ old) ⊎ Puts old (Err OutOfMemory) new)

@@ -1,74 +1,118 @@
 //! Writing a checkpoint.
-ghost use Rattle.std.specs.Prelude.{◌≡◌, ◌≢◌, ◌↔◌, ◌≤◌, Ok, Err, IfOk, IfErr, IsErrOf, MatchResult, length};
+ghost use Rattle.std.specs.Prelude.{◌≡◌, ◌≢◌, ◌↔◌, ◌≤◌, ℕ, None, Some, Ok, Err, IfOk, IfErr, OnOk, OnErr, IsErrOf, MatchOption, MatchResult, length};
 ghost use Rattle.std.specs.List.{All};
 ghost use Rattle.sb_calls.specs.Replies.{IsReply};
-ghost use Rattle.cown_board.specs.Board.{length_of, open_of};
+ghost use Rattle.sb_calls.specs.Behaviour.{declared_cowns, effect_of};
+ghost use Rattle.cown_board.specs.Board.{length_of, open_of, IsAfterAll};
 ghost use Rattle.sb_checkpoint.specs.Checkpoint.{Spells};
 ghost use Rattle.sb_checkpoint.specs.Stores.{StoreDoes};
 ghost use Rattle.sb_checkpoint.specs.declared.store.StoreFault.{StoreFault as AnyFault};
-ghost use Rattle.sb_replica.specs.Marking.{IsMarkFaultOf, Puts, PutsBytes};
+ghost use Rattle.sb_replica.specs.Marking.{IsMarkFaultOf, Puts, PutsBytes, marked};
 ghost use Rattle.sb_replica.specs.Replica.{replies_held};
 
 use crate::fault::MarkFault;
 use crate::replica::Replica;
-use cown_board::Runs;
+use cown_board::{CutFault, Runs};
 use sb_calls::{LOG_CALLS, Reply};
 use sb_checkpoint::{CheckpointStore, Draft, StoreFault};
 use sb_rows::Columns;
 use std::alloc::AllocError;
 
 impl<S: CheckpointStore> Replica<S> {
-    /// Puts a checkpoint of the log so far into the store, and answers its length. Nothing but the store changes.
+    /// Makes a cut at the log's length, and answers that: the next mark is of the entries up to there, while later ones
+    /// run.
     ///
-    /// Fails with [`MarkFault::Busy`] exactly where something is unfinished, and with [`MarkFault::Device`] only
-    /// where the store does.
+    /// Fails with the first fault that holds, in the order of [`CutFault`]'s variants; nothing changes then.
+    pub fn cut(&mut self) -> Result<u64, CutFault>
+        ensures number { IfOk result (λ number. number ≡ length_of self.old.board) }
+        ensures ok { OnOk result ((self.old.board.cut ≡ None) × (self.new ≡ record self.old {
+          board = record self.old.board { cut = Some (length_of self.old.board) };
+        })) }
+        ensures err { OnErr result (self.new ≡ self.old) }
+        ensures pending { (number : ℕ) →
+            IsErrOf result (CutFault.Pending number) ↔ (self.old.board.cut ≡ Some number) }
+    {
+        self.log.cut()
+    }
+
+    /// Puts a checkpoint of the log up to the cut into the store, and answers its length; the cut is gone then. Without
+    /// a cut it is of the whole log so far.
+    ///
+    /// Fails with [`MarkFault::Busy`] exactly where something of that is unfinished, and with [`MarkFault::Device`] only
+    /// where the store does. Nothing but the store changes then.
     pub fn mark(&mut self) -> Result<u64, MarkFault>
-        ensures busy { IsErrOf result MarkFault.Busy ↔ (open_of self.old.board ≢ 0) }
-        ensures ok { IfOk result (λ size. (size ≡ length_of self.old.board)
+        ensures busy { IsErrOf result MarkFault.Busy ↔ (open_of (marked self.old.board) ≢ 0) }
+        ensures ok { IfOk result (λ size. (size ≡ length_of (marked self.old.board))
             × Puts (StoreDoes S.slot S.IsHonest S.failed S.acts) self.old (Ok tt) self.new) }
         ensures err { IfErr result (λ fault.
             IsMarkFaultOf (StoreDoes S.slot S.IsHonest S.failed S.acts) self.old fault self.new) }
     {
+        let length = self.marked_length();
         self.put_checkpoint()?;
-        Ok(self.length())
+        Ok(length)
     }
 
-    /// Puts a checkpoint of the log so far into the store, and answers the bytes that were put. Nothing but the store
-    /// changes.
+    /// Puts a checkpoint into the store as [`Replica::mark`], and answers the bytes that were put.
     ///
     /// Fails as [`Replica::mark`].
     pub fn put_checkpoint(&mut self) -> Result<Vec<u8>, MarkFault>
-        ensures busy { IsErrOf result MarkFault.Busy ↔ (open_of self.old.board ≢ 0) }
+        ensures busy { IsErrOf result MarkFault.Busy ↔ (open_of (marked self.old.board) ≢ 0) }
         ensures ok { IfOk result (λ bytes.
             PutsBytes (StoreDoes S.slot S.IsHonest S.failed S.acts) self.old bytes.items self.new) }
         ensures err { IfErr result (λ fault.
             IsMarkFaultOf (StoreDoes S.slot S.IsHonest S.failed S.acts) self.old fault self.new) }
     {
-        let Some(columns) = self.log.settled_columns() else {
+        let Some(columns) = self.marked_columns() else {
             return Err(MarkFault::Busy);
         };
         let Ok(bytes) = self.spelled(columns) else {
             return Err(MarkFault::OutOfMemory);
         };
         match self.store.put(&bytes) {
-            Ok(()) => Ok(bytes),
+            Ok(()) => {
+                self.log.drop_cut();
+                Ok(bytes)
+            }
             Err(StoreFault::Device) => Err(MarkFault::Device),
             Err(StoreFault::OutOfMemory) => Err(MarkFault::OutOfMemory),
         }
     }
 
-    // The checkpoint of these columns and of the replies to all numbers, where none is unfinished. Each reply is
-    // spelled as it's read: a list of them would be longer than the checkpoint, and pass through memory twice.
+    // How many entries a mark is of.
+    fn marked_length(&self) -> u64
+        ensures value { result ≡ length_of (marked self.now.board) }
+        ensures few { result ≤ LOG_CALLS }
+        ensures beside { length self.now.board.log ≡ length self.now.board.states }
+    {
+        let length = self.log.length();
+        match self.log.cut_length() {
+            Some(number) => number,
+            None => length,
+        }
+    }
+
+    // The columns that a mark is of, or `None` while something of that is unfinished.
+    fn marked_columns(&self) -> Option<&Columns>
+        ensures value { MatchOption result (open_of (marked self.now.board) ≢ 0)
+            (λ columns. (open_of (marked self.now.board) ≡ 0)
+            × IsAfterAll declared_cowns effect_of (marked self.now.board) columns.now) }
+    {
+        match self.log.cut_length() {
+            Some(_) => self.log.cut_columns(),
+            None => self.log.settled_columns(),
+        }
+    }
+
+    // The checkpoint of these columns and of the replies to all numbers that are marked, where none is unfinished. Each
+    // reply is spelled as it's read: a list of them would be longer than the checkpoint, and pass through memory twice.
     fn spelled(&self, columns: &Columns) -> Result<Vec<u8>, AllocError>
-        requires { open_of self.now.board ≡ 0 }
+        requires { open_of (marked self.now.board) ≡ 0 }
         ensures { IfOk result (λ bytes. Spells (record {
           columns = columns.now;
-          replies = replies_held self.now.board;
+          replies = replies_held (marked self.now.board);
         }) bytes.items) }
     {
-        // Each entry is finished.
-        prove!(self.log.idle());
-        let length = self.length();
+        let length = self.marked_length();
         let mut draft = Draft::begin(self.alloc, columns, length as usize)?;
         for place in 0..length {
             let Some(reply) = self.reply(place + 1) else {

@@ -7,6 +7,7 @@ use sb_rows::read_opening;
 use std::alloc::Global;
 use std::process::Abort;
 
+mod cuts;
 mod faults;
 mod frames;
 mod marks;

@@ -1,16 +1,16 @@
 //! The log of a replica.
-ghost use Rattle.std.specs.Prelude.{◌≡◌, ◌≢◌, ◌↔◌, ◌≤◌, ◌<◌, ◌-◌, length, suc, Ok, IfOk, IfSome, OnErr, Some, MatchOption, MatchResult};
+ghost use Rattle.std.specs.Prelude.{◌≡◌, ◌≢◌, ◌↔◌, ◌≤◌, ◌<◌, ◌-◌, ℕ, length, suc, option_map, Ok, IfOk, IfSome, IsErrOf, OnOk, OnErr, Some, None, MatchOption, MatchResult};
 ghost use Rattle.sb_rows.specs.Balances.{IsBalances};
 ghost use Rattle.sb_calls.specs.Behaviour.{declared_cowns, effect_of};
 ghost use Rattle.sb_calls.specs.Cowns.{held_of};
 ghost use Rattle.sb_calls.specs.OneByOne.{reply_by_log};
 ghost use Rattle.sb_calls.specs.Op.{IsOpWithin};
-ghost use Rattle.cown_board.specs.Board.{length_of, open_of, reply_in, IsAfterAll};
-ghost use Rattle.cown_board.specs.Played.{StaysTrueToLog, Submitted};
+ghost use Rattle.cown_board.specs.Board.{length_of, open_of, reply_in, AreCut, IsAfterAll};
+ghost use Rattle.cown_board.specs.Played.{StaysTrueToLog, Submitted, CutMade, CutDropped};
 ghost use Rattle.sb_replica_log.specs.Offers.{offered, after_offer};
 
 use crate::offered::Offered;
-use cown_board::{Board, Done, Job, Runs, SubmitFault};
+use cown_board::{Board, CutFault, Done, Job, Runs, SubmitFault};
 use sb_calls::{LOG_CALLS, Op, Reply};
 use sb_rows::Columns;
 use std::alloc::AllocError;
@@ -86,6 +86,7 @@ impl ReplicaLog {
         ensures value { result ≡ length_of self.now }
         ensures few { length_of self.now ≤ LOG_CALLS }
         ensures bank { IsBalances self.now.opening }
+        ensures beside { length self.now.log ≡ length self.now.states }
     {
         self.board.length()
     }
@@ -118,6 +119,47 @@ impl ReplicaLog {
         ensures bank { IfSome result (λ columns. IsBalances columns.now) }
     {
         self.board.settled_columns()
+    }
+
+    /// Makes a cut at the log's length, and answers that, as [`Board::cut`].
+    pub fn cut(&mut self) -> Result<u64, CutFault>
+        ensures number { IfOk result (λ number. number ≡ length_of self.old) }
+        ensures ok { OnOk result ((self.old.cut ≡ None) ×
+            (self.new ≡ record self.old { cut = Some (length_of self.old) })) }
+        ensures err { OnErr result (self.new ≡ self.old) }
+        ensures pending { (number : ℕ) →
+            IsErrOf result (CutFault.Pending number) ↔ (self.old.cut ≡ Some number) }
+        // After any calls on its board, with this one too, the board is true to its log.
+        ensures played { StaysTrueToLog declared_cowns effect_of self.old (CutMade result) self.new }
+    {
+        self.board.cut()
+    }
+
+    /// The length of the cut, where there is one.
+    pub fn cut_length(&self) -> Option<u64>
+        ensures value { result ≡ self.now.cut }
+        ensures within { IfSome result (λ number.
+            (length self.now.earlier ≤ number) × (number ≤ length_of self.now)) }
+    {
+        self.board.cut_length()
+    }
+
+    /// The columns after the entries up to the cut's length, lent, or `None` while there is no cut, or one of
+    /// these is unfinished.
+    pub fn cut_columns(&self) -> Option<&Columns>
+        ensures value { AreCut declared_cowns effect_of self.now (option_map (λ columns. columns.now) result) }
+        ensures bank { IfSome result (λ columns. IsBalances columns.now) }
+    {
+        self.board.cut_columns()
+    }
+
+    /// Drops the cut, where there is one.
+    pub fn drop_cut(&mut self)
+        ensures state { self.new ≡ record self.old { cut = None } }
+        // After any calls on its board, with this one too, the board is true to its log.
+        ensures played { StaysTrueToLog declared_cowns effect_of self.old CutDropped self.new }
+    {
+        self.board.drop_cut();
     }
 }
 

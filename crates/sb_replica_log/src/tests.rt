@@ -92,3 +92,19 @@ fn columns_are_told_of_an_idle_log_alone(rt: HostRuntime) -> Result<(), Fail> {
     assert!(rt; columns.checking() == [5_000, 2_000, 0].as_slice());
     Ok(())
 }
+
+#[test]
+fn a_cut_settles_while_a_later_entry_waits(rt: HostRuntime) -> Result<(), Fail> {
+    let mut log = open_after(rt.alloc(), 0)?;
+    offers(&rt, &mut log, 1, Offered::Next, 1);
+    assert!(rt; log.cut() == Ok(1));
+    offers(&rt, &mut log, 2, Offered::Next, 2);
+    assert!(rt; log.cut_length() == Some(1));
+    assert!(rt; log.cut_columns().is_none());
+    runs_one(&rt, &mut log, 1)?;
+    assert!(rt; log.settled_columns().is_none());
+    assert!(rt; log.cut_columns().is_some());
+    log.drop_cut();
+    assert!(rt; log.cut_length().is_none());
+    Ok(())
+}

@@ -1,15 +1,35 @@
-use Rattle.std.proofs.Common.{◌≡◌, Ok, rules}
-use Rattle.sb_checkpoint.specs.Stores.{StoreDoes}
+use Rattle.std.proofs.Common.{◌≡◌, None, Ok, refl, rules, subst, ap, ◌∙◌, sym}
+use Rattle.cown_board.specs.Board.{BoardOf}
+use Rattle.sb_calls.specs.declared.op.Op.{Op}
+use Rattle.sb_checkpoint.specs.Stores.{StoreDoes, Put}
 use Rattle.sb_replica.specs.Marking.{Puts}
 use Rattle.sb_replica.specs.Replica.{ReplicaOf}
 use Rattle.sb_replica.proofs.replica.Replica.put_checkpoint.Goals as goal
 
 pub returns-in-Ok-put-clause-ok : goal.returns-in-Ok-put-clause-ok
 returns-in-Ok-put-clause-ok g c =
+    let store = g.S.CheckpointStore in
+    let old = c.args.self.now in
     let node = c.self.inside in
-    let new : ReplicaOf g.row.S.Denot =
-    record { id = node.id; names = node.directory; opening = node.opening; board = node.log; store = c.put.new.self } in
-    let puts : Puts (StoreDoes g.S.CheckpointStore.slot g.S.CheckpointStore.IsHonest g.S.CheckpointStore.failed g.S.CheckpointStore.acts)
-    c.args.self.now (Ok tt) new = search rules in
-    let same : puts.bytes ≡ c.in-Ok.bytes.items = search rules in
-    (puts, same)
+    let put : StoreDoes store.slot store.IsHonest store.failed store.acts old.store (Put c.in-Ok.bytes.items (Ok tt)) c.put.new.self = search rules in
+    let here : ReplicaOf g.row.S.Denot → ReplicaOf g.row.S.Denot = λ r. record r { board = record r.board { cut = None }; store = c.put.new.self } in
+    let stays : record {
+      id = node.id;
+      names = node.directory;
+      opening = node.opening;
+      board = c.drop_cut.new.self;
+      store = c.put.new.self;
+    } ≡ here old =
+    ap (λ (b : BoardOf Op). record { id = node.id; names = node.directory; opening = node.opening; board = b; store = c.put.new.self })
+    c.drop_cut.ensures.state ∙ ap here c.self.view_is in (
+      record {
+        idle = c.in-Some.ensures.value.0;
+        columns = c.in-Some.columns.now;
+        after = c.in-Some.ensures.value.1;
+        bytes = c.in-Ok.bytes.items;
+        spelled = c.in-Ok.ensures;
+        put = put;
+        stays = stays;
+      },
+      refl,
+    )
