@@ -74,6 +74,7 @@ put_after op old new is = record {
   opening = ap (λ (b : BoardOf Op). b.opening) is;
   earlier = ap (λ (b : BoardOf Op). b.earlier) is;
   log = ap (λ (b : BoardOf Op). b.log) is;
+  cut = ap (λ (b : BoardOf Op). b.cut) is;
   none_out = λ none. subst NoneOut (sym is) (none_out_more old.states none);
 }
 
@@ -85,6 +86,7 @@ put_after_run op old mid new drained none put =
       opening = made.opening ∙ drained.opening;
       earlier = made.earlier ∙ drained.earlier;
       log = made.log ∙ ap (λ l. l ++ op ∷ []) drained.log;
+      cut = made.cut ∙ drained.cut;
       none_out = λ before. made.none_out none;
     }
 
@@ -94,6 +96,7 @@ drains_same old new is = record {
   opening = ap (λ (b : BoardOf Op). b.opening) is;
   earlier = ap (λ (b : BoardOf Op). b.earlier) is;
   log = ap (λ (b : BoardOf Op). b.log) is;
+  cut = ap (λ (b : BoardOf Op). b.cut) is;
   finished = λ k reply at. ap (λ (b : BoardOf Op). slice_get b.states k) is ∙ at;
 }
 

@@ -1,16 +1,22 @@
 -- What a save comes to.
-use Rattle.std.proofs.Common.{◌≡◌, ℕ, Option, Some, List, refl, sym, ap, ◌∙◌, inr}
+use Rattle.std.proofs.Common.{◌≡◌, ℕ, Option, Some, None, List, Ok, refl, sym, ap, ◌∙◌, inr}
 use Rattle.std.specs.Prelude.{◌≢◌}
 use Rattle.sb_checkpoint.specs.Stores.{StoreStep, Got, NotGot}
 use Rattle.sb_checkpoint.specs.declared.store.StoreFault.{StoreFault}
 use Rattle.sb_checkpoint.specs.declared.store.StoreFault.TheVariants as store
-use Rattle.sb_replica.specs.Marking.{PutsBytes}
+use Rattle.sb_calls.specs.declared.op.Op.{Op}
+use Rattle.cown_board.specs.Board.{BoardOf}
+use Rattle.sb_replica.specs.Marking.{PutsBytes, after_put}
 use Rattle.sb_replica.specs.Replica.{ReplicaOf}
 use Rattle.bank_server.specs.Saving.{IsSaveFaultOf, PutsThen, ReadsOther, Saves, save_of_store_fault}
 use Rattle.bank_server.specs.declared.save_fault.SaveFault.TheVariants.{ReadBack}
 
 module _ {S : Type 0} (does : S → StoreStep → S → Type 0) (old mid new : ReplicaOf S) (bytes : List ℕ) (puts : PutsBytes does old bytes mid)
-    (rest : new ≡ record mid { store = new.store }) where
+    (rest : new ≡ record mid { store = new.store }) (uncut : old.board.cut ≡ None) where
+  -- without a cut the board stays as it is
+  same_board : after_put (Ok tt) old.board ≡ old.board
+  same_board = ap (λ (cut : Option ℕ). record old.board { cut = cut }) (sym uncut)
+
   then : (step : List ℕ → StoreStep → Type 0) (read : StoreStep) → does mid.store read new.store → step puts.0.bytes read → PutsThen does old step new
   then step read does_so which = record {
     mid = mid;
@@ -18,7 +24,8 @@ module _ {S : Type 0} (does : S → StoreStep → S → Type 0) (old mid new : R
     read = read;
     does_so = does_so;
     which = which;
-    stays = rest ∙ ap (λ (r : ReplicaOf S). record r { store = new.store }) puts.0.stays;
+    stays = rest ∙ ap (λ (r : ReplicaOf S). record r { store = new.store }) puts.0.stays
+        ∙ ap (λ (b : BoardOf Op). record old { board = b; store = new.store }) same_board;
   }
 
   -- what was put wasn't read back

@@ -25,11 +25,12 @@ pub record IsOpened (board : BoardOf Op) : Type 0 where
   pub log : board.log ≡ []
   pub states : board.states ≡ []
 
--- these ops are last in the log, and where no op was out none is
+-- these ops are last in the log, the cut stays, and where no op was out none is
 pub record ArePut (ops : List Op) (old new : BoardOf Op) : Type 0 where
   pub opening : new.opening ≡ old.opening
   pub earlier : new.earlier ≡ old.earlier
   pub log : new.log ≡ old.log ++ ops
+  pub cut : new.cut ≡ old.cut
   pub none_out : NoneOut old → NoneOut new
 
 -- these ops are the board's whole log, and all are finished

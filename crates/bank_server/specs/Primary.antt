@@ -1,5 +1,5 @@
 -- The log and node 0, which carries it out.
-use Rattle.std.specs.Prelude.{◌≡◌, ℕ, List, [], ◌++◌, map}
+use Rattle.std.specs.Prelude.{◌≡◌, ℕ, None, List, [], ◌++◌, map}
 use Rattle.sb_rows.specs.Rows.{Rows, SameCustomers, rows_of}
 use Rattle.sb_calls.specs.Op.{resolved}
 use Rattle.sb_calls.specs.declared.ask.Key.{Key}
@@ -15,9 +15,10 @@ use Rattle.bank_server.specs.Output.{calls_of}
 abbrev pub ops_of : List (List ℕ) → List (Key × Call) → List Op
 ops_of names log = map (resolved names) (calls_of log)
 
--- a board has a beginning of these ops, and no numbers before
+-- a board has a beginning of these ops, no numbers before, and no cut
 pub record IsBehind (ops : List Op) (board : BoardOf Op) : Type 0 where
   pub earlier : board.earlier ≡ []
+  pub uncut : board.cut ≡ None
   pub begins : (rest : List Op) × (ops ≡ board.log ++ rest)
 
 pub record PrimaryOf (S : Type 0) : Type 0 where

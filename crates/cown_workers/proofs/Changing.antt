@@ -21,6 +21,7 @@ Drains_trans first second = record {
   opening = second.opening ∙ first.opening;
   earlier = second.earlier ∙ first.earlier;
   log = second.log ∙ first.log;
+  cut = second.cut ∙ first.cut;
   finished = λ k reply h. second.finished k reply (first.finished k reply h);
 }
 
@@ -42,6 +43,7 @@ Drains_changed old new k before after unfinished c = record {
   opening = ap (λ b. b.opening) c.changed;
   earlier = ap (λ b. b.earlier) c.changed;
   log = ap (λ b. b.log) c.changed;
+  cut = ap (λ b. b.cut) c.changed;
   finished = λ j reply h. elim (cases_eq j k) [
     | inl same ↦ absurd (unfinished reply (injective (sym c.here ∙ ap (slice_get old.states) (sym same) ∙ h)))
     | inr differs ↦ ap (λ b. slice_get b.states j) c.changed ∙ slice_get-set_other old.states k j after differs ∙ h

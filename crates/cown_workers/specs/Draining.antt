@@ -99,11 +99,12 @@ pub record Exchanged {C : Type 0} (acts : C → CrewStep → C → Type 0) (befo
   pub crew : ActsAlong acts before steps after
   pub board : Exchanges old steps new
 
--- the log, and what was before it, stay; what was finished stays finished, with the same reply
+-- the log, what was before it, and the cut stay; what was finished stays finished, with the same reply
 pub record Drains (old new : BoardOf Op) : Type 0 where
   pub opening : new.opening ≡ old.opening
   pub earlier : new.earlier ≡ old.earlier
   pub log : new.log ≡ old.log
+  pub cut : new.cut ≡ old.cut
   pub finished : (k : ℕ) (reply : Reply) → slice_get old.states k ≡ Some (Finished reply)
       → slice_get new.states k ≡ Some (Finished reply)
 

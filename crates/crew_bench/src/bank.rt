@@ -30,7 +30,7 @@ impl Bank {
     /// A bank whose customers have nothing.
     pub fn open(alloc: Global) -> Result<Bank, Fault>
         ensures no_call { IfOk result (λ bank. bank.board ≡
-            record { opening = bank.board.opening; earlier = []; log = []; states = [] }) }
+            record { opening = bank.board.opening; earlier = []; log = []; states = []; cut = None }) }
     {
         let opening = opening(alloc)?;
         let board = Board::open(alloc, opening.columns, 0, Vec::new(alloc))?;

@@ -35,6 +35,7 @@ loop-number-preserved g c =
     record {
       behind = record {
         earlier = put.earlier ∙ kept.behind.earlier;
+        uncut = put.cut ∙ kept.behind.uncut;
         begins = (more.0, more.1 ∙ ap (λ (l : List Op). l ++ more.0) (sym put.log));
       };
       count = omega (arith, ap {B = ℕ} length put.log, length-append so_far (op ∷ []), kept.count);

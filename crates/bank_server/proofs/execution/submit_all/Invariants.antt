@@ -9,6 +9,7 @@ invariant-loop-op g l = record {
   opening : l.replica.board.opening ≡ l.fn.replica.board.opening;
   earlier : l.replica.board.earlier ≡ l.fn.replica.board.earlier;
   log : l.replica.board.log ++ drop l.op-index l.ops ≡ l.fn.replica.board.log ++ l.ops;
+  cut : l.replica.board.cut ≡ l.fn.replica.board.cut;
   count : length l.replica.board.log ≡ length l.fn.replica.board.log + l.op-index;
   none_out : NoneOut l.fn.replica.board → NoneOut l.replica.board;
   beside : beside_of l.replica ≡ beside_of l.fn.replica;

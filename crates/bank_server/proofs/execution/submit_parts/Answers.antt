@@ -18,6 +18,7 @@ loop-done-preserved g c =
     record {
       opening = put.opening ∙ kept.opening;
       earlier = put.earlier ∙ kept.earlier;
+      cut = put.cut ∙ kept.cut;
       log = next_part c.args.replica.now.board.log c.loop-done.replica.board.log c.submit_all.new.replica.board.log c.args.ops.now c.loop-done.done
           c.min.result kept.log put.log;
       within = omega (arith, c.min.ensures, kept.within, c.loop-done-test.true);

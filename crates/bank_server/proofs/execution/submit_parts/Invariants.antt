@@ -8,6 +8,7 @@ abbrev pub invariant-loop-done : goal.invariant-loop-done
 invariant-loop-done g l = record {
   opening : l.replica.board.opening ≡ l.fn.replica.board.opening;
   earlier : l.replica.board.earlier ≡ l.fn.replica.board.earlier;
+  cut : l.replica.board.cut ≡ l.fn.replica.board.cut;
   log : l.replica.board.log ≡ l.fn.replica.board.log ++ take l.done l.ops;
   within : l.done ≤ length l.ops;
   none_out : NoneOut l.fn.replica.board → NoneOut l.replica.board;

@@ -15,7 +15,7 @@ returns-in_err-held-clause-fault g c =
     let does : g.row.S.Denot → StoreStep → g.row.S.Denot → Type 0 =
     StoreDoes g.S.CheckpointStore.slot g.S.CheckpointStore.IsHonest g.S.CheckpointStore.failed g.S.CheckpointStore.acts in
     rw (p.1, p.2) (subst (λ (v : PrimaryOf g.row.S.Denot). IsSaveFaultOf does v.node (save_of_store_fault fault) c.stored.new.self) c.self.view_is
-    (not_read does c.self.inside.node c.put_checkpoint.new.self c.stored.new.self c.in_ok-put.put.items c.in_ok-put.ensures.ok c.stored.ensures.stays
+    (not_read does c.self.inside.node c.put_checkpoint.new.self c.stored.new.self c.in_ok-put.put.items c.in_ok-put.ensures.ok c.stored.ensures.stays c.self.invariant.behind.uncut
     fault c.in_err-held.ensures.got))
 
 pub returns-then-not-is_same-clause-fault : goal.returns-then-not-is_same-clause-fault
@@ -23,7 +23,7 @@ returns-then-not-is_same-clause-fault g c =
     let does : g.row.S.Denot → StoreStep → g.row.S.Denot → Type 0 =
     StoreDoes g.S.CheckpointStore.slot g.S.CheckpointStore.IsHonest g.S.CheckpointStore.failed g.S.CheckpointStore.acts in
     subst (λ (v : PrimaryOf g.row.S.Denot). IsSaveFaultOf does v.node ReadBack c.stored.new.self) c.self.view_is
-    (read_other does c.self.inside.node c.put_checkpoint.new.self c.stored.new.self c.in_ok-put.put.items c.in_ok-put.ensures.ok c.stored.ensures.stays
+    (read_other does c.self.inside.node c.put_checkpoint.new.self c.stored.new.self c.in_ok-put.put.items c.in_ok-put.ensures.ok c.stored.ensures.stays c.self.invariant.behind.uncut
     (option_map (λ held. held.items) c.in_ok-held.held) c.in_ok-held.ensures.got (search rules))
 
 pub returns-clause-saved : goal.returns-clause-saved
@@ -31,5 +31,5 @@ returns-clause-saved g c =
     let does : g.row.S.Denot → StoreStep → g.row.S.Denot → Type 0 =
     StoreDoes g.S.CheckpointStore.slot g.S.CheckpointStore.IsHonest g.S.CheckpointStore.failed g.S.CheckpointStore.acts in
     subst (λ (v : PrimaryOf g.row.S.Denot). Saves does v.node c.stored.new.self) c.self.view_is
-    (read_back does c.self.inside.node c.put_checkpoint.new.self c.stored.new.self c.in_ok-put.put.items c.in_ok-put.ensures.ok c.stored.ensures.stays
+    (read_back does c.self.inside.node c.put_checkpoint.new.self c.stored.new.self c.in_ok-put.put.items c.in_ok-put.ensures.ok c.stored.ensures.stays c.self.invariant.behind.uncut
     (option_map (λ held. held.items) c.in_ok-held.held) c.in_ok-held.ensures.got (search rules))
