@@ -37,7 +37,7 @@ split_first : {A : Type 0} (xs : List A) (x : A) → slice_get xs 0 ≡ Some x �
 split_first [] x here = absurd (none_some here)
 split_first (y ∷ xs) x here = ap (λ z. z ∷ xs) (some_is here)
 
-append_assoc : {A : Type 0} (xs ys zs : List A) → xs ++ (ys ++ zs) ≡ (xs ++ ys) ++ zs
+pub append_assoc : {A : Type 0} (xs ys zs : List A) → xs ++ (ys ++ zs) ≡ (xs ++ ys) ++ zs
 append_assoc [] ys zs = refl
 append_assoc (x ∷ xs) ys zs = ap (λ t. x ∷ t) (append_assoc xs ys zs)
 
@@ -56,6 +56,7 @@ module _ (opening : List ℤ) (log : List Op) where
         earlier = along.replies;
         states = refl;
         finished = λ k reply here. absurd (none_some here);
+        cut = λ number is. absurd (none_some is);
       }
 
   -- the next entry is accepted
@@ -79,6 +80,12 @@ module _ (opening : List ℤ) (log : List Op) where
         earlier = along.earlier;
         states = length-append board.log (op ∷ []) ∙ ap (λ n. n + 1) along.states ∙ sym (length-append board.states (Waiting ∷ []));
         finished = λ k reply here. along.finished k reply (pushed board.states k reply here);
+        cut = λ number is.
+            let within = along.cut number is in
+            let low = within.0 in
+            let high = within.1 in
+            let longer = length-append board.log (op ∷ []) in
+            (low, omega (arith, high, longer));
       }
     where
       pushed : (states : List State) (k : ℕ) (reply : Reply) → slice_get (states ++ Waiting ∷ []) k ≡ Some (Finished reply)
@@ -102,6 +109,7 @@ module _ (opening : List ℤ) (log : List Op) where
     earlier = along.earlier;
     states = along.states ∙ sym (length-set board.states place state);
     finished = λ k reply here. set_at board.states place k reply along.finished by_log here;
+    cut = along.cut;
   }
     where
       set_at : (states : List State) (p k : ℕ) (reply : Reply)
@@ -220,6 +228,7 @@ module _ (opening : List ℤ) (log : List Op) where
     states = along.states;
     finished = λ k reply here.
         reply_longer declared_cowns effect_of opening log more (length along.before + k) reply (along.finished k reply here);
+    cut = along.cut;
   }
 
   pub job_longer : (more : List Op) (job : JobOf Op) → IsJobAlong opening log job → IsJobAlong opening (log ++ more) job

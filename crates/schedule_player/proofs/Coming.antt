@@ -14,7 +14,7 @@ use Rattle.schedule_player.specs.Bank.{BankOf, log_reply}
 use Rattle.schedule_player.specs.Comes.{may_come, audit_may_come}
 use Rattle.schedule_player.specs.Numbered.{numbered}
 use Rattle.schedule_player.specs.Readiness.{runnable}
-use Rattle.schedule_player.specs.ReplicaMoves.{NodeOf, length_in, undone_in, told_reply, answered, reply_in_node, sent, sent_all, frame_comes, delivered_to, goes_out, reaches_out, taken, emptied, note_of_reply, comes_back, gives_back, finished_by, marked, restarted, acknowledged}
+use Rattle.schedule_player.specs.ReplicaMoves.{NodeOf, length_in, undone_in, told_reply, answered, reply_in_node, sent, sent_all, frame_comes, delivered_to, goes_out, reaches_out, taken, emptied, note_of_reply, comes_back, gives_back, finished_by, cut_after, cut_off, undone_up_to, marked_to, marked, restarted, acknowledged}
 use Rattle.schedule_player.specs.Stage.{Stage, Waits, IsOut, IsDone}
 use Rattle.schedule_player.specs.World.{WorldOf, Asks, Moves, bank_of, moved, moved_if, moved_at, keeps, told, heard_from, books_after, audited}
 use Rattle.schedule_text.specs.declared.event.Event.{Event}
@@ -83,11 +83,19 @@ gives bank node worker None = refl
 gives bank node worker (Some None) = refl
 gives bank node worker (Some (Some n)) = comes bank (emptied node worker) n (numbered node.stages n)
 
-puts : (node : NodeOf) (end : How) (idle : Bool) → may_come (mark_by node end idle).1 ≡ true
-puts node how.Ok true = refl
-puts node how.Old true = refl
-puts node how.New true = refl
-puts node end false = refl
+puts : (node : NodeOf) (size : ℕ) (end : How) (idle : Bool) → may_come (mark_by node size end idle).1 ≡ true
+puts node size how.Ok true = refl
+puts node size how.Old true = refl
+puts node size how.New true = refl
+puts node size end false = refl
+
+marks : (node : NodeOf) (end : How) (cut : Option ℕ) → may_come (marked_to node end cut).1 ≡ true
+marks node end (Some size) = puts node size end (undone_up_to node size == 0)
+marks node end None = puts node (length_in node) end (undone_in node == 0)
+
+cuts : (node : NodeOf) (cut : Option ℕ) → may_come (cut_after node cut).1 ≡ true
+cuts node (Some size) = refl
+cuts node None = refl
 
 -- ---- at the sequencer
 
@@ -142,8 +150,9 @@ moved_so world (event.Take r worker index) =
 moved_so world (event.Finish r worker) =
     comes_at world r (λ node. finished_by (bank_of world) node worker)
     (λ node. gives (bank_of world) node worker (numbered node.hands worker))
-moved_so world (event.Mark r end) = comes_at world r (λ node. marked node end) (λ node. puts node end (undone_in node == 0))
+moved_so world (event.Mark r end) = comes_at world r (λ node. marked node end) (λ node. marks node end node.cut)
 moved_so world (event.Restart r) = comes_at world r (λ node. restarted node) (λ node. refl)
+moved_so world (event.Cut r) = comes_at world r (λ node. cut_off node) (λ node. cuts node node.cut)
 moved_so world (event.Audit a b) = audits_so (bank_of world) a b (slice_get world.nodes a) (slice_get world.nodes b)
 
 asks_so : (old : WorldOf) (ask : Key × Call) (n : Note) (new : WorldOf) → Asks old ask n new → may_come n ≡ true
@@ -168,4 +177,5 @@ comes_of old (event.Take r worker index) n new moves = by_moved old (event.Take 
 comes_of old (event.Finish r worker) n new moves = by_moved old (event.Finish r worker) n new moves
 comes_of old (event.Mark r end) n new moves = by_moved old (event.Mark r end) n new moves
 comes_of old (event.Restart r) n new moves = by_moved old (event.Restart r) n new moves
+comes_of old (event.Cut r) n new moves = by_moved old (event.Cut r) n new moves
 comes_of old (event.Audit a b) n new moves = by_moved old (event.Audit a b) n new moves

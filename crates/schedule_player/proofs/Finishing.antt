@@ -69,7 +69,7 @@ finishes_nothing bank r old new worker place is w empty replica within hands = r
       in_hand bank old worker place None w empty
       ∙ ap (λ node. (node, note.Nothing)) (sym (same_node (seen_node new) (seen_node old) (ap (λ rep. stages_of rep.board) replica)
       (ap (map (option_map number_in)) (hands ∙ set_same old.hands.items place None empty))
-      (kept_within old new within) within.inbound within.outbound));
+      (kept_within old new within) (ap (λ rep. rep.board.cut) replica) within.inbound within.outbound));
 }
 
 -- ---- whether it is out
@@ -135,7 +135,7 @@ finishes_stranger bank r old new worker place job done is w here of not_out boar
           in_hand bank old worker place (Some job) w here
           ∙ stranger_unless_out bank (emptied (seen_node old) worker) job.number (numbered (stages_of old.replica.board) job.number) absent
           ∙ ap (λ node. (node, note.Stranger job.number)) (sym (same_node (seen_node new) (emptied (seen_node old) worker) (ap stages_of board)
-          (hands_emptied old new worker place w hands) (kept_within old new within) within.inbound within.outbound));
+          (hands_emptied old new worker place w hands) (kept_within old new within) (ap (λ b. b.cut) board) within.inbound within.outbound));
     }
 
 pub finishes_done : (bank : BankOf) (r : ℕ) (old new : Node) (worker place : ℕ) (job : JobOf Op) (done : DoneOf Op) (reply : Reply)
@@ -166,5 +166,6 @@ finishes_done bank r old new worker place job done reply is w here of finishes w
           ∙ ap (λ node. (node, note.Finished job.number reply)) (sym (same_node (seen_node new) moved
           (ap stages_of finishes.finished ∙ stages_set board finishes.place (Finished reply)
           ∙ ap (λ n. with_numbered (stages_of board) n IsDone) (sym number))
-          (hands_emptied old new worker place w hands) (kept_within old new within) within.inbound within.outbound));
+          (hands_emptied old new worker place w hands) (kept_within old new within) (ap (λ b. b.cut) finishes.finished)
+          within.inbound within.outbound));
     }

@@ -3,6 +3,7 @@ pub mod Asking
 pub mod Books
 pub mod Coming
 pub mod Comparing
+pub mod Cuts
 pub mod FinalStates
 pub mod Finishing
 pub mod HeardFrames

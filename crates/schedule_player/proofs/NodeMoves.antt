@@ -62,14 +62,10 @@ pub hand_seen : (bank : BankOf) (node : Node) (worker : ℕ) → numbered (seen_
 hand_seen bank node zero = refl
 hand_seen bank node (suc k) = slice_get-map (option_map number_in) node.hands.items k
 
-pub same_node : (a b : NodeOf) → a.stages ≡ b.stages → a.hands ≡ b.hands → a.kept ≡ b.kept → a.inbound ≡ b.inbound
+pub same_node : (a b : NodeOf) → a.stages ≡ b.stages → a.hands ≡ b.hands → a.kept ≡ b.kept → a.cut ≡ b.cut → a.inbound ≡ b.inbound
     → a.outbound ≡ b.outbound → a ≡ b
-same_node a b s h k i o =
-    ap (λ x. record { stages = x; hands = a.hands; kept = a.kept; inbound = a.inbound; outbound = a.outbound }) s
-    ∙ ap (λ x. record { stages = b.stages; hands = x; kept = a.kept; inbound = a.inbound; outbound = a.outbound }) h
-    ∙ ap (λ x. record { stages = b.stages; hands = b.hands; kept = x; inbound = a.inbound; outbound = a.outbound }) k
-    ∙ ap (λ x. record { stages = b.stages; hands = b.hands; kept = b.kept; inbound = x; outbound = a.outbound }) i
-    ∙ ap (λ x. record { stages = b.stages; hands = b.hands; kept = b.kept; inbound = b.inbound; outbound = x }) o
+same_node a b s h k c i o =
+    λ j. record { stages = s j; hands = h j; kept = k j; cut = c j; inbound = i j; outbound = o j }
 
 pub kept_within : (old new : Node) → ChangesWithin old new → (seen_node new).kept ≡ (seen_node old).kept
 kept_within old new within = ap (λ b. kept_in b.store.slot) within.beside
@@ -98,7 +94,7 @@ takes_nothing bank r old new worker place index is w empty within hands few boar
       as_moved =
           reaches bank old worker place index w empty ∙ ap (goes_out (seen_node old) worker) none
           ∙ ap (λ node. (node, note.Nothing)) (sym (same_node (seen_node new) (seen_node old) (ap stages_of board)
-          (ap (λ h. map (option_map number_in) h.items) hands) (kept_within old new within) within.inbound within.outbound));
+          (ap (λ h. map (option_map number_in) h.items) hands) (kept_within old new within) (ap (λ b. b.cut) board) within.inbound within.outbound));
     }
 
 pub takes_job : (bank : BankOf) (r : ℕ) (old new : Node) (worker place index : ℕ) (job : JobOf Op) → IsNodeAt bank r old → worker ≡ suc place
@@ -126,6 +122,6 @@ takes_job bank r old new worker place index job is w empty within hands takes =
           (ap (map (option_map number_in)) hands ∙ set-map (option_map number_in) old.hands.items place (Some job)
           ∙ ap (λ n. slice_set (map (option_map number_in) old.hands.items) place (Some n)) takes.number
           ∙ ap (λ v. with_numbered (map (option_map number_in) old.hands.items) v (Some (suc (base + takes.place)))) (sym w))
-          (kept_within old new within) within.inbound within.outbound))
+          (kept_within old new within) (ap (λ b. b.cut) takes.out) within.inbound within.outbound))
           ∙ ap (λ n. (seen_node new, note.Took n)) (sym takes.number);
     }

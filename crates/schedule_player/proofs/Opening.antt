@@ -22,11 +22,12 @@ empty_seen : (workers : ℕ) → map (option_map number_in) (copies workers None
 empty_seen zero = refl
 empty_seen (suc n) = ap (λ t. None ∷ t) (empty_seen n)
 
-pub opens_so : (node : Node) (workers : ℕ) → stages_of node.replica.board ≡ [] → node.replica.store.slot ≡ None
-    → node.hands.items ≡ copies workers None → node.inbound ≡ [] → node.outbound ≡ [] → seen_node node ≡ opened_node workers
-opens_so node workers stages slot hands inbound outbound =
+pub opens_so : (node : Node) (workers : ℕ) → stages_of node.replica.board ≡ [] → node.replica.board.cut ≡ None
+    → node.replica.store.slot ≡ None → node.hands.items ≡ copies workers None → node.inbound ≡ [] → node.outbound ≡ []
+    → seen_node node ≡ opened_node workers
+opens_so node workers stages cut slot hands inbound outbound =
     same_node (seen_node node) (opened_node workers) stages (ap (map (option_map number_in)) hands ∙ empty_seen workers)
-    (ap kept_in slot) inbound outbound
+    (ap kept_in slot) cut inbound outbound
 
 empty_hand : (bank : BankOf) (workers k : ℕ) (hand : Option (JobOf Op)) → slice_get (copies workers None) k ≡ Some hand → IsHandAlong bank hand
 empty_hand bank zero k hand here = absurd (none_some here)

@@ -20,7 +20,7 @@ use Rattle.schedule_player.specs.Bank.{BankOf}
 use Rattle.schedule_player.specs.Numbered.{numbered}
 use Rattle.schedule_player.specs.Played.{Plays, IsPlayed}
 use Rattle.schedule_player.specs.Readiness.{runnable}
-use Rattle.schedule_player.specs.ReplicaMoves.{NodeOf, length_in, undone_in, told_reply, answered, reply_in_node, sent, sent_all, frame_comes, delivered_to, goes_out, reaches_out, taken, emptied, comes_back, gives_back, finished_by, marked, restarted, acknowledged}
+use Rattle.schedule_player.specs.ReplicaMoves.{NodeOf, length_in, undone_in, told_reply, answered, reply_in_node, sent, sent_all, frame_comes, delivered_to, goes_out, reaches_out, taken, emptied, comes_back, gives_back, finished_by, cut_after, cut_off, undone_up_to, marked_to, marked, restarted, acknowledged}
 use Rattle.schedule_player.specs.Stage.{Stage, Waits, IsOut, IsDone}
 use Rattle.schedule_player.specs.TrueToLog.{IsTold, RecordsWereTold}
 use Rattle.schedule_player.specs.World.{WorldOf, Asks, Moves, bank_of, moved, moved_if, moved_at, keeps, told, heard_from, opened_world}
@@ -84,11 +84,19 @@ gives bank node worker None = refl
 gives bank node worker (Some None) = refl
 gives bank node worker (Some (Some n)) = comes bank (emptied node worker) n (numbered node.stages n)
 
-puts : (node : NodeOf) (end : How) (idle : Bool) → (mark_by node end idle).0.outbound ≡ node.outbound
-puts node how.Ok true = refl
-puts node how.Old true = refl
-puts node how.New true = refl
-puts node end false = refl
+puts : (node : NodeOf) (size : ℕ) (end : How) (idle : Bool) → (mark_by node size end idle).0.outbound ≡ node.outbound
+puts node size how.Ok true = refl
+puts node size how.Old true = refl
+puts node size how.New true = refl
+puts node size end false = refl
+
+marks : (node : NodeOf) (end : How) (cut : Option ℕ) → (marked_to node end cut).0.outbound ≡ node.outbound
+marks node end (Some size) = puts node size end (undone_up_to node size == 0)
+marks node end None = puts node (length_in node) end (undone_in node == 0)
+
+cuts : (node : NodeOf) (cut : Option ℕ) → (cut_after node cut).0.outbound ≡ node.outbound
+cuts node (Some size) = refl
+cuts node None = refl
 
 -- ---- what is recorded
 
@@ -184,9 +192,11 @@ records_moved world (event.Finish r worker) were =
     records_at world r (λ node. finished_by (bank_of world) node worker)
     (λ node. same node (finished_by (bank_of world) node worker).0 (gives (bank_of world) node worker (numbered node.hands worker))) were
 records_moved world (event.Mark r end) were =
-    records_at world r (λ node. marked node end) (λ node. same node (marked node end).0 (puts node end (undone_in node == 0))) were
+    records_at world r (λ node. marked node end) (λ node. same node (marked node end).0 (marks node end node.cut)) were
 records_moved world (event.Restart r) were =
     records_at world r (λ node. restarted node) (λ node. same node (restarted node).0 refl) were
+records_moved world (event.Cut r) were =
+    records_at world r (λ node. cut_off node) (λ node. same node (cut_off node).0 (cuts node node.cut)) were
 records_moved world (event.Audit a b) were = were
 
 -- an ask records nothing
@@ -213,6 +223,7 @@ records_one old (event.Take r worker index) n new moves were = by_moved old (eve
 records_one old (event.Finish r worker) n new moves were = by_moved old (event.Finish r worker) n new moves were
 records_one old (event.Mark r end) n new moves were = by_moved old (event.Mark r end) n new moves were
 records_one old (event.Restart r) n new moves were = by_moved old (event.Restart r) n new moves were
+records_one old (event.Cut r) n new moves were = by_moved old (event.Cut r) n new moves were
 records_one old (event.Audit a b) n new moves were = by_moved old (event.Audit a b) n new moves were
 
 records_all : (old : WorldOf) (events : List Event) (notes : List Note) (new : WorldOf) → Plays old events notes new → RecordsWereTold old

@@ -16,7 +16,7 @@ use Rattle.schedule_player.specs.Readiness.{stage_is}
 use Rattle.schedule_player.specs.Seen.{stage_of, stages_of}
 use Rattle.schedule_player.specs.Stage.{Stage, Waits, IsOut, IsDone, waits, is_undone}
 
-length-copies : {A : Type 0} (n : ℕ) (x : A) → length (copies n x) ≡ n
+pub length-copies : {A : Type 0} (n : ℕ) (x : A) → length (copies n x) ≡ n
 length-copies zero x = refl
 length-copies (suc n) x = ap suc (length-copies n x)
 

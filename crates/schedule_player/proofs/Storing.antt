@@ -1,7 +1,7 @@
 -- A replica puts its checkpoint, and goes back to it.
 use Rattle.std.proofs.Common.{◌≡◌, inl, inr, ℕ, ℤ, Option, Some, None, Result, Ok, Err, List, [], ◌∷◌, length, refl, sym, ap, subst, ◌∙◌, arith}
-use Rattle.std.specs.Prelude.{if◌then◌else◌, count_by}
-use Rattle.std.proofs.lemmas.Bool.{eq-eqb}
+use Rattle.std.specs.Prelude.{◌≢◌, if◌then◌else◌}
+use Rattle.std.proofs.lemmas.Bool.{eq-eqb, ne_eqb}
 use Rattle.cown_board.proofs.PlacesLaws.{append_nothing}
 use Rattle.cown_board.specs.Board.{BoardOf, length_of, open_of, IsAfterAll}
 use Rattle.cown_board.specs.Played.{opened_with}
@@ -20,9 +20,10 @@ use Rattle.sb_checkpoint.specs.declared.fault.CheckpointFault.{CheckpointFault}
 use Rattle.sb_checkpoint.specs.declared.memory_store.How.{How}
 use Rattle.sb_checkpoint.specs.declared.store.StoreFault.{StoreFault}
 use Rattle.sb_checkpoint.specs.declared.store.StoreFault.TheVariants as store
-use Rattle.sb_replica.specs.Marking.{Puts}
+use Rattle.sb_replica.specs.Marking.{Puts, IsMarkFaultOf, marked as marked_part}
 use Rattle.sb_replica.specs.Replica.{ReplicaOf, replies_held}
 use Rattle.sb_replica.specs.Restarting.{IsStoredAs, Restarts, IsRestartFaultOf, of_store_fault}
+use Rattle.sb_replica.specs.declared.fault.MarkFault.TheVariants as fault
 use Rattle.sb_replica.specs.declared.fault.RestartFault.{RestartFault}
 use Rattle.sb_replica.specs.declared.fault.RestartFault.TheVariants as restart
 use Rattle.sb_replica.proofs.IdleReplies.{length_held}
@@ -30,16 +31,17 @@ use Rattle.schedule_player.specs.Along.{IsBoardAlong}
 use Rattle.schedule_player.specs.Bank.{BankOf}
 use Rattle.schedule_player.specs.NodeAlong.{seen_node, IsKeptAlong, IsNodeAt, Arrives}
 use Rattle.schedule_player.specs.Numbered.{copies}
-use Rattle.schedule_player.specs.ReplicaMoves.{NodeOf, put_ends, marked, restarted}
+use Rattle.schedule_player.specs.ReplicaMoves.{NodeOf, cut_after, cut_off, put_ends, marked, restarted}
 use Rattle.schedule_player.specs.Seen.{stages_of, kept_in, ops_of}
-use Rattle.schedule_player.specs.Stage.{IsDone, is_undone}
+use Rattle.schedule_player.specs.Stage.{IsDone}
 use Rattle.schedule_player.specs.declared.node.Node.{Node}
 use Rattle.schedule_text.specs.declared.note.Note.{Note}
 use Rattle.schedule_text.specs.declared.note.Note.TheVariants as note
 use Rattle.schedule_player.proofs.Along.{along_opened}
+use Rattle.schedule_player.proofs.Cuts.{along_cut, along_uncut, marked_along, marks_as}
 use Rattle.schedule_player.proofs.Lists.{some_is, none_some}
 use Rattle.schedule_player.proofs.SeenReplies.{checkpoint_along, columns_along}
-use Rattle.schedule_player.proofs.Stages.{length_stages, undone_in_stages}
+use Rattle.schedule_player.proofs.Stages.{length_stages}
 
 -- ---- columns that hold the same are the same
 
@@ -111,16 +113,50 @@ node_stored bank r old new is beside board kept = record {
   outbound = is.outbound;
 }
 
--- the board stays, and this is kept
+-- the stages stay, and this is kept
 storing : (bank : BankOf) (r : ℕ) (old : Node) (new : ReplicaOf MemoryStoreOf) (kept : ℕ) (n : Note) (moved : NodeOf × Note) → IsNodeAt bank r old
-    → KeepsBeside old.replica new → new.board ≡ old.replica.board → IsKeptAlong bank new.store.slot → kept_in new.store.slot ≡ kept
-    → moved ≡ (record (seen_node old) { kept = kept }, n) → Arrives bank r (record old { replica = new }) n moved
-storing bank r old new kept n moved is beside board slot k e = record {
-  along = node_stored bank r old new is beside (subst (IsBoardAlong (held_of bank.opening) (ops_of bank)) (sym board) is.board) slot;
+    → KeepsBeside old.replica new → IsBoardAlong (held_of bank.opening) (ops_of bank) new.board
+    → stages_of new.board ≡ stages_of old.replica.board → IsKeptAlong bank new.store.slot → kept_in new.store.slot ≡ kept
+    → moved ≡ (record (seen_node old) { kept = kept; cut = new.board.cut }, n) → Arrives bank r (record old { replica = new }) n moved
+storing bank r old new kept n moved is beside board stages slot k e = record {
+  along = node_stored bank r old new is beside board slot;
   as_moved =
-      e ∙ ap (λ x. (record (seen_node old) { kept = x }, n)) (sym k)
-      ∙ ap (λ b. (record (seen_node old) { stages = stages_of b; kept = kept_in new.store.slot }, n)) (sym board);
+      e ∙ ap (λ x. (record (seen_node old) { kept = x; cut = new.board.cut }, n)) (sym k)
+      ∙ ap (λ s. (record (seen_node old) { stages = s; kept = kept_in new.store.slot; cut = new.board.cut }, n)) (sym stages);
 }
+
+-- ---- cutting
+
+cutting : (bank : BankOf) (r : ℕ) (old : Node) (new : ReplicaOf MemoryStoreOf) (cut : Option ℕ) (n : Note) → IsNodeAt bank r old
+    → new ≡ record old.replica { board = record old.replica.board { cut = cut } }
+    → IsBoardAlong (held_of bank.opening) (ops_of bank) (record old.replica.board { cut = cut })
+    → cut_off (seen_node old) ≡ (record (seen_node old) { cut = cut }, n)
+    → Arrives bank r (record old { replica = new }) n (cut_off (seen_node old))
+cutting bank r old new cut n is same board e =
+    storing bank r old new (kept_in old.replica.store.slot) n (cut_off (seen_node old)) is
+    (record { id = ap (λ x. x.id) same; names = ap (λ x. x.names) same; opening = ap (λ x. x.opening) same })
+    (subst (λ x. IsBoardAlong (held_of bank.opening) (ops_of bank) x.board) (sym same) board)
+    (ap (λ x. stages_of x.board) same) (subst (λ x. IsKeptAlong bank x.store.slot) (sym same) is.kept)
+    (ap (λ x. kept_in x.store.slot) same)
+    (e ∙ ap (λ x. (record (seen_node old) { cut = x.board.cut }, n)) (sym same))
+
+pub cuts_now : (bank : BankOf) (r : ℕ) (old : Node) (new : ReplicaOf MemoryStoreOf) (size : ℕ) → IsNodeAt bank r old
+    → size ≡ length_of old.replica.board → old.replica.board.cut ≡ None
+    → new ≡ record old.replica { board = record old.replica.board { cut = Some (length_of old.replica.board) } }
+    → Arrives bank r (record old { replica = new }) (note.Cut size) (cut_off (seen_node old))
+cuts_now bank r old new size is s none same =
+    let board = old.replica.board in
+    subst (λ n. Arrives bank r (record old { replica = new }) (note.Cut n) (cut_off (seen_node old))) (sym s)
+    (cutting bank r old new (Some (length_of board)) (note.Cut (length_of board)) is same
+    (along_cut (held_of bank.opening) (ops_of bank) board is.board)
+    (ap (cut_after (seen_node old)) none
+    ∙ ap (λ n. (record (seen_node old) { cut = Some n }, note.Cut n)) (length_stages board is.board.states)))
+
+pub cuts_pending : (bank : BankOf) (r : ℕ) (old : Node) (new : ReplicaOf MemoryStoreOf) (size : ℕ) → IsNodeAt bank r old
+    → old.replica.board.cut ≡ Some size → new ≡ old.replica
+    → Arrives bank r (record old { replica = new }) (note.Pending size) (cut_off (seen_node old))
+cuts_pending bank r old new size is here same =
+    cutting bank r old new old.replica.board.cut (note.Pending size) is same is.board (ap (cut_after (seen_node old)) here)
 
 -- ---- marking
 
@@ -134,29 +170,37 @@ Does = StoreDoes (λ s. s.slot) (λ s. Unit {0}) (λ s. s.failures) MemoryActs
 kept_now : (bank : BankOf) (r : ℕ) (old : Node) (end : How) (answer : Result (Unit {0}) StoreFault) (new : ReplicaOf MemoryStoreOf) → IsNodeAt bank r old
     → (puts : Puts Does (told_of old.replica end) answer new) → IsKeptAlong bank (Some puts.bytes)
 kept_now bank r old end answer new is puts =
+    let part = marked_part old.replica.board in
+    let along = marked_along (held_of bank.opening) (ops_of bank) old.replica.board is.board in
     let valid = puts.spelled.valid in
-    let customers = after_columns bank old.replica.board puts.columns is.customers is.board valid.balances.same puts.after in
+    let customers = after_columns bank part puts.columns is.customers along valid.balances.same puts.after in
     record {
-      checkpoint = record { columns = puts.columns; replies = replies_held old.replica.board };
+      checkpoint = record { columns = puts.columns; replies = replies_held part };
       stored = (puts.spelled, customers.places);
-      along = checkpoint_along (held_of bank.opening) (ops_of bank) old.replica.board puts.columns is.board puts.idle puts.after;
+      along = checkpoint_along (held_of bank.opening) (ops_of bank) part puts.columns along puts.idle puts.after;
     }
 
 kept_length : (bank : BankOf) (r : ℕ) (old : Node) (end : How) (answer : Result (Unit {0}) StoreFault) (new : ReplicaOf MemoryStoreOf) → IsNodeAt bank r old
-    → (puts : Puts Does (told_of old.replica end) answer new) → stated_length puts.bytes ≡ length_of old.replica.board
+    → (puts : Puts Does (told_of old.replica end) answer new) → stated_length puts.bytes ≡ length_of (marked_part old.replica.board)
 kept_length bank r old end answer new is puts =
-    let back = read_back (record { columns = puts.columns; replies = replies_held old.replica.board }) puts.bytes puts.spelled in
-    back.count ∙ length_held old.replica.board puts.idle is.board.states
+    let part = marked_part old.replica.board in
+    let along = marked_along (held_of bank.opening) (ops_of bank) old.replica.board is.board in
+    let back = read_back (record { columns = puts.columns; replies = replies_held part }) puts.bytes puts.spelled in
+    back.count ∙ length_held part puts.idle along.states
 
-idle_marks : (bank : BankOf) (r : ℕ) (old : Node) (end : How) → IsNodeAt bank r old → open_of old.replica.board ≡ 0
-    → marked (seen_node old) end ≡ put_ends (seen_node old) end
+idle_marks : (bank : BankOf) (r : ℕ) (old : Node) (end : How) → IsNodeAt bank r old → open_of (marked_part old.replica.board) ≡ 0
+    → marked (seen_node old) end ≡ put_ends (seen_node old) (length_of (marked_part old.replica.board)) end
 idle_marks bank r old end is idle =
-    ap (λ b. if b then put_ends (seen_node old) end else (seen_node old, note.Unfinished))
-    (eq-eqb (count_by is_undone (stages_of old.replica.board)) 0 (undone_in_stages old.replica.board ∙ idle))
+    let part = marked_part old.replica.board in
+    marks_as bank r old end is
+    ∙ ap (λ b. if b then put_ends (seen_node old) (length_of part) end else (seen_node old, note.Unfinished)) (eq-eqb (open_of part) 0 idle)
 
-board_stays : (old : ReplicaOf MemoryStoreOf) (end : How) (answer : Result (Unit {0}) StoreFault) (new : ReplicaOf MemoryStoreOf)
-    → Puts Does (told_of old end) answer new → new.board ≡ old.board
-board_stays old end answer new puts = ap (λ x. x.board) puts.stays
+busy_marks : (bank : BankOf) (r : ℕ) (old : Node) (end : How) → IsNodeAt bank r old → open_of (marked_part old.replica.board) ≢ 0
+    → marked (seen_node old) end ≡ (seen_node old, note.Unfinished)
+busy_marks bank r old end is busy =
+    let part = marked_part old.replica.board in
+    marks_as bank r old end is
+    ∙ ap (λ b. if b then put_ends (seen_node old) (length_of part) end else (seen_node old, note.Unfinished)) (ne_eqb (open_of part) 0 busy)
 
 beside_stays : (old : ReplicaOf MemoryStoreOf) (end : How) (answer : Result (Unit {0}) StoreFault) (new : ReplicaOf MemoryStoreOf)
     → Puts Does (told_of old end) answer new → KeepsBeside old new
@@ -166,41 +210,66 @@ beside_stays old end answer new puts = record {
   opening = ap (λ x. x.opening) puts.stays;
 }
 
+-- the cut is gone
 pub marks_well : (bank : BankOf) (r : ℕ) (old : Node) (end : How) (new : ReplicaOf MemoryStoreOf) (size : ℕ) → IsNodeAt bank r old
-    → size ≡ length_of old.replica.board → Puts Does (told_of old.replica end) (Ok tt) new
+    → size ≡ length_of (marked_part old.replica.board) → Puts Does (told_of old.replica end) (Ok tt) new
     → Arrives bank r (record old { replica = new }) (note.Marked size) (marked (seen_node old) end)
 marks_well bank r old end new size is s puts =
     let acts = puts.put.as_told in
     let slot : new.store.slot ≡ Some puts.bytes = ap (λ x. x.slot) acts.1 in
-    let m : length_of old.replica.board ≡ size = sym s in
+    let board : new.board ≡ record old.replica.board { cut = None } = ap (λ x. x.board) puts.stays in
     storing bank r old new size (note.Marked size) (marked (seen_node old) end) is
-    (beside_stays old.replica end (Ok tt) new puts) (board_stays old.replica end (Ok tt) new puts)
+    (beside_stays old.replica end (Ok tt) new puts)
+    (subst (IsBoardAlong (held_of bank.opening) (ops_of bank)) (sym board) (along_uncut (held_of bank.opening) (ops_of bank) old.replica.board is.board))
+    (ap stages_of board)
     (subst (IsKeptAlong bank) (sym slot) (kept_now bank r old end (Ok tt) new is puts))
-    (ap kept_in slot ∙ kept_length bank r old end (Ok tt) new is puts ∙ m)
-    (idle_marks bank r old end is puts.idle ∙ ap (put_ends (seen_node old)) acts.0
-    ∙ ap (λ n. (record (seen_node old) { kept = n }, note.Marked n)) (length_stages old.replica.board is.board.states ∙ m))
+    (ap kept_in slot ∙ kept_length bank r old end (Ok tt) new is puts ∙ sym s)
+    (idle_marks bank r old end is puts.idle ∙ ap (put_ends (seen_node old) (length_of (marked_part old.replica.board))) acts.0
+    ∙ ap (λ n. (record (seen_node old) { kept = n; cut = None }, note.Marked n)) (sym s)
+    ∙ ap (λ b. (record (seen_node old) { kept = size; cut = b.cut }, note.Marked size)) (sym board))
 
 pub marks_badly : (bank : BankOf) (r : ℕ) (old : Node) (end : How) (new : ReplicaOf MemoryStoreOf) → IsNodeAt bank r old
     → Puts Does (told_of old.replica end) (Err store.Device) new
     → Arrives bank r (record old { replica = new }) note.StoreFault (marked (seen_node old) end)
 marks_badly bank r old end new is puts = by puts.put.as_told
   where
+    size : ℕ
+    size = length_of (marked_part old.replica.board)
+
+    board : new.board ≡ old.replica.board
+    board = ap (λ x. x.board) puts.stays
+
+    -- with this kept
+    with_slot : (kept : ℕ) → IsKeptAlong bank new.store.slot → kept_in new.store.slot ≡ kept
+        → put_ends (seen_node old) size end ≡ (record (seen_node old) { kept = kept }, note.StoreFault)
+        → Arrives bank r (record old { replica = new }) note.StoreFault (marked (seen_node old) end)
+    with_slot kept slot is_kept e =
+        storing bank r old new kept note.StoreFault (marked (seen_node old) end) is
+        (beside_stays old.replica end (Err store.Device) new puts)
+        (subst (IsBoardAlong (held_of bank.opening) (ops_of bank)) (sym board) is.board) (ap stages_of board) slot is_kept
+        (idle_marks bank r old end is puts.idle ∙ e ∙ ap (λ b. (record (seen_node old) { kept = kept; cut = b.cut }, note.StoreFault)) (sym board))
+
     by : MemoryActs (told_of old.replica end).store (Put puts.bytes (Err store.Device)) new.store
         → Arrives bank r (record old { replica = new }) note.StoreFault (marked (seen_node old) end)
     by (inl left) =
         let slot : new.store.slot ≡ old.replica.store.slot = ap (λ x. x.slot) left.1 in
-        storing bank r old new (kept_in old.replica.store.slot) note.StoreFault (marked (seen_node old) end) is
-        (beside_stays old.replica end (Err store.Device) new puts) (board_stays old.replica end (Err store.Device) new puts)
-        (subst (IsKeptAlong bank) (sym slot) is.kept) (ap kept_in slot)
-        (idle_marks bank r old end is puts.idle ∙ ap (put_ends (seen_node old)) left.0)
+        with_slot (kept_in old.replica.store.slot) (subst (IsKeptAlong bank) (sym slot) is.kept) (ap kept_in slot)
+        (ap (put_ends (seen_node old) size) left.0)
     by (inr right) =
         let slot : new.store.slot ≡ Some puts.bytes = ap (λ x. x.slot) right.1 in
-        storing bank r old new (length_of old.replica.board) note.StoreFault (marked (seen_node old) end) is
-        (beside_stays old.replica end (Err store.Device) new puts) (board_stays old.replica end (Err store.Device) new puts)
-        (subst (IsKeptAlong bank) (sym slot) (kept_now bank r old end (Err store.Device) new is puts))
+        with_slot size (subst (IsKeptAlong bank) (sym slot) (kept_now bank r old end (Err store.Device) new is puts))
         (ap kept_in slot ∙ kept_length bank r old end (Err store.Device) new is puts)
-        (idle_marks bank r old end is puts.idle ∙ ap (put_ends (seen_node old)) right.0
-        ∙ ap (λ n. (record (seen_node old) { kept = n }, note.StoreFault)) (length_stages old.replica.board is.board.states))
+        (ap (put_ends (seen_node old) size) right.0)
+
+pub marks_busy : (bank : BankOf) (r : ℕ) (old : Node) (end : How) (new : ReplicaOf MemoryStoreOf) → IsNodeAt bank r old
+    → IsMarkFaultOf Does (told_of old.replica end) fault.Busy new
+    → Arrives bank r (record old { replica = new }) note.Unfinished (marked (seen_node old) end)
+marks_busy bank r old end new is (busy, same) =
+    storing bank r old new (kept_in old.replica.store.slot) note.Unfinished (marked (seen_node old) end) is
+    (record { id = ap (λ x. x.id) same; names = ap (λ x. x.names) same; opening = ap (λ x. x.opening) same })
+    (subst (λ x. IsBoardAlong (held_of bank.opening) (ops_of bank) x.board) (sym same) is.board) (ap (λ x. stages_of x.board) same)
+    (subst (λ x. IsKeptAlong bank x.store.slot) (sym same) is.kept) (ap (λ x. kept_in x.store.slot) same)
+    (busy_marks bank r old end is busy ∙ ap (λ x. (record (seen_node old) { cut = x.board.cut }, note.Unfinished)) (sym same))
 
 -- ---- going back
 
@@ -242,10 +311,12 @@ goes_back bank r old new size is restarts =
           (subst (IsBoardAlong (held_of bank.opening) (ops_of bank)) (sym board) (along_opened (held_of bank.opening) (ops_of bank) made is.kept.along))
           (subst (IsKeptAlong bank) (sym slot) is.kept);
       as_moved =
-          ap (λ n. (record (seen_node old) { stages = copies n IsDone }, note.Restarted n)) kept
-          ∙ ap (λ s. (record (seen_node old) { stages = s }, note.Restarted (length made.replies))) (sym (append_nothing (copies (length made.replies) IsDone)))
-          ∙ ap (λ b. (record (seen_node old) { stages = stages_of b }, note.Restarted (length made.replies))) (sym board)
-          ∙ ap (λ s. (record (seen_node old) { stages = stages_of new.board; kept = kept_in s }, note.Restarted (length made.replies))) (sym slot)
+          ap (λ n. (record (seen_node old) { stages = copies n IsDone; cut = None }, note.Restarted n)) kept
+          ∙ ap (λ s. (record (seen_node old) { stages = s; cut = None }, note.Restarted (length made.replies)))
+          (sym (append_nothing (copies (length made.replies) IsDone)))
+          ∙ ap (λ b. (record (seen_node old) { stages = stages_of b; cut = b.cut }, note.Restarted (length made.replies))) (sym board)
+          ∙ ap (λ s. (record (seen_node old) { stages = stages_of new.board; kept = kept_in s; cut = new.board.cut }, note.Restarted (length made.replies)))
+          (sym slot)
           ∙ ap (λ n. (seen_node (record old { replica = new }), note.Restarted n)) (sym length_is);
     }
 

@@ -191,6 +191,13 @@ entry_alike bank r node op n is within =
     ))
     (sym (within_limit (nat_lt (suc (length_of board)) n) n within))
 
+-- an entry leaves the cut
+cut_offered : (board : BoardOf Op) (op : Op) (answer : Offered) → (after_offer board op answer).cut ≡ board.cut
+cut_offered board op offer.Next = refl
+cut_offered board op offer.Repeat = refl
+cut_offered board op (offer.Gap size) = refl
+cut_offered board op (offer.Busy size) = refl
+
 -- the board is beside the log after it
 offer_along : (bank : BankOf) (board : BoardOf Op) (call : Call) (n : ℕ) → IsBoardAlong (held_of bank.opening) (ops_of bank) board
     → numbered bank.calls n ≡ Some call → (answer : Offered) → offered board n ≡ answer
@@ -239,5 +246,7 @@ delivers bank r old new place bytes sent answer is here spelled hears =
               ap (frame_comes (seen_node old)) (here ∙ ap (λ f. Some f) entry.frame_is)
               ∙ entry_alike bank r old op n is (omega (arith, inside, few))
               ∙ ap (λ a. (record (seen_node old) { stages = stages_of (after_offer board op (offered board n)) }, note_of_heard a)) (sym answer_is)
+              ∙ ap (λ cut. (record (seen_node old) { stages = stages_of (after_offer board op (offered board n)); cut = cut }, note_of_heard answer))
+              (sym (cut_offered board op (offered board n)))
               ∙ ap (λ rep. (seen_node (record old { replica = rep }), note_of_heard answer)) (sym new_is);
         }

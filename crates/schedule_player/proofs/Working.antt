@@ -9,9 +9,9 @@ use Rattle.sb_frames.specs.declared.frame.Frame.{Frame}
 use Rattle.schedule_player.specs.Bank.{BankOf}
 use Rattle.schedule_player.specs.NodeAlong.{IsEntryOf}
 use Rattle.schedule_player.specs.Numbered.{numbered}
-use Rattle.schedule_player.specs.ReplicaMoves.{NodeOf, length_in, undone_in, told_reply, answered, reply_in_node, sent, frame_comes, delivered_to, put_ends, marked}
+use Rattle.schedule_player.specs.ReplicaMoves.{NodeOf, length_in, undone_in, told_reply, answered, reply_in_node, sent, frame_comes, delivered_to, cut_after, cut_off, put_ends, undone_up_to, marked_to, marked}
 use Rattle.schedule_player.specs.Stage.{Waits}
-use Rattle.schedule_player.specs.World.{WorldOf, moved_if, moved_at}
+use Rattle.schedule_player.specs.World.{WorldOf, MakesCut, moved_if, moved_at}
 use Rattle.schedule_text.specs.declared.note.Note.{Note}
 use Rattle.schedule_text.specs.declared.note.Note.TheVariants as note
 
@@ -61,14 +61,26 @@ replies node n None there = absurd (there refl)
 pub answers_so : (bank : BankOf) (node : NodeOf) (n : ℕ) → reply_in_node bank node n ≢ None → is_nothing (answered bank node n).1 ≡ false
 answers_so bank node n there = replies node n (reply_in_node bank node n) there
 
-abbrev pub mark_by : NodeOf → How → Bool → NodeOf × Note
-mark_by node end idle = if idle then put_ends node end else (node, note.Unfinished)
+-- what a mark of so many entries comes to
+abbrev pub mark_by : NodeOf → ℕ → How → Bool → NodeOf × Note
+mark_by node size end idle = if idle then put_ends node size end else (node, note.Unfinished)
 
-puts : (node : NodeOf) (end : How) (idle : Bool) → is_nothing (mark_by node end idle).1 ≡ false
-puts node how.Ok true = refl
-puts node how.Old true = refl
-puts node how.New true = refl
-puts node end false = refl
+puts : (node : NodeOf) (size : ℕ) (end : How) (idle : Bool) → is_nothing (mark_by node size end idle).1 ≡ false
+puts node size how.Ok true = refl
+puts node size how.Old true = refl
+puts node size how.New true = refl
+puts node size end false = refl
+
+marks_to : (node : NodeOf) (end : How) (cut : Option ℕ) → is_nothing (marked_to node end cut).1 ≡ false
+marks_to node end (Some size) = puts node size end (undone_up_to node size == 0)
+marks_to node end None = puts node (length_in node) end (undone_in node == 0)
 
 pub marks_so : (node : NodeOf) (end : How) → is_nothing (marked node end).1 ≡ false
-marks_so node end = puts node end (undone_in node == 0)
+marks_so node end = marks_to node end node.cut
+
+-- a replica of a world makes a cut where it has none
+pub cuts_at : (world : WorldOf) (r : ℕ) (node : NodeOf) → slice_get world.nodes r ≡ Some node → node.cut ≡ None → MakesCut world r
+cuts_at world r node here none = (
+  length_in node,
+  ap (λ found. (moved_if world r (λ other. cut_off other) found).1) here ∙ ap (λ cut. (cut_after node cut).1) none,
+)

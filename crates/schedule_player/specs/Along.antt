@@ -6,7 +6,7 @@ use Rattle.sb_calls.specs.OneByOne.{inputs_of, held_after, held_after_first, rep
 use Rattle.sb_calls.specs.declared.op.Op.{Op}
 use Rattle.sb_calls.specs.declared.reply.Reply.{Reply}
 use Rattle.sb_checkpoint.specs.Checkpoint.{CheckpointOf}
-use Rattle.cown_board.specs.Board.{BoardOf}
+use Rattle.cown_board.specs.Board.{BoardOf, length_of}
 use Rattle.cown_board.specs.Job.{JobOf}
 use Rattle.cown_board.specs.declared.state.State.TheVariants.{Finished}
 
@@ -17,7 +17,8 @@ module _ (opening : List ℤ) (log : List Op) where
   AreReplies replies = (k : ℕ) (reply : Reply) → slice_get replies k ≡ Some reply
       → reply_by_log declared_cowns effect_of opening log (suc k) ≡ Some reply
 
-  -- the board's log is a part of the whole log, and it was opened on what the log before this part leaves
+  -- the board's log is a part of the whole log, and it was opened on what the log before this part leaves; its cut is
+  -- within its own numbers
   pub record IsBoardAlong (board : BoardOf Op) : Type 0 where
     pub before : List Op
     pub later : List Op
@@ -28,6 +29,8 @@ module _ (opening : List ℤ) (log : List Op) where
     pub states : length board.log ≡ length board.states
     pub finished : (k : ℕ) (reply : Reply) → slice_get board.states k ≡ Some (Finished reply)
         → reply_by_log declared_cowns effect_of opening log (suc (length before + k)) ≡ Some reply
+    pub cut : (number : ℕ) → board.cut ≡ Some number
+        → (length board.earlier ≤ number) × (number ≤ length_of board)
 
   -- the job is of an op of the log, on what the log before it leaves
   pub record IsJobAlong (job : JobOf Op) : Type 0 where

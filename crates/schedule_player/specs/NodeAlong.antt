@@ -26,6 +26,7 @@ seen_node node = record {
   stages = stages_of node.replica.board;
   hands = map (option_map number_in) node.hands.items;
   kept = kept_in node.replica.store.slot;
+  cut = node.replica.board.cut;
   inbound = node.inbound;
   outbound = node.outbound;
 }

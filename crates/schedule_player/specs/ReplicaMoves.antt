@@ -1,5 +1,5 @@
 -- The reference machine at one replica: what each event does to its numbers, and the note on it.
-use Rattle.std.specs.Prelude.{ℕ, suc, nat_le, nat_lt, ◌==◌, if◌then◌else◌, Option, Some, None, List, [], ◌∷◌, ◌++◌, length, count_by, slice_get, slice_set}
+use Rattle.std.specs.Prelude.{ℕ, suc, nat_le, nat_lt, ◌==◌, if◌then◌else◌, Option, Some, None, List, [], ◌∷◌, ◌++◌, length, take, count_by, slice_get, slice_set}
 use Rattle.sb_calls.specs.declared.reply.Reply.{Reply}
 use Rattle.sb_checkpoint.specs.declared.memory_store.How.{How}
 use Rattle.sb_checkpoint.specs.declared.memory_store.How.TheVariants as how
@@ -15,18 +15,20 @@ use Rattle.schedule_text.specs.declared.note.Note.{Note}
 use Rattle.schedule_text.specs.declared.note.Note.TheVariants as note
 
 -- the entries that it accepted, by number from 1; what each worker has in hand, by worker from 1; the length of the
--- checkpoint that is kept; and all frames that were ever sent to it and from it, by place from 1
+-- checkpoint that is kept; that of its cut, where it has one; and all frames that were ever sent to it and from it, by
+-- place from 1
 pub record NodeOf : Type 0 where
   pub stages : List Stage
   pub hands : List (Option ℕ)
   pub kept : ℕ
+  pub cut : Option ℕ
   pub inbound : List Frame
   pub outbound : List Frame
 
 -- a replica of so many workers at the opening
 abbrev pub opened_node : ℕ → NodeOf
 opened_node workers =
-    record { stages = []; hands = copies workers None; kept = 0; inbound = []; outbound = [] }
+    record { stages = []; hands = copies workers None; kept = 0; cut = None; inbound = []; outbound = [] }
 
 -- how many entries it accepted, and how many of them are undone
 abbrev pub length_in : NodeOf → ℕ
@@ -34,6 +36,10 @@ length_in node = length node.stages
 
 abbrev pub undone_in : NodeOf → ℕ
 undone_in node = count_by is_undone node.stages
+
+-- how many of the entries from 1 to a number are undone
+abbrev pub undone_up_to : NodeOf → ℕ → ℕ
+undone_up_to node number = count_by is_undone (take number node.stages)
 
 -- ---- a frame comes
 
@@ -108,19 +114,37 @@ gives_back bank node worker (Some (Some number)) =
 abbrev pub finished_by : BankOf → NodeOf → ℕ → NodeOf × Note
 finished_by bank node worker = gives_back bank node worker (numbered node.hands worker)
 
+-- ---- a cut is made
+
+abbrev pub cut_after : NodeOf → Option ℕ → NodeOf × Note
+cut_after node (Some size) = (node, note.Pending size)
+cut_after node None = (record node { cut = Some (length_in node) }, note.Cut (length_in node))
+
+-- one at the length, where there is none yet
+abbrev pub cut_off : NodeOf → NodeOf × Note
+cut_off node = cut_after node node.cut
+
 -- ---- a checkpoint is written, and gone back to
 
-abbrev pub put_ends : NodeOf → How → NodeOf × Note
-put_ends node how.Ok = (record node { kept = length_in node }, note.Marked (length_in node))
-put_ends node how.Old = (node, note.StoreFault)
-put_ends node how.New = (record node { kept = length_in node }, note.StoreFault)
+-- of the entries up to a length; once it is put well the cut is gone
+abbrev pub put_ends : NodeOf → ℕ → How → NodeOf × Note
+put_ends node size how.Ok = (record node { kept = size; cut = None }, note.Marked size)
+put_ends node size how.Old = (node, note.StoreFault)
+put_ends node size how.New = (record node { kept = size }, note.StoreFault)
 
+abbrev pub marked_to : NodeOf → How → Option ℕ → NodeOf × Note
+marked_to node how (Some size) =
+    if undone_up_to node size == 0 then put_ends node size how else (node, note.Unfinished)
+marked_to node how None =
+    if undone_in node == 0 then put_ends node (length_in node) how else (node, note.Unfinished)
+
+-- of the entries up to the cut, and of all where there is none
 abbrev pub marked : NodeOf → How → NodeOf × Note
-marked node how = if undone_in node == 0 then put_ends node how else (node, note.Unfinished)
+marked node how = marked_to node how node.cut
 
--- hands and frames stay as they are
+-- the cut is gone; hands and frames stay as they are
 abbrev pub restarted : NodeOf → NodeOf × Note
-restarted node = (record node { stages = copies node.kept IsDone }, note.Restarted node.kept)
+restarted node = (record node { stages = copies node.kept IsDone; cut = None }, note.Restarted node.kept)
 
 -- ---- a replica tells
 

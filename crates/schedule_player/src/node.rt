@@ -5,11 +5,11 @@ ghost use Rattle.cown_board.specs.Board.{reply_in};
 ghost use Rattle.schedule_player.specs.Bank.{BankOf};
 ghost use Rattle.schedule_player.specs.NodeAlong.{IsEntryOf, IsNodeAt, Arrives, IsAsBefore, seen_node};
 ghost use Rattle.schedule_player.specs.Numbered.{numbered, copies, Every};
-ghost use Rattle.schedule_player.specs.ReplicaMoves.{opened_node, taken, finished_by, delivered_to, sent, sent_all, acknowledged, answered, marked, restarted, note_of_heard};
+ghost use Rattle.schedule_player.specs.ReplicaMoves.{opened_node, taken, finished_by, delivered_to, sent, sent_all, acknowledged, answered, cut_off, marked, restarted, note_of_heard};
 
 use crate::fault::StepFault;
 use crate::frames::Frames;
-use cown_board::{Job, Runs};
+use cown_board::{CutFault, Job, Runs};
 use sb_calls::{LOG_CALLS, Op};
 use sb_checkpoint::{How, MemoryStore};
 use sb_frames::Frame;
@@ -185,6 +185,20 @@ impl Node {
         };
         let place = self.outbound.send(&frame)?;
         Ok(Note::Sent(place))
+    }
+
+    /// The replica begins a cut, where it has none.
+    pub fn cut(&mut self) -> Result<Note, StepFault>
+        ensures moves { (bank : BankOf) (r : ℕ) → IsNodeAt bank r self.old → IfOk result (λ note.
+            Arrives bank r self.new note (cut_off (seen_node self.old))) }
+        ensures err { OnErr result (self.new ≡ self.old) }
+        ensures none { OnErr result (self.old.replica.board.cut ≡ None) }
+    {
+        match self.replica.cut() {
+            Ok(length) => Ok(Note::Cut(length)),
+            Err(CutFault::Pending(length)) => Ok(Note::Pending(length)),
+            Err(CutFault::OutOfMemory) => Err(StepFault::OutOfMemory),
+        }
     }
 
     /// The replica puts a checkpoint, and the put ends so.

@@ -44,5 +44,7 @@ note_line (note.Marked size) = codes "marked " ++ decimal size
 note_line note.Unfinished = codes "busy"
 note_line note.StoreFault = codes "store fault"
 note_line (note.Restarted size) = codes "restarted " ++ decimal size
+note_line (note.Cut size) = codes "cut " ++ decimal size
+note_line (note.Pending size) = codes "pending " ++ decimal size
 note_line (note.Audit found) = audit_line found
 note_line note.Nothing = codes "nothing"

@@ -82,6 +82,11 @@ pub enum Event {
         /// Who.
         replica: u32,
     },
+    /// A replica begins a cut: a copy of its rows that settles while later numbers run.
+    Cut {
+        /// Who.
+        replica: u32,
+    },
     /// Two replicas are compared.
     Audit {
         /// One.

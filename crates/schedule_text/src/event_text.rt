@@ -90,6 +90,10 @@ fn replica_event(verb: &[u8], rest: Option<&[u8]>) -> Result<Event, EventFault>
         let replica = one_number(rest)?;
         return Ok(Event::Restart { replica });
     }
+    if verb == b"cut".as_slice() {
+        let replica = one_number(rest)?;
+        return Ok(Event::Cut { replica });
+    }
     if verb == b"audit".as_slice() {
         let (first, second) = two_numbers(rest)?;
         return Ok(Event::Audit { first, second });

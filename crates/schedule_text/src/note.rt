@@ -49,6 +49,10 @@ pub enum Note {
     StoreFault,
     /// The replica is at this length again.
     Restarted(u64),
+    /// A cut of this length was made.
+    Cut(u64),
+    /// There is a cut already, of this length.
+    Pending(u64),
     /// What comparing two replicas gave.
     Audit(AuditNote),
     /// The event names something that doesn't exist, or finds nothing to do.

@@ -49,6 +49,8 @@ fn push_note(note: Note, out: &mut Vec<u8>) -> Result<(), AllocError>
         Note::Unfinished => out.extend_from_slice(b"busy"),
         Note::StoreFault => out.extend_from_slice(b"store fault"),
         Note::Restarted(size) => push_numbered(b"restarted ", size, out),
+        Note::Cut(size) => push_numbered(b"cut ", size, out),
+        Note::Pending(size) => push_numbered(b"pending ", size, out),
         Note::Audit(found) => push_audit(found, out),
         Note::Nothing => out.extend_from_slice(b"nothing"),
     }

@@ -127,6 +127,18 @@ fn a_mark_that_leaves_the_new_bytes(rt: HostRuntime) -> Result<(), Fail> {
 }
 
 #[test]
+fn a_mark_of_a_cut_while_later_entries_run(rt: HostRuntime) -> Result<(), Fail> {
+    let events = b"ask 1 1 deposit alice 1.00\nask 1 2 deposit alice 2.00\nsend 0 1\nsend 0 2\n\
+          to 0 1\ncut 0\ncut 0\nmark 0 ok\nto 0 2\ntake 0 1 0\nfinish 0 1\ntake 0 1 0\n\
+          mark 0 ok\nfinish 0 1\nrestart 0\n";
+    let output = b"new 1\nnew 2\nsent 1\nsent 2\naccepted 1\ncut 1\npending 1\nbusy\n\
+          accepted 2\ntook 1\nfinished 1 done\ntook 2\nmarked 1\nfinished 2 done\n\
+          restarted 1\nreplica 0 length 1 idle\nalice 100.00 51.00\nbob 0.00 20.00\n\
+          carol 10.00 0.00\ntotal 181.00\n";
+    expect_played(&rt, rt.alloc(), b"nodes 1 workers 2\n", events, output)
+}
+
+#[test]
 fn audits_of_two_replicas(rt: HostRuntime) -> Result<(), Fail> {
     let events = b"ask 1 1 deposit alice 1.00\nsend 0 1\nsend 1 1\nto 0 1\naudit 0 1\n\
           take 0 1 0\nfinish 0 1\naudit 0 1\nto 1 1\ntake 1 1 0\nfinish 1 1\naudit 0 1\n";

@@ -49,6 +49,7 @@ fn reads_a_line_of_each_event(rt: HostRuntime) -> Result<(), Fail> {
         ("take 6 16 9", take),
         ("finish 7 1", finish),
         ("restart 1", Event::Restart { replica: 1 }),
+        ("cut 1", Event::Cut { replica: 1 }),
         ("audit 3 2", audit),
     ] {
         assert_eq!(rt; read_event(line.as_bytes()), Ok(event), "{line}");
@@ -119,6 +120,7 @@ fn names_the_first_fault_of_a_line(rt: HostRuntime) {
         ("take 0 1 0 0", EventFault::WrongWords),
         ("mark x", EventFault::WrongWords),
         ("mark 0 ok ok", EventFault::WrongWords),
+        ("cut 0 1", EventFault::WrongWords),
         ("send x 1", EventFault::BadNumber),
         ("send 0 x", EventFault::BadNumber),
         ("send 00 1", EventFault::BadNumber),

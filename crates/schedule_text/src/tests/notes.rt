@@ -32,6 +32,14 @@ fn notes_with_a_number(rt: HostRuntime) -> Result<(), Fail> {
             Note::Restarted(18_446_744_073_709_551_615),
             "restarted 18446744073709551615\n",
         ),
+        (
+            Note::Cut(18_446_744_073_709_551_615),
+            "cut 18446744073709551615\n",
+        ),
+        (
+            Note::Pending(18_446_744_073_709_551_615),
+            "pending 18446744073709551615\n",
+        ),
     ] {
         expect(&rt, rt.alloc(), note, line)?;
     }

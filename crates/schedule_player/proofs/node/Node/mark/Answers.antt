@@ -1,7 +1,7 @@
 use Rattle.std.proofs.Common.{Ok, subst, ap, ◌∙◌}
 use Rattle.cown_board.specs.Board.{length_of}
-use Rattle.sb_replica.specs.Marking.{Puts, IsMarkFaultOf}
-use Rattle.schedule_player.proofs.Storing.{Does, told_of, marks_well, marks_badly}
+use Rattle.sb_replica.specs.Marking.{Puts, IsMarkFaultOf, marked as marked_part}
+use Rattle.schedule_player.proofs.Storing.{Does, told_of, marks_well, marks_badly, marks_busy}
 use Rattle.schedule_player.proofs.node.Node.mark.Goals as goal
 
 pub returns-in-Ok : goal.returns-in-Ok
@@ -9,7 +9,7 @@ returns-in-Ok c = record {
   moves = λ bank r is.
       let told = c.tell.ensures in
       marks_well bank r c.args.self.now c.args.how c.mark.new.self c.in-Ok.length is
-      (c.in-Ok.ensures.ok.0 ∙ ap (λ x. length_of x.board) told)
+      (c.in-Ok.ensures.ok.0 ∙ ap (λ x. length_of (marked_part x.board)) told)
       (subst (λ x. Puts Does x (Ok tt) c.mark.new.self) told c.in-Ok.ensures.ok.1);
 }
 
@@ -19,4 +19,12 @@ returns-in-Err-Device c = record {
       marks_badly bank r c.args.self.now c.args.how c.mark.new.self is
       (subst (λ f. IsMarkFaultOf Does (told_of c.args.self.now.replica c.args.how) f c.mark.new.self) c.in-Err-Device.field-0-is
       (subst (λ x. IsMarkFaultOf Does x c.in-Err-Device.field-0 c.mark.new.self) c.tell.ensures c.in-Err-Device.ensures.err));
+}
+
+pub returns-in-Err-Busy : goal.returns-in-Err-Busy
+returns-in-Err-Busy c = record {
+  moves = λ bank r is.
+      marks_busy bank r c.args.self.now c.args.how c.mark.new.self is
+      (subst (λ f. IsMarkFaultOf Does (told_of c.args.self.now.replica c.args.how) f c.mark.new.self) c.in-Err-Busy.field-0-is
+      (subst (λ x. IsMarkFaultOf Does x c.in-Err-Busy.field-0 c.mark.new.self) c.tell.ensures c.in-Err-Busy.ensures.err));
 }
