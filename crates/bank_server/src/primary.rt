@@ -1,5 +1,5 @@
 //! The log and node 0, which carries it out.
-ghost use Rattle.std.specs.Prelude.{◌≡◌, ◌≢◌, ◌≤◌, ◌↔◌, [], List, length, false, Some, IfOk, IfErr, IsErrOf, IsTrue, OnOk, OnErr, option_map};
+ghost use Rattle.std.specs.Prelude.{◌≡◌, ◌≢◌, ◌≤◌, ◌↔◌, [], List, length, false, IfOk, IfErr, IsErrOf, OnOk, OnErr};
 ghost use Rattle.sb_calls.specs.declared.ask.Key.{Key as AnyKey};
 ghost use Rattle.sb_calls.specs.declared.call.Call.{Call as AnyCall};
 ghost use Rattle.cown_board.specs.Board.{length_of, open_of};
@@ -151,20 +151,10 @@ impl<S: CheckpointStore> Primary<S> {
         ensures stays { self.new ≡ record self.old { node = record self.old.node { store = self.new.node.store } } }
     {
         let put = self.node.put_checkpoint()?;
-        let held = self.node.stored()?;
-        if !is_same(&held, &put) {
+        let same = self.node.store_holds(&put)?;
+        if !same {
             return Err(SaveFault::ReadBack);
         }
         Ok(self.node.length())
-    }
-}
-
-// Whether these bytes are held.
-fn is_same(held: &Option<Vec<u8>>, bytes: &[u8]) -> bool
-    ensures { IsTrue result ↔ (option_map (λ held. held.items) held.now ≡ Some bytes.now) }
-{
-    match held {
-        Some(held) => held.as_slice() == bytes,
-        None => false,
     }
 }

@@ -1,5 +1,6 @@
 pub mod Balances
 pub mod Chunks
+pub mod Comparing
 pub mod Found
 pub mod Lists
 pub mod Numbers

@@ -1,5 +1,5 @@
 -- What a store of checkpoints does.
-use Rattle.std.specs.Prelude.{◌≡◌, ℕ, ◌<◌, ◌^◌, ◌-◌, ◌⊎◌, Option, Some, Result, Ok, Err, List}
+use Rattle.std.specs.Prelude.{◌≡◌, ◌↔◌, ℕ, ◌<◌, ◌^◌, ◌-◌, ◌⊎◌, Bool, IsTrue, Option, Some, Result, Ok, Err, List}
 use Rattle.sb_checkpoint.specs.declared.store.StoreFault.{StoreFault}
 use Rattle.sb_checkpoint.specs.declared.store.StoreFault.TheVariants.{Device, OutOfMemory}
 
@@ -38,3 +38,14 @@ pub record StoreDoes {S : Type 0} (slot : S → Option (List ℕ)) (IsHonest : S
   pub holds : IsHonest old → HoldsAfter (slot old) step (slot new)
   pub fails : FailsAlong (failed old) step (failed new)
   pub as_told : acts old step new
+
+-- it is told whether just these bytes were found
+abbrev pub TellsSame : List ℕ → Bool → Option (List ℕ) → Type 0
+TellsSame bytes same found = IsTrue same ↔ (found ≡ Some bytes)
+
+-- what a store holds was got, and it is told whether it is just these bytes
+pub record Compares {S : Type 0} (does : S → StoreStep → S → Type 0) (old : S) (bytes : List ℕ) (same : Bool)
+    (new : S) : Type 0 where
+  pub held : Option (List ℕ)
+  pub got : does old (Got held) new
+  pub told : TellsSame bytes same held

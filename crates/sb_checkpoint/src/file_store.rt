@@ -96,6 +96,15 @@ impl<P: FileWithSpare> CheckpointStore for FileStore<P> {
         }
     }
 
+    // A file that can be compared piece by piece needn't be held in memory.
+    fn holds(&mut self, bytes: &[u8]) -> Result<bool, StoreFault> {
+        let told = self.file.holds(bytes);
+        if let Err(StoreFault::Device) = told {
+            return Err(self.failed());
+        }
+        told
+    }
+
     fn failures(&self) -> u64 {
         self.failures
     }

@@ -1,5 +1,5 @@
 //! A file in a folder of the system.
-ghost use Rattle.std.specs.Prelude.{◌≡◌, None, IfOk, IfSome, OnOk};
+ghost use Rattle.std.specs.Prelude.{◌≡◌, ◌↔◌, None, IfOk, IfSome, IsTrue, OnOk};
 ghost use Rattle.std.specs.Io.KnownBytes.{Appends};
 ghost use Rattle.sb_checkpoint.specs.FolderFile.{file_in};
 
@@ -104,6 +104,29 @@ fn read_whole<R: Read>(alloc: Global, room: usize, reader: &mut R) -> Result<Vec
     Err(StoreFault::Device)
 }
 
+// Whether a reader gives just these bytes. A read that was interrupted is made again, and counts as one.
+fn gives_just<R: Read>(reader: &mut R, bytes: &[u8]) -> Result<bool, StoreFault>
+    ensures { IfOk result (λ same. IfSome (R.remaining reader.old) (λ held. IsTrue same ↔ (held ≡ bytes.now))) }
+{
+    let mut rest = bytes;
+    let mut chunk = [0u8; CHUNK];
+    for _ in 0..READS {
+        match reader.read(&mut chunk) {
+            Ok(0) => return Ok(rest.is_empty()),
+            Ok(count) => match rest.strip_prefix(&chunk[..count]) {
+                Some(after) => rest = after,
+                None => return Ok(false),
+            },
+            Err(error) => {
+                if error.kind() != ErrorKind::Interrupted {
+                    return Err(StoreFault::Device);
+                }
+            }
+        }
+    }
+    Err(StoreFault::Device)
+}
+
 impl<F: Files + Drop> FileWithSpare for FolderFile<F> {
     ghost held = { λ file. None };
 
@@ -140,5 +163,14 @@ impl<F: Files + Drop> FileWithSpare for FolderFile<F> {
             .metadata()
             .map_or(0, |metadata| metadata.len() as usize);
         Ok(Some(read_whole(self.alloc, room, &mut file)?))
+    }
+
+    // Piece by piece, so that what is read back needn't pass through memory.
+    fn holds(&mut self, bytes: &[u8]) -> Result<bool, StoreFault> {
+        match fs::open(&self.files, &self.path) {
+            Ok(mut file) => gives_just(&mut file, bytes),
+            Err(error) if error.kind() == ErrorKind::NotFound => Ok(false),
+            Err(_) => Err(StoreFault::Device),
+        }
     }
 }

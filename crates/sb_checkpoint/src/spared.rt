@@ -1,7 +1,8 @@
 //! A file that is replaced whole.
 ghost use Rattle.std.specs.Prelude.{◌≡◌, ℕ, Option, None, Some, List, IfOk, OnOk, OnErr, ◌⊎◌, option_map};
+ghost use Rattle.sb_checkpoint.specs.Stores.{TellsSame};
 
-use crate::store::StoreFault;
+use crate::store::{StoreFault, is_same};
 use std::io;
 
 /// A file with a spare beside it, which can take its place.
@@ -45,4 +46,14 @@ pub trait FileWithSpare: Drop {
         ensures stays { IsHonest self.old → held self.new ≡ held self.old }
         ensures value { IsHonest self.old
             → IfOk result (λ found. option_map (λ bytes. bytes.items) found ≡ held self.old) };
+
+    /// Whether the file holds just these bytes. Nothing changes.
+    fn holds(&mut self, bytes: &[u8]) -> Result<bool, StoreFault>
+        ensures honest { IsHonest self.old → IsHonest self.new }
+        ensures stays { IsHonest self.old → held self.new ≡ held self.old }
+        ensures value { IfOk result (λ same. (found : Option (List ℕ)) × TellsSame bytes.now same found
+            × (IsHonest self.old → found ≡ held self.old)) }
+    {
+        Ok(is_same(&self.read()?, bytes))
+    }
 }

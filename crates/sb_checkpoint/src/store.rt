@@ -1,7 +1,7 @@
 //! Where a replica keeps its checkpoint.
 ghost use Rattle.std.specs.Prelude.{◌≡◌, ℕ, Option, List, MatchResult, option_map};
 ghost use Rattle.sb_checkpoint.specs.StoreFaults.{store_fault_number};
-ghost use Rattle.sb_checkpoint.specs.Stores.{StoreDoes, StoreStep, Put, Got, NotGot};
+ghost use Rattle.sb_checkpoint.specs.Stores.{Compares, StoreDoes, StoreStep, TellsSame, Put, Got, NotGot};
 
 use thiserror::Error;
 
@@ -57,7 +57,26 @@ pub trait CheckpointStore: Drop {
             (Got (option_map (λ bytes. bytes.items) held)) self.new)
             (λ fault. StoreDoes slot IsHonest failed acts self.old (NotGot fault) self.new) };
 
+    /// Whether it holds just these bytes, as [`CheckpointStore::get`] tells.
+    fn holds(&mut self, bytes: &[u8]) -> Result<bool, StoreFault>
+        ensures { MatchResult result
+            (λ same. Compares (StoreDoes slot IsHonest failed acts) self.old bytes.now same self.new)
+            (λ fault. StoreDoes slot IsHonest failed acts self.old (NotGot fault) self.new) }
+    {
+        Ok(is_same(&self.get()?, bytes))
+    }
+
     /// How often its device has failed, up to the greatest number that can be told.
     fn failures(&self) -> u64
         ensures { result ≡ failed self.now };
+}
+
+// Whether just these bytes were found.
+pub(crate) fn is_same(found: &Option<Vec<u8>>, bytes: &[u8]) -> bool
+    ensures { TellsSame bytes.now result (option_map (λ found. found.items) found.now) }
+{
+    match found {
+        Some(found) => found.as_slice() == bytes,
+        None => false,
+    }
 }

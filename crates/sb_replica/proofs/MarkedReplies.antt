@@ -12,7 +12,7 @@ use Rattle.cown_board.proofs.Cuts.{slice_get-take}
 use Rattle.cown_board.specs.Board.{AreCut, BoardOf, IsAfterAll, length_of, open_of, reply_in}
 use Rattle.cown_board.specs.State.{finished_reply}
 use Rattle.cown_board.specs.declared.state.State.{State}
-use Rattle.sb_replica.specs.Marking.{marked, up_to}
+use Rattle.sb_replica.specs.Marking.{up_to_cut, up_to}
 
 -- up to a cut it has as many numbers as the cut is long
 pub length_up_to : (board : BoardOf Op) (number : ℕ) → length board.earlier ≤ number → number ≤ length_of board
@@ -29,7 +29,7 @@ beside_up_to board (Some number) beside =
     let places = number - length board.earlier in
     length-take places board.log ∙ ap (λ (n : ℕ). min places n) beside ∙ sym (length-take places board.states)
 
-pub marked_beside : (board : BoardOf Op) → length board.log ≡ length board.states → length (marked board).log ≡ length (marked board).states
+pub marked_beside : (board : BoardOf Op) → length board.log ≡ length board.states → length (up_to_cut board).log ≡ length (up_to_cut board).states
 marked_beside board beside = beside_up_to board board.cut beside
 
 -- the numbers that are marked have their replies
@@ -59,7 +59,7 @@ reply_up_to board (Some number) place lt =
           (sym (slice_get-take board.states places state (omega (arith, past, lt, length-take places board.log))))
     ]
 
-pub marked_reply : (board : BoardOf Op) (place : ℕ) → place < length_of (marked board) → reply_in board (place + 1) ≡ reply_in (marked board) (place + 1)
+pub marked_reply : (board : BoardOf Op) (place : ℕ) → place < length_of (up_to_cut board) → reply_in board (place + 1) ≡ reply_in (up_to_cut board) (place + 1)
 marked_reply board place lt = reply_up_to board board.cut place lt
 
 -- columns that a mark is of, if nothing of that is unfinished
@@ -68,19 +68,19 @@ AreMarked board columns = MatchOption columns (open_of board ≢ 0)
     (λ lent. (open_of board ≡ 0) × IsAfterAll declared_cowns effect_of board lent.now)
 
 pub columns_of_cut : (board : BoardOf Op) (number : ℕ) (columns : Option (Bor Balances)) → board.cut ≡ Some number
-    → AreCut declared_cowns effect_of board (option_map (λ lent. lent.now) columns) → AreMarked (marked board) columns
+    → AreCut declared_cowns effect_of board (option_map (λ lent. lent.now) columns) → AreMarked (up_to_cut board) columns
 columns_of_cut board number (Some lent) here (n, is, idle, after) =
     subst (λ (b : BoardOf Op). (open_of b ≡ 0) × IsAfterAll declared_cowns effect_of b lent.now) (sym (ap (up_to board) is)) (idle, after)
 columns_of_cut board number None here unfinished =
     λ idle. unfinished number here (subst (λ (b : BoardOf Op). open_of b ≡ 0) (ap (up_to board) here) idle)
 
-pub columns_of_all : (board : BoardOf Op) (columns : Option (Bor Balances)) → board.cut ≡ None → AreMarked board columns → AreMarked (marked board) columns
+pub columns_of_all : (board : BoardOf Op) (columns : Option (Bor Balances)) → board.cut ≡ None → AreMarked board columns → AreMarked (up_to_cut board) columns
 columns_of_all board columns none all = subst (λ (b : BoardOf Op). AreMarked b columns) (sym (ap (up_to board) none)) all
 
 pub length_of_cut : (board : BoardOf Op) (number : ℕ) → board.cut ≡ Some number → length board.earlier ≤ number → number ≤ length_of board
-    → number ≡ length_of (marked board)
+    → number ≡ length_of (up_to_cut board)
 length_of_cut board number here after within =
     sym (ap (λ (cut : Option ℕ). length_of (up_to board cut)) here ∙ length_up_to board number after within)
 
-pub length_of_all : (board : BoardOf Op) → board.cut ≡ None → length_of board ≡ length_of (marked board)
+pub length_of_all : (board : BoardOf Op) → board.cut ≡ None → length_of board ≡ length_of (up_to_cut board)
 length_of_all board none = sym (ap (λ (cut : Option ℕ). length_of (up_to board cut)) none)

@@ -20,8 +20,8 @@ up_to board (Some number) =
     record board { log = take places board.log; states = take places board.states }
 
 -- what a mark is of: the board up to its cut, and all of it where it has none
-abbrev pub marked : BoardOf Op → BoardOf Op
-marked board = up_to board board.cut
+abbrev pub up_to_cut : BoardOf Op → BoardOf Op
+up_to_cut board = up_to board board.cut
 
 -- once a checkpoint is put its cut is gone, and else it stays
 abbrev pub after_put : Result (Unit {0}) StoreFault → BoardOf Op → BoardOf Op
@@ -31,11 +31,11 @@ after_put (Err fault) board = board
 module _ {S : Type 0} (does : S → StoreStep → S → Type 0) where
   -- the balances after all that is marked and all its replies were spelled, and put with this answer
   pub record Puts (old : ReplicaOf S) (answer : Result (Unit {0}) StoreFault) (new : ReplicaOf S) : Type 0 where
-    pub idle : open_of (marked old.board) ≡ 0
+    pub idle : open_of (up_to_cut old.board) ≡ 0
     pub columns : Balances
-    pub after : IsAfterAll declared_cowns effect_of (marked old.board) columns
+    pub after : IsAfterAll declared_cowns effect_of (up_to_cut old.board) columns
     pub bytes : List ℕ
-    pub spelled : Spells (record { columns = columns; replies = replies_held (marked old.board) }) bytes
+    pub spelled : Spells (record { columns = columns; replies = replies_held (up_to_cut old.board) }) bytes
     pub put : does old.store (Put bytes answer) new.store
     pub stays : new ≡ record old { board = after_put answer old.board; store = new.store }
 
@@ -46,7 +46,7 @@ module _ {S : Type 0} (does : S → StoreStep → S → Type 0) where
   -- something that is marked is unfinished, and nothing changes; the store failed; or memory was refused, to it or
   -- before it was asked
   abbrev pub IsMarkFaultOf : ReplicaOf S → MarkFault → ReplicaOf S → Type 0
-  IsMarkFaultOf old mark.Busy new = (open_of (marked old.board) ≢ 0) × (new ≡ old)
+  IsMarkFaultOf old mark.Busy new = (open_of (up_to_cut old.board) ≢ 0) × (new ≡ old)
   IsMarkFaultOf old mark.Device new = Puts old (Err Device) new
   IsMarkFaultOf old mark.OutOfMemory new =
-      (open_of (marked old.board) ≡ 0) × ((new ≡ old) ⊎ Puts old (Err OutOfMemory) new)
+      (open_of (up_to_cut old.board) ≡ 0) × ((new ≡ old) ⊎ Puts old (Err OutOfMemory) new)

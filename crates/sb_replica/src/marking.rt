@@ -4,10 +4,11 @@ ghost use Rattle.std.specs.List.{All};
 ghost use Rattle.sb_calls.specs.Replies.{IsReply};
 ghost use Rattle.sb_calls.specs.Behaviour.{declared_cowns, effect_of};
 ghost use Rattle.cown_board.specs.Board.{length_of, open_of, IsAfterAll};
+ghost use Rattle.cown_board.specs.Played.{CutDropped, CutMade, StaysTrueToLog};
 ghost use Rattle.sb_checkpoint.specs.Checkpoint.{Spells};
 ghost use Rattle.sb_checkpoint.specs.Stores.{StoreDoes};
 ghost use Rattle.sb_checkpoint.specs.declared.store.StoreFault.{StoreFault as AnyFault};
-ghost use Rattle.sb_replica.specs.Marking.{IsMarkFaultOf, Puts, PutsBytes, marked};
+ghost use Rattle.sb_replica.specs.Marking.{IsMarkFaultOf, Puts, PutsBytes, up_to_cut};
 ghost use Rattle.sb_replica.specs.Replica.{replies_held};
 
 use crate::fault::MarkFault;
@@ -31,6 +32,8 @@ impl<S: CheckpointStore> Replica<S> {
         ensures err { OnErr result (self.new ≡ self.old) }
         ensures pending { (number : ℕ) →
             IsErrOf result (CutFault.Pending number) ↔ (self.old.board.cut ≡ Some number) }
+        // After any calls on its board, with this one too, the board is true to its log.
+        ensures played { StaysTrueToLog declared_cowns effect_of self.old.board (CutMade result) self.new.board }
     {
         self.log.cut()
     }
@@ -41,9 +44,12 @@ impl<S: CheckpointStore> Replica<S> {
     /// Fails with [`MarkFault::Busy`] exactly where something of that is unfinished, and with [`MarkFault::Device`] only
     /// where the store does. Nothing but the store changes then.
     pub fn mark(&mut self) -> Result<u64, MarkFault>
-        ensures busy { IsErrOf result MarkFault.Busy ↔ (open_of (marked self.old.board) ≢ 0) }
-        ensures ok { IfOk result (λ size. (size ≡ length_of (marked self.old.board))
+        ensures busy { IsErrOf result MarkFault.Busy ↔ (open_of (up_to_cut self.old.board) ≢ 0) }
+        ensures ok { IfOk result (λ size. (size ≡ length_of (up_to_cut self.old.board))
             × Puts (StoreDoes S.slot S.IsHonest S.failed S.acts) self.old (Ok tt) self.new) }
+        // After any calls on its board, with this one too, the board is true to its log.
+        ensures played { OnOk result
+            (StaysTrueToLog declared_cowns effect_of self.old.board CutDropped self.new.board) }
         ensures err { IfErr result (λ fault.
             IsMarkFaultOf (StoreDoes S.slot S.IsHonest S.failed S.acts) self.old fault self.new) }
     {
@@ -56,9 +62,12 @@ impl<S: CheckpointStore> Replica<S> {
     ///
     /// Fails as [`Replica::mark`].
     pub fn put_checkpoint(&mut self) -> Result<Vec<u8>, MarkFault>
-        ensures busy { IsErrOf result MarkFault.Busy ↔ (open_of (marked self.old.board) ≢ 0) }
+        ensures busy { IsErrOf result MarkFault.Busy ↔ (open_of (up_to_cut self.old.board) ≢ 0) }
         ensures ok { IfOk result (λ bytes.
             PutsBytes (StoreDoes S.slot S.IsHonest S.failed S.acts) self.old bytes.items self.new) }
+        // After any calls on its board, with this one too, the board is true to its log.
+        ensures played { OnOk result
+            (StaysTrueToLog declared_cowns effect_of self.old.board CutDropped self.new.board) }
         ensures err { IfErr result (λ fault.
             IsMarkFaultOf (StoreDoes S.slot S.IsHonest S.failed S.acts) self.old fault self.new) }
     {
@@ -80,7 +89,7 @@ impl<S: CheckpointStore> Replica<S> {
 
     // How many entries a mark is of.
     fn marked_length(&self) -> u64
-        ensures value { result ≡ length_of (marked self.now.board) }
+        ensures value { result ≡ length_of (up_to_cut self.now.board) }
         ensures few { result ≤ LOG_CALLS }
         ensures beside { length self.now.board.log ≡ length self.now.board.states }
     {
@@ -93,9 +102,9 @@ impl<S: CheckpointStore> Replica<S> {
 
     // The columns that a mark is of, or `None` while something of that is unfinished.
     fn marked_columns(&self) -> Option<&Columns>
-        ensures value { MatchOption result (open_of (marked self.now.board) ≢ 0)
-            (λ columns. (open_of (marked self.now.board) ≡ 0)
-            × IsAfterAll declared_cowns effect_of (marked self.now.board) columns.now) }
+        ensures value { MatchOption result (open_of (up_to_cut self.now.board) ≢ 0)
+            (λ columns. (open_of (up_to_cut self.now.board) ≡ 0)
+            × IsAfterAll declared_cowns effect_of (up_to_cut self.now.board) columns.now) }
     {
         match self.log.cut_length() {
             Some(_) => self.log.cut_columns(),
@@ -106,10 +115,10 @@ impl<S: CheckpointStore> Replica<S> {
     // The checkpoint of these columns and of the replies to all numbers that are marked, where none is unfinished. Each
     // reply is spelled as it's read: a list of them would be longer than the checkpoint, and pass through memory twice.
     fn spelled(&self, columns: &Columns) -> Result<Vec<u8>, AllocError>
-        requires { open_of (marked self.now.board) ≡ 0 }
+        requires { open_of (up_to_cut self.now.board) ≡ 0 }
         ensures { IfOk result (λ bytes. Spells (record {
           columns = columns.now;
-          replies = replies_held (marked self.now.board);
+          replies = replies_held (up_to_cut self.now.board);
         }) bytes.items) }
     {
         let length = self.marked_length();

@@ -8,7 +8,7 @@ ghost use Rattle.sb_calls.specs.Op.{IsOpWithin};
 ghost use Rattle.sb_calls.specs.Replies.{IsReply};
 ghost use Rattle.cown_board.specs.Board.{length_of, open_of, reply_in, IsAfterAll};
 ghost use Rattle.cown_board.specs.Played.{opened_with, StaysTrueToLog, Submitted};
-ghost use Rattle.sb_checkpoint.specs.Stores.{StoreDoes, Got, NotGot};
+ghost use Rattle.sb_checkpoint.specs.Stores.{Compares, StoreDoes, Got, NotGot};
 ghost use Rattle.sb_frames.specs.declared.frame.Frame.TheVariants as frames;
 ghost use Rattle.sb_replica_log.specs.Offers.{offered, after_offer};
 
@@ -165,6 +165,17 @@ impl<S: CheckpointStore> Replica<S> {
         ensures stays { self.new ≡ record self.old { store = self.new.store } }
     {
         self.store.get()
+    }
+
+    /// Whether the store holds just these bytes, as [`CheckpointStore::holds`].
+    pub fn store_holds(&mut self, bytes: &[u8]) -> Result<bool, StoreFault>
+        ensures told { MatchResult result
+            (λ same. Compares (StoreDoes S.slot S.IsHonest S.failed S.acts) self.old.store bytes.now same
+            self.new.store)
+            (λ fault. StoreDoes S.slot S.IsHonest S.failed S.acts self.old.store (NotGot fault) self.new.store) }
+        ensures stays { self.new ≡ record self.old { store = self.new.store } }
+    {
+        self.store.holds(bytes)
     }
 
     /// That it has the log up to its length.

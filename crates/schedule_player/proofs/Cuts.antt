@@ -11,7 +11,7 @@ use Rattle.sb_calls.specs.Cowns.{held_of}
 use Rattle.sb_calls.specs.declared.op.Op.{Op}
 use Rattle.sb_checkpoint.specs.declared.memory_store.How.{How}
 use Rattle.sb_replica.proofs.MarkedReplies.{length_up_to}
-use Rattle.sb_replica.specs.Marking.{up_to, marked as marked_part}
+use Rattle.sb_replica.specs.Marking.{up_to, up_to_cut}
 use Rattle.schedule_player.specs.Along.{IsBoardAlong}
 use Rattle.schedule_player.specs.Bank.{BankOf}
 use Rattle.schedule_player.specs.NodeAlong.{seen_node, IsNodeAt}
@@ -96,7 +96,7 @@ module _ (opening : List ℤ) (log : List Op) where
   to_along board (Some number) here along = up_to_along board number along here
 
   -- what a mark is of
-  pub marked_along : (board : BoardOf Op) → IsBoardAlong opening log board → IsBoardAlong opening log (marked_part board)
+  pub marked_along : (board : BoardOf Op) → IsBoardAlong opening log board → IsBoardAlong opening log (up_to_cut board)
   marked_along board along = to_along board board.cut refl along
 
 -- ---- as the machine sees it
@@ -135,5 +135,5 @@ marks_to bank r node end (Some number) here is =
 
 -- the machine marks what the replica marks
 pub marks_as : (bank : BankOf) (r : ℕ) (node : Node) (end : How) → IsNodeAt bank r node
-    → marked (seen_node node) end ≡ mark_of (seen_node node) (marked_part node.replica.board) end
+    → marked (seen_node node) end ≡ mark_of (seen_node node) (up_to_cut node.replica.board) end
 marks_as bank r node end is = marks_to bank r node end node.replica.board.cut refl is

@@ -20,7 +20,7 @@ use Rattle.sb_checkpoint.specs.declared.fault.CheckpointFault.{CheckpointFault}
 use Rattle.sb_checkpoint.specs.declared.memory_store.How.{How}
 use Rattle.sb_checkpoint.specs.declared.store.StoreFault.{StoreFault}
 use Rattle.sb_checkpoint.specs.declared.store.StoreFault.TheVariants as store
-use Rattle.sb_replica.specs.Marking.{Puts, IsMarkFaultOf, marked as marked_part}
+use Rattle.sb_replica.specs.Marking.{Puts, IsMarkFaultOf, up_to_cut}
 use Rattle.sb_replica.specs.Replica.{ReplicaOf, replies_held}
 use Rattle.sb_replica.specs.Restarting.{IsStoredAs, Restarts, IsRestartFaultOf, of_store_fault}
 use Rattle.sb_replica.specs.declared.fault.MarkFault.TheVariants as fault
@@ -170,7 +170,7 @@ Does = StoreDoes (λ s. s.slot) (λ s. Unit {0}) (λ s. s.failures) MemoryActs
 kept_now : (bank : BankOf) (r : ℕ) (old : Node) (end : How) (answer : Result (Unit {0}) StoreFault) (new : ReplicaOf MemoryStoreOf) → IsNodeAt bank r old
     → (puts : Puts Does (told_of old.replica end) answer new) → IsKeptAlong bank (Some puts.bytes)
 kept_now bank r old end answer new is puts =
-    let part = marked_part old.replica.board in
+    let part = up_to_cut old.replica.board in
     let along = marked_along (held_of bank.opening) (ops_of bank) old.replica.board is.board in
     let valid = puts.spelled.valid in
     let customers = after_columns bank part puts.columns is.customers along valid.balances.same puts.after in
@@ -181,24 +181,24 @@ kept_now bank r old end answer new is puts =
     }
 
 kept_length : (bank : BankOf) (r : ℕ) (old : Node) (end : How) (answer : Result (Unit {0}) StoreFault) (new : ReplicaOf MemoryStoreOf) → IsNodeAt bank r old
-    → (puts : Puts Does (told_of old.replica end) answer new) → stated_length puts.bytes ≡ length_of (marked_part old.replica.board)
+    → (puts : Puts Does (told_of old.replica end) answer new) → stated_length puts.bytes ≡ length_of (up_to_cut old.replica.board)
 kept_length bank r old end answer new is puts =
-    let part = marked_part old.replica.board in
+    let part = up_to_cut old.replica.board in
     let along = marked_along (held_of bank.opening) (ops_of bank) old.replica.board is.board in
     let back = read_back (record { columns = puts.columns; replies = replies_held part }) puts.bytes puts.spelled in
     back.count ∙ length_held part puts.idle along.states
 
-idle_marks : (bank : BankOf) (r : ℕ) (old : Node) (end : How) → IsNodeAt bank r old → open_of (marked_part old.replica.board) ≡ 0
-    → marked (seen_node old) end ≡ put_ends (seen_node old) (length_of (marked_part old.replica.board)) end
+idle_marks : (bank : BankOf) (r : ℕ) (old : Node) (end : How) → IsNodeAt bank r old → open_of (up_to_cut old.replica.board) ≡ 0
+    → marked (seen_node old) end ≡ put_ends (seen_node old) (length_of (up_to_cut old.replica.board)) end
 idle_marks bank r old end is idle =
-    let part = marked_part old.replica.board in
+    let part = up_to_cut old.replica.board in
     marks_as bank r old end is
     ∙ ap (λ b. if b then put_ends (seen_node old) (length_of part) end else (seen_node old, note.Unfinished)) (eq-eqb (open_of part) 0 idle)
 
-busy_marks : (bank : BankOf) (r : ℕ) (old : Node) (end : How) → IsNodeAt bank r old → open_of (marked_part old.replica.board) ≢ 0
+busy_marks : (bank : BankOf) (r : ℕ) (old : Node) (end : How) → IsNodeAt bank r old → open_of (up_to_cut old.replica.board) ≢ 0
     → marked (seen_node old) end ≡ (seen_node old, note.Unfinished)
 busy_marks bank r old end is busy =
-    let part = marked_part old.replica.board in
+    let part = up_to_cut old.replica.board in
     marks_as bank r old end is
     ∙ ap (λ b. if b then put_ends (seen_node old) (length_of part) end else (seen_node old, note.Unfinished)) (ne_eqb (open_of part) 0 busy)
 
@@ -212,7 +212,7 @@ beside_stays old end answer new puts = record {
 
 -- the cut is gone
 pub marks_well : (bank : BankOf) (r : ℕ) (old : Node) (end : How) (new : ReplicaOf MemoryStoreOf) (size : ℕ) → IsNodeAt bank r old
-    → size ≡ length_of (marked_part old.replica.board) → Puts Does (told_of old.replica end) (Ok tt) new
+    → size ≡ length_of (up_to_cut old.replica.board) → Puts Does (told_of old.replica end) (Ok tt) new
     → Arrives bank r (record old { replica = new }) (note.Marked size) (marked (seen_node old) end)
 marks_well bank r old end new size is s puts =
     let acts = puts.put.as_told in
@@ -224,7 +224,7 @@ marks_well bank r old end new size is s puts =
     (ap stages_of board)
     (subst (IsKeptAlong bank) (sym slot) (kept_now bank r old end (Ok tt) new is puts))
     (ap kept_in slot ∙ kept_length bank r old end (Ok tt) new is puts ∙ sym s)
-    (idle_marks bank r old end is puts.idle ∙ ap (put_ends (seen_node old) (length_of (marked_part old.replica.board))) acts.0
+    (idle_marks bank r old end is puts.idle ∙ ap (put_ends (seen_node old) (length_of (up_to_cut old.replica.board))) acts.0
     ∙ ap (λ n. (record (seen_node old) { kept = n; cut = None }, note.Marked n)) (sym s)
     ∙ ap (λ b. (record (seen_node old) { kept = size; cut = b.cut }, note.Marked size)) (sym board))
 
@@ -234,7 +234,7 @@ pub marks_badly : (bank : BankOf) (r : ℕ) (old : Node) (end : How) (new : Repl
 marks_badly bank r old end new is puts = by puts.put.as_told
   where
     size : ℕ
-    size = length_of (marked_part old.replica.board)
+    size = length_of (up_to_cut old.replica.board)
 
     board : new.board ≡ old.replica.board
     board = ap (λ x. x.board) puts.stays

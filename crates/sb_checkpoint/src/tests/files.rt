@@ -37,11 +37,15 @@ fn failing_store(
     Ok(FileStore::new(file))
 }
 
-// It holds these bytes.
+// It holds these bytes, and none that are fewer, more or others.
 fn holds<S: CheckpointStore>(rt: &impl Abort, store: &mut S, bytes: &[u8]) {
     let held = store.get().expect(rt, "a get fails");
     let held = held.expect(rt, "nothing is held");
     assert!(rt; held.as_slice() == bytes);
+    assert!(rt; store.holds(bytes) == Ok(true));
+    assert!(rt; store.holds(b"fir") == Ok(false));
+    assert!(rt; store.holds(b"some bytes more") == Ok(false));
+    assert!(rt; store.holds(b"others") == Ok(false));
 }
 
 // How many files there are in the folder.
@@ -54,6 +58,7 @@ fn what_is_put_is_got(rt: HostRuntime) -> Result<(), Fail> {
     let folder = folder(&rt, "sb_checkpoint_put")?;
     let mut first = store(&rt, &folder)?;
     assert!(rt; first.get()?.is_none());
+    assert!(rt; first.holds(b"") == Ok(false));
     for bytes in [b"first".as_slice(), b"second".as_slice(), b"".as_slice()] {
         first.put(bytes)?;
         holds(&rt, &mut first, bytes);
@@ -103,9 +108,13 @@ fn a_get_that_fails(rt: HostRuntime) -> Result<(), Fail> {
     let told = Rc::new(rt.alloc(), Cell::new(Call::None))?;
     let mut store = failing_store(&rt, &folder, &told)?;
     store.put(b"some bytes")?;
-    for (call, failures) in [(Call::Open, 1), (Call::Read, 2)] {
+    for (call, failures) in [(Call::Open, 2), (Call::Read, 4)] {
         told.set(call);
         assert!(rt; store.get().err() == Some(StoreFault::Device), "{call:?}");
+        assert!(rt;
+            store.holds(b"some bytes") == Err(StoreFault::Device),
+            "{call:?}"
+        );
         assert!(rt; store.failures() == failures);
     }
     told.set(Call::None);

@@ -65,5 +65,7 @@ fn a_store_over_an_honest_file(rt: HostRuntime) -> Result<(), Fail> {
     store.put(b"some")?;
     let held = store.get()?.ok_or("nothing is held")?;
     assert!(rt; held.as_slice() == b"some".as_slice());
+    assert!(rt; store.holds(b"some") == Ok(true));
+    assert!(rt; store.holds(b"other") == Ok(false));
     Ok(())
 }

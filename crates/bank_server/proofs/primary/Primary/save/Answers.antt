@@ -1,6 +1,5 @@
 use Rattle.std.proofs.Common.{rules, subst}
 use Rattle.std.proofs.lemmas.Result.{err_from_is_err_and}
-use Rattle.std.specs.Option.{option_map}
 use Rattle.sb_checkpoint.specs.Stores.{StoreDoes, StoreStep}
 use Rattle.bank_server.specs.Primary.{PrimaryOf}
 use Rattle.bank_server.specs.Saving.{IsSaveFaultOf, Saves, save_of_store_fault}
@@ -8,28 +7,34 @@ use Rattle.bank_server.specs.declared.save_fault.SaveFault.TheVariants.{ReadBack
 use Rattle.bank_server.proofs.Saves.{not_read, read_back, read_other}
 use Rattle.bank_server.proofs.primary.Primary.save.Goals as goal
 
-pub returns-in_err-held-clause-fault : goal.returns-in_err-held-clause-fault
-returns-in_err-held-clause-fault g c =
-    let p = err_from_is_err_and c.from_residual-in_err-held.result c.from_residual-in_err-held.ensures.1 in
-    let fault = c.in_err-held.field-0.0 in
+pub returns-in_err-same-clause-fault : goal.returns-in_err-same-clause-fault
+returns-in_err-same-clause-fault g c =
+    let p = err_from_is_err_and c.from_residual-in_err-same.result c.from_residual-in_err-same.ensures.1 in
+    let fault = c.in_err-same.field-0.0 in
     let does : g.row.S.Denot → StoreStep → g.row.S.Denot → Type 0 =
     StoreDoes g.S.CheckpointStore.slot g.S.CheckpointStore.IsHonest g.S.CheckpointStore.failed g.S.CheckpointStore.acts in
-    rw (p.1, p.2) (subst (λ (v : PrimaryOf g.row.S.Denot). IsSaveFaultOf does v.node (save_of_store_fault fault) c.stored.new.self) c.self.view_is
-    (not_read does c.self.inside.node c.put_checkpoint.new.self c.stored.new.self c.in_ok-put.put.items c.in_ok-put.ensures.ok c.stored.ensures.stays c.self.invariant.behind.uncut
-    fault c.in_err-held.ensures.got))
+    let new = c.store_holds.new.self in
+    rw (p.1, p.2)
+    (subst (λ (v : PrimaryOf g.row.S.Denot). IsSaveFaultOf does v.node (save_of_store_fault fault) new) c.self.view_is
+    (not_read does c.self.inside.node c.put_checkpoint.new.self new c.in_ok-put.put.items c.in_ok-put.ensures.ok
+    c.store_holds.ensures.stays c.self.invariant.behind.uncut fault c.in_err-same.ensures.told))
 
-pub returns-then-not-is_same-clause-fault : goal.returns-then-not-is_same-clause-fault
-returns-then-not-is_same-clause-fault g c =
+pub returns-then-not-same-clause-fault : goal.returns-then-not-same-clause-fault
+returns-then-not-same-clause-fault g c =
     let does : g.row.S.Denot → StoreStep → g.row.S.Denot → Type 0 =
     StoreDoes g.S.CheckpointStore.slot g.S.CheckpointStore.IsHonest g.S.CheckpointStore.failed g.S.CheckpointStore.acts in
-    subst (λ (v : PrimaryOf g.row.S.Denot). IsSaveFaultOf does v.node ReadBack c.stored.new.self) c.self.view_is
-    (read_other does c.self.inside.node c.put_checkpoint.new.self c.stored.new.self c.in_ok-put.put.items c.in_ok-put.ensures.ok c.stored.ensures.stays c.self.invariant.behind.uncut
-    (option_map (λ held. held.items) c.in_ok-held.held) c.in_ok-held.ensures.got (search rules))
+    let new = c.store_holds.new.self in
+    let compared = c.in_ok-same.ensures.told in
+    subst (λ (v : PrimaryOf g.row.S.Denot). IsSaveFaultOf does v.node ReadBack new) c.self.view_is
+    (read_other does c.self.inside.node c.put_checkpoint.new.self new c.in_ok-put.put.items c.in_ok-put.ensures.ok
+    c.store_holds.ensures.stays c.self.invariant.behind.uncut compared.held compared.got (search rules))
 
 pub returns-clause-saved : goal.returns-clause-saved
 returns-clause-saved g c =
     let does : g.row.S.Denot → StoreStep → g.row.S.Denot → Type 0 =
     StoreDoes g.S.CheckpointStore.slot g.S.CheckpointStore.IsHonest g.S.CheckpointStore.failed g.S.CheckpointStore.acts in
-    subst (λ (v : PrimaryOf g.row.S.Denot). Saves does v.node c.stored.new.self) c.self.view_is
-    (read_back does c.self.inside.node c.put_checkpoint.new.self c.stored.new.self c.in_ok-put.put.items c.in_ok-put.ensures.ok c.stored.ensures.stays c.self.invariant.behind.uncut
-    (option_map (λ held. held.items) c.in_ok-held.held) c.in_ok-held.ensures.got (search rules))
+    let new = c.store_holds.new.self in
+    let compared = c.in_ok-same.ensures.told in
+    subst (λ (v : PrimaryOf g.row.S.Denot). Saves does v.node new) c.self.view_is
+    (read_back does c.self.inside.node c.put_checkpoint.new.self new c.in_ok-put.put.items c.in_ok-put.ensures.ok
+    c.store_holds.ensures.stays c.self.invariant.behind.uncut compared.held compared.got (search rules))

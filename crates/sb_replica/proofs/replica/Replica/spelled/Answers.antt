@@ -8,7 +8,7 @@ use Rattle.sb_calls.specs.Replies.{IsReply, reply_field}
 use Rattle.sb_calls.specs.declared.reply.Reply.{Reply}
 use Rattle.sb_checkpoint.specs.Checkpoint.{Spells}
 use Rattle.cown_board.specs.Board.{length_of}
-use Rattle.sb_replica.specs.Marking.{marked}
+use Rattle.sb_replica.specs.Marking.{up_to_cut}
 use Rattle.sb_replica.specs.Replica.{replies_held}
 use Rattle.sb_replica.proofs.IdleReplies.{reply_at, length_held, none_missing, take_one_more}
 use Rattle.sb_replica.proofs.MarkedReplies.{marked_beside, marked_reply}
@@ -25,22 +25,22 @@ one_more before replies reply =
 pub unreachable-requires : goal.unreachable-requires
 unreachable-requires g c =
     let board = c.args.self.now.board in
-    let lt : c.loop-place.place < length_of (marked board) =
+    let lt : c.loop-place.place < length_of (up_to_cut board) =
     subst (λ n. c.loop-place.place < n) c.marked_length-length.ensures.value c.loop-place-test.true in
-    none_missing (marked board) c.loop-place.place c.requires (marked_beside board c.marked_length-length.ensures.beside) lt
+    none_missing (up_to_cut board) c.loop-place.place c.requires (marked_beside board c.marked_length-length.ensures.beside) lt
     (sym (marked_reply board c.loop-place.place lt) ∙ sym c.reply.ensures.value ∙ c.in_default.is)
 
 pub loop-place-preserved : goal.loop-place-preserved
 loop-place-preserved g c =
     let board = c.args.self.now.board in
-    let held = replies_held (marked board) in
+    let held = replies_held (up_to_cut board) in
     let place = c.loop-place.place in
     let reply = c.in-Some.reply in
     let next : place + 1 ≡ suc place = omega arith in
-    let lt : place < length_of (marked board) = subst (λ n. place < n) c.marked_length-length.ensures.value c.loop-place-test.true in
+    let lt : place < length_of (up_to_cut board) = subst (λ n. place < n) c.marked_length-length.ensures.value c.loop-place-test.true in
     let more : take (place + 1) held ≡ take place held ++ reply ∷ [] =
     ap (λ n. take n held) next ∙ take_one_more held place reply
-    (sym (reply_at (marked board) place c.requires) ∙ sym (marked_reply board place lt) ∙ sym c.reply.ensures.value ∙ c.in-Some.is) in
+    (sym (reply_at (up_to_cut board) place c.requires) ∙ sym (marked_reply board place lt) ∙ sym c.reply.ensures.value ∙ c.in-Some.is) in
     record {
       bytes = ap (λ d. d.bytes) c.push.ensures ∙ ap (λ bytes. bytes ++ reply_field reply) c.loop-place.invariant.bytes
           ∙ sym (ap (λ xs. c.in_ok-draft.draft.bytes ++ flat_map reply_field xs) more
@@ -52,7 +52,7 @@ loop-place-preserved g c =
 
 pub returns : goal.returns
 returns g c =
-    let board = marked c.args.self.now.board in
+    let board = up_to_cut c.args.self.now.board in
     let held = replies_held board in
     let beside = marked_beside c.args.self.now.board c.marked_length-length.ensures.beside in
     let size : length held ≡ c.marked_length-length.result = length_held board c.requires beside ∙ sym c.marked_length-length.ensures.value in

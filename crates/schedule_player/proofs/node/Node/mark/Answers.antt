@@ -1,6 +1,6 @@
 use Rattle.std.proofs.Common.{Ok, subst, ap, ◌∙◌}
 use Rattle.cown_board.specs.Board.{length_of}
-use Rattle.sb_replica.specs.Marking.{Puts, IsMarkFaultOf, marked as marked_part}
+use Rattle.sb_replica.specs.Marking.{Puts, IsMarkFaultOf, up_to_cut}
 use Rattle.schedule_player.proofs.Storing.{Does, told_of, marks_well, marks_badly, marks_busy}
 use Rattle.schedule_player.proofs.node.Node.mark.Goals as goal
 
@@ -9,7 +9,7 @@ returns-in-Ok c = record {
   moves = λ bank r is.
       let told = c.tell.ensures in
       marks_well bank r c.args.self.now c.args.how c.mark.new.self c.in-Ok.length is
-      (c.in-Ok.ensures.ok.0 ∙ ap (λ x. length_of (marked_part x.board)) told)
+      (c.in-Ok.ensures.ok.0 ∙ ap (λ x. length_of (up_to_cut x.board)) told)
       (subst (λ x. Puts Does x (Ok tt) c.mark.new.self) told c.in-Ok.ensures.ok.1);
 }
 
