@@ -123,6 +123,51 @@ fn a_mark_that_leaves_the_new_bytes() {
 }
 
 #[test]
+fn a_mark_of_a_cut_while_a_later_entry_is_out() {
+    check(
+        "ask 1 1 deposit alice 1.00 / ask 1 2 deposit alice 2.00 / send 0 1 / send 0 2 / to 0 1 / cut 0 / cut 0 \
+         / mark 0 ok / to 0 2 / take 0 1 0 / finish 0 1 / take 0 1 0 / mark 0 ok / finish 0 1 / restart 0",
+        "new 1 / new 2 / sent 1 / sent 2 / accepted 1 / cut 1 / pending 1 \
+         / busy / accepted 2 / took 1 / finished 1 done / took 2 / marked 1 / finished 2 done / restarted 1",
+        ALICE_HAS_ONE_MORE,
+    );
+}
+
+const TWO_DEPOSITS: &str =
+    "ask 1 1 deposit alice 1.00 / ask 1 2 deposit bob 1.00 / send 0 1 / send 0 2 / to 0 1";
+const BOTH_SENT: &str = "new 1 / new 2 / sent 1 / sent 2 / accepted 1";
+
+#[test]
+fn a_later_entry_that_is_finished_first_is_not_in_the_cut() {
+    check(
+        &format!(
+            "{TWO_DEPOSITS} / cut 0 / to 0 2 / take 0 1 1 / finish 0 1 / mark 0 ok \
+             / take 0 1 0 / finish 0 1 / mark 0 ok / restart 0"
+        ),
+        &format!(
+            "{BOTH_SENT} / cut 1 / accepted 2 / took 2 / finished 2 done / busy \
+             / took 1 / finished 1 done / marked 1 / restarted 1"
+        ),
+        ALICE_HAS_ONE_MORE,
+    );
+}
+
+#[test]
+fn a_cut_stays_until_a_put_works() {
+    check(
+        &format!(
+            "{TWO_DEPOSITS} / cut 0 / take 0 1 0 / finish 0 1 / to 0 2 / mark 0 old / mark 0 new / cut 0 \
+             / mark 0 ok / cut 0 / mark 0 ok / restart 0 / cut 0"
+        ),
+        &format!(
+            "{BOTH_SENT} / cut 1 / took 1 / finished 1 done / accepted 2 / store fault / store fault / pending 1 \
+             / marked 1 / cut 2 / busy / restarted 1 / cut 1"
+        ),
+        ALICE_HAS_ONE_MORE,
+    );
+}
+
+#[test]
 fn a_replica_with_1024_unfinished_is_busy() {
     let mut events = Vec::new();
     let mut notes = Vec::new();
@@ -186,6 +231,7 @@ fn the_first_fault_counts_and_nothing_is_written() {
     check_fault(&after("to 0 x y"), "line 7: wrong words");
     check_fault(&after("to 0 4294967296"), "line 7: bad number");
     check_fault(&after("mark 0 no"), "line 7: bad number");
+    check_fault(&after("cut 0 1"), "line 7: wrong words");
     check_fault(&after("ask 1"), "line 7: wrong words");
     check_fault(&after("ask 01 1"), "line 7: bad number");
     check_fault(&after("ask 0 1"), "line 7: unknown verb");

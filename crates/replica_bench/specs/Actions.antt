@@ -2,13 +2,15 @@
 use Rattle.std.specs.Prelude.{◌≡◌, ℕ, Some, List, length, map, String, codes, slice_get, string_bytes}
 use Rattle.std.specs.Str.Parse.{IsNumeral, digits_value, without_leading_plus}
 use Rattle.replica_bench.specs.declared.words.Action.{Action}
-use Rattle.replica_bench.specs.declared.words.Action.TheVariants.{Deliver, Board, Write, Read, OneCustomer, ManyCustomers}
+use Rattle.replica_bench.specs.declared.words.Action.TheVariants.{Deliver, Board, Cut, Uncut, Write, Read, OneCustomer, ManyCustomers}
 use Rattle.replica_bench.specs.declared.words.Words.{Words}
 
 -- the word for an action
 abbrev pub word_of : Action → List ℕ
 word_of Deliver = codes "deliver"
 word_of Board = codes "board"
+word_of Cut = codes "cut"
+word_of Uncut = codes "uncut"
 word_of Write = codes "write"
 word_of Read = codes "read"
 word_of OneCustomer = codes "one-customer"

@@ -14,6 +14,10 @@ use Rattle.replica_bench.specs.declared.measured.Measured.{Measured}
 abbrev pub total_of : Balances → ℤ
 total_of columns = total columns.savings +ℤ total columns.checking
 
+-- what the whole log of a board leaves, one by one
+abbrev pub left_by : BoardOf Op → List ℤ
+left_by board = held_after declared_cowns effect_of (held_of board.opening) board.log
+
 -- a board with so many ops more in its log, from the same opening
 pub record HasMore (count : ℕ) (old new : BoardOf Op) : Type 0 where
   pub opening : new.opening ≡ old.opening

@@ -1,16 +1,16 @@
 //! The calls of frames carried out on a board: what a replica is measured against.
-ghost use Rattle.std.specs.Prelude.{◌≡◌, ◌*◌, [], length, IfOk, OnOk};
+ghost use Rattle.std.specs.Prelude.{◌≡◌, ◌*◌, [], length, IfOk, OnOk, None};
 ghost use Rattle.sb_calls.specs.Behaviour.{declared_cowns};
 ghost use Rattle.sb_calls.specs.Cowns.{AreBelow, held_of};
 ghost use Rattle.replica_bench.specs.Logs.{BankComesTo, ComesTo, HasMore};
 
 use crate::bank::open_bank;
+use crate::cuts::{Cuts, cut_where_due, settle};
 use crate::delivering::{BALANCES, CUSTOMERS};
 use crate::entries::{Entries, make_entries};
 use crate::measured::{Measured, log_measured};
 use anyhow::{Context, Result, bail};
 use cown_board::{Board, SubmitFault};
-use cown_workers::{InlineCrew, drain};
 use sb_calls::{Call, Op, resolve};
 use sb_frames::{Frame, decode};
 use sb_rows::Directory;
@@ -53,27 +53,35 @@ fn carry_out_entries(
     ensures { OnOk result (HasMore count board.old board.new) }
 {
     let entries = make_entries(alloc, directory, count)?;
-    time_carrying(clock, &entries, directory, board)
+    time_carrying(clock, &entries, directory, Cuts::Never, board)
 }
 
-fn time_carrying(
+/// Tells how long it took to carry out the calls of all frames.
+pub fn time_carrying(
     clock: &impl Clock,
     entries: &Entries,
     directory: &Directory,
+    cuts: Cuts,
     board: &mut Board<Op>,
 ) -> Result<Duration>
     requires { length (held_of board.old.opening) ≡ 2 * length directory.now }
     ensures { OnOk result (HasMore (length entries.now.lengths.items) board.old board.new) }
 {
     let start = Instant::now(clock)?;
-    carry_out(entries, directory, board)?;
+    carry_out(entries, directory, cuts, board)?;
     Ok(start.elapsed(clock)?)
 }
 
-// Carries out the calls of all frames.
-fn carry_out(entries: &Entries, directory: &Directory, board: &mut Board<Op>) -> Result<()>
+/// Carries out the calls of all frames on a board that is cut so. Each cut has settled in the end.
+pub fn carry_out(
+    entries: &Entries,
+    directory: &Directory,
+    cuts: Cuts,
+    board: &mut Board<Op>,
+) -> Result<()>
     requires { length (held_of board.old.opening) ≡ 2 * length directory.now }
-    ensures { OnOk result (HasMore (length entries.now.lengths.items) board.old board.new) }
+    ensures more { OnOk result (HasMore (length entries.now.lengths.items) board.old board.new) }
+    ensures settled { OnOk result (board.new.cut ≡ None) }
 {
     // As `smallbank run` does.
     board.reserve(entries.lengths.len())?;
@@ -81,10 +89,10 @@ fn carry_out(entries: &Entries, directory: &Directory, board: &mut Board<Op>) ->
     for length in &entries.lengths {
         let (frame, after) = rest.split_at_checked(*length).context("no frame")?;
         submit(&resolve(directory, &call_of(frame)?), board)?;
+        cut_where_due(cuts, board)?;
         rest = after;
     }
-    drain(board, &mut InlineCrew)?;
-    Ok(())
+    settle(board)
 }
 
 // The call of an entry's frame.
@@ -96,14 +104,14 @@ fn call_of(bytes: &[u8]) -> Result<Call> {
     }
 }
 
-// Submits an op. Where the board is busy it is drained first.
+// Submits an op. Where the board is busy it is settled first.
 fn submit(op: &Op, board: &mut Board<Op>) -> Result<()>
     requires { AreBelow (length (held_of board.old.opening)) (declared_cowns op.now) }
     ensures { OnOk result (HasMore 1 board.old board.new) }
 {
     match board.submit(*op) {
         Ok(_) => return Ok(()),
-        Err(SubmitFault::Busy) => drain(board, &mut InlineCrew)?,
+        Err(SubmitFault::Busy) => settle(board)?,
         Err(fault) => return Err(fault.into()),
     }
     board.submit(*op)?;

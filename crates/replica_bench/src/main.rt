@@ -2,6 +2,8 @@
 #![tactic(auto)]
 
 use anyhow::Result;
+use cuts::Cuts;
+use cutting::carry_out_both;
 use measured::Measured;
 use rounds::{Payees, drain_rounds};
 use std::env;
@@ -11,6 +13,8 @@ use words::{Action, Words, read_words};
 mod bank;
 mod boarding;
 mod checkpoints;
+mod cuts;
+mod cutting;
 mod delivering;
 mod entries;
 mod holding;
@@ -20,7 +24,7 @@ mod rounds;
 mod words;
 
 const USAGE: &str =
-    "usage: replica_bench deliver|board|write|read|one-customer|many-customers NUMBER";
+    "usage: replica_bench deliver|board|cut|uncut|write|read|one-customer|many-customers NUMBER";
 
 fn main(rt: HostRuntime) -> ExitCode {
     let status = match start(&rt) {
@@ -57,6 +61,8 @@ fn measure(rt: &HostRuntime, words: Words) -> Result<Measured> {
     match words.action {
         Action::Deliver => delivering::deliver(rt, alloc, words.number),
         Action::Board => boarding::board(rt, alloc, words.number),
+        Action::Cut => carry_out_both(rt, alloc, Cuts::Often, words.number),
+        Action::Uncut => carry_out_both(rt, alloc, Cuts::Never, words.number),
         Action::Write => checkpoints::write(rt, alloc, words.number),
         Action::Read => checkpoints::read(rt, alloc, words.number),
         Action::OneCustomer => drain_rounds(rt, alloc, Payees::One, words.number),

@@ -9,6 +9,10 @@ pub enum Action {
     Deliver,
     /// The calls of the same frames are carried out on a board.
     Board,
+    /// Such calls are, on a board that is cut now and then.
+    Cut,
+    /// The same calls are, on one that isn't.
+    Uncut,
     /// A checkpoint is written.
     Write,
     /// A checkpoint is read.
@@ -55,6 +59,8 @@ fn action_of(word: &str) -> Option<Action>
     let action = match word {
         "deliver" => Action::Deliver,
         "board" => Action::Board,
+        "cut" => Action::Cut,
+        "uncut" => Action::Uncut,
         "write" => Action::Write,
         "read" => Action::Read,
         "one-customer" => Action::OneCustomer,

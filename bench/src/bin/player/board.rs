@@ -1,7 +1,7 @@
 //! The board of a replica: its log of ops, of which those are handed out whose balances are free.
 //!
 //! Each balance knows the last unfinished op that touches it, and each unfinished op who comes next at each of
-//! its balances and at how many it isn't first.
+//! its balances and at how many it isn't first. What was submitted before a cut writes into the cut's balances too.
 
 use crate::bank::{Op, Reply, TOUCHED, Touched, Values};
 use std::collections::VecDeque;
@@ -63,6 +63,21 @@ struct Unfinished {
     is_out: bool,
 }
 
+// The balances of a beginning of the log, which later ops leave alone.
+struct Cut {
+    length: u64,
+    balances: Vec<i64>,
+    // How many ops of this beginning aren't finished.
+    unfinished: usize,
+}
+
+/// What a finished beginning of the log came to.
+#[derive(Clone, Copy)]
+pub struct Settled<'a> {
+    pub balances: &'a [i64],
+    states: &'a [State],
+}
+
 pub struct Board {
     balances: Vec<i64>,
     states: Vec<State>,
@@ -72,6 +87,20 @@ pub struct Board {
     last: Vec<Slot>,
     // Rising numbers.
     ready: VecDeque<u64>,
+    cut: Option<Cut>,
+}
+
+impl Settled<'_> {
+    pub fn length(&self) -> u64 {
+        self.states.len() as u64
+    }
+
+    pub fn replies(&self) -> impl ExactSizeIterator<Item = Reply> {
+        self.states.iter().map(|state| match state {
+            State::Finished(reply) => *reply,
+            State::Open(_) => unreachable!("all of this beginning is finished"),
+        })
+    }
 }
 
 impl Board {
@@ -84,19 +113,12 @@ impl Board {
             unfinished: Vec::new(),
             free: Vec::new(),
             ready: VecDeque::new(),
+            cut: None,
         }
     }
 
     pub fn length(&self) -> u64 {
         self.states.len() as u64
-    }
-
-    pub fn is_idle(&self) -> bool {
-        self.unfinished_count() == 0
-    }
-
-    pub fn balances(&self) -> &[i64] {
-        &self.balances
     }
 
     pub fn reply(&self, number: u64) -> Option<Reply> {
@@ -106,12 +128,41 @@ impl Board {
         }
     }
 
-    /// The replies to all entries, where all are finished.
-    pub fn replies(&self) -> impl ExactSizeIterator<Item = Reply> {
-        self.states.iter().map(|state| match state {
-            State::Finished(reply) => *reply,
-            State::Open(_) => unreachable!("the board is idle"),
+    /// What the whole log came to, where all of it is finished.
+    pub fn settled(&self) -> Option<Settled<'_>> {
+        (self.unfinished_count() == 0).then_some(Settled {
+            balances: &self.balances,
+            states: &self.states,
         })
+    }
+
+    /// What the log up to the cut came to, or without a cut the whole, where all of that is finished.
+    pub fn settled_cut(&self) -> Option<Settled<'_>> {
+        let Some(cut) = &self.cut else {
+            return self.settled();
+        };
+        (cut.unfinished == 0).then_some(Settled {
+            balances: &cut.balances,
+            states: &self.states[..cut.length as usize],
+        })
+    }
+
+    /// Cuts the log off at its length, and answers that. Where there is a cut already its length is the error.
+    pub fn cut(&mut self) -> Result<u64, u64> {
+        if let Some(pending) = &self.cut {
+            return Err(pending.length);
+        }
+        let length = self.length();
+        self.cut = Some(Cut {
+            length,
+            balances: self.balances.clone(),
+            unfinished: self.unfinished_count(),
+        });
+        Ok(length)
+    }
+
+    pub fn drop_cut(&mut self) {
+        self.cut = None;
     }
 
     fn unfinished_count(&self) -> usize {
@@ -184,6 +235,11 @@ impl Board {
         if !this.is_out || this.op != job.op || self.held(touched) != job.held {
             return None;
         }
+        if let Some(cut) = &mut self.cut
+            && job.number <= cut.length
+        {
+            cut.write(touched, left);
+        }
         for ((balance, value), next) in touched.as_slice().iter().zip(left).zip(next) {
             self.balances[*balance as usize] = value;
             if next == NOBODY {
@@ -221,6 +277,16 @@ impl Board {
             *value = self.balances[*balance as usize];
         }
         held
+    }
+}
+
+impl Cut {
+    // One of its ops is finished.
+    fn write(&mut self, touched: Touched, left: Values) {
+        for (balance, value) in touched.as_slice().iter().zip(left) {
+            self.balances[*balance as usize] = value;
+        }
+        self.unfinished -= 1;
     }
 }
 

@@ -8,7 +8,7 @@ const HEAD: usize = 20;
 const AMOUNT: usize = 8;
 const LOG_CALLS: usize = 1_000_000;
 
-/// What an idle replica has.
+/// What a replica had up to a length.
 pub struct Checkpoint {
     /// For each customer savings, then checking.
     pub balances: Vec<i64>,

@@ -35,6 +35,8 @@ pub enum Note {
     Busy,
     StoreFault,
     Restarted(u64),
+    Cut(u64),
+    Pending(u64),
     Apart(u64, u64),
     Differ(Column, u64),
     OffBooks(i64, i64),
@@ -92,6 +94,8 @@ impl Note {
             | Note::Stranger(number)
             | Note::Marked(number)
             | Note::Restarted(number)
+            | Note::Cut(number)
+            | Note::Pending(number)
             | Note::Apart(number, _)
             | Note::Differ(_, number) => Some(number),
             _ => None,
@@ -124,6 +128,8 @@ impl Note {
             Note::Busy => b"busy",
             Note::StoreFault => b"store fault",
             Note::Restarted(_) => b"restarted ",
+            Note::Cut(_) => b"cut ",
+            Note::Pending(_) => b"pending ",
             Note::Apart(..) => b"apart ",
             Note::Differ(Column::Savings, _) => b"differ savings ",
             Note::Differ(Column::Checking, _) => b"differ checking ",

@@ -61,6 +61,9 @@ pub enum Event<'a> {
     Restart {
         replica: u32,
     },
+    Cut {
+        replica: u32,
+    },
     Audit {
         first: u32,
         second: u32,
@@ -160,6 +163,7 @@ fn event(line: &[u8]) -> Result<Event<'_>, Fault> {
         b"finish" => numbers(words).map(|[replica, worker]| Event::Finish { replica, worker })?,
         b"mark" => mark(words)?,
         b"restart" => numbers(words).map(|[replica]| Event::Restart { replica })?,
+        b"cut" => numbers(words).map(|[replica]| Event::Cut { replica })?,
         b"audit" => numbers(words).map(|[first, second]| Event::Audit { first, second })?,
         _ => return Err(Fault::UnknownEvent),
     })

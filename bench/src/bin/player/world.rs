@@ -1,7 +1,7 @@
 //! The sequencer, the replicas with their workers and stores, and the frames between them.
 
 use crate::bank::Directory;
-use crate::board::{Board, Job, Offered};
+use crate::board::{Board, Job, Offered, Settled};
 use crate::checkpoint::{self, Checkpoint};
 use crate::frame::Frame;
 use crate::lists::Sent;
@@ -64,6 +64,7 @@ impl<'a> World<'a> {
             Event::Finish { replica, worker } => self.node(replica)?.finish(worker),
             Event::Mark { replica, how } => Some(self.node(replica)?.mark(how)),
             Event::Restart { replica } => self.restart(replica),
+            Event::Cut { replica } => Some(self.node(replica)?.cut()),
             Event::Audit { first, second } => self.audit(first, second),
         }
     }
@@ -149,29 +150,29 @@ impl<'a> World<'a> {
             &self.nodes.get(first as usize)?.board,
             &self.nodes.get(second as usize)?.board,
         );
-        if !one.is_idle() {
+        let Some(one) = one.settled() else {
             return Some(Note::BusyAt(u64::from(first)));
-        }
-        if !other.is_idle() {
+        };
+        let Some(other) = other.settled() else {
             return Some(Note::BusyAt(u64::from(second)));
-        }
+        };
         if one.length() != other.length() {
             return Some(Note::Apart(one.length(), other.length()));
         }
-        let difference = first_difference(one.balances(), other.balances());
+        let difference = first_difference(one.balances, other.balances);
         Some(difference.unwrap_or_else(|| self.books(one)))
     }
 
-    // Whether an idle board's total is the opening's and what its calls added.
-    fn books(&self, board: &Board) -> Note {
-        let calls = self.sequencer.log().iter().zip(board.replies());
+    // Whether the total is the opening's and what the calls added.
+    fn books(&self, settled: Settled) -> Note {
+        let calls = self.sequencer.log().iter().zip(settled.replies());
         let net: i64 = calls.map(|(call, reply)| call.net(reply)).sum();
         let expected = self.opening.iter().sum::<i64>() + net;
-        let total = board.balances().iter().sum();
+        let total = settled.balances.iter().sum();
         if total != expected {
             return Note::OffBooks(total, expected);
         }
-        let checking = board.balances().iter().skip(1).step_by(2);
+        let checking = settled.balances.iter().skip(1).step_by(2);
         let overdrawn = checking.filter(|amount| **amount < 0).count() as u64;
         Note::Same(total, overdrawn)
     }
@@ -183,11 +184,12 @@ impl<'a> World<'a> {
             push_number(out, replica);
             out.extend_from_slice(b" length ");
             push_number(out, node.board.length());
-            if node.board.is_idle() {
-                out.extend_from_slice(b" idle\n");
-                self.print_rows(node.board.balances(), out);
-            } else {
-                out.extend_from_slice(b" busy\n");
+            match node.board.settled() {
+                Some(settled) => {
+                    out.extend_from_slice(b" idle\n");
+                    self.print_rows(settled.balances, out);
+                }
+                None => out.extend_from_slice(b" busy\n"),
             }
         }
     }
@@ -241,15 +243,24 @@ impl Node {
         })
     }
 
-    fn mark(&mut self, how: How) -> Note {
-        if !self.board.is_idle() {
-            return Note::Busy;
+    fn cut(&mut self) -> Note {
+        match self.board.cut() {
+            Ok(length) => Note::Cut(length),
+            Err(length) => Note::Pending(length),
         }
-        let bytes = checkpoint::write(self.board.balances(), self.board.replies());
+    }
+
+    fn mark(&mut self, how: How) -> Note {
+        let Some(settled) = self.board.settled_cut() else {
+            return Note::Busy;
+        };
+        let length = settled.length();
+        let bytes = checkpoint::write(settled.balances, settled.replies());
         match how {
             How::Ok => {
                 self.stored = Some(bytes);
-                Note::Marked(self.board.length())
+                self.board.drop_cut();
+                Note::Marked(length)
             }
             How::Old => Note::StoreFault,
             How::New => {

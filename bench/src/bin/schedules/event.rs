@@ -37,6 +37,7 @@ pub enum Event {
     Finish(u32, u32),
     Mark(u32, How),
     Restart(u32),
+    Cut(u32),
     Audit(u32, u32),
 }
 
@@ -95,6 +96,7 @@ impl fmt::Display for Event {
             Event::Finish(replica, worker) => write!(f, "finish {replica} {worker}"),
             Event::Mark(replica, how) => write!(f, "mark {replica} {how}"),
             Event::Restart(replica) => write!(f, "restart {replica}"),
+            Event::Cut(replica) => write!(f, "cut {replica}"),
             Event::Audit(first, second) => write!(f, "audit {first} {second}"),
         }
     }

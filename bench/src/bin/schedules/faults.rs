@@ -50,7 +50,7 @@ const OPENING_LINES: [Faulty; 22] = [
     ("x -10000000000.00 0.00", "negative savings"),
 ];
 
-const EVENT_LINES: [Faulty; 62] = [
+const EVENT_LINES: [Faulty; 66] = [
     ("", "unknown event"),
     (" ", "unknown event"),
     (" ack 0", "unknown event"),
@@ -60,6 +60,7 @@ const EVENT_LINES: [Faulty; 62] = [
     ("nodes 1 workers 1", "unknown event"),
     ("begin", "unknown event"),
     ("settle 0", "unknown event"),
+    ("cuts 0", "unknown event"),
     ("send", "wrong words"),
     ("send 0", "wrong words"),
     ("send x", "wrong words"),
@@ -82,6 +83,8 @@ const EVENT_LINES: [Faulty; 62] = [
     ("mark ok", "wrong words"),
     ("restart", "wrong words"),
     ("restart 0 0", "wrong words"),
+    ("cut", "wrong words"),
+    ("cut 0 0", "wrong words"),
     ("audit 0", "wrong words"),
     ("audit 0 0 0", "wrong words"),
     ("send 00 1", "bad number"),
@@ -100,6 +103,7 @@ const EVENT_LINES: [Faulty; 62] = [
     ("mark 0 both", "bad number"),
     ("mark x ok", "bad number"),
     ("restart 010", "bad number"),
+    ("cut x", "bad number"),
     ("audit 0 one", "bad number"),
     ("ask", "wrong words"),
     ("ask x", "wrong words"),

@@ -41,7 +41,8 @@ fn write_opening(out: &mut impl Write, maker: &mut Maker) -> io::Result<()> {
     writeln!(out, "begin")
 }
 
-/// What comes seldom, the next one last: restarts at any time, and marks and audits of a replica that is idle first.
+/// What comes seldom, the next one last: restarts and cuts at any time, marks of a cut once it has settled, and
+/// other marks, with audits, of a replica that is idle first.
 #[derive(Default)]
 struct Seldom {
     planned: Vec<Event>,
@@ -50,8 +51,12 @@ struct Seldom {
 impl Seldom {
     fn plan(&mut self, turn: u32, replica: u32) {
         let how = match turn % 8 {
-            0 | 4 => How::Ok,
+            0 => How::Ok,
             2 => How::Old,
+            4 => {
+                let mark = Event::Mark(replica, How::Ok);
+                return self.planned.extend([mark, Event::Cut(replica)]);
+            }
             6 => How::New,
             _ => return self.planned.push(Event::Restart(replica)),
         };
@@ -60,12 +65,15 @@ impl Seldom {
     }
 
     fn event(&mut self, machine: &Machine) -> Option<Event> {
-        match *self.planned.last()? {
-            Event::Mark(replica, _) if !machine.nodes[replica as usize].open.is_empty() => {
-                Some(working(&machine.nodes[replica as usize], replica))
+        let planned = *self.planned.last()?;
+        if let Event::Mark(replica, _) = planned {
+            let node = &machine.nodes[replica as usize];
+            if !node.is_settled() {
+                // One with a cut goes on as ever.
+                return node.cut.is_none().then(|| working(node, replica));
             }
-            _ => self.planned.pop(),
         }
+        self.planned.pop()
     }
 }
 

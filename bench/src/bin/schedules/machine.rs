@@ -46,6 +46,7 @@ pub struct Node {
     pub hands: Vec<Option<u32>>,
     /// The length of the stored checkpoint, 0 for none.
     pub kept: u32,
+    pub cut: Option<u32>,
     /// The length that the sequencer heard of last.
     pub recorded: u32,
     /// The numbers of all entries sent to it.
@@ -84,6 +85,7 @@ impl Machine {
             out: BTreeSet::new(),
             hands: vec![None; workers as usize],
             kept: 0,
+            cut: None,
             recorded: 0,
             to: Vec::new(),
             from: Vec::new(),
@@ -140,6 +142,7 @@ impl Machine {
             Event::Finish(replica, worker) => self.node(replica)?.finish(worker),
             Event::Mark(replica, how) => Some(self.node(replica)?.mark(how)),
             Event::Restart(replica) => Some(self.node(replica)?.restart()),
+            Event::Cut(replica) => Some(self.node(replica)?.make_cut()),
             Event::Audit(first, second) => self.audit(first, second),
         }
     }
@@ -255,15 +258,39 @@ impl Node {
         }
     }
 
+    // How many numbers a mark is of.
+    fn marked(&self) -> u32 {
+        self.cut.unwrap_or(self.length)
+    }
+
+    /// Whether a mark finds nothing open.
+    pub fn is_settled(&self) -> bool {
+        self.open.range(..=self.marked()).next().is_none()
+    }
+
+    fn make_cut(&mut self) -> Note {
+        match self.cut {
+            Some(length) => Note::Number("pending", length),
+            None => {
+                self.cut = Some(self.length);
+                Note::Number("cut", self.length)
+            }
+        }
+    }
+
     fn mark(&mut self, how: How) -> Note {
-        if !self.open.is_empty() {
+        if !self.is_settled() {
             return Note::Words("busy");
         }
+        let length = self.marked();
         if how != How::Old {
-            self.kept = self.length;
+            self.kept = length;
         }
         match how {
-            How::Ok => Note::Number("marked", self.length),
+            How::Ok => {
+                self.cut = None;
+                Note::Number("marked", length)
+            }
             How::Old | How::New => Note::Words("store fault"),
         }
     }
@@ -272,6 +299,7 @@ impl Node {
         self.length = self.kept;
         self.open.clear();
         self.out.clear();
+        self.cut = None;
         Note::Number("restarted", self.kept)
     }
 }

@@ -4,10 +4,11 @@ use crate::event::{Call, Customer, Event, How, Key};
 use crate::machine::{Machine, Node};
 use crate::random::Random;
 
-const KINDS: usize = 12;
+const KINDS: usize = 13;
 
-// How often each kind of event comes: ask, send, resend, to, ack, answer, from, take, finish, mark, restart, audit.
-const USUAL: [u32; KINDS] = [14, 14, 5, 24, 4, 5, 8, 16, 16, 5, 3, 4];
+// How often each kind of event comes: ask, send, resend, to, ack, answer, from, take, finish, mark, restart, cut,
+// audit.
+const USUAL: [u32; KINDS] = [14, 14, 5, 24, 4, 5, 8, 16, 16, 5, 3, 4, 4];
 
 const ASK: usize = 0;
 const TO: usize = 3;
@@ -60,6 +61,7 @@ impl Maker {
                 *self.random.pick(&[How::Ok, How::Ok, How::Old, How::New]),
             ),
             10 => Event::Restart(r),
+            11 => Event::Cut(r),
             _ => Event::Audit(r, self.replica(machine)),
         }
     }
@@ -75,7 +77,8 @@ impl Maker {
                 6 => node.from.is_empty(),
                 7 => machine.ready(node).is_empty(),
                 8 => node.hands.iter().all(Option::is_none),
-                9 => !node.open.is_empty(),
+                9 => !node.is_settled(),
+                11 => node.cut.is_some(),
                 _ => false,
             };
             if !is_vain || self.is_blind() {
