@@ -43,9 +43,24 @@ fn carry_out_on(
     requires empty { (board.earlier ≡ []) × (board.log ≡ []) }
     ensures { IfOk result (ComesTo board.opening (length entries.now.lengths.items)) }
 {
-    let time = time_carrying(clock, entries, directory, cuts, &mut board);
+    let measured = measure(clock, entries, directory, cuts, &mut board)?;
     carry_out(entries, directory, other(cuts), &mut beside)?;
     same_end(&board, &beside)?;
+    Ok(measured)
+}
+
+fn measure(
+    clock: &impl Clock,
+    entries: &Entries,
+    directory: &Directory,
+    cuts: Cuts,
+    board: &mut Board<Op>,
+) -> Result<Measured>
+    requires cowns { length (held_of board.old.opening) ≡ 2 * length directory.now }
+    requires empty { (board.old.earlier ≡ []) × (board.old.log ≡ []) }
+    ensures { IfOk result (ComesTo board.old.opening (length entries.now.lengths.items)) }
+{
+    let time = time_carrying(clock, entries, directory, cuts, board);
     log_measured(time, board.length(), board.settled_columns())
 }
 
