@@ -1,0 +1,4 @@
+pub mod HeldLists
+pub mod Keeping
+pub mod Rounds
+pub mod Seen

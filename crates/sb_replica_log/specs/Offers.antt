@@ -1,28 +1,55 @@
 -- An entry offered to a replica log: what it is answered, and what it leaves.
-use Rattle.std.specs.Prelude.{ℕ, suc, nat_le, nat_lt, ◌==◌, ◌||◌, if◌then◌else◌, [], ◌∷◌, ◌++◌}
+use Rattle.std.specs.Prelude.{ℕ, suc, ◌+◌, ◌-◌, nat_le, nat_lt, ◌==◌, ◌||◌, if◌then◌else◌, Option, Some, None, option_map, [], ◌∷◌, ◌++◌, drop, slice_set}
 use Rattle.sb_calls.specs.declared.call.TheConstants.{LOG_CALLS}
 use Rattle.sb_calls.specs.declared.op.Op.{Op}
 use Rattle.cown_board.specs.Board.{BoardOf, length_of, open_of}
 use Rattle.cown_board.specs.declared.board.TheConstants.{OPEN_BEHAVIOURS}
 use Rattle.cown_board.specs.declared.state.State.TheVariants.{Waiting}
+use Rattle.sb_replica_log.specs.Log.{LogOf, next_held}
 use Rattle.sb_replica_log.specs.declared.offered.Offered.{Offered}
-use Rattle.sb_replica_log.specs.declared.offered.Offered.TheVariants.{Next, Repeat, Gap, Busy}
+use Rattle.sb_replica_log.specs.declared.offered.Offered.TheVariants.{Next, Repeat, Gap, Held, Busy}
+use Rattle.sb_replica_log.specs.declared.replica_log.TheConstants.{HELD_ENTRIES}
 
--- the first case that holds: it is there already, one before it is missing, too much is unfinished, or it is the next
+-- what the next entry is answered: it is taken, unless too much is unfinished
+abbrev pub next_offered : BoardOf Op → Offered
+next_offered board = if open_of board == OPEN_BEHAVIOURS then Busy (length_of board) else Next
+
+-- the first case that holds: it is there already, it is too far ahead, one before it is missing, or it is the next
 abbrev pub offered : BoardOf Op → ℕ → Offered
 offered board number =
     if nat_le number (length_of board) then Repeat
-    else if nat_lt (suc (length_of board)) number || nat_lt LOG_CALLS number then Gap (length_of board)
-    else if open_of board == OPEN_BEHAVIOURS then Busy (length_of board)
-    else Next
+    else if nat_lt (length_of board + HELD_ENTRIES) number || nat_lt LOG_CALLS number then Gap (length_of board)
+    else if nat_lt (suc (length_of board)) number then Held number
+    else next_offered board
 
 -- the entry goes last in the log, and waits
 abbrev pub accepted : BoardOf Op → Op → BoardOf Op
 accepted board op = record board { log = board.log ++ op ∷ []; states = board.states ++ Waiting ∷ [] }
 
--- only the next entry changes anything
-abbrev pub after_offer : BoardOf Op → Op → Offered → BoardOf Op
-after_offer board op Next = accepted board op
-after_offer board op Repeat = board
-after_offer board op (Gap size) = board
-after_offer board op (Busy size) = board
+-- the board accepts it, and each place of what is held is that of one number more
+abbrev pub taken : LogOf → Op → LogOf
+taken log op = record { board = accepted log.board op; held = drop 1 log.held ++ None ∷ [] }
+
+-- what was held for the number before is replaced
+abbrev pub held_for : LogOf → ℕ → Op → LogOf
+held_for log number op = record log { held = slice_set log.held (number - length_of log.board - 1) (Some op) }
+
+-- only the next entry, and one that is held, change anything
+abbrev pub after_offer : LogOf → Op → Offered → LogOf
+after_offer log op Next = taken log op
+after_offer log op Repeat = log
+after_offer log op (Gap size) = log
+after_offer log op (Held number) = held_for log number op
+after_offer log op (Busy size) = log
+
+-- what the op that is held for the next number is answered, if there is one
+abbrev pub advanced : LogOf → Option Offered
+advanced log = option_map (λ op. next_offered log.board) (next_held log)
+
+-- and what it leaves
+abbrev pub after_held : LogOf → Option Op → LogOf
+after_held log None = log
+after_held log (Some op) = after_offer log op (next_offered log.board)
+
+abbrev pub after_advance : LogOf → LogOf
+after_advance log = after_held log (next_held log)

@@ -1,5 +1,5 @@
 //! The log of a replica.
-ghost use Rattle.std.specs.Prelude.{◌≡◌, ◌≢◌, ◌↔◌, ◌≤◌, ◌<◌, ◌-◌, ℕ, length, suc, option_map, Ok, IfOk, IfSome, IsErrOf, OnOk, OnErr, Some, None, MatchOption, MatchResult};
+ghost use Rattle.std.specs.Prelude.{◌≡◌, ◌≢◌, ◌↔◌, ◌≤◌, ◌<◌, ◌-◌, ◌%◌, ℕ, length, suc, replicate, option_map, Ok, IfOk, IfSome, IsErrOf, OnOk, OnErr, Some, None, MatchOption, MatchResult};
 ghost use Rattle.sb_rows.specs.Balances.{IsBalances};
 ghost use Rattle.sb_calls.specs.Behaviour.{declared_cowns, effect_of};
 ghost use Rattle.sb_calls.specs.Cowns.{held_of};
@@ -7,7 +7,8 @@ ghost use Rattle.sb_calls.specs.OneByOne.{reply_by_log};
 ghost use Rattle.sb_calls.specs.Op.{IsOpWithin};
 ghost use Rattle.cown_board.specs.Board.{length_of, open_of, reply_in, AreCut, IsAfterAll};
 ghost use Rattle.cown_board.specs.Played.{StaysTrueToLog, Submitted, CutMade, CutDropped};
-ghost use Rattle.sb_replica_log.specs.Offers.{offered, after_offer};
+ghost use Rattle.sb_replica_log.specs.Log.{none_held, next_held, IsLog};
+ghost use Rattle.sb_replica_log.specs.Offers.{offered, after_offer, next_offered, advanced, after_advance};
 
 use crate::offered::Offered;
 use cown_board::{Board, CutFault, Done, Job, Runs, SubmitFault};
@@ -16,56 +17,140 @@ use sb_rows::Columns;
 use std::alloc::AllocError;
 use std::marker::Model;
 
-/// A board whose log is a beginning of one numbered log: an entry that comes again, or before its turn,
-/// changes nothing.
+/// How many numbers after a log's length an entry is held for.
+pub const HELD_ENTRIES: usize = 64;
+
+/// A board whose log is a beginning of one numbered log: an entry that comes again changes nothing, and one
+/// that comes a little early is held until its turn.
 #[derive(Drop)]
 pub struct ReplicaLog {
     board: Board<Op>,
+    // The op for each of the next numbers that came already, at the place of its number, counted round.
+    held: [Option<Op>; HELD_ENTRIES],
 }
 
 impl Model for ReplicaLog {
-    ghost use Rattle.cown_board.specs.Board.{BoardOf};
-    ghost use Rattle.sb_calls.specs.declared.op.Op.{Op as AnyOp};
+    ghost use Rattle.cown_board.specs.Board.{length_of};
+    ghost use Rattle.sb_replica_log.specs.Log.{LogOf, IsLog};
+    ghost use Rattle.sb_replica_log.specs.Places.{in_order_after};
 
-    ghost Value = { BoardOf AnyOp };
+    ghost Value = { LogOf };
 
-    ghost view = { λ l. l.board };
+    ghost view = { λ l. record { board = l.board; held = in_order_after (length_of l.board) l.held } };
+
+    ghost invariant = { λ l. IsLog (record { board = l.board; held = in_order_after (length_of l.board) l.held }) };
+}
+
+// For the prover alone: here the array gets its clause.
+#[inline(always)]
+fn nothing_held() -> [Option<Op>; HELD_ENTRIES]
+    ensures { result ≡ replicate HELD_ENTRIES None }
+{
+    [None; HELD_ENTRIES]
+}
+
+// Where the op for a number is held.
+#[inline(always)]
+fn place_of(number: u64) -> usize
+    ensures { result ≡ number % HELD_ENTRIES }
+{
+    (number % HELD_ENTRIES as u64) as usize
 }
 
 impl ReplicaLog {
-    /// The log that this board has so far.
+    /// The log that this board has so far. No entry is held.
     pub fn open(board: Board<Op>) -> ReplicaLog
-        ensures { result ≡ board }
+        ensures { result ≡ record { board = board; held = none_held } }
     {
-        ReplicaLog { board }
+        ReplicaLog {
+            board,
+            held: nothing_held(),
+        }
     }
 
-    /// Offers the entry with this number. It is taken where it is the next one, and else nothing changes.
+    /// Offers the entry with this number. It is taken where it is the next one, held where it comes a little
+    /// early, and else nothing changes.
     ///
     /// Fails where memory is refused for an entry that would be taken; nothing changes then.
     #[inline]
     pub fn offer_entry(&mut self, number: u64, op: Op) -> Result<Offered, AllocError>
-        requires { IsOpWithin (length self.old.opening.savings) op }
-        ensures answer { IfOk result (λ answer. answer ≡ offered self.old number) }
-        ensures err { OnErr result (offered self.old number ≡ Offered.Next) }
+        requires { IsOpWithin (length self.old.board.opening.savings) op }
+        ensures answer { IfOk result (λ answer. answer ≡ offered self.old.board number) }
+        ensures err { OnErr result (offered self.old.board number ≡ Offered.Next) }
         ensures state { MatchResult result
             (λ answer. self.new ≡ after_offer self.old op answer)
             (λ refused. self.new ≡ self.old) }
         // After any calls on its board, with this one too, the board is true to its log.
         ensures played { IfOk result (λ answer. answer ≡ Offered.Next →
-            StaysTrueToLog declared_cowns effect_of self.old
-            (Submitted op (Ok (suc (length_of self.old)))) self.new) }
+            StaysTrueToLog declared_cowns effect_of self.old.board
+            (Submitted op (Ok (suc (length_of self.old.board)))) self.new.board) }
     {
-        // Its clauses say that the opening's columns are a bank's, as `submit` needs.
         let length = self.board.length();
         if number <= length {
             return Ok(Offered::Repeat);
         }
-        if number > length + 1 || number > LOG_CALLS as u64 {
+        if number > length + HELD_ENTRIES as u64 || number > LOG_CALLS as u64 {
             return Ok(Offered::Gap(length));
         }
+        if number > length + 1 {
+            self.held[place_of(number)] = Some(op);
+            return Ok(Offered::Held(number));
+        }
+        self.take_next(op)
+    }
+
+    /// Takes the op that is held for the next number, where there is one, as if it were offered now.
+    ///
+    /// Fails where memory is refused for an op that would be taken; nothing changes then.
+    pub fn advance(&mut self) -> Result<Option<Offered>, AllocError>
+        ensures answer { IfOk result (λ answer. answer ≡ advanced self.old) }
+        ensures err { OnErr result (advanced self.old ≡ Some Offered.Next) }
+        ensures state { MatchResult result
+            (λ answer. self.new ≡ after_advance self.old)
+            (λ refused. self.new ≡ self.old) }
+        // After any calls on its board, with this one too, the board is true to its log.
+        ensures played { IfOk result (λ answer. answer ≡ Some Offered.Next → IfSome (next_held self.old)
+            (λ op. StaysTrueToLog declared_cowns effect_of self.old.board
+            (Submitted op (Ok (suc (length_of self.old.board)))) self.new.board)) }
+    {
+        match self.next_held() {
+            Some(op) => Ok(Some(self.take_next(op)?)),
+            None => Ok(None),
+        }
+    }
+
+    // The op that is held for the next number.
+    #[inline(always)]
+    fn next_held(&self) -> Option<Op>
+        ensures value { result ≡ next_held self.now }
+        ensures within { IfSome result (IsOpWithin (length self.now.board.opening.savings)) }
+        ensures more { IfSome result (λ op. length_of self.now.board < LOG_CALLS) }
+    {
+        let next = self.board.length() + 1;
+        self.held[place_of(next)]
+    }
+
+    // Takes the op of the next number, and drops what was held for it, unless as many as may be are unfinished.
+    #[inline(always)]
+    fn take_next(&mut self, op: Op) -> Result<Offered, AllocError>
+        requires within { IsOpWithin (length self.old.board.opening.savings) op }
+        requires more { length_of self.old.board < LOG_CALLS }
+        ensures answer { IfOk result (λ answer. answer ≡ next_offered self.old.board) }
+        ensures err { OnErr result (next_offered self.old.board ≡ Offered.Next) }
+        ensures state { MatchResult result
+            (λ answer. self.new ≡ after_offer self.old op answer)
+            (λ refused. self.new ≡ self.old) }
+        ensures played { IfOk result (λ answer. answer ≡ Offered.Next →
+            StaysTrueToLog declared_cowns effect_of self.old.board
+            (Submitted op (Ok (suc (length_of self.old.board)))) self.new.board) }
+    {
+        // Its clauses say that the opening's columns are a bank's, as `submit` needs.
+        let length = self.board.length();
         match self.board.submit(op) {
-            Ok(_) => Ok(Offered::Next),
+            Ok(number) => {
+                self.held[place_of(number)] = None;
+                Ok(Offered::Next)
+            }
             Err(SubmitFault::Busy) => Ok(Offered::Busy(length)),
             // The number isn't above what a log takes.
             Err(SubmitFault::LogFull) => unreachable!(),
@@ -83,10 +168,11 @@ impl ReplicaLog {
     /// The number of the last entry.
     #[inline]
     pub fn length(&self) -> u64
-        ensures value { result ≡ length_of self.now }
-        ensures few { length_of self.now ≤ LOG_CALLS }
-        ensures bank { IsBalances self.now.opening }
-        ensures beside { length self.now.log ≡ length self.now.states }
+        ensures value { result ≡ length_of self.now.board }
+        ensures few { length_of self.now.board ≤ LOG_CALLS }
+        ensures bank { IsBalances self.now.board.opening }
+        ensures beside { length self.now.board.log ≡ length self.now.board.states }
+        ensures held { IsLog self.now }
     {
         self.board.length()
     }
@@ -94,28 +180,28 @@ impl ReplicaLog {
     /// The reply to a number, as [`Board::reply`].
     #[inline]
     pub fn reply(&self, number: u64) -> Option<Reply>
-        ensures value { result ≡ reply_in self.now number }
-        ensures by_log { IfSome result (λ reply. length self.now.earlier < number →
-            reply_by_log declared_cowns effect_of (held_of self.now.opening) self.now.log
-            (number - length self.now.earlier) ≡ Some reply) }
+        ensures value { result ≡ reply_in self.now.board number }
+        ensures by_log { IfSome result (λ reply. length self.now.board.earlier < number →
+            reply_by_log declared_cowns effect_of (held_of self.now.board.opening) self.now.board.log
+            (number - length self.now.board.earlier) ≡ Some reply) }
     {
         self.board.reply(number)
     }
 
     /// The columns after all entries, or `None` while one is unfinished. Fails where memory is refused.
     pub fn columns(&self) -> Result<Option<Columns>, AllocError>
-        ensures value { IfOk result (λ columns. MatchOption columns (open_of self.now ≢ 0)
-            (λ all. (open_of self.now ≡ 0) × IsAfterAll declared_cowns effect_of self.now all)) }
+        ensures value { IfOk result (λ columns. MatchOption columns (open_of self.now.board ≢ 0)
+            (λ all. (open_of self.now.board ≡ 0) × IsAfterAll declared_cowns effect_of self.now.board all)) }
         ensures bank { IfOk result (λ columns. IfSome columns IsBalances) }
-        ensures err { OnErr result (open_of self.now ≡ 0) }
+        ensures err { OnErr result (open_of self.now.board ≡ 0) }
     {
         self.board.columns()
     }
 
     /// The columns after all entries, lent, or `None` while one is unfinished.
     pub fn settled_columns(&self) -> Option<&Columns>
-        ensures value { MatchOption result (open_of self.now ≢ 0)
-            (λ columns. (open_of self.now ≡ 0) × IsAfterAll declared_cowns effect_of self.now columns.now) }
+        ensures value { MatchOption result (open_of self.now.board ≢ 0)
+            (λ columns. (open_of self.now.board ≡ 0) × IsAfterAll declared_cowns effect_of self.now.board columns.now) }
         ensures bank { IfSome result (λ columns. IsBalances columns.now) }
     {
         self.board.settled_columns()
@@ -123,23 +209,25 @@ impl ReplicaLog {
 
     /// Makes a cut at the log's length, and answers that, as [`Board::cut`].
     pub fn cut(&mut self) -> Result<u64, CutFault>
-        ensures number { IfOk result (λ number. number ≡ length_of self.old) }
-        ensures ok { OnOk result ((self.old.cut ≡ None) ×
-            (self.new ≡ record self.old { cut = Some (length_of self.old) })) }
+        ensures number { IfOk result (λ number. number ≡ length_of self.old.board) }
+        ensures ok { OnOk result ((self.old.board.cut ≡ None) ×
+            (self.new ≡ record self.old {
+              board = record self.old.board { cut = Some (length_of self.old.board) };
+            })) }
         ensures err { OnErr result (self.new ≡ self.old) }
         ensures pending { (number : ℕ) →
-            IsErrOf result (CutFault.Pending number) ↔ (self.old.cut ≡ Some number) }
+            IsErrOf result (CutFault.Pending number) ↔ (self.old.board.cut ≡ Some number) }
         // After any calls on its board, with this one too, the board is true to its log.
-        ensures played { StaysTrueToLog declared_cowns effect_of self.old (CutMade result) self.new }
+        ensures played { StaysTrueToLog declared_cowns effect_of self.old.board (CutMade result) self.new.board }
     {
         self.board.cut()
     }
 
     /// The length of the cut, where there is one.
     pub fn cut_length(&self) -> Option<u64>
-        ensures value { result ≡ self.now.cut }
+        ensures value { result ≡ self.now.board.cut }
         ensures within { IfSome result (λ number.
-            (length self.now.earlier ≤ number) × (number ≤ length_of self.now)) }
+            (length self.now.board.earlier ≤ number) × (number ≤ length_of self.now.board)) }
     {
         self.board.cut_length()
     }
@@ -147,7 +235,7 @@ impl ReplicaLog {
     /// The columns after the entries up to the cut's length, lent, or `None` while there is no cut, or one of
     /// these is unfinished.
     pub fn cut_columns(&self) -> Option<&Columns>
-        ensures value { AreCut declared_cowns effect_of self.now (option_map (λ columns. columns.now) result) }
+        ensures value { AreCut declared_cowns effect_of self.now.board (option_map (λ columns. columns.now) result) }
         ensures bank { IfSome result (λ columns. IsBalances columns.now) }
     {
         self.board.cut_columns()
@@ -155,21 +243,24 @@ impl ReplicaLog {
 
     /// Drops the cut, where there is one.
     pub fn drop_cut(&mut self)
-        ensures state { self.new ≡ record self.old { cut = None } }
+        ensures state { self.new ≡ record self.old { board = record self.old.board { cut = None } } }
         // After any calls on its board, with this one too, the board is true to its log.
-        ensures played { StaysTrueToLog declared_cowns effect_of self.old CutDropped self.new }
+        ensures played { StaysTrueToLog declared_cowns effect_of self.old.board CutDropped self.new.board }
     {
         self.board.drop_cut();
     }
 }
 
-// Each method is the board's. Beside the board there is nothing.
+// Each method is the board's. What is held stays.
 impl Runs for ReplicaLog {
-    ghost board = { λ log. log };
+    ghost use Rattle.std.specs.Prelude.{List, Option};
+    ghost use Rattle.sb_calls.specs.declared.op.Op.{Op as AnyOp};
 
-    ghost Beside = { Unit {0} };
+    ghost board = { λ log. log.board };
 
-    ghost beside = { λ log. tt };
+    ghost Beside = { List (Option AnyOp) };
+
+    ghost beside = { λ log. log.held };
 
     fn take_at(&mut self, index: usize) -> Option<Job<Op>> {
         self.board.take_at(index)

@@ -6,6 +6,8 @@ use std::alloc::Global;
 use std::process::Abort;
 use std::test::Fail;
 
+mod holding;
+
 const OPENING: &str = "alice 100.00 50.00\nbob 0.00 20.00\ncarol 10.00 0.00\nbegin\n";
 
 // A log over the three, with this many earlier entries.
@@ -44,10 +46,10 @@ fn runs_one(rt: &impl Abort, log: &mut ReplicaLog, number: u64) -> Result<(), Fa
 fn only_the_next_entry_is_taken(rt: HostRuntime) -> Result<(), Fail> {
     let mut log = open_after(rt.alloc(), 0)?;
     offers(&rt, &mut log, 0, Offered::Repeat, 0);
-    offers(&rt, &mut log, 2, Offered::Gap(0), 0);
+    offers(&rt, &mut log, 2, Offered::Held(2), 0);
     offers(&rt, &mut log, 1, Offered::Next, 1);
     offers(&rt, &mut log, 1, Offered::Repeat, 1);
-    offers(&rt, &mut log, 3, Offered::Gap(1), 1);
+    offers(&rt, &mut log, 3, Offered::Held(3), 1);
     offers(&rt, &mut log, 2, Offered::Next, 2);
     offers(&rt, &mut log, u64::MAX, Offered::Gap(2), 2);
     Ok(())
@@ -60,7 +62,7 @@ fn entries_wait_while_too_many_are_unfinished(rt: HostRuntime) -> Result<(), Fai
         offers(&rt, &mut log, number, Offered::Next, number);
     }
     offers(&rt, &mut log, 1_025, Offered::Busy(1_024), 1_024);
-    offers(&rt, &mut log, 1_026, Offered::Gap(1_024), 1_024);
+    offers(&rt, &mut log, 1_026, Offered::Held(1_026), 1_024);
     offers(&rt, &mut log, 1_024, Offered::Repeat, 1_024);
     runs_one(&rt, &mut log, 1)?;
     offers(&rt, &mut log, 1_025, Offered::Next, 1_025);

@@ -1,12 +1,21 @@
-use Rattle.std.proofs.Common.{length, sym, subst}
-use Rattle.sb_calls.proofs.AppliedOps.{declared_below}
+use Rattle.std.proofs.Common.{length, sym, ap, subst, ◌∙◌, arith}
 use Rattle.sb_calls.specs.Op.{IsOpWithin}
-use Rattle.sb_calls.specs.declared.op.Op.{Op}
-use Rattle.cown_board.specs.Board.{BoardOf}
+use Rattle.sb_replica_log.specs.Log.{LogOf, IsLog}
+use Rattle.sb_replica_log.specs.Offers.{held_for}
+use Rattle.sb_replica_log.proofs.Keeping.{keeps_held}
+use Rattle.sb_replica_log.proofs.Seen.{seen, seen_held}
 use Rattle.sb_replica_log.proofs.replica_log.ReplicaLog.offer_entry.Goals as goal
 
-pub submit-requires : goal.submit-requires
-submit-requires c =
+pub invariant_of-self : goal.invariant_of-self
+invariant_of-self c =
     let board = c.self.inside.board in
-    declared_below board.opening c.args.op c.length-length.ensures.bank.same
-    (subst (λ (b : BoardOf Op). IsOpWithin (length b.opening.savings) c.args.op) (sym c.self.view_is) c.requires)
+    let items = c.self.inside.held in
+    subst IsLog
+    (sym (seen_held board items c.self.invariant c.args.op c.args.number c.place_of.result (omega arith) (omega arith) c.place_of.ensures))
+    (keeps_held (seen board items) c.self.invariant c.args.number c.args.op (omega arith) (omega arith)
+    (subst (λ (log : LogOf). IsOpWithin (length log.board.opening.savings) c.args.op) (sym c.self.view_is) c.requires))
+
+pub returns-then-number-length-3-clause-state : goal.returns-then-number-length-3-clause-state
+returns-then-number-length-3-clause-state c =
+    seen_held c.self.inside.board c.self.inside.held c.self.invariant c.args.op c.args.number c.place_of.result (omega arith) (omega arith) c.place_of.ensures
+    ∙ ap (λ (log : LogOf). held_for log c.args.number c.args.op) c.self.view_is

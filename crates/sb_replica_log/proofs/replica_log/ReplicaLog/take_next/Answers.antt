@@ -1,0 +1,31 @@
+use Rattle.std.proofs.Common.{◌%◌, length, sym, ap, subst, ◌∙◌}
+use Rattle.sb_calls.proofs.AppliedOps.{declared_below}
+use Rattle.sb_calls.specs.Op.{IsOpWithin}
+use Rattle.sb_replica_log.specs.Log.{LogOf, IsLog}
+use Rattle.sb_replica_log.specs.Offers.{taken}
+use Rattle.sb_replica_log.proofs.Keeping.{keeps_taken}
+use Rattle.sb_replica_log.proofs.Seen.{seen, seen_taken}
+use Rattle.sb_replica_log.proofs.replica_log.ReplicaLog.take_next.Goals as goal
+
+pub submit-requires : goal.submit-requires
+submit-requires c =
+    let board = c.self.inside.board in
+    declared_below board.opening c.args.op c.length-length.ensures.bank.same
+    (subst (λ (log : LogOf). IsOpWithin (length log.board.opening.savings) c.args.op) (sym c.self.view_is) c.requires.within)
+
+pub invariant_of-self : goal.invariant_of-self
+invariant_of-self c =
+    let board = c.self.inside.board in
+    let items = c.self.inside.held in
+    subst IsLog
+    (sym (seen_taken board items c.self.invariant c.args.op c.submit.new.self c.place_of.result c.in-Ok.ensures.ok
+    (c.place_of.ensures ∙ ap (λ n. n % 64) c.in-Ok.ensures.number)))
+    (keeps_taken (seen board items) c.self.invariant c.args.op)
+
+pub returns-in-Ok-clause-state : goal.returns-in-Ok-clause-state
+returns-in-Ok-clause-state c =
+    let board = c.self.inside.board in
+    let items = c.self.inside.held in
+    seen_taken board items c.self.invariant c.args.op c.submit.new.self c.place_of.result c.in-Ok.ensures.ok
+    (c.place_of.ensures ∙ ap (λ n. n % 64) c.in-Ok.ensures.number)
+    ∙ ap (λ (log : LogOf). taken log c.args.op) c.self.view_is

@@ -1,0 +1,28 @@
+-- A replica log as its callers see it.
+use Rattle.std.specs.Prelude.{◌≡◌, ℕ, suc, ◌+◌, ◌≤◌, Option, Some, None, option_and_then, List, length, replicate, slice_get}
+use Rattle.sb_calls.specs.Op.{IsOpWithin}
+use Rattle.sb_calls.specs.declared.call.TheConstants.{LOG_CALLS}
+use Rattle.sb_calls.specs.declared.op.Op.{Op}
+use Rattle.cown_board.specs.Board.{BoardOf, length_of}
+use Rattle.sb_replica_log.specs.declared.replica_log.TheConstants.{HELD_ENTRIES}
+
+-- its board, and the ops that are held: one place for each of the next numbers, that after the board's length first
+pub record LogOf : Type 0 where
+  pub board : BoardOf Op
+  pub held : List (Option Op)
+
+-- no op is held
+unfoldable pub none_held : List (Option Op)
+none_held = replicate HELD_ENTRIES None
+
+-- the op that is held for the next number
+abbrev pub next_held : LogOf → Option Op
+next_held log = option_and_then (λ held. held) (slice_get log.held 0)
+
+-- each op that is held is for a number that a log takes, and of the board's customers
+pub record IsLog (log : LogOf) : Type 0 where
+  pub places : length log.held ≡ HELD_ENTRIES
+  pub numbers : (place : ℕ) (op : Op) → slice_get log.held place ≡ Some (Some op)
+      → length_of log.board + suc place ≤ LOG_CALLS
+  pub within : (place : ℕ) (op : Op) → slice_get log.held place ≡ Some (Some op)
+      → IsOpWithin (length log.board.opening.savings) op

@@ -1,0 +1,9 @@
+//! What a replica log is limited to.
+ghost use Rattle.std.specs.Prelude.{◌≡◌};
+
+use crate::replica_log::HELD_ENTRIES;
+
+/// How far ahead an entry is held, as a number.
+pub fn limits()
+    ensures { HELD_ENTRIES ≡ 64 }
+{}
