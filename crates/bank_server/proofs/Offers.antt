@@ -7,18 +7,21 @@ use Rattle.sb_calls.specs.declared.op.Op.{Op}
 use Rattle.cown_board.specs.Board.{BoardOf, length_of, open_of}
 use Rattle.cown_board.specs.declared.board.TheConstants.{OPEN_BEHAVIOURS}
 use Rattle.sb_replica_log.specs.Offers.{offered}
-use Rattle.sb_replica_log.specs.declared.offered.Offered.TheVariants.{Next, Repeat, Gap, Busy}
+use Rattle.sb_replica_log.specs.declared.offered.Offered.TheVariants.{Next, Repeat, Gap, Held, Busy}
+use Rattle.sb_replica_log.specs.declared.replica_log.TheConstants.{HELD_ENTRIES}
 
 -- the number after the log's last one is taken, unless too much is unfinished
 pub next_offered : (board : BoardOf Op) (number : ℕ) → number ≡ length_of board + 1 → length_of board < LOG_CALLS
     → offered board number ≡ (if open_of board == OPEN_BEHAVIOURS then Busy (length_of board) else Next)
 next_offered board number is room =
-    ap (λ b. if b then Repeat else if nat_lt (suc (length_of board)) number || nat_lt LOG_CALLS number then Gap (length_of board)
-    else if open_of board == OPEN_BEHAVIOURS then Busy (length_of board) else Next) (lt-leb number (length_of board) (omega (arith, is)))
-    ∙ ap (λ b. if b || nat_lt LOG_CALLS number then Gap (length_of board) else if open_of board == OPEN_BEHAVIOURS then Busy (length_of board) else Next)
-    (le-ltb (suc (length_of board)) number (omega (arith, is)))
-    ∙ ap (λ b. if b then Gap (length_of board) else if open_of board == OPEN_BEHAVIOURS then Busy (length_of board) else Next)
-    (le-ltb LOG_CALLS number (omega (arith, is, room)))
+    let size = length_of board in
+    let next = if open_of board == OPEN_BEHAVIOURS then Busy size else Next in
+    ap (λ b. if b then Repeat else if nat_lt (size + HELD_ENTRIES) number || nat_lt LOG_CALLS number then Gap size
+    else if nat_lt (suc size) number then Held number else next) (lt-leb number size (omega (arith, is)))
+    ∙ ap (λ b. if b || nat_lt LOG_CALLS number then Gap size else if nat_lt (suc size) number then Held number else next)
+    (le-ltb (size + HELD_ENTRIES) number (omega (arith, is)))
+    ∙ ap (λ b. if b then Gap size else if nat_lt (suc size) number then Held number else next) (le-ltb LOG_CALLS number (omega (arith, is, room)))
+    ∙ ap (λ b. if b then Held number else next) (le-ltb (suc size) number (omega (arith, is)))
 
 -- where nothing is unfinished it is taken
 pub next_taken : (board : BoardOf Op) (number : ℕ) → number ≡ length_of board + 1

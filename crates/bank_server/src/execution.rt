@@ -118,12 +118,12 @@ pub(crate) fn submit<S: CheckpointStore, C: Crew>(
     match replica.offer_entry(number, *op)? {
         Offered::Next => return Ok(()),
         Offered::Busy(_) => settle(replica, crew)?,
-        Offered::Repeat | Offered::Gap(_) => unreachable!(),
+        Offered::Repeat | Offered::Gap(_) | Offered::Held(_) => unreachable!(),
     }
     match replica.offer_entry(number, *op)? {
         Offered::Next => Ok(()),
         // Nothing is unfinished by now, and the log is as long as it was.
-        Offered::Repeat | Offered::Gap(_) | Offered::Busy(_) => unreachable!(),
+        Offered::Repeat | Offered::Gap(_) | Offered::Held(_) | Offered::Busy(_) => unreachable!(),
     }
 }
 

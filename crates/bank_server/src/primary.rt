@@ -6,6 +6,7 @@ ghost use Rattle.cown_board.specs.Board.{length_of, open_of};
 ghost use Rattle.cown_board.specs.Played.{opened_with};
 ghost use Rattle.cown_workers.specs.Draining.{NoneOut};
 ghost use Rattle.sb_checkpoint.specs.Stores.{StoreDoes};
+ghost use Rattle.sb_replica_log.specs.Log.{none_held};
 ghost use Rattle.sb_replica.specs.Replica.{beside_of};
 ghost use Rattle.sb_sequencer.specs.Numbering.{IsLog, first_asks};
 ghost use Rattle.bank_server.specs.Asking.{AsksOne};
@@ -54,6 +55,7 @@ impl<S: CheckpointStore> Primary<S> {
           names = opening.directory;
           opening = opening.columns;
           board = opened_with opening.columns [];
+          held = none_held;
           store = store;
         }) }
     {

@@ -1,5 +1,5 @@
 -- A replica as its callers see it.
-use Rattle.std.specs.Prelude.{◌≡◌, ℕ, List, length, ◌++◌}
+use Rattle.std.specs.Prelude.{◌≡◌, ℕ, Option, List, length, ◌++◌}
 use Rattle.std.specs.List.{All, filter_map}
 use Rattle.sb_rows.specs.Balances.{Balances}
 use Rattle.sb_calls.specs.Replies.{IsReply}
@@ -7,16 +7,26 @@ use Rattle.sb_calls.specs.declared.op.Op.{Op}
 use Rattle.sb_calls.specs.declared.reply.Reply.{Reply}
 use Rattle.cown_board.specs.Board.{BoardOf}
 use Rattle.cown_board.specs.State.{finished_reply}
+use Rattle.sb_replica_log.specs.Log.{LogOf}
 
--- its number, the customers' names by place, the balances at the opening, its board, and its store
+-- its number, the customers' names by place, the balances at the opening, its board, the ops that are held for the
+-- numbers after the board's, and its store
 pub record ReplicaOf (S : Type 0) : Type 0 where
   pub id : ℕ
   pub names : List (List ℕ)
   pub opening : Balances
   pub board : BoardOf Op
+  pub held : List (Option Op)
   pub store : S
 
--- what it has beside its board
+-- its log: the board, and what is held
+abbrev pub log_of : {S : Type 0} → ReplicaOf S → LogOf
+log_of replica = record { board = replica.board; held = replica.held }
+
+abbrev pub with_log : {S : Type 0} → ReplicaOf S → LogOf → ReplicaOf S
+with_log replica log = record replica { board = log.board; held = log.held }
+
+-- what it has beside its log
 pub record BesideOf (S : Type 0) : Type 0 where
   pub id : ℕ
   pub names : List (List ℕ)

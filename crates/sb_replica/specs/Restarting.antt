@@ -11,6 +11,7 @@ use Rattle.sb_checkpoint.specs.declared.fault.CheckpointFault.{CheckpointFault}
 use Rattle.sb_checkpoint.specs.declared.fault.CheckpointFault.TheVariants as checkpoint
 use Rattle.sb_checkpoint.specs.declared.store.StoreFault.{StoreFault}
 use Rattle.sb_checkpoint.specs.declared.store.StoreFault.TheVariants as store
+use Rattle.sb_replica_log.specs.Log.{none_held}
 use Rattle.sb_replica.specs.Replica.{ReplicaOf}
 use Rattle.sb_replica.specs.declared.fault.RestartFault.{RestartFault}
 use Rattle.sb_replica.specs.declared.fault.RestartFault.TheVariants as restart
@@ -46,13 +47,13 @@ IsRefusalOf customers held (restart.BadCheckpoint fault) =
 IsRefusalOf customers held restart.OutOfMemory = Unit {0}
 
 module _ {S : Type 0} (does : S → StoreStep → S → Type 0) where
-  -- a new board on what the store holds
+  -- a new board on what the store holds, and no op is held
   pub record Restarts (old : ReplicaOf S) (size : ℕ) (new : ReplicaOf S) : Type 0 where
     pub held : Option (List ℕ)
     pub got : does old.store (Got held) new.store
     pub board : IsLogOn old.opening (length old.names) held new.board
     pub length_is : size ≡ length_of new.board
-    pub stays : new ≡ record old { board = new.board; store = new.store }
+    pub stays : new ≡ record old { board = new.board; held = none_held; store = new.store }
 
   -- the store failed, or what was got can't be gone back to; all but the store is as it was
   abbrev pub IsRestartFaultOf : ReplicaOf S → RestartFault → ReplicaOf S → Type 0

@@ -1,7 +1,10 @@
 //! Frames from the network.
-ghost use Rattle.std.specs.Prelude.{◌≡◌, ℕ, Ok, IfOk, OnErr, MatchResult};
+ghost use Rattle.std.specs.Prelude.{◌≡◌, ℕ, suc, Ok, Some, IfOk, IfErr, OnErr, MatchResult, option_map};
+ghost use Rattle.cown_board.specs.Board.{length_of};
+ghost use Rattle.sb_replica_log.specs.Offers.{after_advance};
 ghost use Rattle.sb_replica.specs.Hearing as spec;
-ghost use Rattle.sb_replica.specs.Hearing.{Accepts, Hears, IsHearingFault};
+ghost use Rattle.sb_replica.specs.Hearing.{Accepts, Hears, IsHearingFault, heard_next};
+ghost use Rattle.sb_replica.specs.Replica.{log_of, with_log};
 ghost use Rattle.sb_replica.specs.declared.heard.Heard.TheVariants as heard;
 
 use crate::fault::ReplicaFault;
@@ -33,13 +36,21 @@ fn heard_of(number: u64, offered: Offered) -> Heard
         Offered::Next => Heard::Accepted(number),
         Offered::Repeat => Heard::Repeat(number),
         Offered::Gap(length) => Heard::Gap(length),
+        Offered::Held(early) => Heard::Held(early),
         Offered::Busy(length) => Heard::Busy(length),
     }
 }
 
+// What it answers to the entry that was held for this number, if there was one.
+fn heard_held(number: u64, offered: Option<Offered>) -> Option<Heard>
+    ensures { result ≡ option_map (spec.heard_of number) offered }
+{
+    Some(heard_of(number, offered?))
+}
+
 impl<S: CheckpointStore> Replica<S> {
-    /// Hears the bytes of one frame. An entry is offered to the log: it is accepted where it is the next one.
-    /// Every other frame is ignored, and nothing but an accepted entry changes anything.
+    /// Hears the bytes of one frame. An entry is offered to the log: it is accepted where it is the next one, and
+    /// held where it comes a little early. Every other frame is ignored, and nothing else changes anything.
     ///
     /// Fails where the bytes are not one whole frame, and where memory is refused for an entry that would be
     /// accepted.
@@ -68,9 +79,7 @@ impl<S: CheckpointStore> Replica<S> {
         ensures answer { IfOk result (λ answer. answer ≡ spec.heard self.old.board frame.now) }
         ensures err { OnErr result ((number : ℕ) × (spec.heard self.old.board frame.now ≡ heard.Accepted number)) }
         ensures state { MatchResult result
-            (λ answer. self.new ≡ record self.old {
-              board = spec.after_frame self.old.names self.old.board frame.now;
-            })
+            (λ answer. self.new ≡ with_log self.old (spec.after_frame self.old.names (log_of self.old) frame.now))
             (λ refused. self.new ≡ self.old) }
         // After any calls on its board, with this one too, the board is true to its log.
         ensures played { (number : ℕ) → result ≡ Ok (heard.Accepted number) →
@@ -82,5 +91,26 @@ impl<S: CheckpointStore> Replica<S> {
         let op = resolve(&self.directory, call);
         let offered = self.log.offer_entry(*number, op)?;
         Ok(heard_of(*number, offered))
+    }
+
+    /// Accepts the entry that is held for the next number, where there is one, as if it came now.
+    ///
+    /// Fails where memory is refused for an entry that would be accepted; nothing changes then.
+    pub fn advance(&mut self) -> Result<Option<Heard>, ReplicaFault>
+        ensures answer { IfOk result (λ answer. answer ≡ heard_next (log_of self.old)) }
+        ensures err { IfErr result (λ fault. (fault ≡ ReplicaFault.OutOfMemory) ×
+            (heard_next (log_of self.old) ≡ Some (heard.Accepted (suc (length_of self.old.board))))) }
+        ensures state { MatchResult result
+            (λ answer. self.new ≡ with_log self.old (after_advance (log_of self.old)))
+            (λ fault. self.new ≡ self.old) }
+        // After any calls on its board, with this one too, the board is true to its log.
+        ensures played { (number : ℕ) → result ≡ Ok (Some (heard.Accepted number)) →
+            Accepts self.old.board number self.new.board }
+    {
+        let next = self.log.length() + 1;
+        match self.log.advance() {
+            Ok(offered) => Ok(heard_held(next, offered)),
+            Err(_) => Err(ReplicaFault::OutOfMemory),
+        }
     }
 }

@@ -10,7 +10,9 @@ ghost use Rattle.cown_board.specs.Board.{length_of, open_of, reply_in, IsAfterAl
 ghost use Rattle.cown_board.specs.Played.{opened_with, StaysTrueToLog, Submitted};
 ghost use Rattle.sb_checkpoint.specs.Stores.{Compares, StoreDoes, Got, NotGot};
 ghost use Rattle.sb_frames.specs.declared.frame.Frame.TheVariants as frames;
+ghost use Rattle.sb_replica_log.specs.Log.{none_held};
 ghost use Rattle.sb_replica_log.specs.Offers.{offered, after_offer};
+ghost use Rattle.sb_replica.specs.Replica.{log_of, with_log};
 
 use cown_board::{Board, Runs};
 use sb_calls::{LOG_CALLS, Op, Reply, WireReply};
@@ -21,8 +23,8 @@ use sb_rows::{Columns, Directory};
 use std::alloc::{AllocError, Global};
 use std::marker::Model;
 
-/// One node of the bank. It takes the log's entries in order, runs them over its board, keeps a checkpoint in its
-/// store, and after a restart is where that checkpoint says.
+/// One node of the bank. It takes the log's entries in order, and holds those that come a little early; it runs them
+/// over its board, keeps a checkpoint in its store, and after a restart is where that checkpoint says.
 #[derive(Drop)]
 pub struct Replica<S: CheckpointStore> {
     pub(crate) id: u8,
@@ -42,7 +44,8 @@ impl<S: CheckpointStore> Model for Replica<S> {
       id = r.id;
       names = r.directory;
       opening = r.opening;
-      board = r.log;
+      board = r.log.board;
+      held = r.log.held;
       store = r.store;
     } };
 
@@ -50,7 +53,8 @@ impl<S: CheckpointStore> Model for Replica<S> {
       id = r.id;
       names = r.directory;
       opening = r.opening;
-      board = r.log;
+      board = r.log.board;
+      held = r.log.held;
       store = r.store;
     }) };
 }
@@ -70,6 +74,7 @@ impl<S: CheckpointStore> Replica<S> {
           names = directory;
           opening = opening;
           board = opened_with opening [];
+          held = none_held;
           store = store;
         }) }
     {
@@ -84,13 +89,13 @@ impl<S: CheckpointStore> Replica<S> {
         })
     }
 
-    /// Offers the entry with this number to the log, as [`ReplicaLog::offer_entry`]. All beside the board stays.
+    /// Offers the entry with this number to the log, as [`ReplicaLog::offer_entry`]. All beside the log stays.
     pub fn offer_entry(&mut self, number: u64, op: Op) -> Result<Offered, AllocError>
         requires { IsOpWithin (length self.old.names) op }
         ensures answer { IfOk result (λ answer. answer ≡ offered self.old.board number) }
         ensures err { OnErr result (offered self.old.board number ≡ Offered.Next) }
         ensures state { MatchResult result
-            (λ answer. self.new ≡ record self.old { board = after_offer self.old.board op answer })
+            (λ answer. self.new ≡ with_log self.old (after_offer (log_of self.old) op answer))
             (λ refused. self.new ≡ self.old) }
         // After any calls on its board, with this one too, the board is true to its log.
         ensures played { IfOk result (λ answer. answer ≡ Offered.Next →

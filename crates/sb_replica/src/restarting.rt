@@ -3,7 +3,9 @@ ghost use Rattle.std.specs.Prelude.{◌≡◌, ◌≤◌, IfOk, IfErr, length, o
 ghost use Rattle.std.specs.List.{All};
 ghost use Rattle.sb_calls.specs.Replies.{IsReply};
 ghost use Rattle.cown_board.specs.Played.{opened_with};
+ghost use Rattle.sb_replica_log.specs.Log.{none_held};
 ghost use Rattle.sb_checkpoint.specs.Stores.{StoreDoes};
+ghost use Rattle.sb_replica.specs.Replica.{with_log};
 ghost use Rattle.sb_replica.specs.Restarting.{Restarts, IsRestartFaultOf, IsStoredAs, IsLogOn, IsRefusalOf};
 
 use crate::fault::RestartFault;
@@ -18,7 +20,10 @@ use std::alloc::Global;
 // The log of a board on these columns, with the replies to the numbers before it.
 fn log_on(alloc: Global, columns: Columns, replies: Vec<Reply>) -> Result<ReplicaLog, RestartFault>
     requires few { length replies.items ≤ LOG_CALLS }
-    ensures log { IfOk result (λ log. log ≡ opened_with columns replies.items) }
+    ensures log { IfOk result (λ log. log ≡ record {
+      board = opened_with columns replies.items;
+      held = none_held;
+    }) }
     ensures err { IfErr result (λ fault. fault ≡ RestartFault.OutOfMemory) }
 {
     let length = replies.len() as u64;
@@ -28,7 +33,7 @@ fn log_on(alloc: Global, columns: Columns, replies: Vec<Reply>) -> Result<Replic
 
 impl<S: CheckpointStore> Replica<S> {
     /// Goes back to where the stored checkpoint says, or to the opening where none was put, and answers the length
-    /// there. What was accepted since is forgotten, until it comes again.
+    /// there. What was accepted since, and what is held, is forgotten, until it comes again.
     ///
     /// After a fault the replica is as it was.
     pub fn restart(&mut self) -> Result<u64, RestartFault>
@@ -38,16 +43,27 @@ impl<S: CheckpointStore> Replica<S> {
             IsRestartFaultOf (StoreDoes S.slot S.IsHonest S.failed S.acts) self.old fault self.new) }
     {
         let held = self.store.get()?;
-        self.log = self.held_log(held)?;
+        let log = self.held_log(held)?;
+        self.go_on_from(log);
         Ok(self.log.length())
+    }
+
+    // The log that was here is gone, with its cut and what it held.
+    fn go_on_from(&mut self, log: ReplicaLog)
+        requires customers { length log.board.opening.savings ≡ length self.old.names }
+        requires replies { All IsReply log.board.earlier }
+        ensures { self.new ≡ with_log self.old log }
+    {
+        self.log = log;
     }
 
     // The log of a board on what the store holds.
     fn held_log(&self, held: Option<Vec<u8>>) -> Result<ReplicaLog, RestartFault>
-        ensures log { IfOk result (IsLogOn self.now.opening (length self.now.names)
-            (option_map (λ bytes. bytes.items) held)) }
-        ensures customers { IfOk result (λ log. length log.opening.savings ≡ length self.now.names) }
-        ensures replies { IfOk result (λ log. All IsReply log.earlier) }
+        ensures log { IfOk result (λ log. IsLogOn self.now.opening (length self.now.names)
+            (option_map (λ bytes. bytes.items) held) log.board) }
+        ensures none { IfOk result (λ log. log.held ≡ none_held) }
+        ensures customers { IfOk result (λ log. length log.board.opening.savings ≡ length self.now.names) }
+        ensures replies { IfOk result (λ log. All IsReply log.board.earlier) }
         ensures err { IfErr result
             (IsRefusalOf (length self.now.names) (option_map (λ bytes. bytes.items) held)) }
     {

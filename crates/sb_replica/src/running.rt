@@ -6,13 +6,15 @@ use sb_checkpoint::CheckpointStore;
 
 // Each method is the log's.
 impl<S: CheckpointStore> Runs for Replica<S> {
+    ghost use Rattle.std.specs.Prelude.{List, Option};
+    ghost use Rattle.sb_calls.specs.declared.op.Op.{Op as AnyOp};
     ghost use Rattle.sb_replica.specs.Replica.{BesideOf, beside_of};
 
     ghost board = { λ replica. replica.board };
 
-    ghost Beside = { BesideOf S };
+    ghost Beside = { BesideOf S × List (Option AnyOp) };
 
-    ghost beside = { beside_of };
+    ghost beside = { λ replica. (beside_of replica, replica.held) };
 
     fn take_at(&mut self, index: usize) -> Option<Job<Op>> {
         self.log.take_at(index)

@@ -6,7 +6,7 @@ use sb_frames::FrameFault;
 #[test]
 fn only_the_next_entry_is_accepted(rt: HostRuntime) {
     let mut replica = open(&rt, rt.alloc());
-    hears(&rt, &mut replica, 2, "deposit bob 1.00", Heard::Gap(0));
+    hears(&rt, &mut replica, 2, "deposit bob 1.00", Heard::Held(2));
     hears(
         &rt,
         &mut replica,
@@ -16,9 +16,24 @@ fn only_the_next_entry_is_accepted(rt: HostRuntime) {
     );
     hears(&rt, &mut replica, 1, "deposit alice 1.00", Heard::Repeat(1));
     hears(&rt, &mut replica, 2, "deposit bob 1.00", Heard::Accepted(2));
+    // The one that was held for its number isn't accepted once more.
+    assert!(rt; replica.advance() == Ok(None));
     runs(&rt, &mut replica, 1, Reply::Done);
     runs(&rt, &mut replica, 2, Reply::Done);
     ends_with(&rt, &replica, 2, [5_100, 2_100, 0]);
+}
+
+#[test]
+fn an_entry_that_came_early_is_accepted_in_its_turn(rt: HostRuntime) {
+    let mut replica = open(&rt, rt.alloc());
+    hears(&rt, &mut replica, 65, "deposit bob 1.00", Heard::Gap(0));
+    hears(&rt, &mut replica, 2, "amalgamate alice bob", Heard::Held(2));
+    assert!(rt; replica.advance() == Ok(None));
+    accepts(&rt, &mut replica, 1, "deposit alice 1.00");
+    assert!(rt; replica.advance() == Ok(Some(Heard::Accepted(2))));
+    runs(&rt, &mut replica, 1, Reply::Done);
+    runs(&rt, &mut replica, 2, Reply::Done);
+    ends_with(&rt, &replica, 2, [0, 17_100, 0]);
 }
 
 #[test]
@@ -40,6 +55,13 @@ fn an_entry_waits_while_too_many_are_unfinished(rt: HostRuntime) {
         "deposit alice 0.01",
         Heard::Busy(1_024),
     );
+    hears(
+        &rt,
+        &mut replica,
+        1_026,
+        "deposit alice 0.01",
+        Heard::Held(1_026),
+    );
     runs(&rt, &mut replica, 1, Reply::Done);
     hears(
         &rt,
@@ -48,6 +70,7 @@ fn an_entry_waits_while_too_many_are_unfinished(rt: HostRuntime) {
         "deposit alice 0.01",
         Heard::Accepted(1_025),
     );
+    assert!(rt; replica.advance() == Ok(Some(Heard::Busy(1_025))));
 }
 
 // These bytes are refused, and nothing changes.

@@ -18,6 +18,15 @@ fn with_two_hands(rt: &impl Abort, alloc: Global) -> (Replica<MemoryStore>, Job<
     (replica, before, after)
 }
 
+#[test]
+fn a_restart_forgets_what_is_held(rt: HostRuntime) {
+    let mut replica = open(&rt, rt.alloc());
+    hears(&rt, &mut replica, 2, "deposit alice 1.00", Heard::Held(2));
+    restarts_at(&rt, &mut replica, 0);
+    accepts(&rt, &mut replica, 1, "deposit alice 2.00");
+    assert!(rt; replica.advance() == Ok(None));
+}
+
 // What was finished already, or isn't out, comes back.
 fn gives_back(rt: &impl Abort, replica: &mut Replica<MemoryStore>, done: Done<Op>) {
     assert!(rt; replica.finish(done).is_err());

@@ -2,8 +2,9 @@ use Rattle.std.proofs.Common.{◌≡◌, ap, subst, ◌∙◌}
 use Rattle.sb_calls.specs.declared.op.Op.{Op}
 use Rattle.cown_board.specs.Board.{BoardOf}
 use Rattle.cown_workers.specs.Draining.{Drains}
-use Rattle.sb_replica.specs.Replica.{ReplicaOf}
+use Rattle.sb_replica.specs.Replica.{ReplicaOf, log_of}
 use Rattle.sb_replica_log.specs.Offers.{after_offer}
+use Rattle.sb_replica_log.specs.declared.offered.Offered.{Offered}
 use Rattle.bank_server.proofs.Boards.{put_after_run, idle_none_out}
 use Rattle.bank_server.proofs.execution.submit.Goals as goal
 
@@ -12,8 +13,10 @@ returns-clause-put g c =
     let op = c.args.op.now in
     let old = c.args.replica.now.board in
     let mid = c.settle.new.replica.board in
-    let same : c.offer_entry.new.self.board ≡ old =
-    ap (λ (r : ReplicaOf g.row.S.Denot). r.board) c.in_ok-offer_entry.ensures.state ∙ ap (after_offer old op) c.in-Busy.is in
+    let board_of : ReplicaOf g.row.S.Denot → BoardOf Op = λ r. r.board in
+    let before : Offered → BoardOf Op = λ answer. (after_offer (log_of c.args.replica.now) op answer).board in
+    let after : Offered → BoardOf Op = λ answer. (after_offer (log_of c.settle.new.replica) op answer).board in
+    let same : c.offer_entry.new.self.board ≡ old = ap board_of c.in_ok-offer_entry.ensures.state ∙ ap before c.in-Busy.is in
     put_after_run op old mid c.offer_entry-2.new.self.board (subst (λ (b : BoardOf Op). Drains b mid) same c.settle.ensures.log)
     (idle_none_out mid c.in_ok-settle-in-Busy.ensures.idle)
-    (ap (λ (r : ReplicaOf g.row.S.Denot). r.board) c.in_ok-offer_entry-2.ensures.state ∙ ap (after_offer mid op) c.in-Next-2.is)
+    (ap board_of c.in_ok-offer_entry-2.ensures.state ∙ ap after c.in-Next-2.is)

@@ -9,15 +9,15 @@ use Rattle.sb_replica.proofs.replica.Replica.hear.Goals as goal
 
 pub returns-clause-played : goal.returns-clause-played
 returns-clause-played g c number e =
-    let log = c.self.inside.log in
+    let board = c.self.inside.log.board in
     let op = c.resolve-op.result in
     let entry = c.in-Entry.number in
     let offer = c.in_ok-offered in
     let both = accepted_next entry number offer.offered (sym c.heard_of.ensures ∙ ok_is e) in
-    let next : suc (length_of log) ≡ number = sym (next_number log entry (sym offer.ensures.answer ∙ both.0)) ∙ both.1 in
-    subst (λ (r : ReplicaOf g.row.S.Denot). Accepts r.board number c.offer_entry.new.self) c.self.view_is
+    let next : suc (length_of board) ≡ number = sym (next_number board entry (sym offer.ensures.answer ∙ both.0)) ∙ both.1 in
+    subst (λ (r : ReplicaOf g.row.S.Denot). Accepts r.board number c.offer_entry.new.self.board) c.self.view_is
     (record {
       op = op;
-      played = subst (λ (n : ℕ). StaysTrueToLog declared_cowns effect_of log (Submitted op (Ok n)) c.offer_entry.new.self) next
+      played = subst (λ (n : ℕ). StaysTrueToLog declared_cowns effect_of board (Submitted op (Ok n)) c.offer_entry.new.self.board) next
           (offer.ensures.played both.0);
     })

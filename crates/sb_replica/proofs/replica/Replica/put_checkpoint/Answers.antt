@@ -1,8 +1,6 @@
-use Rattle.std.proofs.Common.{◌≡◌, None, Ok, refl, rules, subst, ap, ◌∙◌, sym}
-use Rattle.cown_board.specs.Board.{BoardOf}
-use Rattle.sb_calls.specs.declared.op.Op.{Op}
+use Rattle.std.proofs.Common.{◌≡◌, None, Ok, refl, rules, ap, ◌∙◌}
 use Rattle.sb_checkpoint.specs.Stores.{StoreDoes, Put}
-use Rattle.sb_replica.specs.Marking.{Puts}
+use Rattle.sb_replica_log.specs.Log.{LogOf}
 use Rattle.sb_replica.specs.Replica.{ReplicaOf}
 use Rattle.sb_replica.proofs.replica.Replica.put_checkpoint.Goals as goal
 
@@ -17,10 +15,18 @@ returns-in-Ok-put-clause-ok g c =
       id = node.id;
       names = node.directory;
       opening = node.opening;
-      board = c.drop_cut.new.self;
+      board = c.drop_cut.new.self.board;
+      held = c.drop_cut.new.self.held;
       store = c.put.new.self;
     } ≡ here old =
-    ap (λ (b : BoardOf Op). record { id = node.id; names = node.directory; opening = node.opening; board = b; store = c.put.new.self })
+    ap (λ (log : LogOf). record {
+      id = node.id;
+      names = node.directory;
+      opening = node.opening;
+      board = log.board;
+      held = log.held;
+      store = c.put.new.self;
+    })
     c.drop_cut.ensures.state ∙ ap here c.self.view_is in (
       record {
         idle = c.in-Some.ensures.value.0;

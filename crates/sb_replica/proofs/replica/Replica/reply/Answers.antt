@@ -6,7 +6,7 @@ use Rattle.sb_replica.proofs.replica.Replica.reply.Goals as goal
 
 pub returns-clause-valid : goal.returns-clause-valid
 returns-clause-valid g c =
-    let board = c.self.inside.log in
+    let board = c.self.inside.log.board in
     subst (λ o. IfSome o IsReply) (sym c.reply.ensures.value)
     (held_reply board c.args.number c.self.invariant.earlier (AllHeld-balances board.opening c.length.ensures.bank)
     (subst (λ o. IfSome o (IsByLog board c.args.number)) c.reply.ensures.value c.reply.ensures.by_log))

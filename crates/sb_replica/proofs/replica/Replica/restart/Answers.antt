@@ -1,5 +1,7 @@
-use Rattle.std.proofs.Common.{option_map, subst, refl}
+use Rattle.std.proofs.Common.{◌≡◌, Option, option_map, List, sym, ap, subst, ◌∙◌}
+use Rattle.sb_calls.specs.declared.op.Op.{Op}
 use Rattle.sb_checkpoint.specs.Stores.{StoreDoes}
+use Rattle.cown_board.specs.Board.{length_of}
 use Rattle.sb_replica.specs.Replica.{ReplicaOf}
 use Rattle.sb_replica.specs.Restarting.{Restarts}
 use Rattle.sb_replica.proofs.replica.Replica.restart.Goals as goal
@@ -8,19 +10,26 @@ pub returns-clause-ok : goal.returns-clause-ok
 returns-clause-ok g c =
     let store = g.S.CheckpointStore in
     let inside = c.self.inside in
-    let new : ReplicaOf g.row.S.Denot = record {
+    let log = c.in_ok-log.log in
+    let holding : List (Option Op) → ReplicaOf g.row.S.Denot = λ held. record {
       id = inside.id;
       names = inside.directory;
       opening = inside.opening;
-      board = c.in_ok-self-inside.field-0;
+      board = log.board;
+      held = held;
       store = c.get.new.self;
     } in
-    subst (λ (old : ReplicaOf g.row.S.Denot). Restarts (StoreDoes store.slot store.IsHonest store.failed store.acts) old c.length.result new)
+    let gone_on : c.go_on_from.new.self ≡ holding log.held = c.go_on_from.ensures in
+    subst (λ (new : ReplicaOf g.row.S.Denot). Restarts (StoreDoes store.slot store.IsHonest store.failed store.acts) c.args.self.now c.length.result new)
+    (sym gone_on)
+    (subst
+    (λ (old : ReplicaOf g.row.S.Denot).
+    Restarts (StoreDoes store.slot store.IsHonest store.failed store.acts) old c.length.result (holding log.held))
     c.self.view_is
     (record {
       held = option_map (λ bytes. bytes.items) c.in_ok-held.held;
       got = c.in_ok-held.ensures;
-      board = c.in_ok-self-inside.ensures.log;
-      length_is = c.length.ensures.value;
-      stays = refl;
-    })
+      board = c.in_ok-log.ensures.log;
+      length_is = c.length.ensures.value ∙ ap (λ (r : ReplicaOf g.row.S.Denot). length_of r.board) (c.self-2.view_is ∙ gone_on);
+      stays = ap holding c.in_ok-log.ensures.none;
+    }))
