@@ -1,5 +1,5 @@
 -- What may come of an event.
-use Rattle.std.proofs.Common.{◌≡◌, Bool, true, false, ℕ, suc, Option, Some, None, refl, sym, ap, ◌∙◌}
+use Rattle.std.proofs.Common.{◌≡◌, Bool, true, false, ℕ, suc, ◌+◌, Option, Some, None, refl, sym, ap, ◌∙◌}
 use Rattle.std.specs.Prelude.{slice_get, if◌then◌else◌, nat_le, nat_lt, ◌==◌}
 use Rattle.sb_calls.specs.declared.ask.Key.{Key}
 use Rattle.sb_calls.specs.declared.call.Call.{Call}
@@ -14,7 +14,7 @@ use Rattle.schedule_player.specs.Bank.{BankOf, log_reply}
 use Rattle.schedule_player.specs.Comes.{may_come, audit_may_come}
 use Rattle.schedule_player.specs.Numbered.{numbered}
 use Rattle.schedule_player.specs.Readiness.{runnable}
-use Rattle.schedule_player.specs.ReplicaMoves.{NodeOf, length_in, undone_in, told_reply, answered, reply_in_node, sent, sent_all, frame_comes, delivered_to, goes_out, reaches_out, taken, emptied, note_of_reply, comes_back, gives_back, finished_by, cut_after, cut_off, undone_up_to, marked_to, marked, restarted, acknowledged}
+use Rattle.schedule_player.specs.ReplicaMoves.{NodeOf, length_in, undone_in, told_reply, answered, reply_in_node, sent, sent_all, frame_comes, delivered_to, next_taken, advanced, goes_out, reaches_out, taken, emptied, note_of_reply, comes_back, gives_back, finished_by, cut_after, cut_off, undone_up_to, marked_to, marked, restarted, acknowledged}
 use Rattle.schedule_player.specs.Stage.{Stage, Waits, IsOut, IsDone}
 use Rattle.schedule_player.specs.World.{WorldOf, Asks, Moves, bank_of, moved, moved_if, moved_at, keeps, told, heard_from, books_after, audited}
 use Rattle.schedule_text.specs.declared.event.Event.{Event}
@@ -22,7 +22,7 @@ use Rattle.schedule_text.specs.declared.event.Event.TheVariants as event
 use Rattle.schedule_text.specs.declared.note.AuditNote.TheVariants as audit
 use Rattle.schedule_text.specs.declared.note.Note.{Note}
 use Rattle.schedule_text.specs.declared.note.Note.TheVariants as note
-use Rattle.schedule_player.proofs.Working.{entry_by, mark_by}
+use Rattle.schedule_player.proofs.Working.{next_by, entry_by, mark_by}
 
 comes_if : (world : WorldOf) (r : ℕ) (move : NodeOf → NodeOf × Note) → ((node : NodeOf) → may_come (move node).1 ≡ true)
     → (found : Option NodeOf) → may_come (moved_if world r move found).1 ≡ true
@@ -39,15 +39,19 @@ sends : (node : NodeOf) (entry : Option Frame) → may_come (sent node entry).1 
 sends node (Some entry) = refl
 sends node None = refl
 
-entry_does : (node : NodeOf) (n : ℕ) (there past full : Bool) → may_come (entry_by node n there past full).1 ≡ true
-entry_does node n true past full = refl
-entry_does node n false true full = refl
-entry_does node n false false true = refl
-entry_does node n false false false = refl
+next_does : (node : NodeOf) (n : ℕ) (full : Bool) → may_come (next_by node n full).1 ≡ true
+next_does node n true = refl
+next_does node n false = refl
+
+entry_does : (node : NodeOf) (n : ℕ) (there past early full : Bool) → may_come (entry_by node n there past early full).1 ≡ true
+entry_does node n true past early full = refl
+entry_does node n false true early full = refl
+entry_does node n false false true full = refl
+entry_does node n false false false full = next_does node n full
 
 delivers : (node : NodeOf) (sent : Option Frame) → may_come (frame_comes node sent).1 ≡ true
 delivers node (Some (frame.Entry n call)) =
-    entry_does node n (nat_le n (length_in node)) (nat_lt (suc (length_in node)) n) (undone_in node == 1024)
+    entry_does node n (nat_le n (length_in node)) (nat_lt (length_in node + 64) n) (nat_lt (suc (length_in node)) n) (undone_in node == 1024)
 delivers node (Some (frame.Ask client request call)) = refl
 delivers node (Some (frame.Ack replica size)) = refl
 delivers node (Some (frame.Answer n reply)) = refl
@@ -92,6 +96,11 @@ puts node size end false = refl
 marks : (node : NodeOf) (end : How) (cut : Option ℕ) → may_come (marked_to node end cut).1 ≡ true
 marks node end (Some size) = puts node size end (undone_up_to node size == 0)
 marks node end None = puts node (length_in node) end (undone_in node == 0)
+
+takes_next : (node : NodeOf) (held : Option Bool) → may_come (next_taken node held).1 ≡ true
+takes_next node (Some true) = next_does node (suc (length_in node)) (undone_in node == 1024)
+takes_next node (Some false) = refl
+takes_next node None = refl
 
 cuts : (node : NodeOf) (cut : Option ℕ) → may_come (cut_after node cut).1 ≡ true
 cuts node (Some size) = refl
@@ -153,6 +162,7 @@ moved_so world (event.Finish r worker) =
 moved_so world (event.Mark r end) = comes_at world r (λ node. marked node end) (λ node. marks node end node.cut)
 moved_so world (event.Restart r) = comes_at world r (λ node. restarted node) (λ node. refl)
 moved_so world (event.Cut r) = comes_at world r (λ node. cut_off node) (λ node. cuts node node.cut)
+moved_so world (event.Next r) = comes_at world r (λ node. advanced node) (λ node. takes_next node (slice_get node.held 0))
 moved_so world (event.Audit a b) = audits_so (bank_of world) a b (slice_get world.nodes a) (slice_get world.nodes b)
 
 asks_so : (old : WorldOf) (ask : Key × Call) (n : Note) (new : WorldOf) → Asks old ask n new → may_come n ≡ true
@@ -178,4 +188,5 @@ comes_of old (event.Finish r worker) n new moves = by_moved old (event.Finish r 
 comes_of old (event.Mark r end) n new moves = by_moved old (event.Mark r end) n new moves
 comes_of old (event.Restart r) n new moves = by_moved old (event.Restart r) n new moves
 comes_of old (event.Cut r) n new moves = by_moved old (event.Cut r) n new moves
+comes_of old (event.Next r) n new moves = by_moved old (event.Next r) n new moves
 comes_of old (event.Audit a b) n new moves = by_moved old (event.Audit a b) n new moves

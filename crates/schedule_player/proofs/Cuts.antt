@@ -1,5 +1,5 @@
 -- A board with a cut, and what a mark of it is of.
-use Rattle.std.proofs.Common.{◌≡◌, ℕ, ◌+◌, ◌-◌, ◌≤◌, ℤ, Option, Some, None, List, ◌++◌, length, map, take, drop, refl, sym, ap, subst, ◌∙◌, arith}
+use Rattle.std.proofs.Common.{◌≡◌, ℕ, ◌+◌, ◌-◌, ◌≤◌, ℤ, Option, Some, None, List, ◌++◌, length, map, take, drop, refl, sym, ap, ◌∙◌, arith}
 use Rattle.std.specs.Prelude.{slice_get, count_by, if◌then◌else◌, ◌==◌}
 use Rattle.std.proofs.Math.Seq.{take-append-add}
 use Rattle.std.proofs.lemmas.List.{take-append-drop, take-map, length-take-le}
@@ -7,7 +7,6 @@ use Rattle.std.proofs.lemmas.Option.{slice_get_within}
 use Rattle.cown_board.proofs.Cuts.{slice_get-take}
 use Rattle.cown_board.specs.Board.{BoardOf, length_of, open_of}
 use Rattle.cown_board.specs.declared.state.State.TheVariants.{Finished}
-use Rattle.sb_calls.specs.Cowns.{held_of}
 use Rattle.sb_calls.specs.declared.op.Op.{Op}
 use Rattle.sb_checkpoint.specs.declared.memory_store.How.{How}
 use Rattle.sb_replica.proofs.MarkedReplies.{length_up_to}
@@ -17,7 +16,7 @@ use Rattle.schedule_player.specs.Bank.{BankOf}
 use Rattle.schedule_player.specs.NodeAlong.{seen_node, IsNodeAt}
 use Rattle.schedule_player.specs.Numbered.{copies}
 use Rattle.schedule_player.specs.ReplicaMoves.{NodeOf, put_ends, marked_to, marked}
-use Rattle.schedule_player.specs.Seen.{stage_of, stages_of, ops_of}
+use Rattle.schedule_player.specs.Seen.{stage_of, stages_of}
 use Rattle.schedule_player.specs.Stage.{IsDone, is_undone}
 use Rattle.schedule_player.specs.declared.node.Node.{Node}
 use Rattle.schedule_text.specs.declared.note.Note.{Note}

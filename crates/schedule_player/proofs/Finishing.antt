@@ -2,7 +2,7 @@
 use Rattle.std.proofs.Common.{◌≡◌, inl, inr, ℕ, zero, suc, ◌+◌, ◌-◌, Option, Some, None, List, [], ◌∷◌, length, map, refl, sym, ap, subst, ◌∙◌, arith}
 use Rattle.std.specs.Prelude.{slice_get, slice_set, option_map}
 use Rattle.std.proofs.lemmas.Bool.{cases_lt}
-use Rattle.cown_board.specs.Board.{BoardOf, Finishes, IsOutHere}
+use Rattle.cown_board.specs.Board.{BoardOf, length_of, Finishes, IsOutHere}
 use Rattle.cown_board.specs.Job.{JobOf, DoneOf}
 use Rattle.cown_board.specs.declared.state.State.{State}
 use Rattle.cown_board.specs.declared.state.State.TheVariants.{Waiting, Out, Finished}
@@ -24,7 +24,7 @@ use Rattle.schedule_player.specs.declared.node.Node.{Node}
 use Rattle.schedule_text.specs.declared.note.Note.TheVariants as note
 use Rattle.schedule_player.proofs.Along.{out_here, reply_along, along_finished}
 use Rattle.schedule_player.proofs.Lists.{some_is, none_some, every_set}
-use Rattle.schedule_player.proofs.NodeMoves.{ChangesWithin, node_within, hand_seen, kept_within, same_node}
+use Rattle.schedule_player.proofs.NodeMoves.{ChangesWithin, node_within, hand_seen, kept_within, held_within, same_node}
 use Rattle.schedule_player.proofs.Stages.{set-map, stages_set, stage_before, stage_at}
 
 -- the reply by cowns is the reply by names
@@ -64,12 +64,13 @@ pub finishes_nothing : (bank : BankOf) (r : ℕ) (old new : Node) (worker place 
 finishes_nothing bank r old new worker place is w empty replica within hands = record {
   along = node_within bank r old new is within
       (subst (λ rep. IsBoardAlong (held_of bank.opening) (ops_of bank) rep.board) (sym replica) is.board)
-      (every_emptied bank old new place is.hands hands);
+      (ap (λ rep. length_of rep.board) replica) (every_emptied bank old new place is.hands hands);
   as_moved =
       in_hand bank old worker place None w empty
       ∙ ap (λ node. (node, note.Nothing)) (sym (same_node (seen_node new) (seen_node old) (ap (λ rep. stages_of rep.board) replica)
       (ap (map (option_map number_in)) (hands ∙ set_same old.hands.items place None empty))
-      (kept_within old new within) (ap (λ rep. rep.board.cut) replica) within.inbound within.outbound));
+      (kept_within old new within) (ap (λ rep. rep.board.cut) replica) (held_within old new within)
+      within.inbound within.outbound));
 }
 
 -- ---- whether it is out
@@ -130,12 +131,13 @@ finishes_stranger bank r old new worker place job done is w here of not_out boar
     ) in
     record {
       along = node_within bank r old new is within (subst (IsBoardAlong (held_of bank.opening) (ops_of bank)) (sym board) is.board)
-          (every_emptied bank old new place is.hands hands);
+          (ap length_of board) (every_emptied bank old new place is.hands hands);
       as_moved =
           in_hand bank old worker place (Some job) w here
           ∙ stranger_unless_out bank (emptied (seen_node old) worker) job.number (numbered (stages_of old.replica.board) job.number) absent
           ∙ ap (λ node. (node, note.Stranger job.number)) (sym (same_node (seen_node new) (emptied (seen_node old) worker) (ap stages_of board)
-          (hands_emptied old new worker place w hands) (kept_within old new within) (ap (λ b. b.cut) board) within.inbound within.outbound));
+          (hands_emptied old new worker place w hands) (kept_within old new within) (ap (λ b. b.cut) board) (held_within old new within)
+          within.inbound within.outbound));
     }
 
 pub finishes_done : (bank : BankOf) (r : ℕ) (old new : Node) (worker place : ℕ) (job : JobOf Op) (done : DoneOf Op) (reply : Reply)
@@ -157,7 +159,7 @@ finishes_done bank r old new worker place job done reply is w here of finishes w
     ∙ reply_along o ops board done reply new.replica.board is.board finishes in
     let moved = record (emptied (seen_node old) worker) { stages = with_numbered (stages_of board) job.number IsDone } in
     record {
-      along = node_within bank r old new is within (along_finished o ops board done reply new.replica.board is.board finishes)
+      along = node_within bank r old new is within (along_finished o ops board done reply new.replica.board is.board finishes) (ap length_of finishes.finished)
           (every_emptied bank old new place is.hands hands);
       as_moved =
           in_hand bank old worker place (Some job) w here
@@ -167,5 +169,5 @@ finishes_done bank r old new worker place job done reply is w here of finishes w
           (ap stages_of finishes.finished ∙ stages_set board finishes.place (Finished reply)
           ∙ ap (λ n. with_numbered (stages_of board) n IsDone) (sym number))
           (hands_emptied old new worker place w hands) (kept_within old new within) (ap (λ b. b.cut) finishes.finished)
-          within.inbound within.outbound));
+          (held_within old new within) within.inbound within.outbound));
     }

@@ -7,12 +7,14 @@ pub mod Cuts
 pub mod FinalStates
 pub mod Finishing
 pub mod HeardFrames
+pub mod HeldEntries
 pub mod Lists
 pub mod LogParts
 pub mod LongerLogs
 pub mod Moving
 pub mod NodeMoves
 pub mod Observed
+pub mod Offering
 pub mod Opening
 pub mod Playing
 pub mod Recorded

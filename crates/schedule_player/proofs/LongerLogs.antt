@@ -3,6 +3,7 @@ use Rattle.std.proofs.Common.{◌≡◌, ℕ, zero, suc, ◌≤◌, Option, Some
 use Rattle.std.proofs.lemmas.List.{length-append, map-append}
 use Rattle.std.proofs.lemmas.Option.{slice_get_within}
 use Rattle.cown_board.proofs.PlacesLaws.{slice_get-left}
+use Rattle.cown_board.specs.Board.{length_of}
 use Rattle.cown_board.specs.Job.{JobOf}
 use Rattle.sb_rows.specs.Rows.{SameCustomers}
 use Rattle.sb_calls.specs.Behaviour.{declared_cowns, effect_of}
@@ -15,7 +16,7 @@ use Rattle.sb_calls.specs.declared.op.Op.{Op}
 use Rattle.sb_calls.specs.declared.reply.Reply.{Reply}
 use Rattle.sb_frames.specs.declared.frame.Frame.{Frame}
 use Rattle.sb_frames.specs.declared.frame.Frame.TheVariants as frame
-use Rattle.schedule_player.specs.Along.{IsBoardAlong, IsJobAlong, IsCheckpointAlong}
+use Rattle.schedule_player.specs.Along.{IsBoardAlong, IsJobAlong, IsCheckpointAlong, AreHeldAlong}
 use Rattle.schedule_player.specs.Bank.{BankOf, log_reply}
 use Rattle.schedule_player.specs.NodeAlong.{IsToldBy, IsHandAlong, IsNodeAt}
 use Rattle.schedule_player.specs.Numbered.{numbered}
@@ -23,6 +24,7 @@ use Rattle.schedule_player.specs.Seen.{ops_of}
 use Rattle.schedule_player.specs.declared.node.Node.{Node}
 use Rattle.schedule_player.proofs.Along.{board_longer, job_longer, checkpoint_longer}
 use Rattle.schedule_player.proofs.Finishing.{reply_by_names}
+use Rattle.schedule_player.proofs.HeldEntries.{held_longer}
 use Rattle.schedule_player.proofs.Lists.{none_some}
 use Rattle.schedule_player.proofs.LogParts.{reply_longer}
 
@@ -74,6 +76,8 @@ node_longer bank call r node few is =
       names = is.names;
       opening = is.opening;
       board = subst (λ ops. IsBoardAlong o ops node.replica.board) (sym (ops_with bank call)) (board_longer o (ops_of bank) more node.replica.board is.board);
+      held = subst (λ ops. AreHeldAlong ops (length_of node.replica.board) node.replica.held) (sym (ops_with bank call))
+          (held_longer (ops_of bank) more (length_of node.replica.board) node.replica.held is.held);
       kept = record {
         checkpoint = is.kept.checkpoint;
         stored = is.kept.stored;

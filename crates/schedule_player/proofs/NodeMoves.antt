@@ -1,15 +1,16 @@
 -- A node whose board or hands change.
-use Rattle.std.proofs.Common.{◌≡◌, ℕ, zero, suc, ◌+◌, ◌≤◌, Some, None, length, map, refl, sym, ap, subst, ◌∙◌}
-use Rattle.std.specs.Prelude.{slice_get, slice_set, option_map}
+use Rattle.std.proofs.Common.{◌≡◌, ℕ, zero, suc, ◌+◌, ◌≤◌, Option, Some, None, List, length, map, refl, sym, ap, subst, ◌∙◌}
+use Rattle.std.specs.Prelude.{slice_get, slice_set, is_some, option_map}
 use Rattle.std.proofs.lemmas.Option.{slice_get-map, slice_get_past}
-use Rattle.cown_board.specs.Board.{Takes}
+use Rattle.cown_board.specs.Board.{length_of, Takes}
 use Rattle.cown_board.specs.Job.{JobOf}
 use Rattle.cown_board.specs.Readiness.{ready_places}
 use Rattle.sb_calls.specs.Behaviour.{declared_cowns, effect_of}
 use Rattle.sb_calls.specs.Cowns.{held_of}
 use Rattle.sb_calls.specs.declared.op.Op.{Op}
-use Rattle.sb_replica.specs.Replica.{beside_of}
-use Rattle.schedule_player.specs.Along.{IsBoardAlong}
+use Rattle.sb_checkpoint.specs.MemoryStore.{MemoryStoreOf}
+use Rattle.sb_replica.specs.Replica.{ReplicaOf, BesideOf, beside_of}
+use Rattle.schedule_player.specs.Along.{IsBoardAlong, AreHeldAlong}
 use Rattle.schedule_player.specs.Bank.{BankOf}
 use Rattle.schedule_player.specs.NodeAlong.{number_in, seen_node, IsEntryOf, IsToldBy, IsKeptAlong, IsHandAlong, IsNodeAt, Arrives}
 use Rattle.schedule_player.specs.Numbered.{numbered, with_numbered, Every}
@@ -25,23 +26,48 @@ use Rattle.schedule_player.proofs.Runnable.{runnable_alike}
 use Rattle.schedule_player.proofs.Stages.{set-map, stages_set}
 use Rattle.cown_board.specs.declared.state.State.TheVariants.{Out}
 
+-- nothing but the board, what is held and the store of the old replica changed
+pub record KeepsBeside (old new : ReplicaOf MemoryStoreOf) : Type 0 where
+  pub id : new.id ≡ old.id
+  pub names : new.names ≡ old.names
+  pub opening : new.opening ≡ old.opening
+
+pub node_stored : (bank : BankOf) (r : ℕ) (old : Node) (new : ReplicaOf MemoryStoreOf) → IsNodeAt bank r old → KeepsBeside old.replica new
+    → IsBoardAlong (held_of bank.opening) (ops_of bank) new.board → AreHeldAlong (ops_of bank) (length_of new.board) new.held
+    → IsKeptAlong bank new.store.slot → IsNodeAt bank r (record old { replica = new })
+node_stored bank r old new is beside board held kept = record {
+  customers = is.customers;
+  few = is.few;
+  id = beside.id ∙ is.id;
+  names = beside.names ∙ is.names;
+  opening = beside.opening ∙ is.opening;
+  board = board;
+  held = held;
+  kept = kept;
+  hands = is.hands;
+  inbound = is.inbound;
+  outbound = is.outbound;
+}
+
 -- nothing but the board and the hands of the old node changed
 pub record ChangesWithin (old new : Node) : Type 0 where
-  pub beside : beside_of new.replica ≡ beside_of old.replica
+  pub beside : ◌≡◌ {A = BesideOf MemoryStoreOf × List (Option Op)} (beside_of new.replica, new.replica.held) (beside_of old.replica, old.replica.held)
   pub inbound : new.inbound ≡ old.inbound
   pub outbound : new.outbound ≡ old.outbound
 
 pub node_within : (bank : BankOf) (r : ℕ) (old new : Node) → IsNodeAt bank r old → ChangesWithin old new
-    → IsBoardAlong (held_of bank.opening) (ops_of bank) new.replica.board → Every (IsHandAlong bank) new.hands.items
-    → IsNodeAt bank r new
-node_within bank r old new is within board hands = record {
+    → IsBoardAlong (held_of bank.opening) (ops_of bank) new.replica.board → length_of new.replica.board ≡ length_of old.replica.board
+    → Every (IsHandAlong bank) new.hands.items → IsNodeAt bank r new
+node_within bank r old new is within board size hands = record {
   customers = is.customers;
   few = is.few;
-  id = ap (λ b. b.id) within.beside ∙ is.id;
-  names = ap (λ b. b.names) within.beside ∙ is.names;
-  opening = ap (λ b. b.opening) within.beside ∙ is.opening;
+  id = ap (λ b. b.0.id) within.beside ∙ is.id;
+  names = ap (λ b. b.0.names) within.beside ∙ is.names;
+  opening = ap (λ b. b.0.opening) within.beside ∙ is.opening;
   board = board;
-  kept = subst (λ slot. IsKeptAlong bank slot) (sym (ap (λ b. b.store.slot) within.beside)) is.kept;
+  held = subst (AreHeldAlong (ops_of bank) (length_of new.replica.board)) (sym (ap (λ b. b.1) within.beside))
+      (subst (λ n. AreHeldAlong (ops_of bank) n old.replica.held) (sym size) is.held);
+  kept = subst (λ slot. IsKeptAlong bank slot) (sym (ap (λ b. b.0.store.slot) within.beside)) is.kept;
   hands = hands;
   inbound = subst (Every (IsEntryOf bank)) (sym within.inbound) is.inbound;
   outbound = subst (Every (IsToldBy bank r)) (sym within.outbound) is.outbound;
@@ -62,13 +88,16 @@ pub hand_seen : (bank : BankOf) (node : Node) (worker : ℕ) → numbered (seen_
 hand_seen bank node zero = refl
 hand_seen bank node (suc k) = slice_get-map (option_map number_in) node.hands.items k
 
-pub same_node : (a b : NodeOf) → a.stages ≡ b.stages → a.hands ≡ b.hands → a.kept ≡ b.kept → a.cut ≡ b.cut → a.inbound ≡ b.inbound
-    → a.outbound ≡ b.outbound → a ≡ b
-same_node a b s h k c i o =
-    λ j. record { stages = s j; hands = h j; kept = k j; cut = c j; inbound = i j; outbound = o j }
+pub same_node : (a b : NodeOf) → a.stages ≡ b.stages → a.hands ≡ b.hands → a.kept ≡ b.kept → a.cut ≡ b.cut → a.held ≡ b.held
+    → a.inbound ≡ b.inbound → a.outbound ≡ b.outbound → a ≡ b
+same_node a b s h k c e i o =
+    λ j. record { stages = s j; hands = h j; kept = k j; cut = c j; held = e j; inbound = i j; outbound = o j }
 
 pub kept_within : (old new : Node) → ChangesWithin old new → (seen_node new).kept ≡ (seen_node old).kept
-kept_within old new within = ap (λ b. kept_in b.store.slot) within.beside
+kept_within old new within = ap (λ b. kept_in b.0.store.slot) within.beside
+
+pub held_within : (old new : Node) → ChangesWithin old new → (seen_node new).held ≡ (seen_node old).held
+held_within old new within = ap (λ b. map is_some b.1) within.beside
 
 -- the worker's hand is empty
 reaches : (bank : BankOf) (node : Node) (worker place index : ℕ) → worker ≡ suc place → slice_get node.hands.items place ≡ Some None
@@ -90,11 +119,12 @@ takes_nothing bank r old new worker place index is w empty within hands few boar
     (ready_places declared_cowns old.replica.board.log old.replica.board.states) index few) in
     record {
       along = node_within bank r old new is within (subst (IsBoardAlong (held_of bank.opening) (ops_of bank)) (sym board) is.board)
-          (subst (λ h. Every (IsHandAlong bank) h.items) (sym hands) is.hands);
+          (ap length_of board) (subst (λ h. Every (IsHandAlong bank) h.items) (sym hands) is.hands);
       as_moved =
           reaches bank old worker place index w empty ∙ ap (goes_out (seen_node old) worker) none
           ∙ ap (λ node. (node, note.Nothing)) (sym (same_node (seen_node new) (seen_node old) (ap stages_of board)
-          (ap (λ h. map (option_map number_in) h.items) hands) (kept_within old new within) (ap (λ b. b.cut) board) within.inbound within.outbound));
+          (ap (λ h. map (option_map number_in) h.items) hands) (kept_within old new within) (ap (λ b. b.cut) board) (held_within old new within)
+          within.inbound within.outbound));
     }
 
 pub takes_job : (bank : BankOf) (r : ℕ) (old new : Node) (worker place index : ℕ) (job : JobOf Op) → IsNodeAt bank r old → worker ≡ suc place
@@ -111,7 +141,7 @@ takes_job bank r old new worker place index job is w empty within hands takes =
     ∙ slice_get-map (λ k. base + k) (ready_places declared_cowns board.log board.states) index
     ∙ ap (option_map (λ k. base + k)) takes.ready in
     record {
-      along = node_within bank r old new is within (along_taken o ops board index job new.replica.board is.board takes)
+      along = node_within bank r old new is within (along_taken o ops board index job new.replica.board is.board takes) (ap length_of takes.out)
           (subst (Every (IsHandAlong bank)) (sym hands)
           (every_set (IsHandAlong bank) old.hands.items place (Some job) is.hands (job_along o ops board index job new.replica.board is.board takes)));
       as_moved =
@@ -122,6 +152,6 @@ takes_job bank r old new worker place index job is w empty within hands takes =
           (ap (map (option_map number_in)) hands ∙ set-map (option_map number_in) old.hands.items place (Some job)
           ∙ ap (λ n. slice_set (map (option_map number_in) old.hands.items) place (Some n)) takes.number
           ∙ ap (λ v. with_numbered (map (option_map number_in) old.hands.items) v (Some (suc (base + takes.place)))) (sym w))
-          (kept_within old new within) (ap (λ b. b.cut) takes.out) within.inbound within.outbound))
+          (kept_within old new within) (ap (λ b. b.cut) takes.out) (held_within old new within) within.inbound within.outbound))
           ∙ ap (λ n. (seen_node new, note.Took n)) (sym takes.number);
     }

@@ -1,12 +1,14 @@
 -- A replica at the opening.
 use Rattle.std.proofs.Common.{◌≡◌, ℕ, zero, suc, ◌≤◌, Option, Some, None, [], ◌∷◌, length, map, refl, sym, ap, subst, ◌∙◌}
 use Rattle.std.specs.Prelude.{option_map, slice_get}
+use Rattle.cown_board.specs.Board.{length_of}
 use Rattle.cown_board.specs.Job.{JobOf}
 use Rattle.cown_board.specs.Played.{opened_with}
 use Rattle.sb_rows.specs.Rows.{SameCustomers}
 use Rattle.sb_calls.specs.Cowns.{held_of}
 use Rattle.sb_calls.specs.declared.call.TheConstants.{LOG_CALLS}
 use Rattle.sb_calls.specs.declared.op.Op.{Op}
+use Rattle.sb_replica_log.specs.Log.{none_held as empty_held}
 use Rattle.schedule_player.specs.Along.{IsBoardAlong}
 use Rattle.schedule_player.specs.Bank.{BankOf}
 use Rattle.schedule_player.specs.NodeAlong.{number_in, seen_node, IsEntryOf, IsToldBy, IsHandAlong, IsKeptAlong, IsNodeAt}
@@ -15,6 +17,7 @@ use Rattle.schedule_player.specs.ReplicaMoves.{opened_node}
 use Rattle.schedule_player.specs.Seen.{stages_of, kept_in, ops_of}
 use Rattle.schedule_player.specs.declared.node.Node.{Node}
 use Rattle.schedule_player.proofs.Along.{along_opened, opening_along}
+use Rattle.schedule_player.proofs.HeldEntries.{none_along, none_seen}
 use Rattle.schedule_player.proofs.Lists.{some_is, none_some, every_nil}
 use Rattle.schedule_player.proofs.NodeMoves.{same_node}
 
@@ -23,11 +26,11 @@ empty_seen zero = refl
 empty_seen (suc n) = ap (λ t. None ∷ t) (empty_seen n)
 
 pub opens_so : (node : Node) (workers : ℕ) → stages_of node.replica.board ≡ [] → node.replica.board.cut ≡ None
-    → node.replica.store.slot ≡ None → node.hands.items ≡ copies workers None → node.inbound ≡ [] → node.outbound ≡ []
+    → node.replica.held ≡ empty_held → node.replica.store.slot ≡ None → node.hands.items ≡ copies workers None → node.inbound ≡ [] → node.outbound ≡ []
     → seen_node node ≡ opened_node workers
-opens_so node workers stages cut slot hands inbound outbound =
+opens_so node workers stages cut held slot hands inbound outbound =
     same_node (seen_node node) (opened_node workers) stages (ap (map (option_map number_in)) hands ∙ empty_seen workers)
-    (ap kept_in slot) cut inbound outbound
+    (ap kept_in slot) cut (none_seen node.replica.held held) inbound outbound
 
 empty_hand : (bank : BankOf) (workers k : ℕ) (hand : Option (JobOf Op)) → slice_get (copies workers None) k ≡ Some hand → IsHandAlong bank hand
 empty_hand bank zero k hand here = absurd (none_some here)
@@ -36,9 +39,9 @@ empty_hand bank (suc n) (suc k) hand here = empty_hand bank n k hand here
 
 pub opens_along : (bank : BankOf) (r : ℕ) (node : Node) (workers : ℕ) → SameCustomers bank.names bank.opening → length bank.calls ≤ LOG_CALLS
     → node.replica.id ≡ r → node.replica.names ≡ bank.names → node.replica.opening ≡ bank.opening
-    → node.replica.board ≡ opened_with bank.opening [] → node.replica.store.slot ≡ None → node.hands.items ≡ copies workers None
-    → node.inbound ≡ [] → node.outbound ≡ [] → IsNodeAt bank r node
-opens_along bank r node workers same few id names opening board slot hands inbound outbound =
+    → node.replica.board ≡ opened_with bank.opening [] → node.replica.held ≡ empty_held → node.replica.store.slot ≡ None
+    → node.hands.items ≡ copies workers None → node.inbound ≡ [] → node.outbound ≡ [] → IsNodeAt bank r node
+opens_along bank r node workers same few id names opening board held slot hands inbound outbound =
     let made = opening_along (held_of bank.opening) (ops_of bank) bank.opening refl in
     record {
       customers = same;
@@ -48,6 +51,7 @@ opens_along bank r node workers same few id names opening board slot hands inbou
       opening = opening;
       board = subst (IsBoardAlong (held_of bank.opening) (ops_of bank)) (sym board)
           (along_opened (held_of bank.opening) (ops_of bank) (record { columns = bank.opening; replies = [] }) made);
+      held = none_along (ops_of bank) (length_of node.replica.board) node.replica.held held;
       kept = subst (IsKeptAlong bank) (sym slot)
           (record { checkpoint = record { columns = bank.opening; replies = [] }; stored = refl; along = made });
       hands = subst (Every (IsHandAlong bank)) (sym hands) (λ k hand here. empty_hand bank workers k hand here);

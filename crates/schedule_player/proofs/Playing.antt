@@ -19,7 +19,7 @@ use Rattle.schedule_player.specs.Comes.{may_come}
 use Rattle.schedule_player.specs.Numbered.{numbered}
 use Rattle.schedule_player.specs.declared.fault.StepFault.{StepFault}
 use Rattle.schedule_player.specs.Played.{Plays, ask_in, log_of, bank_after, IsPlayed}
-use Rattle.schedule_player.specs.ReplicaMoves.{NodeOf, sent, sent_all, delivered_to, acknowledged, answered, taken, finished_by, cut_off, marked, restarted}
+use Rattle.schedule_player.specs.ReplicaMoves.{NodeOf, sent, sent_all, delivered_to, advanced, acknowledged, answered, taken, finished_by, cut_off, marked, restarted}
 use Rattle.schedule_player.specs.World.{WorldOf, Asks, Moves, bank_of, moved, moved_if, moved_at, keeps, told, heard_from, opened_world}
 use Rattle.schedule_text.specs.declared.event.Event.{Event}
 use Rattle.schedule_text.specs.declared.event.Event.TheVariants as event
@@ -75,6 +75,7 @@ leaves_moved world (event.Finish r worker) = leaves_at world r (λ node. finishe
 leaves_moved world (event.Mark r end) = leaves_at world r (λ node. marked node end)
 leaves_moved world (event.Restart r) = leaves_at world r (λ node. restarted node)
 leaves_moved world (event.Cut r) = leaves_at world r (λ node. cut_off node)
+leaves_moved world (event.Next r) = leaves_at world r (λ node. advanced node)
 leaves_moved world (event.Audit a b) = record { names = refl; opening = refl; log_is = refl; count = refl }
 
 leaves_so : (old : WorldOf) (happens : Event) (n : Note) (new : WorldOf) → moved old happens ≡ (new, n) → Leaves old new old.sequencer.log
@@ -130,6 +131,7 @@ leaves_one old (event.Finish r worker) n new moves = leaves_so old (event.Finish
 leaves_one old (event.Mark r end) n new moves = leaves_so old (event.Mark r end) n new moves
 leaves_one old (event.Restart r) n new moves = leaves_so old (event.Restart r) n new moves
 leaves_one old (event.Cut r) n new moves = leaves_so old (event.Cut r) n new moves
+leaves_one old (event.Next r) n new moves = leaves_so old (event.Next r) n new moves
 leaves_one old (event.Audit a b) n new moves = leaves_so old (event.Audit a b) n new moves
 
 -- ---- many events

@@ -1,5 +1,5 @@
 -- A recorded length was told.
-use Rattle.std.proofs.Common.{◌≡◌, inl, inr, Bool, true, false, ℕ, zero, suc, ◌<◌, Option, Some, None, List, [], ◌∷◌, ◌++◌, length, replicate, refl, sym, ap, subst, ◌∙◌, append-nil}
+use Rattle.std.proofs.Common.{◌≡◌, inl, inr, Bool, true, false, ℕ, zero, suc, ◌+◌, ◌<◌, Option, Some, None, List, [], ◌∷◌, ◌++◌, length, replicate, refl, sym, ap, subst, ◌∙◌, append-nil}
 use Rattle.std.specs.Prelude.{slice_get, slice_set, nat_le, nat_lt, ◌==◌}
 use Rattle.std.proofs.lemmas.Bool.{cases_eq}
 use Rattle.std.proofs.lemmas.List.{length-set}
@@ -20,7 +20,7 @@ use Rattle.schedule_player.specs.Bank.{BankOf}
 use Rattle.schedule_player.specs.Numbered.{numbered}
 use Rattle.schedule_player.specs.Played.{Plays, IsPlayed}
 use Rattle.schedule_player.specs.Readiness.{runnable}
-use Rattle.schedule_player.specs.ReplicaMoves.{NodeOf, length_in, undone_in, told_reply, answered, reply_in_node, sent, sent_all, frame_comes, delivered_to, goes_out, reaches_out, taken, emptied, comes_back, gives_back, finished_by, cut_after, cut_off, undone_up_to, marked_to, marked, restarted, acknowledged}
+use Rattle.schedule_player.specs.ReplicaMoves.{NodeOf, length_in, undone_in, told_reply, answered, reply_in_node, sent, sent_all, frame_comes, delivered_to, next_taken, advanced, goes_out, reaches_out, taken, emptied, comes_back, gives_back, finished_by, cut_after, cut_off, undone_up_to, marked_to, marked, restarted, acknowledged}
 use Rattle.schedule_player.specs.Stage.{Stage, Waits, IsOut, IsDone}
 use Rattle.schedule_player.specs.TrueToLog.{IsTold, RecordsWereTold}
 use Rattle.schedule_player.specs.World.{WorldOf, Asks, Moves, bank_of, moved, moved_if, moved_at, keeps, told, heard_from, opened_world}
@@ -29,7 +29,7 @@ use Rattle.schedule_text.specs.declared.event.Event.TheVariants as event
 use Rattle.schedule_text.specs.declared.note.Note.{Note}
 use Rattle.schedule_text.specs.declared.note.Note.TheVariants as note
 use Rattle.schedule_player.proofs.Lists.{some_is, none_some}
-use Rattle.schedule_player.proofs.Working.{entry_by, mark_by}
+use Rattle.schedule_player.proofs.Working.{next_by, entry_by, mark_by}
 
 -- ---- a replica's frames only become more
 
@@ -43,21 +43,30 @@ sends : (node : NodeOf) (entry : Option Frame) → Tells node (sent node entry).
 sends node (Some entry) = same node (sent node (Some entry)).0 refl
 sends node None = same node node refl
 
-enters : (node : NodeOf) (n : ℕ) (there past full : Bool) → (entry_by node n there past full).0.outbound ≡ node.outbound
-enters node n true past full = refl
-enters node n false true full = refl
-enters node n false false true = refl
-enters node n false false false = refl
+enters_next : (node : NodeOf) (n : ℕ) (full : Bool) → (next_by node n full).0.outbound ≡ node.outbound
+enters_next node n true = refl
+enters_next node n false = refl
+
+enters : (node : NodeOf) (n : ℕ) (there past early full : Bool) → (entry_by node n there past early full).0.outbound ≡ node.outbound
+enters node n true past early full = refl
+enters node n false true early full = refl
+enters node n false false true full = refl
+enters node n false false false full = enters_next node n full
 
 delivers : (node : NodeOf) (sent : Option Frame) → (frame_comes node sent).0.outbound ≡ node.outbound
 delivers node (Some (frame.Entry n call)) =
-    enters node n (nat_le n (length_in node)) (nat_lt (suc (length_in node)) n) (undone_in node == 1024)
+    enters node n (nat_le n (length_in node)) (nat_lt (length_in node + 64) n) (nat_lt (suc (length_in node)) n) (undone_in node == 1024)
 delivers node (Some (frame.Ask client request call)) = refl
 delivers node (Some (frame.Ack replica size)) = refl
 delivers node (Some (frame.Answer n reply)) = refl
 delivers node (Some (frame.Outcome client request outcome)) = refl
 delivers node (Some frame.Flush) = refl
 delivers node None = refl
+
+takes_next : (node : NodeOf) (held : Option Bool) → (next_taken node held).0.outbound ≡ node.outbound
+takes_next node (Some true) = enters_next node (suc (length_in node)) (undone_in node == 1024)
+takes_next node (Some false) = refl
+takes_next node None = refl
 
 replies : (node : NodeOf) (n : ℕ) (reply : Option Reply) → Tells node (told_reply node n reply).0
 replies node n (Some reply) = (frame.Answer n reply ∷ [], refl)
@@ -197,6 +206,8 @@ records_moved world (event.Restart r) were =
     records_at world r (λ node. restarted node) (λ node. same node (restarted node).0 refl) were
 records_moved world (event.Cut r) were =
     records_at world r (λ node. cut_off node) (λ node. same node (cut_off node).0 (cuts node node.cut)) were
+records_moved world (event.Next r) were =
+    records_at world r (λ node. advanced node) (λ node. same node (advanced node).0 (takes_next node (slice_get node.held 0))) were
 records_moved world (event.Audit a b) were = were
 
 -- an ask records nothing
@@ -224,6 +235,7 @@ records_one old (event.Finish r worker) n new moves were = by_moved old (event.F
 records_one old (event.Mark r end) n new moves were = by_moved old (event.Mark r end) n new moves were
 records_one old (event.Restart r) n new moves were = by_moved old (event.Restart r) n new moves were
 records_one old (event.Cut r) n new moves were = by_moved old (event.Cut r) n new moves were
+records_one old (event.Next r) n new moves were = by_moved old (event.Next r) n new moves were
 records_one old (event.Audit a b) n new moves were = by_moved old (event.Audit a b) n new moves were
 
 records_all : (old : WorldOf) (events : List Event) (notes : List Note) (new : WorldOf) → Plays old events notes new → RecordsWereTold old

@@ -1,6 +1,6 @@
 -- A replica puts its checkpoint, and goes back to it.
-use Rattle.std.proofs.Common.{◌≡◌, inl, inr, ℕ, ℤ, Option, Some, None, Result, Ok, Err, List, [], ◌∷◌, length, refl, sym, ap, subst, ◌∙◌, arith}
-use Rattle.std.specs.Prelude.{◌≢◌, if◌then◌else◌}
+use Rattle.std.proofs.Common.{◌≡◌, inl, inr, ℕ, ℤ, Option, Some, None, Result, Ok, Err, List, [], ◌∷◌, length, map, refl, sym, ap, subst, ◌∙◌, arith}
+use Rattle.std.specs.Prelude.{◌≢◌, is_some, if◌then◌else◌}
 use Rattle.std.proofs.lemmas.Bool.{eq-eqb, ne_eqb}
 use Rattle.cown_board.proofs.PlacesLaws.{append_nothing}
 use Rattle.cown_board.specs.Board.{BoardOf, length_of, open_of, IsAfterAll}
@@ -27,11 +27,12 @@ use Rattle.sb_replica.specs.declared.fault.MarkFault.TheVariants as fault
 use Rattle.sb_replica.specs.declared.fault.RestartFault.{RestartFault}
 use Rattle.sb_replica.specs.declared.fault.RestartFault.TheVariants as restart
 use Rattle.sb_replica.proofs.IdleReplies.{length_held}
-use Rattle.schedule_player.specs.Along.{IsBoardAlong}
+use Rattle.sb_replica_log.specs.Log.{none_held as empty_held}
+use Rattle.schedule_player.specs.Along.{IsBoardAlong, AreHeldAlong}
 use Rattle.schedule_player.specs.Bank.{BankOf}
 use Rattle.schedule_player.specs.NodeAlong.{seen_node, IsKeptAlong, IsNodeAt, Arrives}
 use Rattle.schedule_player.specs.Numbered.{copies}
-use Rattle.schedule_player.specs.ReplicaMoves.{NodeOf, cut_after, cut_off, put_ends, marked, restarted}
+use Rattle.schedule_player.specs.ReplicaMoves.{NodeOf, none_held, cut_after, cut_off, put_ends, marked, restarted}
 use Rattle.schedule_player.specs.Seen.{stages_of, kept_in, ops_of}
 use Rattle.schedule_player.specs.Stage.{IsDone}
 use Rattle.schedule_player.specs.declared.node.Node.{Node}
@@ -39,7 +40,9 @@ use Rattle.schedule_text.specs.declared.note.Note.{Note}
 use Rattle.schedule_text.specs.declared.note.Note.TheVariants as note
 use Rattle.schedule_player.proofs.Along.{along_opened}
 use Rattle.schedule_player.proofs.Cuts.{along_cut, along_uncut, marked_along, marks_as}
+use Rattle.schedule_player.proofs.HeldEntries.{none_along, none_seen}
 use Rattle.schedule_player.proofs.Lists.{some_is, none_some}
+use Rattle.schedule_player.proofs.NodeMoves.{KeepsBeside, node_stored}
 use Rattle.schedule_player.proofs.SeenReplies.{checkpoint_along, columns_along}
 use Rattle.schedule_player.proofs.Stages.{length_stages}
 
@@ -92,37 +95,21 @@ after_columns bank board columns same along alike after =
 
 -- ---- a replica whose store or board changes
 
-pub record KeepsBeside (old new : ReplicaOf MemoryStoreOf) : Type 0 where
-  pub id : new.id ≡ old.id
-  pub names : new.names ≡ old.names
-  pub opening : new.opening ≡ old.opening
-
-node_stored : (bank : BankOf) (r : ℕ) (old : Node) (new : ReplicaOf MemoryStoreOf) → IsNodeAt bank r old → KeepsBeside old.replica new
-    → IsBoardAlong (held_of bank.opening) (ops_of bank) new.board → IsKeptAlong bank new.store.slot
-    → IsNodeAt bank r (record old { replica = new })
-node_stored bank r old new is beside board kept = record {
-  customers = is.customers;
-  few = is.few;
-  id = beside.id ∙ is.id;
-  names = beside.names ∙ is.names;
-  opening = beside.opening ∙ is.opening;
-  board = board;
-  kept = kept;
-  hands = is.hands;
-  inbound = is.inbound;
-  outbound = is.outbound;
-}
-
--- the stages stay, and this is kept
+-- the stages and what is held stay, and this is kept
 storing : (bank : BankOf) (r : ℕ) (old : Node) (new : ReplicaOf MemoryStoreOf) (kept : ℕ) (n : Note) (moved : NodeOf × Note) → IsNodeAt bank r old
     → KeepsBeside old.replica new → IsBoardAlong (held_of bank.opening) (ops_of bank) new.board
-    → stages_of new.board ≡ stages_of old.replica.board → IsKeptAlong bank new.store.slot → kept_in new.store.slot ≡ kept
+    → length_of new.board ≡ length_of old.replica.board → stages_of new.board ≡ stages_of old.replica.board → new.held ≡ old.replica.held
+    → IsKeptAlong bank new.store.slot → kept_in new.store.slot ≡ kept
     → moved ≡ (record (seen_node old) { kept = kept; cut = new.board.cut }, n) → Arrives bank r (record old { replica = new }) n moved
-storing bank r old new kept n moved is beside board stages slot k e = record {
-  along = node_stored bank r old new is beside board slot;
+storing bank r old new kept n moved is beside board size stages held slot k e = record {
+  along = node_stored bank r old new is beside board
+      (subst (AreHeldAlong (ops_of bank) (length_of new.board)) (sym held) (subst (λ m. AreHeldAlong (ops_of bank) m old.replica.held) (sym size) is.held))
+      slot;
   as_moved =
       e ∙ ap (λ x. (record (seen_node old) { kept = x; cut = new.board.cut }, n)) (sym k)
-      ∙ ap (λ s. (record (seen_node old) { stages = s; kept = kept_in new.store.slot; cut = new.board.cut }, n)) (sym stages);
+      ∙ ap (λ s. (record (seen_node old) { stages = s; kept = kept_in new.store.slot; cut = new.board.cut }, n)) (sym stages)
+      ∙ ap (λ h. (record (seen_node old) { stages = stages_of new.board; kept = kept_in new.store.slot; cut = new.board.cut; held = map is_some h }, n))
+      (sym held);
 }
 
 -- ---- cutting
@@ -136,7 +123,8 @@ cutting bank r old new cut n is same board e =
     storing bank r old new (kept_in old.replica.store.slot) n (cut_off (seen_node old)) is
     (record { id = ap (λ x. x.id) same; names = ap (λ x. x.names) same; opening = ap (λ x. x.opening) same })
     (subst (λ x. IsBoardAlong (held_of bank.opening) (ops_of bank) x.board) (sym same) board)
-    (ap (λ x. stages_of x.board) same) (subst (λ x. IsKeptAlong bank x.store.slot) (sym same) is.kept)
+    (ap (λ x. length_of x.board) same) (ap (λ x. stages_of x.board) same) (ap (λ x. x.held) same)
+    (subst (λ x. IsKeptAlong bank x.store.slot) (sym same) is.kept)
     (ap (λ x. kept_in x.store.slot) same)
     (e ∙ ap (λ x. (record (seen_node old) { cut = x.board.cut }, n)) (sym same))
 
@@ -221,7 +209,7 @@ marks_well bank r old end new size is s puts =
     storing bank r old new size (note.Marked size) (marked (seen_node old) end) is
     (beside_stays old.replica end (Ok tt) new puts)
     (subst (IsBoardAlong (held_of bank.opening) (ops_of bank)) (sym board) (along_uncut (held_of bank.opening) (ops_of bank) old.replica.board is.board))
-    (ap stages_of board)
+    (ap length_of board) (ap stages_of board) (ap (λ x. x.held) puts.stays)
     (subst (IsKeptAlong bank) (sym slot) (kept_now bank r old end (Ok tt) new is puts))
     (ap kept_in slot ∙ kept_length bank r old end (Ok tt) new is puts ∙ sym s)
     (idle_marks bank r old end is puts.idle ∙ ap (put_ends (seen_node old) (length_of (up_to_cut old.replica.board))) acts.0
@@ -246,7 +234,8 @@ marks_badly bank r old end new is puts = by puts.put.as_told
     with_slot kept slot is_kept e =
         storing bank r old new kept note.StoreFault (marked (seen_node old) end) is
         (beside_stays old.replica end (Err store.Device) new puts)
-        (subst (IsBoardAlong (held_of bank.opening) (ops_of bank)) (sym board) is.board) (ap stages_of board) slot is_kept
+        (subst (IsBoardAlong (held_of bank.opening) (ops_of bank)) (sym board) is.board) (ap length_of board) (ap stages_of board)
+        (ap (λ x. x.held) puts.stays) slot is_kept
         (idle_marks bank r old end is puts.idle ∙ e ∙ ap (λ b. (record (seen_node old) { kept = kept; cut = b.cut }, note.StoreFault)) (sym board))
 
     by : MemoryActs (told_of old.replica end).store (Put puts.bytes (Err store.Device)) new.store
@@ -267,7 +256,8 @@ pub marks_busy : (bank : BankOf) (r : ℕ) (old : Node) (end : How) (new : Repli
 marks_busy bank r old end new is (busy, same) =
     storing bank r old new (kept_in old.replica.store.slot) note.Unfinished (marked (seen_node old) end) is
     (record { id = ap (λ x. x.id) same; names = ap (λ x. x.names) same; opening = ap (λ x. x.opening) same })
-    (subst (λ x. IsBoardAlong (held_of bank.opening) (ops_of bank) x.board) (sym same) is.board) (ap (λ x. stages_of x.board) same)
+    (subst (λ x. IsBoardAlong (held_of bank.opening) (ops_of bank) x.board) (sym same) is.board) (ap (λ x. length_of x.board) same)
+    (ap (λ x. stages_of x.board) same) (ap (λ x. x.held) same)
     (subst (λ x. IsKeptAlong bank x.store.slot) (sym same) is.kept) (ap (λ x. kept_in x.store.slot) same)
     (busy_marks bank r old end is busy ∙ ap (λ x. (record (seen_node old) { cut = x.board.cut }, note.Unfinished)) (sym same))
 
@@ -299,6 +289,7 @@ goes_back bank r old new size is restarts =
     let board : new.board ≡ opened_with made.columns made.replies =
     restarts.board.board_is ∙ ap (λ c. opened_with c.columns c.replies) (sym same) in
     let kept : kept_in old.replica.store.slot ≡ length made.replies = kept_of bank.opening (length bank.names) old.replica.store.slot made is.kept.stored in
+    let held : new.held ≡ empty_held = ap (λ x. x.held) restarts.stays in
     let length_is : size ≡ length made.replies =
     let e = restarts.length_is ∙ ap length_of board in omega (arith, e) in
     record {
@@ -309,13 +300,19 @@ goes_back bank r old new size is restarts =
             opening = ap (λ x. x.opening) restarts.stays;
           })
           (subst (IsBoardAlong (held_of bank.opening) (ops_of bank)) (sym board) (along_opened (held_of bank.opening) (ops_of bank) made is.kept.along))
+          (none_along (ops_of bank) (length_of new.board) new.held held)
           (subst (IsKeptAlong bank) (sym slot) is.kept);
       as_moved =
-          ap (λ n. (record (seen_node old) { stages = copies n IsDone; cut = None }, note.Restarted n)) kept
-          ∙ ap (λ s. (record (seen_node old) { stages = s; cut = None }, note.Restarted (length made.replies)))
+          ap (λ n. (record (seen_node old) { stages = copies n IsDone; cut = None; held = none_held }, note.Restarted n)) kept
+          ∙ ap (λ s. (record (seen_node old) { stages = s; cut = None; held = none_held }, note.Restarted (length made.replies)))
           (sym (append_nothing (copies (length made.replies) IsDone)))
-          ∙ ap (λ b. (record (seen_node old) { stages = stages_of b; cut = b.cut }, note.Restarted (length made.replies))) (sym board)
-          ∙ ap (λ s. (record (seen_node old) { stages = stages_of new.board; kept = kept_in s; cut = new.board.cut }, note.Restarted (length made.replies)))
+          ∙ ap (λ b. (record (seen_node old) { stages = stages_of b; cut = b.cut; held = none_held }, note.Restarted (length made.replies))) (sym board)
+          ∙ ap (λ h. (record (seen_node old) { stages = stages_of new.board; cut = new.board.cut; held = h }, note.Restarted (length made.replies)))
+          (sym (none_seen new.held held))
+          ∙ ap (λ s. (
+            record (seen_node old) { stages = stages_of new.board; kept = kept_in s; cut = new.board.cut; held = map is_some new.held },
+            note.Restarted (length made.replies),
+          ))
           (sym slot)
           ∙ ap (λ n. (seen_node (record old { replica = new }), note.Restarted n)) (sym length_is);
     }

@@ -1,17 +1,15 @@
 -- A replica tells, and hears.
-use Rattle.std.proofs.Common.{◌≡◌, ℕ, zero, suc, ◌≤◌, Bool, true, false, Option, Some, None, Result, Ok, Err, List, [], ◌∷◌, ◌++◌, length, refl, sym, ap, subst, ◌∙◌, arith}
-use Rattle.std.specs.Prelude.{option_map, if◌then◌else◌, nat_le, nat_lt, ◌==◌, ◌||◌, count_by}
-use Rattle.std.proofs.lemmas.Bool.{eq-eqb, le-ltb}
+use Rattle.std.proofs.Common.{◌≡◌, ℕ, zero, suc, ◌≤◌, Option, Some, None, Result, Ok, Err, List, [], ◌∷◌, ◌++◌, length, refl, sym, ap, subst, ◌∙◌, arith}
+use Rattle.std.specs.Prelude.{option_map, if◌then◌else◌}
+use Rattle.std.proofs.lemmas.Bool.{eq-eqb}
 use Rattle.std.proofs.lemmas.List.{length-append}
-use Rattle.std.proofs.lemmas.Option.{slice_get-map, slice_get_within}
-use Rattle.cown_board.specs.Board.{BoardOf, length_of, open_of, reply_in}
+use Rattle.std.proofs.lemmas.Option.{slice_get_within}
+use Rattle.cown_board.specs.Board.{length_of, reply_in}
 use Rattle.sb_calls.specs.Behaviour.{declared_cowns, effect_of}
 use Rattle.sb_calls.specs.Cowns.{held_of}
 use Rattle.sb_calls.specs.OneByOne.{reply_by_log}
 use Rattle.sb_calls.specs.Op.{resolved}
 use Rattle.sb_calls.specs.declared.call.Call.{Call}
-use Rattle.sb_calls.specs.declared.call.TheConstants.{LOG_CALLS}
-use Rattle.sb_calls.specs.declared.op.Op.{Op}
 use Rattle.sb_calls.specs.declared.reply.Reply.{Reply}
 use Rattle.sb_checkpoint.specs.MemoryStore.{MemoryStoreOf}
 use Rattle.sb_frames.specs.Grammar.{Spells}
@@ -19,30 +17,27 @@ use Rattle.sb_frames.specs.declared.fault.FrameFault.{FrameFault}
 use Rattle.sb_frames.specs.declared.fault.FrameFault.TheVariants.{BadLength}
 use Rattle.sb_frames.specs.declared.frame.Frame.{Frame}
 use Rattle.sb_frames.specs.declared.frame.Frame.TheVariants as frame
-use Rattle.sb_replica.proofs.AcceptedEntries.{next_number}
-use Rattle.sb_replica.specs.Hearing.{all_of, whole_frame, heard_of, heard, after_frame, Hears}
-use Rattle.sb_replica.specs.Replica.{ReplicaOf, beside_of}
+use Rattle.sb_replica.specs.Hearing.{all_of, whole_frame, heard_of, heard, heard_next, after_frame, Hears}
+use Rattle.sb_replica.specs.Replica.{ReplicaOf, log_of, with_log}
 use Rattle.sb_replica.specs.declared.heard.Heard.{Heard}
-use Rattle.sb_replica_log.specs.Offers.{offered, after_offer}
-use Rattle.sb_replica_log.specs.declared.offered.Offered.{Offered}
-use Rattle.sb_replica_log.specs.declared.offered.Offered.TheVariants as offer
-use Rattle.schedule_player.specs.Along.{IsBoardAlong}
+use Rattle.sb_replica_log.specs.Log.{LogOf}
+use Rattle.sb_replica_log.specs.Offers.{offered, after_offer, after_advance}
 use Rattle.schedule_player.specs.Bank.{BankOf, log_reply}
 use Rattle.schedule_player.specs.NodeAlong.{seen_node, IsEntryOf, IsToldBy, IsNodeAt, Arrives}
 use Rattle.schedule_player.specs.Numbered.{numbered, Every}
-use Rattle.schedule_player.specs.ReplicaMoves.{NodeOf, tells, acknowledged, answered, told_reply, reply_held, reply_in_node, entry_comes, frame_comes, delivered_to, note_of_heard}
+use Rattle.schedule_player.specs.ReplicaMoves.{NodeOf, tells, acknowledged, answered, told_reply, reply_held, reply_in_node, frame_comes, delivered_to, advanced, note_of_heard}
 use Rattle.schedule_player.specs.Seen.{stages_of, ops_of}
-use Rattle.schedule_player.specs.Stage.{Stage, Waits, IsOut, IsDone, is_undone}
+use Rattle.schedule_player.specs.Stage.{Stage, Waits, IsOut, IsDone}
 use Rattle.schedule_player.specs.declared.node.Node.{Node}
 use Rattle.schedule_text.specs.declared.note.Note.{Note}
 use Rattle.schedule_text.specs.declared.note.Note.TheVariants as note
-use Rattle.schedule_player.proofs.Along.{along_accepted}
 use Rattle.schedule_player.proofs.Finishing.{reply_by_names}
 use Rattle.schedule_player.proofs.Lists.{some_is, none_some, every_push}
-use Rattle.schedule_player.proofs.NodeMoves.{node_within}
+use Rattle.schedule_player.proofs.NodeMoves.{node_stored}
+use Rattle.schedule_player.proofs.Offering.{IsLogAlong, offer_along, advance_along, seeing, entry_alike, note_if, advance_alike}
 use Rattle.schedule_player.proofs.SeenReplies.{reply_if_done, reply_as_seen, within_log}
 use Rattle.schedule_player.proofs.SentFrames.{decoded_whole}
-use Rattle.schedule_player.proofs.Stages.{length-map, length_stages, undone_in_stages, stages_accepted}
+use Rattle.schedule_player.proofs.Stages.{length-map, length_stages}
 
 -- ---- telling
 
@@ -60,6 +55,7 @@ tells_frame bank r old outbound told place moved is e p by m =
         names = is.names;
         opening = is.opening;
         board = is.board;
+        held = is.held;
         kept = is.kept;
         hands = is.hands;
         inbound = is.inbound;
@@ -142,77 +138,23 @@ whole_spelled sent bytes spelled =
 ok_is : {x y : Frame} → ◌≡◌ {A = Result Frame FrameFault} (Ok x) (Ok y) → x ≡ y
 ok_is h = cc
 
--- the machine's answer to an entry, and what it sees then
-comes_so : (node : Node) (op : Op) (n : ℕ) (there past full : Bool)
-    → ◌≡◌ {A = NodeOf × Note} (if there then (seen_node node, note.Repeat n) else if past then (seen_node node, note.Gap (length_of node.replica.board))
-    else if full then (seen_node node, note.Busy (length_of node.replica.board))
-    else (record (seen_node node) { stages = stages_of node.replica.board ++ Waits ∷ [] }, note.Accepted n)) (
-      record (seen_node node) {
-        stages = stages_of (after_offer node.replica.board op (if there then offer.Repeat
-            else if past then offer.Gap (length_of node.replica.board) else if full then offer.Busy (length_of node.replica.board) else offer.Next));
-      },
-      note_of_heard (heard_of n (if there then offer.Repeat else if past then offer.Gap (length_of node.replica.board)
-          else if full then offer.Busy (length_of node.replica.board) else offer.Next)),
-    )
-comes_so node op n true past full = refl
-comes_so node op n false true full = refl
-comes_so node op n false false true = refl
-comes_so node op n false false false =
-    ap (λ s. (record (seen_node node) { stages = s }, note.Accepted n)) (sym (stages_accepted node.replica.board op))
-
--- no number of the log is past what a log takes
-within_limit : (a : Bool) (n : ℕ) → n ≤ LOG_CALLS → (a || nat_lt LOG_CALLS n) ≡ a
-within_limit true n le = refl
-within_limit false n le = le-ltb LOG_CALLS n le
-
-entry_alike : (bank : BankOf) (r : ℕ) (node : Node) (op : Op) (n : ℕ) → IsNodeAt bank r node → n ≤ LOG_CALLS
-    → entry_comes (seen_node node) n
-    ≡ (
-      record (seen_node node) { stages = stages_of (after_offer node.replica.board op (offered node.replica.board n)) },
-      note_of_heard (heard_of n (offered node.replica.board n)),
-    )
-entry_alike bank r node op n is within =
-    let board = node.replica.board in
-    let seen = seen_node node in
-    ap (λ m. if nat_le n m then (seen, note.Repeat n) else if nat_lt (suc m) n then (seen, note.Gap m)
-    else if count_by is_undone (stages_of board) == 1024 then (seen, note.Busy m)
-    else (record seen { stages = stages_of board ++ Waits ∷ [] }, note.Accepted n)) (length_stages board is.board.states)
-    ∙ ap (λ u. if nat_le n (length_of board) then (seen, note.Repeat n) else if nat_lt (suc (length_of board)) n then (seen, note.Gap (length_of board))
-    else if u == 1024 then (seen, note.Busy (length_of board))
-    else (record seen { stages = stages_of board ++ Waits ∷ [] }, note.Accepted n)) (undone_in_stages board)
-    ∙ comes_so node op n (nat_le n (length_of board)) (nat_lt (suc (length_of board)) n) (open_of board == 1024)
-    ∙ ap (λ p. (
-      record seen {
-        stages = stages_of (after_offer board op (if nat_le n (length_of board) then offer.Repeat
-            else if p then offer.Gap (length_of board) else if open_of board == 1024 then offer.Busy (length_of board) else offer.Next));
-      },
-      note_of_heard (heard_of n (if nat_le n (length_of board) then offer.Repeat else if p then offer.Gap (length_of board)
-          else if open_of board == 1024 then offer.Busy (length_of board) else offer.Next)),
-    ))
-    (sym (within_limit (nat_lt (suc (length_of board)) n) n within))
-
--- an entry leaves the cut
-cut_offered : (board : BoardOf Op) (op : Op) (answer : Offered) → (after_offer board op answer).cut ≡ board.cut
-cut_offered board op offer.Next = refl
-cut_offered board op offer.Repeat = refl
-cut_offered board op (offer.Gap size) = refl
-cut_offered board op (offer.Busy size) = refl
-
--- the board is beside the log after it
-offer_along : (bank : BankOf) (board : BoardOf Op) (call : Call) (n : ℕ) → IsBoardAlong (held_of bank.opening) (ops_of bank) board
-    → numbered bank.calls n ≡ Some call → (answer : Offered) → offered board n ≡ answer
-    → IsBoardAlong (held_of bank.opening) (ops_of bank) (after_offer board (resolved bank.names call) answer)
-offer_along bank board call n along here offer.Repeat is = along
-offer_along bank board call n along here (offer.Gap size) is = along
-offer_along bank board call n along here (offer.Busy size) is = along
-offer_along bank board call n along here offer.Next is =
-    along_accepted (held_of bank.opening) (ops_of bank) board (resolved bank.names call) along
-    (slice_get-map (resolved bank.names) bank.calls (length_of board)
-    ∙ ap (option_map (resolved bank.names)) (ap (numbered bank.calls) (sym (next_number board n is)) ∙ here))
-
 number_within : (calls : List Call) (n : ℕ) (call : Call) → numbered calls n ≡ Some call → n ≤ length calls
 number_within calls zero call here = absurd (none_some here)
 number_within calls (suc k) call here = let lt = slice_get_within calls k call here in omega (arith, lt)
+
+-- the replica's log, beside the whole one
+log_along : (bank : BankOf) (r : ℕ) (node : Node) → IsNodeAt bank r node → IsLogAlong bank (log_of node.replica)
+log_along bank r node is = record { board = is.board; held = is.held }
+
+-- a replica whose log alone changes
+arrives_so : (bank : BankOf) (r : ℕ) (old : Node) (new : ReplicaOf MemoryStoreOf) (log : LogOf) (n : Note) (moved : NodeOf × Note)
+    → IsNodeAt bank r old → new ≡ with_log old.replica log → IsLogAlong bank log
+    → moved ≡ (seeing (seen_node old) log, n) → Arrives bank r (record old { replica = new }) n moved
+arrives_so bank r old new log n moved is new_is along e = record {
+  along = subst (λ rep. IsNodeAt bank r (record old { replica = rep })) (sym new_is)
+      (node_stored bank r old (with_log old.replica log) is (record { id = refl; names = refl; opening = refl }) along.board along.held is.kept);
+  as_moved = e ∙ ap (λ rep. (seen_node (record old { replica = rep }), n)) (sym new_is);
+}
 
 pub delivers : (bank : BankOf) (r : ℕ) (old : Node) (new : ReplicaOf MemoryStoreOf) (place : ℕ) (bytes : List ℕ) (sent : Frame) (answer : Heard)
     → IsNodeAt bank r old → numbered old.inbound place ≡ Some sent → Spells sent bytes → Hears old.replica bytes answer new
@@ -227,26 +169,31 @@ delivers bank r old new place bytes sent answer is here spelled hears =
     by : IsEntryOf bank sent → sent ≡ hears.frame
         → Arrives bank r (record old { replica = new }) (note_of_heard answer) (delivered_to (seen_node old) place)
     by entry same =
-        let board = old.replica.board in
+        let log = log_of old.replica in
         let n = entry.number in
         let op = resolved bank.names entry.call in
         let frame_is : hears.frame ≡ frame.Entry n entry.call = sym same ∙ entry.frame_is in
-        let new_is : new ≡ record old.replica { board = after_offer board op (offered board n) } =
-        hears.after ∙ ap (λ f. record old.replica { board = after_frame old.replica.names board f }) frame_is
-        ∙ ap (λ names. record old.replica { board = after_offer board (resolved names entry.call) (offered board n) }) is.names in
-        let answer_is : answer ≡ heard_of n (offered board n) = hears.answer_is ∙ ap (heard board) frame_is in
+        let new_is : new ≡ with_log old.replica (after_offer log op (offered log.board n)) =
+        hears.after ∙ ap (λ f. with_log old.replica (after_frame old.replica.names log f)) frame_is
+        ∙ ap (λ names. with_log old.replica (after_offer log (resolved names entry.call) (offered log.board n))) is.names in
+        let answer_is : answer ≡ heard_of n (offered log.board n) = hears.answer_is ∙ ap (heard log.board) frame_is in
         let few = is.few in
         let inside = number_within bank.calls n entry.call entry.in_log in
-        record {
-          along = node_within bank r old (record old { replica = new }) is
-              (record { beside = ap beside_of new_is; inbound = refl; outbound = refl })
-              (subst (λ rep. IsBoardAlong (held_of bank.opening) (ops_of bank) rep.board) (sym new_is)
-              (offer_along bank board entry.call n is.board entry.in_log (offered board n) refl)) is.hands;
-          as_moved =
-              ap (frame_comes (seen_node old)) (here ∙ ap (λ f. Some f) entry.frame_is)
-              ∙ entry_alike bank r old op n is (omega (arith, inside, few))
-              ∙ ap (λ a. (record (seen_node old) { stages = stages_of (after_offer board op (offered board n)) }, note_of_heard a)) (sym answer_is)
-              ∙ ap (λ cut. (record (seen_node old) { stages = stages_of (after_offer board op (offered board n)); cut = cut }, note_of_heard answer))
-              (sym (cut_offered board op (offered board n)))
-              ∙ ap (λ rep. (seen_node (record old { replica = rep }), note_of_heard answer)) (sym new_is);
-        }
+        arrives_so bank r old new (after_offer log op (offered log.board n)) (note_of_heard answer) (delivered_to (seen_node old) place) is new_is
+        (offer_along bank log entry.call n (log_along bank r old is) entry.in_log (offered log.board n) refl)
+        (ap (frame_comes (seen_node old)) (here ∙ ap (λ f. Some f) entry.frame_is)
+        ∙ entry_alike (seen_node old) log op n is.board.states (omega (arith, inside, few))
+        ∙ ap (λ a. (seeing (seen_node old) (after_offer log op (offered log.board n)), note_of_heard a)) (sym answer_is))
+
+-- ---- taking what is held
+
+pub advances : (bank : BankOf) (r : ℕ) (old : Node) (new : ReplicaOf MemoryStoreOf) (answer : Option Heard) → IsNodeAt bank r old
+    → answer ≡ heard_next (log_of old.replica)
+    → new ≡ with_log old.replica (after_advance (log_of old.replica))
+    → Arrives bank r (record old { replica = new }) (note_if answer) (advanced (seen_node old))
+advances bank r old new answer is answer_is new_is =
+    let log = log_of old.replica in
+    arrives_so bank r old new (after_advance log) (note_if answer) (advanced (seen_node old)) is new_is
+    (advance_along bank log (log_along bank r old is))
+    (advance_alike (seen_node old) log is.board.states
+    ∙ ap (λ a. (seeing (seen_node old) (after_advance log), note_if a)) (sym answer_is))

@@ -1,5 +1,5 @@
 -- Where the machine finds something to do.
-use Rattle.std.proofs.Common.{◌≡◌, ◌≢◌, Bool, true, false, ℕ, suc, Option, Some, None, [], ◌∷◌, ◌++◌, refl, sym, ap, ◌∙◌}
+use Rattle.std.proofs.Common.{◌≡◌, ◌≢◌, Bool, true, false, ℕ, suc, ◌+◌, Option, Some, None, refl, sym, ap, ◌∙◌}
 use Rattle.std.specs.Prelude.{slice_get, if◌then◌else◌, nat_le, nat_lt, ◌==◌}
 use Rattle.std.proofs.lemmas.Bool.{true≢false}
 use Rattle.sb_calls.specs.declared.reply.Reply.{Reply}
@@ -9,9 +9,8 @@ use Rattle.sb_frames.specs.declared.frame.Frame.{Frame}
 use Rattle.schedule_player.specs.Bank.{BankOf}
 use Rattle.schedule_player.specs.NodeAlong.{IsEntryOf}
 use Rattle.schedule_player.specs.Numbered.{numbered}
-use Rattle.schedule_player.specs.ReplicaMoves.{NodeOf, length_in, undone_in, told_reply, answered, reply_in_node, sent, frame_comes, delivered_to, cut_after, cut_off, put_ends, undone_up_to, marked_to, marked}
-use Rattle.schedule_player.specs.Stage.{Waits}
-use Rattle.schedule_player.specs.World.{WorldOf, MakesCut, moved_if, moved_at}
+use Rattle.schedule_player.specs.ReplicaMoves.{NodeOf, length_in, undone_in, told_reply, answered, reply_in_node, sent, holds, accepts, frame_comes, delivered_to, advanced, cut_after, cut_off, put_ends, undone_up_to, marked_to, marked}
+use Rattle.schedule_player.specs.World.{WorldOf, MakesCut, TakesNext, moved_if, moved_at}
 use Rattle.schedule_text.specs.declared.note.Note.{Note}
 use Rattle.schedule_text.specs.declared.note.Note.TheVariants as note
 
@@ -34,17 +33,21 @@ pub sends : (node : NodeOf) (entry : Option Frame) → entry ≢ None → is_not
 sends node (Some entry) there = refl
 sends node None there = absurd (there refl)
 
--- what an entry comes to, by these tests
-abbrev pub entry_by : NodeOf → ℕ → Bool → Bool → Bool → NodeOf × Note
-entry_by node n there past full =
-    if there then (node, note.Repeat n) else if past then (node, note.Gap (length_in node))
-    else if full then (node, note.Busy (length_in node)) else (record node { stages = node.stages ++ Waits ∷ [] }, note.Accepted n)
+-- what the next entry comes to, and any entry, by these tests
+abbrev pub next_by : NodeOf → ℕ → Bool → NodeOf × Note
+next_by node n full = if full then (node, note.Busy (length_in node)) else (accepts node, note.Accepted n)
 
-entry_does : (node : NodeOf) (n : ℕ) (there past full : Bool) → is_nothing (entry_by node n there past full).1 ≡ false
-entry_does node n true past full = refl
-entry_does node n false true full = refl
-entry_does node n false false true = refl
-entry_does node n false false false = refl
+abbrev pub entry_by : NodeOf → ℕ → Bool → Bool → Bool → Bool → NodeOf × Note
+entry_by node n there past early full =
+    if there then (node, note.Repeat n) else if past then (node, note.Gap (length_in node))
+    else if early then (holds node n, note.Held n) else next_by node n full
+
+entry_does : (node : NodeOf) (n : ℕ) (there past early full : Bool) → is_nothing (entry_by node n there past early full).1 ≡ false
+entry_does node n true past early full = refl
+entry_does node n false true early full = refl
+entry_does node n false false true full = refl
+entry_does node n false false false true = refl
+entry_does node n false false false false = refl
 
 pub comes_to : (bank : BankOf) (node : NodeOf) (place : ℕ) (found : Option Frame) → numbered node.inbound place ≡ found → found ≢ None
     → ((entry : Frame) → found ≡ Some entry → IsEntryOf bank entry) → is_nothing (delivered_to node place).1 ≡ false
@@ -52,7 +55,8 @@ comes_to bank node place None here there is = absurd (there refl)
 comes_to bank node place (Some entry) here there is =
     let entry_is = is entry refl in
     ap (λ f. is_nothing (frame_comes node f).1) (here ∙ ap (λ f. Some f) entry_is.frame_is)
-    ∙ entry_does node entry_is.number (nat_le entry_is.number (length_in node)) (nat_lt (suc (length_in node)) entry_is.number) (undone_in node == 1024)
+    ∙ entry_does node entry_is.number (nat_le entry_is.number (length_in node)) (nat_lt (length_in node + 64) entry_is.number)
+    (nat_lt (suc (length_in node)) entry_is.number) (undone_in node == 1024)
 
 replies : (node : NodeOf) (n : ℕ) (reply : Option Reply) → reply ≢ None → is_nothing (told_reply node n reply).1 ≡ false
 replies node n (Some reply) there = refl
@@ -84,3 +88,9 @@ cuts_at world r node here none = (
   length_in node,
   ap (λ found. (moved_if world r (λ other. cut_off other) found).1) here ∙ ap (λ cut. (cut_after node cut).1) none,
 )
+
+-- and takes what it holds for the next number
+pub takes_next_at : (world : WorldOf) (r : ℕ) (node : NodeOf) → slice_get world.nodes r ≡ Some node
+    → ((n : ℕ) × ((advanced node).1 ≡ note.Accepted n)) → TakesNext world r
+takes_next_at world r node here takes =
+    (takes.0, ap (λ found. (moved_if world r (λ other. advanced other) found).1) here ∙ takes.1)

@@ -1,5 +1,5 @@
 -- What a replica holds, beside the whole log run one by one.
-use Rattle.std.specs.Prelude.{◌≡◌, ℕ, suc, ◌+◌, ◌≤◌, ℤ, Some, List, ◌++◌, length, slice_get}
+use Rattle.std.specs.Prelude.{◌≡◌, ℕ, suc, ◌+◌, ◌≤◌, ℤ, Option, Some, List, ◌++◌, length, slice_get}
 use Rattle.sb_calls.specs.Behaviour.{declared_cowns, effect_of}
 use Rattle.sb_calls.specs.Cowns.{held_of}
 use Rattle.sb_calls.specs.OneByOne.{inputs_of, held_after, held_after_first, reply_by_log}
@@ -47,3 +47,8 @@ module _ (opening : List ℤ) (log : List Op) where
     pub columns : held_of checkpoint.columns
         ≡ held_after_first declared_cowns effect_of opening log (length checkpoint.replies)
     pub replies : AreReplies checkpoint.replies
+
+-- what is held after the first so many entries of the log, the next number first, is the log's at its number
+abbrev pub AreHeldAlong : List Op → ℕ → List (Option Op) → Type 0
+AreHeldAlong log size held =
+    (k : ℕ) (op : Op) → slice_get held k ≡ Some (Some op) → slice_get log (size + k) ≡ Some op

@@ -1,5 +1,5 @@
 -- A node of the code, as the machine sees it, and beside the log.
-use Rattle.std.specs.Prelude.{◌≡◌, ℕ, ◌≤◌, Option, Some, IfSome, List, length, map, option_map}
+use Rattle.std.specs.Prelude.{◌≡◌, ℕ, ◌≤◌, Option, Some, IfSome, List, length, map, is_some, option_map}
 use Rattle.sb_rows.specs.Rows.{SameCustomers}
 use Rattle.sb_calls.specs.Cowns.{held_of}
 use Rattle.sb_calls.specs.declared.call.Call.{Call}
@@ -9,8 +9,9 @@ use Rattle.sb_checkpoint.specs.Checkpoint.{CheckpointOf}
 use Rattle.sb_frames.specs.declared.frame.Frame.{Frame}
 use Rattle.sb_frames.specs.declared.frame.Frame.TheVariants as frame
 use Rattle.sb_replica.specs.Restarting.{IsStoredAs}
+use Rattle.cown_board.specs.Board.{length_of}
 use Rattle.cown_board.specs.Job.{JobOf}
-use Rattle.schedule_player.specs.Along.{IsBoardAlong, IsJobAlong, IsCheckpointAlong}
+use Rattle.schedule_player.specs.Along.{IsBoardAlong, IsJobAlong, IsCheckpointAlong, AreHeldAlong}
 use Rattle.schedule_player.specs.Bank.{BankOf, log_reply}
 use Rattle.schedule_player.specs.Numbered.{numbered, Every}
 use Rattle.schedule_player.specs.ReplicaMoves.{NodeOf}
@@ -27,6 +28,7 @@ seen_node node = record {
   hands = map (option_map number_in) node.hands.items;
   kept = kept_in node.replica.store.slot;
   cut = node.replica.board.cut;
+  held = map is_some node.replica.held;
   inbound = node.inbound;
   outbound = node.outbound;
 }
@@ -65,6 +67,7 @@ pub record IsNodeAt (bank : BankOf) (r : ℕ) (node : Node) : Type 0 where
   pub names : node.replica.names ≡ bank.names
   pub opening : node.replica.opening ≡ bank.opening
   pub board : IsBoardAlong (held_of bank.opening) (ops_of bank) node.replica.board
+  pub held : AreHeldAlong (ops_of bank) (length_of node.replica.board) node.replica.held
   pub kept : IsKeptAlong bank node.replica.store.slot
   pub hands : Every (IsHandAlong bank) node.hands.items
   pub inbound : Every (IsEntryOf bank) node.inbound

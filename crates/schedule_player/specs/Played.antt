@@ -33,6 +33,7 @@ ask_in (event.Finish r worker) = None
 ask_in (event.Mark r how) = None
 ask_in (event.Restart r) = None
 ask_in (event.Cut r) = None
+ask_in (event.Next r) = None
 ask_in (event.Audit a b) = None
 
 -- the log that events make: the first ask of each key, in order

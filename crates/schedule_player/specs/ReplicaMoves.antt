@@ -1,5 +1,5 @@
 -- The reference machine at one replica: what each event does to its numbers, and the note on it.
-use Rattle.std.specs.Prelude.{ℕ, suc, nat_le, nat_lt, ◌==◌, if◌then◌else◌, Option, Some, None, List, [], ◌∷◌, ◌++◌, length, take, count_by, slice_get, slice_set}
+use Rattle.std.specs.Prelude.{ℕ, suc, ◌+◌, ◌-◌, nat_le, nat_lt, ◌==◌, if◌then◌else◌, Bool, true, false, Option, Some, None, List, [], ◌∷◌, ◌++◌, length, take, drop, count_by, slice_get, slice_set}
 use Rattle.sb_calls.specs.declared.reply.Reply.{Reply}
 use Rattle.sb_checkpoint.specs.declared.memory_store.How.{How}
 use Rattle.sb_checkpoint.specs.declared.memory_store.How.TheVariants as how
@@ -15,20 +15,32 @@ use Rattle.schedule_text.specs.declared.note.Note.{Note}
 use Rattle.schedule_text.specs.declared.note.Note.TheVariants as note
 
 -- the entries that it accepted, by number from 1; what each worker has in hand, by worker from 1; the length of the
--- checkpoint that is kept; that of its cut, where it has one; and all frames that were ever sent to it and from it, by
--- place from 1
+-- checkpoint that is kept; that of its cut, where it has one; which of the next 64 entries it holds, the next one
+-- first; and all frames that were ever sent to it and from it, by place from 1
 pub record NodeOf : Type 0 where
   pub stages : List Stage
   pub hands : List (Option ℕ)
   pub kept : ℕ
   pub cut : Option ℕ
+  pub held : List Bool
   pub inbound : List Frame
   pub outbound : List Frame
 
+-- none of the next 64 is held
+abbrev pub none_held : List Bool
+none_held = copies 64 false
+
 -- a replica of so many workers at the opening
 abbrev pub opened_node : ℕ → NodeOf
-opened_node workers =
-    record { stages = []; hands = copies workers None; kept = 0; cut = None; inbound = []; outbound = [] }
+opened_node workers = record {
+  stages = [];
+  hands = copies workers None;
+  kept = 0;
+  cut = None;
+  held = none_held;
+  inbound = [];
+  outbound = [];
+}
 
 -- how many entries it accepted, and how many of them are undone
 abbrev pub length_in : NodeOf → ℕ
@@ -43,13 +55,25 @@ undone_up_to node number = count_by is_undone (take number node.stages)
 
 -- ---- a frame comes
 
--- the first case that holds; only the next entry changes anything
+-- one that is too early is held
+abbrev pub holds : NodeOf → ℕ → NodeOf
+holds node number = record node { held = slice_set node.held (number - length_in node - 1) true }
+
+-- the next one waits for its turn, and is held no more
+abbrev pub accepts : NodeOf → NodeOf
+accepts node = record node { stages = node.stages ++ Waits ∷ []; held = drop 1 node.held ++ false ∷ [] }
+
+abbrev pub next_comes : NodeOf → ℕ → NodeOf × Note
+next_comes node number =
+    if undone_in node == 1024 then (node, note.Busy (length_in node)) else (accepts node, note.Accepted number)
+
+-- the first case that holds
 abbrev pub entry_comes : NodeOf → ℕ → NodeOf × Note
 entry_comes node number =
     if nat_le number (length_in node) then (node, note.Repeat number)
-    else if nat_lt (suc (length_in node)) number then (node, note.Gap (length_in node))
-    else if undone_in node == 1024 then (node, note.Busy (length_in node))
-    else (record node { stages = node.stages ++ Waits ∷ [] }, note.Accepted number)
+    else if nat_lt (length_in node + 64) number then (node, note.Gap (length_in node))
+    else if nat_lt (suc (length_in node)) number then (holds node number, note.Held number)
+    else next_comes node number
 
 abbrev pub frame_comes : NodeOf → Option Frame → NodeOf × Note
 frame_comes node (Some (frame.Entry number call)) = entry_comes node number
@@ -62,6 +86,17 @@ frame_comes node None = (node, note.Nothing)
 
 abbrev pub delivered_to : NodeOf → ℕ → NodeOf × Note
 delivered_to node place = frame_comes node (numbered node.inbound place)
+
+-- ---- it takes what it holds
+
+abbrev pub next_taken : NodeOf → Option Bool → NodeOf × Note
+next_taken node (Some true) = next_comes node (suc (length_in node))
+next_taken node (Some false) = (node, note.Nothing)
+next_taken node None = (node, note.Nothing)
+
+-- the entry that is held for the next number
+abbrev pub advanced : NodeOf → NodeOf × Note
+advanced node = next_taken node (slice_get node.held 0)
 
 -- ---- a worker takes
 
@@ -142,9 +177,10 @@ marked_to node how None =
 abbrev pub marked : NodeOf → How → NodeOf × Note
 marked node how = marked_to node how node.cut
 
--- the cut is gone; hands and frames stay as they are
+-- the cut and what was held are gone; hands and frames stay as they are
 abbrev pub restarted : NodeOf → NodeOf × Note
-restarted node = (record node { stages = copies node.kept IsDone; cut = None }, note.Restarted node.kept)
+restarted node =
+    (record node { stages = copies node.kept IsDone; cut = None; held = none_held }, note.Restarted node.kept)
 
 -- ---- a replica tells
 
@@ -187,5 +223,6 @@ abbrev pub note_of_heard : Heard → Note
 note_of_heard (heard.Accepted number) = note.Accepted number
 note_of_heard (heard.Repeat number) = note.Repeat number
 note_of_heard (heard.Gap size) = note.Gap size
+note_of_heard (heard.Held number) = note.Held number
 note_of_heard (heard.Busy size) = note.Busy size
 note_of_heard heard.Ignored = note.Nothing

@@ -15,7 +15,7 @@ use Rattle.sb_sequencer.specs.declared.answer.AskFault.TheVariants.{Mismatch, Lo
 use Rattle.sb_sequencer.specs.declared.answer.Numbered.TheVariants.{New, Repeat}
 use Rattle.schedule_player.specs.Bank.{BankOf, log_rows}
 use Rattle.schedule_player.specs.Numbered.{numbered, copies}
-use Rattle.schedule_player.specs.ReplicaMoves.{NodeOf, opened_node, length_in, undone_in, sent, sent_all, delivered_to, taken, finished_by, cut_off, marked, restarted, acknowledged, answered}
+use Rattle.schedule_player.specs.ReplicaMoves.{NodeOf, opened_node, length_in, undone_in, sent, sent_all, delivered_to, advanced, taken, finished_by, cut_off, marked, restarted, acknowledged, answered}
 use Rattle.schedule_text.specs.declared.event.Event.{Event}
 use Rattle.schedule_text.specs.declared.event.Event.TheVariants as event
 use Rattle.schedule_text.specs.declared.note.AuditNote.{AuditNote}
@@ -134,6 +134,7 @@ moved world (event.Finish r worker) = moved_at world r (λ node. finished_by (ba
 moved world (event.Mark r how) = moved_at world r (λ node. marked node how)
 moved world (event.Restart r) = moved_at world r (λ node. restarted node)
 moved world (event.Cut r) = moved_at world r (λ node. cut_off node)
+moved world (event.Next r) = moved_at world r (λ node. advanced node)
 moved world (event.Audit a b) =
     (world, audited (bank_of world) a b (slice_get world.nodes a) (slice_get world.nodes b))
 
@@ -152,6 +153,7 @@ Moves old (event.Finish r worker) note new = moved old (event.Finish r worker) �
 Moves old (event.Mark r how) note new = moved old (event.Mark r how) ≡ (new, note)
 Moves old (event.Restart r) note new = moved old (event.Restart r) ≡ (new, note)
 Moves old (event.Cut r) note new = moved old (event.Cut r) ≡ (new, note)
+Moves old (event.Next r) note new = moved old (event.Next r) ≡ (new, note)
 Moves old (event.Audit a b) note new = moved old (event.Audit a b) ≡ (new, note)
 
 -- ---- where memory may be wanted
@@ -164,8 +166,12 @@ FindsWork world event = (moved world event).1 ≢ note.Nothing
 abbrev pub MakesCut : WorldOf → ℕ → Type 0
 MakesCut world r = (size : ℕ) × ((moved world (event.Cut r)).1 ≡ note.Cut size)
 
--- never for a take, a finish or what the sequencer hears; an ask wants it for a new number alone, and a cut only where
--- it is made
+-- where the machine takes what is held
+abbrev pub TakesNext : WorldOf → ℕ → Type 0
+TakesNext world r = (number : ℕ) × ((moved world (event.Next r)).1 ≡ note.Accepted number)
+
+-- never for a take, a finish or what the sequencer hears; an ask wants it for a new number alone, a cut only where it
+-- is made, and what is held only where it is taken
 abbrev pub MayWantMemory : WorldOf → Event → Type 0
 MayWantMemory world (event.Ask client request call) =
     IsAnswered world.sequencer.log (record { client = client; request = request }, call) (Err OutOfMemory)
@@ -180,4 +186,5 @@ MayWantMemory world (event.Answer r number) = FindsWork world (event.Answer r nu
 MayWantMemory world (event.Mark r how) = FindsWork world (event.Mark r how)
 MayWantMemory world (event.Restart r) = FindsWork world (event.Restart r)
 MayWantMemory world (event.Cut r) = MakesCut world r
+MayWantMemory world (event.Next r) = TakesNext world r
 MayWantMemory world (event.Audit a b) = FindsWork world (event.Audit a b)

@@ -5,7 +5,8 @@ ghost use Rattle.cown_board.specs.Board.{reply_in};
 ghost use Rattle.schedule_player.specs.Bank.{BankOf};
 ghost use Rattle.schedule_player.specs.NodeAlong.{IsEntryOf, IsNodeAt, Arrives, IsAsBefore, seen_node};
 ghost use Rattle.schedule_player.specs.Numbered.{numbered, copies, Every};
-ghost use Rattle.schedule_player.specs.ReplicaMoves.{opened_node, taken, finished_by, delivered_to, sent, sent_all, acknowledged, answered, cut_off, marked, restarted, note_of_heard};
+ghost use Rattle.schedule_player.specs.ReplicaMoves.{opened_node, taken, finished_by, delivered_to, advanced, sent, sent_all, acknowledged, answered, cut_off, marked, restarted, note_of_heard};
+ghost use Rattle.schedule_text.specs.declared.note.Note.TheVariants as notes;
 
 use crate::fault::StepFault;
 use crate::frames::Frames;
@@ -35,6 +36,7 @@ fn heard_note(heard: Heard) -> Note
         Heard::Accepted(number) => Note::Accepted(number),
         Heard::Repeat(number) => Note::Repeat(number),
         Heard::Gap(length) => Note::Gap(length),
+        Heard::Held(number) => Note::Held(number),
         Heard::Busy(length) => Note::Busy(length),
         Heard::Ignored => Note::Nothing,
     }
@@ -198,6 +200,21 @@ impl Node {
             Ok(length) => Ok(Note::Cut(length)),
             Err(CutFault::Pending(length)) => Ok(Note::Pending(length)),
             Err(CutFault::OutOfMemory) => Err(StepFault::OutOfMemory),
+        }
+    }
+
+    /// The replica takes the entry that it holds for its next number, if it holds one.
+    pub fn advance(&mut self) -> Result<Note, StepFault>
+        ensures moves { (bank : BankOf) (r : ℕ) → IsNodeAt bank r self.old → IfOk result (λ note.
+            Arrives bank r self.new note (advanced (seen_node self.old))) }
+        ensures err { OnErr result (self.new ≡ self.old) }
+        ensures takes { OnErr result
+            ((number : ℕ) × ((advanced (seen_node self.old)).1 ≡ notes.Accepted number)) }
+    {
+        match self.replica.advance() {
+            Ok(Some(heard)) => Ok(heard_note(heard)),
+            Ok(None) => Ok(Note::Nothing),
+            Err(_) => Err(StepFault::OutOfMemory),
         }
     }
 

@@ -54,14 +54,16 @@ impl World {
             Event::Mark { replica, how } => self.mark(replica, how),
             Event::Restart { replica } => self.restart(replica),
             Event::Cut { replica } => self.cut(replica),
+            Event::Next { replica } => self.next(replica),
             Event::Audit { first, second } => self.compare(first, second),
         }
     }
 
     /// One event happens, and is noted.
     ///
-    /// Fails where memory is refused, which is never in a take, a finish or a delivery to the sequencer, nor where a cut
-    /// is there already, and nowhere where the event names something that doesn't exist. Nothing is changed then.
+    /// Fails where memory is refused, which is never in a take, a finish or a delivery to the sequencer, nor where a
+    /// cut is there already or nothing that is held is taken, and nowhere where the event names something that doesn't
+    /// exist. Nothing is changed then.
     pub fn step(&mut self, event: Event) -> Result<Note, StepFault>
         // The world moves as the reference machine does.
         ensures moves { IfOk result (λ note. Moves self.old event note self.new) }

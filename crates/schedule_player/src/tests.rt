@@ -8,6 +8,7 @@ use std::process::Abort;
 use std::test::Fail;
 
 mod audits;
+mod disorder;
 mod lists;
 mod network;
 mod restarts;

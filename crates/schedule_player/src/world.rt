@@ -6,9 +6,9 @@ ghost use Rattle.sb_sequencer.specs.Entries.{entry_of, resent};
 ghost use Rattle.sb_sequencer.specs.declared.answer.AskFault.TheVariants as fault;
 ghost use Rattle.schedule_player.specs.Numbered.{numbered};
 ghost use Rattle.schedule_player.specs.Observed.{reply_at};
-ghost use Rattle.schedule_player.specs.ReplicaMoves.{NodeOf, acknowledged, answered, cut_off, delivered_to, finished_by, marked, restarted, sent, sent_all, taken};
+ghost use Rattle.schedule_player.specs.ReplicaMoves.{NodeOf, acknowledged, advanced, answered, cut_off, delivered_to, finished_by, marked, restarted, sent, sent_all, taken};
 ghost use Rattle.schedule_text.specs.declared.event.Event.TheVariants as event;
-ghost use Rattle.schedule_player.specs.World.{Asks, FindsWork, MakesCut, bank_of, heard_from, moved_at};
+ghost use Rattle.schedule_player.specs.World.{Asks, FindsWork, MakesCut, TakesNext, bank_of, heard_from, moved_at};
 
 use crate::fault::StepFault;
 use crate::hearing::hear;
@@ -186,6 +186,18 @@ impl World {
             return Ok(Note::Nothing);
         };
         node.cut()
+    }
+
+    /// A replica takes the entry that it holds for its next number, if it holds one.
+    pub(crate) fn next(&mut self, replica: u32) -> Result<Note, StepFault>
+        ensures moves { IfOk result (λ note. moved_at self.old replica advanced ≡ (self.new, note)) }
+        ensures err { OnErr result (self.new ≡ self.old) }
+        ensures wanted { OnErr result (TakesNext self.old replica) }
+    {
+        let Some(node) = self.nodes.get_mut(replica as usize) else {
+            return Ok(Note::Nothing);
+        };
+        node.advance()
     }
 
     /// A replica puts a checkpoint, and the put ends so.

@@ -95,6 +95,7 @@ replica_event verb rest =
     else if bytes_eq verb (codes "mark") then of_mark rest
     else if bytes_eq verb (codes "restart") then of_one event.Restart rest
     else if bytes_eq verb (codes "cut") then of_one event.Cut rest
+    else if bytes_eq verb (codes "next") then of_one event.Next rest
     else if bytes_eq verb (codes "audit") then of_two event.Audit rest
     else Err UnknownEvent
 

@@ -29,6 +29,7 @@ note_line note.LogFull = codes "log full"
 note_line (note.Sent place) = codes "sent " ++ decimal place
 note_line (note.Resent count) = codes "resent " ++ decimal count
 note_line (note.Accepted number) = codes "accepted " ++ decimal number
+note_line (note.Held number) = codes "held " ++ decimal number
 note_line (note.Gap size) = codes "gap " ++ decimal size
 note_line (note.Busy size) = codes "busy " ++ decimal size
 note_line (note.Recorded size) = codes "recorded " ++ decimal size

@@ -87,6 +87,11 @@ pub enum Event {
         /// Who.
         replica: u32,
     },
+    /// A replica takes the entry that it holds for its next number.
+    Next {
+        /// Who.
+        replica: u32,
+    },
     /// Two replicas are compared.
     Audit {
         /// One.

@@ -94,6 +94,10 @@ fn replica_event(verb: &[u8], rest: Option<&[u8]>) -> Result<Event, EventFault>
         let replica = one_number(rest)?;
         return Ok(Event::Cut { replica });
     }
+    if verb == b"next".as_slice() {
+        let replica = one_number(rest)?;
+        return Ok(Event::Next { replica });
+    }
     if verb == b"audit".as_slice() {
         let (first, second) = two_numbers(rest)?;
         return Ok(Event::Audit { first, second });

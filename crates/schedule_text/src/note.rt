@@ -19,7 +19,9 @@ pub enum Note {
     Resent(u64),
     /// The entry with this number is the last of the replica's log now.
     Accepted(u64),
-    /// The replica's log, of this length, lacks an entry before it.
+    /// The entry with this number came too early, and the replica holds it.
+    Held(u64),
+    /// The replica's log, of this length, lacks too many entries before it.
     Gap(u64),
     /// It is the next entry for the log, of this length, but as many as may be are unfinished.
     Busy(u64),

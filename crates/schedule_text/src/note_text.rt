@@ -34,6 +34,7 @@ fn push_note(note: Note, out: &mut Vec<u8>) -> Result<(), AllocError>
         Note::Sent(place) => push_numbered(b"sent ", place, out),
         Note::Resent(count) => push_numbered(b"resent ", count, out),
         Note::Accepted(number) => push_numbered(b"accepted ", number, out),
+        Note::Held(number) => push_numbered(b"held ", number, out),
         Note::Gap(size) => push_numbered(b"gap ", size, out),
         Note::Busy(size) => push_numbered(b"busy ", size, out),
         Note::Recorded(size) => push_numbered(b"recorded ", size, out),

@@ -81,8 +81,17 @@ fn two_hands_out_of_order(rt: HostRuntime) -> Result<(), Fail> {
 fn frames_repeated_and_out_of_order(rt: HostRuntime) -> Result<(), Fail> {
     let events = b"ask 1 1 deposit alice 1.00\nask 1 2 deposit bob 1.00\nsend 0 1\nsend 0 2\n\
           to 0 2\nto 0 1\nto 0 1\nto 0 2\n";
-    let output = b"new 1\nnew 2\nsent 1\nsent 2\ngap 0\naccepted 1\nrepeat 1\naccepted 2\n\
+    let output = b"new 1\nnew 2\nsent 1\nsent 2\nheld 2\naccepted 1\nrepeat 1\naccepted 2\n\
           replica 0 length 2 busy\n";
+    expect_played(&rt, rt.alloc(), b"nodes 1 workers 2\n", events, output)
+}
+
+#[test]
+fn what_is_held_is_taken_once_it_is_next(rt: HostRuntime) -> Result<(), Fail> {
+    let events = b"ask 1 1 deposit alice 1.00\nask 1 2 deposit bob 1.00\nsend 0 1\nsend 0 2\n\
+          to 0 2\nnext 0\nto 0 1\nnext 0\nnext 0\n";
+    let output = b"new 1\nnew 2\nsent 1\nsent 2\nheld 2\nnothing\naccepted 1\naccepted 2\n\
+          nothing\nreplica 0 length 2 busy\n";
     expect_played(&rt, rt.alloc(), b"nodes 1 workers 2\n", events, output)
 }
 
@@ -154,10 +163,10 @@ fn audits_of_two_replicas(rt: HostRuntime) -> Result<(), Fail> {
 fn what_is_not_there_is_noted_as_nothing(rt: HostRuntime) -> Result<(), Fail> {
     let events = b"send 0 1\nsend 1 1\nresend 1\nresend 0\nto 0 1\nto 0 0\nack 7\nanswer 0 1\n\
           from 0 1\ntake 0 2 0\ntake 0 0 0\nfinish 0 17\nmark 1 ok\nrestart 4294967295\n\
-          audit 0 1\nask 0 0 balance zed\n";
+          next 0\nnext 1\naudit 0 1\nask 0 0 balance zed\n";
     let output = b"nothing\nnothing\nnothing\nresent 0\nnothing\nnothing\nnothing\nnothing\n\
-          nothing\nnothing\nnothing\nnothing\nnothing\nnothing\nnothing\nnew 1\n\
-          replica 0 length 0 idle\nalice 100.00 50.00\nbob 0.00 20.00\n\
+          nothing\nnothing\nnothing\nnothing\nnothing\nnothing\nnothing\nnothing\nnothing\n\
+          new 1\nreplica 0 length 0 idle\nalice 100.00 50.00\nbob 0.00 20.00\n\
           carol 10.00 0.00\ntotal 180.00\n";
     expect_played(&rt, rt.alloc(), b"nodes 1 workers 1\n", events, output)
 }
@@ -184,6 +193,21 @@ fn push_lines(out: &mut Vec<u8>, before: &[u8], count: u32, after: &[u8]) -> Res
         out.extend_from_slice(after)?;
     }
     Ok(())
+}
+
+#[test]
+fn entries_as_early_as_may_be(rt: HostRuntime) -> Result<(), Fail> {
+    let alloc = rt.alloc();
+    let mut events = Vec::new(alloc);
+    push_lines(&mut events, b"ask 1 ", 65, b" deposit alice 0.01\n")?;
+    push_lines(&mut events, b"send 0 ", 65, b"\n")?;
+    events.extend_from_slice(b"to 0 65\nto 0 64\nto 0 1\nto 0 65\n")?;
+    let mut output = Vec::new(alloc);
+    push_lines(&mut output, b"new ", 65, b"\n")?;
+    push_lines(&mut output, b"sent ", 65, b"\n")?;
+    output.extend_from_slice(b"gap 0\nheld 64\naccepted 1\nheld 65\n")?;
+    output.extend_from_slice(b"replica 0 length 1 busy\n")?;
+    expect_played(&rt, alloc, b"nodes 1 workers 2\n", &events, &output)
 }
 
 #[test]

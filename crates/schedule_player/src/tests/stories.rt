@@ -8,12 +8,12 @@ fn lost_and_repeated(rt: HostRuntime) {
           ask 1 1 deposit ben 20.00\nask 2 1 check ann 180.00\nask 1 2 amalgamate ben ann\n\
           send 0 1\nsend 0 2\nsend 0 3\nto 0 3\nto 0 1\nto 0 1\nto 0 3\n\
           ask 1 1 deposit ben 20.00\nask 1 1 deposit ben 25.00\nack 0\nfrom 0 1\nresend 0\n\
-          to 0 5\nto 0 4\nto 0 5\nto 0 2\nack 0\nfrom 0 2\nfrom 0 1\nresend 0\ntake 0 1 0\n\
+          to 0 5\nto 0 4\nnext 0\nto 0 2\nack 0\nfrom 0 2\nfrom 0 1\nresend 0\ntake 0 1 0\n\
           take 0 2 0\nfinish 0 2\ntake 0 2 0\nfinish 0 1\ntake 0 1 0\nfinish 0 1\nanswer 0 1\n\
           answer 0 3\nfrom 0 4\nfrom 0 3\nfrom 0 3\n";
     let output =
-        b"new 1\nnew 2\nnew 3\nsent 1\nsent 2\nsent 3\ngap 0\naccepted 1\nrepeat 1\ngap 1\n\
-          repeat 1\nmismatch 1\nsent 1\nrecorded 1\nresent 2\ngap 1\naccepted 2\naccepted 3\n\
+        b"new 1\nnew 2\nnew 3\nsent 1\nsent 2\nsent 3\nheld 3\naccepted 1\nrepeat 1\nheld 3\n\
+          repeat 1\nmismatch 1\nsent 1\nrecorded 1\nresent 2\nheld 3\naccepted 2\naccepted 3\n\
           repeat 2\nsent 2\nrecorded 3\nrecorded 1\nresent 2\ntook 1\ntook 2\n\
           finished 2 done\nnothing\nfinished 1 done\ntook 3\nfinished 3 done\nsent 3\nsent 4\n\
           kept 3\nkept 1\nrepeat 1\nreplica 0 length 3 idle\nann 200.00 -114.50\n\

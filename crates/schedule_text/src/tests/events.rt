@@ -50,6 +50,7 @@ fn reads_a_line_of_each_event(rt: HostRuntime) -> Result<(), Fail> {
         ("finish 7 1", finish),
         ("restart 1", Event::Restart { replica: 1 }),
         ("cut 1", Event::Cut { replica: 1 }),
+        ("next 1", Event::Next { replica: 1 }),
         ("audit 3 2", audit),
     ] {
         assert_eq!(rt; read_event(line.as_bytes()), Ok(event), "{line}");
@@ -121,6 +122,8 @@ fn names_the_first_fault_of_a_line(rt: HostRuntime) {
         ("mark x", EventFault::WrongWords),
         ("mark 0 ok ok", EventFault::WrongWords),
         ("cut 0 1", EventFault::WrongWords),
+        ("next", EventFault::WrongWords),
+        ("next 0 1", EventFault::WrongWords),
         ("send x 1", EventFault::BadNumber),
         ("send 0 x", EventFault::BadNumber),
         ("send 00 1", EventFault::BadNumber),
@@ -132,6 +135,8 @@ fn names_the_first_fault_of_a_line(rt: HostRuntime) {
         ("mark x ok", EventFault::BadNumber),
         ("mark 0 OK", EventFault::BadNumber),
         ("mark 0 ", EventFault::BadNumber),
+        ("next x", EventFault::BadNumber),
+        ("next 4294967296", EventFault::BadNumber),
         ("ask x 1 pay", EventFault::BadNumber),
         ("ask 1 x", EventFault::BadNumber),
         ("ask 1 4294967296 pay", EventFault::BadNumber),

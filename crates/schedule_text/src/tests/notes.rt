@@ -19,6 +19,7 @@ fn notes_with_a_number(rt: HostRuntime) -> Result<(), Fail> {
         (Note::Sent(4), "sent 4\n"),
         (Note::Resent(0), "resent 0\n"),
         (Note::Accepted(6), "accepted 6\n"),
+        (Note::Held(64), "held 64\n"),
         (Note::Gap(0), "gap 0\n"),
         (Note::Busy(1_024), "busy 1024\n"),
         (Note::Recorded(9), "recorded 9\n"),

@@ -1,0 +1,63 @@
+//! Entries in a random order, none of them more than 64 ahead.
+use super::*;
+
+const ENTRIES: u32 = 1_000;
+
+// The first so many entries are sent to a replica, each at the place of its number.
+fn sends(rt: &impl Abort, world: &mut World, count: u32) {
+    for number in 1..=count {
+        let event = Event::Send { replica: 0, number };
+        assert_eq!(rt; world.step(event), Ok(Note::Sent(u64::from(number))));
+    }
+}
+
+// What is held after this number is taken in order, until nothing is held for the next one; answers the last taken.
+fn takes_what_is_held(rt: &impl Abort, world: &mut World, after: u32) -> u32 {
+    assert!(rt; after <= ENTRIES);
+    for number in after + 1..=ENTRIES {
+        let note = world.step(Event::Next { replica: 0 });
+        if note == Ok(Note::Nothing) {
+            return number - 1;
+        }
+        assert_eq!(rt; note, Ok(Note::Accepted(u64::from(number))));
+    }
+    happens(rt, world, "next 0", Note::Nothing);
+    ENTRIES
+}
+
+// An entry comes after this many were accepted; answers how many are now.
+fn comes(rt: &impl Abort, world: &mut World, place: u32, accepted: u32) -> u32 {
+    assert!(rt; accepted < ENTRIES);
+    let note = world.step(Event::To { replica: 0, place });
+    if place > accepted + 1 {
+        assert_eq!(rt; note, Ok(Note::Held(u64::from(place))));
+        return accepted;
+    }
+    assert_eq!(rt; note, Ok(Note::Accepted(u64::from(place))));
+    takes_what_is_held(rt, world, place)
+}
+
+// The next number of a linear generator.
+fn step(random: u32) -> u32 {
+    ((u64::from(random) * 75 + 74) % 65_537) as u32
+}
+
+// Of the next 64 entries one comes at a time, whichever it is, so some come again before their turn.
+#[test]
+fn a_thousand_entries_in_disorder(rt: HostRuntime) -> Result<(), Fail> {
+    let mut world = world_of(&rt, rt.alloc(), 1, 1)?;
+    asks(&rt, &mut world, ENTRIES, "deposit alice 0.01");
+    sends(&rt, &mut world, ENTRIES);
+    let mut random = 1;
+    let mut accepted = 0;
+    for _ in 0..60_000 {
+        random = step(random);
+        let ahead = random % 64;
+        if accepted < ENTRIES && ahead < ENTRIES - accepted {
+            accepted = comes(&rt, &mut world, accepted + 1 + ahead, accepted);
+        }
+    }
+    assert_eq!(rt; accepted, ENTRIES);
+    stands_at(&rt, &world, 0, 1_000, false);
+    Ok(())
+}
