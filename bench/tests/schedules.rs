@@ -73,8 +73,41 @@ fn frames_out_of_order_and_repeated() {
     check(
         "ask 1 1 deposit alice 1.00 / ask 1 2 deposit bob 1.00 / send 0 1 / send 0 2 \
          / to 0 2 / to 0 1 / to 0 1 / to 0 2",
-        "new 1 / new 2 / sent 1 / sent 2 / gap 0 / accepted 1 / repeat 1 / accepted 2",
+        "new 1 / new 2 / sent 1 / sent 2 / held 2 / accepted 1 / repeat 1 / accepted 2",
         "replica 0 length 2 busy",
+    );
+}
+
+#[test]
+fn what_is_held_is_taken_once_it_is_next() {
+    check(
+        "ask 1 1 deposit alice 1.00 / ask 1 2 deposit bob 1.00 / send 0 1 / send 0 2 \
+         / to 0 2 / next 0 / to 0 1 / next 0 / next 0",
+        "new 1 / new 2 / sent 1 / sent 2 / held 2 / nothing / accepted 1 / accepted 2 / nothing",
+        "replica 0 length 2 busy",
+    );
+}
+
+#[test]
+fn an_entry_is_held_up_to_64_ahead() {
+    let mut events = Vec::new();
+    let mut notes = Vec::new();
+    for number in 1..=65 {
+        events.push(format!(
+            "ask 1 {number} deposit alice 0.01 / send 0 {number}"
+        ));
+        notes.push(format!("new {number} / sent {number}"));
+    }
+    check(
+        &format!(
+            "{} / to 0 65 / to 0 64 / to 0 1 / to 0 65 / restart 0 / to 0 1 / next 0",
+            events.join(" / ")
+        ),
+        &format!(
+            "{} / gap 0 / held 64 / accepted 1 / held 65 / restarted 0 / accepted 1 / nothing",
+            notes.join(" / ")
+        ),
+        "replica 0 length 1 busy",
     );
 }
 
@@ -232,6 +265,7 @@ fn the_first_fault_counts_and_nothing_is_written() {
     check_fault(&after("to 0 4294967296"), "line 7: bad number");
     check_fault(&after("mark 0 no"), "line 7: bad number");
     check_fault(&after("cut 0 1"), "line 7: wrong words");
+    check_fault(&after("next 0 1"), "line 7: wrong words");
     check_fault(&after("ask 1"), "line 7: wrong words");
     check_fault(&after("ask 01 1"), "line 7: bad number");
     check_fault(&after("ask 0 1"), "line 7: unknown verb");

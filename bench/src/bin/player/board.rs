@@ -4,10 +4,12 @@
 //! its balances and at how many it isn't first. What was submitted before a cut writes into the cut's balances too.
 
 use crate::bank::{Op, Reply, TOUCHED, Touched, Values};
-use std::collections::VecDeque;
+use std::collections::{BTreeMap, VecDeque};
 
 const OPEN: usize = 1_024;
 const LOG_OPS: u64 = 1_000_000;
+// How far after its length an entry is held back.
+const HELD: u64 = 64;
 
 // A place in the table of unfinished ops, or nobody.
 type Slot = u16;
@@ -43,6 +45,7 @@ pub enum Offered {
     Next,
     Repeat,
     Gap,
+    Held,
     Busy,
 }
 
@@ -88,6 +91,8 @@ pub struct Board {
     // Rising numbers.
     ready: VecDeque<u64>,
     cut: Option<Cut>,
+    // What came before its turn, by number.
+    held: BTreeMap<u64, Op>,
 }
 
 impl Settled<'_> {
@@ -114,6 +119,7 @@ impl Board {
             free: Vec::new(),
             ready: VecDeque::new(),
             cut: None,
+            held: BTreeMap::new(),
         }
     }
 
@@ -169,19 +175,30 @@ impl Board {
         self.unfinished.len() - self.free.len()
     }
 
-    /// Takes an entry where it is the next one.
+    /// Takes an entry where it is the next one, and holds it where it comes a little early.
     pub fn offer(&mut self, number: u64, op: Op) -> Offered {
         let length = self.length();
         if number <= length {
             Offered::Repeat
-        } else if number > length + 1 || number > LOG_OPS {
+        } else if number > length + HELD || number > LOG_OPS {
             Offered::Gap
+        } else if number > length + 1 {
+            self.held.insert(number, op);
+            Offered::Held
         } else if self.unfinished_count() == OPEN {
             Offered::Busy
         } else {
+            self.held.remove(&number);
             self.append(number, op);
             Offered::Next
         }
+    }
+
+    /// Takes what is held for the next number, as if it came now.
+    pub fn offer_held(&mut self) -> Option<Offered> {
+        let next = self.length() + 1;
+        let op = *self.held.get(&next)?;
+        Some(self.offer(next, op))
     }
 
     fn append(&mut self, number: u64, op: Op) {

@@ -20,6 +20,7 @@ pub enum Note {
     Sent(u64),
     Resent(u64),
     Accepted(u64),
+    Held(u64),
     Gap(u64),
     BusyAt(u64),
     Recorded(u64),
@@ -83,6 +84,7 @@ impl Note {
             | Note::Sent(number)
             | Note::Resent(number)
             | Note::Accepted(number)
+            | Note::Held(number)
             | Note::Gap(number)
             | Note::BusyAt(number)
             | Note::Recorded(number)
@@ -113,6 +115,7 @@ impl Note {
             Note::Sent(_) => b"sent ",
             Note::Resent(_) => b"resent ",
             Note::Accepted(_) => b"accepted ",
+            Note::Held(_) => b"held ",
             Note::Gap(_) => b"gap ",
             Note::BusyAt(_) => b"busy ",
             Note::Recorded(_) => b"recorded ",

@@ -64,6 +64,9 @@ pub enum Event<'a> {
     Cut {
         replica: u32,
     },
+    Next {
+        replica: u32,
+    },
     Audit {
         first: u32,
         second: u32,
@@ -164,6 +167,7 @@ fn event(line: &[u8]) -> Result<Event<'_>, Fault> {
         b"mark" => mark(words)?,
         b"restart" => numbers(words).map(|[replica]| Event::Restart { replica })?,
         b"cut" => numbers(words).map(|[replica]| Event::Cut { replica })?,
+        b"next" => numbers(words).map(|[replica]| Event::Next { replica })?,
         b"audit" => numbers(words).map(|[first, second]| Event::Audit { first, second })?,
         _ => return Err(Fault::UnknownEvent),
     })

@@ -65,6 +65,7 @@ impl<'a> World<'a> {
             Event::Mark { replica, how } => Some(self.node(replica)?.mark(how)),
             Event::Restart { replica } => self.restart(replica),
             Event::Cut { replica } => Some(self.node(replica)?.cut()),
+            Event::Next { replica } => self.node(replica)?.next(),
             Event::Audit { first, second } => self.audit(first, second),
         }
     }
@@ -97,12 +98,8 @@ impl<'a> World<'a> {
             unreachable!("what is sent to a replica is an entry");
         };
         let op = self.directory.resolve(&call);
-        Some(match node.board.offer(number, op) {
-            Offered::Next => Note::Accepted(number),
-            Offered::Repeat => Note::Repeat(number),
-            Offered::Gap => Note::Gap(node.board.length()),
-            Offered::Busy => Note::BusyAt(node.board.length()),
-        })
+        let offered = node.board.offer(number, op);
+        Some(node.heard(number, offered))
     }
 
     fn ack(&mut self, replica: u32) -> Option<Note> {
@@ -222,6 +219,23 @@ fn first_difference(one: &[i64], other: &[i64]) -> Option<Note> {
 }
 
 impl Node {
+    // The note on an entry with this number.
+    fn heard(&self, number: u64, offered: Offered) -> Note {
+        match offered {
+            Offered::Next => Note::Accepted(number),
+            Offered::Repeat => Note::Repeat(number),
+            Offered::Gap => Note::Gap(self.board.length()),
+            Offered::Held => Note::Held(number),
+            Offered::Busy => Note::BusyAt(self.board.length()),
+        }
+    }
+
+    fn next(&mut self) -> Option<Note> {
+        let number = self.board.length() + 1;
+        let offered = self.board.offer_held()?;
+        Some(self.heard(number, offered))
+    }
+
     fn take(&mut self, worker: u32, index: u32) -> Option<Note> {
         let hand = self.hands.get_mut((worker as usize).checked_sub(1)?)?;
         if hand.is_some() {

@@ -38,6 +38,7 @@ pub enum Event {
     Mark(u32, How),
     Restart(u32),
     Cut(u32),
+    Next(u32),
     Audit(u32, u32),
 }
 
@@ -97,6 +98,7 @@ impl fmt::Display for Event {
             Event::Mark(replica, how) => write!(f, "mark {replica} {how}"),
             Event::Restart(replica) => write!(f, "restart {replica}"),
             Event::Cut(replica) => write!(f, "cut {replica}"),
+            Event::Next(replica) => write!(f, "next {replica}"),
             Event::Audit(first, second) => write!(f, "audit {first} {second}"),
         }
     }

@@ -50,7 +50,7 @@ const OPENING_LINES: [Faulty; 22] = [
     ("x -10000000000.00 0.00", "negative savings"),
 ];
 
-const EVENT_LINES: [Faulty; 66] = [
+const EVENT_LINES: [Faulty; 69] = [
     ("", "unknown event"),
     (" ", "unknown event"),
     (" ack 0", "unknown event"),
@@ -85,6 +85,8 @@ const EVENT_LINES: [Faulty; 66] = [
     ("restart 0 0", "wrong words"),
     ("cut", "wrong words"),
     ("cut 0 0", "wrong words"),
+    ("next", "wrong words"),
+    ("next 0 0", "wrong words"),
     ("audit 0", "wrong words"),
     ("audit 0 0 0", "wrong words"),
     ("send 00 1", "bad number"),
@@ -104,6 +106,7 @@ const EVENT_LINES: [Faulty; 66] = [
     ("mark x ok", "bad number"),
     ("restart 010", "bad number"),
     ("cut x", "bad number"),
+    ("next x", "bad number"),
     ("audit 0 one", "bad number"),
     ("ask", "wrong words"),
     ("ask x", "wrong words"),

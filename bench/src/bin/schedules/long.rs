@@ -127,6 +127,9 @@ fn hearing(maker: &mut Maker, machine: &Machine, replica: u32) -> Event {
     if node.open.len() >= OPEN {
         return working(node, replica);
     }
+    if node.holds_next() {
+        return Event::Next(replica);
+    }
     match place_of_next(node) {
         Some(place) => Event::To(replica, place),
         None if node.length < machine.length() => sending(maker, machine, replica),

@@ -6,6 +6,7 @@ use std::collections::{BTreeSet, HashMap, HashSet};
 
 const OPEN: usize = 1_024;
 const RESENT: u32 = 16;
+const HELD: u32 = 64;
 
 /// What an event is answered with. Replies and sums are the ledger's.
 pub enum Note {
@@ -43,6 +44,8 @@ pub struct Node {
     /// The numbers up to the length that aren't finished.
     pub open: BTreeSet<u32>,
     pub out: BTreeSet<u32>,
+    /// The numbers after the length that came already.
+    pub held: BTreeSet<u32>,
     pub hands: Vec<Option<u32>>,
     /// The length of the stored checkpoint, 0 for none.
     pub kept: u32,
@@ -83,6 +86,7 @@ impl Machine {
             length: 0,
             open: BTreeSet::new(),
             out: BTreeSet::new(),
+            held: BTreeSet::new(),
             hands: vec![None; workers as usize],
             kept: 0,
             cut: None,
@@ -143,6 +147,7 @@ impl Machine {
             Event::Mark(replica, how) => Some(self.node(replica)?.mark(how)),
             Event::Restart(replica) => Some(self.node(replica)?.restart()),
             Event::Cut(replica) => Some(self.node(replica)?.make_cut()),
+            Event::Next(replica) => self.node(replica)?.next(),
             Event::Audit(first, second) => self.audit(first, second),
         }
     }
@@ -231,15 +236,34 @@ impl Node {
         let number = *self.to.get((place as usize).checked_sub(1)?)?;
         Some(if number <= self.length {
             Note::Number("repeat", number)
-        } else if number > self.length + 1 {
+        } else if number > self.length + HELD {
             Note::Number("gap", self.length)
-        } else if self.open.len() == OPEN {
-            Note::Number("busy", self.length)
+        } else if number > self.length + 1 {
+            self.held.insert(number);
+            Note::Number("held", number)
         } else {
-            self.length = number;
-            self.open.insert(number);
-            Note::Number("accepted", number)
+            self.accept()
         })
+    }
+
+    // The next number comes.
+    fn accept(&mut self) -> Note {
+        if self.open.len() == OPEN {
+            return Note::Number("busy", self.length);
+        }
+        self.length += 1;
+        self.open.insert(self.length);
+        self.held.remove(&self.length);
+        Note::Number("accepted", self.length)
+    }
+
+    /// Whether its next number came already.
+    pub fn holds_next(&self) -> bool {
+        self.held.contains(&(self.length + 1))
+    }
+
+    fn next(&mut self) -> Option<Note> {
+        self.holds_next().then(|| self.accept())
     }
 
     fn tell(&mut self, told: Told) -> Note {
@@ -299,6 +323,7 @@ impl Node {
         self.length = self.kept;
         self.open.clear();
         self.out.clear();
+        self.held.clear();
         self.cut = None;
         Note::Number("restarted", self.kept)
     }

@@ -29,6 +29,8 @@ const NODES: u32 = 8;
 const WORKERS: u32 = 16;
 const CUSTOMERS: u32 = 6;
 const EVENTS: u32 = 200;
+// More entries than a replica holds back.
+const AHEAD: u32 = 80;
 
 // Of so many schedules one has too many customers.
 const TOO_MANY: u32 = 5_000;
@@ -56,8 +58,10 @@ fn made(mut random: Random) -> Made {
     lines.push("begin".to_owned());
     let mut machine = Machine::open(customers, nodes, workers);
     let mut notes = Vec::new();
-    for _ in 0..events {
-        let event = maker.event(&machine);
+    let ahead = *maker.random.pick(&[0, 0, 0, 0, AHEAD]);
+    let mut burst = maker.burst(customers, ahead).into_iter();
+    for _ in 0..burst.len() + events as usize {
+        let event = burst.next().unwrap_or_else(|| maker.event(&machine));
         lines.push(event.to_string());
         notes.push(machine.step(event));
     }

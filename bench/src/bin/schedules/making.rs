@@ -4,11 +4,11 @@ use crate::event::{Call, Customer, Event, How, Key};
 use crate::machine::{Machine, Node};
 use crate::random::Random;
 
-const KINDS: usize = 13;
+const KINDS: usize = 14;
 
 // How often each kind of event comes: ask, send, resend, to, ack, answer, from, take, finish, mark, restart, cut,
-// audit.
-const USUAL: [u32; KINDS] = [14, 14, 5, 24, 4, 5, 8, 16, 16, 5, 3, 4, 4];
+// next, audit.
+const USUAL: [u32; KINDS] = [14, 14, 5, 24, 4, 5, 8, 16, 16, 5, 3, 4, 8, 4];
 
 const ASK: usize = 0;
 const TO: usize = 3;
@@ -39,6 +39,15 @@ impl Maker {
         }
     }
 
+    /// So many asks, each sent to the first replica.
+    pub fn burst(&mut self, customers: usize, count: u32) -> Vec<Event> {
+        let both = |number| {
+            let call = self.call(customers);
+            [Event::Ask((1, number), call), Event::Send(0, number)]
+        };
+        (1..=count).flat_map(both).collect()
+    }
+
     pub fn event(&mut self, machine: &Machine) -> Event {
         let r = self.replica(machine);
         let node = machine.nodes.get(r as usize).unwrap_or(&machine.nodes[0]);
@@ -62,6 +71,7 @@ impl Maker {
             ),
             10 => Event::Restart(r),
             11 => Event::Cut(r),
+            12 => Event::Next(r),
             _ => Event::Audit(r, self.replica(machine)),
         }
     }
@@ -79,6 +89,7 @@ impl Maker {
                 8 => node.hands.iter().all(Option::is_none),
                 9 => !node.is_settled(),
                 11 => node.cut.is_some(),
+                12 => !node.holds_next(),
                 _ => false,
             };
             if !is_vain || self.is_blind() {
