@@ -1,4 +1,4 @@
-//! What `replica_bench write` and `replica_bench read` do, in plain Rust: nothing proved, std alone, written for
+//! What `store_bench write` and `store_bench read` do, in plain Rust: nothing proved, std alone, written for
 //! speed. The format, the checks and the printed line are the same.
 
 use std::fmt;

@@ -1,2 +1,0 @@
-pub mod Actions
-pub mod Deposits

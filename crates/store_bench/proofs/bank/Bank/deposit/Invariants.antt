@@ -1,0 +1,12 @@
+-- As many were added so far as there were rounds.
+use Rattle.std.proofs.Common.{◌≡◌, ◌++◌}
+use Rattle.store_bench.specs.Deposits.{cents_in_turn}
+use Rattle.store_bench.proofs.bank.Bank.deposit.Given as goal
+
+abbrev pub invariant-loop-call : goal.invariant-loop-call
+invariant-loop-call g l = record {
+  added : l.self.board.log ≡ l.fn.self.board.log ++ cents_in_turn l.fn.self.directory l.payees l.call;
+  earlier : l.self.board.earlier ≡ l.fn.self.board.earlier;
+  opening : l.self.board.opening ≡ l.fn.self.board.opening;
+  directory : l.self.directory ≡ l.fn.self.directory;
+}

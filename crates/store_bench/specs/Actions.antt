@@ -1,0 +1,35 @@
+-- What the words of the program say.
+use Rattle.std.specs.Prelude.{◌≡◌, ℕ, Some, List, length, map, String, codes, slice_get, string_bytes}
+use Rattle.std.specs.Str.Parse.{IsNumeral, digits_value, without_leading_plus}
+use Rattle.store_bench.specs.declared.payees.Payees.TheVariants.{One, Many}
+use Rattle.store_bench.specs.declared.words.Crewed.{Crewed}
+use Rattle.store_bench.specs.declared.words.Crewed.TheVariants.{InPlace, InThreads, Wait, Idle, Late, Held}
+use Rattle.store_bench.specs.declared.words.Action.{Action}
+use Rattle.store_bench.specs.declared.words.Action.TheVariants.{Drain, Write, Read}
+
+module _ {A : Type 0} where
+  -- there are so many words, of which the second is this one
+  abbrev pub Asks : List (String A) → ℕ → List ℕ → Type 0
+  Asks words many action = (length words ≡ many) × (slice_get (map string_bytes words) 1 ≡ Some action)
+
+  -- the digits of the word at a place, after a `+` or none, spell the number
+  abbrev pub Spells : List (String A) → ℕ → ℕ → Type 0
+  Spells words place number = (text : List ℕ) × (slice_get (map string_bytes words) place ≡ Some text)
+      × IsNumeral 10 (without_leading_plus text) × (number ≡ digits_value 10 (without_leading_plus text))
+
+  -- the words are the program's name, the crew, and its numbers in order
+  abbrev pub Drains : Crewed → List (String A) → Type 0
+  Drains (InPlace steps calls) words = Asks words 4 (codes "none") × Spells words 2 steps × Spells words 3 calls
+  Drains (InThreads workers steps calls) words = Asks words 5 (codes "workers")
+      × Spells words 2 workers × Spells words 3 steps × Spells words 4 calls
+  Drains (Wait workers) words = Asks words 3 (codes "wait") × Spells words 2 workers
+  Drains (Idle workers) words = Asks words 3 (codes "idle") × Spells words 2 workers
+  Drains (Late workers) words = Asks words 3 (codes "late") × Spells words 2 workers
+  Drains (Held One calls) words = Asks words 3 (codes "one-customer") × Spells words 2 calls
+  Drains (Held Many calls) words = Asks words 3 (codes "many-customers") × Spells words 2 calls
+
+  -- the words are the program's name, the action, and its numbers in order
+  abbrev pub Says : Action → List (String A) → Type 0
+  Says (Drain crewed) words = Drains crewed words
+  Says (Write count) words = Asks words 3 (codes "write") × Spells words 2 count
+  Says (Read count) words = Asks words 3 (codes "read") × Spells words 2 count

@@ -1,0 +1,4 @@
+pub mod Actions
+pub mod Banks
+pub mod Checkpoints
+pub mod Deposits

@@ -1,0 +1,182 @@
+//! Calls on a board, carried out by a crew.
+ghost use Rattle.std.specs.Prelude.{◌≤◌, IfOk};
+
+use crate::bank::Bank;
+use crate::fault::Fault;
+use crate::gates::{Computing, Waiting};
+use crate::holding::HoldingCrew;
+use crate::in_place::InPlace;
+use crate::measured::Measured;
+use crate::payees::Payees;
+use crate::words::Crewed;
+use cown_workers::{Crew, Gate, OpenGate, with_crew};
+use std::alloc::Global;
+use std::sync::Wait;
+use std::thread;
+use std::thread::Threads;
+use std::time::{Clock, Duration, Instant};
+
+/// For how many seconds a crew is given nothing at all.
+const IDLE: u64 = 10;
+
+/// For how many milliseconds it is given nothing before each late call, and how many such calls there are.
+const PAUSE: u64 = 200;
+
+const LATE_CALLS: u32 = 50;
+
+/// Has a crew carry out calls on the board of a bank. It comes to how many calls there were, and the bank's total.
+pub(crate) fn drain_calls<R: Threads + Wait + Clock + Sync>(
+    rt: &R,
+    alloc: Global,
+    crewed: Crewed,
+) -> Result<Measured, Fault> {
+    let mut bank = Box::new(alloc, Bank::open(alloc)?)?;
+    let time = time_of(rt, alloc, crewed, &mut bank);
+    measured(time, &bank)
+}
+
+// How long the calls took.
+fn time_of<R: Threads + Wait + Clock + Sync>(
+    rt: &R,
+    alloc: Global,
+    crewed: Crewed,
+    bank: &mut Bank,
+) -> Result<Duration, Fault> {
+    match crewed {
+        Crewed::InPlace { steps, calls } => in_place(rt, steps, bank, calls),
+        Crewed::Held { payees, calls } => held(rt, alloc, bank, payees, calls),
+        Crewed::InThreads {
+            workers,
+            steps,
+            calls,
+        } => in_threads(rt, alloc, few(workers)?, &Computing::of(steps), bank, calls),
+        Crewed::Wait { workers } => {
+            in_threads(rt, alloc, few(workers)?, &Waiting { clock: rt }, bank, 1)
+        }
+        Crewed::Idle { workers } => idle(rt, alloc, few(workers)?),
+        Crewed::Late { workers } => late_in_threads(rt, alloc, few(workers)?, bank),
+    }
+}
+
+// So many workers, if a crew may have so many.
+fn few(workers: usize) -> Result<usize, Fault>
+    ensures { IfOk result (λ workers. (1 ≤ workers) × (workers ≤ 16)) }
+{
+    if workers < 1 || workers > 16 {
+        return Err(Fault::Workers);
+    }
+    Ok(workers)
+}
+
+// So many calls, carried out by one thread.
+fn in_place(
+    clock: &impl Clock,
+    steps: u64,
+    bank: &mut Bank,
+    calls: u32,
+) -> Result<Duration, Fault> {
+    let gate = Computing::of(steps);
+    deposit(
+        clock,
+        &mut InPlace { gate: &gate },
+        bank,
+        Payees::Many,
+        calls,
+    )
+}
+
+// So many calls, carried out by a crew that holds jobs.
+fn held(
+    clock: &impl Clock,
+    alloc: Global,
+    bank: &mut Bank,
+    payees: Payees,
+    calls: u32,
+) -> Result<Duration, Fault> {
+    let mut crew = HoldingCrew::new(alloc)?;
+    deposit(clock, &mut crew, bank, payees, calls)
+}
+
+fn deposit(
+    clock: &impl Clock,
+    crew: &mut impl Crew,
+    bank: &mut Bank,
+    payees: Payees,
+    calls: u32,
+) -> Result<Duration, Fault> {
+    let start = Instant::now(clock)?;
+    bank.deposit(crew, payees, calls)?;
+    Ok(start.elapsed(clock)?)
+}
+
+// So many calls, carried out by so many workers, with the start and the end of the threads.
+fn in_threads<R, G>(
+    rt: &R,
+    alloc: Global,
+    workers: usize,
+    gate: &G,
+    bank: &mut Bank,
+    calls: u32,
+) -> Result<Duration, Fault>
+where
+    R: Threads + Wait + Clock + Sync,
+    G: Gate + Sync,
+    requires some { 1 ≤ workers }
+    requires few { workers ≤ 16 }
+{
+    let start = Instant::now(rt)?;
+    with_crew(rt, alloc, workers, gate, move |crew| {
+        bank.deposit(crew, Payees::Many, calls)
+    })??;
+    Ok(start.elapsed(rt)?)
+}
+
+// So many workers, who have nothing to do.
+fn idle<R: Threads + Wait + Clock + Sync>(
+    rt: &R,
+    alloc: Global,
+    workers: usize,
+) -> Result<Duration, Fault>
+    requires some { 1 ≤ workers }
+    requires few { workers ≤ 16 }
+{
+    let start = Instant::now(rt)?;
+    with_crew(rt, alloc, workers, &OpenGate, |_| {
+        thread::sleep(rt, Duration::from_secs(IDLE))
+    })?;
+    Ok(start.elapsed(rt)?)
+}
+
+// So many workers, who have nothing to do before each call. The time is that of the calls alone.
+fn late_in_threads<R: Threads + Wait + Clock + Sync>(
+    rt: &R,
+    alloc: Global,
+    workers: usize,
+    bank: &mut Bank,
+) -> Result<Duration, Fault>
+    requires some { 1 ≤ workers }
+    requires few { workers ≤ 16 }
+{
+    with_crew(rt, alloc, workers, &OpenGate, move |crew| {
+        late(rt, bank, crew)
+    })?
+}
+
+fn late(clock: &impl Clock, bank: &mut Bank, crew: &mut impl Crew) -> Result<Duration, Fault> {
+    let mut time = Duration::ZERO;
+    for _ in 0..LATE_CALLS {
+        thread::sleep(clock, Duration::from_millis(PAUSE));
+        time = time.saturating_add(deposit(clock, crew, bank, Payees::Many, 1)?);
+    }
+    Ok(time)
+}
+
+// What the calls came to that took so long, if they were carried out.
+fn measured(time: Result<Duration, Fault>, bank: &Bank) -> Result<Measured, Fault> {
+    let time = time?;
+    Ok(Measured {
+        length: bank.length(),
+        sum: bank.total().ok_or(Fault::Unfinished)?,
+        time,
+    })
+}

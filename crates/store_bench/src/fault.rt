@@ -1,0 +1,40 @@
+//! Why nothing was measured.
+
+use cown_board::SubmitFault;
+use cown_workers::{CrewFault, CrewGone};
+use sb_checkpoint::CheckpointFault;
+use std::alloc::AllocError;
+use std::io;
+use thiserror::Error;
+
+/// Why nothing was measured.
+#[derive(Debug, Error, Drop)]
+pub enum Fault {
+    /// The number of workers isn't from 1 to 16.
+    #[error("1 to 16 workers")]
+    Workers,
+    /// The bank can't be opened.
+    #[error("no bank")]
+    Bank,
+    /// The board doesn't take so many calls.
+    #[error("{0}")]
+    Submit(#[from] SubmitFault),
+    /// The crew can't be started.
+    #[error("{0}")]
+    Crew(#[from] CrewFault),
+    /// The crew handed nothing more over.
+    #[error("{0}")]
+    Gone(#[from] CrewGone),
+    /// The board isn't idle.
+    #[error("unfinished")]
+    Unfinished,
+    /// A checkpoint isn't read.
+    #[error("{0}")]
+    Checkpoint(#[from] CheckpointFault),
+    /// Memory was refused.
+    #[error("out of memory")]
+    OutOfMemory(#[from(alloc)] AllocError),
+    /// Printing or the clock failed.
+    #[error("{0}")]
+    Device(#[from] io::Error),
+}

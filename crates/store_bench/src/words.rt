@@ -1,0 +1,152 @@
+//! The program's words.
+ghost use Rattle.std.specs.Prelude.{◌≡◌, IfSome, IsTrue, Some, map, slice_get, string_bytes};
+ghost use Rattle.store_bench.specs.Actions.{Asks, Drains, Says, Spells};
+
+use crate::payees::Payees;
+
+/// What is measured.
+#[derive(Clone, Copy, Debug, PartialEq, Eq)]
+pub enum Action {
+    /// A crew drains a board.
+    Drain(Crewed),
+    /// A checkpoint of the greatest size is written so often.
+    Write { count: u32 },
+    /// It is read so often.
+    Read { count: u32 },
+}
+
+/// Which crew carries out which calls.
+#[derive(Clone, Copy, Debug, PartialEq, Eq)]
+pub enum Crewed {
+    /// So many calls are carried out in place, each after so many steps at the gate.
+    InPlace {
+        steps: u64,
+        calls: u32,
+    },
+    /// So many workers carry them out.
+    InThreads {
+        workers: usize,
+        steps: u64,
+        calls: u32,
+    },
+    /// One of so many workers carries one call out, and waits for a second at the gate.
+    Wait {
+        workers: usize,
+    },
+    /// So many workers have nothing to do for ten seconds.
+    Idle {
+        workers: usize,
+    },
+    /// So many workers carry fifty calls out, each of which comes once they had nothing to do for 0.2 seconds.
+    Late {
+        workers: usize,
+    },
+    /// A crew that holds sixteen jobs carries so many calls out, without threads.
+    Held {
+        payees: Payees,
+        calls: u32,
+    },
+}
+
+/// Reads the program's words, of which the first is its name.
+pub fn read_words(words: &[String]) -> Option<Action>
+    ensures { IfSome result (λ action. Says action words.now) }
+{
+    if asks(words, 3, "write") {
+        let count = few(words, 2)?;
+        return Some(Action::Write { count });
+    }
+    if asks(words, 3, "read") {
+        let count = few(words, 2)?;
+        return Some(Action::Read { count });
+    }
+    let crewed = match held(words) {
+        Some(crewed) => crewed,
+        None => threads(words)?,
+    };
+    Some(Action::Drain(crewed))
+}
+
+// What is carried out without threads.
+fn held(words: &[String]) -> Option<Crewed>
+    ensures { IfSome result (λ crewed. Drains crewed words.now) }
+{
+    if asks(words, 4, "none") {
+        let steps = number(words, 2)?;
+        let calls = few(words, 3)?;
+        return Some(Crewed::InPlace { steps, calls });
+    }
+    if asks(words, 3, "one-customer") {
+        let calls = few(words, 2)?;
+        return Some(Crewed::Held {
+            payees: Payees::One,
+            calls,
+        });
+    }
+    if asks(words, 3, "many-customers") {
+        let calls = few(words, 2)?;
+        return Some(Crewed::Held {
+            payees: Payees::Many,
+            calls,
+        });
+    }
+    None
+}
+
+// What workers in threads of their own carry out.
+fn threads(words: &[String]) -> Option<Crewed>
+    ensures { IfSome result (λ crewed. Drains crewed words.now) }
+{
+    let workers = number(words, 2)? as usize;
+    if asks(words, 3, "wait") {
+        return Some(Crewed::Wait { workers });
+    }
+    if asks(words, 3, "idle") {
+        return Some(Crewed::Idle { workers });
+    }
+    if asks(words, 3, "late") {
+        return Some(Crewed::Late { workers });
+    }
+    if asks(words, 5, "workers") {
+        let steps = number(words, 3)?;
+        let calls = few(words, 4)?;
+        return Some(Crewed::InThreads {
+            workers,
+            steps,
+            calls,
+        });
+    }
+    None
+}
+
+// Whether there are so many words, and the second is this one.
+fn asks(words: &[String], many: usize, action: &str) -> bool
+    ensures { IsTrue result → Asks words.now many action.now }
+{
+    match text(words, 1) {
+        Some(word) if words.len() == many => word == action,
+        _ => false,
+    }
+}
+
+// The word at this place.
+fn text<'a>(words: &'a [String], place: usize) -> Option<&'a str>
+    ensures { IfSome result
+        (λ text. slice_get (map string_bytes words.entry.now) place ≡ Some text.now) }
+{
+    Some(words.get(place)?.as_str())
+}
+
+// The number that the word at this place spells.
+fn number(words: &[String], place: usize) -> Option<u64>
+    ensures { IfSome result (λ number. Spells words.now place number) }
+{
+    text(words, place)?.parse::<u64>().ok()
+}
+
+// The same, where it is below 2^32.
+fn few(words: &[String], place: usize) -> Option<u32>
+    ensures { IfSome result (λ number. Spells words.now place number) }
+{
+    text(words, place)?.parse::<u32>().ok()
+}
