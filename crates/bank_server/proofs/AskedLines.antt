@@ -70,15 +70,6 @@ pub log_of-nil : log_of [] ≡ []
 unfolding first_asks
 log_of-nil = refl
 
--- the running number after a line that has no key, and after one that has
-pub running_if_none : (running next : ℕ) (key : Option Key) → is_none key ≡ true → next ≡ running + 1 → next ≡ running_after running key
-running_if_none running next None e h = h
-running_if_none running next (Some key) e h = absurd cc
-
-pub running_if_some : (running next : ℕ) (key : Option Key) → is_none key ≡ false → next ≡ running → next ≡ running_after running key
-running_if_some running next None e h = absurd cc
-running_if_some running next (Some key) e h = h
-
 -- the running number grows by one at most
 pub running_after_le : (running : ℕ) (key : Option Key) → running_after running key ≤ running + 1
 running_after_le running None = omega arith

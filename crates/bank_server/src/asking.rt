@@ -7,7 +7,7 @@ ghost use Rattle.sb_calls.specs.declared.ask.Key.{Key as AnyKey};
 ghost use Rattle.sb_calls.specs.declared.call.Call.{Call as AnyCall};
 ghost use Rattle.sb_sequencer.specs.Numbering.{IsLog, first_asks};
 ghost use Rattle.bank_server.specs.Asking.{IsAsking, IsAfter, IsOfLog, AsksLine, AsksOne, GoesOn, standing_of_answer};
-ghost use Rattle.bank_server.specs.Asks.{key_of_line};
+ghost use Rattle.bank_server.specs.Asks.{key_of_line, running_after};
 ghost use Rattle.bank_server.specs.Faults.{BlamesText};
 ghost use Rattle.bank_server.specs.Input.{asks_from, in_call};
 ghost use Rattle.bank_server.specs.Standing.{StandsAmong};
@@ -52,8 +52,30 @@ pub fn ask_lines(alloc: Global, text: &[u8], first_line: usize) -> Result<Asking
         (λ fault. BlamesText fault (in_call (asks_from first_line [] (lines text.now)))) }
 {
     let expected = text.len() / USUAL_LINE;
-    let mut sequencer = Sequencer::with_capacity(alloc, 1, expected.min(LOG_CALLS))?;
     let mut standings = Vec::with_capacity(alloc, expected)?;
+    let sequencer = Sequencer::with_capacity(alloc, 1, expected.min(LOG_CALLS))?;
+    let mut sequencer = Box::new(alloc, sequencer)?;
+    ask_all(text, first_line, &mut sequencer, &mut standings)?;
+    Ok(Asking {
+        sequencer: Box::into_inner(sequencer),
+        standings,
+    })
+}
+
+// Asks for each line of a text, of which nothing was asked yet.
+fn ask_all(
+    text: &[u8],
+    first_line: usize,
+    sequencer: &mut Sequencer,
+    standings: &mut Vec<Standing>,
+) -> Result<(), RunFault>
+    requires line { first_line + length text.now < 2 ^ 64 }
+    requires log { sequencer.old.log ≡ [] }
+    requires standings { standings.old.items ≡ [] }
+    ensures { MatchResult result
+        (λ done. IsAsking (asks_from first_line [] (lines text.now)) sequencer.new.log standings.new.items)
+        (λ fault. BlamesText fault (in_call (asks_from first_line [] (lines text.now)))) }
+{
     let mut running = 1u64;
     let mut left = text;
     while let Some((line, rest)) = next_line(left) {
@@ -66,16 +88,22 @@ pub fn ask_lines(alloc: Global, text: &[u8], first_line: usize) -> Result<Asking
                 });
             }
         };
-        standings.push(ask(&mut sequencer, running, &asked)?)?;
-        if asked.key.is_none() {
-            running += 1;
-        }
+        standings.push(ask(sequencer, running, &asked)?)?;
+        running = next_running(running, asked.key);
         left = rest;
     }
-    Ok(Asking {
-        sequencer,
-        standings,
-    })
+    Ok(())
+}
+
+// The running number of a line without a key, where the line before was asked under this key and this running number.
+fn next_running(running: u64, key: Option<Key>) -> u64
+    requires { running + 1 < 2 ^ 64 }
+    ensures { result ≡ running_after running key }
+{
+    match key {
+        Some(_) => running,
+        None => running + 1,
+    }
 }
 
 // Asks for one line, where the next line without a key has this running number.

@@ -19,17 +19,17 @@ use std::time::Clock;
 pub(crate) fn run_node<H: Threads + Wait + Clock + Sync, G: Gate + Sync, F: Feed + Drop>(
     rt: &H,
     alloc: Global,
-    node: Replica<MemoryStore>,
+    node: Box<Replica<MemoryStore>>,
     ops: &[Op],
     feed: F,
     workers: usize,
     gate: &G,
-) -> Result<Replica<MemoryStore>, RunFault>
+) -> Result<Box<Replica<MemoryStore>>, RunFault>
     requires workers { workers ≤ 16 }
-    requires opened { IsOpened node.board }
+    requires opened { IsOpened node.value.board }
     requires few { length ops.now ≤ LOG_CALLS }
-    requires within { AreWithin (length node.names) ops.now }
-    ensures run { IfOk result (λ done. HasRun node.names node.board.opening ops.now done) }
+    requires within { AreWithin (length node.value.names) ops.now }
+    ensures run { IfOk result (λ done. HasRun node.value.names node.value.board.opening ops.now done.value) }
     ensures fault { IfErr result (IsWorkersFault workers) }
 {
     if workers == 0 {
@@ -40,11 +40,11 @@ pub(crate) fn run_node<H: Threads + Wait + Clock + Sync, G: Gate + Sync, F: Feed
         alloc,
         workers,
         gate,
-        move |crew: &mut BenchCrew<'_, H, G>| -> Result<Replica<MemoryStore>, RunFault>
-            requires opened { IsOpened node.board }
+        move |crew: &mut BenchCrew<'_, H, G>| -> Result<Box<Replica<MemoryStore>>, RunFault>
+            requires opened { IsOpened node.value.board }
             requires few { length ops.now ≤ LOG_CALLS }
-            requires within { AreWithin (length node.names) ops.now }
-            ensures run { IfOk result (λ done. HasRun node.names node.board.opening ops.entry.now done) }
+            requires within { AreWithin (length node.value.names) ops.now }
+            ensures run { IfOk result (λ done. HasRun node.value.names node.value.board.opening ops.entry.now done.value) }
             ensures fault { IfErr result (IsCrewFault true) }
         { run_by(node, ops, crew, feed) },
     )?
@@ -52,15 +52,15 @@ pub(crate) fn run_node<H: Threads + Wait + Clock + Sync, G: Gate + Sync, F: Feed
 
 // Carries out a log on a node by this crew.
 fn run_by<C: Crew, F: Feed + Drop>(
-    node: Replica<MemoryStore>,
+    node: Box<Replica<MemoryStore>>,
     ops: &[Op],
     crew: &mut C,
     feed: F,
-) -> Result<Replica<MemoryStore>, RunFault>
-    requires opened { IsOpened node.board }
+) -> Result<Box<Replica<MemoryStore>>, RunFault>
+    requires opened { IsOpened node.value.board }
     requires few { length ops.now ≤ LOG_CALLS }
-    requires within { AreWithin (length node.names) ops.now }
-    ensures run { IfOk result (λ done. HasRun node.names node.board.opening ops.now done) }
+    requires within { AreWithin (length node.value.names) ops.now }
+    ensures run { IfOk result (λ done. HasRun node.value.names node.value.board.opening ops.now done.value) }
     ensures fault { IfErr result (IsCrewFault (C.keeps crew.old)) }
 {
     let mut node = node;

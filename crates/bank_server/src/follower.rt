@@ -20,7 +20,7 @@ use std::sync::Wait;
 #[derive(Drop)]
 pub(crate) struct Follower {
     pub(crate) alloc: Global,
-    pub(crate) replica: Replica<MemoryStore>,
+    pub(crate) replica: Box<Replica<MemoryStore>>,
     pub(crate) stream: Stream,
     pub(crate) inbox: Receiver<Message>,
 }
@@ -43,7 +43,7 @@ struct Said {
 impl Follower {
     /// Hears the frames that come, and gives the replica back once no more do. It stops where memory is refused or
     /// bytes are no frame, with what it has by then.
-    pub(crate) fn follow<R: Wait>(mut self, rt: &R) -> Replica<MemoryStore> {
+    pub(crate) fn follow<R: Wait>(mut self, rt: &R) -> Box<Replica<MemoryStore>> {
         for _ in rt.forever() {
             let Ok(message) = self.inbox.recv(rt) else {
                 break;
@@ -61,7 +61,7 @@ impl Follower {
         let said = look_up(rt, self.alloc, &mut self.stream, self.replica.directory())?;
         offer_all(&mut self.replica, &said.entries)?;
         if said.ended {
-            drain(&mut self.replica, &mut InlineCrew).ok()?;
+            drain(&mut *self.replica, &mut InlineCrew).ok()?;
         }
         Some(())
     }

@@ -17,7 +17,7 @@ use std::sync::Wait;
 use std::thread::{JoinHandle, Scope, Threads};
 
 /// The threads of followers, in order of their numbers. Each gives its replica back.
-pub(crate) type FollowerThreads = Vec<JoinHandle<Replica<MemoryStore>>>;
+pub(crate) type FollowerThreads = Vec<JoinHandle<Box<Replica<MemoryStore>>>>;
 
 /// The followers of node 0, each with its own names and columns and room for so many entries, and the ends of the
 /// channels to them.
@@ -35,9 +35,7 @@ pub(crate) fn open_followers(
     let mut followers = Vec::new(alloc);
     for id in 1..nodes {
         let (end, inbox) = bounded(alloc, MESSAGES)?;
-        let (directory, columns) = (directory.copy()?, columns.copy()?);
-        let mut replica = open_node(alloc, id as u8, directory, columns)?;
-        replica.reserve(entries)?;
+        let replica = open_copy(alloc, id as u8, directory, columns, entries)?;
         let stream = Stream::new(alloc);
         ends.push(end)?;
         followers.push(Follower {
@@ -50,19 +48,36 @@ pub(crate) fn open_followers(
     Ok((ends, followers))
 }
 
+// A replica with its own names and columns, and room for so many entries.
+fn open_copy(
+    alloc: Global,
+    id: u8,
+    directory: &Directory,
+    columns: &Columns,
+    entries: usize,
+) -> Result<Box<Replica<MemoryStore>>, AllocError>
+    requires { length columns.now.savings ≡ length directory.now }
+{
+    let mut node = open_node(alloc, id, directory.copy()?, columns.copy()?)?;
+    node.reserve(entries)?;
+    Ok(node)
+}
+
 /// A replica at the opening of a bank, over a store in memory.
 pub(crate) fn open_node(
     alloc: Global,
     id: u8,
     directory: Directory,
     columns: Columns,
-) -> Result<Replica<MemoryStore>, AllocError>
+) -> Result<Box<Replica<MemoryStore>>, AllocError>
     requires { length columns.savings ≡ length directory }
-    ensures names { IfOk result (λ node. node.names ≡ directory) }
-    ensures opening { IfOk result (λ node. node.board.opening ≡ columns) }
-    ensures opened { IfOk result (λ node. IsOpened node.board) }
+    ensures names { IfOk result (λ node. node.value.names ≡ directory) }
+    ensures opening { IfOk result (λ node. node.value.board.opening ≡ columns) }
+    ensures opened { IfOk result (λ node. IsOpened node.value.board) }
 {
-    Replica::open(alloc, id, directory, columns, MemoryStore::new(alloc))
+    let store = MemoryStore::new(alloc);
+    let node = Replica::open(alloc, id, directory, columns, store)?;
+    Ok(Box::new(alloc, node)?)
 }
 
 /// Starts a thread for each follower.

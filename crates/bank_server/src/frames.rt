@@ -63,7 +63,7 @@ impl<'a, R: Wait> Ends<'a, R> {
 /// A log that followers hear of as a run goes on.
 #[derive(Drop)]
 pub(crate) struct Frames<'a, R: Wait> {
-    pub(crate) log: Sequencer,
+    pub(crate) log: Box<Sequencer>,
     pub(crate) ends: Ends<'a, R>,
 }
 

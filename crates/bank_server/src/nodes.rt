@@ -26,7 +26,7 @@ use std::time::Clock;
 pub(crate) struct Bank {
     pub(crate) directory: Directory,
     pub(crate) columns: Columns,
-    pub(crate) log: Sequencer,
+    pub(crate) log: Box<Sequencer>,
 }
 
 /// Node 0 once it has carried out a log with this many workers, and the other nodes came to the same.
@@ -38,13 +38,13 @@ pub(crate) fn run_nodes<H: Threads + Wait + Clock + Sync, G: Gate + Sync>(
     nodes: usize,
     workers: usize,
     gate: &G,
-) -> Result<Replica<MemoryStore>, RunFault>
+) -> Result<Box<Replica<MemoryStore>>, RunFault>
     requires nodes { nodes ≤ 8 }
     requires workers { workers ≤ 16 }
     requires customers { length bank.columns.savings ≡ length bank.directory }
     requires few { length ops.now ≤ LOG_CALLS }
     requires within { AreWithin (length bank.directory) ops.now }
-    ensures run { IfOk result (λ node. HasRun bank.directory bank.columns ops.now node) }
+    ensures run { IfOk result (λ node. HasRun bank.directory bank.columns ops.now node.value) }
     ensures fault { IfErr result (IsNodesFault nodes workers) }
 {
     if nodes <= 1 {
@@ -67,30 +67,30 @@ pub(crate) fn run_nodes<H: Threads + Wait + Clock + Sync, G: Gate + Sync>(
 fn run_beside<H: Threads + Wait + Clock + Sync, G: Gate + Sync>(
     rt: &H,
     alloc: Global,
-    node: Replica<MemoryStore>,
+    node: Box<Replica<MemoryStore>>,
     ops: &[Op],
     feed: Frames<'_, H>,
     followers: Vec<Follower>,
     nodes: usize,
     workers: usize,
     gate: &G,
-) -> Result<Replica<MemoryStore>, RunFault>
+) -> Result<Box<Replica<MemoryStore>>, RunFault>
     requires workers { workers ≤ 16 }
-    requires opened { IsOpened node.board }
+    requires opened { IsOpened node.value.board }
     requires few { length ops.now ≤ LOG_CALLS }
-    requires within { AreWithin (length node.names) ops.now }
-    ensures run { IfOk result (λ done. HasRun node.names node.board.opening ops.now done) }
+    requires within { AreWithin (length node.value.names) ops.now }
+    ensures run { IfOk result (λ done. HasRun node.value.names node.value.board.opening ops.now done.value) }
     ensures fault { IfErr result (IsNodesFault nodes workers) }
 {
     thread::scope(
         thread::scope_env(),
         rt,
-        move |scope| -> Result<Replica<MemoryStore>, RunFault>
+        move |scope| -> Result<Box<Replica<MemoryStore>>, RunFault>
             requires workers { workers ≤ 16 }
-            requires opened { IsOpened node.board }
+            requires opened { IsOpened node.value.board }
             requires few { length ops.now ≤ LOG_CALLS }
-            requires within { AreWithin (length node.names) ops.now }
-            ensures run { IfOk result (λ done. HasRun node.names node.board.opening ops.entry.now done) }
+            requires within { AreWithin (length node.value.names) ops.now }
+            ensures run { IfOk result (λ done. HasRun node.value.names node.value.board.opening ops.entry.now done.value) }
             ensures fault { IfErr result (IsNodesFault nodes workers) }
         {
             let threads = start(scope, rt, alloc, followers, nodes)?;

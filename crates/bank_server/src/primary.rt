@@ -32,8 +32,8 @@ use std::marker::Model;
 /// The log, and node 0, which has carried out a beginning of it.
 #[derive(Drop)]
 pub struct Primary<S: CheckpointStore> {
-    log: Sequencer,
-    node: Replica<S>,
+    log: Box<Sequencer>,
+    node: Box<Replica<S>>,
 }
 
 impl<S: CheckpointStore> Model for Primary<S> {
@@ -41,9 +41,9 @@ impl<S: CheckpointStore> Model for Primary<S> {
 
     ghost Value = { PrimaryOf S };
 
-    ghost view = { λ p. record { log = p.log.log; node = p.node } };
+    ghost view = { λ p. record { log = p.log.value.log; node = p.node.value } };
 
-    ghost invariant = { λ p. IsPrimary (record { log = p.log.log; node = p.node }) };
+    ghost invariant = { λ p. IsPrimary (record { log = p.log.value.log; node = p.node.value }) };
 }
 
 impl<S: CheckpointStore> Primary<S> {
@@ -59,8 +59,9 @@ impl<S: CheckpointStore> Primary<S> {
           store = store;
         }) }
     {
-        let log = Sequencer::open(alloc, 1);
         let node = Replica::open(alloc, 0, opening.directory, opening.columns, store)?;
+        let node = Box::new(alloc, node)?;
+        let log = Box::new(alloc, Sequencer::open(alloc, 1))?;
         Ok(Primary { log, node })
     }
 
@@ -126,8 +127,9 @@ impl<S: CheckpointStore> Primary<S> {
         ensures gone { IfErr result (LosesCrew (C.keeps crew.old) self.old.node.board) }
         ensures stays { C.keeps crew.old ≡ false → C.keeps crew.new ≡ false }
     {
-        catch_up(&self.log, &mut self.node, crew)?;
-        Ok(settle(&mut self.node, crew)?)
+        let node = &mut *self.node;
+        catch_up(&self.log, node, crew)?;
+        Ok(settle(node, crew)?)
     }
 
     /// Puts a checkpoint of all that node 0 carried out into its store, reads it back, and answers how many entries of
@@ -152,11 +154,12 @@ impl<S: CheckpointStore> Primary<S> {
         ensures honest { S.IsHonest self.old.node.store → ¬ IsErrOf result SaveFault.ReadBack }
         ensures stays { self.new ≡ record self.old { node = record self.old.node { store = self.new.node.store } } }
     {
-        let put = self.node.put_checkpoint()?;
-        let same = self.node.store_holds(&put)?;
+        let node = &mut *self.node;
+        let put = node.put_checkpoint()?;
+        let same = node.store_holds(&put)?;
         if !same {
             return Err(SaveFault::ReadBack);
         }
-        Ok(self.node.length())
+        Ok(node.length())
     }
 }

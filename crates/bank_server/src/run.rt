@@ -84,7 +84,7 @@ fn output_text<H: Threads + Wait + Clock + Sync, G: Gate + Sync>(
     let bank = Bank {
         directory: prepared.directory,
         columns: prepared.columns,
-        log: prepared.sequencer,
+        log: Box::new(alloc, prepared.sequencer)?,
     };
     let node = run_nodes(rt, alloc, bank, &prepared.ops, nodes, workers, gate)?;
     drop(prepared.ops);

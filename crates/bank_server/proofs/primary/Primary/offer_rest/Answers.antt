@@ -1,6 +1,8 @@
 use Rattle.std.proofs.Common.{subst}
 use Rattle.std.proofs.lemmas.Result.{err_from_is_err_and}
 use Rattle.cown_workers.specs.Draining.{NoneOut}
+use Rattle.sb_replica.specs.Replica.{ReplicaOf}
+use Rattle.bank_server.specs.Faults.{IsCarryFault}
 use Rattle.bank_server.specs.Primary.{PrimaryOf}
 use Rattle.bank_server.specs.SessionFaults.{LosesCrew, session_of_carry_fault}
 use Rattle.bank_server.proofs.Carried.{loses_crew}
@@ -12,8 +14,11 @@ returns-in_err-catch_up-clause-gone g c =
     let fault = c.in_err-catch_up.field-0.0 in
     let keeps = g.C.Crew.keeps c.args.crew.now in
     rw (p.1, p.2) (subst (λ (v : PrimaryOf g.row.S.Denot). LosesCrew keeps v.node.board (session_of_carry_fault fault)) c.self.view_is
-    (loses_crew keeps c.self.inside.node.board fault c.in_err-catch_up.ensures.fault))
+    (loses_crew keeps c.self.inside.node.value.board fault
+    (subst (λ (r : ReplicaOf g.row.S.Denot). IsCarryFault keeps r.board fault) c.deref_mut.ensures.value c.in_err-catch_up.ensures.fault)))
 
 pub returns-clause-none_out : goal.returns-clause-none_out
 returns-clause-none_out g c =
-    subst (λ (v : PrimaryOf g.row.S.Denot). NoneOut v.node.board → NoneOut c.catch_up.new.node.board) c.self.view_is c.in_ok-catch_up.ensures.none_out
+    subst (λ (v : PrimaryOf g.row.S.Denot). NoneOut v.node.board → NoneOut c.catch_up.new.node.board) c.self.view_is
+    (subst (λ (r : ReplicaOf g.row.S.Denot). NoneOut r.board → NoneOut c.catch_up.new.node.board) c.deref_mut.ensures.value
+    c.in_ok-catch_up.ensures.none_out)

@@ -1,6 +1,8 @@
 use Rattle.std.proofs.Common.{rules, subst}
 use Rattle.std.proofs.lemmas.Result.{err_from_is_err_and}
 use Rattle.sb_checkpoint.specs.Stores.{StoreDoes, StoreStep}
+use Rattle.sb_replica.specs.Marking.{PutsBytes}
+use Rattle.sb_replica.specs.Replica.{ReplicaOf}
 use Rattle.bank_server.specs.Primary.{PrimaryOf}
 use Rattle.bank_server.specs.Saving.{IsSaveFaultOf, Saves, save_of_store_fault}
 use Rattle.bank_server.specs.declared.save_fault.SaveFault.TheVariants.{ReadBack}
@@ -14,9 +16,11 @@ returns-in_err-same-clause-fault g c =
     let does : g.row.S.Denot → StoreStep → g.row.S.Denot → Type 0 =
     StoreDoes g.S.CheckpointStore.slot g.S.CheckpointStore.IsHonest g.S.CheckpointStore.failed g.S.CheckpointStore.acts in
     let new = c.store_holds.new.self in
+    let puts = subst (λ (old : ReplicaOf g.row.S.Denot). PutsBytes does old c.in_ok-put.put.items c.put_checkpoint.new.self) c.deref_mut-node.ensures.value
+    c.in_ok-put.ensures.ok in
     rw (p.1, p.2)
     (subst (λ (v : PrimaryOf g.row.S.Denot). IsSaveFaultOf does v.node (save_of_store_fault fault) new) c.self.view_is
-    (not_read does c.self.inside.node c.put_checkpoint.new.self new c.in_ok-put.put.items c.in_ok-put.ensures.ok
+    (not_read does c.self.inside.node.value c.put_checkpoint.new.self new c.in_ok-put.put.items puts
     c.store_holds.ensures.stays c.self.invariant.behind.uncut fault c.in_err-same.ensures.told))
 
 pub returns-then-not-same-clause-fault : goal.returns-then-not-same-clause-fault
@@ -24,9 +28,11 @@ returns-then-not-same-clause-fault g c =
     let does : g.row.S.Denot → StoreStep → g.row.S.Denot → Type 0 =
     StoreDoes g.S.CheckpointStore.slot g.S.CheckpointStore.IsHonest g.S.CheckpointStore.failed g.S.CheckpointStore.acts in
     let new = c.store_holds.new.self in
+    let puts = subst (λ (old : ReplicaOf g.row.S.Denot). PutsBytes does old c.in_ok-put.put.items c.put_checkpoint.new.self) c.deref_mut-node.ensures.value
+    c.in_ok-put.ensures.ok in
     let compared = c.in_ok-same.ensures.told in
     subst (λ (v : PrimaryOf g.row.S.Denot). IsSaveFaultOf does v.node ReadBack new) c.self.view_is
-    (read_other does c.self.inside.node c.put_checkpoint.new.self new c.in_ok-put.put.items c.in_ok-put.ensures.ok
+    (read_other does c.self.inside.node.value c.put_checkpoint.new.self new c.in_ok-put.put.items puts
     c.store_holds.ensures.stays c.self.invariant.behind.uncut compared.held compared.got (search rules))
 
 pub returns-clause-saved : goal.returns-clause-saved
@@ -34,7 +40,9 @@ returns-clause-saved g c =
     let does : g.row.S.Denot → StoreStep → g.row.S.Denot → Type 0 =
     StoreDoes g.S.CheckpointStore.slot g.S.CheckpointStore.IsHonest g.S.CheckpointStore.failed g.S.CheckpointStore.acts in
     let new = c.store_holds.new.self in
+    let puts = subst (λ (old : ReplicaOf g.row.S.Denot). PutsBytes does old c.in_ok-put.put.items c.put_checkpoint.new.self) c.deref_mut-node.ensures.value
+    c.in_ok-put.ensures.ok in
     let compared = c.in_ok-same.ensures.told in
     subst (λ (v : PrimaryOf g.row.S.Denot). Saves does v.node new) c.self.view_is
-    (read_back does c.self.inside.node c.put_checkpoint.new.self new c.in_ok-put.put.items c.in_ok-put.ensures.ok
+    (read_back does c.self.inside.node.value c.put_checkpoint.new.self new c.in_ok-put.put.items puts
     c.store_holds.ensures.stays c.self.invariant.behind.uncut compared.held compared.got (search rules))

@@ -1,22 +1,21 @@
-use Rattle.std.proofs.Common.{◌≡◌, ◌+◌, Ok, Err, [], ◌∷◌, ◌++◌, length, refl, sym, ap, subst, ◌∙◌, arith, rules, length-append}
+use Rattle.std.proofs.Common.{◌≡◌, ◌+◌, Ok, Err, [], ◌∷◌, ◌++◌, length, refl, sym, ap, subst, ◌∙◌, arith, length-append}
 use Rattle.sb_rows.specs.Text.{lines}
 use Rattle.bank_server.specs.Asks.{running_after}
 use Rattle.bank_server.specs.Asking.{IsAsking}
 use Rattle.bank_server.specs.Input.{asks_from, in_call}
 use Rattle.bank_server.specs.declared.fault.InputFault.TheVariants as faults
-use Rattle.bank_server.proofs.AskedLines.{asks_from-line, asks_from-fault, asks_from-end, after_push, standings_push, log_of-nil, running_if_none, running_if_some, running_after_le}
-use Rattle.bank_server.proofs.asking.ask_lines.Goals as goal
-use Rattle.bank_server.proofs.asking.ask_lines.Goals.{then-is_none, else-is_none}
+use Rattle.bank_server.proofs.AskedLines.{asks_from-line, asks_from-fault, asks_from-end, after_push, standings_push, log_of-nil, running_after_le}
+use Rattle.bank_server.proofs.asking.ask_all.Goals as goal
 
 pub loop-line-init : goal.loop-line-init
 loop-line-init c = (
   [],
   record {
     all = refl;
-    after = record { keys = tt; running_is = refl; log_is = ap (λ s. s.log) c.in_ok-sequencer.ensures ∙ sym log_of-nil };
-    standings = c.in_ok-standings.ensures.items;
+    after = record { keys = tt; running_is = refl; log_is = c.requires.log ∙ sym log_of-nil };
+    standings = c.requires.standings;
     room = omega arith;
-    count = ap length c.in_ok-standings.ensures.items;
+    count = ap length c.requires.standings;
     few = omega arith;
   },
 )
@@ -35,10 +34,7 @@ loop-line-preserved c =
     let so_far = c.loop-line.invariant.1 in
     let asked = c.in-Ok.asked in
     let one = c.in_ok-ask.ensures asks so_far.after in
-    let next : c.if-is_none.running ≡ running_after c.loop-line.running asked.key = elim c.if-is_none.branch [
-      | then-is_none w ↦ running_if_none c.loop-line.running c.if-is_none.running asked.key (search rules) w.running-is
-      | else-is_none w ↦ running_if_some c.loop-line.running c.if-is_none.running asked.key (search rules) w.running-is
-    ] in
+    let next : c.next_running-running.result ≡ running_after c.loop-line.running asked.key = c.next_running-running.ensures in
     let more = asks_from-line c.args.first_line asks c.in-Some.line.now (lines c.in-Some.rest.now) asked (sym c.in-Ok.ensures.exact) in
     let longer : length (asks ++ asked ∷ []) ≡ length asks + 1 = length-append asks (asked ∷ []) in
     let told : length c.push.new.self.items ≡ length c.loop-line.standings.items + 1 =
@@ -47,7 +43,7 @@ loop-line-preserved c =
       asks ++ asked ∷ [],
       record {
         all = sym more ∙ (ap (asks_from c.args.first_line asks) (sym c.in-Some.ensures.line) ∙ so_far.all);
-        after = after_push asks asked c.loop-line.running c.if-is_none.running c.loop-line.sequencer.log c.ask.new.sequencer.log so_far.after
+        after = after_push asks asked c.loop-line.running c.next_running-running.result c.loop-line.sequencer.log c.ask.new.sequencer.log so_far.after
             c.in-Ok.ensures.spelled.0.0 next one.0;
         standings = c.in_ok-push.ensures.items
             ∙ standings_push asks asked c.loop-line.running c.loop-line.sequencer.log c.ask.new.sequencer.log c.loop-line.standings.items c.in_ok-ask.field-0
