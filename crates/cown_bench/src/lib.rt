@@ -8,8 +8,6 @@ mod known;
 mod laws;
 mod passes;
 mod rule;
-#[cfg(test)]
-mod tests;
 mod work;
 mod worker_passes;
 

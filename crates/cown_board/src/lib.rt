@@ -10,8 +10,6 @@ mod laws;
 mod ready_list;
 mod runs;
 mod state;
-#[cfg(test)]
-mod tests;
 mod turn;
 
 pub use board::{Board, OPEN_BEHAVIOURS, SubmitFault};

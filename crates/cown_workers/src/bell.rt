@@ -77,3 +77,24 @@ impl Bell {
         work
     }
 }
+
+// A bell can't be had from outside: a worker looks at its bench, and rests right after that where nothing lies there, so
+// what is laid out between the two can't be told apart from what was there before. So this is shown here.
+#[cfg(test)]
+mod tests {
+    use super::*;
+
+    #[test]
+    fn what_lies_on_the_bench_is_picked_before_a_rest(rt: HostRuntime) {
+        let (bench, mut owner, mut passes) = Bench::new(rt.alloc(), 1).expect(&rt, "memory");
+        let bell = Bell::new(rt.alloc(), 1).expect(&rt, "memory");
+        let mut pass = passes.pop().expect(&rt, "a pass");
+        // Nobody rests yet, so the ring wakes nobody.
+        assert!(rt; bench.offer(&rt, &mut owner, Work::Stop).is_ok());
+        bell.ring(&rt, 1);
+        let picked = bell.rest(&rt, &bench, &mut pass);
+        assert!(rt; matches!(&picked, Some(Work::Stop)));
+        // A rest with nothing to pick ends by itself.
+        assert!(rt; bell.rest(&rt, &bench, &mut pass).is_none());
+    }
+}

@@ -12,8 +12,6 @@ mod gate;
 mod in_threads;
 mod inbox;
 mod inline_crew;
-#[cfg(test)]
-mod tests;
 mod worker;
 
 pub use bench_crew::BenchCrew;

@@ -1,6 +1,0 @@
--- The pass stays that of the bench.
-use Rattle.std.proofs.Common.{◌≡◌}
-use Rattle.cown_bench.proofs.tests.two_threads.pick_all.Given as goal
-
-abbrev pub invariant-loop : goal.invariant-loop
-invariant-loop g l = l.worker.bench ≡ l.bench

@@ -1,7 +1,0 @@
--- The opening stays.
-use Rattle.std.proofs.Common.{◌≡◌, ◌*◌, length}
-use Rattle.sb_calls.specs.Cowns.{held_of}
-use Rattle.cown_workers.proofs.tests.submit.Given as goal
-
-abbrev pub invariant-loop-line : goal.invariant-loop-line
-invariant-loop-line l = length (held_of l.board.opening) ≡ 2 * length l.directory

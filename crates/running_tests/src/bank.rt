@@ -1,0 +1,299 @@
+//! A board of ops over three customers, which is worked step by step.
+ghost use Rattle.std.specs.Prelude.{◌≡◌, ◌<◌, ◌*◌, length, IfSome};
+ghost use Rattle.sb_calls.specs.Cowns.{held_of};
+
+use cown_board::{Board, CutFault, Done, Job, OPEN_BEHAVIOURS, SubmitFault, Turn, take_turn};
+use cown_workers::Crew;
+use sb_calls::{Behaviour, Call, LOG_CALLS, Op, Reply, read_call, resolve};
+use sb_rows::{Columns, Directory, Opening, read_opening};
+use std::alloc::Global;
+use std::process::Abort;
+
+pub(crate) const OPENING: &str = "alice 100.00 50.00\nbob 0.00 20.00\ncarol 10.00 0.00\nbegin\n";
+
+// A board over the columns of an opening, with the replies to the numbers before it, and the customers' names.
+#[tactic(auto, using(sb_calls::proofs::Holding::two_cowns_a_customer))]
+pub(crate) fn open_board<B: Behaviour>(
+    rt: &impl Abort,
+    alloc: Global,
+    opening: &str,
+    replies: Vec<Reply>,
+) -> (Box<Board<B>>, Directory)
+    ensures { length (held_of result.0.value.opening) ≡ 2 * length result.1 }
+{
+    assert!(rt; replies.len() <= LOG_CALLS);
+    let base = replies.len() as u64;
+    let opening = read_opening(alloc, opening.as_bytes()).expect(rt, "an opening");
+    let Opening {
+        directory,
+        columns,
+        ..
+    } = opening;
+    let board = Board::open(alloc, columns, base, replies).expect(rt, "memory");
+    (Box::new(alloc, board).expect(rt, "memory"), directory)
+}
+
+// A board over the three, with the calls that these lines spell.
+pub(crate) fn board_of(rt: &impl Abort, alloc: Global, lines: &[&str]) -> Box<Board<Op>> {
+    let (mut board, directory) = open_board(rt, alloc, OPENING, Vec::new(alloc));
+    submit_all(rt, &mut board, &directory, lines);
+    board
+}
+
+fn submit_all(rt: &impl Abort, board: &mut Board<Op>, directory: &Directory, lines: &[&str])
+    requires { length (held_of board.old.opening) ≡ 2 * length directory.now }
+{
+    for line in lines {
+        let call = read_call(line.as_bytes()).expect(rt, "a call");
+        assert!(rt; board.submit(resolve(directory, &call)).is_ok());
+    }
+}
+
+// What is done at a board, and what it answers.
+#[derive(Clone, Copy)]
+pub(crate) enum Step<'a> {
+    // The call that a line spells is submitted, and has this number.
+    Submit(u64, &'a str),
+    // The one that this many ready ones stand before is handed out. It has this number.
+    Take(usize, u64),
+    // No more than this many are ready.
+    TakeNone(usize),
+    // What was handed out with this number is carried out and taken back, with this reply.
+    Finish(u64, Reply),
+    // The first that is ready has this number. It is handed out, carried out and taken back.
+    Run(u64, Reply),
+    // Something is unfinished, and so there are no columns.
+    NoColumns,
+}
+
+#[derive(Drop)]
+pub(crate) struct Bank {
+    board: Box<Board<Op>>,
+    directory: Directory,
+    // What was handed out and hasn't come back.
+    out: Vec<Job<Op>>,
+    ghost places: { length (held_of board.value.opening) ≡ 2 * length directory },
+}
+
+impl Bank {
+    // Over the columns of an opening text, with the replies to the numbers before it.
+    pub(crate) fn open_with(
+        rt: &impl Abort,
+        alloc: Global,
+        opening: &str,
+        replies: Vec<Reply>,
+    ) -> Box<Bank> {
+        let (board, directory) = open_board(rt, alloc, opening, replies);
+        let bank = Bank {
+            board,
+            directory,
+            out: Vec::new(alloc),
+        };
+        Box::new(alloc, bank).expect(rt, "memory")
+    }
+
+    // Over the columns of the three, without earlier replies.
+    pub(crate) fn open(rt: &impl Abort, alloc: Global) -> Box<Bank> {
+        Bank::open_with(rt, alloc, OPENING, Vec::new(alloc))
+    }
+
+    // Each of these steps is done, one after the other.
+    pub(crate) fn plays(&mut self, rt: &impl Abort, steps: &[Step<'_>]) {
+        for step in steps {
+            self.play(rt, *step);
+        }
+    }
+
+    fn play(&mut self, rt: &impl Abort, step: Step<'_>) {
+        match step {
+            Step::Submit(number, line) => {
+                let call = read_call(line.as_bytes()).expect(rt, "a call");
+                self.submits(rt, number, &call);
+            }
+            Step::Take(index, number) => self.takes(rt, index, number),
+            Step::TakeNone(index) => {
+                assert!(rt; self.board.take_at(index).is_none(), "{index}");
+            }
+            Step::Finish(number, reply) => {
+                let done = self.carry_out(rt, number);
+                self.finishes(rt, done, reply);
+            }
+            Step::Run(number, reply) => {
+                self.takes(rt, 0, number);
+                assert!(rt; !self.board.idle(), "{number}");
+                let done = self.carry_out(rt, number);
+                self.finishes(rt, done, reply);
+            }
+            Step::NoColumns => self.has_no_columns(rt),
+        }
+    }
+
+    pub(crate) fn submit(&mut self, call: &Call) -> Result<u64, SubmitFault> {
+        self.board.submit(resolve(&self.directory, call))
+    }
+
+    // The call is the next one, and has this number.
+    pub(crate) fn submits(&mut self, rt: &impl Abort, number: u64, call: &Call) {
+        assert!(rt; self.submit(call) == Ok(number), "{number}");
+    }
+
+    fn takes(&mut self, rt: &impl Abort, index: usize, number: u64) {
+        let job = self.board.take_at(index).expect(rt, "a ready one");
+        assert!(rt; job.number() == number, "{number}");
+        self.out.push(job).expect(rt, "memory");
+    }
+
+    // What was handed out with this number is carried out.
+    pub(crate) fn carry_out(&mut self, rt: &impl Abort, number: u64) -> Done<Op> {
+        let place = self.place_of(number).expect(rt, "a job with the number");
+        self.out.remove(place).run()
+    }
+
+    // Where the job with a number is of what was handed out.
+    fn place_of(&self, number: u64) -> Option<usize>
+        ensures { IfSome result (λ place. place < length self.now.out.items) }
+    {
+        self.out.iter().position(|job| job.number() == number)
+    }
+
+    // What was done is taken back, and has no reply before that.
+    pub(crate) fn finishes(&mut self, rt: &impl Abort, done: Done<Op>, reply: Reply) {
+        let number = done.number();
+        assert!(rt; self.reply(number).is_none(), "{number}");
+        assert!(rt; self.finish(done) == Ok(reply), "{number}");
+        assert!(rt; self.reply(number) == Some(reply), "{number}");
+    }
+
+    // What was done is given back, and nothing that the board tells is changed.
+    pub(crate) fn gives_back(&mut self, rt: &impl Abort, done: Done<Op>, number: u64) {
+        let before = self.told();
+        assert!(rt; self.finish(done) == Err(number), "{number}");
+        assert!(rt; self.told() == before, "{number}");
+    }
+
+    // The reply, or the number of what is given back.
+    fn finish(&mut self, done: Done<Op>) -> Result<Reply, u64> {
+        self.board.finish(done).map_err(|back| back.number())
+    }
+
+    fn told(&self) -> (u64, bool, Option<Reply>, Option<Reply>) {
+        let board = &self.board;
+        (board.length(), board.idle(), board.reply(1), board.reply(2))
+    }
+
+    // The last of the ready ones is carried out, of which there are at most three.
+    pub(crate) fn runs_last(&mut self, rt: &impl Abort) {
+        let job = match self.board.take_at(2) {
+            Some(job) => job,
+            None => match self.board.take_at(1) {
+                Some(job) => job,
+                None => self.board.take_at(0).expect(rt, "a ready one"),
+            },
+        };
+        assert!(rt; self.board.finish(job.run()).is_ok());
+    }
+
+    pub(crate) fn reserves(&mut self, additional: usize) -> bool {
+        self.board.reserve(additional).is_ok()
+    }
+
+    pub(crate) fn length(&self) -> u64 {
+        self.board.length()
+    }
+
+    pub(crate) fn idle(&self) -> bool {
+        self.board.idle()
+    }
+
+    pub(crate) fn reply(&self, number: u64) -> Option<Reply> {
+        self.board.reply(number)
+    }
+
+    // Nothing is unfinished, and everyone has this.
+    pub(crate) fn ends_with(&self, rt: &impl Abort, savings: [i64; 3], checking: [i64; 3]) {
+        assert!(rt; self.idle());
+        assert!(rt; holds(&self.board, savings, checking));
+    }
+
+    fn has_no_columns(&self, rt: &impl Abort) {
+        assert!(rt; !self.idle());
+        assert!(rt; self.board.columns().expect(rt, "memory").is_none());
+    }
+
+    // A cut is made, at the board's length.
+    pub(crate) fn cuts(&mut self, rt: &impl Abort) {
+        let length = self.length();
+        assert!(rt; self.cut() == Ok(length));
+        assert!(rt; self.board.cut_length() == Some(length));
+    }
+
+    pub(crate) fn cut(&mut self) -> Result<u64, CutFault> {
+        self.board.cut()
+    }
+
+    // The cut is dropped, and there is none then.
+    pub(crate) fn drops_its_cut(&mut self, rt: &impl Abort) {
+        self.board.drop_cut();
+        assert!(rt; self.board.cut_length().is_none());
+    }
+
+    // There are no columns of a cut yet.
+    pub(crate) fn has_no_cut_columns(&self, rt: &impl Abort) {
+        assert!(rt; self.board.cut_columns().is_none());
+    }
+
+    // The columns of the cut are those of another board.
+    pub(crate) fn has_cut_of(&self, rt: &impl Abort, other: &Bank) {
+        let cut = self.board.cut_columns().expect(rt, "a cut");
+        let columns = other.board.settled_columns().expect(rt, "columns");
+        assert!(rt; are_same(cut, columns));
+    }
+
+    // One turn: a call is submitted, the first that is ready is handed out, and what was done is taken back.
+    pub(crate) fn takes_a_turn(&mut self, rt: &impl Abort, line: &str, done: Done<Op>) -> Turn<Op> {
+        let call = read_call(line.as_bytes()).expect(rt, "a call");
+        take_turn(&mut self.board, resolve(&self.directory, &call), done)
+    }
+}
+
+// Whether the numbers from 1 on are answered so, and no further one is.
+pub(crate) fn replies(board: &Board<Op>, wanted: &[Option<Reply>]) -> bool {
+    board.length() == wanted.len() as u64
+        && wanted
+            .iter()
+            .zip(1..)
+            .all(|(reply, number)| board.reply(number) == *reply)
+}
+
+// Whether the columns of the three are these. None are while something is unfinished.
+pub(crate) fn holds(board: &Board<Op>, savings: [i64; 3], checking: [i64; 3]) -> bool {
+    match board.settled_columns() {
+        Some(columns) => {
+            columns.savings() == savings.as_slice() && columns.checking() == checking.as_slice()
+        }
+        None => false,
+    }
+}
+
+pub(crate) fn are_same(columns: &Columns, others: &Columns) -> bool {
+    columns.savings() == others.savings() && columns.checking() == others.checking()
+}
+
+// The columns after the whole log are copied, where there are some.
+pub(crate) fn copies_its_columns(rt: &impl Abort, board: &Board<Op>) {
+    let settled = board.settled_columns().expect(rt, "columns");
+    match board.columns() {
+        Ok(Some(columns)) => assert!(rt; are_same(&columns, settled)),
+        _ => panic!(rt; "no columns"),
+    }
+}
+
+// Each job that is ready is given to a crew, and nothing is taken in.
+pub(crate) fn give_all(board: &mut Board<Op>, crew: &mut impl Crew) {
+    for _ in 0..OPEN_BEHAVIOURS {
+        if let Some(job) = board.take_at(0) {
+            // One that comes back is let go.
+            let _ = crew.give(job);
+        }
+    }
+}

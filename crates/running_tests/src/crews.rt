@@ -1,0 +1,165 @@
+//! Crews that keep jobs.
+ghost use Rattle.std.specs.Prelude.{◌≡◌, true};
+
+use cown_board::{Done, Job};
+use cown_workers::Crew;
+use sb_calls::Op;
+use std::alloc::{AllocError, Global};
+
+// Keeps a job until it is asked for one more.
+#[derive(Drop)]
+pub(crate) struct Desk {
+    job: Option<Job<Op>>,
+}
+
+impl Desk {
+    pub(crate) fn new() -> Desk {
+        Desk { job: None }
+    }
+}
+
+impl Crew for Desk {
+    ghost keeps = { λ desk. true };
+
+    ghost acts = { λ old step new. Unit {0} };
+
+    fn keeps(&self) -> bool {
+        true
+    }
+
+    fn give(&mut self, job: Job<Op>) -> Result<(), Job<Op>> {
+        if self.job.is_some() {
+            return Err(job);
+        }
+        self.job = Some(job);
+        Ok(())
+    }
+
+    fn next(&mut self) -> Option<Done<Op>> {
+        self.job.take().map(Job::run)
+    }
+}
+
+// Keeps the first job that it gets after it let this many go, and never hands it over.
+#[derive(Drop)]
+pub(crate) struct Keeper {
+    lets_go: u32,
+    kept: Option<Job<Op>>,
+}
+
+impl Keeper {
+    pub(crate) fn after(lets_go: u32) -> Keeper {
+        Keeper {
+            lets_go,
+            kept: None,
+        }
+    }
+}
+
+impl Crew for Keeper {
+    ghost keeps = { λ keeper. true };
+
+    ghost acts = { λ old step new. Unit {0} };
+
+    fn keeps(&self) -> bool {
+        true
+    }
+
+    fn give(&mut self, job: Job<Op>) -> Result<(), Job<Op>> {
+        if self.lets_go > 0 {
+            self.lets_go -= 1;
+            return Err(job);
+        }
+        if self.kept.is_some() {
+            return Err(job);
+        }
+        self.kept = Some(job);
+        Ok(())
+    }
+
+    fn next(&mut self) -> Option<Done<Op>> {
+        None
+    }
+}
+
+// Hands over what was carried out elsewhere in place of the job that it got.
+#[derive(Drop)]
+pub(crate) struct Stranger {
+    elsewhere: Option<Done<Op>>,
+    job: Option<Job<Op>>,
+}
+
+impl Stranger {
+    pub(crate) fn with(done: Done<Op>) -> Stranger {
+        Stranger {
+            elsewhere: Some(done),
+            job: None,
+        }
+    }
+}
+
+impl Crew for Stranger {
+    ghost keeps = { λ stranger. true };
+
+    ghost acts = { λ old step new. Unit {0} };
+
+    fn keeps(&self) -> bool {
+        true
+    }
+
+    fn give(&mut self, job: Job<Op>) -> Result<(), Job<Op>> {
+        self.job = Some(job);
+        Ok(())
+    }
+
+    fn next(&mut self) -> Option<Done<Op>> {
+        self.elsewhere.take()
+    }
+}
+
+// Carries each job out as it comes, and hands over last first what it did. It tells in which order.
+#[derive(Drop)]
+pub(crate) struct Pile {
+    done: Vec<Done<Op>>,
+    handed_over: Vec<u64>,
+}
+
+impl Pile {
+    // One that holds as many as this, and tells of as many.
+    pub(crate) fn of(alloc: Global, jobs: usize) -> Result<Pile, AllocError> {
+        Ok(Pile {
+            done: Vec::with_capacity(alloc, jobs)?,
+            handed_over: Vec::with_capacity(alloc, jobs)?,
+        })
+    }
+
+    pub(crate) fn handed_over(&self) -> &[u64] {
+        self.handed_over.as_slice()
+    }
+}
+
+impl Crew for Pile {
+    ghost keeps = { λ pile. true };
+
+    ghost acts = { λ old step new. Unit {0} };
+
+    fn keeps(&self) -> bool {
+        true
+    }
+
+    fn give(&mut self, job: Job<Op>) -> Result<(), Job<Op>> {
+        if self.done.len() == self.done.capacity() {
+            return Err(job);
+        }
+        self.done.push_reserved(job.run());
+        Ok(())
+    }
+
+    fn next(&mut self) -> Option<Done<Op>> {
+        let done = self.done.pop()?;
+        if self.handed_over.len() < self.handed_over.capacity() {
+            self.handed_over.push_reserved(done.number());
+        }
+        Some(done)
+    }
+}

@@ -1,0 +1,80 @@
+//! Cuts of a board.
+use crate::bank::{Bank, Step};
+use cown_board::CutFault;
+use sb_amount::Cents;
+use sb_calls::{Call, Reply};
+use sb_rows::Name;
+use std::process::Abort;
+
+// Deposits to the three in turn, each of as many cents as its number.
+fn submit_deposits(rt: &impl Abort, bank: &mut Bank, from: u32, to: u32) {
+    let alice = Name::new(b"alice").expect(rt, "a name");
+    let bob = Name::new(b"bob").expect(rt, "a name");
+    let carol = Name::new(b"carol").expect(rt, "a name");
+    for number in from..=to {
+        let cents = Cents::new(i64::from(number)).expect(rt, "few cents");
+        let name = match number % 3 {
+            0 => alice,
+            1 => bob,
+            _ => carol,
+        };
+        bank.submits(rt, u64::from(number), &Call::DepositChecking(name, cents));
+    }
+}
+
+// So many deposits alone.
+fn run_deposits(rt: &impl Abort, bank: &mut Bank, deposits: u32) {
+    submit_deposits(rt, bank, 1, deposits);
+    for _ in 0..deposits {
+        bank.runs_last(rt);
+    }
+}
+
+// Each customer's deposits are run to their end before the next one's are begun, so that some after the cut run
+// before some of the cut. The last of the cut is followed by eight of the same customer.
+#[test]
+fn a_cut_settles_while_later_numbers_run(rt: HostRuntime) {
+    let mut alone = Bank::open(&rt, rt.alloc());
+    run_deposits(&rt, &mut alone, 1_000);
+    let mut bank = Bank::open(&rt, rt.alloc());
+    submit_deposits(&rt, &mut bank, 1, 1_000);
+    bank.cuts(&rt);
+    submit_deposits(&rt, &mut bank, 1_001, 1_024);
+    for _ in 0..1_016 {
+        bank.has_no_cut_columns(&rt);
+        bank.runs_last(&rt);
+    }
+    assert!(rt; !bank.idle());
+    for _ in 0..8 {
+        bank.has_cut_of(&rt, &alone);
+        bank.runs_last(&rt);
+    }
+    assert!(rt; bank.idle());
+    bank.has_cut_of(&rt, &alone);
+}
+
+#[test]
+fn one_cut_is_there_at_a_time(rt: HostRuntime) {
+    let mut bank = Bank::open(&rt, rt.alloc());
+    bank.has_no_cut_columns(&rt);
+    bank.cuts(&rt);
+    submit_deposits(&rt, &mut bank, 1, 1);
+    assert!(rt; bank.cut() == Err(CutFault::Pending(0)));
+    bank.drops_its_cut(&rt);
+    bank.cuts(&rt);
+    bank.has_no_cut_columns(&rt);
+}
+
+#[test]
+fn a_number_without_cowns_keeps_a_cut_back(rt: HostRuntime) {
+    let mut alone = Bank::open(&rt, rt.alloc());
+    run_deposits(&rt, &mut alone, 1);
+    let mut bank = Bank::open(&rt, rt.alloc());
+    submit_deposits(&rt, &mut bank, 1, 1);
+    bank.plays(&rt, &[Step::Submit(2, "balance zed")]);
+    bank.cuts(&rt);
+    bank.plays(&rt, &[Step::Run(1, Reply::Done)]);
+    bank.has_no_cut_columns(&rt);
+    bank.plays(&rt, &[Step::Run(2, Reply::NoCustomer)]);
+    bank.has_cut_of(&rt, &alone);
+}

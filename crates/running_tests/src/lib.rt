@@ -1,0 +1,35 @@
+//! Tests of what runs a log: the board, the bench on which its jobs lie, and the crews that carry them out.
+#![tactic(auto)]
+
+#[cfg(test)]
+mod bank;
+#[cfg(test)]
+mod crews;
+#[cfg(test)]
+mod cuts;
+#[cfg(test)]
+mod drains;
+#[cfg(test)]
+mod faults;
+#[cfg(test)]
+mod gates;
+#[cfg(test)]
+mod limits;
+#[cfg(test)]
+mod looks;
+#[cfg(test)]
+mod offers;
+#[cfg(test)]
+mod owners;
+#[cfg(test)]
+mod pair;
+#[cfg(test)]
+mod picks;
+#[cfg(test)]
+mod readiness;
+#[cfg(test)]
+mod rests;
+#[cfg(test)]
+mod threads;
+#[cfg(test)]
+mod two_threads;

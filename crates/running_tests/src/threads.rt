@@ -1,0 +1,133 @@
+//! Crews of threads.
+ghost use Rattle.std.specs.Prelude.{◌≡◌, ◌≤◌};
+ghost use Rattle.cown_board.specs.Board.{open_of};
+
+use crate::bank::{are_same, board_of, give_all, holds};
+use crate::gates::{Ear, Meeting};
+use cown_board::{Board, OPEN_BEHAVIOURS};
+use cown_workers::{Crew, Gate, InlineCrew, OpenGate, drain, with_crew};
+use sb_calls::Op;
+use std::alloc::Global;
+use std::process::Abort;
+use std::sync::Wait;
+use std::thread::Threads;
+use std::time::Clock;
+
+// Alice's 150.00 come to bob's 20.00 and 5.00.
+const LINES: [&str; 5] = [
+    "deposit bob 5.00",
+    "amalgamate alice bob",
+    "balance bob",
+    "check bob 175.01",
+    "balance carol",
+];
+
+// A board with the calls that these lines spell, drained by so many workers.
+fn drained<R, G>(rt: &R, alloc: Global, workers: usize, gate: &G, lines: &[&str]) -> Box<Board<Op>>
+where
+    R: Threads + Wait + Clock + Sync + Abort,
+    G: Gate + Sync,
+    requires some { 1 ≤ workers }
+    requires few { workers ≤ 16 }
+    ensures idle { open_of result.value ≡ 0 }
+{
+    let board = board_of(rt, alloc, lines);
+    let answer = with_crew(rt, alloc, workers, gate, move |crew| {
+        let mut board = board;
+        let ended = drain(&mut *board, crew);
+        (board, ended)
+    });
+    let (board, ended) = answer.expect(rt, "a crew");
+    ended.expect(rt, "the crew stays");
+    board
+}
+
+// Two boards that are idle have the same replies and columns.
+fn are_alike(rt: &impl Abort, one: &Board<Op>, other: &Board<Op>) {
+    assert!(rt; one.length() == other.length());
+    assert!(rt; (1..=one.length()).all(|number| one.reply(number) == other.reply(number)));
+    let columns = one.settled_columns().expect(rt, "columns");
+    let others = other.settled_columns().expect(rt, "columns");
+    assert!(rt; are_same(columns, others));
+}
+
+// So many workers leave a board with the calls that these lines spell as one thread leaves it.
+fn drain_as_one_does<R: Threads + Wait + Clock + Sync + Abort>(
+    rt: &R,
+    alloc: Global,
+    workers: usize,
+    lines: &[&str],
+)
+    requires some { 1 ≤ workers }
+    requires few { workers ≤ 16 }
+{
+    let mut alone = board_of(rt, alloc, lines);
+    assert!(rt; drain(&mut *alone, &mut InlineCrew).is_ok());
+    let together = drained(rt, alloc, workers, &OpenGate, lines);
+    are_alike(rt, &alone, &together);
+}
+
+#[test]
+fn two_workers_drain_a_board(rt: HostRuntime) {
+    drain_as_one_does(&rt, rt.alloc(), 2, &LINES);
+}
+
+#[test]
+fn sixteen_workers_drain_what_is_ready_and_what_waits(rt: HostRuntime) {
+    drain_as_one_does(&rt, rt.alloc(), 16, &["balance zed"; OPEN_BEHAVIOURS]);
+    // Each waits for the one before it, and brings bob a cent.
+    drain_as_one_does(&rt, rt.alloc(), 16, &["deposit bob 0.01"; OPEN_BEHAVIOURS]);
+}
+
+// With sixteen the owner carries nothing out, so these are two workers.
+#[test]
+fn two_jobs_that_share_nothing_are_out_at_once(rt: HostRuntime) {
+    two_jobs_meet(&rt, rt.alloc(), 2);
+    two_jobs_meet(&rt, rt.alloc(), 16);
+}
+
+#[test]
+fn an_owner_that_waits_is_one_more_worker(rt: HostRuntime) {
+    two_jobs_meet(&rt, rt.alloc(), 1);
+}
+
+// So many workers, and perhaps the owner, carry two jobs out, each of which waits for the other.
+fn two_jobs_meet<R: Threads + Wait + Clock + Sync + Abort>(rt: &R, alloc: Global, workers: usize)
+    requires some { 1 ≤ workers }
+    requires few { workers ≤ 16 }
+{
+    let lines = ["deposit alice 1.00", "deposit bob 1.00"];
+    let gate = Meeting::default();
+    let board = drained(rt, alloc, workers, &gate, &lines);
+    assert!(rt; gate.took_place());
+    assert!(rt; holds(&board, [10_000, 0, 1_000], [5_100, 2_100, 0]));
+}
+
+#[test]
+fn a_gate_hears_of_each_job_before_and_after_it(rt: HostRuntime) {
+    let gate = Ear::default();
+    let _board = drained(&rt, rt.alloc(), 3, &gate, &LINES[1..]);
+    assert!(rt; gate.heard_of_each_in_turn());
+}
+
+#[test]
+fn a_crew_that_is_given_nothing_goes_home(rt: HostRuntime) {
+    assert!(rt; with_crew(&rt, rt.alloc(), 1, &OpenGate, |_| 7) == Ok(7));
+    assert!(rt; with_crew(&rt, rt.alloc(), 16, &OpenGate, |_| 8) == Ok(8));
+}
+
+#[test]
+fn what_nobody_takes_in_holds_nobody_up(rt: HostRuntime) {
+    let ended = with_crew(&rt, rt.alloc(), 2, &OpenGate, |crew| {
+        give_more_than_fits(&rt, rt.alloc(), crew)
+    });
+    assert!(rt; ended.is_ok());
+}
+
+// Gives more than lies on the bench and in the channel together, and takes nothing in.
+fn give_more_than_fits(rt: &impl Abort, alloc: Global, crew: &mut impl Crew) {
+    for _ in 0..3 {
+        let mut board = board_of(rt, alloc, &["balance zed"; OPEN_BEHAVIOURS]);
+        give_all(&mut board, crew);
+    }
+}
