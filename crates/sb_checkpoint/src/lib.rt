@@ -13,8 +13,6 @@ mod putting;
 mod reading;
 mod spared;
 mod store;
-#[cfg(test)]
-mod tests;
 mod writing;
 
 pub use checkpoint::Checkpoint;

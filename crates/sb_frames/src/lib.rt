@@ -10,8 +10,6 @@ mod frame;
 mod laws;
 mod outcome;
 mod stream;
-#[cfg(test)]
-mod tests;
 mod writing;
 
 pub use decoding::decode;

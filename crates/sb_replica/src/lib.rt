@@ -8,8 +8,6 @@ mod marking;
 mod replica;
 mod restarting;
 mod running;
-#[cfg(test)]
-mod tests;
 
 pub use fault::{MarkFault, ReplicaFault, RestartFault};
 pub use heard::Heard;

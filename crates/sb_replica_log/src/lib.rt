@@ -4,8 +4,6 @@
 mod laws;
 mod offered;
 mod replica_log;
-#[cfg(test)]
-mod tests;
 
 pub use laws::limits;
 pub use offered::Offered;

@@ -7,8 +7,6 @@ mod kept;
 mod laws;
 mod note;
 mod sequencer;
-#[cfg(test)]
-mod tests;
 
 pub use answer::{AskFault, Numbered};
 pub use laws::{limits, numbering};

@@ -1,0 +1,98 @@
+//! Logs of replicas: they take the entries of one log in order, however these come.
+use crate::bank::opening;
+use cown_board::{Board, CutFault, Runs};
+use sb_calls::{LOG_CALLS, Op, Reply};
+use sb_replica_log::{Offered, ReplicaLog};
+use std::process::Abort;
+
+mod cuts;
+mod holding;
+mod taking;
+
+// What is done with a log, and what it answers.
+#[derive(Clone, Copy)]
+enum Step {
+    // An entry of nobody's call, which declares no cowns, is answered so, and the log has this length then.
+    Offer(u64, Offered, u64),
+    // The next entries up to this number, of the same call, are taken.
+    OfferUpTo(u64),
+    // An entry of another call without cowns.
+    OfferSameCustomer(u64, Offered),
+    // The op that is held for the next number is answered so, and the log has this length then.
+    Advance(Option<Offered>, u64),
+    // The first that is ready has this number; it is run and finished.
+    Run(u64),
+    Cut(Result<u64, CutFault>),
+    CutLength(Option<u64>),
+    // Whether the columns of the cut are there.
+    CutSettled(bool),
+    DropCut,
+    // Whether the columns after all entries are there.
+    Settled(bool),
+}
+
+// A log over the three, with this many earlier entries.
+fn opened_after(rt: &(impl Abort + AllocGlobal), entries: usize) -> Box<ReplicaLog> {
+    let columns = opening(rt).columns;
+    assert!(rt; entries <= LOG_CALLS);
+    let replies = Vec::from_elem(rt.alloc(), Reply::Done, entries).expect(rt, "memory for replies");
+    let board = Board::open(rt.alloc(), columns, entries as u64, replies).expect(
+        rt,
+        "memory for a board",
+    );
+    Box::new(rt.alloc(), ReplicaLog::open(board)).expect(rt, "memory for a log")
+}
+
+fn offers(rt: &impl Abort, log: &mut ReplicaLog, number: u64, answer: Offered, length: u64) {
+    assert!(rt;
+        log.offer_entry(number, Op::NoCustomer) == Ok(answer),
+        "{number}"
+    );
+    assert!(rt; log.length() == length, "{number}");
+}
+
+fn offers_up_to(rt: &impl Abort, log: &mut ReplicaLog, last: u64) {
+    for number in log.length() + 1..last.saturating_add(1) {
+        offers(rt, log, number, Offered::Next, number);
+    }
+}
+
+fn runs(rt: &impl Abort, log: &mut ReplicaLog, number: u64) {
+    let job = log.take_at(0).expect(rt, "none is ready");
+    assert!(rt; job.number() == number);
+    assert!(rt; log.finish(job.run()).ok() == Some(Reply::NoCustomer));
+    assert!(rt; log.reply(number) == Some(Reply::NoCustomer));
+}
+
+fn plays_one(rt: &impl Abort, log: &mut ReplicaLog, place: usize, step: Step) {
+    match step {
+        Step::Offer(number, answer, length) => offers(rt, log, number, answer, length),
+        Step::OfferUpTo(last) => offers_up_to(rt, log, last),
+        Step::OfferSameCustomer(number, answer) => {
+            assert!(rt;
+                log.offer_entry(number, Op::SameCustomer) == Ok(answer),
+                "{place}"
+            );
+        }
+        Step::Advance(answer, length) => {
+            assert!(rt; log.advance() == Ok(answer), "{place}");
+            assert!(rt; log.length() == length, "{place}");
+        }
+        Step::Run(number) => runs(rt, log, number),
+        Step::Cut(answer) => assert!(rt; log.cut() == answer, "{place}"),
+        Step::CutLength(length) => assert!(rt; log.cut_length() == length, "{place}"),
+        Step::CutSettled(settled) => {
+            assert!(rt; log.cut_columns().is_some() == settled, "{place}");
+        }
+        Step::DropCut => log.drop_cut(),
+        Step::Settled(settled) => {
+            assert!(rt; log.settled_columns().is_some() == settled, "{place}");
+        }
+    }
+}
+
+fn plays(rt: &impl Abort, log: &mut ReplicaLog, steps: &[Step]) {
+    for (place, step) in steps.iter().enumerate() {
+        plays_one(rt, log, place, *step);
+    }
+}

@@ -1,0 +1,197 @@
+//! Replicas: entries from the network, checkpoints and restarts.
+use crate::bank::opening;
+use cown_board::{CutFault, Done, Job, Runs};
+use sb_calls::{Op, Reply, read_call};
+use sb_checkpoint::{CheckpointFault, CheckpointStore, How, MemoryStore};
+use sb_frames::{Frame, FrameFault, encode};
+use sb_replica::{Heard, MarkFault, Replica, ReplicaFault, RestartFault};
+use std::process::Abort;
+
+mod cuts;
+mod hearing;
+mod marks;
+mod restarts;
+
+// Replica 1 of the three, over a store in memory, and its jobs that are out, the earliest first.
+#[derive(Drop)]
+struct Node {
+    replica: Replica<MemoryStore>,
+    out: Vec<Job<Op>>,
+}
+
+// What is done with a replica, and what it answers.
+#[derive(Clone, Copy)]
+enum Step {
+    // The frame of an entry with this call is answered so.
+    Hear(u64, &'static str, Heard),
+    // The next entries up to this number, each with this call, are accepted.
+    AcceptUpTo(u64, &'static str),
+    // These bytes are answered so.
+    HearBytes(&'static [u8], Result<Heard, ReplicaFault>),
+    // The entry that is held for the next number is answered so.
+    Advance(Option<Heard>),
+    // The first that is ready has this number, and is out from now on.
+    Take(u64),
+    // The job that is out for longest is run and finished.
+    Finish(Reply),
+    // The job that is out for longest is run, and comes back, since its number is finished already or isn't out.
+    ComeBack,
+    // The first that is ready has this number; it is run and finished.
+    Run(u64, Reply),
+    // The reply to a number.
+    ReplyTo(u64, Option<Reply>),
+    // Nothing is unfinished, and these are the length and the checking balances of the three.
+    Ends(u64, [i64; 3]),
+    Length(u64),
+    Cut(Result<u64, CutFault>),
+    // The next put of the store ends so.
+    Tell(How),
+    Mark(Result<u64, MarkFault>),
+    // So many bytes of a checkpoint are stored.
+    Stored(Option<usize>),
+    Restart(Result<u64, RestartFault>),
+    // What it says of its length, and of its reply to a number.
+    AckFrame(Frame),
+    AnswerFrame(u64, Option<Frame>),
+}
+
+// A replica whose store holds these bytes already.
+fn opened_over(rt: &(impl Abort + AllocGlobal), stored: Option<&[u8]>) -> Box<Node> {
+    let mut store = MemoryStore::new(rt.alloc());
+    if let Some(bytes) = stored {
+        assert!(rt; store.put(bytes) == Ok(()));
+    }
+    let bank = opening(rt);
+    let replica = Replica::open(rt.alloc(), 1, bank.directory, bank.columns, store);
+    let node = Node {
+        replica: replica.expect(rt, "memory for a replica"),
+        out: Vec::new(rt.alloc()),
+    };
+    Box::new(rt.alloc(), node).expect(rt, "memory for a node")
+}
+
+fn opened(rt: &(impl Abort + AllocGlobal)) -> Box<Node> {
+    opened_over(rt, None)
+}
+
+fn hears(
+    rt: &impl Abort,
+    replica: &mut Replica<MemoryStore>,
+    number: u64,
+    line: &str,
+    heard: Heard,
+) {
+    let call = read_call(line.as_bytes()).expect(rt, "a call");
+    let bytes = encode(&Frame::Entry { number, call });
+    assert!(rt; replica.on_frame(&bytes) == Ok(heard), "{number} {line}");
+}
+
+fn accepts_up_to(rt: &impl Abort, replica: &mut Replica<MemoryStore>, last: u64, line: &str) {
+    for number in replica.length() + 1..last.saturating_add(1) {
+        hears(rt, replica, number, line, Heard::Accepted(number));
+        assert!(rt; replica.length() == number);
+    }
+}
+
+fn is_done(rt: &impl Abort, replica: &mut Replica<MemoryStore>, done: Done<Op>, reply: Reply) {
+    let number = done.number();
+    assert!(rt; replica.finish(done).ok() == Some(reply), "{number}");
+    assert!(rt; replica.reply(number) == Some(reply), "{number}");
+}
+
+fn runs(rt: &impl Abort, replica: &mut Replica<MemoryStore>, number: u64, reply: Reply) {
+    let job = replica.take_at(0).expect(rt, "none is ready");
+    assert!(rt; job.number() == number);
+    is_done(rt, replica, job.run(), reply);
+}
+
+fn takes(rt: &impl Abort, node: &mut Node, number: u64) {
+    let job = node.replica.take_at(0).expect(rt, "none is ready");
+    assert!(rt; job.number() == number);
+    assert!(rt; node.out.push(job).is_ok());
+}
+
+fn first_out(rt: &impl Abort, node: &mut Node) -> Job<Op> {
+    assert!(rt; !node.out.is_empty());
+    node.out.remove(0)
+}
+
+fn finishes(rt: &impl Abort, node: &mut Node, reply: Reply) {
+    let done = first_out(rt, node).run();
+    is_done(rt, &mut node.replica, done, reply);
+}
+
+fn comes_back(rt: &impl Abort, node: &mut Node) {
+    let done = first_out(rt, node).run();
+    assert!(rt; node.replica.finish(done).is_err());
+}
+
+fn ends(rt: &impl Abort, replica: &Replica<MemoryStore>, length: u64, checking: [i64; 3]) {
+    assert!(rt; replica.length() == length);
+    let columns = replica.columns().expect(rt, "memory for columns");
+    let columns = columns.expect(rt, "no columns");
+    assert!(rt; columns.checking() == checking.as_slice());
+}
+
+fn holds(rt: &impl Abort, replica: &mut Replica<MemoryStore>, size: Option<usize>) {
+    let stored = replica.stored().expect(rt, "memory for the bytes");
+    let held = stored.as_ref().map(|bytes| bytes.len());
+    assert!(rt; held == size);
+    if let Some(bytes) = stored {
+        assert!(rt; bytes.starts_with(b"SBCKPT01"));
+    }
+}
+
+fn restarts_so(
+    rt: &impl Abort,
+    replica: &mut Replica<MemoryStore>,
+    answer: Result<u64, RestartFault>,
+) {
+    assert!(rt; replica.restart() == answer);
+    if let Ok(length) = answer {
+        assert!(rt; replica.length() == length);
+        assert!(rt; replica.idle());
+    }
+}
+
+// A step that leaves what is out where it is.
+fn plays_on_replica(
+    rt: &impl Abort,
+    replica: &mut Replica<MemoryStore>,
+    place: usize,
+    step: &Step,
+) {
+    match *step {
+        Step::Hear(number, line, heard) => hears(rt, replica, number, line, heard),
+        Step::AcceptUpTo(last, line) => accepts_up_to(rt, replica, last, line),
+        Step::HearBytes(bytes, answer) => {
+            assert!(rt; replica.on_frame(bytes) == answer, "{place}");
+        }
+        Step::Advance(heard) => assert!(rt; replica.advance() == Ok(heard), "{place}"),
+        Step::Run(number, reply) => runs(rt, replica, number, reply),
+        Step::ReplyTo(number, reply) => assert!(rt; replica.reply(number) == reply, "{place}"),
+        Step::Ends(length, checking) => ends(rt, replica, length, checking),
+        Step::Length(length) => assert!(rt; replica.length() == length, "{place}"),
+        Step::Cut(answer) => assert!(rt; replica.cut() == answer, "{place}"),
+        Step::Tell(how) => replica.tell(how),
+        Step::Mark(answer) => assert!(rt; replica.mark() == answer, "{place}"),
+        Step::Stored(size) => holds(rt, replica, size),
+        Step::Restart(answer) => restarts_so(rt, replica, answer),
+        Step::AckFrame(frame) => assert!(rt; replica.ack_frame() == frame, "{place}"),
+        Step::AnswerFrame(number, frame) => {
+            assert!(rt; replica.answer_frame(number) == frame, "{place}");
+        }
+        _ => assert!(rt; false, "{place} needs what is out"),
+    }
+}
+
+fn plays(rt: &impl Abort, node: &mut Node, steps: &[Step]) {
+    for (place, step) in steps.iter().enumerate() {
+        match *step {
+            Step::Take(number) => takes(rt, node, number),
+            Step::Finish(reply) => finishes(rt, node, reply),
+            Step::ComeBack => comes_back(rt, node),
+            _ => plays_on_replica(rt, &mut node.replica, place, step),
+        }
+    }
+}

@@ -1,0 +1,62 @@
+//! Checkpoints of a cut, while later entries run.
+use super::*;
+
+#[test]
+fn a_mark_of_a_cut_while_another_entry_is_out(rt: HostRuntime) {
+    plays(
+        &rt,
+        &mut opened(&rt),
+        &[
+            Step::AcceptUpTo(1, "deposit alice 1.00"),
+            Step::Cut(Ok(1)),
+            Step::Cut(Err(CutFault::Pending(1))),
+            Step::Mark(Err(MarkFault::Busy)),
+            Step::AcceptUpTo(2, "deposit alice 2.00"),
+            Step::Run(1, Reply::Done),
+            Step::Take(2),
+            Step::Mark(Ok(1)),
+            // The cut is gone, so the next mark is of both.
+            Step::Mark(Err(MarkFault::Busy)),
+            Step::Finish(Reply::Done),
+            Step::Restart(Ok(1)),
+            Step::Ends(1, [5_100, 2_000, 0]),
+        ],
+    );
+}
+
+#[test]
+fn a_cut_outlasts_a_mark_that_fails(rt: HostRuntime) {
+    plays(
+        &rt,
+        &mut opened(&rt),
+        &[
+            Step::AcceptUpTo(1, "deposit alice 1.00"),
+            Step::Run(1, Reply::Done),
+            Step::Cut(Ok(1)),
+            Step::AcceptUpTo(2, "deposit alice 2.00"),
+            Step::Run(2, Reply::Done),
+            Step::Tell(How::Old),
+            Step::Mark(Err(MarkFault::Device)),
+            Step::Mark(Ok(1)),
+            Step::Restart(Ok(1)),
+            Step::Ends(1, [5_100, 2_000, 0]),
+        ],
+    );
+}
+
+#[test]
+fn a_restart_drops_the_cut(rt: HostRuntime) {
+    plays(
+        &rt,
+        &mut opened(&rt),
+        &[
+            Step::AcceptUpTo(1, "deposit alice 1.00"),
+            Step::Run(1, Reply::Done),
+            Step::Cut(Ok(1)),
+            Step::Restart(Ok(0)),
+            Step::Ends(0, [5_000, 2_000, 0]),
+            Step::Cut(Ok(0)),
+            Step::Mark(Ok(0)),
+        ],
+    );
+}

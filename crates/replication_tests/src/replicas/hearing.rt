@@ -1,0 +1,96 @@
+//! What a replica hears, and what it says.
+use super::*;
+use sb_calls::WireReply;
+
+#[test]
+fn only_the_next_entry_is_accepted(rt: HostRuntime) {
+    plays(
+        &rt,
+        &mut opened(&rt),
+        &[
+            Step::Hear(2, "deposit bob 1.00", Heard::Held(2)),
+            Step::Hear(1, "deposit alice 1.00", Heard::Accepted(1)),
+            Step::Hear(1, "deposit alice 1.00", Heard::Repeat(1)),
+            Step::Hear(2, "deposit bob 1.00", Heard::Accepted(2)),
+            // The one that was held for its number isn't accepted once more.
+            Step::Advance(None),
+            Step::Run(1, Reply::Done),
+            Step::Run(2, Reply::Done),
+            Step::Ends(2, [5_100, 2_100, 0]),
+        ],
+    );
+}
+
+#[test]
+fn an_entry_that_came_early_is_accepted_in_its_turn(rt: HostRuntime) {
+    plays(
+        &rt,
+        &mut opened(&rt),
+        &[
+            Step::Hear(65, "deposit bob 1.00", Heard::Gap(0)),
+            Step::Hear(2, "amalgamate alice bob", Heard::Held(2)),
+            Step::Advance(None),
+            Step::AcceptUpTo(1, "deposit alice 1.00"),
+            Step::Advance(Some(Heard::Accepted(2))),
+            Step::Run(1, Reply::Done),
+            Step::Run(2, Reply::Done),
+            Step::Ends(2, [0, 17_100, 0]),
+        ],
+    );
+}
+
+#[test]
+fn an_entry_waits_while_too_many_are_unfinished(rt: HostRuntime) {
+    let line = "deposit alice 0.01";
+    plays(
+        &rt,
+        &mut opened(&rt),
+        &[
+            Step::AcceptUpTo(1_024, line),
+            Step::Hear(1_025, line, Heard::Busy(1_024)),
+            Step::Hear(1_026, line, Heard::Held(1_026)),
+            Step::Run(1, Reply::Done),
+            Step::Hear(1_025, line, Heard::Accepted(1_025)),
+            Step::Advance(Some(Heard::Busy(1_025))),
+        ],
+    );
+}
+
+#[test]
+fn what_is_no_whole_frame_is_refused(rt: HostRuntime) {
+    let short = ReplicaFault::BadFrame(FrameFault::Short);
+    let unknown = ReplicaFault::BadFrame(FrameFault::UnknownTag);
+    let long = ReplicaFault::BadFrame(FrameFault::BadLength);
+    plays(
+        &rt,
+        &mut opened(&rt),
+        &[
+            Step::HearBytes(&[], Err(short)),
+            Step::HearBytes(&[0, 1, 9], Err(unknown)),
+            // A whole frame, and a byte after it.
+            Step::HearBytes(&[0, 1, 6, 0], Err(long)),
+            Step::HearBytes(&[0, 1, 6], Ok(Heard::Ignored)),
+            Step::Length(0),
+        ],
+    );
+}
+
+#[test]
+fn it_says_its_length_and_its_replies(rt: HostRuntime) {
+    let reply = WireReply::new(Reply::Shown(15_000)).expect(&rt, "a reply");
+    plays(
+        &rt,
+        &mut opened(&rt),
+        &[
+            Step::AcceptUpTo(1, "balance alice"),
+            Step::AckFrame(Frame::Ack {
+                replica: 1,
+                length: 1,
+            }),
+            Step::AnswerFrame(1, None),
+            Step::Run(1, Reply::Shown(15_000)),
+            Step::AnswerFrame(1, Some(Frame::Answer { number: 1, reply })),
+            Step::AnswerFrame(0, None),
+        ],
+    );
+}

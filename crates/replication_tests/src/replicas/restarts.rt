@@ -1,0 +1,135 @@
+//! Replicas that go back to their checkpoint.
+use super::*;
+
+// A replica whose store held these bytes before it was opened is restarted, and is as it was.
+fn is_refused(rt: &(impl Abort + AllocGlobal), bytes: &[u8], fault: CheckpointFault) {
+    plays(
+        rt,
+        &mut opened_over(rt, Some(bytes)),
+        &[
+            Step::AcceptUpTo(1, "deposit alice 1.00"),
+            Step::Restart(Err(RestartFault::BadCheckpoint(fault))),
+            Step::Length(1),
+            Step::Run(1, Reply::Done),
+        ],
+    );
+}
+
+#[test]
+fn bytes_that_are_no_checkpoint_of_the_bank(rt: HostRuntime) {
+    is_refused(&rt, b"no checkpoint", CheckpointFault::BadMagic);
+    is_refused(&rt, b"SBCKPT01", CheckpointFault::Short);
+    // A checkpoint of a bank without customers.
+    let mut bytes = [0; 28];
+    bytes[..8].copy_from_slice(b"SBCKPT01");
+    is_refused(&rt, &bytes, CheckpointFault::WrongCustomers);
+}
+
+#[test]
+fn a_restart_forgets_what_is_held(rt: HostRuntime) {
+    plays(
+        &rt,
+        &mut opened(&rt),
+        &[
+            Step::Hear(2, "deposit alice 1.00", Heard::Held(2)),
+            Step::Restart(Ok(0)),
+            Step::AcceptUpTo(1, "deposit alice 2.00"),
+            Step::Advance(None),
+        ],
+    );
+}
+
+// The first job is out when it's restarted at the opening, and is taken once more.
+#[test]
+fn the_earlier_hand_finishes_first(rt: HostRuntime) {
+    plays(
+        &rt,
+        &mut opened(&rt),
+        &[
+            Step::AcceptUpTo(1, "deposit alice 1.00"),
+            Step::Take(1),
+            Step::Restart(Ok(0)),
+            Step::AcceptUpTo(1, "deposit alice 1.00"),
+            Step::Take(1),
+            Step::Finish(Reply::Done),
+            Step::ComeBack,
+            Step::Ends(1, [5_100, 2_000, 0]),
+        ],
+    );
+}
+
+#[test]
+fn a_hand_from_before_is_a_stranger(rt: HostRuntime) {
+    plays(
+        &rt,
+        &mut opened(&rt),
+        &[
+            Step::AcceptUpTo(1, "deposit alice 1.00"),
+            Step::Take(1),
+            Step::Restart(Ok(0)),
+            Step::AcceptUpTo(1, "deposit alice 1.00"),
+            // It waits again, so it isn't out.
+            Step::ComeBack,
+            Step::Run(1, Reply::Done),
+            Step::Ends(1, [5_100, 2_000, 0]),
+        ],
+    );
+}
+
+#[test]
+fn a_failed_put_that_left_the_old_bytes(rt: HostRuntime) {
+    plays(
+        &rt,
+        &mut opened(&rt),
+        &[
+            Step::AcceptUpTo(1, "deposit alice 1.00"),
+            Step::Run(1, Reply::Done),
+            Step::Tell(How::Old),
+            Step::Mark(Err(MarkFault::Device)),
+            Step::Restart(Ok(0)),
+            Step::ReplyTo(1, None),
+            Step::AcceptUpTo(1, "deposit alice 1.00"),
+            Step::Run(1, Reply::Done),
+            Step::Ends(1, [5_100, 2_000, 0]),
+        ],
+    );
+}
+
+#[test]
+fn a_failed_put_that_left_the_new_bytes(rt: HostRuntime) {
+    plays(
+        &rt,
+        &mut opened(&rt),
+        &[
+            Step::AcceptUpTo(1, "deposit alice 1.00"),
+            Step::Run(1, Reply::Done),
+            Step::Tell(How::New),
+            Step::Mark(Err(MarkFault::Device)),
+            Step::Restart(Ok(1)),
+            Step::ReplyTo(1, Some(Reply::Done)),
+            Step::Hear(1, "deposit alice 1.00", Heard::Repeat(1)),
+            Step::Ends(1, [5_100, 2_000, 0]),
+        ],
+    );
+}
+
+#[test]
+fn what_came_after_the_checkpoint_comes_again(rt: HostRuntime) {
+    plays(
+        &rt,
+        &mut opened(&rt),
+        &[
+            Step::AcceptUpTo(1, "deposit alice 1.00"),
+            Step::Run(1, Reply::Done),
+            Step::Mark(Ok(1)),
+            Step::AcceptUpTo(2, "amalgamate alice bob"),
+            Step::Run(2, Reply::Done),
+            Step::Restart(Ok(1)),
+            Step::ReplyTo(2, None),
+            // Alice has her balances again.
+            Step::AcceptUpTo(2, "balance alice"),
+            Step::Run(2, Reply::Shown(15_100)),
+            Step::Ends(2, [5_100, 2_000, 0]),
+        ],
+    );
+}

@@ -1,0 +1,37 @@
+//! Where checkpoints are kept: in memory, and in files.
+use sb_checkpoint::{CheckpointStore, StoreFault};
+use std::process::Abort;
+
+mod failing_files;
+mod files;
+mod memory;
+mod pairs;
+
+// It holds these bytes, and none that are fewer, more or others.
+fn holds<S: CheckpointStore>(rt: &impl Abort, store: &mut S, bytes: &[u8]) {
+    let held = store.get().expect(rt, "a get fails");
+    let held = held.expect(rt, "nothing is held");
+    assert!(rt; held.as_slice() == bytes);
+    assert!(rt; store.holds(bytes) == Ok(true));
+    assert!(rt; store.holds(b"fir") == Ok(false));
+    assert!(rt; store.holds(b"some bytes more") == Ok(false));
+    assert!(rt; store.holds(b"others") == Ok(false));
+}
+
+fn holds_nothing<S: CheckpointStore>(rt: &impl Abort, store: &mut S) {
+    let held = store.get().expect(rt, "a get fails");
+    assert!(rt; held.is_none());
+    assert!(rt; store.holds(b"") == Ok(false));
+}
+
+// A put ends so, and the store's device has failed this often then.
+fn puts<S: CheckpointStore>(
+    rt: &impl Abort,
+    store: &mut S,
+    bytes: &[u8],
+    answer: Result<(), StoreFault>,
+    failures: u64,
+) {
+    assert!(rt; store.put(bytes) == answer);
+    assert!(rt; store.failures() == failures);
+}

@@ -1,0 +1,13 @@
+//! Tests of the wire: its frames, their streams, and the sequencer that numbers what is asked.
+#![tactic(auto)]
+
+#[cfg(test)]
+mod fixtures;
+#[cfg(test)]
+mod frames;
+#[cfg(test)]
+mod sequencer;
+#[cfg(test)]
+mod streams;
+#[cfg(test)]
+mod words;

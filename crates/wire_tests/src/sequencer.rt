@@ -1,0 +1,121 @@
+//! The sequencer: what is asked and heard, and what it answers.
+use crate::fixtures::{balance, entry};
+use sb_calls::Reply;
+use sb_sequencer::{AckNote, AnswerNote, AskFault, Numbered, Sequencer};
+use std::process::Abort;
+
+mod asks;
+mod hearing;
+mod resending;
+
+// What is asked of a sequencer, and its answer. Each call is a balance of the customer with this name.
+#[derive(Clone, Copy)]
+enum Step {
+    // An ask by the client under its own number of the request.
+    Ask(u32, u32, &'static str, Result<Numbered, AskFault>),
+    // Client 1 asks for so many calls, the first of the log, with its requests from 0 on.
+    AskMany(u32, &'static str),
+    Length(u64),
+    // The call with this number.
+    Shows(u64, Option<&'static str>),
+    // The entry with this number is of this call.
+    Entry(u64, Option<&'static str>),
+    // The call with this number is replied so.
+    Answer(u64, Reply, AnswerNote),
+    // The reply to a client's request.
+    AnswerOf(u32, u32, Option<Reply>),
+    // A replica has the log up to a length.
+    Ack(u8, u64, AckNote),
+    // A replica is sent so many entries of this call again, the first with this number.
+    Resends(u8, u64, usize, &'static str),
+}
+
+// A sequencer for so many replicas.
+fn opened(rt: &(impl Abort + AllocGlobal), replicas: usize) -> Box<Sequencer> {
+    assert!(rt; replicas <= 8);
+    Box::new(rt.alloc(), Sequencer::open(rt.alloc(), replicas)).expect(rt, "memory for a sequencer")
+}
+
+// A sequencer for one replica, with room for so many calls.
+fn with_room(rt: &(impl Abort + AllocGlobal), calls: usize) -> Box<Sequencer> {
+    let sequencer = Sequencer::with_capacity(rt.alloc(), 1, calls).expect(rt, "memory for calls");
+    Box::new(rt.alloc(), sequencer).expect(rt, "memory for a sequencer")
+}
+
+fn asks_many(rt: &impl Abort, log: &mut Sequencer, count: u32, customer: &str) {
+    let call = balance(rt, customer);
+    for request in 0..count {
+        let number = u64::from(request) + 1;
+        assert!(rt;
+            log.ask(1, request, &call) == Ok(Numbered::New(number)),
+            "{request}"
+        );
+    }
+}
+
+fn shows(rt: &impl Abort, log: &Sequencer, number: u64, customer: Option<&str>) {
+    match customer {
+        Some(customer) => assert!(rt;
+            log.call(number) == Some(&balance(rt, customer)),
+            "{number}"
+        ),
+        None => assert!(rt; log.call(number).is_none(), "{number}"),
+    }
+}
+
+fn enters(rt: &impl Abort, log: &Sequencer, number: u64, customer: Option<&str>) {
+    match customer {
+        Some(customer) => {
+            let wanted = entry(number, &balance(rt, customer));
+            assert!(rt; log.entry(number) == Some(wanted), "{number}");
+        }
+        None => assert!(rt; log.entry(number).is_none(), "{number}"),
+    }
+}
+
+fn resends(
+    rt: &impl Abort,
+    log: &Sequencer,
+    replica: u8,
+    first: u64,
+    count: usize,
+    customer: &str,
+) {
+    let call = balance(rt, customer);
+    let sent = log.resend(replica);
+    assert!(rt; sent.len() == count, "{replica} {first}");
+    for (told, number) in sent.iter().zip(first..u64::MAX) {
+        assert!(rt; *told == entry(number, &call), "{number}");
+    }
+}
+
+fn plays_one(rt: &impl Abort, log: &mut Sequencer, place: usize, step: Step) {
+    match step {
+        Step::Ask(client, request, customer, answer) => {
+            let call = balance(rt, customer);
+            assert!(rt; log.ask(client, request, &call) == answer, "{place}");
+        }
+        Step::AskMany(count, customer) => asks_many(rt, log, count, customer),
+        Step::Length(length) => assert!(rt; log.length() == length, "{place}"),
+        Step::Shows(number, customer) => shows(rt, log, number, customer),
+        Step::Entry(number, customer) => enters(rt, log, number, customer),
+        Step::Answer(number, reply, note) => {
+            assert!(rt; log.on_answer(number, reply) == note, "{place}");
+        }
+        Step::AnswerOf(client, request, reply) => {
+            assert!(rt; log.answer_of(client, request) == reply, "{place}");
+        }
+        Step::Ack(replica, length, note) => {
+            assert!(rt; log.on_ack(replica, length) == note, "{place}");
+        }
+        Step::Resends(replica, first, count, customer) => {
+            resends(rt, log, replica, first, count, customer);
+        }
+    }
+}
+
+fn plays(rt: &impl Abort, log: &mut Sequencer, steps: &[Step]) {
+    for (place, step) in steps.iter().enumerate() {
+        plays_one(rt, log, place, *step);
+    }
+}

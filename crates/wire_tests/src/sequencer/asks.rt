@@ -1,0 +1,157 @@
+//! Numbers for what clients ask.
+use super::*;
+use sb_calls::{Call, Key};
+
+#[test]
+fn a_request_keeps_its_number(rt: HostRuntime) {
+    plays(
+        &rt,
+        &mut opened(&rt, 1),
+        &[
+            Step::Ask(7, 3, "alice", Ok(Numbered::New(1))),
+            Step::Ask(7, 3, "alice", Ok(Numbered::Repeat(1))),
+            Step::Ask(7, 3, "bob", Err(AskFault::Mismatch(1))),
+            Step::Ask(7, 3, "alice", Ok(Numbered::Repeat(1))),
+            Step::Length(1),
+        ],
+    );
+}
+
+#[test]
+fn numbers_requests_in_the_order_of_first_asks(rt: HostRuntime) {
+    plays(
+        &rt,
+        &mut opened(&rt, 1),
+        &[
+            Step::Ask(2, 1, "alice", Ok(Numbered::New(1))),
+            Step::Ask(1, 1, "alice", Ok(Numbered::New(2))),
+            Step::Ask(2, 2, "bob", Ok(Numbered::New(3))),
+            Step::Ask(1, 1, "alice", Ok(Numbered::Repeat(2))),
+            Step::Ask(1, 2, "bob", Ok(Numbered::New(4))),
+            Step::Ask(2, 2, "alice", Err(AskFault::Mismatch(3))),
+            Step::Ask(2, 1, "alice", Ok(Numbered::Repeat(1))),
+            Step::Ask(0, u32::MAX, "bob", Ok(Numbered::New(5))),
+            Step::Length(5),
+        ],
+    );
+}
+
+#[test]
+fn shows_calls_by_number(rt: HostRuntime) {
+    plays(
+        &rt,
+        &mut opened(&rt, 1),
+        &[
+            Step::Length(0),
+            Step::Shows(1, None),
+            Step::Ask(1, 1, "alice", Ok(Numbered::New(1))),
+            Step::Shows(0, None),
+            Step::Shows(1, Some("alice")),
+            Step::Shows(2, None),
+            Step::Shows(u64::MAX, None),
+        ],
+    );
+}
+
+#[test]
+fn a_full_log_takes_repeats_alone(rt: HostRuntime) {
+    plays(
+        &rt,
+        &mut opened(&rt, 1),
+        &[
+            Step::AskMany(1_000_000, "alice"),
+            Step::Ask(1, 1_000_000, "alice", Err(AskFault::LogFull)),
+            Step::Ask(1, 0, "alice", Ok(Numbered::Repeat(1))),
+            Step::Ask(1, 0, "bob", Err(AskFault::Mismatch(1))),
+            Step::Ask(1, 999_999, "alice", Ok(Numbered::Repeat(1_000_000))),
+            Step::Length(1_000_000),
+            Step::Shows(1_000_000, Some("alice")),
+            Step::Shows(1_000_001, None),
+        ],
+    );
+}
+
+#[test]
+fn room_for_more_calls_than_a_log_takes(rt: HostRuntime) {
+    plays(
+        &rt,
+        &mut with_room(&rt, 1_500_000),
+        &[
+            Step::AskMany(1_000_000, "alice"),
+            Step::Ask(1, 1_000_000, "alice", Err(AskFault::LogFull)),
+            Step::Ask(1, 999_999, "alice", Ok(Numbered::Repeat(1_000_000))),
+            Step::Length(1_000_000),
+        ],
+    );
+}
+
+#[test]
+fn takes_more_calls_than_it_was_opened_for(rt: HostRuntime) {
+    plays(
+        &rt,
+        &mut with_room(&rt, 2),
+        &[Step::AskMany(40, "alice"), Step::Length(40)],
+    );
+    assert!(rt; Sequencer::with_capacity(rt.alloc(), 1, usize::MAX).is_err());
+}
+
+// What an ask is answered by a plain search of the asks that have a number.
+fn plain_answer(log: &[(Key, Call)], key: Key, call: Call) -> Result<Numbered, AskFault> {
+    for (place, (asked, numbered)) in log.iter().enumerate() {
+        if *asked == key {
+            let number = place as u64 + 1;
+            return if *numbered == call {
+                Ok(Numbered::Repeat(number))
+            } else {
+                Err(AskFault::Mismatch(number))
+            };
+        }
+    }
+    Ok(Numbered::New(log.len() as u64 + 1))
+}
+
+// An ask is answered as by the plain search, which notes it where it's new.
+fn asks_both(
+    rt: &impl Abort,
+    log: &mut Sequencer,
+    plain: &mut Vec<(Key, Call)>,
+    key: Key,
+    call: Call,
+) {
+    let answer = plain_answer(plain, key, call);
+    if let Ok(Numbered::New(_)) = answer {
+        assert!(rt; plain.push((key, call)).is_ok());
+    }
+    assert!(rt;
+        log.ask(key.client, key.request, &call) == answer,
+        "{key:?}"
+    );
+    assert!(rt; log.length() == plain.len() as u64, "{key:?}");
+}
+
+// The log shows the calls of the plain one, in their order.
+fn shows_all(rt: &impl Abort, log: &Sequencer, plain: &[(Key, Call)]) {
+    for (place, (_, call)) in plain.iter().enumerate() {
+        assert!(rt;
+            log.call(place as u64 + 1).copied() == Some(*call),
+            "{place}"
+        );
+    }
+}
+
+#[test]
+fn answers_as_a_plain_search_does(rt: HostRuntime) {
+    let mut log = opened(&rt, 1);
+    let mut plain = Vec::new(rt.alloc());
+    let calls = [balance(&rt, "alice"), balance(&rt, "bob")];
+    for step in 0..500_u32 {
+        let mixed = step * step / 3 + step;
+        let key = Key {
+            client: mixed % 7,
+            request: mixed % 23,
+        };
+        let call = calls[(mixed % 5 / 4) as usize];
+        asks_both(&rt, &mut log, &mut plain, key, call);
+    }
+    shows_all(&rt, &log, &plain);
+}
