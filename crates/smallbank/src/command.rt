@@ -33,48 +33,70 @@ prints, once a client has deposited 1.00 for alice
 
 /// The command whose grammar the program's words have.
 pub fn command<'a>(alloc: Global) -> Result<Command<'a>, AllocError> {
-    let run = Command::new(alloc, "run")
+    let run = run(alloc)?;
+    let command = Command::new(alloc, "smallbank")
+        .version("0.1.0")
+        .about("A SmallBank store, proved")
+        .subcommand(run)?
+        .subcommand(play(alloc))?;
+    let serve = serve(alloc)?;
+    command.subcommand(serve)
+}
+
+// The part of the command that runs calls.
+fn run<'a>(alloc: Global) -> Result<Command<'a>, AllocError> {
+    Command::new(alloc, "run")
         .about("Runs calls from standard input")
         .long_about(RUN)
         .after_help(EXAMPLE)
         .arg(nodes(alloc))?
-        .arg(workers(alloc))?;
-    let play = Command::new(alloc, "play").about("Plays a schedule from standard input");
-    Command::new(alloc, "smallbank")
-        .version("0.1.0")
-        .about("A SmallBank store, proved")
-        .subcommand(run)?
-        .subcommand(play)?
-        .subcommand(serve(alloc)?)
+        .arg(workers(alloc))
+}
+
+// The part of the command that plays a schedule.
+fn play<'a>(alloc: Global) -> Command<'a> {
+    Command::new(alloc, "play").about("Plays a schedule from standard input")
 }
 
 // The part of the command that serves.
 fn serve<'a>(alloc: Global) -> Result<Command<'a>, AllocError> {
-    let port = Arg::new(alloc, "port")
-        .long("port")
-        .value_name("0..65535")
-        .value_parser(value_parser!(usize).range(0..=65_535))
-        .required(true)
-        .help("Where to listen, at 127.0.0.1; with 0 at any free port");
-    let sessions = Arg::new(alloc, "sessions")
-        .long("sessions")
-        .value_name("1..1000")
-        .value_parser(value_parser!(usize).range(1..=1_000))
-        .default_value("1")
-        .help("How many clients are served before the program ends");
-    let store = Arg::new(alloc, "store")
-        .long("store")
-        .value_name("FOLDER")
-        .help("Where the first node saves a checkpoint after each session, as node0.ckpt");
     Command::new(alloc, "serve")
         .about("Serves clients over TCP")
         .long_about(SERVE)
         .after_help(SERVE_EXAMPLE)
-        .arg(port)?
-        .arg(sessions)?
+        .arg(port(alloc))?
+        .arg(sessions(alloc))?
         .arg(nodes(alloc))?
         .arg(workers(alloc))?
-        .arg(store)
+        .arg(store(alloc))
+}
+
+// Where clients are listened to.
+fn port<'a>(alloc: Global) -> Arg<'a> {
+    Arg::new(alloc, "port")
+        .long("port")
+        .value_name("0..65535")
+        .value_parser(value_parser!(usize).range(0..=65_535))
+        .required(true)
+        .help("Where to listen, at 127.0.0.1; with 0 at any free port")
+}
+
+// How many clients are served.
+fn sessions<'a>(alloc: Global) -> Arg<'a> {
+    Arg::new(alloc, "sessions")
+        .long("sessions")
+        .value_name("1..1000")
+        .value_parser(value_parser!(usize).range(1..=1_000))
+        .default_value("1")
+        .help("How many clients are served before the program ends")
+}
+
+// Where node 0's checkpoint is kept.
+fn store<'a>(alloc: Global) -> Arg<'a> {
+    Arg::new(alloc, "store")
+        .long("store")
+        .value_name("FOLDER")
+        .help("Where the first node saves a checkpoint after each session, as node0.ckpt")
 }
 
 // How many nodes there are.

@@ -1,5 +1,7 @@
 //! The program that serves.
 ghost use Rattle.std.specs.Prelude.{◌≡◌, ◌≤◌, None, false, is_some, IfErr, IfOk};
+ghost use Rattle.bank_server.specs.Faults.{BlamesText};
+ghost use Rattle.smallbank.specs.Opening.{whole_opening_of};
 ghost use Rattle.smallbank.specs.ServeFaults.{IsProgramFault};
 
 use crate::door::ListenerDoor;
@@ -7,9 +9,11 @@ use crate::listening::listen;
 use crate::opening::whole_opening;
 use crate::serve_fault::ServeFault;
 use crate::serving::{Plan, serve};
+use bank_server::RunFault;
 use sb_checkpoint::{CheckpointStore, FileStore, FileWithSpare, FolderFile, MemoryStore};
 use sb_rows::Opening;
 use sb_text::read_all;
+use std::alloc::Global;
 use std::io::{Read, Write};
 use std::net::{Net, OpenStream};
 use std::sync::Wait;
@@ -38,7 +42,7 @@ where
 {
     let alloc = rt.alloc();
     let input = read_all(alloc, &mut rt.stdin())?;
-    let opening = whole_opening(alloc, &input)?;
+    let opening = boxed_opening(alloc, &input)?;
     drop(input);
     match folder {
         Some(folder) => {
@@ -47,6 +51,14 @@ where
         }
         None => serve_at(rt, threads, port, opening, MemoryStore::new(alloc), plan),
     }
+}
+
+// A whole opening text, read as by `whole_opening`.
+fn boxed_opening(alloc: Global, input: &[u8]) -> Result<Box<Opening>, RunFault>
+    ensures { IfErr result (λ fault. BlamesText fault (whole_opening_of input.now)) }
+{
+    let opening = whole_opening(alloc, input)?;
+    Ok(Box::new(alloc, opening)?)
 }
 
 // A store in a file, which can be written.
@@ -68,7 +80,7 @@ fn serve_at<H, S>(
     rt: &HostRuntime,
     threads: &H,
     port: u16,
-    opening: Opening,
+    opening: Box<Opening>,
     store: S,
     plan: Plan,
 ) -> Result<(), ServeFault>
@@ -80,6 +92,7 @@ where
     ensures fault { IfErr result (IsProgramFault port plan.nodes plan.saves false) }
 {
     let door = ListenerDoor::new(listen(threads, port)?);
+    let opening = Box::into_inner(opening);
     serve(threads, rt.alloc(), door, opening, store, plan, rt.stdout())?;
     Ok(())
 }

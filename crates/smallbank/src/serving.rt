@@ -15,7 +15,7 @@ use bank_server::{Followers, Primary, RunFault, SessionFault, with_followers};
 use cown_workers::{BenchCrew, Crew, InlineCrew, OpenGate, with_crew};
 use sb_checkpoint::CheckpointStore;
 use sb_rows::Opening;
-use std::alloc::Global;
+use std::alloc::{AllocError, Global};
 use std::io::{Read, Write};
 use std::net::OpenStream;
 use std::sync::Wait;
@@ -87,12 +87,8 @@ where
     // Node 0 never strays, and the store is asked only where the plan says so.
     ensures fault { IfErr result (IsServingFault plan.nodes plan.saves) }
 {
-    let own = Opening {
-        directory: opening.directory.copy()?,
-        columns: opening.columns.copy()?,
-        consumed: opening.consumed,
-    };
-    let primary = Primary::open(alloc, own, store)?;
+    let opening = Box::new(alloc, opening)?;
+    let primary = open_bank(alloc, &opening, store)?;
     with_followers(
         rt,
         alloc,
@@ -110,6 +106,26 @@ where
             ensures fault { IfErr result (IsServingFault followers.old.nodes plan.saves) }
         { serve_beside(rt, alloc, door, primary, followers, plan, writer) },
     )?
+}
+
+// A bank with an empty log, and names and columns of its own.
+fn open_bank<S: CheckpointStore>(
+    alloc: Global,
+    opening: &Opening,
+    store: S,
+) -> Result<Primary<S>, AllocError>
+    ensures log { IfOk result (λ primary. primary.log ≡ []) }
+    ensures all { IfOk result (λ primary. HasAll primary) }
+    ensures names { IfOk result (λ primary. primary.node.names ≡ opening.now.directory) }
+    ensures opening { IfOk result (λ primary. primary.node.board.opening ≡ opening.now.columns) }
+    ensures store { IfOk result (λ primary. primary.node.store ≡ store) }
+{
+    let own = Opening {
+        directory: opening.directory.copy()?,
+        columns: opening.columns.copy()?,
+        consumed: opening.consumed,
+    };
+    Primary::open(alloc, own, store)
 }
 
 // Serves a bank beside its followers, with workers where the plan has some.

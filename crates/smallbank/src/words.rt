@@ -4,9 +4,9 @@ ghost use Rattle.smallbank.specs.Words.{InRange, IsRunOf, IsServeOf, Names, Says
 
 use crate::command::command;
 use crate::options::{count, number, value};
-use clap::Error;
 use clap::error::ErrorKind;
-use std::alloc::Global;
+use clap::{Command, Error};
+use std::alloc::{AllocError, Global};
 
 // What is told of words that clap takes and `named` doesn't. None are known.
 const UNREAD: &str =
@@ -48,13 +48,24 @@ pub fn read_words<'a>(alloc: Global, words: &'a [String]) -> Result<Words<'a>, E
     ensures range { IfOk result (λ read. InRange read) }
     ensures says { IfOk result (λ read. Says read words.entry.now) }
 {
-    let mut command = command(alloc)?;
-    command.try_get_matches_from_mut(words)?;
+    let mut command = boxed_command(alloc)?;
+    check(&mut command, words)?;
     // Looked at here once more, so that the clauses rest on nothing of clap's grammar.
     match named(words) {
         Some(read) => Ok(read),
         None => Err(command.error(ErrorKind::ValueValidation, UNREAD)?),
     }
+}
+
+// The program's command. Each way out of a function that owns it would drop all of it.
+fn boxed_command<'a>(alloc: Global) -> Result<Box<Command<'a>>, AllocError> {
+    Ok(Box::new(alloc, command(alloc)?)?)
+}
+
+// Fails where the words aren't in the command's grammar.
+fn check<'a>(command: &mut Command<'a>, words: &'a [String]) -> Result<(), Error> {
+    command.try_get_matches_from_mut(words)?;
+    Ok(())
 }
 
 // What the words after the program's name say.
