@@ -18,8 +18,6 @@ mod hearing;
 mod laws;
 mod log_number;
 mod nodes;
-#[cfg(test)]
-mod plain;
 mod preparing;
 mod primary;
 mod resolving;
@@ -28,8 +26,6 @@ mod save_fault;
 mod session;
 mod session_fault;
 mod telling;
-#[cfg(test)]
-mod tests;
 mod waiting;
 
 pub use agreement::agree;

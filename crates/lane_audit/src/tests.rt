@@ -1,24 +1,31 @@
+//! What no clause says: columns at the limit, columns of each length about a lane's, an audit worked by hand.
 use super::*;
 use sb_amount::LIMIT;
 use sb_rows::CUSTOMERS;
-use std::alloc::{AllocError, Global};
+use std::alloc::Global;
 use std::process::Abort;
 
 mod audits;
 mod columns;
 
+// A case comes out as it has to.
+fn expect(rt: &impl Abort, holds: bool, case: &str) {
+    assert!(rt; holds, "{case}");
+}
+
+// The same of one column among columns of several lengths.
+fn expect_at(rt: &impl Abort, holds: bool, length: usize) {
+    assert!(rt; holds, "{length}");
+}
+
 // A column of zeros, but for a value at some places.
-fn column(
-    alloc: Global,
-    length: usize,
-    places: &[usize],
-    value: i64,
-) -> Result<Vec<i64>, AllocError> {
+fn column(rt: &impl Abort, alloc: Global, length: usize, places: &[usize], value: i64) -> Vec<i64> {
     let mut values = Vec::new(alloc);
     for place in 0..length {
-        values.push(if places.contains(&place) { value } else { 0 })?;
+        let held = if places.contains(&place) { value } else { 0 };
+        values.push(held).expect(rt, "memory for a value");
     }
-    Ok(values)
+    values
 }
 
 // The sum of a column that a bank may have.

@@ -1,127 +1,202 @@
+//! What no clause says: amounts worked by hand, texts of faults, amounts as a plain program prints them.
 use super::*;
-use std::alloc::{AllocError, Global};
-use std::test::Fail;
+use std::alloc::Global;
+use std::process::Abort;
 
-fn cents(text: &str) -> Result<i64, MoneyFault> {
-    Cents::read(text.as_bytes()).map(|amount| amount.value())
+// A case comes out as it has to.
+fn expect(rt: &impl Abort, holds: bool, case: &str) {
+    assert!(rt; holds, "{case}");
 }
 
-#[test]
-fn reads_amounts(rt: HostRuntime) {
-    assert_eq!(rt; cents("0.00"), Ok(0));
-    assert_eq!(rt; cents("0.05"), Ok(5));
-    assert_eq!(rt; cents("-0.01"), Ok(-1));
-    assert_eq!(rt; cents("12.34"), Ok(1234));
-    assert_eq!(rt; cents("10000000000.00"), Ok(1_000_000_000_000));
-    assert_eq!(rt; cents("-10000000000.00"), Ok(-1_000_000_000_000));
+// A case is shown in these words.
+fn expect_words(rt: &impl Abort, found: &str, words: &str) {
+    assert!(rt; found == words, "{words}");
 }
 
+// A text is read as so many cents.
+fn expect_read(rt: &impl Abort, text: &str, number: i64) {
+    let amount = Cents::read(text.as_bytes()).expect(rt, "an amount");
+    expect(rt, amount.value() == number, text);
+}
+
+const READ: &[(&str, i64)] = &[
+    ("0.00", 0),
+    ("0.05", 5),
+    ("-0.01", -1),
+    ("12.34", 1234),
+    ("10000000000.00", 1_000_000_000_000),
+    ("-10000000000.00", -1_000_000_000_000),
+];
+
 #[test]
-fn names_the_fault(rt: HostRuntime) {
-    for text in ["", "-"] {
-        assert_eq!(rt; cents(text), Err(MoneyFault::Empty), "{text}");
+fn amounts_that_are_read(rt: HostRuntime) {
+    for (text, number) in READ {
+        expect_read(&rt, text, *number);
     }
-    for text in ["1,00", "+1.00", "1.0 ", "--1.00"] {
-        assert_eq!(rt; cents(text), Err(MoneyFault::NotDigit), "{text}");
-    }
-    for text in [
-        "1", "1.", "1.0", "1.000", "1.0.0", "..00", ".", "00", "100", "1.00.", ".1.00", "0..00",
-    ] {
-        assert_eq!(rt; cents(text), Err(MoneyFault::BadDecimals), "{text}");
-    }
-    for text in ["01.00", "00.00", ".50", "-.50", "-0.00"] {
-        assert_eq!(rt; cents(text), Err(MoneyFault::NotCanonical), "{text}");
-    }
-    for text in [
-        "10000000000.01",
-        "-10000000000.01",
-        "92233720368547758.08",
+}
+
+// A text is no amount, with this fault.
+fn expect_fault(rt: &impl Abort, text: &str, fault: MoneyFault) {
+    let found = Cents::read(text.as_bytes()).err();
+    expect(rt, found == Some(fault), text);
+}
+
+const ONE_FAULT: &[(&str, MoneyFault)] = &[
+    ("", MoneyFault::Empty),
+    ("-", MoneyFault::Empty),
+    ("1,00", MoneyFault::NotDigit),
+    ("+1.00", MoneyFault::NotDigit),
+    ("1.0 ", MoneyFault::NotDigit),
+    ("--1.00", MoneyFault::NotDigit),
+    ("1", MoneyFault::BadDecimals),
+    ("1.", MoneyFault::BadDecimals),
+    ("1.0", MoneyFault::BadDecimals),
+    ("1.000", MoneyFault::BadDecimals),
+    ("1.0.0", MoneyFault::BadDecimals),
+    ("..00", MoneyFault::BadDecimals),
+    (".", MoneyFault::BadDecimals),
+    ("00", MoneyFault::BadDecimals),
+    ("100", MoneyFault::BadDecimals),
+    ("1.00.", MoneyFault::BadDecimals),
+    (".1.00", MoneyFault::BadDecimals),
+    ("0..00", MoneyFault::BadDecimals),
+    ("01.00", MoneyFault::NotCanonical),
+    ("00.00", MoneyFault::NotCanonical),
+    (".50", MoneyFault::NotCanonical),
+    ("-.50", MoneyFault::NotCanonical),
+    ("-0.00", MoneyFault::NotCanonical),
+    ("10000000000.01", MoneyFault::TooLarge),
+    ("-10000000000.01", MoneyFault::TooLarge),
+    ("92233720368547758.08", MoneyFault::TooLarge),
+    (
         "1000000000000000000000000000000000000000.00",
+        MoneyFault::TooLarge,
+    ),
+    (
         "99999999999999999999999999999999999999999999999999999999999999999999999999999999999999999999999999.99",
-    ] {
-        assert_eq!(rt; cents(text), Err(MoneyFault::TooLarge), "{text}");
+        MoneyFault::TooLarge,
+    ),
+];
+
+const TWO_FAULTS: &[(&str, MoneyFault)] = &[
+    ("x.0", MoneyFault::NotDigit),
+    ("99999999999999x.00", MoneyFault::NotDigit),
+    ("01.0", MoneyFault::BadDecimals),
+    ("99999999999999.0", MoneyFault::BadDecimals),
+    ("020000000000.00", MoneyFault::NotCanonical),
+];
+
+#[test]
+fn the_fault_of_a_text(rt: HostRuntime) {
+    for (text, fault) in ONE_FAULT {
+        expect_fault(&rt, text, *fault);
     }
 }
 
 #[test]
-fn names_the_first_of_two_faults(rt: HostRuntime) {
-    assert_eq!(rt; cents("x.0"), Err(MoneyFault::NotDigit));
-    assert_eq!(rt; cents("99999999999999x.00"), Err(MoneyFault::NotDigit));
-    assert_eq!(rt; cents("01.0"), Err(MoneyFault::BadDecimals));
-    assert_eq!(rt; cents("99999999999999.0"), Err(MoneyFault::BadDecimals));
-    assert_eq!(rt; cents("020000000000.00"), Err(MoneyFault::NotCanonical));
-}
-
-#[test]
-fn tells_canonical_digits(rt: HostRuntime) {
-    for (digits, canonical) in [
-        ("", false),
-        ("0", true),
-        ("7", true),
-        ("10", true),
-        ("00", false),
-        ("01", false),
-    ] {
-        assert_eq!(rt; is_canonical(digits.as_bytes()), canonical, "{digits}");
+fn the_first_of_two_faults(rt: HostRuntime) {
+    for (text, fault) in TWO_FAULTS {
+        expect_fault(&rt, text, *fault);
     }
 }
 
 #[test]
-fn prints_amounts(rt: HostRuntime) {
-    for (number, text) in [
-        (0, "0.00"),
-        (-1, "-0.01"),
-        (5, "0.05"),
-        (LIMIT, "10000000000.00"),
-        (-LIMIT, "-10000000000.00"),
-    ] {
-        let printed = Cents::new(number).map(print);
-        assert_eq!(rt; printed.as_ref().map(|found| found.as_str()), Some(text));
+fn digits_that_are_canonical(rt: HostRuntime) {
+    for digits in ["0", "7", "10"] {
+        expect(&rt, is_canonical(digits.as_bytes()), digits);
     }
-    assert_eq!(rt; print_total(i64::MIN).as_str(), "-92233720368547758.08");
-    assert_eq!(rt; print_total(i64::MAX).as_str(), "92233720368547758.07");
+    for digits in ["", "00", "01"] {
+        expect(&rt, !is_canonical(digits.as_bytes()), digits);
+    }
+}
+
+// So many cents are printed so.
+fn expect_printed(rt: &impl Abort, number: i64, text: &str) {
+    let amount = Cents::new(number).expect(rt, "an amount within the limit");
+    expect_words(rt, print(amount).as_str(), text);
+}
+
+const PRINTED: &[(i64, &str)] = &[
+    (0, "0.00"),
+    (-1, "-0.01"),
+    (5, "0.05"),
+    (LIMIT, "10000000000.00"),
+    (-LIMIT, "-10000000000.00"),
+];
+
+#[test]
+fn amounts_that_are_printed(rt: HostRuntime) {
+    for (number, text) in PRINTED {
+        expect_printed(&rt, *number, text);
+    }
+    expect_words(&rt, print_total(i64::MIN).as_str(), "-92233720368547758.08");
+    expect_words(&rt, print_total(i64::MAX).as_str(), "92233720368547758.07");
+}
+
+// The sum of two amounts, or `None` where there is none.
+fn sum_of(rt: &impl Abort, a: i64, b: i64) -> Option<i64> {
+    let first = Cents::new(a).expect(rt, "an amount within the limit");
+    let second = Cents::new(b).expect(rt, "an amount within the limit");
+    let sum = first.plus(second)?;
+    Some(sum.value())
 }
 
 #[test]
-fn adds_up_to_the_limit(rt: HostRuntime) {
-    let sum = |a: i64, b: i64| Cents::new(a)?
-        .plus(Cents::new(b)?)
-        .map(|total| total.value());
-    assert_eq!(rt; sum(LIMIT - 1, 1), Some(LIMIT));
-    assert_eq!(rt; sum(LIMIT, 1), None);
-    assert_eq!(rt; sum(1 - LIMIT, -1), Some(-LIMIT));
-    assert_eq!(rt; sum(-LIMIT, -1), None);
-    assert_eq!(rt; sum(LIMIT, -LIMIT), Some(0));
+fn sums_up_to_the_limit(rt: HostRuntime) {
+    expect(&rt, sum_of(&rt, LIMIT - 1, 1) == Some(LIMIT), "the limit");
+    expect(&rt, sum_of(&rt, LIMIT, 1).is_none(), "past the limit");
+    expect(
+        &rt,
+        sum_of(&rt, 1 - LIMIT, -1) == Some(-LIMIT),
+        "the lower limit",
+    );
+    expect(
+        &rt,
+        sum_of(&rt, -LIMIT, -1).is_none(),
+        "past the lower limit",
+    );
+    expect(&rt, sum_of(&rt, LIMIT, -LIMIT) == Some(0), "both limits");
 }
 
+// A fault has this number, and is shown so.
+fn expect_shown(rt: &impl Abort, alloc: Global, fault: MoneyFault, number: u8, words: &str) {
+    let shown = fault.to_string(alloc).expect(rt, "memory for a text");
+    expect(rt, fault.number() == number, words);
+    expect_words(rt, shown.as_str(), words);
+}
+
+const SHOWN: &[(MoneyFault, u8, &str)] = &[
+    (MoneyFault::Empty, 1, "empty"),
+    (MoneyFault::NotDigit, 2, "not a digit"),
+    (MoneyFault::BadDecimals, 3, "bad decimals"),
+    (MoneyFault::NotCanonical, 4, "not canonical"),
+    (MoneyFault::TooLarge, 5, "too large"),
+];
+
 #[test]
-fn numbers_and_words_of_the_faults(rt: HostRuntime) -> Result<(), Fail> {
-    for (fault, number, words) in [
-        (MoneyFault::Empty, 1, "empty"),
-        (MoneyFault::NotDigit, 2, "not a digit"),
-        (MoneyFault::BadDecimals, 3, "bad decimals"),
-        (MoneyFault::NotCanonical, 4, "not canonical"),
-        (MoneyFault::TooLarge, 5, "too large"),
-    ] {
-        assert_eq!(rt; fault.number(), number);
-        assert_eq!(rt; fault.to_string(rt.alloc())?.as_str(), words);
+fn numbers_and_words_of_the_faults(rt: HostRuntime) {
+    for (fault, number, words) in SHOWN {
+        expect_shown(&rt, rt.alloc(), *fault, *number, words);
     }
-    Ok(())
 }
 
 // Money text as std's formatting writes it.
-fn plain_money(alloc: Global, number: i32) -> Result<String, AllocError> {
+fn plain_money(rt: &impl Abort, alloc: Global, number: i32) -> String {
     let sign = if number < 0 { "-" } else { "" };
     let size = number.unsigned_abs();
-    format!(in alloc; "{sign}{}.{:02}", size / 100, size % 100)
+    format!(in alloc; "{sign}{}.{:02}", size / 100, size % 100).expect(rt, "memory for a text")
+}
+
+// An amount is printed as plain money, and read again.
+fn expect_plain(rt: &impl Abort, alloc: Global, number: i32) {
+    let plain = plain_money(rt, alloc, number);
+    expect_words(rt, print_total(i64::from(number)).as_str(), plain.as_str());
+    expect_read(rt, plain.as_str(), i64::from(number));
 }
 
 #[test]
-fn prints_what_a_plain_program_prints(rt: HostRuntime) -> Result<(), Fail> {
+fn as_a_plain_program_prints(rt: HostRuntime) {
     for number in -9999..10000 {
-        let printed = print_total(i64::from(number));
-        assert_eq!(rt; printed.as_str(), plain_money(rt.alloc(), number)?.as_str());
-        assert_eq!(rt; cents(printed.as_str()), Ok(i64::from(number)));
+        expect_plain(&rt, rt.alloc(), number);
     }
-    Ok(())
 }

@@ -9,8 +9,6 @@ mod laws;
 mod net_change;
 mod op;
 mod reply;
-#[cfg(test)]
-mod tests;
 mod text;
 mod two_places;
 mod wire_reply;

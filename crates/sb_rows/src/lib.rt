@@ -9,8 +9,6 @@ mod laws;
 mod name;
 mod opening;
 mod reading;
-#[cfg(test)]
-mod tests;
 mod text;
 
 pub use columns::{CUSTOMERS, Columns};

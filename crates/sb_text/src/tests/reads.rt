@@ -1,8 +1,10 @@
 //! Readers that give little, are interrupted, and fail.
+use super::{expect, expect_bytes};
 use crate::{ReadFault, read_all};
+use std::alloc::Global;
 use std::io;
 use std::io::{ErrorKind, Read};
-use std::test::Fail;
+use std::process::Abort;
 
 // Gives a text in pieces of up to three bytes, each after an interrupted read, and fails, or ends, after it.
 #[derive(Drop)]
@@ -29,32 +31,31 @@ impl Read for Pieces<'_> {
     }
 }
 
+const TEXT: &[u8] = b"a 1.00 2.00\nbegin\n";
+
+// What is read of so many bytes that come in pieces.
+fn read_of(alloc: Global, length: usize, fails: bool) -> Result<Vec<u8>, ReadFault> {
+    let mut reader = Pieces {
+        left: &TEXT[..length.min(TEXT.len())],
+        interrupted: false,
+        fails,
+    };
+    read_all(alloc, &mut reader)
+}
+
 #[test]
-fn pieces_and_interrupted_reads(rt: HostRuntime) -> Result<(), Fail> {
-    let text = b"a 1.00 2.00\nbegin\n".as_slice();
+fn pieces_and_interrupted_reads(rt: HostRuntime) {
     for length in 0..19usize {
-        let mut reader = Pieces {
-            left: &text[..length],
-            interrupted: false,
-            fails: false,
-        };
-        let input = read_all(rt.alloc(), &mut reader)?;
-        assert!(rt; input.as_slice() == &text[..length], "at {length}");
+        let input = read_of(rt.alloc(), length, false).expect(&rt, "an input");
+        expect_bytes(&rt, &input, &TEXT[..length.min(18)], "pieces");
     }
-    Ok(())
 }
 
 #[test]
 fn a_read_that_fails(rt: HostRuntime) {
-    let text = b"a 1.00 2.00\nbegin\n".as_slice();
     for length in 0..19usize {
-        let mut reader = Pieces {
-            left: &text[..length],
-            interrupted: false,
-            fails: true,
-        };
-        let result = read_all(rt.alloc(), &mut reader);
-        assert!(rt; result == Err(ReadFault::Device), "at {length}");
+        let fault = read_of(rt.alloc(), length, true).err();
+        expect(&rt, fault == Some(ReadFault::Device), "a broken connection");
     }
 }
 
@@ -75,11 +76,10 @@ impl Read for Interrupted {
 }
 
 #[test]
-fn the_last_read_that_an_input_may_take(rt: HostRuntime) -> Result<(), Fail> {
+fn the_last_read_that_an_input_may_take(rt: HostRuntime) {
     let mut reader = Interrupted { reads: 999_999_999 };
-    let input = read_all(rt.alloc(), &mut reader)?;
-    assert!(rt; input.is_empty());
-    Ok(())
+    let input = read_all(rt.alloc(), &mut reader).expect(&rt, "an input");
+    expect(&rt, input.is_empty(), "the last read");
 }
 
 #[test]
@@ -87,25 +87,36 @@ fn one_read_more_than_an_input_may_take(rt: HostRuntime) {
     let mut reader = Interrupted {
         reads: 1_000_000_000,
     };
-    assert!(rt; read_all(rt.alloc(), &mut reader) == Err(ReadFault::Device));
+    let fault = read_all(rt.alloc(), &mut reader).err();
+    expect(&rt, fault == Some(ReadFault::Device), "one read more");
 }
 
-#[test]
-fn an_input_of_many_chunks(rt: HostRuntime) -> Result<(), Fail> {
-    let alloc = rt.alloc();
-    let mut text: Vec<u8> = Vec::new(alloc);
-    for i in 0..200_000u32 {
-        text.push((i % 251) as u8)?;
+// So many bytes that differ from those about them.
+fn bytes(rt: &impl Abort, alloc: Global, count: u32) -> Vec<u8> {
+    let mut text = Vec::new(alloc);
+    for number in 0..count {
+        text.push((number % 251) as u8)
+            .expect(rt, "memory for a byte");
     }
-    let mut reader = text.as_slice();
-    let input = read_all(alloc, &mut reader)?;
-    assert!(rt; input.as_slice() == text.as_slice());
-    Ok(())
+    text
 }
 
 #[test]
-fn faults_of_reads_told(rt: HostRuntime) -> Result<(), Fail> {
-    let (device, memory) = (ReadFault::Device, ReadFault::OutOfMemory);
-    assert!(rt; format!(in rt.alloc(); "{device}, {memory}")?.as_str() == "device, out of memory");
-    Ok(())
+fn an_input_of_many_chunks(rt: HostRuntime) {
+    let text = bytes(&rt, rt.alloc(), 200_000);
+    let mut reader = text.as_slice();
+    let input = read_all(rt.alloc(), &mut reader).expect(&rt, "an input");
+    expect_bytes(&rt, &input, &text, "many chunks");
+}
+
+// A fault is shown so.
+fn expect_shown(rt: &impl Abort, alloc: Global, fault: ReadFault, words: &str) {
+    let shown = fault.to_string(alloc).expect(rt, "memory for a text");
+    expect_bytes(rt, shown.as_bytes(), words.as_bytes(), words);
+}
+
+#[test]
+fn faults_of_reads_in_words(rt: HostRuntime) {
+    expect_shown(&rt, rt.alloc(), ReadFault::Device, "device");
+    expect_shown(&rt, rt.alloc(), ReadFault::OutOfMemory, "out of memory");
 }

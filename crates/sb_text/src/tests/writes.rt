@@ -1,8 +1,10 @@
 //! Writers that take little, and fail.
+use super::{expect, expect_bytes};
 use crate::write_whole;
+use std::alloc::Global;
 use std::io;
 use std::io::{ErrorKind, Write};
-use std::test::Fail;
+use std::process::Abort;
 
 // Takes so many bytes, one a write, and then fails.
 #[derive(Drop)]
@@ -32,23 +34,25 @@ impl Write for Narrow {
     }
 }
 
+const TEXT: &[u8] = b"total 3.00\n";
+
+// A writer with so much room takes as much of the text, and is flushed where it takes all.
+fn expect_written(rt: &impl Abort, alloc: Global, room: usize) {
+    let mut writer = Narrow {
+        taken: Vec::new(alloc),
+        room,
+        flushed: false,
+    };
+    let has_room = room >= TEXT.len();
+    let is_written = write_whole(&mut writer, TEXT).is_ok();
+    expect(rt, is_written == has_room, "how it ends");
+    expect_bytes(rt, &writer.taken, &TEXT[..room.min(11)], "what is taken");
+    expect(rt, writer.flushed == has_room, "whether it is flushed");
+}
+
 #[test]
-fn a_writer_with_room_for_so_many_bytes(rt: HostRuntime) -> Result<(), Fail> {
-    let text = b"total 3.00\n".as_slice();
+fn a_writer_with_room_for_so_many_bytes(rt: HostRuntime) {
     for room in 0..12usize {
-        let mut writer = Narrow {
-            taken: Vec::new(rt.alloc()),
-            room,
-            flushed: false,
-        };
-        let has_room = room >= text.len();
-        assert!(rt;
-            write_whole(&mut writer, text).is_ok() == has_room,
-            "with room for {room}"
-        );
-        let Narrow { taken, flushed, .. } = writer;
-        assert!(rt; taken.as_slice() == &text[..room.min(11)]);
-        assert!(rt; flushed == has_room);
+        expect_written(&rt, rt.alloc(), room);
     }
-    Ok(())
 }

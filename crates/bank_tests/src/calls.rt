@@ -1,0 +1,11 @@
+//! Calls, what is replied to them, and the cowns that they declare.
+mod answers;
+mod ask_lines;
+mod bank;
+mod call_lines;
+mod cowns;
+mod effects;
+mod nets;
+mod places;
+mod plain_bank;
+mod replies;

@@ -1,0 +1,29 @@
+//! The bank of three customers that calls are carried out on.
+use sb_calls::{Call, Reply, apply, resolve};
+use sb_rows::{Columns, Directory, read_opening};
+use std::alloc::Global;
+use std::process::Abort;
+
+const OPENING: &str = "alice 100.00 50.00\nbob 0.00 20.00\ncarol 10.00 0.00\nbegin\n";
+
+#[derive(Drop)]
+pub(super) struct Bank {
+    pub(super) directory: Directory,
+    pub(super) columns: Columns,
+}
+
+/// The bank as it opens.
+pub(super) fn opened(rt: &impl Abort, alloc: Global) -> Box<Bank> {
+    let opening = read_opening(alloc, OPENING.as_bytes()).expect(rt, "an opening");
+    let bank = Bank {
+        directory: opening.directory,
+        columns: opening.columns,
+    };
+    Box::new(alloc, bank).expect(rt, "memory for a box")
+}
+
+/// Carries out a call, and gives its reply.
+pub(super) fn answer(rt: &impl Abort, bank: &mut Bank, call: &Call) -> Reply {
+    assert!(rt; bank.directory.len() == bank.columns.customers());
+    apply(&mut bank.columns, resolve(&bank.directory, call))
+}

@@ -1,0 +1,86 @@
+//! Lines that spell calls, and lines that don't.
+use crate::fixtures::{cents, expect, expect_bytes, name};
+use sb_calls::{Call, CallFault, read_call};
+use std::alloc::Global;
+use std::process::Abort;
+
+// A line spells this call.
+fn expect_call(rt: &impl Abort, line: &str, call: Call) {
+    expect(rt, read_call(line.as_bytes()).ok() == Some(call), line);
+}
+
+#[test]
+fn lines_that_are_read(rt: HostRuntime) {
+    let (alice, bob) = (name(&rt, "alice"), name(&rt, "bob"));
+    expect_call(&rt, "balance alice", Call::Balance(alice));
+    let deposit = Call::DepositChecking(bob, cents(&rt, 500));
+    expect_call(&rt, "deposit bob 5.00", deposit);
+    let change = Call::TransactSavings(alice, cents(&rt, -1000));
+    expect_call(&rt, "savings alice -10.00", change);
+    let check = Call::WriteCheck(bob, cents(&rt, 2001));
+    expect_call(&rt, "check bob 20.01", check);
+    expect_call(&rt, "amalgamate alice bob", Call::Amalgamate(alice, bob));
+}
+
+const FAULTS: &[(&str, CallFault)] = &[
+    ("", CallFault::UnknownVerb),
+    ("transfer alice bob", CallFault::UnknownVerb),
+    ("ask 1 1 balance alice", CallFault::UnknownVerb),
+    ("Balance alice", CallFault::UnknownVerb),
+    ("balances alice", CallFault::UnknownVerb),
+    (" balance alice", CallFault::UnknownVerb),
+    ("checks", CallFault::UnknownVerb),
+    ("check", CallFault::WrongWords),
+    ("balance", CallFault::WrongWords),
+    ("balance alice bob", CallFault::WrongWords),
+    ("balance  alice", CallFault::WrongWords),
+    ("deposit alice", CallFault::WrongWords),
+    ("deposit alice 1.00 ", CallFault::WrongWords),
+    ("savings alice", CallFault::WrongWords),
+    ("amalgamate alice", CallFault::WrongWords),
+    ("amalgamate alice bob carol", CallFault::WrongWords),
+    ("balance ", CallFault::BadName),
+    ("deposit Alice 1.00", CallFault::BadName),
+    ("deposit Alice x", CallFault::BadName),
+    ("savings Alice x", CallFault::BadName),
+    ("amalgamate alice Bob", CallFault::BadName),
+    ("amalgamate Alice bob", CallFault::BadName),
+    ("deposit alice 1", CallFault::BadMoney),
+    ("deposit alice 10000000000.01", CallFault::BadMoney),
+    ("savings alice -0.00", CallFault::BadMoney),
+    ("check alice x", CallFault::BadMoney),
+];
+
+// A line is no call, with this fault.
+fn expect_fault(rt: &impl Abort, line: &str, fault: CallFault) {
+    expect(rt, read_call(line.as_bytes()).err() == Some(fault), line);
+}
+
+#[test]
+fn lines_at_fault(rt: HostRuntime) {
+    for (line, fault) in FAULTS {
+        expect_fault(&rt, line, *fault);
+    }
+}
+
+// A fault has this number, and is shown so.
+fn expect_shown(rt: &impl Abort, alloc: Global, fault: CallFault, number: u8, words: &str) {
+    let shown = fault.to_string(alloc).expect(rt, "memory for a text");
+    expect(rt, fault.number() == number, words);
+    expect_bytes(rt, shown.as_bytes(), words.as_bytes(), words);
+}
+
+const SHOWN: &[(CallFault, u8, &str)] = &[
+    (CallFault::UnknownVerb, 1, "unknown verb"),
+    (CallFault::WrongWords, 2, "wrong words"),
+    (CallFault::BadName, 3, "bad name"),
+    (CallFault::BadMoney, 4, "bad money"),
+    (CallFault::BadNumber, 5, "bad number"),
+];
+
+#[test]
+fn numbers_and_words_of_the_faults(rt: HostRuntime) {
+    for (fault, number, words) in SHOWN {
+        expect_shown(&rt, rt.alloc(), *fault, *number, words);
+    }
+}

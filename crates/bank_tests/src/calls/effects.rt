@@ -1,0 +1,155 @@
+//! What ops reply, and what their cowns hold after them.
+ghost use Rattle.std.specs.Prelude.{pos, ◌≤ℤ◌};
+ghost use Rattle.sb_amount.specs.Limit.{IsWithinLimit};
+ghost use Rattle.sb_calls.specs.Cowns.{AreHeld};
+
+use crate::fixtures::{cents, expect};
+use sb_amount::{Cents, LIMIT};
+use sb_calls::{Behaviour, Op, Performs, Reply, TwoPlaces, perform};
+use std::process::Abort;
+
+// Savings, which aren't negative.
+fn savings(rt: &impl Abort, number: i64) -> Cents
+    ensures within { IsWithinLimit result }
+    ensures not_negative { pos 0 ≤ℤ result }
+{
+    let held = cents(rt, number);
+    assert!(rt; held.value() >= 0);
+    held
+}
+
+// Whether these are balances of so many cents.
+fn are(balances: &[Cents], wanted: &[i64]) -> bool {
+    balances.len() == wanted.len()
+        && balances
+            .iter()
+            .zip(wanted)
+            .all(|(balance, number)| balance.value() == *number)
+}
+
+// A behaviour replies this, and its cowns hold that after it, through its bound alone.
+fn expect_effect<B: Performs>(
+    rt: &impl Abort,
+    behaviour: B,
+    inputs: &[Cents],
+    reply: Reply,
+    outputs: &[i64],
+)
+    requires { AreHeld (B.touches behaviour) inputs.now }
+{
+    let given = behaviour.perform(inputs);
+    expect(rt, given.0 == reply, "the reply");
+    expect(rt, are(&given.1, outputs), "what the cowns hold");
+}
+
+fn expect_balance(rt: &impl Abort, place: u32, held: [i64; 2], shown: i64) {
+    let inputs = [savings(rt, held[0]), cents(rt, held[1])];
+    expect_effect(rt, Op::Balance(place), &inputs, Reply::Shown(shown), &held);
+}
+
+#[test]
+fn balances(rt: HostRuntime) {
+    expect_balance(&rt, 0, [10_000, 5_000], 15_000);
+    expect_balance(&rt, 7, [0, -101], -101);
+    let (reply, outputs) = perform(Op::Balance(0), &[savings(&rt, 10_000), cents(&rt, 5_000)]);
+    expect(&rt, reply == Reply::Shown(15_000), "the reply");
+    expect(&rt, are(&outputs, &[10_000, 5_000]), "what the cowns hold");
+}
+
+fn expect_deposit(rt: &impl Abort, amount: i64, held: i64, reply: Reply, left: i64) {
+    let deposit = Op::DepositChecking(3, cents(rt, amount));
+    expect_effect(rt, deposit, &[cents(rt, held)], reply, &[left]);
+}
+
+#[test]
+fn deposits(rt: HostRuntime) {
+    expect_deposit(&rt, 500, 2_000, Reply::Done, 2_500);
+    expect_deposit(&rt, 500, LIMIT - 500, Reply::Done, LIMIT);
+    expect_deposit(&rt, 500, LIMIT - 499, Reply::OverLimit, LIMIT - 499);
+    expect_deposit(&rt, -1, 2_000, Reply::Negative, 2_000);
+}
+
+fn expect_change(rt: &impl Abort, amount: i64, held: i64, reply: Reply, left: i64) {
+    let change = Op::TransactSavings(3, cents(rt, amount));
+    expect_effect(rt, change, &[savings(rt, held)], reply, &[left]);
+}
+
+#[test]
+fn changes_of_savings(rt: HostRuntime) {
+    expect_change(&rt, -1_000, 1_000, Reply::Done, 0);
+    expect_change(&rt, -1_000, 999, Reply::WouldOverdraw, 999);
+    expect_change(&rt, 1_000, LIMIT - 1_000, Reply::Done, LIMIT);
+    expect_change(&rt, 1_000, LIMIT - 999, Reply::OverLimit, LIMIT - 999);
+}
+
+fn expect_check(rt: &impl Abort, amount: i64, held: [i64; 2], reply: Reply, left: i64) {
+    let check = Op::WriteCheck(3, cents(rt, amount));
+    let inputs = [savings(rt, held[0]), cents(rt, held[1])];
+    expect_effect(rt, check, &inputs, reply, &[held[0], left]);
+}
+
+#[test]
+fn checks(rt: HostRuntime) {
+    // All that there is, and one cent more, for which there is a penalty of a dollar.
+    expect_check(&rt, 15_000, [10_000, 5_000], Reply::Done, -10_000);
+    expect_check(&rt, 15_001, [10_000, 5_000], Reply::Penalised, -10_101);
+    expect_check(&rt, -1, [10_000, 5_000], Reply::Negative, 5_000);
+    expect_check(&rt, LIMIT, [0, 100], Reply::Penalised, -LIMIT);
+    expect_check(&rt, LIMIT, [0, 99], Reply::OverLimit, 99);
+}
+
+// The first of two customers gives: its savings and checking stand before the other's checking.
+fn expect_first_gives(rt: &impl Abort, held: [i64; 3], reply: Reply, left: [i64; 3]) {
+    let places = TwoPlaces::new(2, 5).expect(rt, "two places");
+    let inputs = [savings(rt, held[0]), cents(rt, held[1]), cents(rt, held[2])];
+    expect_effect(rt, Op::Amalgamate(places), &inputs, reply, &left);
+}
+
+// The second gives: the other's checking stands first.
+fn expect_second_gives(rt: &impl Abort, held: [i64; 3], reply: Reply, left: [i64; 3]) {
+    let places = TwoPlaces::new(5, 2).expect(rt, "two places");
+    let inputs = [cents(rt, held[0]), savings(rt, held[1]), cents(rt, held[2])];
+    expect_effect(rt, Op::Amalgamate(places), &inputs, reply, &left);
+}
+
+#[test]
+fn amalgamations(rt: HostRuntime) {
+    expect_first_gives(&rt, [1_000, -101, 2_000], Reply::Done, [0, 0, 2_899]);
+    expect_first_gives(&rt, [LIMIT, -1, 2], Reply::OverLimit, [LIMIT, -1, 2]);
+    expect_second_gives(&rt, [2_000, 1_000, -101], Reply::Done, [2_899, 0, 0]);
+    expect_second_gives(&rt, [-LIMIT, 0, -1], Reply::OverLimit, [-LIMIT, 0, -1]);
+}
+
+#[test]
+fn refusals_without_cowns(rt: HostRuntime) {
+    expect_effect(&rt, Op::NoCustomer, &[], Reply::NoCustomer, &[]);
+    expect_effect(&rt, Op::SameCustomer, &[], Reply::SameCustomer, &[]);
+}
+
+// Whether two behaviours compare alike, through their bound alone.
+fn compare_alike<B: Behaviour>(first: B, second: B) -> bool {
+    first == second
+}
+
+fn check_of(rt: &impl Abort, number: i64) -> Op {
+    Op::WriteCheck(3, cents(rt, number))
+}
+
+#[test]
+fn ops_that_compare_alike_are_one(rt: HostRuntime) {
+    expect(
+        &rt,
+        compare_alike(check_of(&rt, 1), check_of(&rt, 1)),
+        "the same amount",
+    );
+    expect(
+        &rt,
+        !compare_alike(check_of(&rt, 1), check_of(&rt, 2)),
+        "another amount",
+    );
+    expect(
+        &rt,
+        !compare_alike(Op::Balance(3), Op::NoCustomer),
+        "another op",
+    );
+}

@@ -1,0 +1,181 @@
+//! Calls beside a plain bank, which keeps names and balances together.
+use super::bank::{Bank, answer, opened};
+use crate::fixtures::{cents, name};
+use crate::rows::columns::expect_columns;
+use sb_amount::LIMIT;
+use sb_calls::{Call, Reply};
+use sb_rows::Name;
+use std::process::Abort;
+
+// A customer of a plain bank, which keeps names and balances together.
+#[derive(Clone, Copy)]
+struct Customer {
+    name: &'static str,
+    savings: i64,
+    checking: i64,
+}
+
+fn find(bank: &[Customer], name: &Name) -> Option<Customer> {
+    for customer in bank {
+        if customer.name.as_bytes() == name.text() {
+            return Some(*customer);
+        }
+    }
+    None
+}
+
+fn put(bank: &mut [Customer], changed: Customer) {
+    for customer in bank.iter_mut() {
+        if customer.name == changed.name {
+            *customer = changed;
+        }
+    }
+}
+
+fn plain_reply(bank: &mut [Customer], call: &Call) -> Reply {
+    match call {
+        Call::Balance(name) => match find(bank, name) {
+            Some(customer) => Reply::Shown(customer.savings.saturating_add(customer.checking)),
+            None => Reply::NoCustomer,
+        },
+        Call::DepositChecking(name, amount) => plain_deposit(bank, name, amount.value()),
+        Call::TransactSavings(name, amount) => plain_savings(bank, name, amount.value()),
+        Call::Amalgamate(from, to) => plain_amalgamation(bank, from, to),
+        Call::WriteCheck(name, amount) => plain_check(bank, name, amount.value()),
+    }
+}
+
+fn plain_deposit(bank: &mut [Customer], name: &Name, amount: i64) -> Reply {
+    let Some(mut customer) = find(bank, name) else {
+        return Reply::NoCustomer;
+    };
+    customer.checking = customer.checking.saturating_add(amount);
+    if amount < 0 {
+        return Reply::Negative;
+    }
+    if customer.checking > LIMIT {
+        return Reply::OverLimit;
+    }
+    put(bank, customer);
+    Reply::Done
+}
+
+fn plain_savings(bank: &mut [Customer], name: &Name, amount: i64) -> Reply {
+    let Some(mut customer) = find(bank, name) else {
+        return Reply::NoCustomer;
+    };
+    customer.savings = customer.savings.saturating_add(amount);
+    if customer.savings < 0 {
+        return Reply::WouldOverdraw;
+    }
+    if customer.savings > LIMIT {
+        return Reply::OverLimit;
+    }
+    put(bank, customer);
+    Reply::Done
+}
+
+fn plain_amalgamation(bank: &mut [Customer], from: &Name, to: &Name) -> Reply {
+    let Some(mut giver) = find(bank, from) else {
+        return Reply::NoCustomer;
+    };
+    let Some(mut taker) = find(bank, to) else {
+        return Reply::NoCustomer;
+    };
+    if giver.name == taker.name {
+        return Reply::SameCustomer;
+    }
+    let given = giver.savings.saturating_add(giver.checking);
+    taker.checking = taker.checking.saturating_add(given);
+    if taker.checking > LIMIT || taker.checking < -LIMIT {
+        return Reply::OverLimit;
+    }
+    giver.savings = 0;
+    giver.checking = 0;
+    put(bank, giver);
+    put(bank, taker);
+    Reply::Done
+}
+
+fn plain_check(bank: &mut [Customer], name: &Name, amount: i64) -> Reply {
+    let Some(mut customer) = find(bank, name) else {
+        return Reply::NoCustomer;
+    };
+    if amount < 0 {
+        return Reply::Negative;
+    }
+    let mut reply = Reply::Done;
+    let mut left = customer.checking.saturating_sub(amount);
+    if customer.savings.saturating_add(customer.checking) < amount {
+        left = left.saturating_sub(100);
+        reply = Reply::Penalised;
+    }
+    if left < -LIMIT {
+        return Reply::OverLimit;
+    }
+    customer.checking = left;
+    put(bank, customer);
+    reply
+}
+
+const OPENED: [Customer; 3] = [
+    Customer {
+        name: "alice",
+        savings: 10000,
+        checking: 5000,
+    },
+    Customer {
+        name: "bob",
+        savings: 0,
+        checking: 2000,
+    },
+    Customer {
+        name: "carol",
+        savings: 1000,
+        checking: 0,
+    },
+];
+
+// A customer for a number; one of the four is none of the bank's.
+fn numbered_name(rt: &impl Abort, number: u8) -> Name {
+    let text = match number % 4 {
+        0 => "alice",
+        1 => "bob",
+        2 => "carol",
+        _ => "zed",
+    };
+    name(rt, text)
+}
+
+// A call for a number.
+fn numbered_call(rt: &impl Abort, number: u8) -> Call {
+    let first = numbered_name(rt, number);
+    let amount = cents(rt, (i64::from(number) - 60) * 4_000_000_003);
+    match number % 7 {
+        0 => Call::Balance(first),
+        1 | 2 => Call::DepositChecking(first, amount),
+        3 | 4 => Call::TransactSavings(first, amount),
+        5 => Call::Amalgamate(first, numbered_name(rt, number / 4)),
+        _ => Call::WriteCheck(first, amount),
+    }
+}
+
+// The bank answers the call of a number as the plain one does.
+fn expect_same(rt: &impl Abort, bank: &mut Bank, plain: &mut [Customer], number: u8) {
+    let call = numbered_call(rt, number);
+    let wanted = plain_reply(plain, &call);
+    assert!(rt; answer(rt, bank, &call) == wanted, "call {number}");
+}
+
+#[test]
+fn two_hundred_calls(rt: HostRuntime) {
+    let mut bank = opened(&rt, rt.alloc());
+    let mut plain = OPENED;
+    for number in 0..200u8 {
+        expect_same(&rt, &mut bank, &mut plain, number);
+    }
+    let [alice, bob, carol] = plain;
+    let savings = [alice.savings, bob.savings, carol.savings];
+    let checking = [alice.checking, bob.checking, carol.checking];
+    expect_columns(&rt, &bank.columns, &savings, &checking);
+}

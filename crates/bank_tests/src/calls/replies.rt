@@ -1,0 +1,30 @@
+//! The words of replies.
+use crate::fixtures::expect_bytes;
+use sb_calls::{Reply, print_reply};
+use std::process::Abort;
+
+const WORDS: &[(Reply, &str)] = &[
+    (Reply::Shown(15000), "shown 150.00"),
+    (Reply::Shown(-101), "shown -1.01"),
+    (Reply::Shown(i64::MIN), "shown -92233720368547758.08"),
+    (Reply::Done, "done"),
+    (Reply::Penalised, "penalised"),
+    (Reply::NoCustomer, "no customer"),
+    (Reply::SameCustomer, "same customer"),
+    (Reply::Negative, "negative"),
+    (Reply::WouldOverdraw, "would overdraw"),
+    (Reply::OverLimit, "over limit"),
+];
+
+// A reply is printed so.
+fn expect_words(rt: &impl Abort, reply: Reply, words: &str) {
+    let printed = print_reply(reply);
+    expect_bytes(rt, printed.as_bytes(), words.as_bytes(), words);
+}
+
+#[test]
+fn replies_in_words(rt: HostRuntime) {
+    for (reply, words) in WORDS {
+        expect_words(&rt, *reply, words);
+    }
+}

@@ -1,0 +1,54 @@
+//! What several tests begin with, and how they compare.
+ghost use Rattle.sb_amount.specs.Limit.{IsWithinLimit};
+
+use sb_amount::Cents;
+use sb_rows::{Name, Opening, read_opening};
+use std::alloc::Global;
+use std::process::Abort;
+
+/// A case comes out as it has to.
+pub(crate) fn expect(rt: &impl Abort, holds: bool, case: &str) {
+    assert!(rt; holds, "{case}");
+}
+
+/// A case gives these bytes.
+pub(crate) fn expect_bytes(rt: &impl Abort, found: &[u8], wanted: &[u8], case: &str) {
+    assert!(rt; found == wanted, "{case}");
+}
+
+/// A case gives these amounts.
+pub(crate) fn expect_amounts(rt: &impl Abort, found: &[i64], wanted: &[i64], case: &str) {
+    assert!(rt; found == wanted, "{case}");
+}
+
+pub(crate) fn name(rt: &impl Abort, text: &str) -> Name {
+    Name::new(text.as_bytes()).expect(rt, "a name")
+}
+
+pub(crate) fn cents(rt: &impl Abort, number: i64) -> Cents
+    ensures { IsWithinLimit result }
+{
+    Cents::new(number).expect(rt, "an amount within the limit")
+}
+
+/// What a text without a fault opens with.
+pub(crate) fn opened(rt: &impl Abort, alloc: Global, text: &str) -> Box<Opening> {
+    let opening = read_opening(alloc, text.as_bytes()).expect(rt, "an opening");
+    Box::new(alloc, opening).expect(rt, "memory for a box")
+}
+
+// Puts the line of a customer with this number.
+fn push_line(rt: &impl Abort, alloc: Global, customer: u32, text: &mut String) {
+    let line = format!(in alloc; "c{customer} 1.00 2.00\n").expect(rt, "memory for a line");
+    text.push_str(line.as_str()).expect(rt, "memory for a text");
+}
+
+/// The lines of so many customers, each with another name, and then this.
+pub(crate) fn many_lines(rt: &impl Abort, alloc: Global, customers: u32, end: &str) -> String {
+    let mut text = String::new(alloc);
+    for customer in 0..customers {
+        push_line(rt, alloc, customer, &mut text);
+    }
+    text.push_str(end).expect(rt, "memory for a text");
+    text
+}

@@ -1,0 +1,9 @@
+//! Tests of a bank's customers and of their calls: inputs worked by hand, inputs at limits, and what no clause says.
+#![tactic(auto)]
+
+#[cfg(test)]
+mod calls;
+#[cfg(test)]
+mod fixtures;
+#[cfg(test)]
+mod rows;

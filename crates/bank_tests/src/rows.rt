@@ -1,0 +1,7 @@
+//! Names, openings and balances.
+pub(crate) mod columns;
+mod directories;
+mod names;
+mod opening_faults;
+mod openings;
+mod texts;

@@ -1,0 +1,72 @@
+//! Columns, and copies of them.
+use crate::fixtures::{cents, expect, expect_amounts, many_lines, opened};
+use sb_rows::{CUSTOMERS, Columns};
+use std::alloc::Global;
+use std::process::Abort;
+
+/// Columns hold these savings and these checking balances.
+pub(crate) fn expect_columns(
+    rt: &impl Abort,
+    columns: &Columns,
+    savings: &[i64],
+    checking: &[i64],
+) {
+    expect_amounts(rt, columns.savings(), savings, "savings");
+    expect_amounts(rt, columns.checking(), checking, "checking balances");
+}
+
+// Puts the balances of one more customer last, where they may stand there.
+fn add_balances(rt: &impl Abort, columns: &mut Columns, savings: i64, checking: i64) {
+    let (savings, checking) = (cents(rt, savings), cents(rt, checking));
+    if columns.customers() < CUSTOMERS && savings.value() >= 0 {
+        columns
+            .push(savings, checking)
+            .expect(rt, "memory for balances");
+    }
+}
+
+// Replaces the savings of the first customer and the checking balance of the second.
+fn replace_two(rt: &impl Abort, columns: &mut Columns, amount: i64) {
+    let amount = cents(rt, amount);
+    if columns.customers() > 1 && amount.value() >= 0 {
+        columns.set_savings(0, amount);
+        columns.set_checking(1, amount);
+        expect(rt, columns.savings_of(0) == amount, "savings");
+        expect(rt, columns.checking_of(1) == amount, "a checking balance");
+    }
+}
+
+fn empty(rt: &impl Abort, alloc: Global) -> Box<Columns> {
+    Box::new(alloc, Columns::new(alloc)).expect(rt, "memory for a box")
+}
+
+fn copied(rt: &impl Abort, alloc: Global, columns: &Columns) -> Box<Columns> {
+    let copy = columns.copy().expect(rt, "memory for columns");
+    Box::new(alloc, copy).expect(rt, "memory for a box")
+}
+
+#[test]
+fn a_copy_stays(rt: HostRuntime) {
+    let mut columns = empty(&rt, rt.alloc());
+    add_balances(&rt, &mut columns, 500, -20);
+    add_balances(&rt, &mut columns, 0, 7);
+    let copy = copied(&rt, rt.alloc(), &columns);
+    add_balances(&rt, &mut columns, 1, 2);
+    replace_two(&rt, &mut columns, 9);
+    expect_columns(&rt, &columns, &[9, 0, 1], &[-20, 9, 2]);
+    expect_columns(&rt, &copy, &[500, 0], &[-20, 7]);
+}
+
+// Both columns hold the balances of so many customers, and the same.
+fn expect_same(rt: &impl Abort, a: &Columns, b: &Columns, customers: usize) {
+    expect(rt, a.customers() == customers, "how many customers");
+    expect_columns(rt, a, b.savings(), b.checking());
+}
+
+#[test]
+fn a_copy_of_as_many_balances_as_a_bank_has(rt: HostRuntime) {
+    let text = many_lines(&rt, rt.alloc(), 65_536, "begin\n");
+    let opening = opened(&rt, rt.alloc(), text.as_str());
+    let copy = copied(&rt, rt.alloc(), &opening.columns);
+    expect_same(&rt, &copy, &opening.columns, 65_536);
+}

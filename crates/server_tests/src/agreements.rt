@@ -1,0 +1,107 @@
+//! Replicas that came to the same, and replicas that didn't.
+use crate::bank::{OPENING, expect};
+use bank_server::agree;
+use cown_workers::{InlineCrew, drain};
+use sb_calls::read_call;
+use sb_checkpoint::MemoryStore;
+use sb_frames::Frame;
+use sb_replica::{Heard, Replica};
+use sb_rows::read_opening;
+use std::alloc::Global;
+use std::process::Abort;
+
+// A replica at the opening of three customers.
+fn opened(rt: &impl Abort, alloc: Global) -> Box<Replica<MemoryStore>> {
+    let opening = read_opening(alloc, OPENING).expect(rt, "an opening");
+    let store = MemoryStore::new(alloc);
+    let replica = Replica::open(alloc, 0, opening.directory, opening.columns, store).expect(
+        rt,
+        "memory for a replica",
+    );
+    Box::new(alloc, replica).expect(rt, "memory for a box")
+}
+
+// A call comes to a replica.
+fn hear(rt: &impl Abort, replica: &mut Replica<MemoryStore>, number: u64, line: &str) {
+    let call = read_call(line.as_bytes()).expect(rt, "a call");
+    let heard = replica.hear(&Frame::Entry { number, call });
+    expect(rt, heard == Ok(Heard::Accepted(number)), line);
+}
+
+// These calls come to a replica that has none yet.
+fn hear_all(rt: &impl Abort, replica: &mut Replica<MemoryStore>, calls: &[&str]) {
+    let mut number = 0u64;
+    for line in calls {
+        number = number.saturating_add(1);
+        hear(rt, replica, number, line);
+    }
+}
+
+// A replica that carried these calls out.
+fn replica_after(rt: &impl Abort, alloc: Global, calls: &[&str]) -> Box<Replica<MemoryStore>> {
+    let mut replica = opened(rt, alloc);
+    hear_all(rt, &mut replica, calls);
+    drain(&mut *replica, &mut InlineCrew).expect(rt, "an idle replica");
+    replica
+}
+
+// Two replicas agree, or don't, and say the same of each other.
+fn expect_agreement(
+    rt: &impl Abort,
+    one: &Replica<MemoryStore>,
+    other: &Replica<MemoryStore>,
+    wanted: bool,
+    case: &str,
+) {
+    expect(rt, agree(one, other) == Ok(wanted), case);
+    expect(rt, agree(other, one) == Ok(wanted), case);
+}
+
+// The same of two replicas that carried these calls out.
+fn expect_after(
+    rt: &impl Abort,
+    alloc: Global,
+    calls: &[&str],
+    others: &[&str],
+    wanted: bool,
+    case: &str,
+) {
+    let one = replica_after(rt, alloc, calls);
+    let other = replica_after(rt, alloc, others);
+    expect_agreement(rt, &one, &other, wanted, case);
+}
+
+#[test]
+fn calls_that_come_to_the_same(rt: HostRuntime) {
+    let (deposit, other) = ("deposit alice 1.00", "deposit bob 1.00");
+    let (balance, others) = ("balance alice", "balance bob");
+    expect_after(&rt, rt.alloc(), &[deposit], &[deposit], true, "one call");
+    expect_after(&rt, rt.alloc(), &[deposit], &[other], false, "two payments");
+    // The same columns with another reply.
+    expect_after(&rt, rt.alloc(), &[balance], &[others], false, "two replies");
+    let both = &[balance, balance];
+    expect_after(&rt, rt.alloc(), &[balance], both, false, "two lengths");
+}
+
+#[test]
+fn one_that_is_not_idle(rt: HostRuntime) {
+    let one = replica_after(&rt, rt.alloc(), &["balance alice"]);
+    let mut other = opened(&rt, rt.alloc());
+    hear_all(&rt, &mut other, &["balance alice"]);
+    expect_agreement(&rt, &one, &other, false, "not idle");
+}
+
+// A replica is restarted from a checkpoint of so many entries.
+fn restart(rt: &impl Abort, replica: &mut Replica<MemoryStore>, entries: u64) {
+    expect(rt, replica.mark() == Ok(entries), "a checkpoint");
+    expect(rt, replica.restart() == Ok(entries), "a restart");
+}
+
+#[test]
+fn one_that_was_restarted_from_its_checkpoint(rt: HostRuntime) {
+    let calls = ["check bob 20.01", "balance bob"];
+    let one = replica_after(&rt, rt.alloc(), &calls);
+    let mut other = replica_after(&rt, rt.alloc(), &calls);
+    restart(&rt, &mut other, 2);
+    expect_agreement(&rt, &one, &other, true, "restarted");
+}

@@ -1,0 +1,77 @@
+//! Readers and writers that give and take little, and fail.
+use std::alloc::Global;
+use std::io;
+use std::io::{ErrorKind, Read, Write};
+
+/// Gives a text a byte at a time, and fails, or ends, after so many reads. Each other read is interrupted.
+#[derive(Drop)]
+pub(crate) struct Bytewise<'a> {
+    pub(crate) left: &'a [u8],
+    pub(crate) reads: u32,
+    pub(crate) fails: bool,
+}
+
+impl Read for Bytewise<'_> {
+    fn read(&mut self, buf: &mut [u8]) -> io::Result<usize> {
+        if self.reads == 0 {
+            if self.fails {
+                return Err(io::Error::from(ErrorKind::ConnectionReset));
+            }
+            return Ok(0);
+        }
+        self.reads -= 1;
+        if self.reads % 2 == 0 {
+            return Err(io::Error::from(ErrorKind::Interrupted));
+        }
+        match self.left {
+            [first, rest @ ..] if !buf.is_empty() => {
+                buf[0] = *first;
+                self.left = rest;
+                Ok(1)
+            }
+            _ => Ok(0),
+        }
+    }
+}
+
+/// Takes so many bytes, one a write, and then fails.
+#[derive(Drop)]
+pub(crate) struct Narrow {
+    pub(crate) taken: Vec<u8>,
+    pub(crate) room: usize,
+    pub(crate) flushes: bool,
+}
+
+impl Narrow {
+    /// Nothing is taken yet.
+    pub(crate) fn new(alloc: Global, room: usize, flushes: bool) -> Narrow {
+        Narrow {
+            taken: Vec::new(alloc),
+            room,
+            flushes,
+        }
+    }
+}
+
+impl Write for Narrow {
+    fn write(&mut self, buf: &[u8]) -> io::Result<usize> {
+        if self.taken.len() >= self.room {
+            return Err(io::Error::from(ErrorKind::BrokenPipe));
+        }
+        match buf.first() {
+            Some(byte) => {
+                self.taken.push(*byte)?;
+                Ok(1)
+            }
+            None => Ok(0),
+        }
+    }
+
+    fn flush(&mut self) -> io::Result<()> {
+        if self.flushes {
+            Ok(())
+        } else {
+            Err(io::Error::from(ErrorKind::BrokenPipe))
+        }
+    }
+}

@@ -1,0 +1,69 @@
+//! How faults are shown and numbered.
+use crate::bank::{expect, expect_bytes};
+use bank_server::{InputFault, RunFault, SaveFault, SessionFault};
+use sb_calls::CallFault;
+use sb_frames::FrameFault;
+use std::alloc::Global;
+use std::fmt;
+use std::process::Abort;
+
+/// A fault is shown so.
+pub(crate) fn expect_text(rt: &impl Abort, alloc: Global, fault: &impl fmt::Display, text: &str) {
+    let shown = format!(in alloc; "{fault}").expect(rt, "memory for a text");
+    expect_bytes(rt, shown.as_bytes(), text.as_bytes(), text);
+}
+
+const OF_RUNS: &[(RunFault, u8, &str)] = &[
+    (RunFault::Strayed(7), 2, "node 7 strayed"),
+    (RunFault::CrewGone, 3, "crew gone"),
+    (RunFault::Device, 4, "device"),
+    (RunFault::OutOfMemory, 5, "out of memory"),
+];
+
+#[test]
+fn faults_of_runs(rt: HostRuntime) {
+    for (fault, number, text) in OF_RUNS {
+        expect_text(&rt, rt.alloc(), fault, text);
+        expect(&rt, fault.number() == *number, text);
+    }
+    let fault = InputFault::Call(CallFault::BadName);
+    let number = RunFault::Input { line: 1, fault }.number();
+    expect(&rt, number == 1, "a call's fault");
+}
+
+const OF_SESSIONS: &[(SessionFault, &str)] = &[
+    (SessionFault::Unexpected, "unexpected frame"),
+    (SessionFault::CrewGone, "crew gone"),
+    (SessionFault::Device, "device"),
+    (SessionFault::OutOfMemory, "out of memory"),
+];
+
+#[test]
+fn faults_of_sessions(rt: HostRuntime) {
+    for (fault, text) in OF_SESSIONS {
+        expect_text(&rt, rt.alloc(), fault, text);
+    }
+    let first = SessionFault::Frame(FrameFault::BadLength);
+    expect(&rt, first.number() == 1, "the first number");
+    expect(
+        &rt,
+        SessionFault::OutOfMemory.number() == 5,
+        "the last number",
+    );
+}
+
+const OF_SAVES: &[(SaveFault, &str)] = &[
+    (SaveFault::Device, "device"),
+    (SaveFault::ReadBack, "read back"),
+    (SaveFault::OutOfMemory, "out of memory"),
+    (SaveFault::Busy, "busy"),
+];
+
+#[test]
+fn faults_of_saves(rt: HostRuntime) {
+    for (fault, text) in OF_SAVES {
+        expect_text(&rt, rt.alloc(), fault, text);
+    }
+    expect(&rt, SaveFault::Device.number() == 1, "the first number");
+    expect(&rt, SaveFault::Busy.number() == 4, "the last number");
+}

@@ -1,0 +1,39 @@
+//! Tests of the bank's runs and of its server: worked inputs, texts of faults, readers, writers and stores that fail.
+#![tactic(auto)]
+
+#[cfg(test)]
+mod agreements;
+#[cfg(test)]
+mod bank;
+#[cfg(test)]
+mod devices;
+#[cfg(test)]
+mod faults;
+#[cfg(test)]
+mod followers;
+#[cfg(test)]
+mod gates;
+#[cfg(test)]
+mod limits;
+#[cfg(test)]
+mod plain;
+#[cfg(test)]
+mod primaries;
+#[cfg(test)]
+mod run_devices;
+#[cfg(test)]
+mod run_faults;
+#[cfg(test)]
+mod runs;
+#[cfg(test)]
+mod saves;
+#[cfg(test)]
+mod session_devices;
+#[cfg(test)]
+mod sessions;
+#[cfg(test)]
+mod sockets;
+#[cfg(test)]
+mod stores;
+#[cfg(test)]
+mod wire;

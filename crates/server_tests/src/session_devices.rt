@@ -1,0 +1,76 @@
+//! Clients whose connections break.
+use crate::bank::{joined, opened};
+use crate::devices::{Bytewise, Narrow};
+use crate::wire::{BALANCE, DEPOSIT, DONE, FLUSH, SHOWN, serve};
+use bank_server::{Primary, SessionFault, serve_session};
+use cown_workers::InlineCrew;
+use sb_checkpoint::MemoryStore;
+use sb_sequencer::Sequencer;
+use std::alloc::Global;
+use std::process::Abort;
+
+// What each client sends, and what it is told.
+const SENT: &[&[u8]] = &[BALANCE, DEPOSIT, FLUSH, BALANCE, FLUSH];
+
+const TOLD: &[&[u8]] = &[SHOWN, DONE, SHOWN];
+
+// A client's session broke off after so many bytes, and left this log.
+fn expect_broken(
+    rt: &impl Abort,
+    ended: Result<(), SessionFault>,
+    log: &Sequencer,
+    length: u64,
+    after: usize,
+) {
+    let is_broken = ended == Err(SessionFault::Device) && log.length() == length;
+    assert!(rt; is_broken, "after {after} bytes");
+}
+
+// How many asks are whole in so many bytes of two asks and a flush.
+fn whole_asks(bytes: u32) -> u64 {
+    match bytes {
+        0..=17 => 0,
+        18..=41 => 1,
+        _ => 2,
+    }
+}
+
+// A client's connection breaks after so many bytes.
+fn break_after(rt: &impl Abort, alloc: Global, bytes: u32, primary: &mut Primary<MemoryStore>) {
+    let sent = joined(rt, alloc, SENT);
+    let mut reader = Bytewise {
+        left: &sent,
+        reads: bytes.saturating_mul(2),
+        fails: true,
+    };
+    let mut written: Vec<u8> = Vec::new(alloc);
+    let ended = serve_session(alloc, &mut reader, &mut written, primary, &mut InlineCrew);
+    expect_broken(rt, ended, primary.log(), whole_asks(bytes), bytes as usize);
+}
+
+#[test]
+fn a_read_that_fails(rt: HostRuntime) {
+    for bytes in 0..67u32 {
+        let mut primary = opened(&rt, rt.alloc());
+        break_after(&rt, rt.alloc(), bytes, &mut primary);
+        serve(&rt, rt.alloc(), &mut *primary, SENT, TOLD);
+    }
+}
+
+// A client takes so many bytes, and hangs up.
+fn hang_up_after(rt: &impl Abort, alloc: Global, room: usize, primary: &mut Primary<MemoryStore>) {
+    let sent = joined(rt, alloc, SENT);
+    let mut reader = sent.as_slice();
+    let mut writer = Narrow::new(alloc, room, true);
+    let ended = serve_session(alloc, &mut reader, &mut writer, primary, &mut InlineCrew);
+    expect_broken(rt, ended, primary.log(), 2, room);
+}
+
+#[test]
+fn a_client_that_hangs_up(rt: HostRuntime) {
+    for room in 0..42usize {
+        let mut primary = opened(&rt, rt.alloc());
+        hang_up_after(&rt, rt.alloc(), room, &mut primary);
+        serve(&rt, rt.alloc(), &mut *primary, SENT, TOLD);
+    }
+}

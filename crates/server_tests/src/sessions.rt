@@ -1,0 +1,152 @@
+//! What clients send, and what they are told.
+use crate::bank::{expect, expect_bytes, joined, opened};
+use crate::devices::Bytewise;
+use crate::wire::{
+    BALANCE, DEPOSIT, DONE, ENTRY, FLUSH, MISMATCH, OTHER, SHOWN, expect_session, push_with,
+};
+use bank_server::{Primary, SessionFault, serve_session};
+use cown_workers::{Crew, InlineCrew, OpenGate, with_crew};
+use sb_checkpoint::MemoryStore;
+use sb_frames::FrameFault;
+use std::alloc::Global;
+use std::process::Abort;
+use std::sync::Wait;
+use std::thread::Threads;
+use std::time::Clock;
+
+// What a client sends, how its session ends, and what it is told.
+#[derive(Clone, Copy)]
+struct Session<'a> {
+    sent: &'a [&'a [u8]],
+    ends: Result<(), SessionFault>,
+    told: &'a [&'a [u8]],
+}
+
+// A session that ends well.
+fn good<'a>(sent: &'a [&'a [u8]], told: &'a [&'a [u8]]) -> Session<'a> {
+    let ends = Ok(());
+    Session { sent, ends, told }
+}
+
+// Serves a client by reads of one byte, and compares.
+fn serve_bytewise<C: Crew>(
+    rt: &impl Abort,
+    alloc: Global,
+    session: &Session,
+    primary: &mut Primary<MemoryStore>,
+    crew: &mut C,
+) {
+    let sent = joined(rt, alloc, session.sent);
+    let told = joined(rt, alloc, session.told);
+    let mut reader = Bytewise {
+        left: &sent,
+        reads: 1_000,
+        fails: true,
+    };
+    let mut written: Vec<u8> = Vec::new(alloc);
+    let ended = serve_session(alloc, &mut reader, &mut written, primary, crew);
+    expect(rt, ended == session.ends, "how the session ends");
+    expect_bytes(rt, &written, &told, "what the client is told");
+}
+
+// Serves one client after the other. It answers the length of the log.
+fn serve_all<C: Crew>(rt: &impl Abort, alloc: Global, sessions: &[Session], crew: &mut C) -> u64 {
+    let mut primary = opened(rt, alloc);
+    for session in sessions {
+        serve_bytewise(rt, alloc, session, &mut primary, crew);
+    }
+    let carried_out = primary.node().length();
+    expect(rt, carried_out == primary.log().length(), "all carried out");
+    carried_out
+}
+
+// The same by no workers and by four.
+fn expect_sessions(
+    rt: &(impl Abort + Threads + Wait + Clock + Sync),
+    alloc: Global,
+    sessions: &[Session],
+    length: u64,
+) {
+    let in_place = serve_all(rt, alloc, sessions, &mut InlineCrew);
+    expect(rt, in_place == length, "in place");
+    let by_four = with_crew(rt, alloc, 4, &OpenGate, |crew| {
+        serve_all(rt, alloc, sessions, crew)
+    });
+    expect(rt, by_four == Ok(length), "by four workers");
+}
+
+#[test]
+fn asked_again_and_told_again(rt: HostRuntime) {
+    let first = good(
+        &[BALANCE, DEPOSIT, FLUSH, BALANCE, FLUSH],
+        &[SHOWN, DONE, SHOWN],
+    );
+    let second = good(&[OTHER, FLUSH], &[MISMATCH]);
+    expect_sessions(&rt, rt.alloc(), &[first, second], 2);
+}
+
+#[test]
+fn asks_that_no_flush_follows(rt: HostRuntime) {
+    let first = good(&[BALANCE, FLUSH, DEPOSIT], &[SHOWN]);
+    // It's told when it asks again.
+    let second = good(&[DEPOSIT, FLUSH], &[DONE]);
+    let nothing = good(&[], &[]);
+    let flushes = good(&[FLUSH, FLUSH], &[]);
+    expect_sessions(&rt, rt.alloc(), &[nothing, first, flushes, second], 2);
+}
+
+#[test]
+fn frames_that_no_client_sends(rt: HostRuntime) {
+    let after = good(&[DEPOSIT, FLUSH], &[DONE]);
+    for frame in [ENTRY, DONE] {
+        let first = Session {
+            sent: &[BALANCE, FLUSH, DEPOSIT, frame, FLUSH],
+            ends: Err(SessionFault::Unexpected),
+            told: &[SHOWN],
+        };
+        expect_sessions(&rt, rt.alloc(), &[first, after], 2);
+    }
+}
+
+#[test]
+fn bytes_that_are_no_frame(rt: HostRuntime) {
+    let first = Session {
+        sent: &[BALANCE, FLUSH, b"GET / HTTP/1.1\r\n\r\n"],
+        ends: Err(SessionFault::Frame(FrameFault::BadLength)),
+        told: &[SHOWN],
+    };
+    let second = good(&[BALANCE, DEPOSIT, FLUSH], &[SHOWN, DONE]);
+    expect_sessions(&rt, rt.alloc(), &[first, second], 2);
+}
+
+#[test]
+fn a_frame_that_is_not_whole(rt: HostRuntime) {
+    for end in 1..18usize {
+        let first = Session {
+            sent: &[DEPOSIT, FLUSH, &BALANCE[..end]],
+            ends: Err(SessionFault::Frame(FrameFault::Short)),
+            told: &[DONE],
+        };
+        let length = serve_all(&rt, rt.alloc(), &[first], &mut InlineCrew);
+        expect(&rt, length == 1, "the log");
+    }
+}
+
+// So many frames, each as the model with the next request in its place, and then this.
+fn frames(rt: &impl Abort, alloc: Global, count: u32, model: &[u8], end: &[u8]) -> Vec<u8> {
+    let mut bytes = Vec::new(alloc);
+    for request in 0..count {
+        push_with(rt, model, request, &mut bytes);
+    }
+    bytes.extend_from_slice(end).expect(rt, "memory for bytes");
+    bytes
+}
+
+#[test]
+fn more_asks_than_may_be_unfinished(rt: HostRuntime) {
+    let sent = frames(&rt, rt.alloc(), 3_000, DEPOSIT, FLUSH);
+    let told = frames(&rt, rt.alloc(), 3_000, DONE, b"");
+    let mut primary = opened(&rt, rt.alloc());
+    expect_session(&rt, rt.alloc(), &mut *primary, &sent, Ok(()), &told);
+    expect(&rt, primary.node().length() == 3_000, "all carried out");
+}

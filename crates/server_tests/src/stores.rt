@@ -1,0 +1,74 @@
+//! Stores that lie or fail.
+use sb_checkpoint::{CheckpointStore, StoreFault};
+use std::alloc::Global;
+
+/// What a store does.
+#[derive(Clone, Copy)]
+pub(crate) enum Habit {
+    /// It does as it is asked.
+    Honest,
+    /// Each put fails so.
+    FailsPuts(StoreFault),
+    /// Each get fails so.
+    FailsGets(StoreFault),
+    /// It forgets what it was put.
+    Forgets,
+    /// It gives a byte more than it was put.
+    Adds,
+}
+
+/// A store with a habit. Nothing is said of what it holds.
+#[derive(Drop)]
+pub(crate) struct Habitual {
+    pub(crate) alloc: Global,
+    pub(crate) held: Option<Vec<u8>>,
+    pub(crate) habit: Habit,
+}
+
+impl CheckpointStore for Habitual {
+    ghost use Rattle.std.specs.Prelude.{None, ◌^◌, ◌-◌};
+
+    ghost slot = { λ store. None };
+
+    ghost IsHonest = { λ store. ⊥ };
+
+    ghost failed = { λ store. 2 ^ 64 - 1 };
+
+    ghost acts = { λ old step new. Unit {0} };
+
+    fn put(&mut self, bytes: &[u8]) -> Result<(), StoreFault> {
+        if let Habit::FailsPuts(fault) = self.habit {
+            return Err(fault);
+        }
+        let Ok(held) = Vec::from_slice(self.alloc, bytes) else {
+            return Err(StoreFault::OutOfMemory);
+        };
+        self.held = match self.habit {
+            Habit::Forgets => None,
+            _ => Some(held),
+        };
+        Ok(())
+    }
+
+    fn get(&mut self) -> Result<Option<Vec<u8>>, StoreFault> {
+        if let Habit::FailsGets(fault) = self.habit {
+            return Err(fault);
+        }
+        let Some(held) = &self.held else {
+            return Ok(None);
+        };
+        let Ok(mut copy) = Vec::from_slice(self.alloc, held) else {
+            return Err(StoreFault::OutOfMemory);
+        };
+        if let Habit::Adds = self.habit
+            && copy.push(0).is_err()
+        {
+            return Err(StoreFault::OutOfMemory);
+        }
+        Ok(Some(copy))
+    }
+
+    fn failures(&self) -> u64 {
+        u64::MAX
+    }
+}

@@ -1,0 +1,74 @@
+//! Frames as they stand on the wire, and sessions of them.
+use crate::bank::{expect, expect_bytes, joined};
+use bank_server::{Primary, SessionFault, serve_session};
+use cown_workers::InlineCrew;
+use sb_checkpoint::CheckpointStore;
+use std::alloc::Global;
+use std::process::Abort;
+
+/// Client 7 asks for alice's balance by its request 1.
+pub(crate) const BALANCE: &[u8] = b"\x00\x10\x01\x00\x00\x00\x07\x00\x00\x00\x01\x01\x05alice";
+
+/// By its request 2 it pays 5.00 to bob.
+pub(crate) const DEPOSIT: &[u8] =
+    b"\x00\x16\x01\x00\x00\x00\x07\x00\x00\x00\x02\x02\x03bob\x00\x00\x00\x00\x00\x00\x01\xf4";
+
+/// By its request 1 it pays 1.00 to alice.
+pub(crate) const OTHER: &[u8] =
+    b"\x00\x18\x01\x00\x00\x00\x07\x00\x00\x00\x01\x02\x05alice\x00\x00\x00\x00\x00\x00\x00\x64";
+
+pub(crate) const FLUSH: &[u8] = b"\x00\x01\x06";
+
+/// The log's first entry, which no client sends.
+pub(crate) const ENTRY: &[u8] = b"\x00\x10\x02\x00\x00\x00\x00\x00\x00\x00\x01\x01\x05alice";
+
+/// The balance's outcome, 150.00.
+pub(crate) const SHOWN: &[u8] =
+    b"\x00\x13\x05\x00\x00\x00\x07\x00\x00\x00\x01\x00\x00\x00\x00\x00\x00\x00\x00\x3a\x98";
+
+/// The payment's.
+pub(crate) const DONE: &[u8] =
+    b"\x00\x13\x05\x00\x00\x00\x07\x00\x00\x00\x02\x00\x01\x00\x00\x00\x00\x00\x00\x00\x00";
+
+/// What another call under the balance's numbers comes to.
+pub(crate) const MISMATCH: &[u8] =
+    b"\x00\x13\x05\x00\x00\x00\x07\x00\x00\x00\x01\x01\x00\x00\x00\x00\x00\x00\x00\x00\x00";
+
+/// A session of these bytes, by reads as long as they may be, ends so, and its client is told this.
+pub(crate) fn expect_session<S: CheckpointStore>(
+    rt: &impl Abort,
+    alloc: Global,
+    primary: &mut Primary<S>,
+    sent: &[u8],
+    ends: Result<(), SessionFault>,
+    told: &[u8],
+) {
+    let mut reader = sent;
+    let mut written: Vec<u8> = Vec::new(alloc);
+    let ended = serve_session(alloc, &mut reader, &mut written, primary, &mut InlineCrew);
+    expect(rt, ended == ends, "how the session ends");
+    expect_bytes(rt, &written, told, "what the client is told");
+}
+
+/// A session of these pieces ends well, and its client is told this.
+pub(crate) fn serve<S: CheckpointStore>(
+    rt: &impl Abort,
+    alloc: Global,
+    primary: &mut Primary<S>,
+    sent: &[&[u8]],
+    told: &[&[u8]],
+) {
+    let sent = joined(rt, alloc, sent);
+    let told = joined(rt, alloc, told);
+    expect_session(rt, alloc, primary, &sent, Ok(()), &told);
+}
+
+/// Puts as many bytes as the model, with this request in its place.
+pub(crate) fn push_with(rt: &impl Abort, model: &[u8], request: u32, out: &mut Vec<u8>) {
+    let number = request.to_be_bytes();
+    if let Some((head, rest)) = model.split_at_checked(7) {
+        for piece in [head, number.as_slice(), rest.get(4..).unwrap_or_default()] {
+            out.extend_from_slice(piece).expect(rt, "memory for bytes");
+        }
+    }
+}
