@@ -5,9 +5,8 @@ ghost use Rattle.cown_queue.specs.Queues.{IsInFront};
 use super::*;
 use arrayvec::ArrayVec;
 use sb_calls::Cown;
-use std::alloc::AllocError;
+use std::alloc::Global;
 use std::process::Abort;
-use std::test::Fail;
 
 // Whether a behaviour may declare these: at most three, each above the one before, all of the first `bound`.
 fn may_declare(cowns: &[Cown], bound: usize) -> bool
@@ -39,16 +38,10 @@ fn is_in_front(queues: &Queues, number: u64, cowns: &[Cown]) -> bool
     true
 }
 
-fn spawn(
-    rt: &impl Abort,
-    queues: &mut Queues,
-    number: u64,
-    cowns: &[Cown],
-) -> Result<(), AllocError> {
+fn spawn(rt: &impl Abort, queues: &mut Queues, number: u64, cowns: &[Cown]) {
     assert!(rt; may_declare(cowns, queues.cowns()), "cowns of {number}");
-    queues.reserve(cowns)?;
+    queues.reserve(cowns).expect(rt, "memory");
     queues.append(number, cowns);
-    Ok(())
 }
 
 fn finish(rt: &impl Abort, queues: &mut Queues, number: u64, cowns: &[Cown]) -> ArrayVec<u64, 3> {
@@ -57,171 +50,138 @@ fn finish(rt: &impl Abort, queues: &mut Queues, number: u64, cowns: &[Cown]) -> 
     queues.release(number, cowns)
 }
 
-// The fronts of five cowns.
-fn fronts(rt: &impl Abort, queues: &Queues) -> [Option<u64>; 5] {
-    assert_eq!(rt; queues.cowns(), 5);
-    [
-        queues.front(Cown::new(0)),
-        queues.front(Cown::new(1)),
-        queues.front(Cown::new(2)),
-        queues.front(Cown::new(3)),
-        queues.front(Cown::new(4)),
-    ]
+// A number is finished, and then these are in front.
+fn finishes(rt: &impl Abort, queues: &mut Queues, number: u64, cowns: &[Cown], fronts: &[u64]) {
+    let found = finish(rt, queues, number, cowns);
+    assert!(rt; found.as_slice() == fronts, "{number}");
+}
+
+// Queues of so many cowns.
+fn open(rt: &impl Abort, alloc: Global, cowns: usize) -> Box<Queues> {
+    let queues = Queues::open(alloc, cowns).expect(rt, "memory");
+    assert!(rt; queues.cowns() == cowns);
+    Box::new(alloc, queues).expect(rt, "memory")
+}
+
+// The first cowns have these fronts, in order.
+fn fronts_are(rt: &impl Abort, queues: &Queues, fronts: &[Option<u64>]) {
+    for (front, cown) in fronts.iter().zip(0..) {
+        assert!(rt; queues.front(Cown::new(cown)) == *front, "{cown}");
+    }
+}
+
+fn makes_room(rt: &impl Abort, queues: &mut Queues, cowns: &[Cown]) {
+    queues.reserve(cowns).expect(rt, "memory");
 }
 
 #[test]
-fn each_cown_is_given_in_the_order_of_spawning(rt: HostRuntime) -> Result<(), Fail> {
+fn each_cown_is_given_in_the_order_of_spawning(rt: HostRuntime) {
     let (a, b, c, e) = (Cown::new(0), Cown::new(1), Cown::new(2), Cown::new(4));
-    let mut queues = Queues::open(rt.alloc(), 5)?;
-    assert_eq!(rt; fronts(&rt, &queues), [None; 5]);
+    let mut queues = open(&rt, rt.alloc(), 5);
+    fronts_are(&rt, &queues, &[None; 5]);
 
-    spawn(&rt, &mut queues, 1, &[a, c])?;
-    assert_eq!(rt; fronts(&rt, &queues), [Some(1), None, Some(1), None, None]);
-    spawn(&rt, &mut queues, 2, &[a, b])?;
-    assert_eq!(rt;
-        fronts(&rt, &queues),
-        [Some(1), Some(2), Some(1), None, None]
-    );
-    spawn(&rt, &mut queues, 3, &[b, c, e])?;
-    spawn(&rt, &mut queues, 4, &[])?;
-    spawn(&rt, &mut queues, 5, &[c])?;
-    assert_eq!(rt;
-        fronts(&rt, &queues),
-        [Some(1), Some(2), Some(1), None, Some(3)]
-    );
+    spawn(&rt, &mut queues, 1, &[a, c]);
+    fronts_are(&rt, &queues, &[Some(1), None, Some(1), None, None]);
+    spawn(&rt, &mut queues, 2, &[a, b]);
+    fronts_are(&rt, &queues, &[Some(1), Some(2), Some(1), None, None]);
+    spawn(&rt, &mut queues, 3, &[b, c, e]);
+    spawn(&rt, &mut queues, 4, &[]);
+    spawn(&rt, &mut queues, 5, &[c]);
+    fronts_are(&rt, &queues, &[Some(1), Some(2), Some(1), None, Some(3)]);
 
     // No cown was given to 4.
-    assert_eq!(rt; finish(&rt, &mut queues, 4, &[]).as_slice(), [].as_slice());
-    assert_eq!(rt;
-        fronts(&rt, &queues),
-        [Some(1), Some(2), Some(1), None, Some(3)]
-    );
-
-    assert_eq!(rt;
-        finish(&rt, &mut queues, 1, &[a, c]).as_slice(),
-        [2, 3].as_slice()
-    );
-    assert_eq!(rt;
-        fronts(&rt, &queues),
-        [Some(2), Some(2), Some(3), None, Some(3)]
-    );
+    finishes(&rt, &mut queues, 4, &[], &[]);
+    fronts_are(&rt, &queues, &[Some(1), Some(2), Some(1), None, Some(3)]);
+    finishes(&rt, &mut queues, 1, &[a, c], &[2, 3]);
+    fronts_are(&rt, &queues, &[Some(2), Some(2), Some(3), None, Some(3)]);
     // The list of `a` is empty after it.
-    assert_eq!(rt;
-        finish(&rt, &mut queues, 2, &[a, b]).as_slice(),
-        [3].as_slice()
-    );
-    assert_eq!(rt;
-        fronts(&rt, &queues),
-        [None, Some(3), Some(3), None, Some(3)]
-    );
-    assert_eq!(rt;
-        finish(&rt, &mut queues, 3, &[b, c, e]).as_slice(),
-        [5].as_slice()
-    );
-    assert_eq!(rt; finish(&rt, &mut queues, 5, &[c]).as_slice(), [].as_slice());
-    assert_eq!(rt; fronts(&rt, &queues), [None; 5]);
-    Ok(())
+    finishes(&rt, &mut queues, 2, &[a, b], &[3]);
+    fronts_are(&rt, &queues, &[None, Some(3), Some(3), None, Some(3)]);
+    finishes(&rt, &mut queues, 3, &[b, c, e], &[5]);
+    finishes(&rt, &mut queues, 5, &[c], &[]);
+    fronts_are(&rt, &queues, &[None; 5]);
 }
 
 #[test]
-fn room_made_for_other_cowns_is_given_up(rt: HostRuntime) -> Result<(), Fail> {
+fn room_made_for_other_cowns_is_given_up(rt: HostRuntime) {
     let (a, b, d) = (Cown::new(0), Cown::new(1), Cown::new(3));
-    let mut queues = Queues::open(rt.alloc(), 5)?;
-    queues.reserve(&[b, d])?;
-    spawn(&rt, &mut queues, u64::MAX, &[a])?;
-    assert_eq!(rt;
-        fronts(&rt, &queues),
-        [Some(u64::MAX), None, None, None, None]
-    );
-    spawn(&rt, &mut queues, 0, &[a, d])?;
-    assert_eq!(rt;
-        fronts(&rt, &queues),
-        [Some(u64::MAX), None, None, Some(0), None]
-    );
-    assert_eq!(rt;
-        finish(&rt, &mut queues, u64::MAX, &[a]).as_slice(),
-        [0].as_slice()
-    );
-    Ok(())
+    let mut queues = open(&rt, rt.alloc(), 5);
+    makes_room(&rt, &mut queues, &[b, d]);
+    spawn(&rt, &mut queues, u64::MAX, &[a]);
+    fronts_are(&rt, &queues, &[Some(u64::MAX), None, None, None, None]);
+    spawn(&rt, &mut queues, 0, &[a, d]);
+    fronts_are(&rt, &queues, &[Some(u64::MAX), None, None, Some(0), None]);
+    finishes(&rt, &mut queues, u64::MAX, &[a], &[0]);
 }
 
 #[test]
-fn a_cown_that_is_not_there_holds_nothing(rt: HostRuntime) -> Result<(), Fail> {
+fn a_cown_that_is_not_there_holds_nothing(rt: HostRuntime) {
     let (a, b) = (Cown::new(0), Cown::new(1));
-    let mut queues = Queues::open(rt.alloc(), 2)?;
-    assert_eq!(rt; queues.front(Cown::new(2)), None);
-    assert_eq!(rt; queues.front(Cown::new(usize::MAX)), None);
+    let (past, last) = (Cown::new(2), Cown::new(usize::MAX));
+    let mut queues = open(&rt, rt.alloc(), 2);
+    assert!(rt; queues.front(past).is_none());
+    assert!(rt; queues.front(last).is_none());
     // Room is made where there is a cown, in whatever order they come.
-    queues.reserve(&[Cown::new(usize::MAX), b, a, b, Cown::new(2), a])?;
-    assert_eq!(rt; queues.front(b), None);
-    spawn(&rt, &mut queues, 1, &[a, b])?;
-    assert_eq!(rt; queues.front(b), Some(1));
-    assert_eq!(rt; queues.front(Cown::new(2)), None);
-    assert_eq!(rt;
-        finish(&rt, &mut queues, 1, &[a, b]).as_slice(),
-        [].as_slice()
-    );
-    Ok(())
+    makes_room(&rt, &mut queues, &[last, b, a, b, past, a]);
+    fronts_are(&rt, &queues, &[None; 2]);
+    spawn(&rt, &mut queues, 1, &[a, b]);
+    fronts_are(&rt, &queues, &[Some(1), Some(1), None]);
+    finishes(&rt, &mut queues, 1, &[a, b], &[]);
 }
 
 #[test]
-fn places_are_made_where_too_few_are_free(rt: HostRuntime) -> Result<(), Fail> {
+fn places_are_made_where_too_few_are_free(rt: HostRuntime) {
     let (a, b, c) = (Cown::new(0), Cown::new(1), Cown::new(2));
-    let mut queues = Queues::open(rt.alloc(), 3)?;
-    assert_eq!(rt; queues.places(), 0);
-    queues.reserve(&[a, c])?;
-    assert_eq!(rt; queues.places(), 2);
+    let mut queues = open(&rt, rt.alloc(), 3);
+    assert!(rt; queues.places() == 0);
+    makes_room(&rt, &mut queues, &[a, c]);
+    assert!(rt; queues.places() == 2);
     // These need no more.
-    queues.reserve(&[])?;
-    queues.reserve(&[b, c])?;
-    assert_eq!(rt; queues.places(), 2);
-    spawn(&rt, &mut queues, 1, &[a, b])?;
-    assert_eq!(rt; queues.places(), 2);
-    spawn(&rt, &mut queues, 2, &[b])?;
-    assert_eq!(rt; queues.places(), 3);
-    assert_eq!(rt;
-        finish(&rt, &mut queues, 1, &[a, b]).as_slice(),
-        [2].as_slice()
-    );
-    assert_eq!(rt; queues.places(), 3);
-    spawn(&rt, &mut queues, 3, &[b, c])?;
-    assert_eq!(rt; queues.places(), 3);
+    makes_room(&rt, &mut queues, &[]);
+    makes_room(&rt, &mut queues, &[b, c]);
+    assert!(rt; queues.places() == 2);
+    spawn(&rt, &mut queues, 1, &[a, b]);
+    assert!(rt; queues.places() == 2);
+    spawn(&rt, &mut queues, 2, &[b]);
+    assert!(rt; queues.places() == 3);
+    finishes(&rt, &mut queues, 1, &[a, b], &[2]);
+    assert!(rt; queues.places() == 3);
+    spawn(&rt, &mut queues, 3, &[b, c]);
+    assert!(rt; queues.places() == 3);
     // Each cown counts, one that isn't there too.
-    queues.reserve(&[b, b, Cown::new(usize::MAX)])?;
-    assert_eq!(rt; queues.places(), 6);
-    assert_eq!(rt;
-        finish(&rt, &mut queues, 2, &[b]).as_slice(),
-        [3].as_slice()
-    );
-    Ok(())
+    makes_room(&rt, &mut queues, &[b, b, Cown::new(usize::MAX)]);
+    assert!(rt; queues.places() == 6);
+    finishes(&rt, &mut queues, 2, &[b], &[3]);
+}
+
+// A cown that only this number of a thousand declares, and the last one of 131,072, which all do.
+fn own_and_last(number: u64) -> [Cown; 2]
+    requires { number ≤ 1000 }
+{
+    [Cown::new(131 * number as usize), Cown::new(131_071)]
 }
 
 // As many as the greatest bank has.
 #[test]
-fn each_of_131072_cowns_has_a_queue(rt: HostRuntime) -> Result<(), Fail> {
+fn each_of_131072_cowns_has_a_queue(rt: HostRuntime) {
     let last = Cown::new(131_071);
-    let mut queues = Queues::open(rt.alloc(), 131_072)?;
-    assert_eq!(rt; queues.cowns(), 131_072);
+    let mut queues = open(&rt, rt.alloc(), 131_072);
     for number in 1..=1_000 {
-        spawn(
+        spawn(&rt, &mut queues, number, &own_and_last(number));
+    }
+    assert!(rt; queues.front(Cown::new(0)).is_none());
+    assert!(rt; queues.front(Cown::new(131_000)) == Some(1_000));
+    assert!(rt; queues.front(Cown::new(131_072)).is_none());
+    for number in 1..1_000 {
+        assert!(rt; queues.front(last) == Some(number));
+        finishes(
             &rt,
             &mut queues,
             number,
-            &[Cown::new(131 * number as usize), last],
-        )?;
-    }
-    assert_eq!(rt; queues.front(Cown::new(0)), None);
-    assert_eq!(rt; queues.front(Cown::new(131_000)), Some(1_000));
-    assert_eq!(rt; queues.front(Cown::new(131_072)), None);
-    for number in 1..1_000 {
-        assert_eq!(rt; queues.front(last), Some(number));
-        let cowns = [Cown::new(131 * number as usize), last];
-        assert_eq!(rt;
-            finish(&rt, &mut queues, number, &cowns).as_slice(),
-            [number + 1].as_slice()
+            &own_and_last(number),
+            &[number + 1],
         );
     }
-    Ok(())
 }
 
 // Up to three of five cowns, spread over the numbers.
@@ -258,30 +218,43 @@ fn last_ready(rt: &impl Abort, queues: &Queues, waiting: &[u64]) -> Option<u64> 
     None
 }
 
+// The first of the waiting numbers at each cown that a number declares, where there is one.
+fn wanted_after(rt: &impl Abort, waiting: &[u64], number: u64) -> ArrayVec<u64, 5> {
+    let mut wanted = ArrayVec::new();
+    for cown in &declared(number) {
+        if let Some(front) = first_at(waiting, *cown) {
+            assert!(rt; wanted.try_push(front).is_ok());
+        }
+    }
+    wanted
+}
+
 // Finishes one number that is ready, and compares the new fronts with the numbers that still wait.
 fn finish_one(rt: &impl Abort, queues: &mut Queues, waiting: &mut Vec<u64>) {
-    let ready = last_ready(rt, queues, waiting);
-    assert!(rt; ready.is_some() || waiting.is_empty(), "none is ready");
-    if let Some(number) = ready {
-        waiting.retain(|other| *other != number);
-        let cowns = declared(number);
-        let mut wanted: ArrayVec<u64, 5> = ArrayVec::new();
-        for cown in &cowns {
-            if let Some(front) = first_at(waiting, *cown) {
-                assert!(rt; wanted.try_push(front).is_ok());
-            }
-        }
-        assert_eq!(rt;
-            finish(rt, queues, number, &cowns).as_slice(),
-            wanted.as_slice(),
-            "{number}"
+    let Some(number) = last_ready(rt, queues, waiting) else {
+        assert!(rt; waiting.is_empty(), "none is ready");
+        return;
+    };
+    waiting.retain(|other| *other != number);
+    let wanted = wanted_after(rt, waiting, number);
+    let fronts = finish(rt, queues, number, &declared(number));
+    assert!(rt; fronts.as_slice() == wanted.as_slice(), "{number}");
+}
+
+// The fronts of the five cowns are those of the numbers that wait.
+fn fronts_are_first(rt: &impl Abort, queues: &Queues, waiting: &[u64]) {
+    for place in 0..5 {
+        let cown = Cown::new(place);
+        assert!(rt;
+            queues.front(cown) == first_at(waiting, cown),
+            "cown {place}"
         );
     }
 }
 
 #[test]
-fn fronts_are_those_of_plain_lists(rt: HostRuntime) -> Result<(), Fail> {
-    let mut queues = Queues::open(rt.alloc(), 5)?;
+fn fronts_are_those_of_plain_lists(rt: HostRuntime) {
+    let mut queues = open(&rt, rt.alloc(), 5);
     let mut waiting = Vec::new(rt.alloc());
     for number in 1..=10_000 {
         // Up to a hundred wait, then fewer, and then a hundred again.
@@ -289,18 +262,11 @@ fn fronts_are_those_of_plain_lists(rt: HostRuntime) -> Result<(), Fail> {
             finish_one(&rt, &mut queues, &mut waiting);
             finish_one(&rt, &mut queues, &mut waiting);
         }
-        waiting.push(number)?;
-        spawn(&rt, &mut queues, number, &declared(number))?;
+        waiting.push(number).expect(&rt, "memory");
+        spawn(&rt, &mut queues, number, &declared(number));
         assert!(rt; waiting.len() <= 100);
-        for (place, front) in fronts(&rt, &queues).into_iter().enumerate() {
-            assert_eq!(rt;
-                front,
-                first_at(&waiting, Cown::new(place)),
-                "cown {place} after {number}"
-            );
-        }
+        fronts_are_first(&rt, &queues, &waiting);
     }
     // No more than a hundred ever waited, each at three cowns or fewer.
     assert!(rt; queues.places() <= 300);
-    Ok(())
 }

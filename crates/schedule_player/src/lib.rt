@@ -12,8 +12,6 @@ mod opened;
 mod running;
 mod states;
 mod stepping;
-#[cfg(test)]
-mod tests;
 mod world;
 
 pub use fault::{PlayFault, ScheduleFault, StepFault};

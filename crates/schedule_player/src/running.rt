@@ -1,15 +1,20 @@
 //! A whole schedule: what is written is a stated function of what is read.
-ghost use Rattle.std.specs.Prelude.{◌≡◌, IfSome, IfErr, OnOk, MatchResult};
-ghost use Rattle.schedule_player.specs.RunText.{HasOutput, WritesOutput};
+ghost use Rattle.std.specs.Prelude.{◌≡◌, List, IfSome, IfErr, OnOk, MatchResult};
+ghost use Rattle.sb_rows.specs.Text.{unlines};
+ghost use Rattle.schedule_player.specs.Played.{Plays};
+ghost use Rattle.schedule_player.specs.RunText.{HasOutput, IsOutput, WritesOutput, played_lines};
 ghost use Rattle.schedule_player.specs.ScheduleFaults.{Blames, BlamesText, WritesNothing};
+ghost use Rattle.schedule_player.specs.declared.fault.ScheduleFault.TheVariants as faults;
+ghost use Rattle.schedule_text.specs.Reads.{schedule_seen};
 ghost use Rattle.schedule_text.specs.ScheduleText.{schedule_of};
+ghost use Rattle.schedule_text.specs.declared.note.Note.{Note as AnyNote};
 
 use crate::fault::ScheduleFault;
 use crate::states::push_states;
 use crate::stepping::play;
 use crate::world::World;
 use sb_text::{read_all, write_whole};
-use schedule_text::{push_notes, read_schedule};
+use schedule_text::{Event, Schedule, push_notes, read_schedule};
 use std::alloc::Global;
 use std::io::{Read, Write};
 
@@ -50,16 +55,40 @@ fn output_text(alloc: Global, text: &[u8]) -> Result<Vec<u8>, ScheduleFault>
         (λ fault. BlamesText fault (schedule_of text.now)) }
 {
     let schedule = read_schedule(alloc, text)?;
-    let mut world = World::open(
-        alloc,
-        schedule.directory,
-        schedule.columns,
-        schedule.nodes,
-        schedule.workers,
-    )?;
-    let notes = play(alloc, &mut world, &schedule.events)?;
+    output_of(alloc, schedule)
+}
+
+// The output of a schedule that was read.
+fn output_of(alloc: Global, schedule: Schedule) -> Result<Vec<u8>, ScheduleFault>
+    ensures { MatchResult result
+        (λ output. IsOutput (schedule_seen schedule) output.items)
+        (λ fault. fault ≡ faults.OutOfMemory) }
+{
+    let Schedule {
+        nodes,
+        workers,
+        directory,
+        columns,
+        events,
+    } = schedule;
+    let mut world = World::open(alloc, directory, columns, nodes, workers)?;
+    play_and_list(alloc, &mut world, &events)
+}
+
+// Events are played, and then a line for each note and where each replica is.
+fn play_and_list(
+    alloc: Global,
+    world: &mut World,
+    events: &[Event],
+) -> Result<Vec<u8>, ScheduleFault>
+    ensures { MatchResult result
+        (λ output. (notes : List AnyNote) × (Plays world.old events.now notes world.new
+        × (output.items ≡ unlines (played_lines notes world.new))))
+        (λ fault. fault ≡ faults.OutOfMemory) }
+{
+    let notes = play(alloc, world, events)?;
     let mut output = Vec::new(alloc);
     push_notes(&notes, &mut output)?;
-    push_states(&world, &mut output)?;
+    push_states(world, &mut output)?;
     Ok(output)
 }

@@ -10,8 +10,6 @@ mod note_text;
 mod numbers;
 mod reading;
 mod schedule;
-#[cfg(test)]
-mod tests;
 
 pub use event::Event;
 pub use event_text::read_event;

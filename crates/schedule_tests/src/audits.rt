@@ -1,9 +1,11 @@
 //! Two replicas compared.
-use super::*;
+use crate::worlds::{all_happen, world_of};
+use sb_calls::Reply;
+use schedule_player::{AuditNote, Note};
 
 #[test]
-fn a_replica_behind_the_other(rt: HostRuntime) -> Result<(), Fail> {
-    let mut world = world_of(&rt, rt.alloc(), 2, 1)?;
+fn a_replica_behind_the_other(rt: HostRuntime) {
+    let mut world = world_of(&rt, rt.alloc(), 2, 1);
     all_happen(
         &rt,
         &mut world,
@@ -27,12 +29,11 @@ fn a_replica_behind_the_other(rt: HostRuntime) -> Result<(), Fail> {
             ("audit 1 0", Note::Audit(AuditNote::Same(18_100, 0))),
         ],
     );
-    Ok(())
 }
 
 #[test]
-fn a_customer_is_overdrawn(rt: HostRuntime) -> Result<(), Fail> {
-    let mut world = world_of(&rt, rt.alloc(), 1, 1)?;
+fn a_customer_is_overdrawn(rt: HostRuntime) {
+    let mut world = world_of(&rt, rt.alloc(), 1, 1);
     all_happen(
         &rt,
         &mut world,
@@ -45,5 +46,4 @@ fn a_customer_is_overdrawn(rt: HostRuntime) -> Result<(), Fail> {
             ("audit 0 0", Note::Audit(AuditNote::Same(16_400, 1))),
         ],
     );
-    Ok(())
 }

@@ -1,17 +1,18 @@
 //! Notes as text.
-use super::*;
+use sb_calls::Reply;
+use schedule_text::{AuditNote, Column, Note, push_notes};
+use std::alloc::Global;
 use std::process::Abort;
 
 // Writes one note, and compares its line.
-fn expect(rt: &impl Abort, alloc: Global, note: Note, line: &str) -> Result<(), Fail> {
+fn expect_line(rt: &impl Abort, alloc: Global, note: Note, line: &str) {
     let mut out = Vec::new(alloc);
-    push_notes(&[note], &mut out)?;
-    assert_eq!(rt; out.as_slice(), line.as_bytes(), "{line}");
-    Ok(())
+    push_notes(&[note], &mut out).expect(rt, "memory");
+    assert!(rt; out.as_slice() == line.as_bytes(), "{line}");
 }
 
 #[test]
-fn notes_with_a_number(rt: HostRuntime) -> Result<(), Fail> {
+fn notes_with_a_number(rt: HostRuntime) {
     for (note, line) in [
         (Note::New(1), "new 1\n"),
         (Note::Repeat(20), "repeat 20\n"),
@@ -42,13 +43,12 @@ fn notes_with_a_number(rt: HostRuntime) -> Result<(), Fail> {
             "pending 18446744073709551615\n",
         ),
     ] {
-        expect(&rt, rt.alloc(), note, line)?;
+        expect_line(&rt, rt.alloc(), note, line);
     }
-    Ok(())
 }
 
 #[test]
-fn notes_in_words(rt: HostRuntime) -> Result<(), Fail> {
+fn notes_in_words(rt: HostRuntime) {
     for (note, line) in [
         (Note::LogFull, "log full\n"),
         (Note::Odd, "odd\n"),
@@ -65,13 +65,12 @@ fn notes_in_words(rt: HostRuntime) -> Result<(), Fail> {
         (Note::StoreFault, "store fault\n"),
         (Note::Nothing, "nothing\n"),
     ] {
-        expect(&rt, rt.alloc(), note, line)?;
+        expect_line(&rt, rt.alloc(), note, line);
     }
-    Ok(())
 }
 
 #[test]
-fn notes_of_an_audit(rt: HostRuntime) -> Result<(), Fail> {
+fn notes_of_an_audit(rt: HostRuntime) {
     for (found, line) in [
         (AuditNote::Busy(7), "busy 7\n"),
         (AuditNote::Apart(2, 10), "apart 2 10\n"),
@@ -87,20 +86,16 @@ fn notes_of_an_audit(rt: HostRuntime) -> Result<(), Fail> {
             "same -92233720368547758.08 0\n",
         ),
     ] {
-        expect(&rt, rt.alloc(), Note::Audit(found), line)?;
+        expect_line(&rt, rt.alloc(), Note::Audit(found), line);
     }
-    Ok(())
 }
 
 #[test]
-fn notes_stand_in_order_behind_what_was_written(rt: HostRuntime) -> Result<(), Fail> {
-    let mut out = Vec::from_slice(rt.alloc(), b"before\n")?;
-    push_notes(&[], &mut out)?;
-    assert_eq!(rt; out.as_slice(), b"before\n".as_slice());
-    push_notes(&[Note::New(1), Note::Nothing, Note::Sent(2)], &mut out)?;
-    assert_eq!(rt;
-        out.as_slice(),
-        b"before\nnew 1\nnothing\nsent 2\n".as_slice()
-    );
-    Ok(())
+fn notes_stand_in_order_behind_what_was_written(rt: HostRuntime) {
+    let mut out = Vec::from_slice(rt.alloc(), b"before\n").expect(&rt, "memory");
+    push_notes(&[], &mut out).expect(&rt, "memory");
+    assert!(rt; out.as_slice() == b"before\n".as_slice());
+    let notes = [Note::New(1), Note::Nothing, Note::Sent(2)];
+    push_notes(&notes, &mut out).expect(&rt, "memory");
+    assert!(rt; out.as_slice() == b"before\nnew 1\nnothing\nsent 2\n".as_slice());
 }

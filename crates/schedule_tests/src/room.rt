@@ -1,24 +1,17 @@
 //! As many entries as a replica has room for.
-use super::*;
+use crate::worlds::{accepts, all_happen, asks, sends, stands_at, world_of};
+use sb_calls::Reply;
+use schedule_player::Note;
 
 // How many may be unfinished at a replica.
 const ROOM: u32 = 1_024;
 
-// The entries with these numbers are sent to the one replica, at the places of their numbers.
-fn sends(rt: &impl Abort, world: &mut World, count: u32) {
-    for place in 0..count {
-        let number = place + 1;
-        let event = Event::Send { replica: 0, number };
-        assert_eq!(rt; world.step(event), Ok(Note::Sent(u64::from(number))));
-    }
-}
-
 #[test]
-fn one_entry_more_than_there_is_room_for(rt: HostRuntime) -> Result<(), Fail> {
-    let mut world = world_of(&rt, rt.alloc(), 1, 1)?;
+fn one_entry_more_than_there_is_room_for(rt: HostRuntime) {
+    let mut world = world_of(&rt, rt.alloc(), 1, 1);
     asks(&rt, &mut world, ROOM + 1, "deposit alice 1.00");
     sends(&rt, &mut world, ROOM + 1);
-    accepts(&rt, &mut world, 0, 1, ROOM);
+    accepts(&rt, &mut world, ROOM);
     all_happen(
         &rt,
         &mut world,
@@ -33,5 +26,4 @@ fn one_entry_more_than_there_is_room_for(rt: HostRuntime) -> Result<(), Fail> {
         ],
     );
     stands_at(&rt, &world, 0, 1_025, false);
-    Ok(())
 }

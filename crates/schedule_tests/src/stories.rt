@@ -1,6 +1,5 @@
 //! The stories of the folder examples/, with what each must give.
-use super::schedules::expect_output;
-use super::*;
+use crate::outputs::expect_output;
 
 #[test]
 fn lost_and_repeated(rt: HostRuntime) {

@@ -1,13 +1,16 @@
 //! Frames between the sequencer and its replicas.
-use super::*;
+use crate::worlds::{accepts, all_happen, asks, replies, stands_at, world_of};
+use sb_calls::Reply;
+use schedule_player::{Note, World};
+use std::process::Abort;
 
 #[test]
-fn a_resend_sends_what_was_not_heard_of(rt: HostRuntime) -> Result<(), Fail> {
-    let mut world = world_of(&rt, rt.alloc(), 2, 1)?;
-    happens(&rt, &mut world, "resend 0", Note::Resent(0));
+fn a_resend_sends_what_was_not_heard_of(rt: HostRuntime) {
+    let mut world = world_of(&rt, rt.alloc(), 2, 1);
+    all_happen(&rt, &mut world, &[("resend 0", Note::Resent(0))]);
     asks(&rt, &mut world, 17, "deposit alice 1.00");
-    happens(&rt, &mut world, "resend 0", Note::Resent(16));
-    accepts(&rt, &mut world, 0, 1, 16);
+    all_happen(&rt, &mut world, &[("resend 0", Note::Resent(16))]);
+    accepts(&rt, &mut world, 16);
     all_happen(
         &rt,
         &mut world,
@@ -36,12 +39,11 @@ fn a_resend_sends_what_was_not_heard_of(rt: HostRuntime) -> Result<(), Fail> {
     );
     stands_at(&rt, &world, 0, 17, false);
     stands_at(&rt, &world, 1, 0, true);
-    Ok(())
 }
 
 #[test]
-fn the_first_answer_is_kept(rt: HostRuntime) -> Result<(), Fail> {
-    let mut world = world_of(&rt, rt.alloc(), 2, 1)?;
+fn the_first_answer_is_kept(rt: HostRuntime) {
+    let mut world = world_of(&rt, rt.alloc(), 2, 1);
     all_happen(
         &rt,
         &mut world,
@@ -58,9 +60,9 @@ fn the_first_answer_is_kept(rt: HostRuntime) -> Result<(), Fail> {
             ("ack 0", Note::Sent(2)),
         ],
     );
-    assert_eq!(rt; world.answer_of(7, 3), None);
-    happens(&rt, &mut world, "from 0 1", Note::Kept(1));
-    assert_eq!(rt; world.answer_of(7, 3), Some(Reply::Shown(15_000)));
+    assert!(rt; world.answer_of(7, 3).is_none());
+    all_happen(&rt, &mut world, &[("from 0 1", Note::Kept(1))]);
+    assert!(rt; world.answer_of(7, 3) == Some(Reply::Shown(15_000)));
     all_happen(
         &rt,
         &mut world,
@@ -75,14 +77,13 @@ fn the_first_answer_is_kept(rt: HostRuntime) -> Result<(), Fail> {
             ("from 1 1", Note::Repeat(1)),
         ],
     );
-    assert_eq!(rt; world.answer_of(7, 3), Some(Reply::Shown(15_000)));
-    assert_eq!(rt; world.answer_of(7, 4), None);
-    Ok(())
+    assert!(rt; world.answer_of(7, 3) == Some(Reply::Shown(15_000)));
+    assert!(rt; world.answer_of(7, 4).is_none());
 }
 
 // What a world of two replicas shows that finished one deposit at replica 0.
 fn shows_one_deposit(rt: &impl Abort, world: &World) {
-    assert_eq!(rt; world.replicas(), 2);
+    assert!(rt; world.replicas() == 2);
     stands_at(rt, world, 0, 1, true);
     stands_at(rt, world, 1, 0, true);
     replies(rt, world, 0, 0, None);
@@ -92,8 +93,8 @@ fn shows_one_deposit(rt: &impl Abort, world: &World) {
     assert!(rt; world.call(0).is_none());
     assert!(rt; world.call(1).is_some());
     assert!(rt; world.call(2).is_none());
-    assert_eq!(rt; world.answer_of(1, 1), None);
-    assert_eq!(rt; world.directory().len(), 3);
+    assert!(rt; world.answer_of(1, 1).is_none());
+    assert!(rt; world.directory().len() == 3);
 }
 
 // No replica, no frame, no number and no worker is named so, in any world of the tests.
@@ -128,13 +129,13 @@ fn names_nothing(rt: &impl Abort, world: &mut World) {
         "finish 0 3",
         "finish 0 1",
     ] {
-        happens(rt, world, line, Note::Nothing);
+        all_happen(rt, world, &[(line, Note::Nothing)]);
     }
 }
 
 #[test]
-fn what_names_nothing_does_nothing(rt: HostRuntime) -> Result<(), Fail> {
-    let mut world = world_of(&rt, rt.alloc(), 2, 2)?;
+fn what_names_nothing_does_nothing(rt: HostRuntime) {
+    let mut world = world_of(&rt, rt.alloc(), 2, 2);
     names_nothing(&rt, &mut world);
     stands_at(&rt, &world, 0, 0, true);
     stands_at(&rt, &world, 1, 0, true);
@@ -152,5 +153,4 @@ fn what_names_nothing_does_nothing(rt: HostRuntime) -> Result<(), Fail> {
     shows_one_deposit(&rt, &world);
     names_nothing(&rt, &mut world);
     shows_one_deposit(&rt, &world);
-    Ok(())
 }

@@ -1,9 +1,13 @@
 //! Checkpoints and restarts, and jobs from before them.
-use super::*;
+use crate::worlds::{all_happen, replies, stands_at, world_of};
+use sb_calls::Reply;
+use schedule_player::{AuditNote, Note, World};
+use std::alloc::Global;
+use std::process::Abort;
 
 // A world whose replica was restarted while its first job was out; it took the entry again.
-fn with_a_job_from_before(rt: &impl Abort, alloc: Global) -> Result<World, Fail> {
-    let mut world = world_of(rt, alloc, 1, 2)?;
+fn with_a_job_from_before(rt: &impl Abort, alloc: Global) -> Box<World> {
+    let mut world = world_of(rt, alloc, 1, 2);
     all_happen(
         rt,
         &mut world,
@@ -16,13 +20,13 @@ fn with_a_job_from_before(rt: &impl Abort, alloc: Global) -> Result<World, Fail>
         ],
     );
     stands_at(rt, &world, 0, 0, true);
-    happens(rt, &mut world, "to 0 1", Note::Accepted(1));
-    Ok(world)
+    all_happen(rt, &mut world, &[("to 0 1", Note::Accepted(1))]);
+    world
 }
 
 #[test]
-fn a_job_from_before_a_restart_while_its_number_is_out(rt: HostRuntime) -> Result<(), Fail> {
-    let mut world = with_a_job_from_before(&rt, rt.alloc())?;
+fn a_job_from_before_a_restart_while_its_number_is_out(rt: HostRuntime) {
+    let mut world = with_a_job_from_before(&rt, rt.alloc());
     all_happen(
         &rt,
         &mut world,
@@ -34,12 +38,11 @@ fn a_job_from_before_a_restart_while_its_number_is_out(rt: HostRuntime) -> Resul
             ("audit 0 0", Note::Audit(AuditNote::Same(18_100, 0))),
         ],
     );
-    Ok(())
 }
 
 #[test]
-fn a_job_from_before_a_restart_while_none_is_out(rt: HostRuntime) -> Result<(), Fail> {
-    let mut world = with_a_job_from_before(&rt, rt.alloc())?;
+fn a_job_from_before_a_restart_while_none_is_out(rt: HostRuntime) {
+    let mut world = with_a_job_from_before(&rt, rt.alloc());
     all_happen(
         &rt,
         &mut world,
@@ -50,12 +53,11 @@ fn a_job_from_before_a_restart_while_none_is_out(rt: HostRuntime) -> Result<(), 
             ("audit 0 0", Note::Audit(AuditNote::Same(18_100, 0))),
         ],
     );
-    Ok(())
 }
 
 // A world whose replica finished one entry, and whose mark of it ended so.
-fn with_mark(rt: &impl Abort, alloc: Global, line: &str, note: Note) -> Result<World, Fail> {
-    let mut world = world_of(rt, alloc, 1, 1)?;
+fn with_mark(rt: &impl Abort, alloc: Global, line: &str, note: Note) -> Box<World> {
+    let mut world = world_of(rt, alloc, 1, 1);
     all_happen(
         rt,
         &mut world,
@@ -71,12 +73,12 @@ fn with_mark(rt: &impl Abort, alloc: Global, line: &str, note: Note) -> Result<W
             (line, note),
         ],
     );
-    Ok(world)
+    world
 }
 
 #[test]
-fn a_mark_that_works(rt: HostRuntime) -> Result<(), Fail> {
-    let mut world = with_mark(&rt, rt.alloc(), "mark 0 ok", Note::Marked(1))?;
+fn a_mark_that_works(rt: HostRuntime) {
+    let mut world = with_mark(&rt, rt.alloc(), "mark 0 ok", Note::Marked(1));
     all_happen(
         &rt,
         &mut world,
@@ -87,12 +89,11 @@ fn a_mark_that_works(rt: HostRuntime) -> Result<(), Fail> {
         ],
     );
     replies(&rt, &world, 0, 1, Some(Reply::Done));
-    Ok(())
 }
 
 #[test]
-fn a_mark_that_fails_with_the_old_bytes(rt: HostRuntime) -> Result<(), Fail> {
-    let mut world = with_mark(&rt, rt.alloc(), "mark 0 old", Note::StoreFault)?;
+fn a_mark_that_fails_with_the_old_bytes(rt: HostRuntime) {
+    let mut world = with_mark(&rt, rt.alloc(), "mark 0 old", Note::StoreFault);
     all_happen(
         &rt,
         &mut world,
@@ -103,12 +104,11 @@ fn a_mark_that_fails_with_the_old_bytes(rt: HostRuntime) -> Result<(), Fail> {
         ],
     );
     replies(&rt, &world, 0, 1, None);
-    Ok(())
 }
 
 #[test]
-fn a_mark_that_fails_with_the_new_bytes(rt: HostRuntime) -> Result<(), Fail> {
-    let mut world = with_mark(&rt, rt.alloc(), "mark 0 new", Note::StoreFault)?;
+fn a_mark_that_fails_with_the_new_bytes(rt: HostRuntime) {
+    let mut world = with_mark(&rt, rt.alloc(), "mark 0 new", Note::StoreFault);
     all_happen(
         &rt,
         &mut world,
@@ -118,5 +118,4 @@ fn a_mark_that_fails_with_the_new_bytes(rt: HostRuntime) -> Result<(), Fail> {
         ],
     );
     replies(&rt, &world, 0, 1, Some(Reply::Done));
-    Ok(())
 }

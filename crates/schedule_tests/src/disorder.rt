@@ -1,15 +1,9 @@
 //! Entries in a random order, none of them more than 64 ahead.
-use super::*;
+use crate::worlds::{asks, sends, stands_at, world_of};
+use schedule_player::{Event, Note, World};
+use std::process::Abort;
 
 const ENTRIES: u32 = 1_000;
-
-// The first so many entries are sent to a replica, each at the place of its number.
-fn sends(rt: &impl Abort, world: &mut World, count: u32) {
-    for number in 1..=count {
-        let event = Event::Send { replica: 0, number };
-        assert_eq!(rt; world.step(event), Ok(Note::Sent(u64::from(number))));
-    }
-}
 
 // What is held after this number is taken in order, until nothing is held for the next one; answers the last taken.
 fn takes_what_is_held(rt: &impl Abort, world: &mut World, after: u32) -> u32 {
@@ -19,9 +13,9 @@ fn takes_what_is_held(rt: &impl Abort, world: &mut World, after: u32) -> u32 {
         if note == Ok(Note::Nothing) {
             return number - 1;
         }
-        assert_eq!(rt; note, Ok(Note::Accepted(u64::from(number))));
+        assert!(rt; note == Ok(Note::Accepted(u64::from(number))));
     }
-    happens(rt, world, "next 0", Note::Nothing);
+    assert!(rt; world.step(Event::Next { replica: 0 }) == Ok(Note::Nothing));
     ENTRIES
 }
 
@@ -30,10 +24,10 @@ fn comes(rt: &impl Abort, world: &mut World, place: u32, accepted: u32) -> u32 {
     assert!(rt; accepted < ENTRIES);
     let note = world.step(Event::To { replica: 0, place });
     if place > accepted + 1 {
-        assert_eq!(rt; note, Ok(Note::Held(u64::from(place))));
+        assert!(rt; note == Ok(Note::Held(u64::from(place))));
         return accepted;
     }
-    assert_eq!(rt; note, Ok(Note::Accepted(u64::from(place))));
+    assert!(rt; note == Ok(Note::Accepted(u64::from(place))));
     takes_what_is_held(rt, world, place)
 }
 
@@ -44,8 +38,8 @@ fn step(random: u32) -> u32 {
 
 // Of the next 64 entries one comes at a time, whichever it is, so some come again before their turn.
 #[test]
-fn a_thousand_entries_in_disorder(rt: HostRuntime) -> Result<(), Fail> {
-    let mut world = world_of(&rt, rt.alloc(), 1, 1)?;
+fn a_thousand_entries_in_disorder(rt: HostRuntime) {
+    let mut world = world_of(&rt, rt.alloc(), 1, 1);
     asks(&rt, &mut world, ENTRIES, "deposit alice 0.01");
     sends(&rt, &mut world, ENTRIES);
     let mut random = 1;
@@ -57,7 +51,6 @@ fn a_thousand_entries_in_disorder(rt: HostRuntime) -> Result<(), Fail> {
             accepted = comes(&rt, &mut world, accepted + 1 + ahead, accepted);
         }
     }
-    assert_eq!(rt; accepted, ENTRIES);
+    assert!(rt; accepted == ENTRIES);
     stands_at(&rt, &world, 0, 1_000, false);
-    Ok(())
 }

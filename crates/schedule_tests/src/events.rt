@@ -1,0 +1,186 @@
+//! Lines of events.
+use sb_amount::Cents;
+use sb_calls::{Call, CallFault};
+use sb_checkpoint::How;
+use sb_rows::Name;
+use schedule_text::{Event, EventFault, read_event};
+use std::process::Abort;
+
+#[test]
+fn reads_a_line_of_each_event(rt: HostRuntime) {
+    let bob = Name::new(b"bob").expect(&rt, "a name");
+    let amount = Cents::new(1_000).expect(&rt, "an amount");
+    let call = Call::DepositChecking(bob, amount);
+    let ask = Event::Ask {
+        client: 7,
+        request: 2,
+        call,
+    };
+    let send = Event::Send {
+        replica: 0,
+        number: 5,
+    };
+    let to = Event::To {
+        replica: 2,
+        place: 6,
+    };
+    let answer = Event::Answer {
+        replica: 4,
+        number: 7,
+    };
+    let from = Event::From {
+        replica: 5,
+        place: 8,
+    };
+    let take = Event::Take {
+        replica: 6,
+        worker: 16,
+        index: 9,
+    };
+    let finish = Event::Finish {
+        replica: 7,
+        worker: 1,
+    };
+    let audit = Event::Audit {
+        first: 3,
+        second: 2,
+    };
+    for (line, event) in [
+        ("ask 7 2 deposit bob 10.00", ask),
+        ("send 0 5", send),
+        ("resend 1", Event::Resend { replica: 1 }),
+        ("to 2 6", to),
+        ("ack 3", Event::Ack { replica: 3 }),
+        ("answer 4 7", answer),
+        ("from 5 8", from),
+        ("take 6 16 9", take),
+        ("finish 7 1", finish),
+        ("restart 1", Event::Restart { replica: 1 }),
+        ("cut 1", Event::Cut { replica: 1 }),
+        ("next 1", Event::Next { replica: 1 }),
+        ("audit 3 2", audit),
+    ] {
+        assert!(rt; read_event(line.as_bytes()) == Ok(event), "{line}");
+    }
+}
+
+#[test]
+fn reads_how_a_put_ends(rt: HostRuntime) {
+    for (line, how) in [
+        ("mark 0 ok", How::Ok),
+        ("mark 0 old", How::Old),
+        ("mark 0 new", How::New),
+    ] {
+        let event = Event::Mark { replica: 0, how };
+        assert!(rt; read_event(line.as_bytes()) == Ok(event), "{line}");
+    }
+}
+
+// A line is that of an ask by this client, with this number, for alice's balance.
+fn is_ask(rt: &impl Abort, line: &str, client: u32, request: u32) {
+    let alice = Name::new(b"alice").expect(rt, "a name");
+    let event = Event::Ask {
+        client,
+        request,
+        call: Call::Balance(alice),
+    };
+    assert!(rt; read_event(line.as_bytes()) == Ok(event), "{line}");
+}
+
+#[test]
+fn reads_an_ask_of_client_0_and_the_greatest_numbers(rt: HostRuntime) {
+    is_ask(&rt, "ask 0 1 balance alice", 0, 1);
+    is_ask(&rt, "ask 0 0 balance alice", 0, 0);
+    let line = "ask 4294967295 4294967295 balance alice";
+    is_ask(&rt, line, 4294967295, 4294967295);
+    let event = Event::Take {
+        replica: 4294967295,
+        worker: 4294967295,
+        index: 4294967295,
+    };
+    let line = b"take 4294967295 4294967295 4294967295".as_slice();
+    assert!(rt; read_event(line) == Ok(event));
+}
+
+// Lines at fault.
+const UNKNOWN_EVENTS: [&str; 6] = [
+    "",
+    "begin",
+    "Send 0 1",
+    " send 0 1",
+    "sends",
+    "balance alice",
+];
+
+const WRONG_WORDS: [&str; 16] = [
+    "ask",
+    "ask 1",
+    "ask x",
+    "send",
+    "send x",
+    "send 0 1 2",
+    "send 0  1",
+    "resend",
+    "resend 0 1",
+    "take 0 1",
+    "take 0 1 0 0",
+    "mark x",
+    "mark 0 ok ok",
+    "cut 0 1",
+    "next",
+    "next 0 1",
+];
+
+const BAD_NUMBERS: [&str; 16] = [
+    "send x 1",
+    "send 0 x",
+    "send 00 1",
+    "send 0 01",
+    "send 0 -1",
+    "send 0 4294967296",
+    "send 0 ",
+    "take 0 1 x",
+    "mark x ok",
+    "mark 0 OK",
+    "mark 0 ",
+    "next x",
+    "next 4294967296",
+    "ask x 1 pay",
+    "ask 1 x",
+    "ask 1 4294967296 pay",
+];
+
+// Each of these lines has this fault first.
+fn are_at_fault(rt: &impl Abort, lines: &[&str], fault: EventFault) {
+    for line in lines {
+        assert!(rt; read_event(line.as_bytes()) == Err(fault), "{line}");
+    }
+}
+
+#[test]
+fn names_the_first_fault_of_a_line(rt: HostRuntime) {
+    are_at_fault(&rt, &UNKNOWN_EVENTS, EventFault::UnknownEvent);
+    are_at_fault(&rt, &WRONG_WORDS, EventFault::WrongWords);
+    are_at_fault(&rt, &BAD_NUMBERS, EventFault::BadNumber);
+}
+
+#[test]
+fn names_the_fault_of_a_call(rt: HostRuntime) {
+    let unknown = EventFault::Call(CallFault::UnknownVerb);
+    are_at_fault(&rt, &["ask 1 1", "ask 1 1 ", "ask 1 1 pay"], unknown);
+    are_at_fault(
+        &rt,
+        &["ask 1 1 balance"],
+        EventFault::Call(CallFault::WrongWords),
+    );
+    are_at_fault(
+        &rt,
+        &["ask 1 1 balance A"],
+        EventFault::Call(CallFault::BadName),
+    );
+    are_at_fault(
+        &rt,
+        &["ask 1 1 check a 1"],
+        EventFault::Call(CallFault::BadMoney),
+    );
+}

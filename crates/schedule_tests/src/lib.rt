@@ -1,0 +1,35 @@
+//! Tests of schedules: their text, and worlds that play them event after event.
+#![tactic(auto)]
+
+#[cfg(test)]
+mod audits;
+#[cfg(test)]
+mod devices;
+#[cfg(test)]
+mod disorder;
+#[cfg(test)]
+mod events;
+#[cfg(test)]
+mod faults;
+#[cfg(test)]
+mod lists;
+#[cfg(test)]
+mod network;
+#[cfg(test)]
+mod notes;
+#[cfg(test)]
+mod outputs;
+#[cfg(test)]
+mod restarts;
+#[cfg(test)]
+mod room;
+#[cfg(test)]
+mod schedules;
+#[cfg(test)]
+mod stories;
+#[cfg(test)]
+mod texts;
+#[cfg(test)]
+mod workers;
+#[cfg(test)]
+mod worlds;

@@ -1,0 +1,49 @@
+//! Lists of events, played.
+use crate::worlds::{stands_at, world_of};
+use sb_calls::Reply;
+use schedule_player::{AuditNote, Event, Note, World, play};
+use schedule_text::read_event;
+use std::alloc::Global;
+use std::process::Abort;
+
+// The events that these lines say, played, have these notes.
+fn plays(rt: &impl Abort, alloc: Global, world: &mut World, lines: &[&str], wanted: &[Note]) {
+    let mut events: Vec<Event> = Vec::new(alloc);
+    for line in lines {
+        let event = read_event(line.as_bytes()).expect(rt, "an event");
+        events.push(event).expect(rt, "memory");
+    }
+    let notes = play(alloc, world, &events).ok().expect(rt, "memory");
+    assert!(rt; notes.as_slice() == wanted);
+}
+
+#[test]
+fn the_notes_of_all_events_in_order(rt: HostRuntime) {
+    let mut world = world_of(&rt, rt.alloc(), 1, 1);
+    let lines = [
+        "ask 1 1 balance bob",
+        "send 0 1",
+        "to 0 1",
+        "to 0 2",
+        "take 0 1 0",
+        "finish 0 1",
+        "audit 0 0",
+    ];
+    let notes = [
+        Note::New(1),
+        Note::Sent(1),
+        Note::Accepted(1),
+        Note::Nothing,
+        Note::Took(1),
+        Note::Finished(1, Reply::Shown(2_000)),
+        Note::Audit(AuditNote::Same(18_000, 0)),
+    ];
+    plays(&rt, rt.alloc(), &mut world, &lines, &notes);
+}
+
+#[test]
+fn no_events(rt: HostRuntime) {
+    let mut world = world_of(&rt, rt.alloc(), 1, 1);
+    plays(&rt, rt.alloc(), &mut world, &[], &[]);
+    stands_at(&rt, &world, 0, 0, true);
+}

@@ -1,0 +1,88 @@
+//! Worlds of three customers, and what happens in them.
+use sb_calls::{Call, Reply, read_call};
+use sb_rows::{Opening, read_opening};
+use schedule_player::{Event, Note, World};
+use schedule_text::read_event;
+use std::alloc::Global;
+use std::process::Abort;
+
+const OPENING: &str = "alice 100.00 50.00\nbob 0.00 20.00\ncarol 10.00 0.00\nbegin\n";
+
+// A world of the three, with so many replicas of so many workers.
+pub(crate) fn world_of(rt: &impl Abort, alloc: Global, nodes: u8, workers: u8) -> Box<World> {
+    assert!(rt; nodes <= 8);
+    let opening = read_opening(alloc, OPENING.as_bytes()).expect(rt, "an opening");
+    let Opening {
+        directory,
+        columns,
+        ..
+    } = opening;
+    let world = World::open(alloc, directory, columns, nodes, workers).expect(rt, "memory");
+    Box::new(alloc, world).expect(rt, "memory")
+}
+
+// The event that a line says happens, and is noted so.
+fn happens(rt: &impl Abort, world: &mut World, line: &str, note: Note) {
+    let event = read_event(line.as_bytes()).expect(rt, "an event");
+    assert!(rt; world.step(event) == Ok(note), "{line}");
+}
+
+// Each of these happens, one after the other.
+pub(crate) fn all_happen(rt: &impl Abort, world: &mut World, steps: &[(&str, Note)]) {
+    for (line, note) in steps {
+        happens(rt, world, line, *note);
+    }
+}
+
+// A replica's log has this length, and something or nothing is unfinished at it.
+pub(crate) fn stands_at(rt: &impl Abort, world: &World, replica: u32, length: u64, idle: bool) {
+    assert!(rt; replica < world.replicas());
+    assert!(rt; world.length(replica) == length, "{replica}");
+    assert!(rt; world.idle(replica) == idle, "{replica}");
+    assert!(rt; world.columns(replica).is_some() == idle, "{replica}");
+}
+
+// The reply that a replica holds to a number.
+pub(crate) fn replies(
+    rt: &impl Abort,
+    world: &World,
+    replica: u32,
+    number: u64,
+    reply: Option<Reply>,
+) {
+    assert!(rt; replica < world.replicas());
+    assert!(rt; world.reply(replica, number) == reply, "{replica} {number}");
+}
+
+// Client 1 asks for this call so many times, each time as a new request.
+pub(crate) fn asks(rt: &impl Abort, world: &mut World, count: u32, line: &str) {
+    let call = read_call(line.as_bytes()).expect(rt, "a call");
+    for place in 0..count {
+        let event = new_ask(place + 1, &call);
+        assert!(rt; world.step(event) == Ok(Note::New(u64::from(place) + 1)));
+    }
+}
+
+fn new_ask(request: u32, call: &Call) -> Event {
+    Event::Ask {
+        client: 1,
+        request,
+        call: *call,
+    }
+}
+
+// The first so many entries are sent to the first replica, each at the place of its number.
+pub(crate) fn sends(rt: &impl Abort, world: &mut World, count: u32) {
+    for number in 1..=count {
+        let event = Event::Send { replica: 0, number };
+        assert!(rt; world.step(event) == Ok(Note::Sent(u64::from(number))));
+    }
+}
+
+// The first so many entries come to the first replica, as the frames with the same places.
+pub(crate) fn accepts(rt: &impl Abort, world: &mut World, count: u32) {
+    for place in 1..=count {
+        let event = Event::To { replica: 0, place };
+        assert!(rt; world.step(event) == Ok(Note::Accepted(u64::from(place))));
+    }
+}
