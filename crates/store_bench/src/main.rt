@@ -22,8 +22,9 @@ mod opening;
 mod payees;
 mod words;
 
-const USAGE: &str =
-    "usage: store_bench none STEPS CALLS|workers WORKERS STEPS CALLS|wait WORKERS|idle WORKERS|late WORKERS|one-customer CALLS|many-customers CALLS|write COUNT|read COUNT";
+const USAGE: &str = "usage: store_bench none STEPS CALLS | workers WORKERS STEPS CALLS
+     | wait WORKERS | idle WORKERS | late WORKERS | one-customer CALLS | many-customers CALLS
+     | write COUNT | read COUNT";
 
 fn main(rt: HostRuntime) -> ExitCode {
     let action = match action(&rt) {
