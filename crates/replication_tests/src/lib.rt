@@ -10,6 +10,8 @@ mod replica_logs;
 #[cfg(test)]
 mod replicas;
 #[cfg(test)]
+mod steps;
+#[cfg(test)]
 mod stores;
 #[cfg(test)]
 mod words;

@@ -1,13 +1,14 @@
 //! Logs of replicas: they take the entries of one log in order, however these come.
 use crate::bank::opening;
+use crate::steps::is_so;
 use cown_board::{Board, CutFault, Runs};
 use sb_calls::{LOG_CALLS, Op, Reply};
 use sb_replica_log::{Offered, ReplicaLog};
 use std::process::Abort;
 
 mod cuts;
-mod holding;
-mod taking;
+mod early_entries;
+mod entries;
 
 // What is done with a log, and what it answers.
 #[derive(Clone, Copy)]
@@ -29,9 +30,12 @@ enum Step {
     DropCut,
     // Whether the columns after all entries are there.
     Settled(bool),
+    // Nothing is unfinished, and these are the checking balances of the three; or something is.
+    Checking(Option<[i64; 3]>),
+    // Room is made for so many entries.
+    Reserve(usize),
 }
 
-// A log over the three, with this many earlier entries.
 fn opened_after(rt: &(impl Abort + AllocGlobal), entries: usize) -> Box<ReplicaLog> {
     let columns = opening(rt).columns;
     assert!(rt; entries <= LOG_CALLS);
@@ -64,35 +68,49 @@ fn runs(rt: &impl Abort, log: &mut ReplicaLog, number: u64) {
     assert!(rt; log.reply(number) == Some(Reply::NoCustomer));
 }
 
-fn plays_one(rt: &impl Abort, log: &mut ReplicaLog, place: usize, step: Step) {
-    match step {
-        Step::Offer(number, answer, length) => offers(rt, log, number, answer, length),
-        Step::OfferUpTo(last) => offers_up_to(rt, log, last),
-        Step::OfferSameCustomer(number, answer) => {
-            assert!(rt;
-                log.offer_entry(number, Op::SameCustomer) == Ok(answer),
-                "{place}"
-            );
-        }
-        Step::Advance(answer, length) => {
-            assert!(rt; log.advance() == Ok(answer), "{place}");
-            assert!(rt; log.length() == length, "{place}");
-        }
-        Step::Run(number) => runs(rt, log, number),
-        Step::Cut(answer) => assert!(rt; log.cut() == answer, "{place}"),
-        Step::CutLength(length) => assert!(rt; log.cut_length() == length, "{place}"),
-        Step::CutSettled(settled) => {
-            assert!(rt; log.cut_columns().is_some() == settled, "{place}");
-        }
-        Step::DropCut => log.drop_cut(),
-        Step::Settled(settled) => {
-            assert!(rt; log.settled_columns().is_some() == settled, "{place}");
+fn tells(rt: &impl Abort, log: &ReplicaLog, checking: Option<[i64; 3]>) {
+    assert!(rt; log.idle() == checking.is_some());
+    let columns = log.columns().expect(rt, "memory for columns");
+    match checking {
+        None => assert!(rt; columns.is_none()),
+        Some(checking) => {
+            let columns = columns.expect(rt, "no columns");
+            assert!(rt; columns.checking() == checking.as_slice());
         }
     }
 }
 
-fn plays(rt: &impl Abort, log: &mut ReplicaLog, steps: &[Step]) {
+fn plays_one(rt: &impl Abort, log: &mut ReplicaLog, place: usize, step: &Step) {
+    match *step {
+        Step::Offer(number, answer, length) => offers(rt, log, number, answer, length),
+        Step::OfferUpTo(last) => offers_up_to(rt, log, last),
+        Step::OfferSameCustomer(number, answer) => {
+            let told = log.offer_entry(number, Op::SameCustomer);
+            is_so(rt, place, told == Ok(answer));
+        }
+        Step::Advance(answer, length) => {
+            is_so(rt, place, log.advance() == Ok(answer));
+            is_so(rt, place, log.length() == length);
+        }
+        Step::Run(number) => runs(rt, log, number),
+        Step::Cut(answer) => is_so(rt, place, log.cut() == answer),
+        Step::CutLength(length) => is_so(rt, place, log.cut_length() == length),
+        Step::CutSettled(settled) => {
+            is_so(rt, place, log.cut_columns().is_some() == settled);
+        }
+        Step::DropCut => log.drop_cut(),
+        Step::Settled(settled) => {
+            is_so(rt, place, log.settled_columns().is_some() == settled);
+        }
+        Step::Checking(checking) => tells(rt, log, checking),
+        Step::Reserve(count) => is_so(rt, place, log.reserve(count).is_ok()),
+    }
+}
+
+// The steps on a log over the three, with this many earlier entries.
+fn plays_after(rt: &(impl Abort + AllocGlobal), entries: usize, steps: &[Step]) {
+    let mut log = opened_after(rt, entries);
     for (place, step) in steps.iter().enumerate() {
-        plays_one(rt, log, place, *step);
+        plays_one(rt, &mut log, place, step);
     }
 }

@@ -1,5 +1,6 @@
 //! Replicas: entries from the network, checkpoints and restarts.
 use crate::bank::opening;
+use crate::steps::is_so;
 use cown_board::{CutFault, Done, Job, Runs};
 use sb_calls::{Op, Reply, read_call};
 use sb_checkpoint::{CheckpointFault, CheckpointStore, How, MemoryStore};
@@ -8,7 +9,7 @@ use sb_replica::{Heard, MarkFault, Replica, ReplicaFault, RestartFault};
 use std::process::Abort;
 
 mod cuts;
-mod hearing;
+mod frames;
 mod marks;
 mod restarts;
 
@@ -68,10 +69,6 @@ fn opened_over(rt: &(impl Abort + AllocGlobal), stored: Option<&[u8]>) -> Box<No
         out: Vec::new(rt.alloc()),
     };
     Box::new(rt.alloc(), node).expect(rt, "memory for a node")
-}
-
-fn opened(rt: &(impl Abort + AllocGlobal)) -> Box<Node> {
-    opened_over(rt, None)
 }
 
 fn hears(
@@ -154,44 +151,44 @@ fn restarts_so(
     }
 }
 
-// A step that leaves what is out where it is.
-fn plays_on_replica(
-    rt: &impl Abort,
-    replica: &mut Replica<MemoryStore>,
-    place: usize,
-    step: &Step,
-) {
+fn plays_one(rt: &impl Abort, node: &mut Node, place: usize, step: &Step) {
     match *step {
-        Step::Hear(number, line, heard) => hears(rt, replica, number, line, heard),
-        Step::AcceptUpTo(last, line) => accepts_up_to(rt, replica, last, line),
+        Step::Hear(number, line, heard) => hears(rt, &mut node.replica, number, line, heard),
+        Step::AcceptUpTo(last, line) => accepts_up_to(rt, &mut node.replica, last, line),
         Step::HearBytes(bytes, answer) => {
-            assert!(rt; replica.on_frame(bytes) == answer, "{place}");
+            is_so(rt, place, node.replica.on_frame(bytes) == answer);
         }
-        Step::Advance(heard) => assert!(rt; replica.advance() == Ok(heard), "{place}"),
-        Step::Run(number, reply) => runs(rt, replica, number, reply),
-        Step::ReplyTo(number, reply) => assert!(rt; replica.reply(number) == reply, "{place}"),
-        Step::Ends(length, checking) => ends(rt, replica, length, checking),
-        Step::Length(length) => assert!(rt; replica.length() == length, "{place}"),
-        Step::Cut(answer) => assert!(rt; replica.cut() == answer, "{place}"),
-        Step::Tell(how) => replica.tell(how),
-        Step::Mark(answer) => assert!(rt; replica.mark() == answer, "{place}"),
-        Step::Stored(size) => holds(rt, replica, size),
-        Step::Restart(answer) => restarts_so(rt, replica, answer),
-        Step::AckFrame(frame) => assert!(rt; replica.ack_frame() == frame, "{place}"),
+        Step::Advance(heard) => is_so(rt, place, node.replica.advance() == Ok(heard)),
+        Step::Take(number) => takes(rt, node, number),
+        Step::Finish(reply) => finishes(rt, node, reply),
+        Step::ComeBack => comes_back(rt, node),
+        Step::Run(number, reply) => runs(rt, &mut node.replica, number, reply),
+        Step::ReplyTo(number, reply) => {
+            is_so(rt, place, node.replica.reply(number) == reply);
+        }
+        Step::Ends(length, checking) => ends(rt, &node.replica, length, checking),
+        Step::Length(length) => is_so(rt, place, node.replica.length() == length),
+        Step::Cut(answer) => is_so(rt, place, node.replica.cut() == answer),
+        Step::Tell(how) => node.replica.tell(how),
+        Step::Mark(answer) => is_so(rt, place, node.replica.mark() == answer),
+        Step::Stored(size) => holds(rt, &mut node.replica, size),
+        Step::Restart(answer) => restarts_so(rt, &mut node.replica, answer),
+        Step::AckFrame(frame) => is_so(rt, place, node.replica.ack_frame() == frame),
         Step::AnswerFrame(number, frame) => {
-            assert!(rt; replica.answer_frame(number) == frame, "{place}");
+            is_so(rt, place, node.replica.answer_frame(number) == frame);
         }
-        _ => assert!(rt; false, "{place} needs what is out"),
     }
 }
 
-fn plays(rt: &impl Abort, node: &mut Node, steps: &[Step]) {
+// The steps on a replica whose store holds these bytes already.
+fn plays_over(rt: &(impl Abort + AllocGlobal), stored: Option<&[u8]>, steps: &[Step]) {
+    let mut node = opened_over(rt, stored);
     for (place, step) in steps.iter().enumerate() {
-        match *step {
-            Step::Take(number) => takes(rt, node, number),
-            Step::Finish(reply) => finishes(rt, node, reply),
-            Step::ComeBack => comes_back(rt, node),
-            _ => plays_on_replica(rt, &mut node.replica, place, step),
-        }
+        plays_one(rt, &mut node, place, step);
     }
+}
+
+// The steps on a replica at the opening, over an empty store.
+fn plays(rt: &(impl Abort + AllocGlobal), steps: &[Step]) {
+    plays_over(rt, None, steps);
 }

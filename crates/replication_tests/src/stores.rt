@@ -2,7 +2,7 @@
 use sb_checkpoint::{CheckpointStore, StoreFault};
 use std::process::Abort;
 
-mod failing_files;
+mod faulty_files;
 mod files;
 mod memory;
 mod pairs;

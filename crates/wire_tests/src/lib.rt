@@ -8,6 +8,8 @@ mod frames;
 #[cfg(test)]
 mod sequencer;
 #[cfg(test)]
+mod steps;
+#[cfg(test)]
 mod streams;
 #[cfg(test)]
 mod words;

@@ -1,12 +1,13 @@
 //! The sequencer: what is asked and heard, and what it answers.
 use crate::fixtures::{balance, entry};
+use crate::steps::is_so;
 use sb_calls::Reply;
 use sb_sequencer::{AckNote, AnswerNote, AskFault, Numbered, Sequencer};
 use std::process::Abort;
 
 mod asks;
-mod hearing;
-mod resending;
+mod entries;
+mod notes;
 
 // What is asked of a sequencer, and its answer. Each call is a balance of the customer with this name.
 #[derive(Clone, Copy)]
@@ -34,12 +35,6 @@ enum Step {
 fn opened(rt: &(impl Abort + AllocGlobal), replicas: usize) -> Box<Sequencer> {
     assert!(rt; replicas <= 8);
     Box::new(rt.alloc(), Sequencer::open(rt.alloc(), replicas)).expect(rt, "memory for a sequencer")
-}
-
-// A sequencer for one replica, with room for so many calls.
-fn with_room(rt: &(impl Abort + AllocGlobal), calls: usize) -> Box<Sequencer> {
-    let sequencer = Sequencer::with_capacity(rt.alloc(), 1, calls).expect(rt, "memory for calls");
-    Box::new(rt.alloc(), sequencer).expect(rt, "memory for a sequencer")
 }
 
 fn asks_many(rt: &impl Abort, log: &mut Sequencer, count: u32, customer: &str) {
@@ -89,24 +84,24 @@ fn resends(
     }
 }
 
-fn plays_one(rt: &impl Abort, log: &mut Sequencer, place: usize, step: Step) {
-    match step {
+fn plays_one(rt: &impl Abort, log: &mut Sequencer, place: usize, step: &Step) {
+    match *step {
         Step::Ask(client, request, customer, answer) => {
             let call = balance(rt, customer);
-            assert!(rt; log.ask(client, request, &call) == answer, "{place}");
+            is_so(rt, place, log.ask(client, request, &call) == answer);
         }
         Step::AskMany(count, customer) => asks_many(rt, log, count, customer),
-        Step::Length(length) => assert!(rt; log.length() == length, "{place}"),
+        Step::Length(length) => is_so(rt, place, log.length() == length),
         Step::Shows(number, customer) => shows(rt, log, number, customer),
         Step::Entry(number, customer) => enters(rt, log, number, customer),
         Step::Answer(number, reply, note) => {
-            assert!(rt; log.on_answer(number, reply) == note, "{place}");
+            is_so(rt, place, log.on_answer(number, reply) == note);
         }
         Step::AnswerOf(client, request, reply) => {
-            assert!(rt; log.answer_of(client, request) == reply, "{place}");
+            is_so(rt, place, log.answer_of(client, request) == reply);
         }
         Step::Ack(replica, length, note) => {
-            assert!(rt; log.on_ack(replica, length) == note, "{place}");
+            is_so(rt, place, log.on_ack(replica, length) == note);
         }
         Step::Resends(replica, first, count, customer) => {
             resends(rt, log, replica, first, count, customer);
@@ -114,8 +109,20 @@ fn plays_one(rt: &impl Abort, log: &mut Sequencer, place: usize, step: Step) {
     }
 }
 
-fn plays(rt: &impl Abort, log: &mut Sequencer, steps: &[Step]) {
+fn plays_on(rt: &impl Abort, log: &mut Sequencer, steps: &[Step]) {
     for (place, step) in steps.iter().enumerate() {
-        plays_one(rt, log, place, *step);
+        plays_one(rt, log, place, step);
     }
+}
+
+// The steps on a sequencer for so many replicas.
+fn plays(rt: &(impl Abort + AllocGlobal), replicas: usize, steps: &[Step]) {
+    plays_on(rt, &mut opened(rt, replicas), steps);
+}
+
+// The steps on a sequencer for one replica, with room for so many calls.
+fn plays_with_room(rt: &(impl Abort + AllocGlobal), calls: usize, steps: &[Step]) {
+    let log = Sequencer::with_capacity(rt.alloc(), 1, calls).expect(rt, "memory for calls");
+    let mut log = Box::new(rt.alloc(), log).expect(rt, "memory for a sequencer");
+    plays_on(rt, &mut log, steps);
 }

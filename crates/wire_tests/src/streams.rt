@@ -1,5 +1,6 @@
 //! A stream of bytes that are cut into pieces in many ways.
 use crate::fixtures::{balance, bytes, entry, vectors};
+use crate::steps::is_so;
 use sb_frames::{Frame, FrameFault, Stream, StreamFault, encode};
 use std::ops::Range;
 use std::process::Abort;
@@ -42,15 +43,13 @@ fn plays(rt: &(impl Abort + AllocGlobal), stream: &mut Stream, steps: &[Step]) {
             Step::Takes(digits) => takes(rt, stream, &bytes(rt, digits)),
             Step::Gives(frame) => gives(rt, stream, frame),
             Step::Waits => waits(rt, stream),
-            Step::Fails(fault) => assert!(rt; stream.next() == Err(fault), "{place}"),
+            Step::Fails(fault) => is_so(rt, place, stream.next() == Err(fault)),
             Step::TakesNothing => {
-                assert!(rt;
-                    stream.feed(&[0, 1, 6]) == Err(StreamFault::Failed),
-                    "{place}"
-                );
-                assert!(rt; stream.feed(&[]) == Err(StreamFault::Failed), "{place}");
+                let failed = Err(StreamFault::Failed);
+                is_so(rt, place, stream.feed(&[0, 1, 6]) == failed);
+                is_so(rt, place, stream.feed(&[]) == failed);
             }
-            Step::Ended(ended) => assert!(rt; stream.ended() == ended, "{place}"),
+            Step::Ended(ended) => is_so(rt, place, stream.ended() == ended),
         }
     }
 }

@@ -3,9 +3,9 @@ use super::*;
 
 #[test]
 fn a_cut_settles_while_a_later_entry_waits(rt: HostRuntime) {
-    plays(
+    plays_after(
         &rt,
-        &mut opened_after(&rt, 0),
+        0,
         &[
             Step::Offer(1, Offered::Next, 1),
             Step::Cut(Ok(1)),

@@ -5,7 +5,6 @@ use super::*;
 fn a_mark_of_a_cut_while_another_entry_is_out(rt: HostRuntime) {
     plays(
         &rt,
-        &mut opened(&rt),
         &[
             Step::AcceptUpTo(1, "deposit alice 1.00"),
             Step::Cut(Ok(1)),
@@ -28,7 +27,6 @@ fn a_mark_of_a_cut_while_another_entry_is_out(rt: HostRuntime) {
 fn a_cut_outlasts_a_mark_that_fails(rt: HostRuntime) {
     plays(
         &rt,
-        &mut opened(&rt),
         &[
             Step::AcceptUpTo(1, "deposit alice 1.00"),
             Step::Run(1, Reply::Done),
@@ -48,7 +46,6 @@ fn a_cut_outlasts_a_mark_that_fails(rt: HostRuntime) {
 fn a_restart_drops_the_cut(rt: HostRuntime) {
     plays(
         &rt,
-        &mut opened(&rt),
         &[
             Step::AcceptUpTo(1, "deposit alice 1.00"),
             Step::Run(1, Reply::Done),

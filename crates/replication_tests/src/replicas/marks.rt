@@ -8,7 +8,6 @@ const SIZE: usize = 85;
 fn a_busy_replica_leaves_its_store(rt: HostRuntime) {
     plays(
         &rt,
-        &mut opened(&rt),
         &[
             Step::AcceptUpTo(1, "deposit alice 1.00"),
             Step::Mark(Err(MarkFault::Busy)),
@@ -24,12 +23,14 @@ fn a_busy_replica_leaves_its_store(rt: HostRuntime) {
 
 #[test]
 fn an_idle_replica_puts_its_checkpoint(rt: HostRuntime) {
-    const STEPS: [Step; 5] = [
-        Step::AcceptUpTo(1, "deposit alice 1.00"),
-        Step::Run(1, Reply::Done),
-        Step::Mark(Ok(1)),
-        Step::Stored(Some(SIZE)),
-        Step::Ends(1, [5_100, 2_000, 0]),
-    ];
-    plays(&rt, &mut opened(&rt), &STEPS);
+    plays(
+        &rt,
+        &[
+            Step::AcceptUpTo(1, "deposit alice 1.00"),
+            Step::Run(1, Reply::Done),
+            Step::Mark(Ok(1)),
+            Step::Stored(Some(SIZE)),
+            Step::Ends(1, [5_100, 2_000, 0]),
+        ],
+    );
 }

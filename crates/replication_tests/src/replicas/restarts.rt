@@ -3,9 +3,9 @@ use super::*;
 
 // A replica whose store held these bytes before it was opened is restarted, and is as it was.
 fn is_refused(rt: &(impl Abort + AllocGlobal), bytes: &[u8], fault: CheckpointFault) {
-    plays(
+    plays_over(
         rt,
-        &mut opened_over(rt, Some(bytes)),
+        Some(bytes),
         &[
             Step::AcceptUpTo(1, "deposit alice 1.00"),
             Step::Restart(Err(RestartFault::BadCheckpoint(fault))),
@@ -29,7 +29,6 @@ fn bytes_that_are_no_checkpoint_of_the_bank(rt: HostRuntime) {
 fn a_restart_forgets_what_is_held(rt: HostRuntime) {
     plays(
         &rt,
-        &mut opened(&rt),
         &[
             Step::Hear(2, "deposit alice 1.00", Heard::Held(2)),
             Step::Restart(Ok(0)),
@@ -44,7 +43,6 @@ fn a_restart_forgets_what_is_held(rt: HostRuntime) {
 fn the_earlier_hand_finishes_first(rt: HostRuntime) {
     plays(
         &rt,
-        &mut opened(&rt),
         &[
             Step::AcceptUpTo(1, "deposit alice 1.00"),
             Step::Take(1),
@@ -62,7 +60,6 @@ fn the_earlier_hand_finishes_first(rt: HostRuntime) {
 fn a_hand_from_before_is_a_stranger(rt: HostRuntime) {
     plays(
         &rt,
-        &mut opened(&rt),
         &[
             Step::AcceptUpTo(1, "deposit alice 1.00"),
             Step::Take(1),
@@ -80,7 +77,6 @@ fn a_hand_from_before_is_a_stranger(rt: HostRuntime) {
 fn a_failed_put_that_left_the_old_bytes(rt: HostRuntime) {
     plays(
         &rt,
-        &mut opened(&rt),
         &[
             Step::AcceptUpTo(1, "deposit alice 1.00"),
             Step::Run(1, Reply::Done),
@@ -99,7 +95,6 @@ fn a_failed_put_that_left_the_old_bytes(rt: HostRuntime) {
 fn a_failed_put_that_left_the_new_bytes(rt: HostRuntime) {
     plays(
         &rt,
-        &mut opened(&rt),
         &[
             Step::AcceptUpTo(1, "deposit alice 1.00"),
             Step::Run(1, Reply::Done),
@@ -117,7 +112,6 @@ fn a_failed_put_that_left_the_new_bytes(rt: HostRuntime) {
 fn what_came_after_the_checkpoint_comes_again(rt: HostRuntime) {
     plays(
         &rt,
-        &mut opened(&rt),
         &[
             Step::AcceptUpTo(1, "deposit alice 1.00"),
             Step::Run(1, Reply::Done),

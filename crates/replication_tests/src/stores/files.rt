@@ -1,7 +1,8 @@
 //! A store in a file, over a folder of the system.
 use super::*;
 use crate::checkpoints::limits::full_bank;
-use failing_files::{Call, Failing};
+use crate::steps::is_so;
+use faulty_files::{Call, Failing};
 use sb_checkpoint::{FileStore, FileWithSpare, FolderFile, write_checkpoint};
 use std::cell::Cell;
 use std::path::PathBuf;
@@ -35,8 +36,8 @@ fn plays<P: FileWithSpare>(rt: &impl Abort, store: &mut FileStore<P>, steps: &[S
         match *step {
             Step::Put(bytes, answer, failures) => puts(rt, store, bytes, answer, failures),
             Step::Probe(answer, failures) => {
-                assert!(rt; store.probe() == answer, "{place}");
-                assert!(rt; store.failures() == failures, "{place}");
+                is_so(rt, place, store.probe() == answer);
+                is_so(rt, place, store.failures() == failures);
             }
             Step::Holds(bytes) => holds(rt, store, bytes),
             Step::HoldsNothing => holds_nothing(rt, store),
@@ -115,6 +116,15 @@ fn what_is_put_is_got(rt: HostRuntime) {
     removes(&rt, &rt, &folder);
 }
 
+// A store in this folder can put nothing.
+fn is_nowhere(rt: &impl Abort, files: &HostRuntime, folder: &PathBuf) {
+    plays_on_system(
+        rt,
+        &mut opened(rt, files, folder),
+        &[Step::Probe(FAILED, 1), Step::Put(b"some", FAILED, 2)],
+    );
+}
+
 #[test]
 fn a_folder_that_is_not_there(rt: HostRuntime) {
     let folder = folder(&rt, &rt, "replication_tests_gone");
@@ -125,27 +135,28 @@ fn a_folder_that_is_not_there(rt: HostRuntime) {
     let gone = folder
         .join(rt.alloc(), "gone")
         .expect(&rt, "memory for a path");
+    is_nowhere(&rt, &rt, &file);
+    is_nowhere(&rt, &rt, &gone);
     // A folder with an empty name is none.
-    for path in [&file, &gone, &PathBuf::new(rt.alloc())] {
-        plays_on_system(
-            &rt,
-            &mut opened(&rt, &rt, path),
-            &[Step::Probe(FAILED, 1), Step::Put(b"some", FAILED, 2)],
-        );
-    }
+    is_nowhere(&rt, &rt, &PathBuf::new(rt.alloc()));
     removes(&rt, &rt, &folder);
+}
+
+// A store in a folder of this name takes these bytes, and holds them.
+fn keeps(rt: &impl Abort, files: &HostRuntime, name: &str, bytes: &[u8]) {
+    let folder = folder(rt, files, name);
+    plays_on_system(
+        rt,
+        &mut opened(rt, files, &folder),
+        &[Step::Put(bytes, Ok(()), 0), Step::Holds(bytes)],
+    );
+    removes(rt, files, &folder);
 }
 
 #[test]
 fn a_checkpoint_of_a_full_bank(rt: HostRuntime) {
-    let folder = folder(&rt, &rt, "replication_tests_full");
     let bytes = write_checkpoint(rt.alloc(), &full_bank(&rt), &[]).expect(&rt, "memory for bytes");
-    plays_on_system(
-        &rt,
-        &mut opened(&rt, &rt, &folder),
-        &[Step::Put(&bytes, Ok(()), 0), Step::Holds(&bytes)],
-    );
-    removes(&rt, &rt, &folder);
+    keeps(&rt, &rt, "replication_tests_full", &bytes);
 }
 
 // A store in a folder of its own, one of whose calls may fail.

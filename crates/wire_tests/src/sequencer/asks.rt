@@ -6,7 +6,7 @@ use sb_calls::{Call, Key};
 fn a_request_keeps_its_number(rt: HostRuntime) {
     plays(
         &rt,
-        &mut opened(&rt, 1),
+        1,
         &[
             Step::Ask(7, 3, "alice", Ok(Numbered::New(1))),
             Step::Ask(7, 3, "alice", Ok(Numbered::Repeat(1))),
@@ -21,7 +21,7 @@ fn a_request_keeps_its_number(rt: HostRuntime) {
 fn numbers_requests_in_the_order_of_first_asks(rt: HostRuntime) {
     plays(
         &rt,
-        &mut opened(&rt, 1),
+        1,
         &[
             Step::Ask(2, 1, "alice", Ok(Numbered::New(1))),
             Step::Ask(1, 1, "alice", Ok(Numbered::New(2))),
@@ -40,7 +40,7 @@ fn numbers_requests_in_the_order_of_first_asks(rt: HostRuntime) {
 fn shows_calls_by_number(rt: HostRuntime) {
     plays(
         &rt,
-        &mut opened(&rt, 1),
+        1,
         &[
             Step::Length(0),
             Step::Shows(1, None),
@@ -57,7 +57,7 @@ fn shows_calls_by_number(rt: HostRuntime) {
 fn a_full_log_takes_repeats_alone(rt: HostRuntime) {
     plays(
         &rt,
-        &mut opened(&rt, 1),
+        1,
         &[
             Step::AskMany(1_000_000, "alice"),
             Step::Ask(1, 1_000_000, "alice", Err(AskFault::LogFull)),
@@ -73,9 +73,9 @@ fn a_full_log_takes_repeats_alone(rt: HostRuntime) {
 
 #[test]
 fn room_for_more_calls_than_a_log_takes(rt: HostRuntime) {
-    plays(
+    plays_with_room(
         &rt,
-        &mut with_room(&rt, 1_500_000),
+        1_500_000,
         &[
             Step::AskMany(1_000_000, "alice"),
             Step::Ask(1, 1_000_000, "alice", Err(AskFault::LogFull)),
@@ -87,11 +87,7 @@ fn room_for_more_calls_than_a_log_takes(rt: HostRuntime) {
 
 #[test]
 fn takes_more_calls_than_it_was_opened_for(rt: HostRuntime) {
-    plays(
-        &rt,
-        &mut with_room(&rt, 2),
-        &[Step::AskMany(40, "alice"), Step::Length(40)],
-    );
+    plays_with_room(&rt, 2, &[Step::AskMany(40, "alice"), Step::Length(40)]);
     assert!(rt; Sequencer::with_capacity(rt.alloc(), 1, usize::MAX).is_err());
 }
 

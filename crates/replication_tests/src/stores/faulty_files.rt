@@ -6,7 +6,7 @@ use std::rc::Rc;
 use std::{fs, io};
 
 // A call that fails.
-#[derive(Clone, Copy, Debug, PartialEq, Eq)]
+#[derive(Clone, Copy, PartialEq)]
 pub(super) enum Call {
     None,
     Create,

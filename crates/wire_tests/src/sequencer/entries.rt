@@ -5,7 +5,7 @@ use super::*;
 fn sends_again_what_a_replica_lacks(rt: HostRuntime) {
     plays(
         &rt,
-        &mut opened(&rt, 1),
+        1,
         &[
             Step::AskMany(20, "alice"),
             Step::Resends(0, 1, 16, "alice"),
@@ -22,7 +22,7 @@ fn sends_again_what_a_replica_lacks(rt: HostRuntime) {
 fn shows_entries_by_number(rt: HostRuntime) {
     plays(
         &rt,
-        &mut opened(&rt, 1),
+        1,
         &[
             Step::AskMany(1, "alice"),
             Step::Entry(0, None),

@@ -6,7 +6,6 @@ use sb_calls::WireReply;
 fn only_the_next_entry_is_accepted(rt: HostRuntime) {
     plays(
         &rt,
-        &mut opened(&rt),
         &[
             Step::Hear(2, "deposit bob 1.00", Heard::Held(2)),
             Step::Hear(1, "deposit alice 1.00", Heard::Accepted(1)),
@@ -25,7 +24,6 @@ fn only_the_next_entry_is_accepted(rt: HostRuntime) {
 fn an_entry_that_came_early_is_accepted_in_its_turn(rt: HostRuntime) {
     plays(
         &rt,
-        &mut opened(&rt),
         &[
             Step::Hear(65, "deposit bob 1.00", Heard::Gap(0)),
             Step::Hear(2, "amalgamate alice bob", Heard::Held(2)),
@@ -44,7 +42,6 @@ fn an_entry_waits_while_too_many_are_unfinished(rt: HostRuntime) {
     let line = "deposit alice 0.01";
     plays(
         &rt,
-        &mut opened(&rt),
         &[
             Step::AcceptUpTo(1_024, line),
             Step::Hear(1_025, line, Heard::Busy(1_024)),
@@ -63,7 +60,6 @@ fn what_is_no_whole_frame_is_refused(rt: HostRuntime) {
     let long = ReplicaFault::BadFrame(FrameFault::BadLength);
     plays(
         &rt,
-        &mut opened(&rt),
         &[
             Step::HearBytes(&[], Err(short)),
             Step::HearBytes(&[0, 1, 9], Err(unknown)),
@@ -80,7 +76,6 @@ fn it_says_its_length_and_its_replies(rt: HostRuntime) {
     let reply = WireReply::new(Reply::Shown(15_000)).expect(&rt, "a reply");
     plays(
         &rt,
-        &mut opened(&rt),
         &[
             Step::AcceptUpTo(1, "balance alice"),
             Step::AckFrame(Frame::Ack {

@@ -3,9 +3,9 @@ use super::*;
 
 #[test]
 fn how_early_an_entry_is_held(rt: HostRuntime) {
-    plays(
+    plays_after(
         &rt,
-        &mut opened_after(&rt, 0),
+        0,
         &[
             Step::Offer(65, Offered::Gap(0), 0),
             Step::Offer(64, Offered::Held(64), 0),
@@ -22,9 +22,9 @@ fn how_early_an_entry_is_held(rt: HostRuntime) {
 
 #[test]
 fn no_entry_is_held_after_the_millionth(rt: HostRuntime) {
-    plays(
+    plays_after(
         &rt,
-        &mut opened_after(&rt, 999_998),
+        999_998,
         &[
             Step::Offer(1_000_001, Offered::Gap(999_998), 999_998),
             Step::Offer(1_000_000, Offered::Held(1_000_000), 999_998),
@@ -39,9 +39,9 @@ fn no_entry_is_held_after_the_millionth(rt: HostRuntime) {
 // Each of the three is replied as nobody's call.
 #[test]
 fn the_later_op_for_a_number_counts(rt: HostRuntime) {
-    plays(
+    plays_after(
         &rt,
-        &mut opened_after(&rt, 0),
+        0,
         &[
             Step::OfferSameCustomer(2, Offered::Held(2)),
             Step::Offer(2, Offered::Held(2), 0),
@@ -60,9 +60,9 @@ fn the_later_op_for_a_number_counts(rt: HostRuntime) {
 
 #[test]
 fn a_held_entry_waits_while_too_many_are_unfinished(rt: HostRuntime) {
-    plays(
+    plays_after(
         &rt,
-        &mut opened_after(&rt, 0),
+        0,
         &[
             Step::OfferUpTo(1_023),
             Step::Offer(1_025, Offered::Held(1_025), 1_023),

@@ -5,7 +5,7 @@ use super::*;
 fn the_first_answer_is_kept(rt: HostRuntime) {
     plays(
         &rt,
-        &mut opened(&rt, 1),
+        1,
         &[
             Step::AskMany(1, "alice"),
             Step::Answer(1, Reply::Done, AnswerNote::Kept),
@@ -21,7 +21,7 @@ fn the_first_answer_is_kept(rt: HostRuntime) {
 fn shows_answers_by_key(rt: HostRuntime) {
     plays(
         &rt,
-        &mut opened(&rt, 1),
+        1,
         &[
             Step::AskMany(3, "alice"),
             Step::AnswerOf(1, 2, None),
@@ -40,7 +40,7 @@ fn shows_answers_by_key(rt: HostRuntime) {
 fn records_what_each_replica_has(rt: HostRuntime) {
     plays(
         &rt,
-        &mut opened(&rt, 2),
+        2,
         &[
             Step::AskMany(1, "alice"),
             Step::Ack(0, 2, AckNote::Odd),

@@ -3,9 +3,9 @@ use super::*;
 
 #[test]
 fn only_the_next_entry_is_taken(rt: HostRuntime) {
-    plays(
+    plays_after(
         &rt,
-        &mut opened_after(&rt, 0),
+        0,
         &[
             Step::Offer(0, Offered::Repeat, 0),
             Step::Offer(2, Offered::Held(2), 0),
@@ -20,9 +20,9 @@ fn only_the_next_entry_is_taken(rt: HostRuntime) {
 
 #[test]
 fn entries_wait_while_too_many_are_unfinished(rt: HostRuntime) {
-    plays(
+    plays_after(
         &rt,
-        &mut opened_after(&rt, 0),
+        0,
         &[
             Step::OfferUpTo(1_024),
             Step::Offer(1_025, Offered::Busy(1_024), 1_024),
@@ -36,9 +36,9 @@ fn entries_wait_while_too_many_are_unfinished(rt: HostRuntime) {
 
 #[test]
 fn no_entry_comes_after_the_millionth(rt: HostRuntime) {
-    plays(
+    plays_after(
         &rt,
-        &mut opened_after(&rt, 999_999),
+        999_999,
         &[
             Step::Offer(1_000_000, Offered::Next, 1_000_000),
             Step::Offer(1_000_001, Offered::Gap(1_000_000), 1_000_000),
@@ -49,29 +49,19 @@ fn no_entry_comes_after_the_millionth(rt: HostRuntime) {
     );
 }
 
-// These are the checking balances of the three after all entries, or one of them is unfinished.
-fn tells(rt: &impl Abort, log: &ReplicaLog, checking: Option<[i64; 3]>) {
-    let columns = log.columns().expect(rt, "memory for columns");
-    match checking {
-        None => assert!(rt; columns.is_none()),
-        Some(checking) => {
-            let columns = columns.expect(rt, "no columns");
-            assert!(rt; columns.checking() == checking.as_slice());
-        }
-    }
-}
-
 #[test]
 fn columns_are_told_of_an_idle_log_alone(rt: HostRuntime) {
-    let mut log = opened_after(&rt, 0);
-    assert!(rt; log.reserve(10).is_ok());
-    plays(
+    plays_after(
         &rt,
-        &mut log,
-        &[Step::Offer(1, Offered::Next, 1), Step::Settled(false)],
+        0,
+        &[
+            Step::Reserve(10),
+            Step::Offer(1, Offered::Next, 1),
+            Step::Checking(None),
+            Step::Settled(false),
+            Step::Run(1),
+            Step::Settled(true),
+            Step::Checking(Some([5_000, 2_000, 0])),
+        ],
     );
-    tells(&rt, &log, None);
-    plays(&rt, &mut log, &[Step::Run(1), Step::Settled(true)]);
-    assert!(rt; log.idle());
-    tells(&rt, &log, Some([5_000, 2_000, 0]));
 }
