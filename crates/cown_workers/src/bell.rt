@@ -78,8 +78,8 @@ impl Bell {
     }
 }
 
-// A bell can't be had from outside: a worker looks at its bench, and rests right after that where nothing lies there, so
-// what is laid out between the two can't be told apart from what was there before. So this is shown here.
+// From outside this look at the bench can't be told from the one that a worker takes right before it rests, so it is
+// shown here. That a rest ends by itself, and that workers are woken, running_tests shows by public calls.
 #[cfg(test)]
 mod tests {
     use super::*;

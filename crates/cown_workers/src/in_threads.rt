@@ -38,11 +38,11 @@ where
     ensures answer { IfOk result (λ answer. (after : _) ×
         FnOnceReturnsAtMut F.FnOnce f (record { offered = []; picked = [] }) answer after) }
 {
+    let bell = Bell::new(alloc, workers)?;
+    let (outbox, inbox) = open_inbox(alloc)?;
     let (bench, pass, mut passes) = Bench::new(alloc, WORKERS.min(workers + 1))?;
     // One pass more is the owner's, who picks too while it waits.
     let hands = take_above(&mut passes, workers);
-    let (outbox, inbox) = open_inbox(alloc)?;
-    let bell = Bell::new(alloc, workers)?;
     let mut crew = BenchCrew::new(rt, &bench, &bell, gate, pass, hands, inbox);
     let workers = workers_at(rt, alloc, &bench, passes, gate, &bell, outbox)?;
     thread::scope(
@@ -91,17 +91,32 @@ fn workers_at<'a, R: Wait + Clock, G: Gate>(
 {
     let mut workers = Vec::with_capacity(alloc, passes.len())?;
     for pass in passes {
-        let outbox = outbox.another()?;
-        workers.push(Worker {
-            rt,
-            bench,
-            pass,
-            gate,
-            bell,
-            outbox,
-        })?;
+        push_worker(rt, bench, pass, gate, bell, &mut outbox, &mut workers)?;
     }
     Ok(workers)
+}
+
+fn push_worker<'a, R: Wait + Clock, G: Gate>(
+    rt: &'a R,
+    bench: &'a Bench,
+    pass: WorkerPass,
+    gate: &'a G,
+    bell: &'a Bell,
+    outbox: &mut Outbox,
+    workers: &mut Vec<Worker<'a, R, G>>,
+) -> Result<(), AllocError>
+    requires { pass.bench ≡ bench.now }
+{
+    let outbox = outbox.another()?;
+    workers.push(Worker {
+        rt,
+        bench,
+        pass,
+        gate,
+        bell,
+        outbox,
+    })?;
+    Ok(())
 }
 
 // Starts a thread for each worker. Where one can't be made, the workers that have none are gone.

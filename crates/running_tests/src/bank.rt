@@ -124,7 +124,7 @@ impl Bank {
                 let done = self.carry_out(rt, number);
                 self.finishes(rt, done, reply);
             }
-            Step::NoColumns => self.has_no_columns(rt),
+            Step::NoColumns => has_no_columns(rt, &self.board),
         }
     }
 
@@ -215,11 +215,6 @@ impl Bank {
         assert!(rt; holds(&self.board, savings, checking));
     }
 
-    fn has_no_columns(&self, rt: &impl Abort) {
-        assert!(rt; !self.idle());
-        assert!(rt; self.board.columns().expect(rt, "memory").is_none());
-    }
-
     // A cut is made, at the board's length.
     pub(crate) fn cuts(&mut self, rt: &impl Abort) {
         let length = self.length();
@@ -286,6 +281,12 @@ pub(crate) fn copies_its_columns(rt: &impl Abort, board: &Board<Op>) {
         Ok(Some(columns)) => assert!(rt; are_same(&columns, settled)),
         _ => panic!(rt; "no columns"),
     }
+}
+
+// Something is unfinished, and so there are no columns.
+pub(crate) fn has_no_columns<B: Behaviour>(rt: &impl Abort, board: &Board<B>) {
+    assert!(rt; !board.idle());
+    assert!(rt; board.columns().expect(rt, "memory").is_none());
 }
 
 // Each job that is ready is given to a crew, and nothing is taken in.

@@ -40,17 +40,22 @@ fn a_cut_settles_while_later_numbers_run(rt: HostRuntime) {
     submit_deposits(&rt, &mut bank, 1, 1_000);
     bank.cuts(&rt);
     submit_deposits(&rt, &mut bank, 1_001, 1_024);
+    settles(&rt, &mut bank, &alone);
+}
+
+// The columns of the cut are those of the other board, once only eight of after the cut are left.
+fn settles(rt: &impl Abort, bank: &mut Bank, alone: &Bank) {
     for _ in 0..1_016 {
-        bank.has_no_cut_columns(&rt);
-        bank.runs_last(&rt);
+        bank.has_no_cut_columns(rt);
+        bank.runs_last(rt);
     }
     assert!(rt; !bank.idle());
     for _ in 0..8 {
-        bank.has_cut_of(&rt, &alone);
-        bank.runs_last(&rt);
+        bank.has_cut_of(rt, alone);
+        bank.runs_last(rt);
     }
     assert!(rt; bank.idle());
-    bank.has_cut_of(&rt, &alone);
+    bank.has_cut_of(rt, alone);
 }
 
 #[test]

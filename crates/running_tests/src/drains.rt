@@ -75,8 +75,8 @@ fn an_inline_crew_keeps_nothing(rt: HostRuntime) {
     let mut board = board_of(&rt, rt.alloc(), &CALLS);
     assert!(rt; !InlineCrew.keeps());
     let job = board.take_at(0).expect(&rt, "a ready one");
-    let back = InlineCrew.give(job).err().expect(&rt, "it comes back");
-    assert!(rt; back.number() == 1);
+    let given = InlineCrew.give(job).map_err(|back| back.number());
+    assert!(rt; given == Err(1));
     assert!(rt; InlineCrew.next().is_none());
 }
 

@@ -2,7 +2,7 @@
 ghost use Rattle.std.specs.Prelude.{◌≡◌, ◌+◌, ◌<◌, length};
 ghost use Rattle.sb_calls.specs.Cowns.{held_of};
 
-use crate::bank::{OPENING, open_board};
+use crate::bank::{OPENING, has_no_columns, open_board};
 use arrayvec::ArrayVec;
 use cown_board::Board;
 use sb_calls::{Behaviour, Cown};
@@ -93,6 +93,5 @@ fn what_a_board_cannot_run_it_hands_out_in_order(rt: HostRuntime) {
     takes_none(&rt, &mut board, 0);
     assert!(rt; board.length() == 4);
     assert!(rt; board.reply(1).is_none());
-    assert!(rt; !board.idle());
-    assert!(rt; board.columns().expect(&rt, "memory").is_none());
+    has_no_columns(&rt, &board);
 }

@@ -2,10 +2,10 @@
 //! allows.
 ghost use Rattle.std.specs.Prelude.{◌≡◌};
 
+use crate::bank::board_of;
 use cown_bench::{Bench, OwnerPass, Work, WorkerPass};
-use cown_board::{Board, Job};
+use cown_board::Job;
 use sb_calls::Op;
-use sb_rows::read_opening;
 use std::alloc::Global;
 use std::marker::Model;
 use std::process::Abort;
@@ -80,12 +80,12 @@ impl Pair {
     // The first worker picks the job with this number.
     pub(crate) fn first_picks<R: Wait + Abort>(&mut self, rt: &R, number: u64) {
         let work = self.bench.pick(rt, &mut self.first);
-        is_job(rt, &work.expect(rt, "a job"), number);
+        assert!(rt; is_job(&work.expect(rt, "a job"), number), "{number}");
     }
 
     pub(crate) fn second_picks<R: Wait + Abort>(&mut self, rt: &R, number: u64) {
         let work = self.bench.pick(rt, &mut self.second);
-        is_job(rt, &work.expect(rt, "a job"), number);
+        assert!(rt; is_job(&work.expect(rt, "a job"), number), "{number}");
     }
 
     pub(crate) fn second_picks_nothing<R: Wait + Abort>(&mut self, rt: &R) {
@@ -109,9 +109,7 @@ pub(crate) fn close<R: Wait + Abort>(rt: &R, alloc: Global, pair: Box<Pair>) -> 
 
 // So many jobs, numbered from 1, of behaviours that declare no cown: all are ready at once.
 pub(crate) fn jobs(rt: &impl Abort, alloc: Global, count: usize) -> Vec<Job<Op>> {
-    let opening = read_opening(alloc, b"alice 1.00 1.00\nbegin\n").expect(rt, "an opening");
-    let board = Board::open(alloc, opening.columns, 0, Vec::new(alloc)).expect(rt, "memory");
-    let mut board = Box::new(alloc, board).expect(rt, "memory");
+    let mut board = board_of(rt, alloc, &[]);
     let mut jobs = Vec::new(alloc);
     for _ in 0..count {
         assert!(rt; board.submit(Op::NoCustomer).is_ok());
@@ -121,17 +119,16 @@ pub(crate) fn jobs(rt: &impl Abort, alloc: Global, count: usize) -> Vec<Job<Op>>
     jobs
 }
 
-fn is_job(rt: &impl Abort, work: &Work, number: u64) {
+// Whether it is the job with this number.
+fn is_job(work: &Work, number: u64) -> bool {
     match work {
-        Work::Run(job) => assert!(rt; job.number() == number, "{number}"),
-        Work::Stop => panic!(rt; "a stop"),
+        Work::Run(job) => job.number() == number,
+        Work::Stop => false,
     }
 }
 
-// What is left are jobs with these numbers.
-pub(crate) fn are_left(rt: &impl Abort, left: &[Work], numbers: &[u64]) {
-    assert!(rt; left.len() == numbers.len());
-    for (work, number) in left.iter().zip(numbers) {
-        is_job(rt, work, *number);
-    }
+// Whether what is left are jobs with these numbers.
+pub(crate) fn are_jobs(left: &[Work], numbers: &[u64]) -> bool {
+    let mut both = left.iter().zip(numbers);
+    left.len() == numbers.len() && both.all(|(work, number)| is_job(work, *number))
 }

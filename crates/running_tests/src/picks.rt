@@ -1,5 +1,5 @@
 //! What is offered on a bench, picked from it and left there.
-use crate::pair::{Pair, are_left, close, jobs};
+use crate::pair::{Pair, are_jobs, close, jobs};
 use cown_bench::Work;
 use std::alloc::Global;
 use std::process::Abort;
@@ -13,7 +13,7 @@ fn two_workers_pick_in_turn(rt: HostRuntime) {
     pair.second_picks(&rt, 2);
     pair.first_picks(&rt, 3);
     pair.second_picks_nothing(&rt);
-    are_left(&rt, &close(&rt, rt.alloc(), pair), &[]);
+    assert!(rt; close(&rt, rt.alloc(), pair).is_empty());
 }
 
 #[test]
@@ -22,7 +22,8 @@ fn what_nobody_picked_is_left_in_order(rt: HostRuntime) {
     pair.offers_jobs(&rt, rt.alloc(), 5);
     pair.second_picks(&rt, 1);
     pair.first_picks(&rt, 2);
-    are_left(&rt, &close(&rt, rt.alloc(), pair), &[3, 4, 5]);
+    let left = close(&rt, rt.alloc(), pair);
+    assert!(rt; are_jobs(&left, &[3, 4, 5]));
 }
 
 #[test]
@@ -31,7 +32,7 @@ fn a_thousand_and_forty_may_lie_there(rt: HostRuntime) {
     offers_one_more_than_fits(&rt, rt.alloc(), &mut pair);
     let left = close(&rt, rt.alloc(), pair);
     assert!(rt; left.len() == 1_040);
-    are_left(&rt, &left.as_slice()[1_039..], &[2]);
+    assert!(rt; are_jobs(&left.as_slice()[1_039..], &[2]));
 }
 
 // Before the first is picked there is no room for the second.

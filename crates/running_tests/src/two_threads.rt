@@ -22,10 +22,13 @@ impl<'a> Promise<(WorkerPass, Vec<u64>)> for Of<'a> {
 #[test]
 fn a_worker_picks_while_the_owner_offers(rt: HostRuntime) {
     let numbers = numbers_picked(&rt, rt.alloc(), jobs(&rt, rt.alloc(), 100));
-    assert_eq!(rt; numbers.len(), 100);
-    for (number, wanted) in numbers.iter().zip(1..=100) {
-        assert_eq!(rt; *number, wanted);
-    }
+    assert!(rt; numbers.len() == 100);
+    assert!(rt;
+        numbers
+            .iter()
+            .zip(1..)
+            .all(|(number, wanted)| *number == wanted)
+    );
 }
 
 // The numbers of the jobs that one worker picks. Nothing is left when the bench is closed.
