@@ -80,47 +80,75 @@ fn opened(
     Box::new(files.alloc(), FileStore::new(file)).expect(rt, "memory for a store")
 }
 
-fn plays_on_system(
-    rt: &impl Abort,
-    store: &mut FileStore<FolderFile<HostRuntime>>,
-    steps: &[Step],
-) {
-    plays(rt, store, steps);
+// One of two stores in the same folder.
+#[derive(Clone, Copy)]
+enum Store {
+    First,
+    Second,
+}
+
+// The steps on each of the stores in turn, in a folder of this name.
+fn plays_on_two(rt: &impl Abort, files: &HostRuntime, name: &str, parts: &[(Store, &[Step])]) {
+    let folder = folder(rt, files, name);
+    let mut first = opened(rt, files, &folder);
+    let mut second = opened(rt, files, &folder);
+    for (store, steps) in parts {
+        match store {
+            Store::First => plays(rt, &mut *first, steps),
+            Store::Second => plays(rt, &mut *second, steps),
+        }
+    }
+    removes(rt, files, &folder);
+}
+
+// What another store has put is found, and replaced.
+#[test]
+fn what_is_put_is_got(rt: HostRuntime) {
+    plays_on_two(
+        &rt,
+        &rt,
+        "replication_tests_put",
+        &[
+            (
+                Store::First,
+                &[
+                    Step::HoldsNothing,
+                    Step::Put(b"first", Ok(()), 0),
+                    Step::Holds(b"first"),
+                    Step::Put(b"second", Ok(()), 0),
+                    Step::Holds(b"second"),
+                    Step::Put(b"", Ok(()), 0),
+                    Step::Holds(b""),
+                ],
+            ),
+            (
+                Store::Second,
+                &[Step::Holds(b""), Step::Put(b"third", Ok(()), 0)],
+            ),
+            (Store::First, &[Step::Holds(b"third")]),
+        ],
+    );
 }
 
 #[test]
-fn what_is_put_is_got(rt: HostRuntime) {
-    let folder = folder(&rt, &rt, "replication_tests_put");
-    let mut first = opened(&rt, &rt, &folder);
-    plays_on_system(
+fn a_checkpoint_of_a_full_bank(rt: HostRuntime) {
+    let bytes = write_checkpoint(rt.alloc(), &full_bank(&rt), &[]).expect(&rt, "memory for bytes");
+    plays_on_two(
         &rt,
-        &mut first,
-        &[
-            Step::HoldsNothing,
-            Step::Put(b"first", Ok(()), 0),
-            Step::Holds(b"first"),
-            Step::Put(b"second", Ok(()), 0),
-            Step::Holds(b"second"),
-            Step::Put(b"", Ok(()), 0),
-            Step::Holds(b""),
-        ],
-    );
-    has_one_file(&rt, &rt, &folder);
-    // Another store finds it there, and replaces it.
-    plays_on_system(
         &rt,
-        &mut opened(&rt, &rt, &folder),
-        &[Step::Holds(b""), Step::Put(b"third", Ok(()), 0)],
+        "replication_tests_full",
+        &[(
+            Store::First,
+            &[Step::Put(&bytes, Ok(()), 0), Step::Holds(&bytes)],
+        )],
     );
-    plays_on_system(&rt, &mut first, &[Step::Holds(b"third")]);
-    removes(&rt, &rt, &folder);
 }
 
 // A store in this folder can put nothing.
 fn is_nowhere(rt: &impl Abort, files: &HostRuntime, folder: &PathBuf) {
-    plays_on_system(
+    plays(
         rt,
-        &mut opened(rt, files, folder),
+        &mut *opened(rt, files, folder),
         &[Step::Probe(FAILED, 1), Step::Put(b"some", FAILED, 2)],
     );
 }
@@ -140,23 +168,6 @@ fn a_folder_that_is_not_there(rt: HostRuntime) {
     // A folder with an empty name is none.
     is_nowhere(&rt, &rt, &PathBuf::new(rt.alloc()));
     removes(&rt, &rt, &folder);
-}
-
-// A store in a folder of this name takes these bytes, and holds them.
-fn keeps(rt: &impl Abort, files: &HostRuntime, name: &str, bytes: &[u8]) {
-    let folder = folder(rt, files, name);
-    plays_on_system(
-        rt,
-        &mut opened(rt, files, &folder),
-        &[Step::Put(bytes, Ok(()), 0), Step::Holds(bytes)],
-    );
-    removes(rt, files, &folder);
-}
-
-#[test]
-fn a_checkpoint_of_a_full_bank(rt: HostRuntime) {
-    let bytes = write_checkpoint(rt.alloc(), &full_bank(&rt), &[]).expect(&rt, "memory for bytes");
-    keeps(&rt, &rt, "replication_tests_full", &bytes);
 }
 
 // A store in a folder of its own, one of whose calls may fail.
