@@ -1,5 +1,5 @@
 -- What lines ask, one line at a time.
-use Rattle.std.proofs.Common.{◌≡◌, ℕ, ◌+◌, ◌≤◌, true, false, Option, Some, None, is_none, Ok, Err, List, [], ◌∷◌, ◌++◌, length, map, refl, sym, ap, ◌∙◌, arith}
+use Rattle.std.proofs.Common.{◌≡◌, ℕ, ◌+◌, ◌≤◌, Option, Some, None, Ok, Err, List, [], ◌∷◌, ◌++◌, length, map, refl, sym, ap, ◌∙◌, arith}
 use Rattle.sb_rows.specs.Opening.{◌>>=◌, at_line}
 use Rattle.sb_calls.specs.Ask.{asked_of, IsKey}
 use Rattle.sb_calls.specs.declared.ask.Asked.{Asked}

@@ -34,23 +34,22 @@ prints, once a client has deposited 1.00 for alice
 /// The command whose grammar the program's words have.
 pub fn command<'a>(alloc: Global) -> Result<Command<'a>, AllocError> {
     let run = run(alloc)?;
-    let command = Command::new(alloc, "smallbank")
+    let serve = serve(alloc)?;
+    let parts = Vec::from_array(alloc, [run, play(alloc), serve])?;
+    Command::new(alloc, "smallbank")
         .version("0.1.0")
         .about("A SmallBank store, proved")
-        .subcommand(run)?
-        .subcommand(play(alloc))?;
-    let serve = serve(alloc)?;
-    command.subcommand(serve)
+        .subcommands(parts)
 }
 
 // The part of the command that runs calls.
 fn run<'a>(alloc: Global) -> Result<Command<'a>, AllocError> {
+    let args = Vec::from_array(alloc, [nodes(alloc), workers(alloc)])?;
     Command::new(alloc, "run")
         .about("Runs calls from standard input")
         .long_about(RUN)
         .after_help(EXAMPLE)
-        .arg(nodes(alloc))?
-        .arg(workers(alloc))
+        .args(args)
 }
 
 // The part of the command that plays a schedule.
@@ -60,15 +59,19 @@ fn play<'a>(alloc: Global) -> Command<'a> {
 
 // The part of the command that serves.
 fn serve<'a>(alloc: Global) -> Result<Command<'a>, AllocError> {
+    let args = [
+        port(alloc),
+        sessions(alloc),
+        nodes(alloc),
+        workers(alloc),
+        store(alloc),
+    ];
+    let args = Vec::from_array(alloc, args)?;
     Command::new(alloc, "serve")
         .about("Serves clients over TCP")
         .long_about(SERVE)
         .after_help(SERVE_EXAMPLE)
-        .arg(port(alloc))?
-        .arg(sessions(alloc))?
-        .arg(nodes(alloc))?
-        .arg(workers(alloc))?
-        .arg(store(alloc))
+        .args(args)
 }
 
 // Where clients are listened to.

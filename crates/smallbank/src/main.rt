@@ -1,6 +1,8 @@
 //! `smallbank`: a bank store whose output is a stated function of its input.
 #![tactic(auto)]
 
+ghost use Rattle.smallbank.specs.Words.{InRange};
+
 use bank_server::{RunFault, run_text};
 use clap::error::ErrorKind;
 use cown_workers::OpenGate;
@@ -58,7 +60,21 @@ fn start<H: Threads + Wait + Clock + Sync + Net>(
         Err(_) => return Err(ProgramFault::Run(RunFault::OutOfMemory)),
     };
     match read_words(rt.alloc(), &words) {
-        Ok(Words::Run { nodes, workers }) => {
+        Ok(read) => obey(rt, threads, read),
+        Err(error) => tell(rt, error),
+    }
+}
+
+// Does what the words say.
+fn obey<H: Threads + Wait + Clock + Sync + Net>(
+    rt: &HostRuntime,
+    threads: &H,
+    words: Words,
+) -> Result<u8, ProgramFault>
+    requires { InRange words }
+{
+    match words {
+        Words::Run { nodes, workers } => {
             let (reader, writer) = (&mut rt.stdin(), &mut rt.stdout());
             run_text(
                 threads,
@@ -69,21 +85,15 @@ fn start<H: Threads + Wait + Clock + Sync + Net>(
                 workers,
                 &OpenGate,
             )?;
-            Ok(0)
         }
-        Ok(Words::Play) => {
-            run_schedule(rt.alloc(), &mut rt.stdin(), &mut rt.stdout())?;
-            Ok(0)
-        }
-        Ok(
-            Words::Serve {
-                port,
-                sessions,
-                nodes,
-                workers,
-                store,
-            },
-        ) => {
+        Words::Play => run_schedule(rt.alloc(), &mut rt.stdin(), &mut rt.stdout())?,
+        Words::Serve {
+            port,
+            sessions,
+            nodes,
+            workers,
+            store,
+        } => {
             let plan = Plan {
                 sessions,
                 nodes,
@@ -91,16 +101,18 @@ fn start<H: Threads + Wait + Clock + Sync + Net>(
                 saves: store.is_some(),
             };
             serve_program(rt, threads, port as u16, store, plan)?;
-            Ok(0)
         }
-        Err(error) => {
-            if error.kind() == ErrorKind::OutOfMemory {
-                return Err(ProgramFault::Run(RunFault::OutOfMemory));
-            }
-            match error.print(rt) {
-                Ok(()) => Ok(error.exit_code() as u8),
-                Err(_) => Err(ProgramFault::Run(RunFault::Device)),
-            }
-        }
+    }
+    Ok(0)
+}
+
+// Tells what clap has to say of words that nothing is done for: a fault, or help that they call for.
+fn tell(rt: &HostRuntime, error: clap::Error) -> Result<u8, ProgramFault> {
+    if error.kind() == ErrorKind::OutOfMemory {
+        return Err(ProgramFault::Run(RunFault::OutOfMemory));
+    }
+    match error.print(rt) {
+        Ok(()) => Ok(error.exit_code() as u8),
+        Err(_) => Err(ProgramFault::Run(RunFault::Device)),
     }
 }

@@ -38,7 +38,7 @@ fn expect_told(rt: &impl Abort, alloc: Global, words: &[&str], status: i32, part
     let error = read_words(alloc, &all).err().expect(rt, "a fault");
     assert!(rt; error.exit_code() == status);
     let told = format!(in alloc; "{error}").expect(rt, "memory for a text");
-    assert!(rt; told.as_str().contains(part));
+    assert!(rt; told.as_str().contains(part), "{part}");
 }
 
 #[test]
@@ -110,48 +110,53 @@ fn words_of_a_server(rt: HostRuntime) {
     );
 }
 
+// Each of these words is refused, with a text that has this part.
+fn expect_refused(rt: &impl Abort, alloc: Global, cases: &[(&[&str], &str)]) {
+    for (words, part) in cases {
+        expect_told(rt, alloc, words, 2, part);
+    }
+}
+
 #[test]
 fn refused_words_of_a_server(rt: HostRuntime) {
-    let alloc = rt.alloc();
-    for (value, part) in [
-        ("65536", "65536 is not in 0..=65535"),
-        ("http", "<0..65535>"),
-    ] {
-        expect_told(&rt, alloc, &["serve", "--port", value], 2, part);
-    }
-    for (option, value, part) in [
-        ("--sessions", "0", "0 is not in 1..=1000"),
-        ("--sessions", "1001", "1001 is not in 1..=1000"),
-        ("--nodes", "9", "9 is not in 1..=8"),
-        ("--workers", "17", "17 is not in 0..=16"),
-    ] {
-        let words = ["serve", option, value, "--port=1"];
-        expect_told(&rt, alloc, &words, 2, part);
-    }
-    expect_told(&rt, alloc, &["serve"], 2, "--port <0..65535>");
-    expect_told(&rt, alloc, &["serve", "--port"], 2, "<0..65535>");
-    expect_told(&rt, alloc, &["serve", "--port=1", "--store"], 2, "<FOLDER>");
-    expect_told(&rt, alloc, &["serve", "--port=1", "--port=2"], 2, "--port");
+    let cases: [(&[&str], &str); 10] = [
+        (&["serve", "--port", "65536"], "65536 is not in 0..=65535"),
+        (&["serve", "--port", "http"], "<0..65535>"),
+        (
+            &["serve", "--sessions", "0", "--port=1"],
+            "0 is not in 1..=1000",
+        ),
+        (
+            &["serve", "--sessions", "1001", "--port=1"],
+            "1001 is not in 1..=1000",
+        ),
+        (&["serve", "--nodes", "9", "--port=1"], "9 is not in 1..=8"),
+        (
+            &["serve", "--workers", "17", "--port=1"],
+            "17 is not in 0..=16",
+        ),
+        (&["serve"], "--port <0..65535>"),
+        (&["serve", "--port"], "<0..65535>"),
+        (&["serve", "--port=1", "--store"], "<FOLDER>"),
+        (&["serve", "--port=1", "--port=2"], "--port"),
+    ];
+    expect_refused(&rt, rt.alloc(), &cases);
 }
 
 #[test]
 fn refused_words(rt: HostRuntime) {
-    let alloc = rt.alloc();
-    expect_told(&rt, alloc, &["run", "--nodes", "0"], 2, "0 is not in 1..=8");
-    expect_told(&rt, alloc, &["run", "--nodes", "9"], 2, "9 is not in 1..=8");
-    expect_told(
-        &rt,
-        alloc,
-        &["run", "--workers", "17"],
-        2,
-        "17 is not in 0..=16",
-    );
-    expect_told(&rt, alloc, &["run", "--nodes", "two"], 2, "<1..8>");
-    expect_told(&rt, alloc, &["run", "--workers=-0"], 2, "<0..16>");
-    expect_told(&rt, alloc, &["run", "--nodes"], 2, "<1..8>");
-    expect_told(&rt, alloc, &["run", "--nodes=2", "--nodes=3"], 2, "--nodes");
-    expect_told(&rt, alloc, &["play", "again"], 2, "again");
-    expect_told(&rt, alloc, &["server"], 2, "server");
+    let cases: [(&[&str], &str); 9] = [
+        (&["run", "--nodes", "0"], "0 is not in 1..=8"),
+        (&["run", "--nodes", "9"], "9 is not in 1..=8"),
+        (&["run", "--workers", "17"], "17 is not in 0..=16"),
+        (&["run", "--nodes", "two"], "<1..8>"),
+        (&["run", "--workers=-0"], "<0..16>"),
+        (&["run", "--nodes"], "<1..8>"),
+        (&["run", "--nodes=2", "--nodes=3"], "--nodes"),
+        (&["play", "again"], "again"),
+        (&["server"], "server"),
+    ];
+    expect_refused(&rt, rt.alloc(), &cases);
 }
 
 #[test]
