@@ -5,6 +5,9 @@ use sb_calls::CallFault;
 use sb_rows::LineFault;
 use schedule_player::{ScheduleFault, run_schedule};
 use schedule_text::{EventFault, ScheduleLineFault, TextFault};
+use std::alloc::Global;
+use std::fmt::Display;
+use std::process::Abort;
 
 #[test]
 fn heads_at_fault(rt: HostRuntime) {
@@ -81,6 +84,12 @@ fn devices_that_fail(rt: HostRuntime) {
     assert!(rt; run_schedule(alloc, &mut reader, &mut Broken) == Err(ScheduleFault::Device));
 }
 
+// A fault is told by this text.
+fn is_told(rt: &impl Abort, alloc: Global, fault: &impl Display, text: &str) {
+    let told = fault.to_string(alloc).expect(rt, "memory");
+    assert!(rt; told.as_str() == text, "{text}");
+}
+
 #[test]
 fn numbers_and_texts_of_the_faults_of_a_schedule(rt: HostRuntime) {
     let unknown = ScheduleFault::Input {
@@ -93,8 +102,7 @@ fn numbers_and_texts_of_the_faults_of_a_schedule(rt: HostRuntime) {
         (ScheduleFault::OutOfMemory, 3, "out of memory"),
     ] {
         assert!(rt; fault.number() == number, "{text}");
-        let told = fault.to_string(rt.alloc()).expect(&rt, "memory");
-        assert!(rt; told.as_str() == text);
+        is_told(&rt, rt.alloc(), &fault, text);
     }
 }
 
@@ -109,8 +117,7 @@ fn texts_of_the_faults_of_an_event(rt: HostRuntime) {
         (EventFault::Call(CallFault::BadName), "bad name"),
         (EventFault::Call(CallFault::BadMoney), "bad money"),
     ] {
-        let told = fault.to_string(rt.alloc()).expect(&rt, "memory");
-        assert!(rt; told.as_str() == text);
+        is_told(&rt, rt.alloc(), &fault, text);
     }
 }
 
@@ -125,7 +132,6 @@ fn texts_of_the_faults_of_a_text(rt: HostRuntime) {
         (line(10, money), "line 10: bad money"),
         (TextFault::OutOfMemory, "out of memory"),
     ] {
-        let told = fault.to_string(rt.alloc()).expect(&rt, "memory");
-        assert!(rt; told.as_str() == text);
+        is_told(&rt, rt.alloc(), &fault, text);
     }
 }

@@ -1,8 +1,7 @@
 //! Lists of events, played.
-use crate::worlds::{stands_at, world_of};
+use crate::worlds::{event_of, stands_at, world_of};
 use sb_calls::Reply;
 use schedule_player::{AuditNote, Event, Note, World, play};
-use schedule_text::read_event;
 use std::alloc::Global;
 use std::process::Abort;
 
@@ -10,8 +9,7 @@ use std::process::Abort;
 fn plays(rt: &impl Abort, alloc: Global, world: &mut World, lines: &[&str], wanted: &[Note]) {
     let mut events: Vec<Event> = Vec::new(alloc);
     for line in lines {
-        let event = read_event(line.as_bytes()).expect(rt, "an event");
-        events.push(event).expect(rt, "memory");
+        events.push(event_of(rt, line)).expect(rt, "memory");
     }
     let notes = play(alloc, world, &events).ok().expect(rt, "memory");
     assert!(rt; notes.as_slice() == wanted);

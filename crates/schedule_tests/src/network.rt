@@ -98,38 +98,40 @@ fn shows_one_deposit(rt: &impl Abort, world: &World) {
 }
 
 // No replica, no frame, no number and no worker is named so, in any world of the tests.
+const NAMELESS: [&str; 28] = [
+    "send 9 1",
+    "resend 9",
+    "to 9 1",
+    "ack 9",
+    "answer 9 1",
+    "from 9 1",
+    "take 9 1 0",
+    "finish 9 1",
+    "mark 9 ok",
+    "restart 9",
+    "next 9",
+    "audit 9 0",
+    "audit 0 9",
+    "send 0 0",
+    "send 0 5",
+    "to 0 0",
+    "to 0 5",
+    "answer 0 0",
+    "answer 0 5",
+    "from 0 0",
+    "from 0 5",
+    "next 0",
+    "take 0 0 0",
+    "take 0 3 0",
+    "take 0 1 0",
+    "finish 0 0",
+    "finish 0 3",
+    "finish 0 1",
+];
+
 fn names_nothing(rt: &impl Abort, world: &mut World) {
-    for line in [
-        "send 9 1",
-        "resend 9",
-        "to 9 1",
-        "ack 9",
-        "answer 9 1",
-        "from 9 1",
-        "take 9 1 0",
-        "finish 9 1",
-        "mark 9 ok",
-        "restart 9",
-        "next 9",
-        "audit 9 0",
-        "audit 0 9",
-        "send 0 0",
-        "send 0 5",
-        "to 0 0",
-        "to 0 5",
-        "answer 0 0",
-        "answer 0 5",
-        "from 0 0",
-        "from 0 5",
-        "next 0",
-        "take 0 0 0",
-        "take 0 3 0",
-        "take 0 1 0",
-        "finish 0 0",
-        "finish 0 3",
-        "finish 0 1",
-    ] {
-        all_happen(rt, world, &[(line, Note::Nothing)]);
+    for line in &NAMELESS {
+        all_happen(rt, world, &[(*line, Note::Nothing)]);
     }
 }
 

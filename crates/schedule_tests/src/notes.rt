@@ -11,83 +11,102 @@ fn expect_line(rt: &impl Abort, alloc: Global, note: Note, line: &str) {
     assert!(rt; out.as_slice() == line.as_bytes(), "{line}");
 }
 
+// Writes each of these notes, and compares its line.
+fn expect_lines(rt: &impl Abort, alloc: Global, notes: &[(Note, &str)]) {
+    for (note, line) in notes {
+        expect_line(rt, alloc, *note, line);
+    }
+}
+
 #[test]
 fn notes_with_a_number(rt: HostRuntime) {
-    for (note, line) in [
-        (Note::New(1), "new 1\n"),
-        (Note::Repeat(20), "repeat 20\n"),
-        (Note::Mismatch(3), "mismatch 3\n"),
-        (Note::Sent(4), "sent 4\n"),
-        (Note::Resent(0), "resent 0\n"),
-        (Note::Accepted(6), "accepted 6\n"),
-        (Note::Held(64), "held 64\n"),
-        (Note::Gap(0), "gap 0\n"),
-        (Note::Busy(1_024), "busy 1024\n"),
-        (Note::Recorded(9), "recorded 9\n"),
-        (Note::Kept(10), "kept 10\n"),
-        (Note::OddAnswer(11), "odd 11\n"),
-        (Note::Unknown(12), "unknown 12\n"),
-        (Note::Took(13), "took 13\n"),
-        (Note::Stranger(14), "stranger 14\n"),
-        (Note::Marked(15), "marked 15\n"),
-        (
-            Note::Restarted(18_446_744_073_709_551_615),
-            "restarted 18446744073709551615\n",
-        ),
-        (
-            Note::Cut(18_446_744_073_709_551_615),
-            "cut 18446744073709551615\n",
-        ),
-        (
-            Note::Pending(18_446_744_073_709_551_615),
-            "pending 18446744073709551615\n",
-        ),
-    ] {
-        expect_line(&rt, rt.alloc(), note, line);
-    }
+    expect_lines(
+        &rt,
+        rt.alloc(),
+        &[
+            (Note::New(1), "new 1\n"),
+            (Note::Repeat(20), "repeat 20\n"),
+            (Note::Mismatch(3), "mismatch 3\n"),
+            (Note::Sent(4), "sent 4\n"),
+            (Note::Resent(0), "resent 0\n"),
+            (Note::Accepted(6), "accepted 6\n"),
+            (Note::Held(64), "held 64\n"),
+            (Note::Gap(0), "gap 0\n"),
+            (Note::Busy(1_024), "busy 1024\n"),
+            (Note::Recorded(9), "recorded 9\n"),
+            (Note::Kept(10), "kept 10\n"),
+            (Note::OddAnswer(11), "odd 11\n"),
+            (Note::Unknown(12), "unknown 12\n"),
+            (Note::Took(13), "took 13\n"),
+            (Note::Stranger(14), "stranger 14\n"),
+            (Note::Marked(15), "marked 15\n"),
+            (
+                Note::Restarted(18_446_744_073_709_551_615),
+                "restarted 18446744073709551615\n",
+            ),
+            (
+                Note::Cut(18_446_744_073_709_551_615),
+                "cut 18446744073709551615\n",
+            ),
+            (
+                Note::Pending(18_446_744_073_709_551_615),
+                "pending 18446744073709551615\n",
+            ),
+        ],
+    );
 }
 
 #[test]
 fn notes_in_words(rt: HostRuntime) {
-    for (note, line) in [
-        (Note::LogFull, "log full\n"),
-        (Note::Odd, "odd\n"),
-        (Note::HandFull, "hand full\n"),
-        (
-            Note::Finished(1, Reply::Penalised),
-            "finished 1 penalised\n",
-        ),
-        (
-            Note::Finished(2, Reply::Shown(-5)),
-            "finished 2 shown -0.05\n",
-        ),
-        (Note::Unfinished, "busy\n"),
-        (Note::StoreFault, "store fault\n"),
-        (Note::Nothing, "nothing\n"),
-    ] {
-        expect_line(&rt, rt.alloc(), note, line);
-    }
+    expect_lines(
+        &rt,
+        rt.alloc(),
+        &[
+            (Note::LogFull, "log full\n"),
+            (Note::Odd, "odd\n"),
+            (Note::HandFull, "hand full\n"),
+            (
+                Note::Finished(1, Reply::Penalised),
+                "finished 1 penalised\n",
+            ),
+            (
+                Note::Finished(2, Reply::Shown(-5)),
+                "finished 2 shown -0.05\n",
+            ),
+            (Note::Unfinished, "busy\n"),
+            (Note::StoreFault, "store fault\n"),
+            (Note::Nothing, "nothing\n"),
+        ],
+    );
 }
 
 #[test]
 fn notes_of_an_audit(rt: HostRuntime) {
-    for (found, line) in [
-        (AuditNote::Busy(7), "busy 7\n"),
-        (AuditNote::Apart(2, 10), "apart 2 10\n"),
-        (AuditNote::Differ(Column::Savings, 0), "differ savings 0\n"),
-        (
-            AuditNote::Differ(Column::Checking, 12),
-            "differ checking 12\n",
-        ),
-        (AuditNote::OffBooks(100, -1), "off books 1.00 -0.01\n"),
-        (AuditNote::Same(15_400, 3), "same 154.00 3\n"),
-        (
-            AuditNote::Same(i64::MIN, 0),
-            "same -92233720368547758.08 0\n",
-        ),
-    ] {
-        expect_line(&rt, rt.alloc(), Note::Audit(found), line);
-    }
+    expect_lines(
+        &rt,
+        rt.alloc(),
+        &[
+            (Note::Audit(AuditNote::Busy(7)), "busy 7\n"),
+            (Note::Audit(AuditNote::Apart(2, 10)), "apart 2 10\n"),
+            (
+                Note::Audit(AuditNote::Differ(Column::Savings, 0)),
+                "differ savings 0\n",
+            ),
+            (
+                Note::Audit(AuditNote::Differ(Column::Checking, 12)),
+                "differ checking 12\n",
+            ),
+            (
+                Note::Audit(AuditNote::OffBooks(100, -1)),
+                "off books 1.00 -0.01\n",
+            ),
+            (Note::Audit(AuditNote::Same(15_400, 3)), "same 154.00 3\n"),
+            (
+                Note::Audit(AuditNote::Same(i64::MIN, 0)),
+                "same -92233720368547758.08 0\n",
+            ),
+        ],
+    );
 }
 
 #[test]

@@ -21,18 +21,31 @@ fn is_at_fault(rt: &impl Abort, alloc: Global, text: &str, line: usize, fault: S
     assert!(rt; found == Some(TextFault::Line { line, fault }), "{text}");
 }
 
-#[test]
-fn reads_a_head_and_an_opening(rt: HostRuntime) {
-    let alice = Name::new(b"alice").expect(&rt, "a name");
-    let bob = Name::new(b"bob").expect(&rt, "a name");
-    let schedule = read(&rt, rt.alloc(), TEXT);
-    assert!(rt; schedule.nodes == 2);
-    assert!(rt; schedule.workers == 3);
-    assert!(rt; schedule.directory.len() == 2);
-    assert!(rt; schedule.directory.name(0) == Some(alice));
-    assert!(rt; schedule.directory.name(1) == Some(bob));
+// A schedule has these counts of replicas, workers, customers and events.
+fn has_counts(
+    rt: &impl Abort,
+    schedule: &Schedule,
+    (nodes, workers): (u8, u8),
+    others: [usize; 2],
+) {
+    assert!(rt; schedule.nodes == nodes, "{nodes}");
+    assert!(rt; schedule.workers == workers, "{workers}");
+    assert!(rt; [schedule.directory.len(), schedule.events.len()] == others);
+}
+
+// The customers of the schedule, and what they have.
+fn has_alice_and_bob(rt: &impl Abort, schedule: &Schedule) {
+    assert!(rt; schedule.directory.name(0) == Name::new(b"alice"));
+    assert!(rt; schedule.directory.name(1) == Name::new(b"bob"));
     assert!(rt; schedule.columns.savings() == [10_000, 0].as_slice());
     assert!(rt; schedule.columns.checking() == [5_000, -2_000].as_slice());
+}
+
+#[test]
+fn reads_a_head_and_an_opening(rt: HostRuntime) {
+    let schedule = read(&rt, rt.alloc(), TEXT);
+    has_counts(&rt, &schedule, (2, 3), [2, 4]);
+    has_alice_and_bob(&rt, &schedule);
 }
 
 #[test]
@@ -59,40 +72,39 @@ fn reads_events(rt: HostRuntime) {
 
 #[test]
 fn reads_schedules_at_their_edges(rt: HostRuntime) {
-    for (text, nodes, workers) in [
-        ("nodes 1 workers 1\nbegin", 1, 1),
-        ("nodes 1 workers 16\nbegin\n", 1, 16),
-        ("nodes 8 workers 1\nbegin\n", 8, 1),
-        ("nodes 8 workers 16\nbegin\n", 8, 16),
+    for (text, head) in &[
+        ("nodes 1 workers 1\nbegin", (1, 1)),
+        ("nodes 1 workers 16\nbegin\n", (1, 16)),
+        ("nodes 8 workers 1\nbegin\n", (8, 1)),
+        ("nodes 8 workers 16\nbegin\n", (8, 16)),
     ] {
         let schedule = read(&rt, rt.alloc(), text);
-        assert!(rt; schedule.nodes == nodes, "{text}");
-        assert!(rt; schedule.workers == workers, "{text}");
-        assert!(rt; schedule.directory.is_empty(), "{text}");
-        assert!(rt; schedule.events.is_empty(), "{text}");
+        has_counts(&rt, &schedule, *head, [0, 0]);
     }
 }
 
+const BAD_HEADS: [&str; 16] = [
+    "",
+    "\n",
+    "begin\n",
+    "nodes 0 workers 1\nbegin\n",
+    "nodes 1 workers 0\nbegin\n",
+    "nodes 9 workers 1\nbegin\n",
+    "nodes 1 workers 17\nbegin\n",
+    "nodes 264 workers 1\nbegin\n",
+    "nodes 01 workers 1\nbegin\n",
+    "nodes 1  workers 1\nbegin\n",
+    "nodes 1 workers 1 \nbegin\n",
+    "nodes 1 workers\nbegin\n",
+    "nodes 1 worker 1\nbegin\n",
+    "node 1 workers 1\nbegin\n",
+    "nodes x workers 1\nbegin\n",
+    "nodes 9 workers 1\nx\n",
+];
+
 #[test]
 fn refuses_heads(rt: HostRuntime) {
-    for text in [
-        "",
-        "\n",
-        "begin\n",
-        "nodes 0 workers 1\nbegin\n",
-        "nodes 1 workers 0\nbegin\n",
-        "nodes 9 workers 1\nbegin\n",
-        "nodes 1 workers 17\nbegin\n",
-        "nodes 264 workers 1\nbegin\n",
-        "nodes 01 workers 1\nbegin\n",
-        "nodes 1  workers 1\nbegin\n",
-        "nodes 1 workers 1 \nbegin\n",
-        "nodes 1 workers\nbegin\n",
-        "nodes 1 worker 1\nbegin\n",
-        "node 1 workers 1\nbegin\n",
-        "nodes x workers 1\nbegin\n",
-        "nodes 9 workers 1\nx\n",
-    ] {
+    for text in &BAD_HEADS {
         is_at_fault(&rt, rt.alloc(), text, 1, ScheduleLineFault::BadHead);
     }
 }

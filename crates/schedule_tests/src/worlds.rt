@@ -21,9 +21,14 @@ pub(crate) fn world_of(rt: &impl Abort, alloc: Global, nodes: u8, workers: u8) -
     Box::new(alloc, world).expect(rt, "memory")
 }
 
+// The event that a line spells.
+pub(crate) fn event_of(rt: &impl Abort, line: &str) -> Event {
+    read_event(line.as_bytes()).expect(rt, "an event")
+}
+
 // The event that a line says happens, and is noted so.
 fn happens(rt: &impl Abort, world: &mut World, line: &str, note: Note) {
-    let event = read_event(line.as_bytes()).expect(rt, "an event");
+    let event = event_of(rt, line);
     assert!(rt; world.step(event) == Ok(note), "{line}");
 }
 
