@@ -44,7 +44,8 @@ pub(crate) fn run_node<H: Threads + Wait + Clock + Sync, G: Gate + Sync, F: Feed
             requires opened { IsOpened node.value.board }
             requires few { length ops.now ≤ LOG_CALLS }
             requires within { AreWithin (length node.value.names) ops.now }
-            ensures run { IfOk result (λ done. HasRun node.value.names node.value.board.opening ops.entry.now done.value) }
+            ensures run { IfOk result (λ done.
+                HasRun node.value.names node.value.board.opening ops.entry.now done.value) }
             ensures fault { IfErr result (IsCrewFault true) }
         { run_by(node, ops, crew, feed) },
     )?

@@ -90,7 +90,8 @@ fn run_beside<H: Threads + Wait + Clock + Sync, G: Gate + Sync>(
             requires opened { IsOpened node.value.board }
             requires few { length ops.now ≤ LOG_CALLS }
             requires within { AreWithin (length node.value.names) ops.now }
-            ensures run { IfOk result (λ done. HasRun node.value.names node.value.board.opening ops.entry.now done.value) }
+            ensures run { IfOk result (λ done.
+                HasRun node.value.names node.value.board.opening ops.entry.now done.value) }
             ensures fault { IfErr result (IsNodesFault nodes workers) }
         {
             let threads = start(scope, rt, alloc, followers, nodes)?;
