@@ -71,23 +71,46 @@ fn expect_after(
     expect_agreement(rt, &one, &other, wanted, case);
 }
 
+const DEPOSIT: &[&str] = &["deposit alice 1.00"];
+
+const OTHER_DEPOSIT: &[&str] = &["deposit bob 1.00"];
+
+const BALANCE: &[&str] = &["balance alice"];
+
+const OTHER_BALANCE: &[&str] = &["balance bob"];
+
+const TWO_BALANCES: &[&str] = &["balance alice", "balance alice"];
+
+const OVERDRAFT: &[&str] = &["check bob 20.01", "balance bob"];
+
 #[test]
 fn calls_that_come_to_the_same(rt: HostRuntime) {
-    let (deposit, other) = ("deposit alice 1.00", "deposit bob 1.00");
-    let (balance, others) = ("balance alice", "balance bob");
-    expect_after(&rt, rt.alloc(), &[deposit], &[deposit], true, "one call");
-    expect_after(&rt, rt.alloc(), &[deposit], &[other], false, "two payments");
+    expect_after(&rt, rt.alloc(), DEPOSIT, DEPOSIT, true, "one call");
+    expect_after(
+        &rt,
+        rt.alloc(),
+        DEPOSIT,
+        OTHER_DEPOSIT,
+        false,
+        "two payments",
+    );
     // The same columns with another reply.
-    expect_after(&rt, rt.alloc(), &[balance], &[others], false, "two replies");
-    let both = &[balance, balance];
-    expect_after(&rt, rt.alloc(), &[balance], both, false, "two lengths");
+    expect_after(
+        &rt,
+        rt.alloc(),
+        BALANCE,
+        OTHER_BALANCE,
+        false,
+        "two replies",
+    );
+    expect_after(&rt, rt.alloc(), BALANCE, TWO_BALANCES, false, "two lengths");
 }
 
 #[test]
 fn one_that_is_not_idle(rt: HostRuntime) {
-    let one = replica_after(&rt, rt.alloc(), &["balance alice"]);
+    let one = replica_after(&rt, rt.alloc(), BALANCE);
     let mut other = opened(&rt, rt.alloc());
-    hear_all(&rt, &mut other, &["balance alice"]);
+    hear_all(&rt, &mut other, BALANCE);
     expect_agreement(&rt, &one, &other, false, "not idle");
 }
 
@@ -99,9 +122,8 @@ fn restart(rt: &impl Abort, replica: &mut Replica<MemoryStore>, entries: u64) {
 
 #[test]
 fn one_that_was_restarted_from_its_checkpoint(rt: HostRuntime) {
-    let calls = ["check bob 20.01", "balance bob"];
-    let one = replica_after(&rt, rt.alloc(), &calls);
-    let mut other = replica_after(&rt, rt.alloc(), &calls);
+    let one = replica_after(&rt, rt.alloc(), OVERDRAFT);
+    let mut other = replica_after(&rt, rt.alloc(), OVERDRAFT);
     restart(&rt, &mut other, 2);
     expect_agreement(&rt, &one, &other, true, "restarted");
 }

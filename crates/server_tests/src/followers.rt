@@ -1,12 +1,38 @@
 //! Followers of a bank that is served.
 use crate::bank::{OPENING, expect, opened};
 use crate::wire::{BALANCE, DEPOSIT, DONE, FLUSH, SHOWN, serve};
-use bank_server::{Followers, RunFault, with_followers};
+use bank_server::{Followers, Primary, RunFault, with_followers};
+use sb_checkpoint::MemoryStore;
 use sb_rows::read_opening;
 use std::alloc::Global;
 use std::process::Abort;
 use std::sync::Wait;
 use std::thread::Threads;
+
+// What two clients send.
+const PAYMENT: &[&[u8]] = &[DEPOSIT, FLUSH];
+
+const QUESTION: &[&[u8]] = &[BALANCE, FLUSH];
+
+// Serves a session, of which followers are told, or aren't.
+fn serve_and_feed<R: Abort + Wait>(
+    rt: &R,
+    alloc: Global,
+    primary: &mut Primary<MemoryStore>,
+    followers: &mut Followers<'_, R>,
+    sent: &[&[u8]],
+    told: &[&[u8]],
+    is_told: bool,
+) {
+    serve(rt, alloc, primary, sent, told);
+    if is_told {
+        expect(
+            rt,
+            followers.feed(primary.log()).is_ok(),
+            "memory for frames",
+        );
+    }
+}
 
 // How followers come out that are told of the log after each of two sessions, or only after the first.
 fn compared<R: Abort + Threads + Wait + Sync>(
@@ -16,20 +42,16 @@ fn compared<R: Abort + Threads + Wait + Sync>(
     is_told: bool,
 ) -> Result<(), RunFault> {
     let mut primary = opened(rt, alloc);
-    serve(rt, alloc, &mut *primary, &[DEPOSIT, FLUSH], &[DONE]);
-    expect(
+    serve_and_feed(rt, alloc, &mut primary, followers, PAYMENT, &[DONE], true);
+    serve_and_feed(
         rt,
-        followers.feed(primary.log()).is_ok(),
-        "memory for frames",
+        alloc,
+        &mut primary,
+        followers,
+        QUESTION,
+        &[SHOWN],
+        is_told,
     );
-    serve(rt, alloc, &mut *primary, &[BALANCE, FLUSH], &[SHOWN]);
-    if is_told {
-        expect(
-            rt,
-            followers.feed(primary.log()).is_ok(),
-            "memory for frames",
-        );
-    }
     followers.compare(rt, primary.node())
 }
 

@@ -1,5 +1,5 @@
 //! A log, and the node that carries it out.
-use crate::bank::{expect, joined, opened};
+use crate::bank::{expect, opened};
 use crate::wire::{ENTRY, expect_session};
 use bank_server::{Primary, SessionFault, Standing, ask_lines};
 use cown_workers::InlineCrew;
@@ -45,18 +45,42 @@ fn push_ask(rt: &impl Abort, request: u32, line: &str, out: &mut Vec<u8>) {
     out.extend_from_slice(&frame).expect(rt, "memory for bytes");
 }
 
-// The frames of client 7's asks.
-fn asked(rt: &impl Abort, alloc: Global, asks: &[(u32, &str)]) -> Vec<u8> {
-    let mut out = Vec::new(alloc);
+// A client sends these asks and then a frame that no client sends: they are numbered, and the node isn't offered them.
+fn break_off(
+    rt: &impl Abort,
+    alloc: Global,
+    primary: &mut Primary<MemoryStore>,
+    asks: &[(u32, &str)],
+) {
+    let mut sent = Vec::new(alloc);
     for (request, line) in asks {
-        push_ask(rt, *request, line, &mut out);
+        push_ask(rt, *request, line, &mut sent);
     }
-    out
+    end_with_entry(rt, alloc, primary, sent);
 }
 
-// A client sends these asks and then a frame that no client sends: they are numbered, and the node isn't offered them.
-fn break_off(rt: &impl Abort, alloc: Global, primary: &mut Primary<MemoryStore>, asks: &[u8]) {
-    let sent = joined(rt, alloc, &[asks, ENTRY]);
+// The same of deposits of a cent by these requests.
+fn break_off_deposits(
+    rt: &impl Abort,
+    alloc: Global,
+    primary: &mut Primary<MemoryStore>,
+    first: u32,
+    end: u32,
+) {
+    let mut sent = Vec::new(alloc);
+    for request in first..end {
+        push_ask(rt, request, "deposit bob 0.01", &mut sent);
+    }
+    end_with_entry(rt, alloc, primary, sent);
+}
+
+fn end_with_entry(
+    rt: &impl Abort,
+    alloc: Global,
+    primary: &mut Primary<MemoryStore>,
+    mut sent: Vec<u8>,
+) {
+    sent.extend_from_slice(ENTRY).expect(rt, "memory for bytes");
     expect_session(
         rt,
         alloc,
@@ -97,7 +121,7 @@ const ASKS: &[(u32, &str)] = &[
 #[test]
 fn what_was_asked_is_carried_out_once_settled(rt: HostRuntime) {
     let mut primary = opened(&rt, rt.alloc());
-    break_off(&rt, rt.alloc(), &mut primary, &asked(&rt, rt.alloc(), ASKS));
+    break_off(&rt, rt.alloc(), &mut primary, ASKS);
     expect_lengths(&rt, &primary, 2, 0);
     settle(&rt, &mut primary);
     expect_lengths(&rt, &primary, 2, 2);
@@ -105,41 +129,19 @@ fn what_was_asked_is_carried_out_once_settled(rt: HostRuntime) {
     expect_reply(&rt, &primary, 2, Reply::Shown(2_500));
 }
 
-// Deposits of a cent by these requests.
-fn deposits(rt: &impl Abort, alloc: Global, first: u32, end: u32) -> Vec<u8> {
-    let mut asks = Vec::new(alloc);
-    for request in first..end {
-        push_ask(rt, request, "deposit bob 0.01", &mut asks);
-    }
-    asks
-}
+const LAST_ASK: &[(u32, &str)] = &[(3_000, "balance bob")];
 
 #[test]
 fn more_asks_than_may_be_unfinished(rt: HostRuntime) {
     let mut primary = opened(&rt, rt.alloc());
-    break_off(
-        &rt,
-        rt.alloc(),
-        &mut primary,
-        &deposits(&rt, rt.alloc(), 0, 2_000),
-    );
+    break_off_deposits(&rt, rt.alloc(), &mut primary, 0, 2_000);
     expect_lengths(&rt, &primary, 2_000, 0);
     // A session begins with what is left of those before.
-    break_off(
-        &rt,
-        rt.alloc(),
-        &mut primary,
-        &deposits(&rt, rt.alloc(), 2_000, 3_000),
-    );
+    break_off_deposits(&rt, rt.alloc(), &mut primary, 2_000, 3_000);
     expect_lengths(&rt, &primary, 3_000, 2_000);
     settle(&rt, &mut primary);
     expect_lengths(&rt, &primary, 3_000, 3_000);
-    break_off(
-        &rt,
-        rt.alloc(),
-        &mut primary,
-        &asked(&rt, rt.alloc(), &[(3_000, "balance bob")]),
-    );
+    break_off(&rt, rt.alloc(), &mut primary, LAST_ASK);
     settle(&rt, &mut primary);
     expect_lengths(&rt, &primary, 3_001, 3_001);
     expect_reply(&rt, &primary, 3_001, Reply::Shown(5_000));

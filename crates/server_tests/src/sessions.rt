@@ -22,12 +22,6 @@ struct Session<'a> {
     told: &'a [&'a [u8]],
 }
 
-// A session that ends well.
-fn good<'a>(sent: &'a [&'a [u8]], told: &'a [&'a [u8]]) -> Session<'a> {
-    let ends = Ok(());
-    Session { sent, ends, told }
-}
-
 // Serves a client by reads of one byte, and compares.
 fn serve_bytewise<C: Crew>(
     rt: &impl Abort,
@@ -75,48 +69,101 @@ fn expect_sessions(
     expect(rt, by_four == Ok(length), "by four workers");
 }
 
+const ASKED_AGAIN: &[Session] = &[
+    Session {
+        sent: &[BALANCE, DEPOSIT, FLUSH, BALANCE, FLUSH],
+        ends: Ok(()),
+        told: &[SHOWN, DONE, SHOWN],
+    },
+    Session {
+        sent: &[OTHER, FLUSH],
+        ends: Ok(()),
+        told: &[MISMATCH],
+    },
+];
+
 #[test]
 fn asked_again_and_told_again(rt: HostRuntime) {
-    let first = good(
-        &[BALANCE, DEPOSIT, FLUSH, BALANCE, FLUSH],
-        &[SHOWN, DONE, SHOWN],
-    );
-    let second = good(&[OTHER, FLUSH], &[MISMATCH]);
-    expect_sessions(&rt, rt.alloc(), &[first, second], 2);
+    expect_sessions(&rt, rt.alloc(), ASKED_AGAIN, 2);
 }
+
+const NO_FLUSH_FOLLOWS: &[Session] = &[
+    Session {
+        sent: &[],
+        ends: Ok(()),
+        told: &[],
+    },
+    Session {
+        sent: &[BALANCE, FLUSH, DEPOSIT],
+        ends: Ok(()),
+        told: &[SHOWN],
+    },
+    Session {
+        sent: &[FLUSH, FLUSH],
+        ends: Ok(()),
+        told: &[],
+    },
+    // It's told when it asks again.
+    Session {
+        sent: &[DEPOSIT, FLUSH],
+        ends: Ok(()),
+        told: &[DONE],
+    },
+];
 
 #[test]
 fn asks_that_no_flush_follows(rt: HostRuntime) {
-    let first = good(&[BALANCE, FLUSH, DEPOSIT], &[SHOWN]);
-    // It's told when it asks again.
-    let second = good(&[DEPOSIT, FLUSH], &[DONE]);
-    let nothing = good(&[], &[]);
-    let flushes = good(&[FLUSH, FLUSH], &[]);
-    expect_sessions(&rt, rt.alloc(), &[nothing, first, flushes, second], 2);
+    expect_sessions(&rt, rt.alloc(), NO_FLUSH_FOLLOWS, 2);
 }
+
+const AN_ENTRY: &[Session] = &[
+    Session {
+        sent: &[BALANCE, FLUSH, DEPOSIT, ENTRY, FLUSH],
+        ends: Err(SessionFault::Unexpected),
+        told: &[SHOWN],
+    },
+    Session {
+        sent: &[DEPOSIT, FLUSH],
+        ends: Ok(()),
+        told: &[DONE],
+    },
+];
+
+const AN_OUTCOME: &[Session] = &[
+    Session {
+        sent: &[BALANCE, FLUSH, DEPOSIT, DONE, FLUSH],
+        ends: Err(SessionFault::Unexpected),
+        told: &[SHOWN],
+    },
+    Session {
+        sent: &[DEPOSIT, FLUSH],
+        ends: Ok(()),
+        told: &[DONE],
+    },
+];
 
 #[test]
 fn frames_that_no_client_sends(rt: HostRuntime) {
-    let after = good(&[DEPOSIT, FLUSH], &[DONE]);
-    for frame in [ENTRY, DONE] {
-        let first = Session {
-            sent: &[BALANCE, FLUSH, DEPOSIT, frame, FLUSH],
-            ends: Err(SessionFault::Unexpected),
-            told: &[SHOWN],
-        };
-        expect_sessions(&rt, rt.alloc(), &[first, after], 2);
-    }
+    expect_sessions(&rt, rt.alloc(), AN_ENTRY, 2);
+    expect_sessions(&rt, rt.alloc(), AN_OUTCOME, 2);
 }
 
-#[test]
-fn bytes_that_are_no_frame(rt: HostRuntime) {
-    let first = Session {
+const NO_FRAME: &[Session] = &[
+    Session {
         sent: &[BALANCE, FLUSH, b"GET / HTTP/1.1\r\n\r\n"],
         ends: Err(SessionFault::Frame(FrameFault::BadLength)),
         told: &[SHOWN],
-    };
-    let second = good(&[BALANCE, DEPOSIT, FLUSH], &[SHOWN, DONE]);
-    expect_sessions(&rt, rt.alloc(), &[first, second], 2);
+    },
+    Session {
+        sent: &[BALANCE, DEPOSIT, FLUSH],
+        ends: Ok(()),
+        told: &[SHOWN, DONE],
+    },
+];
+
+#[test]
+fn bytes_that_are_no_frame(rt: HostRuntime) {
+    expect_sessions(&rt, rt.alloc(), NO_FRAME, 2);
 }
 
 #[test]

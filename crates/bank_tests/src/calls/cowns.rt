@@ -98,6 +98,7 @@ fn balance(value: i64) -> Cents
     Cents::new(value).unwrap()
 }
 
+// The lemma says that a customer has two cowns, so these three are among the bank's.
 #[test]
 #[tactic(auto, using(sb_calls::proofs::Holding::two_cowns_a_customer))]
 fn balances_are_read_by_cown(rt: HostRuntime) {
@@ -109,6 +110,7 @@ fn balances_are_read_by_cown(rt: HostRuntime) {
     expect(&rt, held.as_slice() == wanted.as_slice(), "what they hold");
 }
 
+// Writes three of the cowns of three customers.
 #[tactic(auto, using(sb_calls::proofs::Holding::two_cowns_a_customer))]
 fn write_three(rt: &impl Abort, columns: &mut Columns) {
     assert!(rt; columns.customers() == 3);
