@@ -43,7 +43,7 @@ fn a_cut_settles_while_later_numbers_run(rt: HostRuntime) {
     settles(&rt, &mut bank, &alone);
 }
 
-// The columns of the cut are those of the other board, once only eight of after the cut are left.
+// Once only the last eight are left, which came after the cut, its columns are those of the other board.
 fn settles(rt: &impl Abort, bank: &mut Bank, alone: &Bank) {
     for _ in 0..1_016 {
         bank.has_no_cut_columns(rt);
