@@ -3,7 +3,7 @@ use Rattle.std.specs.Prelude.{◌≡◌, ℕ, Some, List, length, map, String, c
 use Rattle.std.specs.Str.Parse.{IsNumeral, digits_value, without_leading_plus}
 use Rattle.store_bench.specs.declared.payees.Payees.TheVariants.{One, Many}
 use Rattle.store_bench.specs.declared.words.Crewed.{Crewed}
-use Rattle.store_bench.specs.declared.words.Crewed.TheVariants.{InPlace, InThreads, Wait, Idle, Late, Held}
+use Rattle.store_bench.specs.declared.words.Crewed.TheVariants.{InPlace, InThreads, Wait, Held}
 use Rattle.store_bench.specs.declared.words.Action.{Action}
 use Rattle.store_bench.specs.declared.words.Action.TheVariants.{Drain, Write, Read}
 
@@ -23,8 +23,6 @@ module _ {A : Type 0} where
   Drains (InThreads workers steps calls) words = Asks words 5 (codes "workers")
       × Spells words 2 workers × Spells words 3 steps × Spells words 4 calls
   Drains (Wait workers) words = Asks words 3 (codes "wait") × Spells words 2 workers
-  Drains (Idle workers) words = Asks words 3 (codes "idle") × Spells words 2 workers
-  Drains (Late workers) words = Asks words 3 (codes "late") × Spells words 2 workers
   Drains (Held One calls) words = Asks words 3 (codes "one-customer") × Spells words 2 calls
   Drains (Held Many calls) words = Asks words 3 (codes "many-customers") × Spells words 2 calls
 

@@ -9,20 +9,11 @@ use crate::in_place::InPlace;
 use crate::measured::Measured;
 use crate::payees::Payees;
 use crate::words::Crewed;
-use cown_workers::{Crew, Gate, OpenGate, with_crew};
+use cown_workers::{Crew, Gate, with_crew};
 use std::alloc::Global;
 use std::sync::Wait;
-use std::thread;
 use std::thread::Threads;
 use std::time::{Clock, Duration, Instant};
-
-/// For how many seconds a crew is given nothing at all.
-const IDLE: u64 = 10;
-
-/// For how many milliseconds it is given nothing before each late call, and how many such calls there are.
-const PAUSE: u64 = 200;
-
-const LATE_CALLS: u32 = 50;
 
 /// Has a crew carry out calls on the board of a bank. It comes to how many calls there were, and the bank's total.
 pub(crate) fn drain_calls<R: Threads + Wait + Clock + Sync>(
@@ -53,8 +44,6 @@ fn time_of<R: Threads + Wait + Clock + Sync>(
         Crewed::Wait { workers } => {
             in_threads(rt, alloc, few(workers)?, &Waiting { clock: rt }, bank, 1)
         }
-        Crewed::Idle { workers } => idle(rt, alloc, few(workers)?),
-        Crewed::Late { workers } => late_in_threads(rt, alloc, few(workers)?, bank),
     }
 }
 
@@ -129,46 +118,6 @@ where
         bank.deposit(crew, Payees::Many, calls)
     })??;
     Ok(start.elapsed(rt)?)
-}
-
-// So many workers, who have nothing to do.
-fn idle<R: Threads + Wait + Clock + Sync>(
-    rt: &R,
-    alloc: Global,
-    workers: usize,
-) -> Result<Duration, Fault>
-    requires some { 1 ≤ workers }
-    requires few { workers ≤ 16 }
-{
-    let start = Instant::now(rt)?;
-    with_crew(rt, alloc, workers, &OpenGate, |_| {
-        thread::sleep(rt, Duration::from_secs(IDLE))
-    })?;
-    Ok(start.elapsed(rt)?)
-}
-
-// So many workers, who have nothing to do before each call. The time is that of the calls alone.
-fn late_in_threads<R: Threads + Wait + Clock + Sync>(
-    rt: &R,
-    alloc: Global,
-    workers: usize,
-    bank: &mut Bank,
-) -> Result<Duration, Fault>
-    requires some { 1 ≤ workers }
-    requires few { workers ≤ 16 }
-{
-    with_crew(rt, alloc, workers, &OpenGate, move |crew| {
-        late(rt, bank, crew)
-    })?
-}
-
-fn late(clock: &impl Clock, bank: &mut Bank, crew: &mut impl Crew) -> Result<Duration, Fault> {
-    let mut time = Duration::ZERO;
-    for _ in 0..LATE_CALLS {
-        thread::sleep(clock, Duration::from_millis(PAUSE));
-        time = time.saturating_add(deposit(clock, crew, bank, Payees::Many, 1)?);
-    }
-    Ok(time)
 }
 
 // What the calls came to that took so long, if they were carried out.

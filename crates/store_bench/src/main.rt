@@ -23,8 +23,7 @@ mod payees;
 mod words;
 
 const USAGE: &str = "usage: store_bench none STEPS CALLS | workers WORKERS STEPS CALLS
-     | wait WORKERS | idle WORKERS | late WORKERS | one-customer CALLS | many-customers CALLS
-     | write COUNT | read COUNT";
+     | wait WORKERS | one-customer CALLS | many-customers CALLS | write COUNT | read COUNT";
 
 fn main(rt: HostRuntime) -> ExitCode {
     let action = match action(&rt) {

@@ -3,7 +3,7 @@
 use std::time::Duration;
 
 /// What is printed of an action, and the time of its measured part.
-#[derive(Clone, Copy, Debug)]
+#[derive(Clone, Copy)]
 pub struct Measured {
     /// How many calls there were, or how many bytes or replies a checkpoint has.
     pub length: u64,

@@ -7,7 +7,7 @@ ghost use Rattle.store_bench.specs.Deposits.{payee_of};
 pub const PAYEES: u32 = 1_024;
 
 /// Who gets the deposits.
-#[derive(Clone, Copy, Debug, PartialEq, Eq)]
+#[derive(Clone, Copy)]
 pub enum Payees {
     /// One customer: each deposit waits for the one before.
     One,

@@ -5,7 +5,7 @@ ghost use Rattle.store_bench.specs.Actions.{Asks, Drains, Says, Spells};
 use crate::payees::Payees;
 
 /// What is measured.
-#[derive(Clone, Copy, Debug, PartialEq, Eq)]
+#[derive(Clone, Copy)]
 pub enum Action {
     /// A crew drains a board.
     Drain(Crewed),
@@ -16,7 +16,7 @@ pub enum Action {
 }
 
 /// Which crew carries out which calls.
-#[derive(Clone, Copy, Debug, PartialEq, Eq)]
+#[derive(Clone, Copy)]
 pub enum Crewed {
     /// So many calls are carried out in place, each after so many steps at the gate.
     InPlace {
@@ -31,14 +31,6 @@ pub enum Crewed {
     },
     /// One of so many workers carries one call out, and waits for a second at the gate.
     Wait {
-        workers: usize,
-    },
-    /// So many workers have nothing to do for ten seconds.
-    Idle {
-        workers: usize,
-    },
-    /// So many workers carry fifty calls out, each of which comes once they had nothing to do for 0.2 seconds.
-    Late {
         workers: usize,
     },
     /// A crew that holds sixteen jobs carries so many calls out, without threads.
@@ -100,12 +92,6 @@ fn threads(words: &[String]) -> Option<Crewed>
     let workers = number(words, 2)? as usize;
     if asks(words, 3, "wait") {
         return Some(Crewed::Wait { workers });
-    }
-    if asks(words, 3, "idle") {
-        return Some(Crewed::Idle { workers });
-    }
-    if asks(words, 3, "late") {
-        return Some(Crewed::Late { workers });
     }
     if asks(words, 5, "workers") {
         let steps = number(words, 3)?;
