@@ -1,5 +1,5 @@
 -- Two replicas are compared.
-use Rattle.std.proofs.Common.{◌≡◌, ◌≢◌, ◌<◌, true, ℕ, Bool, Some, List, length, sym, ap, subst, ◌∙◌, arith}
+use Rattle.std.proofs.Common.{◌≡◌, ◌≢◌, ◌<◌, true, ℕ, Bool, Some, List, length, refl, sym, ap, subst, ◌∙◌, arith}
 use Rattle.std.specs.Prelude.{slice_get, ◌==◌, if◌then◌else◌}
 use Rattle.std.specs.List.{slice_index_or}
 use Rattle.std.proofs.lemmas.Bool.{eq-eqb, ne_eqb}
@@ -7,7 +7,7 @@ use Rattle.cown_board.specs.Board.{length_of, open_of}
 use Rattle.schedule_player.specs.Bank.{BankOf}
 use Rattle.schedule_player.specs.NodeAlong.{seen_node, IsNodeAt}
 use Rattle.schedule_player.specs.ReplicaMoves.{NodeOf, length_in, undone_in}
-use Rattle.schedule_player.specs.World.{WorldOf, bank_of, books_after, compared}
+use Rattle.schedule_player.specs.World.{WorldOf, adds_up, audited, bank_of, books_after, compared, may_take_memory}
 use Rattle.schedule_player.specs.WorldAlong.{IsWorld}
 use Rattle.schedule_player.specs.declared.node.Node.{Node}
 use Rattle.schedule_text.specs.declared.note.AuditNote.{AuditNote}
@@ -86,3 +86,11 @@ module _ (bank : BankOf) (a b : ℕ) (first second : Node) (is_a : IsNodeAt bank
       ∙ ap (λ t. with_tests true true t) (sym (eq-eqb (length_in one) (length_in other) same))
       ∙ ap (λ t. with_tests true t (length_in one == length_in other)) (sym (eq-eqb (undone_in other) 0 (undone_other ∙ also)))
       ∙ ap (λ t. with_tests t (undone_in other == 0) (length_in one == length_in other)) (sym (eq-eqb (undone_in one) 0 (undone_one ∙ idle)))
+
+-- two idle replicas of one length are compared with the books
+pub adds_books : (now : WorldOf) (a b : ℕ) (first second : Node) → LookedUp now a first → LookedUp now b second → open_of first.replica.board ≡ 0
+    → open_of second.replica.board ≡ 0 → length_of first.replica.board ≡ length_of second.replica.board
+    → may_take_memory (audited (bank_of now) a b (slice_get now.nodes a) (slice_get now.nodes b)) ≡ true
+adds_books now a b first second look_a look_b idle also alike =
+    (λ j. may_take_memory (audited (bank_of now) a b (look_a.seen j) (look_b.seen j)))
+    ∙ ap adds_up (sym (same_length (bank_of now) a b first second look_a.along look_b.along (length_of first.replica.board) idle also refl alike))

@@ -19,7 +19,7 @@ nothing_held : (held : List (Option Op)) → held ≡ empty_held → held ≡ re
 unfolding empty_held
 nothing_held held is = is
 
-after_first : {A : Type 0} (xs : List A) (k : ℕ) → slice_get (drop 1 xs) k ≡ slice_get xs (suc k)
+pub after_first : {A : Type 0} (xs : List A) (k : ℕ) → slice_get (drop 1 xs) k ≡ slice_get xs (suc k)
 after_first [] k = refl
 after_first (x ∷ xs) k = refl
 

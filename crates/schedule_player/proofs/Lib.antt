@@ -8,6 +8,7 @@ pub mod FinalStates
 pub mod Finishing
 pub mod HeardFrames
 pub mod HeldEntries
+pub mod Keeping
 pub mod Lists
 pub mod LogParts
 pub mod LongerLogs
@@ -18,6 +19,7 @@ pub mod Offering
 pub mod Opening
 pub mod Playing
 pub mod Recorded
+pub mod Replicated
 pub mod Runnable
 pub mod SeenReplies
 pub mod SentEntries
@@ -26,5 +28,6 @@ pub mod Sharing
 pub mod Stages
 pub mod Storing
 pub mod Telling
+pub mod Within
 pub mod Working
 pub mod Worlds

@@ -80,6 +80,10 @@ drop_one {A = A} xs k x here = let e : k + 1 ≡ suc k = omega arith in by xs k 
     by (y ∷ ys) zero first = ap (λ z. z ∷ ys) (some_is first)
     by (y ∷ ys) (suc n) later = by ys n later
 
+pub every_copies : {A : Type 0} (P : A → Type 0) (n : ℕ) (x : A) → P x → Every P (copies n x)
+every_copies P zero x is = every_nil P
+every_copies P (suc n) x is = every_cons P x (copies n x) is (every_copies P n x is)
+
 pub every_numbered : {A : Type 0} (P : A → Type 0) (xs : List A) (n : ℕ) (x : A) → Every P xs → numbered xs n ≡ Some x → P x
 every_numbered P xs zero x all here = absurd (none_some here)
 every_numbered P xs (suc k) x all here = all k x here

@@ -112,8 +112,8 @@ module _ (names : List (List ℕ)) (opening : Balances) (s : SequencerOf) (nodes
           ∙ ap (λ ns. (record (world_of names opening s nodes) { nodes = ns }, note.Nothing)) (set_here (map seen_node nodes) r node here)
 
 -- what holds anyway holds where it failed
-pub on_err : {P : Type 0} (result : Result Note StepFault) → P → OnErr result P
-on_err (Ok n) p = tt
+pub on_err : {A P : Type 0} (result : Result A StepFault) → P → OnErr result P
+on_err (Ok x) p = tt
 on_err (Err fault) p = p
 
 pub err_so : {P Q : Type 0} (result : Result Note StepFault) → (P → Q) → OnErr result P → OnErr result Q

@@ -1,6 +1,6 @@
 -- What is seen of a world, beside its log.
 use Rattle.std.proofs.Common.{◌≡◌, ◌≢◌, true, false, ℕ, Option, Some, None, refl, sym, ap, subst, ◌∙◌}
-use Rattle.std.specs.Prelude.{slice_get, ◌==◌, IfSome, MatchOption}
+use Rattle.std.specs.Prelude.{slice_get, option_and_then, option_map, ◌==◌, IfSome, MatchOption}
 use Rattle.std.proofs.lemmas.Bool.{eq-eqb, ne_eqb, eqb-true}
 use Rattle.cown_board.specs.Board.{length_of, open_of, reply_in, IsAfterAll}
 use Rattle.sb_calls.specs.Behaviour.{declared_cowns, effect_of}
@@ -10,8 +10,8 @@ use Rattle.schedule_player.specs.Bank.{BankOf, log_reply}
 use Rattle.schedule_player.specs.Books.{IsRowsAt}
 use Rattle.schedule_player.specs.NodeAlong.{seen_node}
 use Rattle.schedule_player.specs.Numbered.{numbered}
-use Rattle.schedule_player.specs.Observed.{length_if, length_at, idle_if, idle_at, reply_if, reply_at}
-use Rattle.schedule_player.specs.ReplicaMoves.{NodeOf, undone_in}
+use Rattle.schedule_player.specs.Observed.{length_at, idle_if, idle_at, reply_at}
+use Rattle.schedule_player.specs.ReplicaMoves.{NodeOf, length_in, reply_in_node, undone_in}
 use Rattle.schedule_player.specs.World.{WorldOf, bank_of}
 use Rattle.schedule_player.specs.declared.node.Node.{Node}
 use Rattle.schedule_player.proofs.Books.{idle_rows}
@@ -24,7 +24,7 @@ use Rattle.schedule_player.proofs.Telling.{reply_seen, held_by_log}
 pub held_is_logged : (world : WorldOf) (r n : ℕ) (reply : Reply) → reply_at world r n ≡ Some reply → log_reply (bank_of world) n ≡ Some reply
 held_is_logged world r n reply held = by (slice_get world.nodes r) held
   where
-    by : (found : Option NodeOf) → reply_if world n found ≡ Some reply → log_reply (bank_of world) n ≡ Some reply
+    by : (found : Option NodeOf) → option_and_then (λ node. reply_in_node (bank_of world) node n) found ≡ Some reply → log_reply (bank_of world) n ≡ Some reply
     by None none = absurd (none_some none)
     by (Some node) some = held_by_log (bank_of world) n (numbered node.stages n) reply some
 
@@ -35,11 +35,11 @@ observed_reply world r n (Some reply) bank is same = subst (λ b. log_reply b n 
 
 module _ (world : WorldOf) (r : ℕ) (node : Node) (found : LookedUp world r node) where
   pub reply_here : (n : ℕ) (answer : Option Reply) → answer ≡ reply_in node.replica.board n → answer ≡ reply_at world r n
-  reply_here n answer is = is ∙ reply_seen (bank_of world) r node n found.along ∙ sym (ap (reply_if world n) found.seen)
+  reply_here n answer is = is ∙ reply_seen (bank_of world) r node n found.along ∙ sym (ap (option_and_then (λ seen. reply_in_node (bank_of world) seen n)) found.seen)
 
   pub length_here : (size : ℕ) → size ≡ length_of node.replica.board → length_at world r ≡ Some size
   length_here size is =
-      ap length_if found.seen
+      ap (option_map length_in) found.seen
       ∙ ap (λ n. Some n) (length_stages node.replica.board found.along.board.states ∙ sym is)
 
   undone : undone_in (seen_node node) ≡ open_of node.replica.board

@@ -18,16 +18,17 @@ use Rattle.sb_sequencer.specs.Entries.{entry_of, resent}
 use Rattle.sb_sequencer.specs.Notes.{kept_at}
 use Rattle.schedule_player.specs.Bank.{BankOf}
 use Rattle.schedule_player.specs.Numbered.{numbered}
-use Rattle.schedule_player.specs.Played.{Plays, IsPlayed}
+use Rattle.schedule_player.specs.Played.{IsPlayed}
 use Rattle.schedule_player.specs.Readiness.{runnable}
 use Rattle.schedule_player.specs.ReplicaMoves.{NodeOf, length_in, undone_in, told_reply, answered, reply_in_node, sent, sent_all, frame_comes, delivered_to, next_taken, advanced, goes_out, reaches_out, taken, emptied, comes_back, gives_back, finished_by, cut_after, cut_off, undone_up_to, marked_to, marked, restarted, acknowledged}
 use Rattle.schedule_player.specs.Stage.{Stage, Waits, IsOut, IsDone}
 use Rattle.schedule_player.specs.TrueToLog.{IsTold, RecordsWereTold}
-use Rattle.schedule_player.specs.World.{WorldOf, Asks, Moves, bank_of, moved, moved_if, moved_at, keeps, told, heard_from, opened_world}
+use Rattle.schedule_player.specs.World.{WorldOf, Asks, bank_of, moved, moved_if, moved_at, keeps, told, heard_from, opened_world}
 use Rattle.schedule_text.specs.declared.event.Event.{Event}
 use Rattle.schedule_text.specs.declared.event.Event.TheVariants as event
 use Rattle.schedule_text.specs.declared.note.Note.{Note}
 use Rattle.schedule_text.specs.declared.note.Note.TheVariants as note
+use Rattle.schedule_player.proofs.Keeping.{all_keep}
 use Rattle.schedule_player.proofs.Lists.{some_is, none_some}
 use Rattle.schedule_player.proofs.Working.{next_by, entry_by, mark_by}
 
@@ -218,34 +219,6 @@ records_asked old ask (note.Mismatch n) new asks were = subst RecordsWereTold (s
 records_asked old ask note.LogFull new asks were = subst RecordsWereTold (sym asks.1) were
 records_asked old ask other new asks were = absurd asks
 
-by_moved : (old : WorldOf) (happens : Event) (n : Note) (new : WorldOf) → moved old happens ≡ (new, n) → RecordsWereTold old → RecordsWereTold new
-by_moved old happens n new e were = subst (λ m. RecordsWereTold m.0) e (records_moved old happens were)
-
-records_one : (old : WorldOf) (happens : Event) (n : Note) (new : WorldOf) → Moves old happens n new → RecordsWereTold old → RecordsWereTold new
-records_one old (event.Ask client request call) n new moves were =
-    records_asked old (record { client = client; request = request }, call) n new moves were
-records_one old (event.Send r k) n new moves were = by_moved old (event.Send r k) n new moves were
-records_one old (event.Resend r) n new moves were = by_moved old (event.Resend r) n new moves were
-records_one old (event.To r place) n new moves were = by_moved old (event.To r place) n new moves were
-records_one old (event.Ack r) n new moves were = by_moved old (event.Ack r) n new moves were
-records_one old (event.Answer r k) n new moves were = by_moved old (event.Answer r k) n new moves were
-records_one old (event.From r place) n new moves were = by_moved old (event.From r place) n new moves were
-records_one old (event.Take r worker index) n new moves were = by_moved old (event.Take r worker index) n new moves were
-records_one old (event.Finish r worker) n new moves were = by_moved old (event.Finish r worker) n new moves were
-records_one old (event.Mark r end) n new moves were = by_moved old (event.Mark r end) n new moves were
-records_one old (event.Restart r) n new moves were = by_moved old (event.Restart r) n new moves were
-records_one old (event.Cut r) n new moves were = by_moved old (event.Cut r) n new moves were
-records_one old (event.Next r) n new moves were = by_moved old (event.Next r) n new moves were
-records_one old (event.Audit a b) n new moves were = by_moved old (event.Audit a b) n new moves were
-
-records_all : (old : WorldOf) (events : List Event) (notes : List Note) (new : WorldOf) → Plays old events notes new → RecordsWereTold old
-    → RecordsWereTold new
-records_all old [] [] new plays were = subst RecordsWereTold (sym plays) were
-records_all old [] (n ∷ notes) new plays were = absurd plays
-records_all old (happens ∷ events) [] new plays were = absurd plays
-records_all old (happens ∷ events) (n ∷ notes) new plays were =
-    records_all plays.0 events notes new plays.2 (records_one old happens n plays.0 plays.1 were)
-
 zero_at : (n k size : ℕ) → slice_get (replicate n 0) k ≡ Some size → size ≡ 0
 zero_at zero k size here = absurd (none_some here)
 zero_at (suc n) zero size here = sym (some_is here)
@@ -254,5 +227,5 @@ zero_at (suc n) (suc k) size here = zero_at n k size here
 pub records_played : (names : List (List ℕ)) (opening : Balances) (nodes workers : ℕ) (events : List Event) (world : WorldOf)
     → IsPlayed names opening nodes workers events world → RecordsWereTold world
 records_played names opening nodes workers events world played =
-    records_all (opened_world names opening nodes workers) events played.notes world played.plays
+    all_keep RecordsWereTold records_moved records_asked (opened_world names opening nodes workers) events played.notes world played.plays
     (λ r node size there recorded. inl (zero_at nodes r size recorded))

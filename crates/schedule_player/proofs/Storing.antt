@@ -1,5 +1,5 @@
 -- A replica puts its checkpoint, and goes back to it.
-use Rattle.std.proofs.Common.{◌≡◌, inl, inr, ℕ, ℤ, Option, Some, None, Result, Ok, Err, List, [], ◌∷◌, length, map, refl, sym, ap, subst, ◌∙◌, arith}
+use Rattle.std.proofs.Common.{◌≡◌, inl, inr, true, ℕ, ℤ, Option, Some, None, Result, Ok, Err, List, [], ◌∷◌, length, map, refl, sym, ap, subst, ◌∙◌, arith}
 use Rattle.std.specs.Prelude.{◌≢◌, is_some, if◌then◌else◌}
 use Rattle.std.proofs.lemmas.Bool.{eq-eqb, ne_eqb}
 use Rattle.cown_board.proofs.PlacesLaws.{append_nothing}
@@ -38,6 +38,7 @@ use Rattle.schedule_player.specs.Stage.{IsDone}
 use Rattle.schedule_player.specs.declared.node.Node.{Node}
 use Rattle.schedule_text.specs.declared.note.Note.{Note}
 use Rattle.schedule_text.specs.declared.note.Note.TheVariants as note
+use Rattle.schedule_player.specs.World.{may_take_memory}
 use Rattle.schedule_player.proofs.Along.{along_opened}
 use Rattle.schedule_player.proofs.Cuts.{along_cut, along_uncut, marked_along, marks_as}
 use Rattle.schedule_player.proofs.HeldEntries.{none_along, none_seen}
@@ -45,6 +46,7 @@ use Rattle.schedule_player.proofs.Lists.{some_is, none_some}
 use Rattle.schedule_player.proofs.NodeMoves.{KeepsBeside, node_stored}
 use Rattle.schedule_player.proofs.SeenReplies.{checkpoint_along, columns_along}
 use Rattle.schedule_player.proofs.Stages.{length_stages}
+use Rattle.schedule_player.proofs.Working.{puts}
 
 -- ---- columns that hold the same are the same
 
@@ -260,6 +262,13 @@ marks_busy bank r old end new is (busy, same) =
     (ap (λ x. stages_of x.board) same) (ap (λ x. x.held) same)
     (subst (λ x. IsKeptAlong bank x.store.slot) (sym same) is.kept) (ap (λ x. kept_in x.store.slot) same)
     (busy_marks bank r old end is busy ∙ ap (λ x. (record (seen_node old) { cut = x.board.cut }, note.Unfinished)) (sym same))
+
+-- memory is wanted only for a checkpoint that is put
+pub wants_marked : (bank : BankOf) (r : ℕ) (old : Node) (end : How) (new : ReplicaOf MemoryStoreOf) → IsNodeAt bank r old
+    → IsMarkFaultOf Does (told_of old.replica end) fault.OutOfMemory new → may_take_memory (marked (seen_node old) end).1 ≡ true
+wants_marked bank r old end new is refused =
+    ap (λ moved. may_take_memory moved.1) (idle_marks bank r old end is refused.0)
+    ∙ puts (seen_node old) (length_of (up_to_cut old.replica.board)) end
 
 -- ---- going back
 

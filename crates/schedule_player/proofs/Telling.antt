@@ -1,5 +1,5 @@
 -- A replica tells, and hears.
-use Rattle.std.proofs.Common.{◌≡◌, ℕ, zero, suc, ◌≤◌, Option, Some, None, Result, Ok, Err, List, [], ◌∷◌, ◌++◌, length, refl, sym, ap, subst, ◌∙◌, arith}
+use Rattle.std.proofs.Common.{◌≡◌, true, ℕ, zero, suc, ◌≤◌, Option, Some, None, Result, Ok, Err, List, [], ◌∷◌, ◌++◌, length, refl, sym, ap, subst, ◌∙◌, arith}
 use Rattle.std.specs.Prelude.{option_map, if◌then◌else◌}
 use Rattle.std.proofs.lemmas.Bool.{eq-eqb}
 use Rattle.std.proofs.lemmas.List.{length-append}
@@ -17,8 +17,10 @@ use Rattle.sb_frames.specs.declared.fault.FrameFault.{FrameFault}
 use Rattle.sb_frames.specs.declared.fault.FrameFault.TheVariants.{BadLength}
 use Rattle.sb_frames.specs.declared.frame.Frame.{Frame}
 use Rattle.sb_frames.specs.declared.frame.Frame.TheVariants as frame
-use Rattle.sb_replica.specs.Hearing.{all_of, whole_frame, heard_of, heard, heard_next, after_frame, Hears}
+use Rattle.sb_replica.specs.Hearing.{all_of, whole_frame, heard_of, heard, heard_next, after_frame, Hears, IsHearingFault}
 use Rattle.sb_replica.specs.Replica.{ReplicaOf, log_of, with_log}
+use Rattle.sb_replica.specs.declared.fault.ReplicaFault.{ReplicaFault}
+use Rattle.sb_replica.specs.declared.fault.ReplicaFault.TheVariants.{BadFrame, OutOfMemory}
 use Rattle.sb_replica.specs.declared.heard.Heard.{Heard}
 use Rattle.sb_replica_log.specs.Log.{LogOf}
 use Rattle.sb_replica_log.specs.Offers.{offered, after_offer, after_advance}
@@ -28,11 +30,12 @@ use Rattle.schedule_player.specs.Numbered.{numbered, Every}
 use Rattle.schedule_player.specs.ReplicaMoves.{NodeOf, tells, acknowledged, answered, told_reply, reply_held, reply_in_node, frame_comes, delivered_to, advanced, note_of_heard}
 use Rattle.schedule_player.specs.Seen.{stages_of, ops_of}
 use Rattle.schedule_player.specs.Stage.{Stage, Waits, IsOut, IsDone}
+use Rattle.schedule_player.specs.World.{may_take_memory}
 use Rattle.schedule_player.specs.declared.node.Node.{Node}
 use Rattle.schedule_text.specs.declared.note.Note.{Note}
 use Rattle.schedule_text.specs.declared.note.Note.TheVariants as note
 use Rattle.schedule_player.proofs.Finishing.{reply_by_names}
-use Rattle.schedule_player.proofs.Lists.{some_is, none_some, every_push}
+use Rattle.schedule_player.proofs.Lists.{some_is, none_some, every_push, every_numbered}
 use Rattle.schedule_player.proofs.NodeMoves.{node_stored}
 use Rattle.schedule_player.proofs.Offering.{IsLogAlong, offer_along, advance_along, seeing, entry_alike, note_if, advance_alike}
 use Rattle.schedule_player.proofs.SeenReplies.{reply_if_done, reply_as_seen, within_log}
@@ -138,7 +141,7 @@ whole_spelled sent bytes spelled =
 ok_is : {x y : Frame} → ◌≡◌ {A = Result Frame FrameFault} (Ok x) (Ok y) → x ≡ y
 ok_is h = cc
 
-number_within : (calls : List Call) (n : ℕ) (call : Call) → numbered calls n ≡ Some call → n ≤ length calls
+pub number_within : (calls : List Call) (n : ℕ) (call : Call) → numbered calls n ≡ Some call → n ≤ length calls
 number_within calls zero call here = absurd (none_some here)
 number_within calls (suc k) call here = let lt = slice_get_within calls k call here in omega (arith, lt)
 
@@ -184,6 +187,27 @@ delivers bank r old new place bytes sent answer is here spelled hears =
         (ap (frame_comes (seen_node old)) (here ∙ ap (λ f. Some f) entry.frame_is)
         ∙ entry_alike (seen_node old) log op n is.board.states (omega (arith, inside, few))
         ∙ ap (λ a. (seeing (seen_node old) (after_offer log op (offered log.board n)), note_of_heard a)) (sym answer_is))
+
+ok_err : {x : Frame} {f : FrameFault} → ◌≡◌ {A = Result Frame FrameFault} (Ok x) (Err f) → ⊥
+ok_err h = cc
+
+-- memory is wanted only for an entry that is accepted
+pub wants_delivered : (bank : BankOf) (r : ℕ) (old : Node) (place : ℕ) (bytes : List ℕ) (sent : Frame) (why : ReplicaFault)
+    → IsNodeAt bank r old → numbered old.inbound place ≡ Some sent → Spells sent bytes → IsHearingFault old.replica bytes why
+    → may_take_memory (delivered_to (seen_node old) place).1 ≡ true
+wants_delivered bank r old place bytes sent (BadFrame bad) is here spelled refused =
+    absurd (ok_err (sym (whole_spelled sent bytes spelled) ∙ refused))
+wants_delivered bank r old place bytes sent OutOfMemory is here spelled refused =
+    let entry = every_numbered (IsEntryOf bank) old.inbound place sent is.inbound here in
+    let same : sent ≡ refused.0 = ok_is (sym (whole_spelled sent bytes spelled) ∙ refused.2) in
+    let n = entry.number in
+    let log = log_of old.replica in
+    let few = is.few in
+    let inside = number_within bank.calls n entry.call entry.in_log in
+    ap (λ f. may_take_memory (frame_comes (seen_node old) f).1) (here ∙ ap (λ f. Some f) entry.frame_is)
+    ∙ ap (λ moved. may_take_memory moved.1)
+    (entry_alike (seen_node old) log (resolved bank.names entry.call) n is.board.states (omega (arith, inside, few)))
+    ∙ ap (λ answer. may_take_memory (note_of_heard answer)) (ap (heard old.replica.board) (sym entry.frame_is ∙ same) ∙ refused.3)
 
 -- ---- taking what is held
 

@@ -5,6 +5,8 @@ use Rattle.std.specs.List.{All}
 use Rattle.std.proofs.lemmas.List.{length-replicate}
 use Rattle.std.proofs.lemmas.Option.{slice_get-map}
 use Rattle.std.proofs.lemmas.List.Elements.{All-replicate}
+use Rattle.sb_calls.specs.Cowns.{held_of}
+use Rattle.sb_calls.specs.Op.{resolved}
 use Rattle.sb_calls.specs.declared.call.TheConstants.{LOG_CALLS}
 use Rattle.sb_rows.specs.Balances.{Balances}
 use Rattle.sb_rows.specs.Rows.{SameCustomers}
@@ -12,14 +14,16 @@ use Rattle.sb_sequencer.specs.Sequencer.{SequencerOf, opened}
 use Rattle.schedule_player.specs.Bank.{BankOf}
 use Rattle.schedule_player.specs.NodeAlong.{IsEntryOf, IsToldBy, IsNodeAt, seen_node}
 use Rattle.schedule_player.specs.Numbered.{copies, Every}
-use Rattle.schedule_player.specs.ReplicaMoves.{NodeOf, opened_node}
+use Rattle.schedule_player.specs.ReplicaMoves.{NodeOf, length_in, opened_node}
+use Rattle.schedule_player.specs.Seen.{ops_of}
 use Rattle.schedule_player.specs.TrueToLog.{IsTrueToLog}
 use Rattle.schedule_player.specs.World.{bank_with}
 use Rattle.schedule_player.specs.WorldAlong.{IsWorld}
 use Rattle.schedule_player.specs.declared.node.Node.{Node}
 use Rattle.schedule_player.proofs.Lists.{some_is, none_some}
 use Rattle.schedule_player.proofs.Moving.{world_of}
-use Rattle.schedule_player.proofs.Stages.{length-map}
+use Rattle.schedule_player.proofs.SeenReplies.{within_log}
+use Rattle.schedule_player.proofs.Stages.{length-map, length_stages}
 
 length-copies : {A : Type 0} (n : ℕ) (x : A) → length (copies n x) ≡ n
 length-copies zero x = refl
@@ -71,6 +75,14 @@ pub true_to_log : (names : List (List ℕ)) (opening : Balances) (s : SequencerO
 true_to_log names opening s nodes is =
     let bank = bank_with names opening s.log in
     record {
+      within = λ r one here.
+          let found = seen_is bank nodes r one is.each here in
+          let board = found.0.replica.board in
+          let size = length_stages board found.1.board.states in
+          let fits = within_log (held_of opening) (ops_of bank) board found.1.board in
+          let ops = length-map (resolved names) bank.calls in
+          let calls = length-map (λ entry. entry.1) s.log in
+          subst (λ n. length_in n ≤ length s.log) found.2 (omega (arith, size, fits, ops, calls));
       inbound = λ r one here.
           let found = seen_is bank nodes r one is.each here in
           subst (λ n. Every (IsEntryOf bank) n.inbound) found.2 found.1.inbound;

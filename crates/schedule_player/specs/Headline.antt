@@ -1,25 +1,33 @@
--- The replication theorem, as laws over every list of events.
-use Rattle.std.specs.Prelude.{◌≡◌, ℕ, Some, List}
+-- The replication theorem, as one law over every list of events.
+use Rattle.std.specs.Prelude.{◌≡◌, ℕ, ◌≤◌, Some, List, length, slice_get}
 use Rattle.sb_rows.specs.Balances.{Balances}
 use Rattle.sb_calls.specs.declared.reply.Reply.{Reply}
 use Rattle.schedule_player.specs.Bank.{log_reply}
-use Rattle.schedule_player.specs.Observed.{reply_at}
+use Rattle.schedule_player.specs.Numbered.{numbered}
+use Rattle.schedule_player.specs.Observed.{length_at, reply_at}
 use Rattle.schedule_player.specs.Played.{IsPlayed, bank_after, log_of}
+use Rattle.schedule_player.specs.ReplicaMoves.{NodeOf}
+use Rattle.schedule_player.specs.Stage.{IsDone}
 use Rattle.schedule_player.specs.World.{WorldOf}
 use Rattle.schedule_text.specs.declared.event.Event.{Event}
 
--- after whatever events from an opening, any two replicas that hold a reply to a number hold the same one, the reply
--- that running the first asks one by one gives it
-abbrev pub Agreement : Type 0
-Agreement = (names : List (List ℕ)) (opening : Balances) (nodes workers : ℕ) (events : List Event) (world : WorldOf)
-    → IsPlayed names opening nodes workers events world
-    → (a b number : ℕ) (one other : Reply)
-    → reply_at world a number ≡ Some one → reply_at world b number ≡ Some other
-    → (one ≡ other) × (log_reply (bank_after names opening events) number ≡ Some one)
+-- a world is beside these events
+pub record IsReplicated (names : List (List ℕ)) (opening : Balances) (events : List Event) (world : WorldOf) : Type 0 where
+  -- the log is the first asks of the events
+  pub log : world.sequencer.log ≡ log_of events
+  -- any two replicas that hold a reply to a number hold the same one
+  pub agree : (a b number : ℕ) (one other : Reply)
+      → reply_at world a number ≡ Some one → reply_at world b number ≡ Some other → one ≡ other
+  -- it is the reply that running the log one by one gives
+  pub by_log : (r number : ℕ) (reply : Reply) → reply_at world r number ≡ Some reply
+      → log_reply (bank_after names opening events) number ≡ Some reply
+  -- a replica holds one to each number that is done at it
+  pub replied : (r number : ℕ) (node : NodeOf) → slice_get world.nodes r ≡ Some node
+      → numbered node.stages number ≡ Some IsDone → (reply : Reply) × (reply_at world r number ≡ Some reply)
+  -- and has at most as many entries as the log
+  pub within : (r size : ℕ) → length_at world r ≡ Some size → size ≤ length (log_of events)
 
--- after whatever events from an opening, the log is the first asks of these events
-abbrev pub LogOfFirstAsks : Type 0
-LogOfFirstAsks = (names : List (List ℕ)) (opening : Balances) (nodes workers : ℕ) (events : List Event)
-    (world : WorldOf)
-    → IsPlayed names opening nodes workers events world
-    → world.sequencer.log ≡ log_of events
+-- after whatever events from an opening
+abbrev pub Replication : Type 0
+Replication = (names : List (List ℕ)) (opening : Balances) (nodes workers : ℕ) (events : List Event) (world : WorldOf)
+    → IsPlayed names opening nodes workers events world → IsReplicated names opening events world

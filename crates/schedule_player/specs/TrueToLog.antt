@@ -1,5 +1,5 @@
 -- What is so of every world, whatever happened.
-use Rattle.std.specs.Prelude.{◌≡◌, ◌⊎◌, ℕ, suc, Some, List, slice_get}
+use Rattle.std.specs.Prelude.{◌≡◌, ◌⊎◌, ℕ, suc, ◌≤◌, Some, List, length, slice_get}
 use Rattle.sb_rows.specs.Balances.{Balances}
 use Rattle.sb_calls.specs.declared.reply.Reply.{Reply}
 use Rattle.sb_frames.specs.declared.frame.Frame.TheVariants as frame
@@ -7,13 +7,16 @@ use Rattle.schedule_player.specs.Bank.{log_reply}
 use Rattle.schedule_player.specs.NodeAlong.{IsEntryOf, IsToldBy}
 use Rattle.schedule_player.specs.Numbered.{Every}
 use Rattle.schedule_player.specs.Played.{IsPlayed}
-use Rattle.schedule_player.specs.ReplicaMoves.{NodeOf}
+use Rattle.schedule_player.specs.ReplicaMoves.{NodeOf, length_in}
 use Rattle.schedule_player.specs.World.{WorldOf, bank_of}
 use Rattle.schedule_text.specs.declared.event.Event.{Event}
 
--- each frame to a replica is an entry of the log; each frame from it tells a length up to the log's, under its own
--- number, or the log's reply to a number; each answer that is kept is the log's reply
+-- each replica has at most as many entries as the log; each frame to it is an entry of the log; each frame from it tells
+-- a length up to the log's, under its own number, or the log's reply to a number; each answer that is kept is the log's
+-- reply
 pub record IsTrueToLog (world : WorldOf) : Type 0 where
+  pub within : (r : ℕ) (node : NodeOf) → slice_get world.nodes r ≡ Some node
+      → length_in node ≤ length world.sequencer.log
   pub inbound : (r : ℕ) (node : NodeOf) → slice_get world.nodes r ≡ Some node
       → Every (IsEntryOf (bank_of world)) node.inbound
   pub outbound : (r : ℕ) (node : NodeOf) → slice_get world.nodes r ≡ Some node

@@ -1,5 +1,5 @@
 -- The reference machine: a sequencer, its replicas, and the frames between them.
-use Rattle.std.specs.Prelude.{◌≡◌, ◌≢◌, ℕ, ◌-◌, pos, int_lt, ◌==◌, if◌then◌else◌, Option, Some, None, Ok, Err, List, map, count_by, slice_get, slice_set}
+use Rattle.std.specs.Prelude.{◌≡◌, ℕ, ◌-◌, nat_lt, pos, int_lt, ◌==◌, if◌then◌else◌, Bool, true, false, IsTrue, Option, Some, None, Ok, Err, List, map, count_by, slice_get, slice_set}
 use Rattle.sb_rows.specs.Balances.{Balances}
 use Rattle.sb_rows.specs.Listing.{listed, total_of}
 use Rattle.sb_calls.specs.declared.ask.Key.{Key}
@@ -158,33 +158,35 @@ Moves old (event.Audit a b) note new = moved old (event.Audit a b) ≡ (new, not
 
 -- ---- where memory may be wanted
 
--- where the machine finds something to do
-abbrev pub FindsWork : WorldOf → Event → Type 0
-FindsWork world event = (moved world event).1 ≢ note.Nothing
+-- whether an audit comes to the books
+abbrev pub adds_up : AuditNote → Bool
+adds_up (audit.Same total overdrawn) = true
+adds_up other = false
 
--- where the machine makes a cut
-abbrev pub MakesCut : WorldOf → ℕ → Type 0
-MakesCut world r = (size : ℕ) × ((moved world (event.Cut r)).1 ≡ note.Cut size)
+-- the notes on what may take memory: a frame is sent, an entry accepted, a cut made, a checkpoint put or gone back to,
+-- or the books are added up
+abbrev pub may_take_memory : Note → Bool
+may_take_memory (note.Sent place) = true
+may_take_memory (note.Resent count) = nat_lt 0 count
+may_take_memory (note.Accepted number) = true
+may_take_memory (note.Cut size) = true
+may_take_memory (note.Marked size) = true
+may_take_memory note.StoreFault = true
+may_take_memory (note.Restarted size) = true
+may_take_memory (note.Audit found) = adds_up found
+may_take_memory other = false
 
--- where the machine takes what is held
-abbrev pub TakesNext : WorldOf → ℕ → Type 0
-TakesNext world r = (number : ℕ) × ((moved world (event.Next r)).1 ≡ note.Accepted number)
-
--- never for a take, a finish or what the sequencer hears; an ask wants it for a new number alone, a cut only where it
--- is made, and what is held only where it is taken
+-- never for a take, a finish or what the sequencer hears; an ask wants it for a new number alone, and each other event
+-- only where the machine's note on it is one of these
 abbrev pub MayWantMemory : WorldOf → Event → Type 0
 MayWantMemory world (event.Ask client request call) =
     IsAnswered world.sequencer.log (record { client = client; request = request }, call) (Err OutOfMemory)
 MayWantMemory world (event.Take r worker index) = ⊥
 MayWantMemory world (event.Finish r worker) = ⊥
 MayWantMemory world (event.From r place) = ⊥
-MayWantMemory world (event.Send r number) = FindsWork world (event.Send r number)
-MayWantMemory world (event.Resend r) = FindsWork world (event.Resend r)
-MayWantMemory world (event.To r place) = FindsWork world (event.To r place)
-MayWantMemory world (event.Ack r) = FindsWork world (event.Ack r)
-MayWantMemory world (event.Answer r number) = FindsWork world (event.Answer r number)
-MayWantMemory world (event.Mark r how) = FindsWork world (event.Mark r how)
-MayWantMemory world (event.Restart r) = FindsWork world (event.Restart r)
-MayWantMemory world (event.Cut r) = MakesCut world r
-MayWantMemory world (event.Next r) = TakesNext world r
-MayWantMemory world (event.Audit a b) = FindsWork world (event.Audit a b)
+MayWantMemory world other = IsTrue (may_take_memory (moved world other).1)
+
+-- the next event may; after the last one there is none
+abbrev pub NextMayWantMemory : WorldOf → Option Event → Type 0
+NextMayWantMemory world (Some next) = MayWantMemory world next
+NextMayWantMemory world None = ⊥

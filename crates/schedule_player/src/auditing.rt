@@ -1,11 +1,12 @@
 //! Comparing two replicas, and one of them with the books.
-ghost use Rattle.std.specs.Prelude.{◌≡◌, ◌<◌, ◌≤◌, Some, None, length, map, take, slice_get, IfOk};
+ghost use Rattle.std.specs.Prelude.{◌≡◌, ◌<◌, ◌≤◌, Some, None, length, map, take, slice_get, IfOk, OnErr};
 ghost use Rattle.sb_rows.specs.Balances.{IsBalances};
 ghost use Rattle.sb_calls.specs.Log.{replies_to};
 ghost use Rattle.schedule_player.specs.Bank.{opening_rows};
 ghost use Rattle.schedule_player.specs.Books.{IsRowsAt};
 ghost use Rattle.schedule_player.specs.ReplicaMoves.{NodeOf};
-ghost use Rattle.schedule_player.specs.World.{bank_of, books_after, compared};
+ghost use Rattle.schedule_player.specs.World.{MayWantMemory, bank_of, books_after, compared};
+ghost use Rattle.schedule_text.specs.declared.event.Event.TheVariants as event;
 
 use crate::fault::StepFault;
 use crate::world::World;
@@ -67,12 +68,13 @@ impl World {
     /// Compares two replicas, and the rows of the first one with the books: the opening's total and what each call of
     /// the log added.
     ///
-    /// Fails where memory is refused.
+    /// Fails where memory is refused, which may be only where both are idle at one length.
     pub fn audit(&self, first: u32, second: u32) -> Result<AuditNote, StepFault>
         requires replicas { (first < length self.now.nodes) × (second < length self.now.nodes) }
-        ensures { (one other : NodeOf) → slice_get self.now.nodes first ≡ Some one
+        ensures value { (one other : NodeOf) → slice_get self.now.nodes first ≡ Some one
             → slice_get self.now.nodes second ≡ Some other
             → IfOk result (λ found. found ≡ compared (bank_of self.now) first second one other) }
+        ensures wanted { OnErr result (MayWantMemory self.now (event.Audit first second)) }
     {
         let one = &self.nodes[first as usize].replica;
         let other = &self.nodes[second as usize].replica;

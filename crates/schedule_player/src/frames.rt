@@ -1,5 +1,5 @@
 //! Frames that were sent, as bytes.
-ghost use Rattle.std.specs.Prelude.{◌≡◌, ◌+◌, ◌≤◌, None, Some, [], ◌∷◌, ◌++◌, length, map, vec_capacity, IfOk, OnOk, OnErr, MatchOption};
+ghost use Rattle.std.specs.Prelude.{◌≡◌, ◌+◌, ◌<◌, ◌≤◌, None, Some, [], ◌∷◌, ◌++◌, length, map, vec_capacity, IfOk, OnOk, OnErr, MatchOption};
 ghost use Rattle.std.specs.Option.{option_copied};
 ghost use Rattle.sb_frames.specs.Grammar.{Spells};
 ghost use Rattle.sb_frames.specs.declared.frame.Frame.{Frame as AnyFrame};
@@ -71,10 +71,11 @@ impl Frames {
         Ok(self.sent.len() as u64)
     }
 
-    /// Puts frames last, in order. Where memory is refused none is put.
+    /// Puts frames last, in order. Where memory is refused none is put, which is never where there are none.
     pub fn send_all(&mut self, frames: &[Frame]) -> Result<(), AllocError>
         ensures sent { OnOk result (self.new ≡ self.old ++ frames.now) }
         ensures err { OnErr result (self.new ≡ self.old) }
+        ensures some { OnErr result (0 < length frames.now) }
     {
         self.sent.reserve(frames.len())?;
         push_all(&mut self.sent, frames);

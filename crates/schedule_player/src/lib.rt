@@ -15,7 +15,7 @@ mod stepping;
 mod world;
 
 pub use fault::{PlayFault, ScheduleFault, StepFault};
-pub use laws::{agreement, log_of_first_asks, recorded_lengths};
+pub use laws::{recorded_lengths, replication};
 pub use running::run_schedule;
 pub use schedule_text::{AuditNote, Column, Event, Note};
 pub use stepping::play;

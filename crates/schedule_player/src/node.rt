@@ -1,12 +1,12 @@
 //! A replica with its workers' hands, and the frames that were ever sent to it and from it.
-ghost use Rattle.std.specs.Prelude.{◌≡◌, ◌≢◌, ℕ, suc, ◌<◌, ◌≤◌, Some, None, length, MatchOption, IfOk, OnErr, MatchResult};
+ghost use Rattle.std.specs.Prelude.{◌≡◌, ◌≢◌, ℕ, suc, ◌<◌, ◌≤◌, Some, None, length, MatchOption, IfOk, IsTrue, OnErr, MatchResult};
 ghost use Rattle.sb_rows.specs.Rows.{SameCustomers};
 ghost use Rattle.cown_board.specs.Board.{reply_in};
 ghost use Rattle.schedule_player.specs.Bank.{BankOf};
 ghost use Rattle.schedule_player.specs.NodeAlong.{IsEntryOf, IsNodeAt, Arrives, IsAsBefore, seen_node};
 ghost use Rattle.schedule_player.specs.Numbered.{numbered, copies, Every};
 ghost use Rattle.schedule_player.specs.ReplicaMoves.{opened_node, taken, finished_by, delivered_to, advanced, sent, sent_all, acknowledged, answered, cut_off, marked, restarted, note_of_heard};
-ghost use Rattle.schedule_text.specs.declared.note.Note.TheVariants as notes;
+ghost use Rattle.schedule_player.specs.World.{may_take_memory};
 
 use crate::fault::StepFault;
 use crate::frames::Frames;
@@ -133,15 +133,17 @@ impl Node {
         ensures moves { (bank : BankOf) (r : ℕ) → IsNodeAt bank r self.old → IfOk result (λ note.
             Arrives bank r self.new note (delivered_to (seen_node self.old) place)) }
         ensures err { OnErr result (self.new ≡ self.old) }
-        ensures named { OnErr result (numbered self.old.inbound place ≢ None) }
+        ensures wanted { (bank : BankOf) (r : ℕ) → IsNodeAt bank r self.old
+            → OnErr result (IsTrue (may_take_memory (delivered_to (seen_node self.old) place).1)) }
     {
         let Some(bytes) = self.inbound.get(place) else {
             return Ok(Note::Nothing);
         };
-        let Ok(heard) = self.replica.on_frame(bytes) else {
-            return Err(StepFault::OutOfMemory);
-        };
-        Ok(heard_note(heard))
+        match self.replica.on_frame(bytes) {
+            Ok(heard) => Ok(heard_note(heard)),
+            // All that was sent is a frame.
+            Err(_) => Err(StepFault::OutOfMemory),
+        }
     }
 
     /// An entry is sent to the replica.
@@ -159,6 +161,7 @@ impl Node {
         ensures moves { (bank : BankOf) (r : ℕ) → IsNodeAt bank r self.old → Every (IsEntryOf bank) entries.now
             → IfOk result (λ note. Arrives bank r self.new note (sent_all (seen_node self.old) entries.now)) }
         ensures err { OnErr result (self.new ≡ self.old) }
+        ensures some { OnErr result (0 < length entries.now) }
     {
         self.inbound.send_all(entries)?;
         Ok(Note::Resent(entries.len() as u64))
@@ -208,8 +211,7 @@ impl Node {
         ensures moves { (bank : BankOf) (r : ℕ) → IsNodeAt bank r self.old → IfOk result (λ note.
             Arrives bank r self.new note (advanced (seen_node self.old))) }
         ensures err { OnErr result (self.new ≡ self.old) }
-        ensures takes { OnErr result
-            ((number : ℕ) × ((advanced (seen_node self.old)).1 ≡ notes.Accepted number)) }
+        ensures wanted { OnErr result (IsTrue (may_take_memory (advanced (seen_node self.old)).1)) }
     {
         match self.replica.advance() {
             Ok(Some(heard)) => Ok(heard_note(heard)),
@@ -223,6 +225,8 @@ impl Node {
         ensures moves { (bank : BankOf) (r : ℕ) → IsNodeAt bank r self.old → MatchResult result
             (λ note. Arrives bank r self.new note (marked (seen_node self.old) how))
             (λ fault. IsAsBefore bank r self.old self.new) }
+        ensures wanted { (bank : BankOf) (r : ℕ) → IsNodeAt bank r self.old
+            → OnErr result (IsTrue (may_take_memory (marked (seen_node self.old) how).1)) }
     {
         self.replica.tell(how);
         match self.replica.mark() {

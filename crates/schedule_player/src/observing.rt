@@ -22,7 +22,7 @@ impl World {
     pub fn replicas(&self) -> u32
         ensures value { result ≡ length self.now.nodes }
         ensures few { result ≤ 8 }
-        // Whatever happened, all frames and all answers are the log's.
+        // Whatever happened, no replica is ahead of the log, and all frames and all answers are the log's.
         ensures true_to_log { IsTrueToLog self.now }
     {
         self.nodes.len() as u32

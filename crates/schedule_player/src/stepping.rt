@@ -1,9 +1,9 @@
 //! One event after the other.
-ghost use Rattle.std.specs.Prelude.{◌≡◌, ℕ, ◌≤◌, List, [], ◌∷◌, ◌++◌, take, length, IfOk, IfErr, OnErr, IsTrue};
+ghost use Rattle.std.specs.Prelude.{◌≡◌, ◌⊎◌, ℕ, ◌<◌, List, [], ◌∷◌, ◌++◌, take, length, slice_get, IfOk, IfErr, OnErr, IsTrue};
 ghost use Rattle.sb_rows.specs.Balances.{Balances};
 ghost use Rattle.schedule_player.specs.Comes.{may_come};
 ghost use Rattle.schedule_player.specs.Played.{IsPlayed, Plays};
-ghost use Rattle.schedule_player.specs.World.{FindsWork, MayWantMemory, Moves};
+ghost use Rattle.schedule_player.specs.World.{MayWantMemory, Moves, NextMayWantMemory};
 ghost use Rattle.schedule_text.specs.declared.event.Event.{Event as AnyEvent};
 ghost use Rattle.schedule_text.specs.declared.event.Event.TheVariants as event;
 ghost use Rattle.schedule_text.specs.declared.note.Note.{Note as AnyNote};
@@ -19,7 +19,7 @@ impl World {
     // An audit, of replicas that may be missing.
     fn compare(&self, first: u32, second: u32) -> Result<Note, StepFault>
         ensures moves { IfOk result (λ note. Moves self.now (event.Audit first second) note self.now) }
-        ensures wanted { OnErr result (FindsWork self.now (event.Audit first second)) }
+        ensures wanted { OnErr result (MayWantMemory self.now (event.Audit first second)) }
     {
         if first as usize >= self.nodes.len() || second as usize >= self.nodes.len() {
             return Ok(Note::Nothing);
@@ -61,9 +61,9 @@ impl World {
 
     /// One event happens, and is noted.
     ///
-    /// Fails where memory is refused, which is never in a take, a finish or a delivery to the sequencer, nor where a
-    /// cut is there already or nothing that is held is taken, and nowhere where the event names something that doesn't
-    /// exist. Nothing is changed then.
+    /// Fails where memory is refused, which may be only where a request gets a new number, a frame is sent, an entry is
+    /// accepted, a cut is made, a checkpoint is put or gone back to, or an audit adds up the books. Nothing is changed
+    /// then.
     pub fn step(&mut self, event: Event) -> Result<Note, StepFault>
         // The world moves as the reference machine does.
         ensures moves { IfOk result (λ note. Moves self.old event note self.new) }
@@ -83,13 +83,17 @@ impl World {
 
 /// Events happen one after the other, and are noted in order.
 ///
-/// Fails at the first event for which memory is refused; the fault tells how many happened before it.
+/// Fails at the first event for which memory is refused, and before the first where there is no room for the notes;
+/// the fault tells how many events happened before it.
 pub fn play(alloc: Global, world: &mut World, events: &[Event]) -> Result<Vec<Note>, PlayFault>
     // All events happened, with these notes.
     ensures plays { IfOk result (λ notes. Plays world.old events.now notes.items world.new) }
-    // As many happened as the fault tells, and nothing else.
-    ensures stopped { IfErr result (λ fault. (fault.done ≤ length events.now)
+    // As many happened as the fault tells, and nothing else; there is one more.
+    ensures stopped { IfErr result (λ fault. (fault.done < length events.now)
         × ((notes : List AnyNote) × Plays world.old (take fault.done events.now) notes world.new)) }
+    // That one may want memory, or at the first the list of notes does.
+    ensures wanted { IfErr result (λ fault. (fault.done ≡ 0)
+        ⊎ NextMayWantMemory world.new (slice_get events.now fault.done)) }
     ensures replicas { length world.new.nodes ≡ length world.old.nodes }
     // After whatever events from an opening, the world is the one after these and those.
     ensures played { (names : List (List ℕ)) (opening : Balances) (nodes workers : ℕ) (before : List AnyEvent)

@@ -8,7 +8,7 @@ ghost use Rattle.schedule_player.specs.Numbered.{numbered};
 ghost use Rattle.schedule_player.specs.Observed.{reply_at};
 ghost use Rattle.schedule_player.specs.ReplicaMoves.{NodeOf, acknowledged, advanced, answered, cut_off, delivered_to, finished_by, marked, restarted, sent, sent_all, taken};
 ghost use Rattle.schedule_text.specs.declared.event.Event.TheVariants as event;
-ghost use Rattle.schedule_player.specs.World.{Asks, FindsWork, MakesCut, TakesNext, bank_of, heard_from, moved_at};
+ghost use Rattle.schedule_player.specs.World.{Asks, MayWantMemory, bank_of, heard_from, moved_at};
 
 use crate::fault::StepFault;
 use crate::hearing::hear;
@@ -73,7 +73,7 @@ impl World {
         ensures moves { IfOk result (λ note.
             moved_at self.old replica (λ node. sent node (entry_of self.old.sequencer.log number)) ≡ (self.new, note)) }
         ensures err { OnErr result (self.new ≡ self.old) }
-        ensures wanted { OnErr result (FindsWork self.old (event.Send replica number)) }
+        ensures wanted { OnErr result (MayWantMemory self.old (event.Send replica number)) }
     {
         let Some(entry) = self.sequencer.entry(number as u64) else {
             return Ok(Note::Nothing);
@@ -89,7 +89,7 @@ impl World {
         ensures moves { IfOk result (λ note.
             moved_at self.old replica (λ node. sent_all node (resent self.old.sequencer replica)) ≡ (self.new, note)) }
         ensures err { OnErr result (self.new ≡ self.old) }
-        ensures wanted { OnErr result (FindsWork self.old (event.Resend replica)) }
+        ensures wanted { OnErr result (MayWantMemory self.old (event.Resend replica)) }
     {
         let Some(node) = self.nodes.get_mut(replica as usize) else {
             return Ok(Note::Nothing);
@@ -107,7 +107,7 @@ impl World {
         ensures moves { IfOk result (λ note.
             moved_at self.old replica (λ node. delivered_to node place) ≡ (self.new, note)) }
         ensures err { OnErr result (self.new ≡ self.old) }
-        ensures wanted { OnErr result (FindsWork self.old (event.To replica place)) }
+        ensures wanted { OnErr result (MayWantMemory self.old (event.To replica place)) }
     {
         let Some(node) = self.nodes.get_mut(replica as usize) else {
             return Ok(Note::Nothing);
@@ -120,7 +120,7 @@ impl World {
         ensures moves { IfOk result (λ note.
             moved_at self.old replica (λ node. acknowledged node replica) ≡ (self.new, note)) }
         ensures err { OnErr result (self.new ≡ self.old) }
-        ensures wanted { OnErr result (FindsWork self.old (event.Ack replica)) }
+        ensures wanted { OnErr result (MayWantMemory self.old (event.Ack replica)) }
     {
         let Some(node) = self.nodes.get_mut(replica as usize) else {
             return Ok(Note::Nothing);
@@ -133,7 +133,7 @@ impl World {
         ensures moves { IfOk result (λ note.
             moved_at self.old replica (λ node. answered (bank_of self.old) node number) ≡ (self.new, note)) }
         ensures err { OnErr result (self.new ≡ self.old) }
-        ensures wanted { OnErr result (FindsWork self.old (event.Answer replica number)) }
+        ensures wanted { OnErr result (MayWantMemory self.old (event.Answer replica number)) }
     {
         let Some(node) = self.nodes.get_mut(replica as usize) else {
             return Ok(Note::Nothing);
@@ -180,7 +180,7 @@ impl World {
     pub(crate) fn cut(&mut self, replica: u32) -> Result<Note, StepFault>
         ensures moves { IfOk result (λ note. moved_at self.old replica cut_off ≡ (self.new, note)) }
         ensures err { OnErr result (self.new ≡ self.old) }
-        ensures wanted { OnErr result (MakesCut self.old replica) }
+        ensures wanted { OnErr result (MayWantMemory self.old (event.Cut replica)) }
     {
         let Some(node) = self.nodes.get_mut(replica as usize) else {
             return Ok(Note::Nothing);
@@ -192,7 +192,7 @@ impl World {
     pub(crate) fn next(&mut self, replica: u32) -> Result<Note, StepFault>
         ensures moves { IfOk result (λ note. moved_at self.old replica advanced ≡ (self.new, note)) }
         ensures err { OnErr result (self.new ≡ self.old) }
-        ensures wanted { OnErr result (TakesNext self.old replica) }
+        ensures wanted { OnErr result (MayWantMemory self.old (event.Next replica)) }
     {
         let Some(node) = self.nodes.get_mut(replica as usize) else {
             return Ok(Note::Nothing);
@@ -204,7 +204,7 @@ impl World {
     pub(crate) fn mark(&mut self, replica: u32, how: How) -> Result<Note, StepFault>
         ensures moves { IfOk result (λ note. moved_at self.old replica (λ node. marked node how) ≡ (self.new, note)) }
         ensures err { OnErr result (self.new ≡ self.old) }
-        ensures wanted { OnErr result (FindsWork self.old (event.Mark replica how)) }
+        ensures wanted { OnErr result (MayWantMemory self.old (event.Mark replica how)) }
     {
         let Some(node) = self.nodes.get_mut(replica as usize) else {
             return Ok(Note::Nothing);
@@ -216,7 +216,7 @@ impl World {
     pub(crate) fn restart(&mut self, replica: u32) -> Result<Note, StepFault>
         ensures moves { IfOk result (λ note. moved_at self.old replica restarted ≡ (self.new, note)) }
         ensures err { OnErr result (self.new ≡ self.old) }
-        ensures wanted { OnErr result (FindsWork self.old (event.Restart replica)) }
+        ensures wanted { OnErr result (MayWantMemory self.old (event.Restart replica)) }
     {
         let Some(node) = self.nodes.get_mut(replica as usize) else {
             return Ok(Note::Nothing);

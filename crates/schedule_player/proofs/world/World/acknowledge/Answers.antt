@@ -1,8 +1,8 @@
 use Rattle.std.proofs.Common.{◌≡◌, subst, refl}
 use Rattle.std.specs.Prelude.{IfOk, OnErr, slice_set}
 use Rattle.schedule_text.specs.declared.event.Event.TheVariants as event
-use Rattle.schedule_player.proofs.Working.{works_at}
-use Rattle.schedule_player.specs.World.{FindsWork, bank_with, moved_at}
+use Rattle.schedule_player.proofs.Working.{wants_at}
+use Rattle.schedule_player.specs.World.{MayWantMemory, bank_with, moved_at}
 use Rattle.schedule_player.specs.ReplicaMoves.{acknowledged}
 use Rattle.schedule_player.proofs.Lists.{get_here}
 use Rattle.schedule_player.proofs.Moving.{Stepped, node_seen, steps_wholly, on_err, world_of}
@@ -44,5 +44,5 @@ returns-clause-wanted c =
     let world = world_of w.directory w.opening w.sequencer w.nodes.items in
     let here = get_here w.nodes.items c.args.replica c.in-Some.node.now c.in-Some.ensures.item.3.0 c.in-Some.ensures.value in
     let seen = node_seen w.directory w.opening w.sequencer w.nodes.items c.args.replica c.in-Some.node.now here in
-    subst (λ old. OnErr c.acknowledge.result (FindsWork old (event.Ack c.args.replica))) c.self.view_is
-    (on_err c.acknowledge.result (works_at world c.args.replica (seen_node c.in-Some.node.now) (λ node. acknowledged node c.args.replica) seen refl))
+    subst (λ old. OnErr c.acknowledge.result (MayWantMemory old (event.Ack c.args.replica))) c.self.view_is
+    (on_err c.acknowledge.result (wants_at world c.args.replica (seen_node c.in-Some.node.now) (λ node. acknowledged node c.args.replica) seen refl))

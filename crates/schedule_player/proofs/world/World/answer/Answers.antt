@@ -3,8 +3,8 @@ use Rattle.std.specs.Prelude.{IfOk, OnErr, slice_set}
 use Rattle.schedule_player.specs.NodeAlong.{seen_node}
 use Rattle.schedule_player.specs.ReplicaMoves.{answered}
 use Rattle.schedule_text.specs.declared.event.Event.TheVariants as event
-use Rattle.schedule_player.proofs.Working.{works_at, answers_so}
-use Rattle.schedule_player.specs.World.{FindsWork, bank_of, bank_with, moved_at}
+use Rattle.schedule_player.proofs.Working.{wants_at, answers_so}
+use Rattle.schedule_player.specs.World.{MayWantMemory, bank_of, bank_with, moved_at}
 use Rattle.schedule_player.proofs.Lists.{get_here}
 use Rattle.schedule_player.proofs.Moving.{Stepped, node_seen, steps_wholly, err_so, world_of}
 use Rattle.schedule_player.proofs.Telling.{reply_seen}
@@ -39,8 +39,8 @@ returns-clause-wanted c =
     let seen = node_seen w.directory w.opening w.sequencer w.nodes.items c.args.replica c.in-Some.node.now here in
     let along = c.self.invariant.each c.args.replica c.in-Some.node.now here in
     let bank = bank_with w.directory w.opening w.sequencer.log in
-    subst (λ old. OnErr c.answer.result (FindsWork old (event.Answer c.args.replica c.args.number))) c.self.view_is
-    (err_so c.answer.result (λ held. (works_at world c.args.replica (seen_node c.in-Some.node.now) (λ node. answered bank node c.args.number) seen
+    subst (λ old. OnErr c.answer.result (MayWantMemory old (event.Answer c.args.replica c.args.number))) c.self.view_is
+    (err_so c.answer.result (λ held. (wants_at world c.args.replica (seen_node c.in-Some.node.now) (λ node. answered bank node c.args.number) seen
     (answers_so bank (seen_node c.in-Some.node.now) c.args.number (λ none. held
     (reply_seen bank c.args.replica c.in-Some.node.now c.args.number along ∙ none)))))
     c.answer.ensures.held)

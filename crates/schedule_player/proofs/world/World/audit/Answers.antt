@@ -8,14 +8,15 @@ use Rattle.schedule_player.specs.Books.{IsRowsAt}
 use Rattle.schedule_player.specs.Seen.{ops_of}
 use Rattle.schedule_player.specs.World.{bank_of, compared}
 use Rattle.schedule_player.proofs.Books.{idle_rows, same_rows, idle_replies, length_replies}
-use Rattle.schedule_player.proofs.Comparing.{looked_up, seen_as, busy_first, busy_second, apart, same_length}
+use Rattle.schedule_player.proofs.Comparing.{looked_up, seen_as, busy_first, busy_second, apart, same_length, adds_books}
 use Rattle.schedule_player.proofs.Lists.{none_some}
+use Rattle.schedule_player.proofs.Moving.{on_err}
 use Rattle.schedule_player.proofs.SeenReplies.{within_log}
 use Rattle.schedule_player.proofs.Stages.{length-map}
 use Rattle.schedule_player.proofs.world.World.audit.Goals as goal
 
-pub returns-in_default : goal.returns-in_default
-returns-in_default c one other seen_one seen_other =
+pub returns-in_default-clause-value : goal.returns-in_default-clause-value
+returns-in_default-clause-value c one other seen_one seen_other =
     let w = c.self.inside in
     let now = c.args.self.now in
     let first = c.index.result.now in
@@ -28,8 +29,8 @@ returns-in_default c one other seen_one seen_other =
     (bank_of now) c.args.first c.args.second (seen_as now c.args.first first one look_a seen_one j)
     (seen_as now c.args.second second other look_b seen_other j))
 
-pub returns-in_default-settled_columns : goal.returns-in_default-settled_columns
-returns-in_default-settled_columns c one other seen_one seen_other =
+pub returns-in_default-settled_columns-clause-value : goal.returns-in_default-settled_columns-clause-value
+returns-in_default-settled_columns-clause-value c one other seen_one seen_other =
     let w = c.self.inside in
     let now = c.args.self.now in
     let first = c.index.result.now in
@@ -42,8 +43,8 @@ returns-in_default-settled_columns c one other seen_one seen_other =
     c.in_default-settled_columns.ensures.value ∙ (λ j. compared (bank_of now) c.args.first c.args.second (seen_as now c.args.first first one look_a seen_one j)
     (seen_as now c.args.second second other look_b seen_other j))
 
-pub returns-then-length : goal.returns-then-length
-returns-then-length c one other seen_one seen_other =
+pub returns-then-length-clause-value : goal.returns-then-length-clause-value
+returns-then-length-clause-value c one other seen_one seen_other =
     let w = c.self.inside in
     let now = c.args.self.now in
     let first = c.index.result.now in
@@ -93,8 +94,8 @@ first_place-requires-clause-checking c =
     ap (λ b. length b.checking) same
 
 -- the columns are the same, so no place differs
-pub returns-in-Some-first_place : goal.returns-in-Some-first_place
-returns-in-Some-first_place c one other seen_one seen_other =
+pub returns-in-Some-first_place-clause-value : goal.returns-in-Some-first_place-clause-value
+returns-in-Some-first_place-clause-value c one other seen_one seen_other =
     let w = c.self.inside in
     let now = c.args.self.now in
     let first = c.index.result.now in
@@ -156,8 +157,8 @@ books-requires-clause-replies c =
     subst (λ replies. replies ≡ take (length replies) (replies_to (opening_rows (bank_of now)) (bank_of now).calls)) (sym held)
     (idle_replies (bank_of now) c.args.first first c.in-Some.left.now look_a.along c.in-Some.ensures.value.0 c.in-Some.ensures.value.1)
 
-pub returns : goal.returns
-returns c one other seen_one seen_other =
+pub returns-clause-value : goal.returns-clause-value
+returns-clause-value c one other seen_one seen_other =
     let w = c.self.inside in
     let now = c.args.self.now in
     let first = c.index.result.now in
@@ -175,3 +176,32 @@ returns c one other seen_one seen_other =
     c.in-Some.ensures.value.0 c.in-Some-settled_columns.ensures.value.0 size alike
     ∙ (λ j. compared (bank_of now) c.args.first c.args.second (seen_as now c.args.first first one look_a seen_one j)
     (seen_as now c.args.second second other look_b seen_other j))
+
+-- memory may be refused to the replies, and to the books
+pub returns-in_err-replies-clause-wanted : goal.returns-in_err-replies-clause-wanted
+returns-in_err-replies-clause-wanted c =
+    let w = c.self.inside in
+    let now = c.args.self.now in
+    let first = c.index.result.now in
+    let second = c.index-2.result.now in
+    let look_a = looked_up w.directory w.opening w.sequencer w.nodes.items now c.args.first first c.self.view_is c.self.invariant
+    c.requires.replicas.0 c.index.ensures in
+    let look_b = looked_up w.directory w.opening w.sequencer w.nodes.items now c.args.second second c.self.view_is c.self.invariant
+    c.requires.replicas.1 c.index-2.ensures in
+    on_err c.from_residual.result
+    (adds_books now c.args.first c.args.second first second look_a look_b c.in-Some.ensures.value.0 c.in-Some-settled_columns.ensures.value.0
+    (sym c.length.ensures.value ∙ c.if-length.false ∙ c.length-2.ensures.value))
+
+pub returns-in_err-books-clause-wanted : goal.returns-in_err-books-clause-wanted
+returns-in_err-books-clause-wanted c =
+    let w = c.self.inside in
+    let now = c.args.self.now in
+    let first = c.index.result.now in
+    let second = c.index-2.result.now in
+    let look_a = looked_up w.directory w.opening w.sequencer w.nodes.items now c.args.first first c.self.view_is c.self.invariant
+    c.requires.replicas.0 c.index.ensures in
+    let look_b = looked_up w.directory w.opening w.sequencer w.nodes.items now c.args.second second c.self.view_is c.self.invariant
+    c.requires.replicas.1 c.index-2.ensures in
+    on_err c.from_residual-in_err-books.result
+    (adds_books now c.args.first c.args.second first second look_a look_b c.in-Some.ensures.value.0 c.in-Some-settled_columns.ensures.value.0
+    (sym c.length.ensures.value ∙ c.if-length.false ∙ c.length-2.ensures.value))

@@ -2,8 +2,9 @@ use Rattle.std.proofs.Common.{◌≡◌, subst}
 use Rattle.std.specs.Prelude.{IfOk, OnErr, slice_set}
 use Rattle.schedule_player.specs.NodeAlong.{seen_node}
 use Rattle.schedule_player.specs.ReplicaMoves.{cut_off}
-use Rattle.schedule_player.proofs.Working.{cuts_at}
-use Rattle.schedule_player.specs.World.{MakesCut, bank_with, moved_at}
+use Rattle.schedule_player.proofs.Working.{wants_at, cuts}
+use Rattle.schedule_player.specs.World.{MayWantMemory, bank_with, moved_at}
+use Rattle.schedule_text.specs.declared.event.Event.TheVariants as event
 use Rattle.schedule_player.proofs.Lists.{get_here}
 use Rattle.schedule_player.proofs.Moving.{Stepped, node_seen, steps_wholly, err_so, world_of}
 use Rattle.schedule_player.proofs.world.World.cut.Goals as goal
@@ -35,5 +36,6 @@ returns-clause-wanted c =
     let world = world_of w.directory w.opening w.sequencer w.nodes.items in
     let here = get_here w.nodes.items c.args.replica c.in-Some.node.now c.in-Some.ensures.item.3.0 c.in-Some.ensures.value in
     let seen = node_seen w.directory w.opening w.sequencer w.nodes.items c.args.replica c.in-Some.node.now here in
-    subst (λ old. OnErr c.cut.result (MakesCut old c.args.replica)) c.self.view_is
-    (err_so c.cut.result (cuts_at world c.args.replica (seen_node c.in-Some.node.now) seen) c.cut.ensures.none)
+    subst (λ old. OnErr c.cut.result (MayWantMemory old (event.Cut c.args.replica))) c.self.view_is
+    (err_so c.cut.result (λ none. wants_at world c.args.replica (seen_node c.in-Some.node.now) (λ node. cut_off node) seen
+    (cuts (seen_node c.in-Some.node.now) none)) c.cut.ensures.none)

@@ -1,13 +1,12 @@
-use Rattle.std.proofs.Common.{◌≡◌, subst, refl}
+use Rattle.std.proofs.Common.{◌≡◌, subst}
 use Rattle.std.specs.Prelude.{IfOk, OnErr, slice_set}
 use Rattle.schedule_text.specs.declared.event.Event.TheVariants as event
-use Rattle.schedule_player.proofs.Working.{works_at, comes_to}
-use Rattle.schedule_player.specs.World.{FindsWork, bank_with, moved_at}
+use Rattle.schedule_player.proofs.Working.{wants_at}
+use Rattle.schedule_player.specs.World.{MayWantMemory, bank_with, moved_at}
 use Rattle.schedule_player.specs.ReplicaMoves.{delivered_to}
-use Rattle.schedule_player.proofs.Lists.{get_here, every_numbered}
+use Rattle.schedule_player.proofs.Lists.{get_here}
 use Rattle.schedule_player.proofs.Moving.{Stepped, node_seen, steps_wholly, err_so, world_of}
-use Rattle.schedule_player.specs.NodeAlong.{seen_node, IsEntryOf}
-use Rattle.schedule_player.specs.Numbered.{numbered}
+use Rattle.schedule_player.specs.NodeAlong.{seen_node}
 use Rattle.schedule_player.proofs.world.World.deliver.Goals as goal
 
 -- the replica moves, and so the world does
@@ -44,8 +43,6 @@ returns-clause-wanted c =
     let seen = node_seen w.directory w.opening w.sequencer w.nodes.items c.args.replica c.in-Some.node.now here in
     let along = c.self.invariant.each c.args.replica c.in-Some.node.now here in
     let bank = bank_with w.directory w.opening w.sequencer.log in
-    subst (λ old. OnErr c.deliver.result (FindsWork old (event.To c.args.replica c.args.place))) c.self.view_is
-    (err_so c.deliver.result (λ named. (works_at world c.args.replica (seen_node c.in-Some.node.now) (λ node. delivered_to node c.args.place) seen
-    (comes_to bank (seen_node c.in-Some.node.now) c.args.place (numbered c.in-Some.node.now.inbound c.args.place) refl named
-    (λ entry found. every_numbered (IsEntryOf bank) c.in-Some.node.now.inbound c.args.place entry along.inbound found))))
-    c.deliver.ensures.named)
+    subst (λ old. OnErr c.deliver.result (MayWantMemory old (event.To c.args.replica c.args.place))) c.self.view_is
+    (err_so c.deliver.result (wants_at world c.args.replica (seen_node c.in-Some.node.now) (λ node. delivered_to node c.args.place) seen)
+    (c.deliver.ensures.wanted bank c.args.replica along))

@@ -1,11 +1,11 @@
 use Rattle.std.proofs.Common.{◌≡◌, subst}
 use Rattle.std.specs.Prelude.{IfOk, OnErr, slice_set}
 use Rattle.schedule_text.specs.declared.event.Event.TheVariants as event
-use Rattle.schedule_player.proofs.Working.{works_at, marks_so}
-use Rattle.schedule_player.specs.World.{FindsWork, bank_with, moved_at}
+use Rattle.schedule_player.proofs.Working.{wants_at}
+use Rattle.schedule_player.specs.World.{MayWantMemory, bank_with, moved_at}
 use Rattle.schedule_player.specs.ReplicaMoves.{marked}
 use Rattle.schedule_player.proofs.Lists.{get_here}
-use Rattle.schedule_player.proofs.Moving.{Stepped, node_seen, steps, on_err, world_of}
+use Rattle.schedule_player.proofs.Moving.{Stepped, node_seen, steps, err_so, world_of}
 use Rattle.schedule_player.specs.NodeAlong.{seen_node}
 use Rattle.schedule_player.proofs.world.World.mark.Goals as goal
 
@@ -41,6 +41,8 @@ returns-clause-wanted c =
     let world = world_of w.directory w.opening w.sequencer w.nodes.items in
     let here = get_here w.nodes.items c.args.replica c.in-Some.node.now c.in-Some.ensures.item.3.0 c.in-Some.ensures.value in
     let seen = node_seen w.directory w.opening w.sequencer w.nodes.items c.args.replica c.in-Some.node.now here in
-    subst (λ old. OnErr c.mark.result (FindsWork old (event.Mark c.args.replica c.args.how))) c.self.view_is
-    (on_err c.mark.result (works_at world c.args.replica (seen_node c.in-Some.node.now) (λ node. marked node c.args.how) seen (marks_so
-    (seen_node c.in-Some.node.now) c.args.how)))
+    let along = c.self.invariant.each c.args.replica c.in-Some.node.now here in
+    let bank = bank_with w.directory w.opening w.sequencer.log in
+    subst (λ old. OnErr c.mark.result (MayWantMemory old (event.Mark c.args.replica c.args.how))) c.self.view_is
+    (err_so c.mark.result (wants_at world c.args.replica (seen_node c.in-Some.node.now) (λ node. marked node c.args.how) seen)
+    (c.mark.ensures.wanted bank c.args.replica along))

@@ -1,4 +1,5 @@
-use Rattle.std.proofs.Common.{◌≡◌, sym, ap, subst, ◌∙◌, refl}
+use Rattle.std.proofs.Common.{◌≡◌, ◌<◌, length, sym, ap, subst, ◌∙◌}
+use Rattle.std.proofs.lemmas.Bool.{lt-ltb}
 use Rattle.std.specs.Prelude.{IfOk, OnErr, slice_set}
 use Rattle.std.proofs.lemmas.Option.{slice_get_past}
 use Rattle.sb_sequencer.specs.Entries.{resent}
@@ -6,11 +7,11 @@ use Rattle.schedule_player.specs.NodeAlong.{seen_node, IsEntryOf, Arrives}
 use Rattle.schedule_player.specs.Numbered.{Every}
 use Rattle.schedule_player.specs.ReplicaMoves.{sent_all}
 use Rattle.schedule_text.specs.declared.event.Event.TheVariants as event
-use Rattle.schedule_player.proofs.Working.{works_at}
-use Rattle.schedule_player.specs.World.{FindsWork, bank_with, moved_at}
+use Rattle.schedule_player.proofs.Working.{wants_at}
+use Rattle.schedule_player.specs.World.{MayWantMemory, bank_with, moved_at}
 use Rattle.schedule_text.specs.declared.note.Note.TheVariants as note
 use Rattle.schedule_player.proofs.Lists.{get_here}
-use Rattle.schedule_player.proofs.Moving.{Stepped, node_seen, steps_wholly, on_err, world_of, no_node}
+use Rattle.schedule_player.proofs.Moving.{Stepped, node_seen, steps_wholly, err_so, world_of, no_node}
 use Rattle.schedule_player.proofs.SentEntries.{resent_are}
 use Rattle.schedule_player.proofs.world.World.resend.Goals as goal
 
@@ -59,6 +60,7 @@ returns-clause-wanted c =
     let world = world_of w.directory w.opening w.sequencer w.nodes.items in
     let here = get_here w.nodes.items c.args.replica c.in-Some.node.now c.in-Some.ensures.item.3.0 c.in-Some.ensures.value in
     let seen = node_seen w.directory w.opening w.sequencer w.nodes.items c.args.replica c.in-Some.node.now here in
-    subst (λ old. OnErr c.send_all.result (FindsWork old (event.Resend c.args.replica))) c.self.view_is
-    (on_err c.send_all.result (works_at world c.args.replica (seen_node c.in-Some.node.now) (λ node. sent_all node
-    (resent w.sequencer c.args.replica)) seen refl))
+    subst (λ old. OnErr c.send_all.result (MayWantMemory old (event.Resend c.args.replica))) c.self.view_is
+    (err_so c.send_all.result (λ some. wants_at world c.args.replica (seen_node c.in-Some.node.now) (λ node. sent_all node
+    (resent w.sequencer c.args.replica)) seen (lt-ltb 0 (length (resent w.sequencer c.args.replica))
+    (subst (λ es. 0 < length es) (entries c) some))) c.send_all.ensures.some)

@@ -5,8 +5,8 @@ use Rattle.sb_sequencer.specs.Entries.{entry_of}
 use Rattle.schedule_player.specs.NodeAlong.{seen_node}
 use Rattle.schedule_player.specs.ReplicaMoves.{sent}
 use Rattle.schedule_text.specs.declared.event.Event.TheVariants as event
-use Rattle.schedule_player.proofs.Working.{works_at, sends}
-use Rattle.schedule_player.specs.World.{FindsWork, bank_with, moved_at}
+use Rattle.schedule_player.proofs.Working.{wants_at, sends}
+use Rattle.schedule_player.specs.World.{MayWantMemory, bank_with, moved_at}
 use Rattle.schedule_text.specs.declared.note.Note.TheVariants as note
 use Rattle.schedule_player.proofs.Lists.{get_here}
 use Rattle.schedule_player.proofs.Moving.{Stepped, node_seen, steps_wholly, on_err, is_there, world_of, stays_node, no_node}
@@ -62,7 +62,7 @@ returns-clause-wanted c =
     let world = world_of w.directory w.opening w.sequencer w.nodes.items in
     let here = get_here w.nodes.items c.args.replica c.in-Some-get_mut.node.now c.in-Some-get_mut.ensures.item.3.0 c.in-Some-get_mut.ensures.value in
     let seen = node_seen w.directory w.opening w.sequencer w.nodes.items c.args.replica c.in-Some-get_mut.node.now here in
-    subst (λ old. OnErr c.send.result (FindsWork old (event.Send c.args.replica c.args.number))) c.self.view_is
-    (on_err c.send.result (works_at world c.args.replica (seen_node c.in-Some-get_mut.node.now) (λ node. sent node
+    subst (λ old. OnErr c.send.result (MayWantMemory old (event.Send c.args.replica c.args.number))) c.self.view_is
+    (on_err c.send.result (wants_at world c.args.replica (seen_node c.in-Some-get_mut.node.now) (λ node. sent node
     (entry_of w.sequencer.log c.args.number)) seen (sends (seen_node c.in-Some-get_mut.node.now) (entry_of w.sequencer.log c.args.number) (is_there
     (entry_of w.sequencer.log c.args.number) c.in-Some.entry (sym c.in-Some.ensures)))))

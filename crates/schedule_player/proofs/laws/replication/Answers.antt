@@ -1,0 +1,5 @@
+use Rattle.schedule_player.proofs.Replicated.{replicates}
+use Rattle.schedule_player.proofs.laws.replication.Goals as goal
+
+pub returns : goal.returns
+returns c = replicates
