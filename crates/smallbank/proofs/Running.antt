@@ -22,16 +22,16 @@ module _ {A : Type 0} where
   run_says (Some (Run nodes workers)) (name ∷ []) long said = absurd (omega (arith, long))
   run_says (Some (Run nodes workers)) (name ∷ program ∷ options) long said = said.1
   run_says (Some Play) words long said = absurd said
-  run_says (Some (Serve port sessions nodes workers store)) words long said = absurd said
+  run_says (Some (Serve port plan store)) words long said = absurd said
 
   serve_says : (read : Option Words) (words : List (String A)) → 2 ≤ length words
       → IfSome read (λ r. IsServeOf (drop 2 words) r) → IfSome read (λ r. Says r words)
   serve_says None words long said = tt
   serve_says (Some (Run nodes workers)) words long said = absurd said
   serve_says (Some Play) words long said = absurd said
-  serve_says (Some (Serve port sessions nodes workers store)) [] long said = absurd (omega (arith, long))
-  serve_says (Some (Serve port sessions nodes workers store)) (name ∷ []) long said = absurd (omega (arith, long))
-  serve_says (Some (Serve port sessions nodes workers store)) (name ∷ program ∷ options) long said = said.1
+  serve_says (Some (Serve port plan store)) [] long said = absurd (omega (arith, long))
+  serve_says (Some (Serve port plan store)) (name ∷ []) long said = absurd (omega (arith, long))
+  serve_says (Some (Serve port plan store)) (name ∷ program ∷ options) long said = said.1
 
   -- from all the words after `run`
   pub says_of : (read : Option Words) (words : List (String A)) → 2 ≤ length words → By IsRunOf read words → IfSome read (λ r. Says r words)

@@ -14,6 +14,8 @@ use Rattle.bank_server.specs.Primary.{PrimaryOf}
 use Rattle.bank_server.specs.SessionFaults.{session_fault_number}
 use Rattle.bank_server.specs.declared.session_fault.SessionFault.TheVariants.{Frame, Unexpected, CrewGone, Device, OutOfMemory}
 use Rattle.smallbank.specs.Heard.{End, HearsFirst}
+use Rattle.smallbank.specs.Kept.{IsLeft}
+use Rattle.smallbank.specs.declared.serving.Plan.{Plan}
 
 -- others can be served after it
 abbrev pub GoesOn : End → Type 0
@@ -87,3 +89,10 @@ pub record ServesBank {T : Type 0} (sends : T → Option (List ℕ)) (names : Li
   pub left : Option (List T)
   pub heard : HearsFirst sends coming left [] ends log
   pub printed : PrintsLines (port_line port ∷ session_lines 1 ends ++ end_lines names opening log) old new
+
+-- a bank with an empty log is served as planned: what was printed and its log are told above, and what it is left as in Kept
+pub record ServesAsPlanned {T S : Type 0} (sends : T → Option (List ℕ)) (slot : S → Option (List ℕ))
+    (IsHonest : S → Type 0) (plan : Plan) (coming : Option (List T)) (before after : PrimaryOf S)
+    (old new : Option (List ℕ)) : Type 0 where
+  pub bank : ServesBank sends before.node.names before.node.board.opening plan.sessions coming after.log old new
+  pub left : IsLeft slot IsHonest plan.saves plan.sessions before after

@@ -6,25 +6,27 @@ ghost use Rattle.sb_sequencer.specs.Numbering.{IsLog};
 ghost use Rattle.smallbank.specs.Heard.{IsHeard};
 
 use crate::hanging_up::hang_up;
+use crate::serving::Setting;
 use bank_server::{Primary, SessionFault, serve_session};
 use cown_workers::Crew;
 use sb_checkpoint::CheckpointStore;
-use std::alloc::Global;
 use std::io;
 use std::io::{Read, Write};
 use std::net::OpenStream;
+use std::time::{Clock, Duration};
 
 /// Serves a client, as [`serve_session`], and hangs up.
 ///
 /// A client that sent what it may not still gets all that it was told. Where the stream can't be set up, it is as if it
-/// had failed at once.
-pub(crate) fn serve_client<T, S, C>(
-    alloc: Global,
+/// had failed at once; where the plan's patience with a read or a write is over, as if that had failed.
+pub(crate) fn serve_client<R, T, S, C>(
+    setting: &Setting<'_, R>,
     stream: T,
     primary: &mut Primary<S>,
     crew: &mut C,
 ) -> Result<(), SessionFault>
 where
+    R: Clock,
     T: Read + Write + OpenStream + Drop,
     S: CheckpointStore,
     C: Crew,
@@ -37,18 +39,23 @@ where
     ensures stays { C.keeps crew.old ≡ false → C.keeps crew.new ≡ false }
 {
     let mut reader = stream;
-    let Ok(mut writer) = writer_of(&reader) else {
+    let Ok(mut writer) = set_up(&reader, setting.plan.patience) else {
         return Err(SessionFault::Device);
     };
-    let served = serve_session(alloc, &mut reader, &mut writer, primary, crew);
+    let served = serve_session(setting.alloc, &mut reader, &mut writer, primary, crew);
     if let Err(SessionFault::Frame(_) | SessionFault::Unexpected) = served {
-        hang_up(&mut reader);
+        hang_up(setting.rt, &mut reader);
     }
     served
 }
 
-// Another end of the stream, to write to. What is written is sent at once.
-fn writer_of<T: OpenStream>(stream: &T) -> io::Result<T> {
+// Another end of the stream, to write to. What is written is sent at once, and the client is waited for so many seconds.
+fn set_up<T: OpenStream>(stream: &T, patience: Option<usize>) -> io::Result<T> {
     stream.set_nodelay(true)?;
+    if let Some(seconds) = patience {
+        let limit = Some(Duration::from_secs(seconds as u64));
+        stream.set_read_timeout(limit)?;
+        stream.set_write_timeout(limit)?;
+    }
     stream.try_clone()
 }

@@ -65,6 +65,7 @@ fn serve<'a>(alloc: Global) -> Result<Command<'a>, AllocError> {
         nodes(alloc),
         workers(alloc),
         store(alloc),
+        patience(alloc),
     ];
     let args = Vec::from_array(alloc, args)?;
     Command::new(alloc, "serve")
@@ -100,6 +101,17 @@ fn store<'a>(alloc: Global) -> Arg<'a> {
         .long("store")
         .value_name("FOLDER")
         .help("Where the first node saves a checkpoint after each session, as node0.ckpt")
+}
+
+// How long a client is waited for.
+fn patience<'a>(alloc: Global) -> Arg<'a> {
+    Arg::new(alloc, "patience")
+        .long("patience")
+        .value_name("1..86400")
+        .value_parser(value_parser!(usize).range(1..=86_400))
+        .help(
+            "For how many seconds a client is waited for, at each read and each write; without it for ever",
+        )
 }
 
 // How many nodes there are.

@@ -3,7 +3,9 @@ ghost use Rattle.std.specs.Prelude.{◌≡◌, List, Option, None, IfOk};
 ghost use Rattle.smallbank.specs.Heard.{LetsIn};
 
 use std::io;
+use std::io::ErrorKind;
 use std::net::OpenListener;
+use std::sync::Wait;
 
 /// Lets clients in, one after the other.
 ///
@@ -25,30 +27,56 @@ pub trait Door {
 
 /// The door of a listener, which tells nobody who is coming.
 #[derive(Drop)]
-pub struct ListenerDoor<L: OpenListener> {
+pub struct ListenerDoor<'a, R: Wait, L: OpenListener> {
+    rt: &'a R,
     listener: L,
 }
 
-impl<L: OpenListener> ListenerDoor<L> {
+impl<'a, R: Wait, L: OpenListener> ListenerDoor<'a, R, L> {
     /// The door where this listener listens.
-    pub fn new(listener: L) -> ListenerDoor<L>
+    pub fn new(rt: &'a R, listener: L) -> ListenerDoor<'a, R, L>
         ensures { result.listener ≡ listener }
     {
-        ListenerDoor { listener }
+        ListenerDoor { rt, listener }
     }
 }
 
-impl<L: OpenListener> Door for ListenerDoor<L> {
+impl<'a, R: Wait, L: OpenListener> Door for ListenerDoor<'a, R, L> {
     type Stream = L::Stream;
 
     ghost coming = { λ door. None };
 
+    // A client that is gone before it is let in is passed by.
     fn let_in(&mut self) -> io::Result<L::Stream> {
-        let (stream, _) = self.listener.accept()?;
-        Ok(stream)
+        for _ in self.rt.forever() {
+            match self.listener.accept() {
+                Ok((stream, _)) => return Ok(stream),
+                Err(error) => {
+                    if !is_of_a_client(error.kind()) {
+                        return Err(error);
+                    }
+                }
+            }
+        }
+        unreachable!()
     }
 
     fn port(&self) -> io::Result<u16> {
         Ok(self.listener.local_addr()?.port())
     }
+}
+
+// Whether what is told of a client says nothing of the device: that it is gone, or the way to it is. Linux tells that as
+// it lets a client in.
+fn is_of_a_client(kind: ErrorKind) -> bool {
+    matches!(
+        kind,
+        ErrorKind::ConnectionAborted
+            | ErrorKind::ConnectionReset
+            | ErrorKind::HostUnreachable
+            | ErrorKind::NetworkUnreachable
+            | ErrorKind::NetworkDown
+            | ErrorKind::TimedOut
+            | ErrorKind::Interrupted
+    )
 }

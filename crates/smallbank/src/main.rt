@@ -9,15 +9,14 @@ use cown_workers::OpenGate;
 use fault::ProgramFault;
 use schedule_player::run_schedule;
 use serve_program::serve_program;
-use serving::Plan;
-use std::env;
 use std::net::Net;
 use std::process::ExitCode;
 use std::sync::Wait;
 use std::thread::Threads;
 use std::time::Clock;
+use std::{env, io};
 use told::told;
-use words::{Words, read_words};
+use words::{Words, read_words, refuse_bytes};
 
 mod client;
 pub mod command;
@@ -57,7 +56,10 @@ fn start<H: Threads + Wait + Clock + Sync + Net>(
 ) -> Result<u8, ProgramFault> {
     let words: Vec<String> = match env::args(rt) {
         Ok(words) => words.collect(rt.alloc())?,
-        Err(_) => return Err(ProgramFault::Run(RunFault::OutOfMemory)),
+        Err(error) if error.kind() == io::ErrorKind::OutOfMemory => {
+            return Err(ProgramFault::Run(RunFault::OutOfMemory));
+        }
+        Err(_) => return tell(rt, refuse_bytes(rt.alloc())),
     };
     match read_words(rt.alloc(), &words) {
         Ok(read) => obey(rt, threads, read),
@@ -87,21 +89,7 @@ fn obey<H: Threads + Wait + Clock + Sync + Net>(
             )?;
         }
         Words::Play => run_schedule(rt.alloc(), &mut rt.stdin(), &mut rt.stdout())?,
-        Words::Serve {
-            port,
-            sessions,
-            nodes,
-            workers,
-            store,
-        } => {
-            let plan = Plan {
-                sessions,
-                nodes,
-                workers,
-                saves: store.is_some(),
-            };
-            serve_program(rt, threads, port as u16, store, plan)?;
-        }
+        Words::Serve { port, plan, store } => serve_program(rt, threads, port, store, plan)?,
     }
     Ok(0)
 }

@@ -1,6 +1,6 @@
 //! What stands for an option among the program's words.
 ghost use Rattle.std.specs.Prelude.{◌≡◌, ◌≢◌, ◌++◌, ◌∷◌, IfSome, MatchOption, map, string_bytes};
-ghost use Rattle.smallbank.specs.Words.{Counts, Numbers, Stands};
+ghost use Rattle.smallbank.specs.Words.{Counts, MayNumber, Numbers, Stands};
 
 /// The number that stands for an option, or the standard one; `None` for what is no number.
 pub fn count(words: &[String], option: &str, standard: usize) -> Option<usize>
@@ -10,6 +10,16 @@ pub fn count(words: &[String], option: &str, standard: usize) -> Option<usize>
     match value(words, option) {
         Some(text) => text.parse::<usize>().ok(),
         None => Some(standard),
+    }
+}
+
+/// The number that stands for an option, if one does; `None` for what is no number.
+pub fn maybe(words: &[String], option: &str) -> Option<Option<usize>>
+    ensures { IfSome result (λ number. MayNumber option.now number (map string_bytes words.now)) }
+{
+    match value(words, option) {
+        Some(text) => Some(Some(text.parse::<usize>().ok()?)),
+        None => Some(None),
     }
 }
 

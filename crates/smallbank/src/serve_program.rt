@@ -91,7 +91,7 @@ where
     requires workers { plan.workers ≤ 16 }
     ensures fault { IfErr result (IsProgramFault port plan.nodes plan.saves false) }
 {
-    let door = ListenerDoor::new(listen(threads, port)?);
+    let door = ListenerDoor::new(threads, listen(threads, port)?);
     let opening = Box::into_inner(opening);
     serve(threads, rt.alloc(), door, opening, store, plan, rt.stdout())?;
     Ok(())

@@ -4,7 +4,7 @@ ghost use Rattle.bank_server.specs.Primary.{HasAll};
 ghost use Rattle.sb_sequencer.specs.Numbering.{IsLog};
 ghost use Rattle.smallbank.specs.Kept.{IsKept, IsLeft};
 ghost use Rattle.smallbank.specs.ServeFaults.{IsKeepFault, IsKeepRunFault, IsServingFault};
-ghost use Rattle.smallbank.specs.Served.{GoesOn, ServesAll, ServesBank, ServesNext};
+ghost use Rattle.smallbank.specs.Served.{GoesOn, ServesAll, ServesAsPlanned, ServesBank, ServesNext};
 
 use crate::client::serve_client;
 use crate::door::Door;
@@ -33,6 +33,16 @@ pub struct Plan {
     pub workers: usize,
     /// Whether node 0 puts a checkpoint into its store after each session.
     pub saves: bool,
+    /// For how many seconds a client is waited for, at each read and each write; `None` is for ever.
+    pub patience: Option<usize>,
+}
+
+// Where and how a bank is served.
+#[derive(Drop)]
+pub(crate) struct Setting<'a, R> {
+    pub(crate) rt: &'a R,
+    pub(crate) alloc: Global,
+    pub(crate) plan: Plan,
 }
 
 /// A bank that was served.
@@ -89,27 +99,55 @@ where
 {
     let opening = Box::new(alloc, opening)?;
     let primary = open_bank(alloc, &opening, store)?;
-    with_followers(
-        rt,
-        alloc,
+    serve_bank(
+        &Setting { rt, alloc, plan },
+        door,
+        primary,
         &opening,
-        plan.nodes,
+        writer,
+    )
+}
+
+// Serves a bank beside followers that are at this opening. It is the bank's own, but for a test that has them stray.
+pub(crate) fn serve_bank<H, D, S, W>(
+    setting: &Setting<'_, H>,
+    door: D,
+    primary: Primary<S>,
+    opening: &Opening,
+    writer: W,
+) -> Result<Served<S, W>, ServeFault>
+where
+    H: Threads + Wait + Clock + Sync,
+    D: Door + Drop,
+    D::Stream: Read + Write + OpenStream,
+    S: CheckpointStore,
+    W: Write + Drop,
+    requires nodes { setting.now.plan.nodes ≤ 8 }
+    requires workers { setting.now.plan.workers ≤ 16 }
+    requires all { HasAll primary }
+    requires none { primary.log ≡ [] }
+    ensures served { IfOk result (λ bank. ServesAsPlanned D.Stream.remaining S.slot S.IsHonest
+        setting.now.plan (D.coming door) primary bank.primary (W.contents writer) (W.contents bank.writer)) }
+    ensures fault { IfErr result (IsServingFault setting.now.plan.nodes setting.now.plan.saves) }
+{
+    with_followers(
+        setting.rt,
+        setting.alloc,
+        opening,
+        setting.plan.nodes,
         move |followers: &mut Followers<'_, H>| -> Result<Served<S, W>, ServeFault>
-            requires workers { plan.workers ≤ 16 }
+            requires workers { setting.now.plan.workers ≤ 16 }
             requires all { HasAll primary }
             requires none { primary.log ≡ [] }
-            ensures served { IfOk result (λ bank. ServesBank D.Stream.remaining primary.node.names
-                primary.node.board.opening plan.sessions (D.coming door) bank.primary.log
-                (W.contents writer) (W.contents bank.writer)) }
-            ensures left { IfOk result (λ bank. IsLeft S.slot S.IsHonest plan.saves plan.sessions
-                primary bank.primary) }
-            ensures fault { IfErr result (IsServingFault followers.old.nodes plan.saves) }
-        { serve_beside(rt, alloc, door, primary, followers, plan, writer) },
+            ensures served { IfOk result (λ bank. ServesAsPlanned D.Stream.remaining S.slot S.IsHonest
+                setting.entry.now.plan (D.coming door) primary bank.primary (W.contents writer) (W.contents bank.writer)) }
+            ensures fault { IfErr result (IsServingFault followers.old.nodes setting.entry.now.plan.saves) }
+        { serve_beside(setting, door, primary, followers, writer) },
     )?
 }
 
 // A bank with an empty log, and names and columns of its own.
-fn open_bank<S: CheckpointStore>(
+pub(crate) fn open_bank<S: CheckpointStore>(
     alloc: Global,
     opening: &Opening,
     store: S,
@@ -130,12 +168,10 @@ fn open_bank<S: CheckpointStore>(
 
 // Serves a bank beside its followers, with workers where the plan has some.
 fn serve_beside<H, D, S, W>(
-    rt: &H,
-    alloc: Global,
+    setting: &Setting<'_, H>,
     door: D,
     primary: Primary<S>,
     followers: &mut Followers<'_, H>,
-    plan: Plan,
     writer: W,
 ) -> Result<Served<S, W>, ServeFault>
 where
@@ -144,51 +180,42 @@ where
     D::Stream: Read + Write + OpenStream,
     S: CheckpointStore,
     W: Write + Drop,
-    requires workers { plan.workers ≤ 16 }
+    requires workers { setting.now.plan.workers ≤ 16 }
     requires all { HasAll primary }
     requires none { primary.log ≡ [] }
-    ensures served { IfOk result (λ bank. ServesBank D.Stream.remaining primary.node.names
-        primary.node.board.opening plan.sessions (D.coming door) bank.primary.log
-        (W.contents writer) (W.contents bank.writer)) }
-    ensures left { IfOk result (λ bank. IsLeft S.slot S.IsHonest plan.saves plan.sessions
-        primary bank.primary) }
-    ensures fault { IfErr result (IsServingFault followers.old.nodes plan.saves) }
+    ensures served { IfOk result (λ bank. ServesAsPlanned D.Stream.remaining S.slot S.IsHonest
+        setting.now.plan (D.coming door) primary bank.primary (W.contents writer) (W.contents bank.writer)) }
+    ensures fault { IfErr result (IsServingFault followers.old.nodes setting.now.plan.saves) }
 {
-    if plan.workers == 0 {
-        let crew = &mut InlineCrew;
-        return serve_by(rt, alloc, door, primary, followers, crew, plan, writer);
+    if setting.plan.workers == 0 {
+        return serve_by(setting, door, primary, followers, &mut InlineCrew, writer);
     }
     with_crew(
-        rt,
-        alloc,
-        plan.workers,
+        setting.rt,
+        setting.alloc,
+        setting.plan.workers,
         &OpenGate,
         move |crew: &mut BenchCrew<'_, H, OpenGate>| -> Result<Served<S, W>, ServeFault>
             requires all { HasAll primary }
             requires none { primary.log ≡ [] }
-            ensures served { IfOk result (λ bank. ServesBank D.Stream.remaining primary.node.names
-                primary.node.board.opening plan.sessions (D.coming door) bank.primary.log
-                (W.contents writer) (W.contents bank.writer)) }
-            ensures left { IfOk result (λ bank. IsLeft S.slot S.IsHonest plan.saves plan.sessions
-                primary bank.primary) }
-            ensures fault { IfErr result (IsServingFault followers.entry.now.nodes plan.saves) }
-        { serve_by(rt, alloc, door, primary, followers, crew, plan, writer) },
+            ensures served { IfOk result (λ bank. ServesAsPlanned D.Stream.remaining S.slot S.IsHonest
+                setting.entry.now.plan (D.coming door) primary bank.primary (W.contents writer) (W.contents bank.writer)) }
+            ensures fault { IfErr result (IsServingFault followers.entry.now.nodes setting.entry.now.plan.saves) }
+        { serve_by(setting, door, primary, followers, crew, writer) },
     )?
 }
 
 // Serves a bank by this crew.
 fn serve_by<H, D, S, C, W>(
-    rt: &H,
-    alloc: Global,
+    setting: &Setting<'_, H>,
     mut door: D,
     mut primary: Primary<S>,
     followers: &mut Followers<'_, H>,
     crew: &mut C,
-    plan: Plan,
     mut writer: W,
 ) -> Result<Served<S, W>, ServeFault>
 where
-    H: Threads + Wait,
+    H: Threads + Wait + Clock,
     D: Door + Drop,
     D::Stream: Read + Write + OpenStream,
     S: CheckpointStore,
@@ -196,21 +223,16 @@ where
     W: Write + Drop,
     requires all { HasAll primary }
     requires none { primary.log ≡ [] }
-    ensures served { IfOk result (λ bank. ServesBank D.Stream.remaining primary.node.names
-        primary.node.board.opening plan.sessions (D.coming door) bank.primary.log
-        (W.contents writer) (W.contents bank.writer)) }
-    ensures left { IfOk result (λ bank. IsLeft S.slot S.IsHonest plan.saves plan.sessions
-        primary bank.primary) }
-    ensures fault { IfErr result (IsServingFault followers.old.nodes plan.saves) }
+    ensures served { IfOk result (λ bank. ServesAsPlanned D.Stream.remaining S.slot S.IsHonest
+        setting.now.plan (D.coming door) primary bank.primary (W.contents writer) (W.contents bank.writer)) }
+    ensures fault { IfErr result (IsServingFault followers.old.nodes setting.now.plan.saves) }
 {
     serve_whole(
-        rt,
-        alloc,
+        setting,
         &mut door,
         &mut primary,
         followers,
         crew,
-        plan,
         &mut writer,
     )?;
     Ok(Served { primary, writer })
@@ -218,17 +240,15 @@ where
 
 // Serves a bank that is lent, and prints all that is printed of it.
 fn serve_whole<H, D, S, C, W>(
-    rt: &H,
-    alloc: Global,
+    setting: &Setting<'_, H>,
     door: &mut D,
     primary: &mut Primary<S>,
     followers: &mut Followers<'_, H>,
     crew: &mut C,
-    plan: Plan,
     writer: &mut W,
 ) -> Result<(), ServeFault>
 where
-    H: Threads + Wait,
+    H: Threads + Wait + Clock,
     D: Door,
     D::Stream: Read + Write + OpenStream,
     S: CheckpointStore,
@@ -236,32 +256,28 @@ where
     W: Write,
     requires all { HasAll primary.old }
     requires none { primary.old.log ≡ [] }
-    ensures served { OnOk result (ServesBank D.Stream.remaining primary.old.node.names
-        primary.old.node.board.opening plan.sessions (D.coming door.old) primary.new.log
-        (W.contents writer.old) (W.contents writer.new)) }
-    ensures left { OnOk result (IsLeft S.slot S.IsHonest plan.saves plan.sessions
-        primary.old primary.new) }
-    ensures fault { IfErr result (IsServingFault followers.old.nodes plan.saves) }
+    ensures served { OnOk result (ServesAsPlanned D.Stream.remaining S.slot S.IsHonest
+        setting.now.plan (D.coming door.old) primary.old primary.new (W.contents writer.old) (W.contents writer.new)) }
+    ensures fault { IfErr result (IsServingFault followers.old.nodes setting.now.plan.saves) }
 {
-    print_port(alloc, door, writer)?;
-    serve_all(alloc, door, primary, followers, crew, plan, writer)?;
-    followers.compare(rt, primary.node())?;
-    print_rows(alloc, primary, writer)?;
+    print_port(setting.alloc, door, writer)?;
+    serve_all(setting, door, primary, followers, crew, writer)?;
+    followers.compare(setting.rt, primary.node())?;
+    print_rows(setting.alloc, primary, writer)?;
     Ok(())
 }
 
 // Serves the clients, one after the other.
 fn serve_all<R, D, S, C, W>(
-    alloc: Global,
+    setting: &Setting<'_, R>,
     door: &mut D,
     primary: &mut Primary<S>,
     followers: &mut Followers<'_, R>,
     crew: &mut C,
-    plan: Plan,
     writer: &mut W,
 ) -> Result<(), ServeFault>
 where
-    R: Wait,
+    R: Wait + Clock,
     D: Door,
     D::Stream: Read + Write + OpenStream,
     S: CheckpointStore,
@@ -269,42 +285,32 @@ where
     W: Write,
     requires one_each { IsLog primary.old.log }
     requires all { HasAll primary.old }
-    ensures served { OnOk result (ServesAll D.Stream.remaining plan.sessions
+    ensures served { OnOk result (ServesAll D.Stream.remaining setting.now.plan.sessions
         (D.coming door.old) (D.coming door.new) primary.old.log primary.new.log
         (W.contents writer.old) (W.contents writer.new)) }
-    ensures left { OnOk result (IsLeft S.slot S.IsHonest plan.saves plan.sessions
+    ensures left { OnOk result (IsLeft S.slot S.IsHonest setting.now.plan.saves setting.now.plan.sessions
         primary.old primary.new) }
     ensures nodes { followers.new.nodes ≡ followers.old.nodes }
-    ensures fault { IfErr result (IsKeepFault plan.saves) }
+    ensures fault { IfErr result (IsKeepFault setting.now.plan.saves) }
 {
-    for before in 0..plan.sessions {
-        serve_next(
-            alloc,
-            door,
-            before + 1,
-            primary,
-            followers,
-            crew,
-            plan.saves,
-            writer,
-        )?;
+    for before in 0..setting.plan.sessions {
+        serve_next(setting, before + 1, door, primary, followers, crew, writer)?;
     }
     Ok(())
 }
 
 // Serves the next client, and prints how that ended.
 fn serve_next<R, D, S, C, W>(
-    alloc: Global,
-    door: &mut D,
+    setting: &Setting<'_, R>,
     number: usize,
+    door: &mut D,
     primary: &mut Primary<S>,
     followers: &mut Followers<'_, R>,
     crew: &mut C,
-    saves: bool,
     writer: &mut W,
 ) -> Result<(), ServeFault>
 where
-    R: Wait,
+    R: Wait + Clock,
     D: Door,
     D::Stream: Read + Write + OpenStream,
     S: CheckpointStore,
@@ -314,18 +320,18 @@ where
     ensures served { OnOk result (ServesNext D.Stream.remaining number
         (D.coming door.old) (D.coming door.new) primary.old.log primary.new.log
         (W.contents writer.old) (W.contents writer.new)) }
-    ensures left { OnOk result (IsLeft S.slot S.IsHonest saves 1 primary.old primary.new) }
+    ensures left { OnOk result (IsLeft S.slot S.IsHonest setting.now.plan.saves 1 primary.old primary.new) }
     ensures nodes { followers.new.nodes ≡ followers.old.nodes }
-    ensures fault { IfErr result (IsKeepFault saves) }
+    ensures fault { IfErr result (IsKeepFault setting.now.plan.saves) }
 {
     let stream = door.let_in()?;
-    let served = serve_client(alloc, stream, primary, crew);
+    let served = serve_client(setting, stream, primary, crew);
     if let Some(fault) = ending(served) {
-        print_session(alloc, number, served, writer)?;
+        print_session(setting.alloc, number, served, writer)?;
         return Err(ServeFault::Run(fault));
     }
-    keep(primary, followers, saves, crew)?;
-    print_session(alloc, number, served, writer)
+    keep(primary, followers, setting.plan.saves, crew)?;
+    print_session(setting.alloc, number, served, writer)
 }
 
 // How the program ends after such a session, if it does.

@@ -1,5 +1,6 @@
 //! What no clause says: the program's words, how faults are told, and banks that are served.
 mod clients;
+mod hostile;
 mod openings;
 mod reports;
 mod served;

@@ -1,16 +1,20 @@
 //! The program's words.
 ghost use Rattle.std.specs.Prelude.{◌≡◌, IfOk, IfSome};
-ghost use Rattle.smallbank.specs.Words.{InRange, IsRunOf, IsServeOf, Names, Says};
+ghost use Rattle.smallbank.specs.Words.{InRange, IsPlanOf, IsRunOf, IsServeOf, Names, Says};
 
 use crate::command::command;
-use crate::options::{count, number, value};
+use crate::options::{count, maybe, number, value};
+use crate::serving::Plan;
 use clap::error::ErrorKind;
 use clap::{Command, Error};
 use std::alloc::{AllocError, Global};
 
 // What is told of words that clap takes and `named` doesn't. None are known.
 const UNREAD: &str =
-    "these take 1 to 8 nodes, 0 to 16 workers, 1 to 1000 sessions and a port, as plain numbers";
+    "these take 1 to 8 nodes, 0 to 16 workers, 1 to 1000 sessions, 1 to 86400 seconds and a port, \
+    as plain numbers";
+
+const NO_TEXT: &str = "a word isn't UTF-8";
 
 /// What the program is to do.
 #[derive(Clone, Copy, Debug, PartialEq, Eq)]
@@ -26,14 +30,10 @@ pub enum Words<'a> {
     Play,
     /// Serve the bank of an opening from standard input.
     Serve {
-        /// Where clients are listened to: 0 to 65535, and with 0 at any free port.
-        port: usize,
-        /// How many clients are served: 1 to 1,000.
-        sessions: usize,
-        /// As of a run.
-        nodes: usize,
-        /// As of a run.
-        workers: usize,
+        /// Where clients are listened to, and with 0 at any free port.
+        port: u16,
+        /// How it is served: it saves where there is a store.
+        plan: Plan,
         /// The folder where node 0 keeps its checkpoint, if it keeps one.
         store: Option<&'a str>,
     },
@@ -55,6 +55,19 @@ pub fn read_words<'a>(alloc: Global, words: &'a [String]) -> Result<Words<'a>, E
         Some(read) => Ok(read),
         None => Err(command.error(ErrorKind::ValueValidation, UNREAD)?),
     }
+}
+
+/// What is told where a word isn't UTF-8.
+pub fn refuse_bytes(alloc: Global) -> Error {
+    match refusal(alloc, NO_TEXT) {
+        Ok(error) | Err(error) => error,
+    }
+}
+
+// A fault of the words with this text.
+fn refusal(alloc: Global, text: &str) -> Result<Error, Error> {
+    let mut command = boxed_command(alloc)?;
+    Ok(command.error(ErrorKind::ValueValidation, text)?)
 }
 
 // The program's command. Each way out of a function that owns it would drop all of it.
@@ -109,20 +122,29 @@ fn run<'a>(options: &'a [String]) -> Option<Words<'a>>
 fn serve<'a>(options: &'a [String]) -> Option<Words<'a>>
     ensures { IfSome result (λ read. IsServeOf options.entry.now read) }
 {
-    let port = number(options, "--port")?;
-    let sessions = count(options, "--sessions", 1)?;
-    let nodes = count(options, "--nodes", 1)?;
-    let workers = count(options, "--workers", 0)?;
+    let port = u16::try_from(number(options, "--port")?).ok()?;
     let store = value(options, "--store");
-    let is_served = port <= 65_535 && (1..=1_000).contains(&sessions);
-    if is_served && (1..=8).contains(&nodes) && workers <= 16 {
-        Some(Words::Serve {
-            port,
-            sessions,
-            nodes,
-            workers,
-            store,
-        })
+    let plan = plan_of(options, store.is_some())?;
+    Some(Words::Serve { port, plan, store })
+}
+
+// The plan of such words, of a bank that saves or doesn't.
+fn plan_of(options: &[String], saves: bool) -> Option<Plan>
+    ensures { IfSome result (λ plan. IsPlanOf options.now saves plan) }
+{
+    let plan = Plan {
+        sessions: count(options, "--sessions", 1)?,
+        nodes: count(options, "--nodes", 1)?,
+        workers: count(options, "--workers", 0)?,
+        saves,
+        patience: maybe(options, "--patience")?,
+    };
+    let is_patient = plan
+        .patience
+        .is_none_or(|seconds| (1..=86_400).contains(&seconds));
+    let is_served = (1..=1_000).contains(&plan.sessions) && is_patient;
+    if is_served && (1..=8).contains(&plan.nodes) && plan.workers <= 16 {
+        Some(plan)
     } else {
         None
     }

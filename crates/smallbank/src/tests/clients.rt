@@ -30,11 +30,26 @@ pub struct Client<'a> {
     pub manner: Manner,
 }
 
-/// All that clients are told, and how often the server hangs up before they do.
+/// All that clients are told, how often the server hangs up before they do, and how long it waited for each of them, at a
+/// read and at a write.
 #[derive(Drop)]
 pub struct Told {
     pub bytes: RefCell<Vec<u8>>,
     pub hung_up: Cell<usize>,
+    pub read_limit: Cell<Option<Duration>>,
+    pub write_limit: Cell<Option<Duration>>,
+}
+
+impl Told {
+    /// Before the first client.
+    pub fn new(alloc: Global) -> Told {
+        Told {
+            bytes: RefCell::new(Vec::new(alloc)),
+            hung_up: Cell::new(0),
+            read_limit: Cell::new(None),
+            write_limit: Cell::new(None),
+        }
+    }
 }
 
 /// The server's end of a client's stream.
@@ -82,7 +97,13 @@ impl OpenStream for End<'_, '_> {
         Ok(())
     }
 
-    fn set_read_timeout(&self, _dur: Option<Duration>) -> io::Result<()> {
+    fn set_read_timeout(&self, dur: Option<Duration>) -> io::Result<()> {
+        self.told.read_limit.set(dur);
+        Ok(())
+    }
+
+    fn set_write_timeout(&self, dur: Option<Duration>) -> io::Result<()> {
+        self.told.write_limit.set(dur);
         Ok(())
     }
 

@@ -3,12 +3,11 @@ ghost use Rattle.std.specs.Prelude.{◌≤◌, None};
 
 use super::clients::{Client, Doorway, Manner, Told};
 use crate::serve_fault::ServeFault;
-use crate::serving::{Plan, serve};
+use crate::serving::{Plan, Setting, open_bank, serve, serve_bank};
 use bank_server::RunFault;
 use sb_checkpoint::{CheckpointStore, How, MemoryStore, StoreFault};
 use sb_rows::read_opening;
 use std::alloc::Global;
-use std::cell::{Cell, RefCell};
 use std::process::Abort;
 use std::sync::Wait;
 use std::thread::Threads;
@@ -77,10 +76,7 @@ fn expect<S: CheckpointStore>(
     requires nodes { plan.nodes ≤ 8 }
     requires workers { plan.workers ≤ 16 }
 {
-    let all = Told {
-        bytes: RefCell::new(Vec::new(alloc)),
-        hung_up: Cell::new(0),
-    };
+    let all = Told::new(alloc);
     let door = Doorway::of(alloc, clients, &all).expect(rt, "a door");
     let opening = read_opening(alloc, OPENING).expect(rt, "an opening");
     let mut written: Vec<u8> = Vec::new(alloc);
@@ -106,6 +102,7 @@ fn two_sessions_and_one_at_fault(rt: HostRuntime) {
                 nodes,
                 workers,
                 saves,
+                patience: None,
             };
             let store = MemoryStore::new(alloc);
             let hung_up = expect(&rt, alloc, &clients, store, plan, Ok(()), printed, TOLD);
@@ -140,6 +137,7 @@ fn sessions_at_fault(rt: HostRuntime) {
         nodes: 2,
         workers: 1,
         saves: true,
+        patience: None,
     };
     let printed = "listening 127.0.0.1:4000\nsession 1 fault 1\nsession 2 fault 2\n\
         session 3 fault 4\nsession 4 fault 4\nsession 5 fault 4\nsession 6 ok\nsession 7 ok\n\
@@ -157,6 +155,7 @@ fn nobody_else_is_let_in(rt: HostRuntime) {
         nodes: 1,
         workers: 0,
         saves: false,
+        patience: None,
     };
     let ends = Err(ServeFault::Run(RunFault::Device));
     let printed = "listening 127.0.0.1:4000\nsession 1 ok\n";
@@ -182,6 +181,7 @@ fn stores_that_fail(rt: HostRuntime) {
         nodes: 1,
         workers: 0,
         saves: true,
+        patience: None,
     };
     let printed = "listening 127.0.0.1:4000\n";
     let ends = Err(ServeFault::ReadBack);
@@ -190,4 +190,41 @@ fn stores_that_fail(rt: HostRuntime) {
     store.tell(How::New);
     let ends = Err(ServeFault::Run(RunFault::Device));
     expect(&rt, alloc, &clients, store, plan, ends, printed, TOLD);
+}
+
+// Serves a client who is told, beside followers that begin with this opening, and gives how that ends.
+fn serve_beside(
+    rt: &(impl Abort + Threads + Wait + Clock + Sync),
+    alloc: Global,
+    beside: &[u8],
+    nodes: usize,
+) -> Result<(), ServeFault>
+    requires { nodes ≤ 8 }
+{
+    let told = Told::new(alloc);
+    let door = Doorway::of(alloc, &[plain(ASKED)], &told).expect(rt, "a door");
+    let opening = read_opening(alloc, OPENING).expect(rt, "an opening");
+    let primary = open_bank(alloc, &opening, MemoryStore::new(alloc)).expect(rt, "a bank");
+    let beside = read_opening(alloc, beside).expect(rt, "an opening");
+    let plan = Plan {
+        sessions: 1,
+        nodes,
+        workers: 0,
+        saves: false,
+        patience: None,
+    };
+    let setting = &Setting { rt, alloc, plan };
+    serve_bank(setting, door, primary, &beside, Vec::new(alloc)).map(|_| ())
+}
+
+// What `serve` does with its followers: it has no part of its own in which they could stray.
+#[test]
+fn followers_that_began_otherwise_stray(rt: HostRuntime) {
+    let alloc = rt.alloc();
+    let other = b"alice 100.00 50.00\nbob 0.01 20.00\nbegin\n";
+    let strayed = Err(ServeFault::Run(RunFault::Strayed(1)));
+    assert!(&rt; serve_beside(&rt, alloc, OPENING, 3).is_ok());
+    assert!(&rt; serve_beside(&rt, alloc, other, 3) == strayed);
+    // Without followers nobody is compared.
+    assert!(&rt; serve_beside(&rt, alloc, other, 1).is_ok());
 }

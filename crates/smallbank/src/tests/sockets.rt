@@ -64,8 +64,9 @@ fn clients_over_sockets(rt: HostRuntime) {
                 nodes: 2,
                 workers: 1,
                 saves: true,
+                patience: None,
             };
-            let door = ListenerDoor::new(listener);
+            let door = ListenerDoor::new(&rt, listener);
             serve(&rt, alloc, door, opening, store, plan, Vec::new(alloc))
         },
         || -> io::Result<bool> {

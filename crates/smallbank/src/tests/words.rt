@@ -1,5 +1,7 @@
 //! The program's words.
-use crate::words::{Words, read_words};
+use crate::serving::Plan;
+use crate::words::{Words, read_words, refuse_bytes};
+use clap::Error;
 use std::alloc::Global;
 use std::process::Abort;
 
@@ -36,6 +38,11 @@ fn expect(rt: &impl Abort, alloc: Global, words: &[&str], wanted: Words) {
 fn expect_told(rt: &impl Abort, alloc: Global, words: &[&str], status: i32, part: &str) {
     let all = words_of(rt, alloc, words);
     let error = read_words(alloc, &all).err().expect(rt, "a fault");
+    expect_error(rt, alloc, &error, status, part);
+}
+
+// This fault of words ends with this status and a text that has this part.
+fn expect_error(rt: &impl Abort, alloc: Global, error: &Error, status: i32, part: &str) {
     assert!(rt; error.exit_code() == status);
     let told = format!(in alloc; "{error}").expect(rt, "memory for a text");
     assert!(rt; told.as_str().contains(part), "{part}");
@@ -65,16 +72,24 @@ fn words_of_a_server(rt: HostRuntime) {
     let alloc = rt.alloc();
     let usual = Words::Serve {
         port: 0,
-        sessions: 1,
-        nodes: 1,
-        workers: 0,
+        plan: Plan {
+            sessions: 1,
+            nodes: 1,
+            workers: 0,
+            saves: false,
+            patience: None,
+        },
         store: None,
     };
     let all = Words::Serve {
         port: 65_535,
-        sessions: 1_000,
-        nodes: 8,
-        workers: 16,
+        plan: Plan {
+            sessions: 1_000,
+            nodes: 8,
+            workers: 16,
+            saves: true,
+            patience: Some(86_400),
+        },
         store: Some("a folder"),
     };
     let port = ["--port=65535", "--sessions=1000"];
@@ -90,6 +105,8 @@ fn words_of_a_server(rt: HostRuntime) {
             "16",
             "--nodes",
             "8",
+            "--patience",
+            "86400",
             port[0],
             port[1],
         ],
@@ -105,6 +122,7 @@ fn words_of_a_server(rt: HostRuntime) {
             "--store=a folder",
             "--nodes=8",
             "--workers=16",
+            "--patience=86400",
         ],
         all,
     );
@@ -119,7 +137,7 @@ fn expect_refused(rt: &impl Abort, alloc: Global, cases: &[(&[&str], &str)]) {
 
 #[test]
 fn refused_words_of_a_server(rt: HostRuntime) {
-    let cases: [(&[&str], &str); 10] = [
+    let cases: [(&[&str], &str); 12] = [
         (&["serve", "--port", "65536"], "65536 is not in 0..=65535"),
         (&["serve", "--port", "http"], "<0..65535>"),
         (
@@ -134,6 +152,14 @@ fn refused_words_of_a_server(rt: HostRuntime) {
         (
             &["serve", "--workers", "17", "--port=1"],
             "17 is not in 0..=16",
+        ),
+        (
+            &["serve", "--patience", "0", "--port=1"],
+            "0 is not in 1..=86400",
+        ),
+        (
+            &["serve", "--patience=86401", "--port=1"],
+            "86401 is not in 1..=86400",
         ),
         (&["serve"], "--port <0..65535>"),
         (&["serve", "--port"], "<0..65535>"),
@@ -169,4 +195,10 @@ fn help_and_version(rt: HostRuntime) {
     expect_told(&rt, alloc, &["run", "--help"], 0, example);
     let example = "printf 'alice 100.00 50.00\\nbegin\\n' | smallbank serve --port 4000\n";
     expect_told(&rt, alloc, &["serve", "--help"], 0, example);
+}
+
+#[test]
+fn words_of_bytes_that_are_no_text(rt: HostRuntime) {
+    let error = refuse_bytes(rt.alloc());
+    expect_error(&rt, rt.alloc(), &error, 2, "a word isn't UTF-8");
 }

@@ -7,7 +7,7 @@ pub loop-before-init : goal.loop-before-init
 loop-before-init g c = record {
   served = no_sessions g.D.Stream.Read.remaining (g.D.Door.coming c.args.door.now) c.args.primary.now.log (g.W.Write.contents c.args.writer.now);
   within = omega arith;
-  left = left_at_first g.S.CheckpointStore.slot g.S.CheckpointStore.IsHonest c.args.plan.saves c.args.primary.now c.requires.one_each c.requires.all;
+  left = left_at_first g.S.CheckpointStore.slot g.S.CheckpointStore.IsHonest c.args.setting.now.plan.saves c.args.primary.now c.requires.one_each c.requires.all;
   nodes = refl;
 }
 
@@ -21,7 +21,7 @@ loop-before-preserved g c =
           (g.W.Write.contents c.args.writer.now) (g.W.Write.contents c.loop-before.writer) (g.W.Write.contents c.serve_next.new.writer)
           kept.served next.served;
       within = omega (arith, c.loop-before-test.true);
-      left = left_after_next g.S.CheckpointStore.slot g.S.CheckpointStore.IsHonest c.args.plan.saves c.loop-before.before c.args.primary.now
+      left = left_after_next g.S.CheckpointStore.slot g.S.CheckpointStore.IsHonest c.args.setting.now.plan.saves c.loop-before.before c.args.primary.now
           c.loop-before.primary c.serve_next.new.primary kept.left next.left;
       nodes = c.serve_next.ensures.nodes ∙ kept.nodes;
     }

@@ -8,7 +8,7 @@ abbrev pub invariant-loop-before : goal.invariant-loop-before
 invariant-loop-before g l = record {
   served : ServesAll g.D.Stream.Read.remaining l.before (g.D.Door.coming l.fn.door) (g.D.Door.coming l.door)
       l.fn.primary.log l.primary.log (g.W.Write.contents l.fn.writer) (g.W.Write.contents l.writer);
-  within : l.before ≤ l.plan.sessions;
-  left : IsLeft g.S.CheckpointStore.slot g.S.CheckpointStore.IsHonest l.plan.saves l.before l.fn.primary l.primary;
+  within : l.before ≤ l.fn.setting.plan.sessions;
+  left : IsLeft g.S.CheckpointStore.slot g.S.CheckpointStore.IsHonest l.fn.setting.plan.saves l.before l.fn.primary l.primary;
   nodes : l.followers.nodes ≡ l.fn.followers.nodes;
 }

@@ -2,8 +2,11 @@ use Rattle.smallbank.proofs.Printed.{serves_bank}
 use Rattle.smallbank.proofs.serving.serve_whole.Goals as goal
 
 pub returns-clause-served : goal.returns-clause-served
-returns-clause-served g c =
-    serves_bank g.D.Stream.Read.remaining c.args.primary.now c.serve_all.new.primary c.args.plan.sessions (g.D.Door.coming c.args.door.now)
-    (g.D.Door.coming c.serve_all.new.door) (g.W.Write.contents c.args.writer.now) (g.W.Write.contents c.print_port.new.writer)
-    (g.W.Write.contents c.serve_all.new.writer) (g.W.Write.contents c.print_rows.new.writer) c.in_ok-serve_all.ensures.left.bank c.requires.none
-    c.in_ok-print_port.ensures.printed c.in_ok-serve_all.ensures.served c.in_ok-print_rows.ensures.printed
+returns-clause-served g c = record {
+  bank = serves_bank g.D.Stream.Read.remaining c.args.primary.now c.serve_all.new.primary c.args.setting.now.plan.sessions
+      (g.D.Door.coming c.args.door.now) (g.D.Door.coming c.serve_all.new.door) (g.W.Write.contents c.args.writer.now)
+      (g.W.Write.contents c.print_port.new.writer) (g.W.Write.contents c.serve_all.new.writer) (g.W.Write.contents c.print_rows.new.writer)
+      c.in_ok-serve_all.ensures.left.bank c.requires.none c.in_ok-print_port.ensures.printed c.in_ok-serve_all.ensures.served
+      c.in_ok-print_rows.ensures.printed;
+  left = c.in_ok-serve_all.ensures.left;
+}
