@@ -11,7 +11,7 @@ use Rattle.schedule_player.specs.Stage.{IsDone}
 use Rattle.schedule_player.specs.World.{WorldOf}
 use Rattle.schedule_text.specs.declared.event.Event.{Event}
 
--- a world is beside these events
+-- what is so of a world in which these events happened
 pub record IsReplicated (names : List (List ℕ)) (opening : Balances) (events : List Event) (world : WorldOf) : Type 0 where
   -- the log is the first asks of the events
   pub log : world.sequencer.log ≡ log_of events

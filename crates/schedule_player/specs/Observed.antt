@@ -16,6 +16,6 @@ idle_if None = false
 abbrev pub idle_at : WorldOf → ℕ → Bool
 idle_at world r = idle_if (slice_get world.nodes r)
 
--- the reply that it holds to a number
+-- the reply that a replica holds to a number
 abbrev pub reply_at : WorldOf → ℕ → ℕ → Option Reply
 reply_at world r number = option_and_then (λ node. reply_in_node (bank_of world) node number) (slice_get world.nodes r)

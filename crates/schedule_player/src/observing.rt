@@ -71,7 +71,7 @@ impl World {
         // Read by the customers' names they are the rows after as many calls of the log as it has.
         ensures rows { IfSome result (λ columns. (size : ℕ) → length_at self.now replica ≡ Some size
             → IsRowsAt (bank_of self.now) size columns.now) }
-        // After whatever events from an opening, that is the log of the first asks.
+        // After whatever events from an opening, they are those after as many of the first asks of these events.
         ensures by_log { (names : List (List ℕ)) (opening : Balances) (nodes workers : ℕ) (events : List AnyEvent)
             → IsPlayed names opening nodes workers events self.now
             → IfSome result (λ columns. (size : ℕ) → length_at self.now replica ≡ Some size
