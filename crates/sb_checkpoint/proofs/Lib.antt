@@ -1,6 +1,7 @@
 pub mod Balances
 pub mod Chunks
 pub mod Comparing
+pub mod Faultless
 pub mod Found
 pub mod Lists
 pub mod Numbers

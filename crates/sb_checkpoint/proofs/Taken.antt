@@ -28,11 +28,11 @@ abbrev Found : Type 0
 Found = Option CheckpointFault
 
 -- a test that found nothing
-passed : (test : Bool) (fault : CheckpointFault) (later : Found) → cond test (Some fault) later ≡ None → (test ≡ false) × (later ≡ None)
+pub passed : (test : Bool) (fault : CheckpointFault) (later : Found) → cond test (Some fault) later ≡ None → (test ≡ false) × (later ≡ None)
 passed true fault later e = absurd cc
 passed false fault later e = (refl, e)
 
-either : (a b : Bool) → (a || b) ≡ false → (a ≡ false) × (b ≡ false)
+pub either : (a b : Bool) → (a || b) ≡ false → (a ≡ false) × (b ≡ false)
 either true b e = absurd cc
 either false b e = (refl, e)
 
@@ -42,13 +42,13 @@ holds false e = absurd cc
 
 -- ---- what the tests say
 
-record HeadIs (bytes : List ℕ) (customers : ℕ) : Type 0 where
-  begins : take 8 bytes ≡ magic
-  long : 20 ≤ length bytes
-  room : stated_size bytes ≤ length bytes
-  same : stated_customers bytes ≡ customers
+pub record HeadIs (bytes : List ℕ) (customers : ℕ) : Type 0 where
+  pub begins : take 8 bytes ≡ magic
+  pub long : 20 ≤ length bytes
+  pub room : stated_size bytes ≤ length bytes
+  pub same : stated_customers bytes ≡ customers
 
-head_is : (bytes : List ℕ) (customers : ℕ) → head_fault bytes customers ≡ None → HeadIs bytes customers
+pub head_is : (bytes : List ℕ) (customers : ℕ) → head_fault bytes customers ≡ None → HeadIs bytes customers
 unfolding head_fault
 head_is bytes customers e =
     let first = passed (not (starts_with nat_eq magic (take 8 bytes))) BadMagic _ e in

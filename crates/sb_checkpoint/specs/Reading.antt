@@ -1,11 +1,12 @@
 -- What is wrong with bytes that are read as a checkpoint: the first fault that holds.
-use Rattle.std.specs.Prelude.{◌≡◌, ℕ, ◌+◌, ◌*◌, ℤ, pos, neg_ℤ, ◌+ℤ◌, int_lt, nat_lt, nat_eq, ◌==◌, Bool, true, false, ◌||◌, not, if◌then◌else◌, Option, Some, None, List, length, take, drop, get_or, map}
+use Rattle.std.specs.Prelude.{◌≡◌, ℕ, ◌+◌, ◌*◌, ℤ, pos, neg_ℤ, ◌+ℤ◌, ◌<◌, ◌≤◌, int_lt, nat_lt, nat_eq, ◌==◌, Bool, true, false, ◌||◌, not, if◌then◌else◌, Option, Some, None, List, length, take, drop, get_or, map}
 use Rattle.std.specs.Int.{w32, w64, from_be_bytes, cast_signed}
-use Rattle.std.specs.List.{list_any, starts_with}
+use Rattle.std.specs.List.{All, list_any, starts_with}
 use Rattle.std.specs.Option.{option_or}
 use Rattle.std.specs.Ordering.{int_eq}
 use Rattle.std.specs.Simd.{first_chunks}
 use Rattle.sb_amount.specs.declared.cents.TheConstants.{LIMIT}
+use Rattle.sb_rows.specs.declared.columns.TheConstants.{CUSTOMERS}
 use Rattle.sb_calls.specs.Replies.{coded}
 use Rattle.sb_calls.specs.declared.call.TheConstants.{LOG_CALLS}
 use Rattle.sb_calls.specs.declared.reply.Reply.{Reply}
@@ -107,3 +108,9 @@ IsRefusedBy bytes customers fault = first_fault bytes customers ≡ Some fault
 abbrev pub SpelledIsTaken : Type 0
 SpelledIsTaken = (checkpoint : CheckpointOf) (bytes : List ℕ) → Spells checkpoint bytes
     → first_fault bytes (length checkpoint.columns.savings) ≡ None
+
+-- bytes without a fault, read for a bank of so many customers, spell a checkpoint of as many
+abbrev pub TakenIsSpelled : Type 0
+TakenIsSpelled = (bytes : List ℕ) (customers : ℕ) → All (λ byte. byte < 256) bytes → customers ≤ CUSTOMERS
+    → first_fault bytes customers ≡ None
+    → (checkpoint : CheckpointOf) × Spells checkpoint bytes × (length checkpoint.columns.savings ≡ customers)

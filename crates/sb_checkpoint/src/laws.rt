@@ -1,6 +1,6 @@
 //! What the spelling of checkpoints is.
 ghost use Rattle.sb_checkpoint.specs.Checkpoint.{OneCheckpoint};
-ghost use Rattle.sb_checkpoint.specs.Reading.{SpelledIsTaken};
+ghost use Rattle.sb_checkpoint.specs.Reading.{SpelledIsTaken, TakenIsSpelled};
 
 /// Bytes spell at most one checkpoint.
 pub fn one_checkpoint()
@@ -10,4 +10,9 @@ pub fn one_checkpoint()
 /// Bytes that spell a checkpoint are read without a fault.
 pub fn spelled_is_taken()
     ensures { SpelledIsTaken }
+{}
+
+/// Bytes that are read without a fault spell a checkpoint, of as many customers as they are read for.
+pub fn taken_is_spelled()
+    ensures { TakenIsSpelled }
 {}

@@ -19,7 +19,7 @@ pub use checkpoint::Checkpoint;
 pub use fault::CheckpointFault;
 pub use file_store::FileStore;
 pub use folder_file::FolderFile;
-pub use laws::{one_checkpoint, spelled_is_taken};
+pub use laws::{one_checkpoint, spelled_is_taken, taken_is_spelled};
 pub use memory_store::{How, MemoryStore};
 pub use reading::read_checkpoint;
 pub use spared::FileWithSpare;

@@ -1,0 +1,61 @@
+-- Bytes without a fault spell the checkpoint that their fields state.
+use Rattle.std.proofs.Common.{◌≡◌, ℕ, ◌≤◌, false, Option, Some, None, List, [], ◌∷◌, map, refl, ap, ◌∙◌, ◌||◌}
+use Rattle.std.specs.Option.{option_or}
+use Rattle.std.specs.List.{list_any}
+use Rattle.sb_rows.specs.Balances.{IsBalances}
+use Rattle.sb_rows.specs.declared.columns.TheConstants.{CUSTOMERS}
+use Rattle.sb_calls.specs.declared.reply.Reply.{Reply}
+use Rattle.sb_checkpoint.specs.Checkpoint.{CheckpointOf}
+use Rattle.sb_checkpoint.specs.Reading.{TakenIsSpelled, balances_fault, first_fault, head_fault, is_negative, is_no_reply, is_past_limit, replies_fault, stated_checking, stated_customers, stated_replies, stated_savings}
+use Rattle.sb_checkpoint.specs.declared.fault.CheckpointFault.{CheckpointFault}
+use Rattle.sb_checkpoint.specs.declared.fault.CheckpointFault.TheVariants.{OutOfRange, NegativeSavings, BadReply}
+use Rattle.sb_checkpoint.proofs.Balances.{are_balances}
+use Rattle.sb_checkpoint.proofs.Chunks.{length-amounts}
+use Rattle.sb_checkpoint.proofs.Taken.{either, head_is, passed, taken}
+
+abbrev Found : Type 0
+Found = Option CheckpointFault
+
+-- none of two faults
+neither_found : (first later : Found) → option_or first later ≡ None → (first ≡ None) × (later ≡ None)
+neither_found None later e = (refl, e)
+neither_found (Some fault) later e = absurd cc
+
+-- places that have replies, and these
+are_replies : (found : List (Option Reply)) → list_any is_no_reply found ≡ false → (replies : List Reply) × (map (λ r. Some r) replies ≡ found)
+are_replies [] all = ([], refl)
+are_replies (None ∷ found) all = absurd cc
+are_replies (Some reply ∷ found) all =
+    let others = are_replies found all in
+    (reply ∷ others.0, ap (λ (rest : List (Option Reply)). Some reply ∷ rest) others.1)
+
+stated_balances : (bytes : List ℕ) (customers : ℕ) → customers ≤ CUSTOMERS → stated_customers bytes ≡ customers → balances_fault bytes ≡ None
+    → IsBalances (record { savings = stated_savings bytes; checking = stated_checking bytes })
+unfolding balances_fault
+stated_balances bytes customers few same e =
+    let savings = stated_savings bytes in
+    let checking = stated_checking bytes in
+    let first = passed (list_any is_past_limit savings || list_any is_past_limit checking) OutOfRange _ e in
+    let second = passed (list_any is_negative savings) NegativeSavings _ first.1 in
+    let fit = either (list_any is_past_limit savings) (list_any is_past_limit checking) first.0 in
+    are_balances savings checking customers (length-amounts (stated_customers bytes) _ ∙ same) (length-amounts (stated_customers bytes) _ ∙ same) few
+    fit.0 fit.1 second.0
+
+none_missing : (bytes : List ℕ) → replies_fault bytes ≡ None → list_any is_no_reply (stated_replies bytes) ≡ false
+unfolding replies_fault
+none_missing bytes e = (passed (list_any is_no_reply (stated_replies bytes)) BadReply _ e).0
+
+pub taken_is_spelled : TakenIsSpelled
+unfolding first_fault
+taken_is_spelled bytes customers are few e =
+    let head = neither_found (head_fault bytes customers) _ e in
+    let balances = neither_found (balances_fault bytes) (replies_fault bytes) head.1 in
+    let replies = are_replies (stated_replies bytes) (none_missing bytes balances.1) in
+    let same = (head_is bytes customers head.0).same in
+    let made : CheckpointOf = record { columns = record { savings = stated_savings bytes; checking = stated_checking bytes }; replies = replies.0 } in (
+      made,
+      taken bytes customers made are (stated_balances bytes customers few same balances.0)
+          (record { savings = refl; checking = refl; replies = replies.1 })
+          head.0 balances.0 balances.1,
+      length-amounts (stated_customers bytes) _ ∙ same,
+    )
