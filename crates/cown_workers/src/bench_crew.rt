@@ -24,6 +24,7 @@ use std::time::Clock;
 /// meanwhile: it carries out a job that nobody picked yet, as long as the bench has fewer workers than it may have.
 /// Contracts see the crew as how many workers it has, whether its owner helps, what it laid out, and what the owner
 /// picked itself.
+// No bound stands on `G` here: with one whose trait has ghost members the check can't state `with_crew`'s bound on `f`.
 #[derive(Drop)]
 pub struct BenchCrew<'a, R: Wait + Clock, G> {
     rt: &'a R,
