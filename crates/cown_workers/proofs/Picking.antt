@@ -1,5 +1,6 @@
 -- What an owner picks itself.
-use Rattle.std.proofs.Common.{◌≡◌, ℕ, ◌⊎◌, inl, inr, Option, Some, None, List, [], ◌∷◌, ◌++◌, IfNone, ap, refl}
+use Rattle.std.proofs.Common.{◌≡◌, ℕ, ◌⊎◌, inl, inr, true, Option, Some, None, List, [], ◌∷◌, ◌++◌, IfNone, ap, refl}
+use Rattle.std.specs.Prelude.{is_some}
 use Rattle.std.specs.List.{All}
 use Rattle.std.specs.Option.{option_to_list}
 use Rattle.std.proofs.lemmas.List.Elements.{All-pop}
@@ -10,21 +11,28 @@ use Rattle.cown_bench.specs.declared.work.Work.TheVariants.{Stop}
 use Rattle.cown_bench.specs.BenchPasses.{BenchId, WorkerOf}
 use Rattle.cown_workers.specs.BenchCrews.{BenchCrewOf, picked_with, PicksItself}
 
+-- the crew with these hands
+abbrev pub crew_with : ℕ → List WorkOf → Option WorkerOf → BenchCrewOf
+crew_with workers offered hands =
+    record { workers = workers; owner_helps = is_some hands; offered = offered; picked = picked_with hands }
+
 -- what is picked with its hands is picked by the owner
-pub picks_itself : (offered : List WorkOf) (before : Option WorkerOf) (hands new : WorkerOf) (old : BenchCrewOf) (place : ℕ) (work : WorkOf)
-    → record { offered = offered; picked = picked_with before } ≡ old → before ≡ Some hands
+pub picks_itself : (workers : ℕ) (offered : List WorkOf) (before : Option WorkerOf) (hands new : WorkerOf) (old : BenchCrewOf) (place : ℕ) (work : WorkOf)
+    → crew_with workers offered before ≡ old → before ≡ Some hands
     → new ≡ record hands { picked = hands.picked ++ (place, work) ∷ [] }
-    → PicksItself old work (record { offered = offered; picked = new.picked })
-picks_itself offered before hands new old place work view is picks = (place, rw (← view, is, picks))
+    → PicksItself old work (crew_with workers offered (Some new))
+picks_itself workers offered before hands new old place work view is picks =
+    (rw (← view, is), (place, rw (← view, is, picks)))
 
 -- where its hands pick nothing, or a `Stop`, the owner does
-pub picks_no_job : (offered : List WorkOf) (before : Option WorkerOf) (hands new : WorkerOf) (old : BenchCrewOf) (result : Option (DoneOf Op))
-    → record { offered = offered; picked = picked_with before } ≡ old → before ≡ Some hands
+pub picks_no_job : (workers : ℕ) (offered : List WorkOf) (before : Option WorkerOf) (hands new : WorkerOf) (old : BenchCrewOf) (result : Option (DoneOf Op))
+    → crew_with workers offered before ≡ old → before ≡ Some hands
     → IfNone result ((new ≡ hands) ⊎ ((place : ℕ) × (new ≡ record hands { picked = hands.picked ++ (place, Stop) ∷ [] })))
-    → IfNone result ((record { offered = offered; picked = new.picked } ≡ old) ⊎ PicksItself old Stop (record { offered = offered; picked = new.picked }))
-picks_no_job offered before hands new old (Some done) view is told = tt
-picks_no_job offered before hands new old None view is (inl same) = inl (rw (← view, is, same))
-picks_no_job offered before hands new old None view is (inr (place, picks)) = inr (picks_itself offered before hands new old place Stop view is picks)
+    → IfNone result ((crew_with workers offered (Some new) ≡ old) ⊎ PicksItself old Stop (crew_with workers offered (Some new)))
+picks_no_job workers offered before hands new old (Some done) view is told = tt
+picks_no_job workers offered before hands new old None view is (inl same) = inl (rw (← view, is, same))
+picks_no_job workers offered before hands new old None view is (inr (place, picks)) =
+    inr (picks_itself workers offered before hands new old place Stop view is picks)
 
 -- what is made fresh with a bench, and what was taken of it
 pub fresh_taken : (bench : BenchId) (old new : List WorkerOf) (taken : Option WorkerOf) → old ≡ new ++ option_to_list taken

@@ -1,5 +1,5 @@
 -- What a crew at a bench does at one exchange.
-use Rattle.std.specs.Prelude.{◌≡◌, ℕ, ◌≤◌, ◌⊎◌, Option, Some, None, List, [], ◌∷◌, ◌++◌, length}
+use Rattle.std.specs.Prelude.{◌≡◌, ℕ, ◌≤◌, ◌⊎◌, Bool, true, Option, Some, None, List, [], ◌∷◌, ◌++◌, length}
 use Rattle.sb_calls.specs.declared.op.Op.{Op}
 use Rattle.cown_board.specs.Job.{DoneOf}
 use Rattle.cown_bench.specs.Picks.{WorkOf, PickOf}
@@ -7,8 +7,11 @@ use Rattle.cown_bench.specs.BenchPasses.{WorkerOf}
 use Rattle.cown_bench.specs.declared.work.Work.TheVariants.{Run, Stop}
 use Rattle.cown_workers.specs.Draining.{CrewStep, Kept, CameBack, HandedOver, IsOf}
 
--- a crew at a bench: what it laid out, and what its owner picked itself, both in order
+-- a crew at a bench: how many workers it has, each in a thread of its own, and whether its owner is one more; what it
+-- laid out, and what its owner picked itself, both in order
 pub record BenchCrewOf : Type 0 where
+  pub workers : ℕ
+  pub owner_helps : Bool
   pub offered : List WorkOf
   pub picked : List PickOf
 
@@ -17,9 +20,17 @@ abbrev pub picked_with : Option WorkerOf → List PickOf
 picked_with None = []
 picked_with (Some pass) = pass.picked
 
--- the owner picked this Work, at some place, and nothing else changed
+-- a crew of so many workers that did nothing yet, whose owner helps only where the gate admits it
+pub record IsFresh (hired : ℕ) (admits : Bool) (crew : BenchCrewOf) : Type 0 where
+  pub workers : crew.workers ≡ hired
+  pub owner : crew.owner_helps ≡ true → admits ≡ true
+  pub offered : crew.offered ≡ []
+  pub picked : crew.picked ≡ []
+
+-- the owner, which helps, picked this Work, at some place, and nothing else changed
 abbrev pub PicksItself : BenchCrewOf → WorkOf → BenchCrewOf → Type 0
-PicksItself old work new = (place : ℕ) × (new ≡ record old { picked = old.picked ++ (place, work) ∷ [] })
+PicksItself old work new =
+    (old.owner_helps ≡ true) × ((place : ℕ) × (new ≡ record old { picked = old.picked ++ (place, work) ∷ [] }))
 
 -- what an owner hands over that picked this Work: of a job what was done of it. Of a `Stop` nothing is said, since
 -- nothing is asked of a crew once it goes home.

@@ -1,3 +1,4 @@
 pub mod BenchCrews
 pub mod CrewFaults
 pub mod Draining
+pub mod Turns

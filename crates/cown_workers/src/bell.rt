@@ -67,19 +67,35 @@ impl Bell {
             record pass.old { picked = pass.old.picked ++ (place, work) ∷ [] })) }
         ensures none { IfNone result (pass.new ≡ pass.old) }
     {
-        self.resting.fetch_add(1, Ordering::SeqCst);
+        self.lie_down();
         // For what was laid out before this worker was counted nobody has rung.
         let work = bench.pick(rt, pass);
         if work.is_none() {
-            let _ = self.ear.recv_timeout(rt, Duration::from_millis(LONGEST));
+            let _ = self.hears_a_ring(rt);
         }
-        self.resting.fetch_sub(1, Ordering::SeqCst);
+        self.get_up();
         work
+    }
+
+    // A worker is counted as resting.
+    pub(crate) fn lie_down(&self) {
+        self.resting.fetch_add(1, Ordering::SeqCst);
+    }
+
+    fn get_up(&self) {
+        self.resting.fetch_sub(1, Ordering::SeqCst);
+    }
+
+    // Waits until the bell is rung, or for a while, and answers whether it was rung.
+    pub(crate) fn hears_a_ring<R: Wait + Clock>(&self, rt: &R) -> bool {
+        self.ear
+            .recv_timeout(rt, Duration::from_millis(LONGEST))
+            .is_ok()
     }
 }
 
-// From outside this look at the bench can't be told from the one that a worker takes right before it rests, so it is
-// shown here. That a rest ends by itself, and that workers are woken, running_tests shows by public calls.
+// From outside no look at the bench can be told from another, and no ring from a rest that ends by itself, so both are
+// shown here. That workers are woken at all running_tests shows by public calls.
 #[cfg(test)]
 mod tests {
     use super::*;
@@ -96,5 +112,29 @@ mod tests {
         assert!(rt; matches!(&picked, Some(Work::Stop)));
         // A rest with nothing to pick ends by itself.
         assert!(rt; bell.rest(&rt, &bench, &mut pass).is_none());
+    }
+
+    // What comes with the ring: how many of two workers rest, with how many jobs it is rung, and whether it wakes one.
+    const RINGS: [(usize, usize, bool); 5] = [
+        (0, 9, false),
+        (1, 1, false),
+        (1, 2, true),
+        (2, 0, false),
+        (2, 1, true),
+    ];
+
+    #[test]
+    fn a_ring_wakes_a_worker_where_too_few_are_up(rt: HostRuntime) {
+        for (resting, jobs, wakes) in RINGS {
+            let bell = Bell::new(rt.alloc(), 2).expect(&rt, "memory");
+            for _ in 0..resting {
+                bell.lie_down();
+            }
+            bell.ring(&rt, jobs);
+            assert!(rt;
+                bell.hears_a_ring(&rt) == wakes,
+                "{resting} rest, {jobs} jobs"
+            );
+        }
     }
 }

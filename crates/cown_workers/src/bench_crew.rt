@@ -1,5 +1,5 @@
 //! A crew that works at a bench.
-ghost use Rattle.std.specs.Prelude.{◌≡◌, ℕ, ◌⊎◌, [], ◌∷◌, ◌++◌, true, IfNone, IfSome};
+ghost use Rattle.std.specs.Prelude.{◌≡◌, ℕ, ◌⊎◌, [], ◌∷◌, ◌++◌, true, is_some, IfNone, IfSome};
 ghost use Rattle.cown_board.specs.Job.{JobOf};
 ghost use Rattle.sb_calls.specs.declared.op.Op.{Op};
 ghost use Rattle.cown_workers.specs.BenchCrews.{picked_with, PicksItself, LaysOut};
@@ -19,38 +19,48 @@ use std::thread;
 use std::time::Clock;
 
 /// A crew in threads, as the owner of a board has it. What is given lies on a bench until a worker picks it, and comes
-/// back where the bench is full; what is carried out comes in through a channel. Where nothing has come in, `next` is
-/// one more worker: it carries out a job that nobody picked yet, as long as the bench has fewer workers than it may
-/// have. Else it waits, so it is to be asked only while the crew has a job. Contracts see the crew as what it laid out,
-/// and what the owner picked itself.
+/// back where the bench is full; what is carried out comes in through a channel. Where nothing has come in, `next`
+/// waits, so it is to be asked only while the crew has a job. Under a gate that admits the owner it is one more worker
+/// meanwhile: it carries out a job that nobody picked yet, as long as the bench has fewer workers than it may have.
+/// Contracts see the crew as how many workers it has, whether its owner helps, what it laid out, and what the owner
+/// picked itself.
+// No bound stands on `G` here: with one whose trait has ghost members the check can't state `with_crew`'s bound on `f`.
 #[derive(Drop)]
-pub struct BenchCrew<'a, R: Wait + Clock, G: Gate> {
+pub struct BenchCrew<'a, R: Wait + Clock, G> {
     rt: &'a R,
     bench: &'a Bench,
     bell: &'a Bell,
     gate: &'a G,
     pass: OwnerPass,
-    // What it picks with itself.
+    // What it picks with itself, where it helps.
     hands: Option<WorkerPass>,
     inbox: Inbox,
+    // How many workers were started.
+    workers: usize,
     // How many jobs it has, and since when it has some.
     jobs: usize,
     burst: Burst,
 }
 
-impl<'a, R: Wait + Clock, G: Gate> Model for BenchCrew<'a, R, G> {
-    ghost use Rattle.std.specs.Prelude.{◌≡◌, IfSome};
+impl<'a, R: Wait + Clock, G> Model for BenchCrew<'a, R, G> {
+    ghost use Rattle.std.specs.Prelude.{◌≡◌, IfSome, is_some};
     ghost use Rattle.cown_workers.specs.BenchCrews.{BenchCrewOf, picked_with};
 
     ghost Value = { BenchCrewOf };
 
-    ghost view = { λ crew. record { offered = crew.pass.offered; picked = picked_with crew.hands } };
+    ghost view = { λ crew. record {
+      workers = crew.workers;
+      owner_helps = is_some crew.hands;
+      offered = crew.pass.offered;
+      picked = picked_with crew.hands;
+    } };
 
     ghost invariant = { λ crew. (crew.pass.bench ≡ crew.bench.now)
         × IfSome crew.hands (λ hands. hands.bench ≡ crew.bench.now) };
 }
 
 impl<'a, R: Wait + Clock, G: Gate> BenchCrew<'a, R, G> {
+    // A crew that has no worker yet.
     pub(crate) fn new(
         rt: &'a R,
         bench: &'a Bench,
@@ -62,7 +72,12 @@ impl<'a, R: Wait + Clock, G: Gate> BenchCrew<'a, R, G> {
     ) -> BenchCrew<'a, R, G>
         requires owner { pass.bench ≡ bench.now }
         requires hands { IfSome hands (λ hands. hands.bench ≡ bench.now) }
-        ensures { result ≡ record { offered = pass.offered; picked = picked_with hands } }
+        ensures { result ≡ record {
+          workers = 0;
+          owner_helps = is_some hands;
+          offered = pass.offered;
+          picked = picked_with hands;
+        } }
     {
         BenchCrew {
             rt,
@@ -72,9 +87,23 @@ impl<'a, R: Wait + Clock, G: Gate> BenchCrew<'a, R, G> {
             pass,
             hands,
             inbox,
+            workers: 0,
             jobs: 0,
             burst: Burst::new(),
         }
+    }
+
+    pub(crate) fn workers(&self) -> usize
+        ensures { result ≡ self.now.workers }
+    {
+        self.workers
+    }
+
+    // So many workers were started for it.
+    pub(crate) fn hire(&mut self, workers: usize)
+        ensures { self.new ≡ record self.old { workers = workers } }
+    {
+        self.workers = workers;
     }
 
     // What a worker that is up has handed over, if anything. While all rest the bench comes first.
@@ -87,7 +116,7 @@ impl<'a, R: Wait + Clock, G: Gate> BenchCrew<'a, R, G> {
         self.inbox.try_recv(self.rt).ok()
     }
 
-    // Carries out what lies on the bench longest, if the owner picks too and something lies there. Once that has gone
+    // Carries out what lies on the bench longest, if the owner helps and something lies there. Once that has gone
     // on for a while it wakes workers for the other jobs; one that rests looks at the bench by itself too, only later.
     fn help(&mut self) -> Option<Done<Op>>
         ensures some { IfSome result (λ done. (job : JobOf Op) ×
@@ -103,9 +132,9 @@ impl<'a, R: Wait + Clock, G: Gate> BenchCrew<'a, R, G> {
         pick_and_carry_out(self.rt, self.bench, hands, self.gate)
     }
 
-    // Lays out a `Stop` for each of so many workers, and waits until all are gone.
-    pub(crate) fn send_home(mut self, workers: usize) {
-        for _ in 0..workers {
+    // Lays out a `Stop` for each worker, and waits until all are gone.
+    pub(crate) fn send_home(mut self) {
+        for _ in 0..self.workers {
             self.lay_out_a_stop();
         }
         self.outlast_the_workers();
@@ -156,7 +185,7 @@ impl<'a, R: Wait + Clock, G: Gate> Crew for BenchCrew<'a, R, G> {
                     self.burst.begin(self.rt);
                 }
                 self.jobs = self.jobs.saturating_add(1);
-                // An owner that picks too begins alone.
+                // An owner that helps begins alone.
                 if self.hands.is_none() {
                     self.bell.ring(self.rt, self.jobs);
                 }
@@ -197,5 +226,55 @@ fn pick_and_carry_out<R: Wait, G: Gate>(
         Work::Run(job) => Some(carry_out(gate, job)),
         // Nothing is asked of a crew once it goes home.
         Work::Stop => None,
+    }
+}
+
+// From outside a ring can't be told from a rest that ends by itself, so who rings is shown here.
+#[cfg(test)]
+mod tests {
+    use super::*;
+    use crate::gate::OpenGate;
+    use crate::inbox::open_inbox;
+    use crate::jobs::job;
+    use std::alloc::Global;
+    use std::process::Abort;
+
+    fn gives<R: Wait + Clock + Abort>(
+        rt: &R,
+        alloc: Global,
+        crew: &mut BenchCrew<'_, R, OpenGate>,
+    ) {
+        assert!(rt; crew.give(job(rt, alloc)).is_ok());
+    }
+
+    #[test]
+    fn an_owner_that_only_waits_rings_for_each_job(rt: HostRuntime) {
+        let (bench, pass, _) = Bench::new(rt.alloc(), 1).expect(&rt, "memory");
+        let bell = Bell::new(rt.alloc(), 1).expect(&rt, "memory");
+        let (_, inbox) = open_inbox(rt.alloc()).expect(&rt, "memory");
+        bell.lie_down();
+        let mut crew = BenchCrew::new(&rt, &bench, &bell, &OpenGate, pass, None, inbox);
+        gives(&rt, rt.alloc(), &mut crew);
+        assert!(rt; bell.hears_a_ring(&rt));
+        // It rings for a `Stop` too.
+        crew.hire(1);
+        crew.send_home();
+        assert!(rt; bell.hears_a_ring(&rt));
+    }
+
+    #[test]
+    fn an_owner_that_helps_rings_once_it_was_alone_for_a_while(rt: HostRuntime) {
+        let (bench, pass, mut passes) = Bench::new(rt.alloc(), 2).expect(&rt, "memory");
+        let bell = Bell::new(rt.alloc(), 1).expect(&rt, "memory");
+        let (_outbox, inbox) = open_inbox(rt.alloc()).expect(&rt, "memory");
+        bell.lie_down();
+        let hands = passes.pop();
+        let mut crew = BenchCrew::new(&rt, &bench, &bell, &OpenGate, pass, hands, inbox);
+        gives(&rt, rt.alloc(), &mut crew);
+        gives(&rt, rt.alloc(), &mut crew);
+        // To listen takes longer than the owner is alone.
+        assert!(rt; !bell.hears_a_ring(&rt));
+        assert!(rt; crew.next().is_some());
+        assert!(rt; bell.hears_a_ring(&rt));
     }
 }

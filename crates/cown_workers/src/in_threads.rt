@@ -1,7 +1,8 @@
 //! A crew in threads.
-ghost use Rattle.std.specs.Prelude.{◌≡◌, ◌≤◌, [], ◌++◌, All, IfOk};
+ghost use Rattle.std.specs.Prelude.{◌≡◌, ◌+◌, ◌<◌, ◌≤◌, [], ◌++◌, All, length, true, IfOk, OnOk, is_some};
 ghost use Rattle.std.specs.Option.{option_to_list};
 ghost use Rattle.std.specs.Fn.{FnOnceReturnsAtMut};
+ghost use Rattle.cown_workers.specs.BenchCrews.{BenchCrewOf, IsFresh};
 
 use crate::bell::Bell;
 use crate::bench_crew::BenchCrew;
@@ -17,7 +18,8 @@ use std::thread::{Scope, Threads};
 use std::time::Clock;
 
 /// Hands a crew of this many workers, each in a thread of its own, to `f`. Once `f` has answered and all workers
-/// are gone it answers the same. With fewer than sixteen `f`'s own thread carries jobs out too while it waits for one.
+/// are gone it answers the same. Under a gate that admits the owner, and with fewer than sixteen workers, `f`'s own
+/// thread carries jobs out too while it waits for one.
 ///
 /// Fails where memory is refused or a thread can't be started; then `f` isn't called. Each job stands between two
 /// calls of the gate. What `f` gave and didn't take in is carried out and let go.
@@ -35,40 +37,57 @@ where
     requires some { 1 ≤ workers }
     requires few { workers ≤ 16 }
     requires callable { F.IsAlwaysCallable f }
-    ensures answer { IfOk result (λ answer. (after : _) ×
-        FnOnceReturnsAtMut F.FnOnce f (record { offered = []; picked = [] }) answer after) }
+    ensures answer { IfOk result (λ answer. (fresh after : BenchCrewOf) ×
+        IsFresh workers (G.admits gate.now) fresh × FnOnceReturnsAtMut F.FnOnce f fresh answer after) }
 {
     let bell = Bell::new(alloc, workers)?;
     let (outbox, inbox) = open_inbox(alloc)?;
-    let (bench, pass, mut passes) = Bench::new(alloc, WORKERS.min(workers + 1))?;
-    // One pass more is the owner's, who picks too while it waits.
+    let (bench, pass, mut passes) = Bench::new(alloc, pickers(gate, workers))?;
     let hands = take_above(&mut passes, workers);
     let mut crew = BenchCrew::new(rt, &bench, &bell, gate, pass, hands, inbox);
-    let workers = workers_at(rt, alloc, &bench, passes, gate, &bell, outbox)?;
+    let hired = workers_at(rt, alloc, &bench, passes, gate, &bell, outbox)?;
     thread::scope(
         thread::scope_env(),
         rt,
         move |scope| -> Result<T, CrewFault>
             requires callable { F.IsAlwaysCallable f }
-            requires fresh { crew ≡ record { offered = []; picked = [] } }
-            ensures { IfOk result (λ answer. (after : _) ×
-                FnOnceReturnsAtMut F.FnOnce f (record { offered = []; picked = [] }) answer after) }
+            requires hired { length hired.items ≡ workers }
+            ensures { IfOk result (λ answer. (after : BenchCrewOf) ×
+                FnOnceReturnsAtMut F.FnOnce f (record crew.entry { workers = workers }) answer after) }
         {
-            let hired = workers.len();
-            if let Err(fault) = start(scope, workers) {
-                crew.send_home(hired);
-                return Err(fault);
+            crew.hire(start(scope, hired));
+            if crew.workers() < workers {
+                crew.send_home();
+                return Err(CrewFault::CrewGone);
             }
             let answer = f(&mut crew);
-            crew.send_home(hired);
+            crew.send_home();
             Ok(answer)
         },
     )
 }
 
-// The last of these passes, where there are more than this.
+// How many pick from the bench: the workers, and the owner where the gate admits it and the bench has a pass for it.
+fn pickers<G: Gate>(gate: &G, workers: usize) -> usize
+    requires { workers ≤ 16 }
+    ensures enough { workers ≤ result }
+    ensures few { result ≤ 16 }
+    ensures owner { workers < result → (result ≡ workers + 1) × (G.admits gate.now ≡ true) }
+{
+    if gate.admits_owner() {
+        WORKERS.min(workers + 1)
+    } else {
+        workers
+    }
+}
+
+// The last of these passes, where there is one more than this.
 fn take_above(passes: &mut Vec<WorkerPass>, workers: usize) -> Option<WorkerPass>
-    ensures { passes.old.items ≡ passes.new.items ++ option_to_list result }
+    requires enough { workers ≤ length passes.old.items }
+    requires few { length passes.old.items ≤ workers + 1 }
+    ensures parted { passes.old.items ≡ passes.new.items ++ option_to_list result }
+    ensures as_many { length passes.new.items ≡ workers }
+    ensures above { is_some result ≡ true → workers < length passes.old.items }
 {
     if passes.len() > workers {
         passes.pop()
@@ -88,6 +107,7 @@ fn workers_at<'a, R: Wait + Clock, G: Gate>(
     mut outbox: Outbox,
 ) -> Result<Vec<Worker<'a, R, G>>, AllocError>
     requires { All (λ pass. pass.bench ≡ bench.now) passes.items }
+    ensures { IfOk result (λ workers. length workers.items ≡ length passes.items) }
 {
     let mut workers = Vec::with_capacity(alloc, passes.len())?;
     for pass in passes {
@@ -106,6 +126,7 @@ fn push_worker<'a, R: Wait + Clock, G: Gate>(
     workers: &mut Vec<Worker<'a, R, G>>,
 ) -> Result<(), AllocError>
     requires { pass.bench ≡ bench.now }
+    ensures { OnOk result (length workers.new.items ≡ length workers.old.items + 1) }
 {
     let outbox = outbox.another()?;
     workers.push(Worker {
@@ -119,19 +140,20 @@ fn push_worker<'a, R: Wait + Clock, G: Gate>(
     Ok(())
 }
 
-// Starts a thread for each worker. Where one can't be made, the workers that have none are gone.
-fn start<'s, E, R, G>(
-    scope: &'s Scope<'s, E>,
-    workers: Vec<Worker<'s, R, G>>,
-) -> Result<(), CrewFault>
+// Starts a thread for each worker, and answers how many it started. Where one can't be made, the workers that have none
+// are gone.
+fn start<'s, E, R, G>(scope: &'s Scope<'s, E>, workers: Vec<Worker<'s, R, G>>) -> usize
 where
     R: Wait + Clock + Sync,
     G: Gate + Sync,
+    ensures { result ≤ length workers.entry.items }
 {
+    let mut started = 0;
     for worker in workers {
         if scope.spawn(move || worker.work()).is_err() {
-            return Err(CrewFault::CrewGone);
+            return started;
         }
+        started += 1;
     }
-    Ok(())
+    started
 }

@@ -1,5 +1,5 @@
 //! How what is carried out comes back to the owner.
-ghost use Rattle.std.specs.Prelude.{◌≡◌, IfErr};
+ghost use Rattle.std.specs.Prelude.{◌≡◌, IfErr, IfOk};
 ghost use Rattle.crossbeam_channel.specs.Claims.{IsSeatAt};
 ghost use Rattle.crossbeam_channel.specs.Ends.{receives_on, sends_on};
 
@@ -39,6 +39,12 @@ pub(crate) struct Outbox {
     ghost tied: { IsSeatAt (sends_on sender) pass },
 }
 
+// Tells that what was done of the job with this number is on its way to the owner. Only `send` makes one.
+#[derive(Drop)]
+pub(crate) struct Sent {
+    number: u64,
+}
+
 // The owner's end.
 #[derive(Drop)]
 pub(crate) struct Inbox {
@@ -69,12 +75,14 @@ impl Outbox {
         Ok(Outbox { sender, pass })
     }
 
-    // Hands over what is done. It comes back where the owner is gone.
-    pub(crate) fn send<R: Wait>(&mut self, rt: &R, done: Done<Op>) -> Result<(), Done<Op>>
-        ensures { IfErr result (λ back. back ≡ done) }
+    // Hands over what is done, and waits where the inbox is full. It comes back where the owner is gone.
+    pub(crate) fn send<R: Wait>(&mut self, rt: &R, done: Done<Op>) -> Result<Sent, Done<Op>>
+        ensures sent { IfOk result (λ sent. sent.number ≡ done.number) }
+        ensures back { IfErr result (λ back. back ≡ done) }
     {
+        let number = done.number();
         match self.sender.send_as::<Free, R>(rt, &mut self.pass, done) {
-            Ok(()) => Ok(()),
+            Ok(()) => Ok(Sent { number }),
             Err(refused) => Err(refused.into_inner()),
         }
     }
@@ -97,5 +105,23 @@ impl Inbox {
             }
         }
         self.receiver.recv_as::<Free, R>(rt, &mut self.pass).ok()
+    }
+}
+
+// From outside nothing is sent once the owner is gone, so what becomes of it then is shown here.
+#[cfg(test)]
+mod tests {
+    use super::*;
+    use crate::jobs::job;
+
+    #[test]
+    fn what_is_sent_to_nobody_comes_back(rt: HostRuntime) {
+        let (mut outbox, mut inbox) = open_inbox(rt.alloc()).expect(&rt, "memory");
+        let sent = outbox.send(&rt, job(&rt, rt.alloc()).run());
+        assert!(rt; sent.is_ok());
+        let done = inbox.next(&rt).expect(&rt, "what is done");
+        drop(inbox);
+        let unsent = outbox.send(&rt, done);
+        assert!(rt; unsent.is_err_and(|back| back.number() == 1));
     }
 }

@@ -12,6 +12,8 @@ mod gate;
 mod in_threads;
 mod inbox;
 mod inline_crew;
+#[cfg(test)]
+mod jobs;
 mod worker;
 
 pub use bench_crew::BenchCrew;

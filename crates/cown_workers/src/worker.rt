@@ -1,12 +1,13 @@
 //! What each thread of a crew does.
 ghost use Rattle.std.specs.Prelude.{◌≡◌, ℕ, ◌∷◌, ◌++◌, [], IfNone, IfSome};
+ghost use Rattle.cown_workers.specs.Turns.{Takes};
 
 use crate::back_off::BackOff;
 use crate::bell::Bell;
 use crate::gate::{Gate, carry_out};
-use crate::inbox::Outbox;
+use crate::inbox::{Outbox, Sent};
 use cown_bench::{Bench, Work, WorkerPass};
-use cown_board::Done;
+use cown_board::{Done, Job};
 use sb_calls::Op;
 use std::sync::Wait;
 use std::thread;
@@ -24,29 +25,44 @@ pub(crate) struct Worker<'a, R: Wait + Clock, G: Gate> {
     pub(crate) ghost of_the_bench: { pass.bench ≡ bench.now },
 }
 
+// What a worker did in one turn.
+#[derive(Drop)]
+pub(crate) enum Turn {
+    // It picked nothing.
+    Waited,
+    // It picked a job, carried it out and handed it over.
+    HandedOver(Sent),
+    // It picked a `Stop`.
+    Stopped,
+}
+
 impl<'a, R: Wait + Clock, G: Gate> Worker<'a, R, G> {
     // Works until it picks a `Stop`.
-    pub(crate) fn work(self) {
-        let Worker {
-            rt,
-            bench,
-            mut pass,
-            gate,
-            bell,
-            mut outbox,
-        } = self;
+    pub(crate) fn work(mut self) {
+        let rt = self.rt;
         let mut back_off = BackOff::new();
         for _ in rt.forever() {
-            match pick_or_wait(rt, bench, &mut pass, bell, &mut back_off) {
-                Some(Work::Run(job)) => {
-                    hand_over(rt, &mut outbox, carry_out(gate, job));
-                    back_off = BackOff::new();
-                }
-                Some(Work::Stop) => return,
-                None => {}
+            match self.turn(&mut back_off) {
+                Turn::Waited => {}
+                Turn::HandedOver(_) => back_off = BackOff::new(),
+                Turn::Stopped => return,
             }
         }
         unreachable!()
+    }
+
+    // One turn. No job that it picks is dropped.
+    fn turn(&mut self, back_off: &mut BackOff) -> Turn
+        ensures { Takes self.old.pass result self.new.pass }
+    {
+        match pick_or_wait(self.rt, self.bench, &mut self.pass, self.bell, back_off) {
+            Some(Work::Run(job)) => {
+                let sent = serve(self.rt, self.gate, &mut self.outbox, job);
+                Turn::HandedOver(sent)
+            }
+            Some(Work::Stop) => Turn::Stopped,
+            None => Turn::Waited,
+        }
     }
 }
 
@@ -75,12 +91,21 @@ fn pick_or_wait<R: Wait + Clock>(
     None
 }
 
+// Carries a job out, and hands it over.
+fn serve<R: Wait, G: Gate>(rt: &R, gate: &G, outbox: &mut Outbox, job: Job<Op>) -> Sent
+    ensures { result.number ≡ job.number }
+{
+    hand_over(rt, outbox, carry_out(gate, job))
+}
+
 // Sends what is done. While it is refused it is tried again.
-fn hand_over<R: Wait>(rt: &R, outbox: &mut Outbox, done: Done<Op>) {
+fn hand_over<R: Wait>(rt: &R, outbox: &mut Outbox, done: Done<Op>) -> Sent
+    ensures { result.number ≡ done.number }
+{
     let mut unsent = done;
     for _ in rt.forever() {
         match outbox.send(rt, unsent) {
-            Ok(()) => return,
+            Ok(sent) => return sent,
             Err(refused) => unsent = refused,
         }
         thread::yield_now();

@@ -1,10 +1,15 @@
 //! Gates that tell what they heard.
+ghost use Rattle.std.specs.Prelude.{◌≡◌, true};
+
 use cown_workers::Gate;
 use std::sync::atomic::{AtomicBool, AtomicU64, Ordering};
 use std::thread;
 
 // How many turns a worker waits for another.
-const TURNS: u32 = 1_000_000;
+pub(crate) const TURNS: u32 = 1_000_000;
+
+// How many turns it waits for one that should not come.
+pub(crate) const A_WHILE: u32 = 100_000;
 
 // The first two jobs each wait until the other one is about to be carried out. If they were carried out one after the
 // other, the first would wait for nothing, and give up.
@@ -23,13 +28,9 @@ impl Meeting {
 
     fn comes(&self, here: &AtomicBool, there: &AtomicBool) {
         here.store(true, Ordering::SeqCst);
-        for _ in 0..TURNS {
-            if was(there) {
-                return;
-            }
-            thread::yield_now();
+        if !comes_true(there, TURNS) {
+            self.gave_up.store(true, Ordering::SeqCst);
         }
-        self.gave_up.store(true, Ordering::SeqCst);
     }
 }
 
@@ -84,5 +85,149 @@ impl Gate for Ear {
 
     fn after(&self, number: u64) {
         self.hears(number, 1, 2);
+    }
+}
+
+// Another gate, as it is, but that the owner comes through it too.
+#[derive(Clone, Copy)]
+pub(crate) struct Admitting<'a, G>(pub(crate) &'a G);
+
+impl<'a, G: Gate> Gate for Admitting<'a, G> {
+    ghost admits = { λ gate. true };
+
+    fn admits_owner(&self) -> bool {
+        true
+    }
+
+    fn before(&self, number: u64) {
+        self.0.before(number);
+    }
+
+    fn after(&self, number: u64) {
+        self.0.after(number);
+    }
+}
+
+// Holds each job until so many have come, or for so many turns.
+#[derive(Drop)]
+pub(crate) struct Crowd {
+    wanted: u64,
+    turns: u32,
+    came: AtomicU64,
+    gave_up: AtomicBool,
+}
+
+impl Crowd {
+    pub(crate) fn of(wanted: u64, turns: u32) -> Crowd {
+        Crowd {
+            wanted,
+            turns,
+            came: AtomicU64::new(0),
+            gave_up: AtomicBool::new(false),
+        }
+    }
+
+    // Whether so many were there at once, each in a thread of its own, since none went on before.
+    pub(crate) fn gathered(&self) -> bool {
+        self.is_here() && !was(&self.gave_up)
+    }
+
+    fn is_here(&self) -> bool {
+        self.came.load(Ordering::SeqCst) >= self.wanted
+    }
+}
+
+impl Gate for Crowd {
+    fn before(&self, _number: u64) {
+        self.came.fetch_add(1, Ordering::SeqCst);
+        for _ in 0..self.turns {
+            if self.is_here() {
+                return;
+            }
+            thread::yield_now();
+        }
+        self.gave_up.store(true, Ordering::SeqCst);
+    }
+
+    fn after(&self, _number: u64) {}
+}
+
+// Holds the second job until the owner opens it. The first one it holds for a while, in which the second would come if
+// there were a thread for it.
+#[derive(Default, Drop)]
+pub(crate) struct Door {
+    first: AtomicBool,
+    second: AtomicBool,
+    open: AtomicBool,
+    gave_up: AtomicBool,
+}
+
+impl Door {
+    // Waits until the first job is held.
+    pub(crate) fn holds_the_first(&self) -> bool {
+        comes_true(&self.first, TURNS)
+    }
+
+    pub(crate) fn opens(&self) {
+        self.open.store(true, Ordering::SeqCst);
+    }
+
+    // Whether the second job came before it was open, and was held in vain.
+    pub(crate) fn gave_up(&self) -> bool {
+        was(&self.gave_up)
+    }
+}
+
+impl Gate for Door {
+    fn before(&self, number: u64) {
+        if number == 1 {
+            self.first.store(true, Ordering::SeqCst);
+            let _ = comes_true(&self.second, A_WHILE);
+        } else {
+            self.second.store(true, Ordering::SeqCst);
+            if !comes_true(&self.open, TURNS) {
+                self.gave_up.store(true, Ordering::SeqCst);
+            }
+        }
+    }
+
+    fn after(&self, _number: u64) {}
+}
+
+// Waits for a flag, for so many turns, and answers whether it was set.
+fn comes_true(flag: &AtomicBool, turns: u32) -> bool {
+    for _ in 0..turns {
+        if was(flag) {
+            return true;
+        }
+        thread::yield_now();
+    }
+    false
+}
+
+// Counts the jobs that were carried out.
+#[derive(Default, Drop)]
+pub(crate) struct Counter {
+    carried_out: AtomicU64,
+}
+
+impl Counter {
+    // Waits until so many were carried out.
+    pub(crate) fn comes_to(&self, count: u64) -> bool {
+        for _ in 0..TURNS {
+            if self.carried_out.load(Ordering::SeqCst) >= count {
+                return true;
+            }
+            thread::yield_now();
+        }
+        false
+    }
+}
+
+impl Gate for Counter {
+    fn before(&self, _number: u64) {}
+
+    fn after(&self, _number: u64) {
+        self.carried_out.fetch_add(1, Ordering::SeqCst);
     }
 }

@@ -33,3 +33,5 @@ mod rests;
 mod threads;
 #[cfg(test)]
 mod two_threads;
+#[cfg(test)]
+mod workers;

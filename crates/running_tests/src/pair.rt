@@ -2,10 +2,10 @@
 //! allows.
 ghost use Rattle.std.specs.Prelude.{◌≡◌};
 
-use crate::bank::board_of;
+use crate::bank::{OPENING, open_board};
 use cown_bench::{Bench, OwnerPass, Work, WorkerPass};
 use cown_board::Job;
-use sb_calls::Op;
+use sb_calls::{Op, Reply};
 use std::alloc::Global;
 use std::marker::Model;
 use std::process::Abort;
@@ -109,7 +109,19 @@ pub(crate) fn close<R: Wait + Abort>(rt: &R, alloc: Global, pair: Box<Pair>) -> 
 
 // So many jobs, numbered from 1, of behaviours that declare no cown: all are ready at once.
 pub(crate) fn jobs(rt: &impl Abort, alloc: Global, count: usize) -> Vec<Job<Op>> {
-    let mut board = board_of(rt, alloc, &[]);
+    jobs_after(rt, alloc, 0, count)
+}
+
+// So many of these jobs, whose numbers come after this one.
+pub(crate) fn jobs_after(
+    rt: &impl Abort,
+    alloc: Global,
+    number: usize,
+    count: usize,
+) -> Vec<Job<Op>> {
+    let mut replies = Vec::new(alloc);
+    replies.resize(number, Reply::Done).expect(rt, "memory");
+    let (mut board, _) = open_board(rt, alloc, OPENING, replies);
     let mut jobs = Vec::new(alloc);
     for _ in 0..count {
         assert!(rt; board.submit(Op::NoCustomer).is_ok());

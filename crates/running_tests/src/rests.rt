@@ -2,7 +2,7 @@
 ghost use Rattle.std.specs.Prelude.{◌≤◌};
 
 use crate::bank::{board_of, give_all, holds};
-use crate::gates::Ear;
+use crate::gates::{Admitting, Ear};
 use cown_workers::{Crew, OpenGate, drain, with_crew};
 use std::alloc::Global;
 use std::process::Abort;
@@ -38,11 +38,11 @@ fn carries_out_late_calls<R: Clock + Abort>(rt: &R, alloc: Global, crew: &mut im
     }
 }
 
-// With one worker the owner picks too while it waits, and rings no bell while it doesn't.
+// An owner that helps rings no bell while it doesn't wait.
 #[test]
 fn a_rest_ends_by_itself(rt: HostRuntime) {
     let gate = Ear::default();
-    let ended = with_crew(&rt, rt.alloc(), 1, &gate, |crew| {
+    let ended = with_crew(&rt, rt.alloc(), 1, &Admitting(&gate), |crew| {
         thread::sleep(&rt, Duration::from_millis(20));
         let mut board = board_of(&rt, rt.alloc(), &["balance zed"; 4]);
         give_all(&mut board, crew);

@@ -3,7 +3,7 @@ ghost use Rattle.std.specs.Prelude.{◌≡◌, ◌≤◌};
 ghost use Rattle.cown_board.specs.Board.{open_of};
 
 use crate::bank::{are_same, board_of, give_all, holds};
-use crate::gates::{Ear, Meeting};
+use crate::gates::{Admitting, Ear, Meeting};
 use cown_board::{Board, OPEN_BEHAVIOURS};
 use cown_workers::{Crew, Gate, InlineCrew, OpenGate, drain, with_crew};
 use sb_calls::Op;
@@ -23,7 +23,13 @@ const LINES: [&str; 5] = [
 ];
 
 // A board with the calls that these lines spell, drained by so many workers.
-fn drained<R, G>(rt: &R, alloc: Global, workers: usize, gate: &G, lines: &[&str]) -> Box<Board<Op>>
+pub(crate) fn drained<R, G>(
+    rt: &R,
+    alloc: Global,
+    workers: usize,
+    gate: &G,
+    lines: &[&str],
+) -> Box<Board<Op>>
 where
     R: Threads + Wait + Clock + Sync + Abort,
     G: Gate + Sync,
@@ -79,27 +85,33 @@ fn sixteen_workers_drain_what_is_ready_and_what_waits(rt: HostRuntime) {
     drain_as_one_does(&rt, rt.alloc(), 16, &["deposit bob 0.01"; OPEN_BEHAVIOURS]);
 }
 
-// With sixteen the owner carries nothing out, so these are two workers.
+// The gate doesn't admit the owner, so these are two workers.
 #[test]
 fn two_jobs_that_share_nothing_are_out_at_once(rt: HostRuntime) {
-    two_jobs_meet(&rt, rt.alloc(), 2);
-    two_jobs_meet(&rt, rt.alloc(), 16);
+    for workers in [2, 16] {
+        let gate = Meeting::default();
+        carry_two_out(&rt, rt.alloc(), workers, &gate);
+        assert!(rt; gate.took_place(), "{workers}");
+    }
 }
 
 #[test]
-fn an_owner_that_waits_is_one_more_worker(rt: HostRuntime) {
-    two_jobs_meet(&rt, rt.alloc(), 1);
+fn an_owner_that_is_admitted_is_one_more_worker(rt: HostRuntime) {
+    let gate = Meeting::default();
+    carry_two_out(&rt, rt.alloc(), 1, &Admitting(&gate));
+    assert!(rt; gate.took_place());
 }
 
-// So many workers, and perhaps the owner, carry two jobs out, each of which waits for the other.
-fn two_jobs_meet<R: Threads + Wait + Clock + Sync + Abort>(rt: &R, alloc: Global, workers: usize)
+// So many workers, and the owner if it is admitted, carry two jobs out.
+fn carry_two_out<R, G>(rt: &R, alloc: Global, workers: usize, gate: &G)
+where
+    R: Threads + Wait + Clock + Sync + Abort,
+    G: Gate + Sync,
     requires some { 1 ≤ workers }
     requires few { workers ≤ 16 }
 {
     let lines = ["deposit alice 1.00", "deposit bob 1.00"];
-    let gate = Meeting::default();
-    let board = drained(rt, alloc, workers, &gate, &lines);
-    assert!(rt; gate.took_place());
+    let board = drained(rt, alloc, workers, gate, &lines);
     assert!(rt; holds(&board, [10_000, 0, 1_000], [5_100, 2_100, 0]));
 }
 

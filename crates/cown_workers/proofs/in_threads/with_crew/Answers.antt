@@ -1,9 +1,10 @@
 -- The passes of the bench are its workers' and the owner's.
-use Rattle.std.proofs.Common.{◌≡◌, List, [], ap, rules}
+use Rattle.std.proofs.Common.{◌≡◌, ◌<◌, true, List, [], length, refl, sym, ap, ◌∙◌, subst}
 use Rattle.std.specs.List.{All}
 use Rattle.std.proofs.lemmas.List.Elements.{All-pop, All-weaker}
-use Rattle.cown_bench.specs.BenchPasses.{BenchId, WorkerOf}
-use Rattle.cown_workers.specs.BenchCrews.{picked_with}
+use Rattle.std.proofs.lemmas.Result.{IfOk-weaker}
+use Rattle.cown_bench.specs.BenchPasses.{BenchId, OwnerOf, WorkerOf}
+use Rattle.cown_workers.specs.BenchCrews.{BenchCrewOf, IsFresh}
 use Rattle.cown_workers.proofs.Picking.{fresh_taken}
 use Rattle.cown_workers.proofs.in_threads.with_crew.Goals as goal
 
@@ -15,13 +16,31 @@ of_bench bench passes = All-weaker (λ pass. pass ≡ record { bench = bench; pi
 
 pub new-crew-requires-clause-hands : goal.new-crew-requires-clause-hands
 new-crew-requires-clause-hands g c =
-    (All-pop (λ pass. pass.bench ≡ _) _ _ _ c.take_above-hands.ensures (of_bench _ _ c.in_ok-bench.ensures.passes)).1
+    (All-pop (λ pass. pass.bench ≡ _) _ _ _ c.take_above-hands.ensures.parted (of_bench _ _ c.in_ok-bench.ensures.passes)).1
 
 pub workers_at-requires : goal.workers_at-requires
 workers_at-requires g c =
-    (All-pop (λ pass. pass.bench ≡ c.in_ok-bench.bench) _ _ _ c.take_above-hands.ensures (of_bench _ _ c.in_ok-bench.ensures.passes)).0
+    (All-pop (λ pass. pass.bench ≡ c.in_ok-bench.bench) _ _ _ c.take_above-hands.ensures.parted (of_bench _ _ c.in_ok-bench.ensures.passes)).0
 
-pub scoped-requires : goal.scoped-requires
-scoped-requires g c =
-    let none : picked_with c.take_above-hands.result ≡ [] = fresh_taken c.in_ok-bench.bench _ _ _ c.take_above-hands.ensures c.in_ok-bench.ensures.passes in
-    let fresh : c.new-crew.result ≡ record { offered = []; picked = [] } = rw (c.new-crew.ensures, c.in_ok-bench.ensures.owner, none) in search rules
+pub returns : goal.returns
+returns g c =
+    let made = c.new-crew.ensures in
+    record {
+      answer = IfOk-weaker c.scoped.result _ _
+          (λ answer (after, called). (
+            record c.new-crew.result { workers = c.args.workers },
+            after,
+            record {
+              workers = refl;
+              owner = λ helps.
+                  (c.pickers.ensures.owner
+                  (subst (λ n. c.args.workers < n) c.in_ok-bench.ensures.as_many
+                  (c.take_above-hands.ensures.above (sym (ap (λ (crew : BenchCrewOf). crew.owner_helps) made) ∙ helps)))).1;
+              offered = ap (λ (crew : BenchCrewOf). crew.offered) made ∙ ap (λ (pass : OwnerOf). pass.offered) c.in_ok-bench.ensures.owner;
+              picked = ap (λ (crew : BenchCrewOf). crew.picked) made
+                  ∙ fresh_taken c.in_ok-bench.bench _ _ _ c.take_above-hands.ensures.parted c.in_ok-bench.ensures.passes;
+            },
+            called,
+          ))
+          c.scoped.ensures.1;
+    }

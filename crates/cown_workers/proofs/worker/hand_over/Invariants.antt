@@ -1,0 +1,6 @@
+-- What is unsent is what was done.
+use Rattle.std.proofs.Common.{◌≡◌}
+use Rattle.cown_workers.proofs.worker.hand_over.Given as goal
+
+abbrev pub invariant-loop : goal.invariant-loop
+invariant-loop g l = l.unsent ≡ l.fn.done
