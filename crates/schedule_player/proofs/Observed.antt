@@ -35,7 +35,9 @@ observed_reply world r n (Some reply) bank is same = subst (λ b. log_reply b n 
 
 module _ (world : WorldOf) (r : ℕ) (node : Node) (found : LookedUp world r node) where
   pub reply_here : (n : ℕ) (answer : Option Reply) → answer ≡ reply_in node.replica.board n → answer ≡ reply_at world r n
-  reply_here n answer is = is ∙ reply_seen (bank_of world) r node n found.along ∙ sym (ap (option_and_then (λ seen. reply_in_node (bank_of world) seen n)) found.seen)
+  reply_here n answer is =
+      is ∙ reply_seen (bank_of world) r node n found.along
+      ∙ sym (ap (option_and_then (λ seen. reply_in_node (bank_of world) seen n)) found.seen)
 
   pub length_here : (size : ℕ) → size ≡ length_of node.replica.board → length_at world r ≡ Some size
   length_here size is =

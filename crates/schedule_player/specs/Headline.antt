@@ -12,7 +12,8 @@ use Rattle.schedule_player.specs.World.{WorldOf}
 use Rattle.schedule_text.specs.declared.event.Event.{Event}
 
 -- what is so of a world in which these events happened
-pub record IsReplicated (names : List (List ℕ)) (opening : Balances) (events : List Event) (world : WorldOf) : Type 0 where
+pub record IsReplicated (names : List (List ℕ)) (opening : Balances) (events : List Event)
+    (world : WorldOf) : Type 0 where
   -- the log is the first asks of the events
   pub log : world.sequencer.log ≡ log_of events
   -- any two replicas that hold a reply to a number hold the same one

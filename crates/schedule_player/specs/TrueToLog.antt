@@ -11,9 +11,9 @@ use Rattle.schedule_player.specs.ReplicaMoves.{NodeOf, length_in}
 use Rattle.schedule_player.specs.World.{WorldOf, bank_of}
 use Rattle.schedule_text.specs.declared.event.Event.{Event}
 
--- each replica has at most as many entries as the log; each frame to it is an entry of the log; each frame from it tells
--- a length up to the log's, under its own number, or the log's reply to a number; each answer that is kept is the log's
--- reply
+-- each replica has at most as many entries as the log; each frame to it is an entry of the log; each frame from it
+-- tells a length up to the log's, under its own number, or the log's reply to a number; each answer that is kept is the
+-- log's reply
 pub record IsTrueToLog (world : WorldOf) : Type 0 where
   pub within : (r : ℕ) (node : NodeOf) → slice_get world.nodes r ≡ Some node
       → length_in node ≤ length world.sequencer.log
