@@ -1,5 +1,5 @@
 //! The lines of events.
-ghost use Rattle.std.specs.Prelude.{◌≡◌, ◌+◌, ◌<◌, ◌^◌, Ok, [], ◌∷◌, length, MatchResult};
+ghost use Rattle.std.specs.Prelude.{◌≡◌, ◌+◌, ◌<◌, ◌^◌, Ok, Err, [], ◌∷◌, length, MatchOption, MatchResult};
 ghost use Rattle.std.specs.Option.{option_map};
 ghost use Rattle.sb_calls.specs.Call.{call_of_words};
 ghost use Rattle.sb_rows.specs.Opening.{at_line};
@@ -40,28 +40,22 @@ fn event_with(verb: &[u8], rest: Option<&[u8]>) -> Result<Event, EventFault>
         return asked(rest);
     }
     if verb == b"send".as_slice() {
-        let (replica, number) = two_numbers(rest)?;
-        return Ok(Event::Send { replica, number });
+        return two_numbers(rest).map(|(replica, number)| Event::Send { replica, number });
     }
     if verb == b"resend".as_slice() {
-        let replica = one_number(rest)?;
-        return Ok(Event::Resend { replica });
+        return one_number(rest).map(|replica| Event::Resend { replica });
     }
     if verb == b"to".as_slice() {
-        let (replica, place) = two_numbers(rest)?;
-        return Ok(Event::To { replica, place });
+        return two_numbers(rest).map(|(replica, place)| Event::To { replica, place });
     }
     if verb == b"ack".as_slice() {
-        let replica = one_number(rest)?;
-        return Ok(Event::Ack { replica });
+        return one_number(rest).map(|replica| Event::Ack { replica });
     }
     if verb == b"answer".as_slice() {
-        let (replica, number) = two_numbers(rest)?;
-        return Ok(Event::Answer { replica, number });
+        return two_numbers(rest).map(|(replica, number)| Event::Answer { replica, number });
     }
     if verb == b"from".as_slice() {
-        let (replica, place) = two_numbers(rest)?;
-        return Ok(Event::From { replica, place });
+        return two_numbers(rest).map(|(replica, place)| Event::From { replica, place });
     }
     replica_event(verb, rest)
 }
@@ -72,35 +66,29 @@ fn replica_event(verb: &[u8], rest: Option<&[u8]>) -> Result<Event, EventFault>
         ≡ spec.replica_event verb.now (words_left (option_map (λ text. text.now) rest.entry)) }
 {
     if verb == b"take".as_slice() {
-        let (replica, worker, index) = three_numbers(rest)?;
-        return Ok(Event::Take {
+        return three_numbers(rest).map(|(replica, worker, index)| Event::Take {
             replica,
             worker,
             index,
         });
     }
     if verb == b"finish".as_slice() {
-        let (replica, worker) = two_numbers(rest)?;
-        return Ok(Event::Finish { replica, worker });
+        return two_numbers(rest).map(|(replica, worker)| Event::Finish { replica, worker });
     }
     if verb == b"mark".as_slice() {
         return marked(rest);
     }
     if verb == b"restart".as_slice() {
-        let replica = one_number(rest)?;
-        return Ok(Event::Restart { replica });
+        return one_number(rest).map(|replica| Event::Restart { replica });
     }
     if verb == b"cut".as_slice() {
-        let replica = one_number(rest)?;
-        return Ok(Event::Cut { replica });
+        return one_number(rest).map(|replica| Event::Cut { replica });
     }
     if verb == b"next".as_slice() {
-        let replica = one_number(rest)?;
-        return Ok(Event::Next { replica });
+        return one_number(rest).map(|replica| Event::Next { replica });
     }
     if verb == b"audit".as_slice() {
-        let (first, second) = two_numbers(rest)?;
-        return Ok(Event::Audit { first, second });
+        return two_numbers(rest).map(|(first, second)| Event::Audit { first, second });
     }
     Err(EventFault::UnknownEvent)
 }
@@ -109,16 +97,28 @@ fn replica_event(verb: &[u8], rest: Option<&[u8]>) -> Result<Event, EventFault>
 fn asked(rest: Option<&[u8]>) -> Result<Event, EventFault>
     ensures { result ≡ of_ask (words_left (option_map (λ text. text.now) rest.entry)) }
 {
-    let (client, rest) = next_word(rest.ok_or(EventFault::WrongWords)?);
-    let (request, rest) = next_word(rest.ok_or(EventFault::WrongWords)?);
+    let (client, request, rest) = key_words(rest).ok_or(EventFault::WrongWords)?;
     let client = number_of(client)?;
     let request = number_of(request)?;
-    let call = call_left(rest).map_err(EventFault::Call)?;
-    Ok(Event::Ask {
-        client,
-        request,
-        call,
-    })
+    match call_left(rest) {
+        Ok(call) => Ok(Event::Ask {
+            client,
+            request,
+            call,
+        }),
+        Err(fault) => Err(EventFault::Call(fault)),
+    }
+}
+
+// The words of a key, and what follows them.
+fn key_words(rest: Option<&[u8]>) -> Option<(&[u8], &[u8], Option<&[u8]>)>
+    ensures { let left = words_left (option_map (λ text. text.now) rest.entry) in MatchOption result
+        (of_ask left ≡ Err EventFault.WrongWords)
+        (λ key. left ≡ key.0.now ∷ key.1.now ∷ words_left (option_map (λ text. text.now) key.2)) }
+{
+    let (client, rest) = next_word(rest?);
+    let (request, rest) = next_word(rest?);
+    Some((client, request, rest))
 }
 
 // The call that is left.
@@ -133,7 +133,7 @@ fn call_left(rest: Option<&[u8]>) -> Result<Call, CallFault>
 fn marked(rest: Option<&[u8]>) -> Result<Event, EventFault>
     ensures { result ≡ of_mark (words_left (option_map (λ text. text.now) rest.entry)) }
 {
-    let (replica, how) = two_words(rest)?;
+    let (replica, how) = two_words(rest).ok_or(EventFault::WrongWords)?;
     let replica = number_of(replica)?;
     let how = how_of(how).ok_or(EventFault::BadNumber)?;
     Ok(Event::Mark { replica, how })

@@ -1,5 +1,5 @@
 //! The words that are left on a line, and the numbers that they are.
-ghost use Rattle.std.specs.Prelude.{◌≡◌, ◌≢◌, ℕ, Some, List, [], ◌∷◌, MatchResult};
+ghost use Rattle.std.specs.Prelude.{◌≡◌, ◌≢◌, ℕ, Some, List, [], ◌∷◌, MatchOption, MatchResult};
 ghost use Rattle.std.specs.Option.{option_map};
 ghost use Rattle.std.specs.Result.{result_map_both};
 ghost use Rattle.sb_calls.specs.Ask as calls;
@@ -17,7 +17,7 @@ pub(crate) fn one_number(rest: Option<&[u8]>) -> Result<u32, EventFault>
     ensures { (event : ℕ → AnyEvent) → result_map_both event (λ fault. fault) result
         ≡ of_one event (words_left (option_map (λ text. text.now) rest.entry)) }
 {
-    number_of(one_word(rest)?)
+    number_of(one_word(rest).ok_or(EventFault::WrongWords)?)
 }
 
 // The two numbers that are left, whatever event they are for.
@@ -27,7 +27,7 @@ pub(crate) fn two_numbers(rest: Option<&[u8]>) -> Result<(u32, u32), EventFault>
         → result_map_both (λ two. event two.0 two.1) (λ fault. fault) result
         ≡ of_two event (words_left (option_map (λ text. text.now) rest.entry)) }
 {
-    let (first, second) = two_words(rest)?;
+    let (first, second) = two_words(rest).ok_or(EventFault::WrongWords)?;
     Ok((number_of(first)?, number_of(second)?))
 }
 
@@ -38,7 +38,7 @@ pub(crate) fn three_numbers(rest: Option<&[u8]>) -> Result<(u32, u32, u32), Even
         → result_map_both (λ three. event three.0 three.1 three.2) (λ fault. fault) result
         ≡ of_three event (words_left (option_map (λ text. text.now) rest.entry)) }
 {
-    let (first, second, third) = three_words(rest)?;
+    let (first, second, third) = three_words(rest).ok_or(EventFault::WrongWords)?;
     Ok((number_of(first)?, number_of(second)?, number_of(third)?))
 }
 
@@ -54,39 +54,37 @@ pub(crate) fn number_of(word: &[u8]) -> Result<u32, EventFault>
 
 // The one word that is left.
 #[inline]
-fn one_word(rest: Option<&[u8]>) -> Result<&[u8], EventFault>
-    ensures { let left = words_left (option_map (λ text. text.now) rest.entry) in MatchResult result
-        (λ word. left ≡ word.now ∷ [])
-        (λ fault. (fault ≡ EventFault.WrongWords) × ((word : List ℕ) → left ≢ word ∷ [])) }
+fn one_word(rest: Option<&[u8]>) -> Option<&[u8]>
+    ensures { let left = words_left (option_map (λ text. text.now) rest.entry) in MatchOption result
+        ((word : List ℕ) → left ≢ word ∷ [])
+        (λ word. left ≡ word.now ∷ []) }
 {
-    let (word, more) = next_word(rest.ok_or(EventFault::WrongWords)?);
+    let (word, more) = next_word(rest?);
     match more {
-        None => Ok(word),
-        Some(_) => Err(EventFault::WrongWords),
+        None => Some(word),
+        Some(_) => None,
     }
 }
 
 // The two words that are left.
 #[inline]
-pub(crate) fn two_words(rest: Option<&[u8]>) -> Result<(&[u8], &[u8]), EventFault>
-    ensures { let left = words_left (option_map (λ text. text.now) rest.entry) in MatchResult result
-        (λ two. left ≡ two.0.now ∷ two.1.now ∷ [])
-        (λ fault. (fault ≡ EventFault.WrongWords)
-        × ((first second : List ℕ) → left ≢ first ∷ second ∷ [])) }
+pub(crate) fn two_words(rest: Option<&[u8]>) -> Option<(&[u8], &[u8])>
+    ensures { let left = words_left (option_map (λ text. text.now) rest.entry) in MatchOption result
+        ((first second : List ℕ) → left ≢ first ∷ second ∷ [])
+        (λ two. left ≡ two.0.now ∷ two.1.now ∷ []) }
 {
-    let (first, rest) = next_word(rest.ok_or(EventFault::WrongWords)?);
-    Ok((first, one_word(rest)?))
+    let (first, rest) = next_word(rest?);
+    Some((first, one_word(rest)?))
 }
 
 // The three words that are left.
 #[inline]
-fn three_words(rest: Option<&[u8]>) -> Result<(&[u8], &[u8], &[u8]), EventFault>
-    ensures { let left = words_left (option_map (λ text. text.now) rest.entry) in MatchResult result
-        (λ three. left ≡ three.0.now ∷ three.1.now ∷ three.2.now ∷ [])
-        (λ fault. (fault ≡ EventFault.WrongWords)
-        × ((first second third : List ℕ) → left ≢ first ∷ second ∷ third ∷ [])) }
+fn three_words(rest: Option<&[u8]>) -> Option<(&[u8], &[u8], &[u8])>
+    ensures { let left = words_left (option_map (λ text. text.now) rest.entry) in MatchOption result
+        ((first second third : List ℕ) → left ≢ first ∷ second ∷ third ∷ [])
+        (λ three. left ≡ three.0.now ∷ three.1.now ∷ three.2.now ∷ []) }
 {
-    let (first, rest) = next_word(rest.ok_or(EventFault::WrongWords)?);
+    let (first, rest) = next_word(rest?);
     let (second, third) = two_words(rest)?;
-    Ok((first, second, third))
+    Some((first, second, third))
 }
