@@ -10,19 +10,19 @@ mod spellings;
 
 // Three customers and five replies, by hand: the fields up to the balances, the savings, the
 // checking balances, their total, and the replies.
-const HEAD: &str = "5342434b50543031 0000000000000005 00000003";
+pub(crate) const HEAD: &str = "5342434b50543031 0000000000000005 00000003";
 
-const SAVINGS: &str = "0000000000000000 0000000000000000 0000000000000000";
+pub(crate) const SAVINGS: &str = "0000000000000000 0000000000000000 0000000000000000";
 
-const CHECKING: &str = "0000000000000000 00000000000009c4 0000000000000000";
+pub(crate) const CHECKING: &str = "0000000000000000 00000000000009c4 0000000000000000";
 
-const TOTAL: &str = "00000000000009c4";
+pub(crate) const TOTAL: &str = "00000000000009c4";
 
-const REPLIES: &str =
+pub(crate) const REPLIES: &str =
     "00 0000000000003a98 01 0000000000000000 01 0000000000000000 01 0000000000000000 01 0000000000000000";
 
 // The bytes of some fields, each in hexadecimal digits; spaces aside.
-fn bytes(rt: &(impl Abort + AllocGlobal), fields: &[&str]) -> Vec<u8> {
+pub(crate) fn bytes(rt: &(impl Abort + AllocGlobal), fields: &[&str]) -> Vec<u8> {
     let mut bare = Vec::new(rt.alloc());
     for digits in fields {
         for digit in digits.as_bytes() {

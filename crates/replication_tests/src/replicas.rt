@@ -1,5 +1,6 @@
 //! Replicas: entries from the network, checkpoints and restarts.
 use crate::bank::opening;
+use crate::checkpoints::bytes;
 use crate::steps::is_so;
 use cown_board::{CutFault, Done, Job, Runs};
 use sb_calls::{Op, Reply, read_call};
@@ -48,8 +49,8 @@ enum Step {
     // The next put of the store ends so.
     Tell(How),
     Mark(Result<u64, MarkFault>),
-    // So many bytes of a checkpoint are stored.
-    Stored(Option<usize>),
+    // A checkpoint of these fields is stored, each in hexadecimal digits; or none is.
+    Stored(Option<&'static [&'static str]>),
     Restart(Result<u64, RestartFault>),
     // What it says of its length, and of its reply to a number.
     AckFrame(Frame),
@@ -130,13 +131,14 @@ fn ends(rt: &impl Abort, replica: &Replica<MemoryStore>, length: u64, checking: 
     assert!(rt; columns.checking() == checking.as_slice());
 }
 
-fn holds(rt: &impl Abort, replica: &mut Replica<MemoryStore>, size: Option<usize>) {
+fn holds(
+    rt: &(impl Abort + AllocGlobal),
+    replica: &mut Replica<MemoryStore>,
+    fields: Option<&[&str]>,
+) {
     let stored = replica.stored().expect(rt, "memory for the bytes");
-    let held = stored.as_ref().map(|bytes| bytes.len());
-    assert!(rt; held == size);
-    if let Some(bytes) = stored {
-        assert!(rt; bytes.starts_with(b"SBCKPT01"));
-    }
+    let written = fields.map(|fields| bytes(rt, fields));
+    assert!(rt; stored == written);
 }
 
 fn restarts_so(
@@ -151,7 +153,7 @@ fn restarts_so(
     }
 }
 
-fn plays_one(rt: &impl Abort, node: &mut Node, place: usize, step: &Step) {
+fn plays_one(rt: &(impl Abort + AllocGlobal), node: &mut Node, place: usize, step: &Step) {
     match *step {
         Step::Hear(number, line, heard) => hears(rt, &mut node.replica, number, line, heard),
         Step::AcceptUpTo(last, line) => accepts_up_to(rt, &mut node.replica, last, line),
@@ -171,7 +173,7 @@ fn plays_one(rt: &impl Abort, node: &mut Node, place: usize, step: &Step) {
         Step::Cut(answer) => is_so(rt, place, node.replica.cut() == answer),
         Step::Tell(how) => node.replica.tell(how),
         Step::Mark(answer) => is_so(rt, place, node.replica.mark() == answer),
-        Step::Stored(size) => holds(rt, &mut node.replica, size),
+        Step::Stored(fields) => holds(rt, &mut node.replica, fields),
         Step::Restart(answer) => restarts_so(rt, &mut node.replica, answer),
         Step::AckFrame(frame) => is_so(rt, place, node.replica.ack_frame() == frame),
         Step::AnswerFrame(number, frame) => {

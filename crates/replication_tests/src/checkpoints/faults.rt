@@ -33,6 +33,9 @@ const BELOW: &str = "0000000000000000 ffffff172b5aefff 0000000000000000";
 
 const NEGATIVE: &str = "0000000000000000 ffffffffffffffff 0000000000000000";
 
+// Bob has a cent more than the total says.
+const ANOTHER_BALANCE: &str = "0000000000000000 00000000000009c5 0000000000000000";
+
 const ANOTHER_TOTAL: &str = "00000000000009c5";
 
 const CODE_8: &str =
@@ -79,6 +82,7 @@ fn then_the_balances_and_their_total(rt: HostRuntime) {
         CheckpointFault::OutOfRange,
         &[
             [HEAD, ABOVE, CHECKING, TOTAL, REPLIES],
+            [HEAD, SAVINGS, ABOVE, TOTAL, REPLIES],
             [HEAD, SAVINGS, ABOVE, ANOTHER_TOTAL, REPLIES],
             [HEAD, NEGATIVE, BELOW, TOTAL, REPLIES],
         ],
@@ -93,7 +97,10 @@ fn then_the_balances_and_their_total(rt: HostRuntime) {
         &rt,
         3,
         CheckpointFault::WrongTotal,
-        &[[HEAD, SAVINGS, CHECKING, ANOTHER_TOTAL, CODE_8]],
+        &[
+            [HEAD, SAVINGS, ANOTHER_BALANCE, TOTAL, REPLIES],
+            [HEAD, SAVINGS, CHECKING, ANOTHER_TOTAL, CODE_8],
+        ],
     );
 }
 

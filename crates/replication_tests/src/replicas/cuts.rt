@@ -1,4 +1,5 @@
 //! Checkpoints of a cut, while later entries run.
+use super::marks::AFTER_A_DEPOSIT;
 use super::*;
 
 #[test]
@@ -14,6 +15,7 @@ fn a_mark_of_a_cut_while_another_entry_is_out(rt: HostRuntime) {
             Step::Run(1, Reply::Done),
             Step::Take(2),
             Step::Mark(Ok(1)),
+            Step::Stored(Some(&AFTER_A_DEPOSIT)),
             // The cut is gone, so the next mark is of both.
             Step::Mark(Err(MarkFault::Busy)),
             Step::Finish(Reply::Done),

@@ -1,8 +1,15 @@
 //! Checkpoints that are put into the store.
 use super::*;
+use crate::checkpoints::{CHECKING, HEAD, REPLIES, SAVINGS, TOTAL};
 
-// The bytes of the checkpoint after the first entry: 28, 16 for each of the three, 9 for the reply.
-const SIZE: usize = 85;
+// The checkpoint after a deposit of 1.00 to alice, by hand.
+pub(crate) const AFTER_A_DEPOSIT: [&str; 5] = [
+    "5342434b50543031 0000000000000001 00000003",
+    "0000000000002710 0000000000000000 00000000000003e8",
+    "00000000000013ec 00000000000007d0 0000000000000000",
+    "00000000000046b4",
+    "01 0000000000000000",
+];
 
 #[test]
 fn a_busy_replica_leaves_its_store(rt: HostRuntime) {
@@ -16,7 +23,7 @@ fn a_busy_replica_leaves_its_store(rt: HostRuntime) {
             Step::Stored(None),
             Step::Finish(Reply::Done),
             Step::Mark(Ok(1)),
-            Step::Stored(Some(SIZE)),
+            Step::Stored(Some(&AFTER_A_DEPOSIT)),
         ],
     );
 }
@@ -29,8 +36,29 @@ fn an_idle_replica_puts_its_checkpoint(rt: HostRuntime) {
             Step::AcceptUpTo(1, "deposit alice 1.00"),
             Step::Run(1, Reply::Done),
             Step::Mark(Ok(1)),
-            Step::Stored(Some(SIZE)),
+            Step::Stored(Some(&AFTER_A_DEPOSIT)),
             Step::Ends(1, [5_100, 2_000, 0]),
+        ],
+    );
+}
+
+#[test]
+fn a_mark_after_five_calls(rt: HostRuntime) {
+    plays(
+        &rt,
+        &[
+            Step::Hear(1, "balance alice", Heard::Accepted(1)),
+            Step::Run(1, Reply::Shown(15_000)),
+            Step::AcceptUpTo(2, "deposit bob 5.00"),
+            Step::Run(2, Reply::Done),
+            Step::AcceptUpTo(3, "savings carol -10.00"),
+            Step::Run(3, Reply::Done),
+            Step::AcceptUpTo(4, "check alice 150.00"),
+            Step::Run(4, Reply::Done),
+            Step::AcceptUpTo(5, "amalgamate alice bob"),
+            Step::Run(5, Reply::Done),
+            Step::Mark(Ok(5)),
+            Step::Stored(Some(&[HEAD, SAVINGS, CHECKING, TOTAL, REPLIES])),
         ],
     );
 }
