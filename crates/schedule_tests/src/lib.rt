@@ -12,6 +12,8 @@ mod events;
 #[cfg(test)]
 mod faults;
 #[cfg(test)]
+mod hands;
+#[cfg(test)]
 mod lists;
 #[cfg(test)]
 mod network;

@@ -114,6 +114,17 @@ fn what_is_not_there_is_noted_as_nothing(rt: HostRuntime) {
 }
 
 #[test]
+fn a_length_and_an_answer_are_heard(rt: HostRuntime) {
+    let events = b"ask 1 1 deposit alice 1.00\nresend 0\nto 0 1\nanswer 0 1\ntake 0 1 0\n\
+          finish 0 1\nack 0\nanswer 0 1\nfrom 0 1\nfrom 0 2\nfrom 0 2\nresend 0\n";
+    let output = b"new 1\nresent 1\naccepted 1\nnothing\ntook 1\nfinished 1 done\nsent 1\n\
+          sent 2\nrecorded 1\nkept 1\nrepeat 1\nresent 0\n\
+          replica 0 length 1 idle\nalice 100.00 51.00\nbob 0.00 20.00\n\
+          carol 10.00 0.00\ntotal 181.00\n";
+    expect_played(&rt, rt.alloc(), b"nodes 1 workers 1\n", events, output);
+}
+
+#[test]
 fn the_sequencer_hears(rt: HostRuntime) {
     let events = b"ask 1 1 balance alice\nask 1 1 balance alice\nask 1 1 balance bob\nresend 0\n\
           to 0 1\nack 0\nfrom 0 1\nresend 0\nresend 1\ntake 0 1 0\nfinish 0 1\n\

@@ -10,8 +10,19 @@ const OPENING: &str = "alice 100.00 50.00\nbob 0.00 20.00\ncarol 10.00 0.00\nbeg
 
 // A world of the three, with so many replicas of so many workers.
 pub(crate) fn world_of(rt: &impl Abort, alloc: Global, nodes: u8, workers: u8) -> Box<World> {
+    world_over(rt, alloc, OPENING, nodes, workers)
+}
+
+// A world over this opening.
+pub(crate) fn world_over(
+    rt: &impl Abort,
+    alloc: Global,
+    opening: &str,
+    nodes: u8,
+    workers: u8,
+) -> Box<World> {
     assert!(rt; nodes <= 8);
-    let opening = read_opening(alloc, OPENING.as_bytes()).expect(rt, "an opening");
+    let opening = read_opening(alloc, opening.as_bytes()).expect(rt, "an opening");
     let Opening {
         directory,
         columns,
