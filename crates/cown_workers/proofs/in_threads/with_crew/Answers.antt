@@ -1,10 +1,10 @@
 -- The passes of the bench are its workers' and the owner's.
-use Rattle.std.proofs.Common.{◌≡◌, ◌<◌, true, List, [], length, refl, sym, ap, ◌∙◌, subst}
+use Rattle.std.proofs.Common.{◌≡◌, ◌<◌, List, [], refl, sym, ap, ◌∙◌, subst}
 use Rattle.std.specs.List.{All}
 use Rattle.std.proofs.lemmas.List.Elements.{All-pop, All-weaker}
 use Rattle.std.proofs.lemmas.Result.{IfOk-weaker}
 use Rattle.cown_bench.specs.BenchPasses.{BenchId, OwnerOf, WorkerOf}
-use Rattle.cown_workers.specs.BenchCrews.{BenchCrewOf, IsFresh}
+use Rattle.cown_workers.specs.BenchCrews.{BenchCrewOf}
 use Rattle.cown_workers.proofs.Picking.{fresh_taken}
 use Rattle.cown_workers.proofs.in_threads.with_crew.Goals as goal
 
