@@ -38,6 +38,7 @@ pub use feeding::{Feed, NoFollowers};
 pub use followers::{Followers, with_followers};
 pub use laws::answered_for_good;
 pub use log_number::LogNumber;
+pub use nodes::{Bank, run_nodes};
 pub use preparing::{Prepared, prepare};
 pub use primary::Primary;
 pub use resolving::resolve_all;

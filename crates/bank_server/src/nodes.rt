@@ -21,16 +21,26 @@ use std::thread;
 use std::thread::Threads;
 use std::time::Clock;
 
-/// What a bank begins with, and the log that it carries out.
+/// What a bank begins with, and the log that its followers hear of.
 #[derive(Drop)]
-pub(crate) struct Bank {
-    pub(crate) directory: Directory,
-    pub(crate) columns: Columns,
-    pub(crate) log: Box<Sequencer>,
+pub struct Bank {
+    /// The customers' names, in opening order.
+    pub directory: Directory,
+    /// Their balances at the opening.
+    pub columns: Columns,
+    /// The log.
+    pub log: Box<Sequencer>,
 }
 
-/// Node 0 once it has carried out a log with this many workers, and the other nodes came to the same.
-pub(crate) fn run_nodes<H: Threads + Wait + Clock + Sync, G: Gate + Sync>(
+/// Has node 0 carry out the ops of a log, by this many workers, and the other nodes, its followers, the log itself,
+/// each in a thread of its own, and answers node 0 once the followers came to the same.
+///
+/// Fails with
+/// - [`RunFault::Strayed`] where a follower can't be started, or differs from node 0, as where these aren't the ops of
+///   the log,
+/// - [`RunFault::CrewGone`] where a worker can't be started, or the workers left something unfinished,
+/// - [`RunFault::OutOfMemory`] where memory is refused.
+pub fn run_nodes<H: Threads + Wait + Clock + Sync, G: Gate + Sync>(
     rt: &H,
     alloc: Global,
     bank: Bank,

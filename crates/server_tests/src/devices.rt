@@ -34,6 +34,22 @@ impl Read for Bytewise<'_> {
     }
 }
 
+/// Gives nothing: so many reads are interrupted, and the next one is the end.
+#[derive(Drop)]
+pub(crate) struct Interrupted {
+    pub(crate) reads: u32,
+}
+
+impl Read for Interrupted {
+    fn read(&mut self, _buf: &mut [u8]) -> io::Result<usize> {
+        if self.reads == 0 {
+            return Ok(0);
+        }
+        self.reads -= 1;
+        Err(io::Error::from(ErrorKind::Interrupted))
+    }
+}
+
 /// Takes so many bytes, one a write, and then fails.
 #[derive(Drop)]
 pub(crate) struct Narrow {

@@ -14,76 +14,107 @@ const PAYMENT: &[&[u8]] = &[DEPOSIT, FLUSH];
 
 const QUESTION: &[&[u8]] = &[BALANCE, FLUSH];
 
-// Serves a session, of which followers are told, or aren't.
-fn serve_and_feed<R: Abort + Wait>(
-    rt: &R,
-    alloc: Global,
-    primary: &mut Primary<MemoryStore>,
-    followers: &mut Followers<'_, R>,
-    sent: &[&[u8]],
-    told: &[&[u8]],
-    is_told: bool,
-) {
-    serve(rt, alloc, primary, sent, told);
-    if is_told {
-        expect(
-            rt,
-            followers.feed(primary.log()).is_ok(),
-            "memory for frames",
-        );
-    }
+// The bank at another opening.
+const OTHER_OPENING: &[u8] = b"alice 100.00 50.00\nbob 0.00 20.01\ncarol 10.00 0.00\nbegin\n";
+
+// What followers are told of the log of a bank that serves two clients.
+#[derive(Clone, Copy)]
+enum Told {
+    // All of it, after each session.
+    All,
+    // What the first client asked.
+    First,
+    // What another bank's log has in the place of that.
+    Other,
 }
 
-// How followers come out that are told of the log after each of two sessions, or only after the first.
+// Tells followers of a log.
+fn feed<R: Abort + Wait>(rt: &R, followers: &mut Followers<'_, R>, primary: &Primary<MemoryStore>) {
+    expect(
+        rt,
+        followers.feed(primary.log()).is_ok(),
+        "memory for frames",
+    );
+}
+
+// Tells followers of the log of a bank that served one client.
+fn feed_other<R: Abort + Wait>(rt: &R, alloc: Global, followers: &mut Followers<'_, R>) {
+    let mut other = opened(rt, alloc);
+    serve(rt, alloc, &mut *other, QUESTION, &[SHOWN]);
+    feed(rt, followers, &other);
+}
+
+// How followers come out that are told this.
 fn compared<R: Abort + Threads + Wait + Sync>(
     rt: &R,
     alloc: Global,
     followers: &mut Followers<'_, R>,
-    is_told: bool,
+    told: Told,
 ) -> Result<(), RunFault> {
     let mut primary = opened(rt, alloc);
-    serve_and_feed(rt, alloc, &mut primary, followers, PAYMENT, &[DONE], true);
-    serve_and_feed(
-        rt,
-        alloc,
-        &mut primary,
-        followers,
-        QUESTION,
-        &[SHOWN],
-        is_told,
-    );
+    serve(rt, alloc, &mut *primary, PAYMENT, &[DONE]);
+    match told {
+        Told::Other => feed_other(rt, alloc, followers),
+        Told::All | Told::First => feed(rt, followers, &primary),
+    }
+    serve(rt, alloc, &mut *primary, QUESTION, &[SHOWN]);
+    match told {
+        Told::First => {}
+        Told::All | Told::Other => feed(rt, followers, &primary),
+    }
     followers.compare(rt, primary.node())
 }
 
-// The followers of a bank of so many nodes come out so.
+// The followers of a bank of so many nodes, which are opened so and told this, come out so.
 fn expect_compared<R: Abort + Threads + Wait + Sync>(
     rt: &R,
     alloc: Global,
+    opening: &[u8],
     nodes: usize,
-    is_told: bool,
+    told: Told,
     wanted: Result<(), RunFault>,
 ) {
     assert!(rt; nodes <= 8);
-    let opening = read_opening(alloc, OPENING).expect(rt, "an opening");
+    let opening = read_opening(alloc, opening).expect(rt, "an opening");
     let opening = Box::new(alloc, opening).expect(rt, "memory for a box");
     let compared = with_followers(rt, alloc, &opening, nodes, |followers| {
-        compared(rt, alloc, followers, is_told)
+        compared(rt, alloc, followers, told)
     });
     expect(rt, compared == Ok(wanted), "how they come out");
+}
+
+// The same of a bank of one node, which has no followers, and of two and eight nodes.
+fn expect_strayed<R: Abort + Threads + Wait + Sync>(
+    rt: &R,
+    alloc: Global,
+    opening: &[u8],
+    told: Told,
+) {
+    expect_compared(rt, alloc, opening, 1, told, Ok(()));
+    for nodes in [2, 8] {
+        let wanted = Err(RunFault::Strayed(1));
+        expect_compared(rt, alloc, opening, nodes, told, wanted);
+    }
 }
 
 #[test]
 fn told_after_each_session(rt: HostRuntime) {
     for nodes in [1, 2, 8] {
-        expect_compared(&rt, rt.alloc(), nodes, true, Ok(()));
+        expect_compared(&rt, rt.alloc(), OPENING, nodes, Told::All, Ok(()));
     }
 }
 
 #[test]
 fn not_told_of_the_last_session(rt: HostRuntime) {
-    // Nobody is there to be told.
-    expect_compared(&rt, rt.alloc(), 1, false, Ok(()));
-    for nodes in [2, 8] {
-        expect_compared(&rt, rt.alloc(), nodes, false, Err(RunFault::Strayed(1)));
-    }
+    expect_strayed(&rt, rt.alloc(), OPENING, Told::First);
+}
+
+#[test]
+fn told_of_another_log(rt: HostRuntime) {
+    expect_strayed(&rt, rt.alloc(), OPENING, Told::Other);
+}
+
+#[test]
+fn opened_otherwise(rt: HostRuntime) {
+    expect_strayed(&rt, rt.alloc(), OTHER_OPENING, Told::All);
 }

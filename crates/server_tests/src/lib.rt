@@ -16,6 +16,8 @@ mod gates;
 #[cfg(test)]
 mod limits;
 #[cfg(test)]
+mod nodes;
+#[cfg(test)]
 mod plain;
 #[cfg(test)]
 mod primaries;
@@ -35,5 +37,7 @@ mod sessions;
 mod sockets;
 #[cfg(test)]
 mod stores;
+#[cfg(test)]
+mod threads;
 #[cfg(test)]
 mod wire;

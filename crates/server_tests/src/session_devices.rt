@@ -1,11 +1,10 @@
 //! Clients whose connections break.
-use crate::bank::{joined, opened};
-use crate::devices::{Bytewise, Narrow};
+use crate::bank::{expect, joined, opened};
+use crate::devices::{Bytewise, Interrupted, Narrow};
 use crate::wire::{BALANCE, DEPOSIT, DONE, FLUSH, SHOWN, serve};
 use bank_server::{Primary, SessionFault, serve_session};
 use cown_workers::InlineCrew;
 use sb_checkpoint::MemoryStore;
-use sb_sequencer::Sequencer;
 use std::alloc::Global;
 use std::process::Abort;
 
@@ -14,16 +13,18 @@ const SENT: &[&[u8]] = &[BALANCE, DEPOSIT, FLUSH, BALANCE, FLUSH];
 
 const TOLD: &[&[u8]] = &[SHOWN, DONE, SHOWN];
 
-// A client's session broke off after so many bytes, and left this log.
+// A client's session broke off after so many bytes, and left a log of this length, which node 0 was offered.
 fn expect_broken(
     rt: &impl Abort,
     ended: Result<(), SessionFault>,
-    log: &Sequencer,
+    primary: &Primary<MemoryStore>,
     length: u64,
     after: usize,
 ) {
-    let is_broken = ended == Err(SessionFault::Device) && log.length() == length;
+    let is_broken = ended == Err(SessionFault::Device) && primary.log().length() == length;
     assert!(rt; is_broken, "after {after} bytes");
+    let is_offered = primary.node().length() == length;
+    assert!(rt; is_offered, "node 0 after {after} bytes");
 }
 
 // How many asks are whole in so many bytes of two asks and a flush.
@@ -45,7 +46,7 @@ fn break_after(rt: &impl Abort, alloc: Global, bytes: u32, primary: &mut Primary
     };
     let mut written: Vec<u8> = Vec::new(alloc);
     let ended = serve_session(alloc, &mut reader, &mut written, primary, &mut InlineCrew);
-    expect_broken(rt, ended, primary.log(), whole_asks(bytes), bytes as usize);
+    expect_broken(rt, ended, primary, whole_asks(bytes), bytes as usize);
 }
 
 #[test]
@@ -63,7 +64,7 @@ fn hang_up_after(rt: &impl Abort, alloc: Global, room: usize, primary: &mut Prim
     let mut reader = sent.as_slice();
     let mut writer = Narrow::new(alloc, room, true);
     let ended = serve_session(alloc, &mut reader, &mut writer, primary, &mut InlineCrew);
-    expect_broken(rt, ended, primary.log(), 2, room);
+    expect_broken(rt, ended, primary, 2, room);
 }
 
 #[test]
@@ -73,4 +74,30 @@ fn a_client_that_hangs_up(rt: HostRuntime) {
         hang_up_after(&rt, rt.alloc(), room, &mut primary);
         serve(&rt, rt.alloc(), &mut *primary, SENT, TOLD);
     }
+}
+
+// A session whose client sends nothing, and whose reads are interrupted so often before its end, ends so.
+fn expect_after(rt: &impl Abort, alloc: Global, reads: u32, ends: Result<(), SessionFault>) {
+    let mut primary = opened(rt, alloc);
+    let mut reader = Interrupted { reads };
+    let mut written: Vec<u8> = Vec::new(alloc);
+    let ended = serve_session(
+        alloc,
+        &mut reader,
+        &mut written,
+        &mut primary,
+        &mut InlineCrew,
+    );
+    expect(rt, ended == ends, "how the session ends");
+}
+
+#[test]
+fn the_last_read_that_a_session_may_take(rt: HostRuntime) {
+    expect_after(&rt, rt.alloc(), 999_999_999, Ok(()));
+}
+
+#[test]
+fn one_read_more_than_a_session_may_take(rt: HostRuntime) {
+    let ends = Err(SessionFault::Device);
+    expect_after(&rt, rt.alloc(), 1_000_000_000, ends);
 }
