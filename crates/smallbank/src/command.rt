@@ -21,7 +21,7 @@ const SERVE: &str = "Serves clients over TCP, one after the other, on this machi
 Reads an opening from standard input, as `run` does, with nothing behind its line `begin`. Prints where
 it listens, a line as each session ends, and at the end the rows of all customers and the total. A
 client at fault ends its own session, which is told by the number of the fault: 1 is a bad frame, 2 a
-frame that is no request, and 4 a connection that broke.";
+frame that is no request, and 4 a connection that broke, or was waited for longer than --patience says.";
 
 const SERVE_EXAMPLE: &str = "Example:
   printf 'alice 100.00 50.00\\nbegin\\n' | smallbank serve --port 4000
@@ -30,6 +30,63 @@ prints, once a client has deposited 1.00 for alice
   session 1 ok
   alice 100.00 51.00
   total 151.00";
+
+// An option that takes a number.
+struct Count {
+    name: &'static str,
+    // From the first to the last, and as help shows it.
+    first: i64,
+    last: i64,
+    shown: &'static str,
+    // What it is where it isn't said, if it is anything then.
+    standard: Option<&'static str>,
+    help: &'static str,
+}
+
+const NODES: Count = Count {
+    name: "nodes",
+    first: 1,
+    last: 8,
+    shown: "1..8",
+    standard: Some("1"),
+    help: "How many nodes carry the calls out, each in a thread; all must end alike",
+};
+
+const WORKERS: Count = Count {
+    name: "workers",
+    first: 0,
+    last: 16,
+    shown: "0..16",
+    standard: Some("0"),
+    help: "How many threads work for the first node; with 0 it works alone",
+};
+
+const PORT: Count = Count {
+    name: "port",
+    first: 0,
+    last: 65_535,
+    shown: "0..65535",
+    standard: None,
+    help: "Where to listen, at 127.0.0.1; with 0 at any free port",
+};
+
+const SESSIONS: Count = Count {
+    name: "sessions",
+    first: 1,
+    last: 1_000,
+    shown: "1..1000",
+    standard: Some("1"),
+    help: "How many clients are served before the program ends",
+};
+
+const PATIENCE: Count = Count {
+    name: "patience",
+    first: 1,
+    last: 86_400,
+    shown: "1..86400",
+    standard: None,
+    help: "For how many seconds a client is waited for, at each read and each write; without it for ever",
+};
 
 /// The command whose grammar the program's words have.
 pub fn command<'a>(alloc: Global) -> Result<Command<'a>, AllocError> {
@@ -44,7 +101,7 @@ pub fn command<'a>(alloc: Global) -> Result<Command<'a>, AllocError> {
 
 // The part of the command that runs calls.
 fn run<'a>(alloc: Global) -> Result<Command<'a>, AllocError> {
-    let args = Vec::from_array(alloc, [nodes(alloc), workers(alloc)])?;
+    let args = Vec::from_array(alloc, [number(alloc, &NODES), number(alloc, &WORKERS)])?;
     Command::new(alloc, "run")
         .about("Runs calls from standard input")
         .long_about(RUN)
@@ -60,12 +117,12 @@ fn play<'a>(alloc: Global) -> Command<'a> {
 // The part of the command that serves.
 fn serve<'a>(alloc: Global) -> Result<Command<'a>, AllocError> {
     let args = [
-        port(alloc),
-        sessions(alloc),
-        nodes(alloc),
-        workers(alloc),
+        number(alloc, &PORT).required(true),
+        number(alloc, &SESSIONS),
+        number(alloc, &NODES),
+        number(alloc, &WORKERS),
         store(alloc),
-        patience(alloc),
+        number(alloc, &PATIENCE),
     ];
     let args = Vec::from_array(alloc, args)?;
     Command::new(alloc, "serve")
@@ -75,24 +132,17 @@ fn serve<'a>(alloc: Global) -> Result<Command<'a>, AllocError> {
         .args(args)
 }
 
-// Where clients are listened to.
-fn port<'a>(alloc: Global) -> Arg<'a> {
-    Arg::new(alloc, "port")
-        .long("port")
-        .value_name("0..65535")
-        .value_parser(value_parser!(usize).range(0..=65_535))
-        .required(true)
-        .help("Where to listen, at 127.0.0.1; with 0 at any free port")
-}
-
-// How many clients are served.
-fn sessions<'a>(alloc: Global) -> Arg<'a> {
-    Arg::new(alloc, "sessions")
-        .long("sessions")
-        .value_name("1..1000")
-        .value_parser(value_parser!(usize).range(1..=1_000))
-        .default_value("1")
-        .help("How many clients are served before the program ends")
+// An option that takes a number, as clap is told of it.
+fn number<'a>(alloc: Global, option: &Count) -> Arg<'a> {
+    let arg = Arg::new(alloc, option.name)
+        .long(option.name)
+        .value_name(option.shown)
+        .value_parser(value_parser!(usize).range(option.first..=option.last))
+        .help(option.help);
+    match option.standard {
+        Some(standard) => arg.default_value(standard),
+        None => arg,
+    }
 }
 
 // Where node 0's checkpoint is kept.
@@ -101,35 +151,4 @@ fn store<'a>(alloc: Global) -> Arg<'a> {
         .long("store")
         .value_name("FOLDER")
         .help("Where the first node saves a checkpoint after each session, as node0.ckpt")
-}
-
-// How long a client is waited for.
-fn patience<'a>(alloc: Global) -> Arg<'a> {
-    Arg::new(alloc, "patience")
-        .long("patience")
-        .value_name("1..86400")
-        .value_parser(value_parser!(usize).range(1..=86_400))
-        .help(
-            "For how many seconds a client is waited for, at each read and each write; without it for ever",
-        )
-}
-
-// How many nodes there are.
-fn nodes<'a>(alloc: Global) -> Arg<'a> {
-    Arg::new(alloc, "nodes")
-        .long("nodes")
-        .value_name("1..8")
-        .value_parser(value_parser!(usize).range(1..=8))
-        .default_value("1")
-        .help("How many nodes carry the calls out, each in a thread; all must end alike")
-}
-
-// How many workers the first node has.
-fn workers<'a>(alloc: Global) -> Arg<'a> {
-    Arg::new(alloc, "workers")
-        .long("workers")
-        .value_name("0..16")
-        .value_parser(value_parser!(usize).range(0..=16))
-        .default_value("0")
-        .help("How many threads work for the first node; with 0 it works alone")
 }

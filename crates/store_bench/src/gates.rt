@@ -1,5 +1,5 @@
 //! Gates that hold a worker up.
-ghost use Rattle.std.specs.Prelude.{◌≡◌};
+ghost use Rattle.std.specs.Prelude.{◌≡◌, true};
 
 use cown_workers::Gate;
 use std::sync::atomic::{AtomicBool, Ordering};
@@ -28,6 +28,13 @@ impl Computing {
 }
 
 impl Gate for Computing {
+    ghost admits = { λ gate. true };
+
+    // As the program's gate does.
+    fn admits_owner(&self) -> bool {
+        true
+    }
+
     fn before(&self, number: u64) {
         if after_steps(number, self.steps) == 0 {
             self.came_to_nothing.store(true, Ordering::SeqCst);
@@ -54,6 +61,13 @@ pub struct Waiting<'a, R: Clock> {
 }
 
 impl<'a, R: Clock> Gate for Waiting<'a, R> {
+    ghost admits = { λ gate. true };
+
+    // As the program's gate does.
+    fn admits_owner(&self) -> bool {
+        true
+    }
+
     fn before(&self, _number: u64) {
         thread::sleep(self.clock, Duration::from_secs(1));
     }
