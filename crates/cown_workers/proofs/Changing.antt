@@ -1,5 +1,5 @@
 -- A board after an op was handed out, or finished.
-use Rattle.std.proofs.Common.{◌≡◌, ◌≢◌, inl, inr, ℕ, ◌+◌, ◌<◌, ℤ, Bool, true, Option, Some, None, List, length, refl, sym, ap, ◌∙◌, arith}
+use Rattle.std.proofs.Common.{◌≡◌, ◌≢◌, inl, inr, ℕ, ◌+◌, ◌<◌, ℤ, true, Option, Some, None, List, length, refl, sym, ap, ◌∙◌, arith}
 use Rattle.std.specs.Prelude.{slice_get, slice_set}
 use Rattle.std.proofs.lemmas.Bool.{cases_eq, and_parts, true≢false}
 use Rattle.std.proofs.lemmas.Option.{slice_get_within}
@@ -14,7 +14,7 @@ use Rattle.cown_board.specs.State.{is_waiting, is_open, state_is}
 use Rattle.cown_board.specs.declared.state.State.{State}
 use Rattle.cown_board.specs.declared.state.State.TheVariants.{Waiting, Out, Finished}
 use Rattle.cown_workers.proofs.Counting.{count-set, injective}
-use Rattle.cown_workers.specs.Draining.{Drains, IsOf, NoneOut, KeepsNothing, waiting_of}
+use Rattle.cown_workers.specs.Draining.{Drains, IsOf, NoneOut, waiting_of}
 
 pub Drains_trans : {a b c : BoardOf Op} → Drains a b → Drains b c → Drains a c
 Drains_trans first second = record {
@@ -23,12 +23,6 @@ Drains_trans first second = record {
   log = second.log ∙ first.log;
   cut = second.cut ∙ first.cut;
   finished = λ k reply h. second.finished k reply (first.finished k reply h);
-}
-
-pub KeepsNothing_trans : {p q r : Bool} {a b c : BoardOf Op} → KeepsNothing p q a b → KeepsNothing q r b c → KeepsNothing p r a c
-KeepsNothing_trans first second = record {
-  stays = λ nothing. second.stays (first.stays nothing);
-  none_out = λ nothing none. second.none_out (first.stays nothing) (first.none_out nothing none);
 }
 
 -- one state changed

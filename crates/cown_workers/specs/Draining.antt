@@ -1,5 +1,5 @@
 -- Draining a board: its exchanges with a crew, and what it leaves as it was.
-use Rattle.std.specs.Prelude.{◌≡◌, ◌≢◌, ℕ, ◌≤◌, Bool, false, Option, Some, None, List, [], ◌∷◌, ◌++◌, length, slice_get, count_by}
+use Rattle.std.specs.Prelude.{◌≡◌, ◌≢◌, ℕ, ◌≤◌, Option, Some, None, List, [], ◌∷◌, ◌++◌, length, slice_get, count_by}
 use Rattle.sb_calls.specs.Behaviour.{declared_cowns, effect_of}
 use Rattle.sb_calls.specs.declared.op.Op.{Op}
 use Rattle.sb_calls.specs.declared.reply.Reply.{Reply}
@@ -107,8 +107,3 @@ pub record Drains (old new : BoardOf Op) : Type 0 where
   pub cut : new.cut ≡ old.cut
   pub finished : (k : ℕ) (reply : Reply) → slice_get old.states k ≡ Some (Finished reply)
       → slice_get new.states k ≡ Some (Finished reply)
-
--- a crew that keeps nothing before keeps nothing after; and then, where nothing was out, nothing is
-pub record KeepsNothing (keeps_old keeps_new : Bool) (old new : BoardOf Op) : Type 0 where
-  pub stays : keeps_old ≡ false → keeps_new ≡ false
-  pub none_out : keeps_old ≡ false → NoneOut old → NoneOut new

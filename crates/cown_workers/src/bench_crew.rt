@@ -170,7 +170,7 @@ impl<'a, R: Wait + Clock, G: Gate> BenchCrew<'a, R, G> {
 }
 
 impl<'a, R: Wait + Clock, G: Gate> Crew for BenchCrew<'a, R, G> {
-    ghost keeps = { λ crew. true };
+    ghost keeps = { true };
 
     ghost acts = { λ old step new. LaysOut old step new };
 

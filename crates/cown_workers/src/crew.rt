@@ -16,28 +16,26 @@ pub struct CrewGone;
 ///
 /// Nothing is said here of when that is, or in which order: whoever owns the board tests what comes back.
 pub trait Crew {
-    /// Whether it may keep a job that it is given.
-    ghost keeps: { Self → Bool };
+    /// Whether a crew of this type may keep a job that it is given.
+    ghost keeps: { Bool };
 
     /// What it may do at one exchange, from what it was before to what it is after. A crew of which nothing
     /// is to be told says that it always holds.
     ghost acts: { Self → CrewStep → Self → Type 0 };
 
-    /// Whether it may keep a job that it is given. Where it may not it never will: each comes back.
+    /// Whether it may keep a job that it is given. A crew that may not hands each back, and never will keep one.
     fn keeps(&self) -> bool
-        ensures { result ≡ keeps self.now };
+        ensures { result ≡ keeps };
 
     /// Gives it a job to carry out. One that it doesn't take comes back as it was.
     fn give(&mut self, job: Job<Op>) -> Result<(), Job<Op>>
         ensures same { IfErr result (λ back. back ≡ job) }
-        ensures hands_back { keeps self.old ≡ false → IsErr result }
+        ensures hands_back { keeps ≡ false → IsErr result }
         ensures acts { MatchResult result
             (λ kept. acts self.old (Kept job) self.new)
-            (λ back. acts self.old (CameBack job) self.new) }
-        ensures stays { keeps self.old ≡ false → keeps self.new ≡ false };
+            (λ back. acts self.old (CameBack job) self.new) };
 
     /// One that is carried out, or `None` where no more comes.
     fn next(&mut self) -> Option<Done<Op>>
-        ensures acts { acts self.old (HandedOver result) self.new }
-        ensures stays { keeps self.old ≡ false → keeps self.new ≡ false };
+        ensures acts { acts self.old (HandedOver result) self.new };
 }

@@ -1,7 +1,7 @@
 //! Carrying out all that a board has.
 ghost use Rattle.std.specs.Prelude.{◌≡◌, ◌≢◌, ◌<◌, ◌≤◌, List, true, false, IsOk, OnOk, OnErr, MatchResult};
 ghost use Rattle.cown_board.specs.Board.{open_of};
-ghost use Rattle.cown_workers.specs.Draining.{ActsAlong, AwaitsCrew, CrewStep, Drains, Exchanged, IsDrained, IsGivenUp, IsInVain, KeepsNothing, NoneOut, NoneReady, waiting_of};
+ghost use Rattle.cown_workers.specs.Draining.{ActsAlong, AwaitsCrew, CrewStep, Drains, Exchanged, IsDrained, IsGivenUp, IsInVain, NoneOut, NoneReady, waiting_of};
 
 use crate::crew::{Crew, CrewGone};
 use cown_board::Runs;
@@ -22,8 +22,7 @@ pub fn drain<R: Runs, C: Crew>(runs: &mut R, crew: &mut C) -> Result<(), CrewGon
     ensures ok { OnOk result (open_of (R.board runs.new) ≡ 0) }
     ensures gone { OnErr result (open_of (R.board runs.new) ≢ 0) }
     ensures log { Drains (R.board runs.old) (R.board runs.new) }
-    ensures sure { C.keeps crew.old ≡ false → NoneOut (R.board runs.old) → IsOk result }
-    ensures stays { C.keeps crew.old ≡ false → C.keeps crew.new ≡ false }
+    ensures sure { C.keeps ≡ false → NoneOut (R.board runs.old) → IsOk result }
     ensures beside { R.beside runs.new ≡ R.beside runs.old }
 {
     loop {
@@ -41,7 +40,7 @@ fn give_ready<R: Runs, C: Crew>(runs: &mut R, crew: &mut C)
     ensures log { Drains (R.board runs.old) (R.board runs.new) }
     ensures unfinished { open_of (R.board runs.new) ≤ open_of (R.board runs.old) }
     ensures none_ready { NoneReady (R.board runs.new) }
-    ensures nothing { KeepsNothing (C.keeps crew.old) (C.keeps crew.new) (R.board runs.old) (R.board runs.new) }
+    ensures none_out { C.keeps ≡ false → NoneOut (R.board runs.old) → NoneOut (R.board runs.new) }
     ensures beside { R.beside runs.new ≡ R.beside runs.old }
 {
     while give_first(runs, crew) {}
@@ -54,7 +53,7 @@ fn give_first<R: Runs, C: Crew>(runs: &mut R, crew: &mut C) -> bool
     ensures none_ready { result ≡ false → NoneReady (R.board runs.new) }
     ensures log { Drains (R.board runs.old) (R.board runs.new) }
     ensures unfinished { open_of (R.board runs.new) ≤ open_of (R.board runs.old) }
-    ensures nothing { KeepsNothing (C.keeps crew.old) (C.keeps crew.new) (R.board runs.old) (R.board runs.new) }
+    ensures none_out { C.keeps ≡ false → NoneOut (R.board runs.old) → NoneOut (R.board runs.new) }
     ensures beside { R.beside runs.new ≡ R.beside runs.old }
 {
     let Some(job) = runs.take_at(0) else {
@@ -77,7 +76,7 @@ fn finish_next<R: Runs, C: Crew>(runs: &mut R, crew: &mut C) -> Result<(), CrewG
     ensures ok { OnOk result (open_of (R.board runs.new) < open_of (R.board runs.old)) }
     ensures gone { OnErr result (R.board runs.new ≡ R.board runs.old) }
     ensures log { Drains (R.board runs.old) (R.board runs.new) }
-    ensures nothing { KeepsNothing (C.keeps crew.old) (C.keeps crew.new) (R.board runs.old) (R.board runs.new) }
+    ensures none_out { C.keeps ≡ false → NoneOut (R.board runs.old) → NoneOut (R.board runs.new) }
     ensures beside { R.beside runs.new ≡ R.beside runs.old }
 {
     let Some(done) = crew.next() else {

@@ -11,7 +11,7 @@ use sb_calls::Op;
 pub struct InlineCrew;
 
 impl Crew for InlineCrew {
-    ghost keeps = { λ crew. false };
+    ghost keeps = { false };
 
     ghost acts = { λ old step new. KeepsNoJob step };
 

@@ -19,7 +19,7 @@ impl Desk {
 }
 
 impl Crew for Desk {
-    ghost keeps = { λ desk. true };
+    ghost keeps = { true };
 
     ghost acts = { λ old step new. Unit {0} };
 
@@ -57,7 +57,7 @@ impl Keeper {
 }
 
 impl Crew for Keeper {
-    ghost keeps = { λ keeper. true };
+    ghost keeps = { true };
 
     ghost acts = { λ old step new. Unit {0} };
 
@@ -99,7 +99,7 @@ impl Stranger {
 }
 
 impl Crew for Stranger {
-    ghost keeps = { λ stranger. true };
+    ghost keeps = { true };
 
     ghost acts = { λ old step new. Unit {0} };
 
@@ -139,7 +139,7 @@ impl Pile {
 }
 
 impl Crew for Pile {
-    ghost keeps = { λ pile. true };
+    ghost keeps = { true };
 
     ghost acts = { λ old step new. Unit {0} };
 

@@ -26,7 +26,7 @@ impl HoldingCrew {
 }
 
 impl Crew for HoldingCrew {
-    ghost keeps = { λ crew. true };
+    ghost keeps = { true };
 
     ghost acts = { λ old step new. Unit {0} };
 

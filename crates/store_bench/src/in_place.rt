@@ -14,7 +14,7 @@ pub struct InPlace<'a, G: Gate> {
 }
 
 impl<'a, G: Gate> Crew for InPlace<'a, G> {
-    ghost keeps = { λ crew. false };
+    ghost keeps = { false };
 
     ghost acts = { λ old step new. KeepsNoJob step };
 

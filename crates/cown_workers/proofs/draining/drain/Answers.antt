@@ -3,7 +3,7 @@ use Rattle.std.proofs.Common.{◌≡◌, sym, ◌∙◌}
 use Rattle.std.proofs.lemmas.Bool.{true≢false}
 use Rattle.std.proofs.lemmas.Result.{err_from_is_err_and}
 use Rattle.cown_board.specs.Board.{open_of}
-use Rattle.cown_workers.proofs.Changing.{Drains_trans, KeepsNothing_trans}
+use Rattle.cown_workers.proofs.Changing.{Drains_trans}
 use Rattle.cown_workers.proofs.Exchanging.{Exchanged_trans, drained, given_up}
 use Rattle.cown_workers.proofs.Settled.{nothing_left}
 use Rattle.cown_workers.proofs.draining.drain.Goals as goal
@@ -15,7 +15,7 @@ loop-runs-preserved g c =
       exchanged = Exchanged_trans g.C.Crew.acts before.exchanged
           (Exchanged_trans g.C.Crew.acts c.give_ready.ensures.exchanged c.in_ok-finish_next.ensures.exchanged);
       drains = Drains_trans before.drains (Drains_trans c.give_ready.ensures.log c.finish_next.ensures.log);
-      nothing = KeepsNothing_trans before.nothing (KeepsNothing_trans c.give_ready.ensures.nothing c.finish_next.ensures.nothing);
+      none_out = λ nothing none. c.finish_next.ensures.none_out nothing (c.give_ready.ensures.none_out nothing (before.none_out nothing none));
       beside = c.finish_next.ensures.beside ∙ c.give_ready.ensures.beside ∙ before.beside;
     }
 
@@ -34,7 +34,7 @@ returns-in_err-finish_next-clause-exchanged g c =
 
 pub returns-in_err-finish_next-clause-sure : goal.returns-in_err-finish_next-clause-sure
 returns-in_err-finish_next-clause-sure g c = λ nothing none.
-    let given = KeepsNothing_trans c.loop-runs.invariant.nothing c.give_ready.ensures.nothing in
+    let given = c.give_ready.ensures.none_out nothing (c.loop-runs.invariant.none_out nothing none) in
     let all : open_of (g.R.Runs.board c.give_ready.new.runs) ≡ 0 =
-    nothing_left (g.R.Runs.board c.give_ready.new.runs) c.idle.ensures.beside (given.none_out nothing none) c.give_ready.ensures.none_ready in
+    nothing_left (g.R.Runs.board c.give_ready.new.runs) c.idle.ensures.beside given c.give_ready.ensures.none_ready in
     absurd (true≢false (sym (c.idle.ensures.value.1 all) ∙ c.if-idle.false))

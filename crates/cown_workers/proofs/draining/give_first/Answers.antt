@@ -27,8 +27,8 @@ returns-in-Err-clause-log g c = (carried_here g c).drains
 pub returns-in-Err-clause-unfinished : goal.returns-in-Err-clause-unfinished
 returns-in-Err-clause-unfinished g c = let h = (carried_here g c).unfinished in omega (arith, h)
 
-pub returns-in-Err-clause-nothing : goal.returns-in-Err-clause-nothing
-returns-in-Err-clause-nothing g c = record { stays = c.in-Err.ensures.stays; none_out = λ _. (carried_here g c).none_out }
+pub returns-in-Err-clause-none_out : goal.returns-in-Err-clause-none_out
+returns-in-Err-clause-none_out g c = λ _. (carried_here g c).none_out
 
 pub returns-in_default-give-clause-given : goal.returns-in_default-give-clause-given
 returns-in_default-give-clause-given g c = λ _. let h = Takes-counts declared_cowns effect_of c.in-Some.ensures.outcome in omega (arith, h)

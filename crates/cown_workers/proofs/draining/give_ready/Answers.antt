@@ -1,6 +1,6 @@
 -- One more was given.
 use Rattle.std.proofs.Common.{◌∙◌, arith}
-use Rattle.cown_workers.proofs.Changing.{Drains_trans, KeepsNothing_trans}
+use Rattle.cown_workers.proofs.Changing.{Drains_trans}
 use Rattle.cown_workers.proofs.Exchanging.{Exchanged_trans}
 use Rattle.cown_workers.proofs.draining.give_ready.Goals as goal
 
@@ -12,7 +12,7 @@ loop-preserved g c =
       exchanged = Exchanged_trans g.C.Crew.acts before.exchanged given.exchanged;
       drains = Drains_trans before.drains given.log;
       unfinished = omega arith;
-      nothing = KeepsNothing_trans before.nothing given.nothing;
+      none_out = λ nothing none. given.none_out nothing (before.none_out nothing none);
       beside = given.beside ∙ before.beside;
     }
 
