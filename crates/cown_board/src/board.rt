@@ -164,6 +164,15 @@ impl<B: Behaviour> Board<B> {
         self.unfinished == 0
     }
 
+    /// How many behaviours are unfinished.
+    #[inline]
+    pub fn unfinished(&self) -> usize
+        ensures value { result ≡ open_of self.now }
+        ensures few { result ≤ OPEN_BEHAVIOURS }
+    {
+        self.unfinished
+    }
+
     /// Puts a behaviour last in the log, and answers its number.
     ///
     /// Fails with the first fault that holds, in the order of [`SubmitFault`]'s variants; the board is as it

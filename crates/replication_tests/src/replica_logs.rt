@@ -94,13 +94,17 @@ fn plays_one(rt: &impl Abort, log: &mut ReplicaLog, place: usize, step: &Step) {
         }
         Step::Run(number) => runs(rt, log, number),
         Step::Cut(answer) => is_so(rt, place, log.cut() == answer),
-        Step::CutLength(length) => is_so(rt, place, log.cut_length() == length),
+        Step::CutLength(length) => is_so(rt, place, log.board().cut_length() == length),
         Step::CutSettled(settled) => {
-            is_so(rt, place, log.cut_columns().is_some() == settled);
+            is_so(rt, place, log.board().cut_columns().is_some() == settled);
         }
         Step::DropCut => log.drop_cut(),
         Step::Settled(settled) => {
-            is_so(rt, place, log.settled_columns().is_some() == settled);
+            is_so(
+                rt,
+                place,
+                log.board().settled_columns().is_some() == settled,
+            );
         }
         Step::Checking(checking) => tells(rt, log, checking),
         Step::Reserve(count) => is_so(rt, place, log.reserve(count).is_ok()),

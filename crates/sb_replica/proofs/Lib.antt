@@ -1,4 +1,9 @@
 pub mod AcceptedEntries
+pub mod HeardBatches
+pub mod HeardBytes
+pub mod HeardEntries
+pub mod HeardStreams
 pub mod HeldReplies
 pub mod IdleReplies
 pub mod MarkedReplies
+pub mod TakenEntries

@@ -1,5 +1,7 @@
 -- The numbers of a replica's faults.
 use Rattle.std.specs.Prelude.{ℕ}
+use Rattle.sb_replica.specs.declared.fault.HearingFault.{HearingFault}
+use Rattle.sb_replica.specs.declared.fault.HearingFault.TheVariants as hearing
 use Rattle.sb_replica.specs.declared.fault.MarkFault.{MarkFault}
 use Rattle.sb_replica.specs.declared.fault.MarkFault.TheVariants as mark
 use Rattle.sb_replica.specs.declared.fault.ReplicaFault.{ReplicaFault}
@@ -10,6 +12,10 @@ use Rattle.sb_replica.specs.declared.fault.RestartFault.TheVariants as restart
 abbrev pub replica_fault_number : ReplicaFault → ℕ
 replica_fault_number (replica.BadFrame fault) = 1
 replica_fault_number replica.OutOfMemory = 2
+
+abbrev pub hearing_fault_number : HearingFault → ℕ
+hearing_fault_number (hearing.Stream fault) = 1
+hearing_fault_number hearing.OutOfMemory = 2
 
 abbrev pub mark_fault_number : MarkFault → ℕ
 mark_fault_number mark.Busy = 1

@@ -1,5 +1,7 @@
+pub mod Batches
 pub mod Faults
 pub mod Hearing
 pub mod Marking
 pub mod Replica
 pub mod Restarting
+pub mod Streams

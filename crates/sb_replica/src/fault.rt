@@ -1,11 +1,11 @@
 //! Why a replica didn't do what it was asked.
 ghost use Rattle.std.specs.Prelude.{◌≡◌};
-ghost use Rattle.sb_replica.specs.Faults.{replica_fault_number, mark_fault_number, restart_fault_number};
+ghost use Rattle.sb_replica.specs.Faults.{replica_fault_number, hearing_fault_number, mark_fault_number, restart_fault_number};
 ghost use Rattle.sb_replica.specs.Restarting.{of_store_fault, of_checkpoint_fault};
 ghost use Rattle.sb_replica.specs.declared.fault.RestartFault.TheVariants as restart;
 
 use sb_checkpoint::{CheckpointFault, StoreFault};
-use sb_frames::FrameFault;
+use sb_frames::{FrameFault, StreamFault};
 use std::alloc::AllocError;
 use thiserror::Error;
 
@@ -28,6 +28,29 @@ impl ReplicaFault {
         match self {
             ReplicaFault::BadFrame(_) => 1,
             ReplicaFault::OutOfMemory => 2,
+        }
+    }
+}
+
+/// Why a stream isn't heard any further. What was heard before stays.
+#[derive(Clone, Copy, Debug, PartialEq, Eq, Error, Drop)]
+pub enum HearingFault {
+    /// The stream failed, and fails from then on. All that it handed out was heard.
+    #[error("{0}")]
+    Stream(StreamFault),
+    /// Memory was refused for an entry. It's lost, with the frames that were taken behind it.
+    #[error("out of memory")]
+    OutOfMemory,
+}
+
+impl HearingFault {
+    /// The number of the fault, from 1 to 2 in the order of the variants.
+    pub fn number(&self) -> u8
+        ensures { result ≡ hearing_fault_number self.now }
+    {
+        match self {
+            HearingFault::Stream(_) => 1,
+            HearingFault::OutOfMemory => 2,
         }
     }
 }

@@ -1,6 +1,7 @@
 //! Frames from the network.
-ghost use Rattle.std.specs.Prelude.{◌≡◌, ℕ, suc, Ok, Some, IfOk, IfErr, OnErr, MatchResult, option_map};
+ghost use Rattle.std.specs.Prelude.{◌≡◌, ℕ, List, suc, Ok, Some, IfOk, IfErr, OnErr, MatchResult, option_map};
 ghost use Rattle.cown_board.specs.Board.{length_of};
+ghost use Rattle.sb_frames.specs.Grammar.{Spells};
 ghost use Rattle.sb_replica_log.specs.Offers.{after_advance};
 ghost use Rattle.sb_replica.specs.Hearing as spec;
 ghost use Rattle.sb_replica.specs.Hearing.{Accepts, Hears, IsHearingFault, heard_next};
@@ -84,6 +85,9 @@ impl<S: CheckpointStore> Replica<S> {
         // After any calls on its board, with this one too, the board is true to its log.
         ensures played { (number : ℕ) → result ≡ Ok (heard.Accepted number) →
             Accepts self.old.board number self.new.board }
+        // It is heard as the bytes that spell it are.
+        ensures bytes { IfOk result (λ answer. (bytes : List ℕ) → Spells frame.now bytes →
+            Hears self.old bytes answer self.new) }
     {
         let Frame::Entry { number, call } = frame else {
             return Ok(Heard::Ignored);

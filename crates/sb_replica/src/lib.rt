@@ -4,11 +4,17 @@
 mod fault;
 mod heard;
 mod hearing;
+mod laws;
 mod marking;
+mod pause;
 mod replica;
 mod restarting;
 mod running;
+mod streams;
 
-pub use fault::{MarkFault, ReplicaFault, RestartFault};
+pub use fault::{HearingFault, MarkFault, ReplicaFault, RestartFault};
 pub use heard::Heard;
+pub use laws::limits;
+pub use pause::Pause;
 pub use replica::Replica;
+pub use streams::BATCH_ENTRIES;

@@ -94,7 +94,7 @@ impl<S: CheckpointStore> Replica<S> {
         ensures beside { length self.now.board.log ≡ length self.now.board.states }
     {
         let length = self.log.length();
-        match self.log.cut_length() {
+        match self.log.board().cut_length() {
             Some(number) => number,
             None => length,
         }
@@ -106,9 +106,9 @@ impl<S: CheckpointStore> Replica<S> {
             (λ columns. (open_of (up_to_cut self.now.board) ≡ 0)
             × IsAfterAll declared_cowns effect_of (up_to_cut self.now.board) columns.now) }
     {
-        match self.log.cut_length() {
-            Some(_) => self.log.cut_columns(),
-            None => self.log.settled_columns(),
+        match self.log.board().cut_length() {
+            Some(_) => self.log.board().cut_columns(),
+            None => self.log.board().settled_columns(),
         }
     }
 

@@ -112,6 +112,14 @@ impl<S: CheckpointStore> Replica<S> {
         self.log.reserve(additional)
     }
 
+    /// The board, for reading.
+    #[inline]
+    pub fn board(&self) -> &Board<Op>
+        ensures { result.now ≡ self.now.board }
+    {
+        self.log.board()
+    }
+
     /// The customers' names by place.
     pub fn directory(&self) -> &Directory
         ensures { result.now ≡ self.now.names }
@@ -158,7 +166,7 @@ impl<S: CheckpointStore> Replica<S> {
             (λ columns. (open_of self.now.board ≡ 0) × IsAfterAll declared_cowns effect_of self.now.board columns.now) }
         ensures bank { IfSome result (λ columns. IsBalances columns.now) }
     {
-        self.log.settled_columns()
+        self.log.board().settled_columns()
     }
 
     /// What the store holds, as [`CheckpointStore::get`].

@@ -1,11 +1,11 @@
 //! The log of a replica.
-ghost use Rattle.std.specs.Prelude.{◌≡◌, ◌≢◌, ◌↔◌, ◌≤◌, ◌<◌, ◌-◌, ◌%◌, ℕ, length, suc, replicate, option_map, Ok, IfOk, IfSome, IsErrOf, OnOk, OnErr, Some, None, MatchOption, MatchResult};
+ghost use Rattle.std.specs.Prelude.{◌≡◌, ◌≢◌, ◌↔◌, ◌≤◌, ◌<◌, ◌-◌, ◌%◌, ℕ, length, suc, replicate, Ok, IfOk, IfSome, IsErrOf, OnOk, OnErr, Some, None, MatchOption, MatchResult};
 ghost use Rattle.sb_rows.specs.Balances.{IsBalances};
 ghost use Rattle.sb_calls.specs.Behaviour.{declared_cowns, effect_of};
 ghost use Rattle.sb_calls.specs.Cowns.{held_of};
 ghost use Rattle.sb_calls.specs.OneByOne.{reply_by_log};
 ghost use Rattle.sb_calls.specs.Op.{IsOpWithin};
-ghost use Rattle.cown_board.specs.Board.{length_of, open_of, reply_in, AreCut, IsAfterAll};
+ghost use Rattle.cown_board.specs.Board.{length_of, open_of, reply_in, IsAfterAll};
 ghost use Rattle.cown_board.specs.Played.{StaysTrueToLog, Submitted, CutMade, CutDropped};
 ghost use Rattle.sb_replica_log.specs.Log.{none_held, next_held, IsLog};
 ghost use Rattle.sb_replica_log.specs.Offers.{offered, after_offer, next_offered, advanced, after_advance};
@@ -165,6 +165,14 @@ impl ReplicaLog {
         self.board.reserve(additional)
     }
 
+    /// The board, for reading.
+    #[inline]
+    pub fn board(&self) -> &Board<Op>
+        ensures { result.now ≡ self.now.board }
+    {
+        &self.board
+    }
+
     /// The number of the last entry.
     #[inline]
     pub fn length(&self) -> u64
@@ -198,15 +206,6 @@ impl ReplicaLog {
         self.board.columns()
     }
 
-    /// The columns after all entries, lent, or `None` while one is unfinished.
-    pub fn settled_columns(&self) -> Option<&Columns>
-        ensures value { MatchOption result (open_of self.now.board ≢ 0)
-            (λ columns. (open_of self.now.board ≡ 0) × IsAfterAll declared_cowns effect_of self.now.board columns.now) }
-        ensures bank { IfSome result (λ columns. IsBalances columns.now) }
-    {
-        self.board.settled_columns()
-    }
-
     /// Makes a cut at the log's length, and answers that, as [`Board::cut`].
     pub fn cut(&mut self) -> Result<u64, CutFault>
         ensures number { IfOk result (λ number. number ≡ length_of self.old.board) }
@@ -221,24 +220,6 @@ impl ReplicaLog {
         ensures played { StaysTrueToLog declared_cowns effect_of self.old.board (CutMade result) self.new.board }
     {
         self.board.cut()
-    }
-
-    /// The length of the cut, where there is one.
-    pub fn cut_length(&self) -> Option<u64>
-        ensures value { result ≡ self.now.board.cut }
-        ensures within { IfSome result (λ number.
-            (length self.now.board.earlier ≤ number) × (number ≤ length_of self.now.board)) }
-    {
-        self.board.cut_length()
-    }
-
-    /// The columns after the entries up to the cut's length, lent, or `None` while there is no cut, or one of
-    /// these is unfinished.
-    pub fn cut_columns(&self) -> Option<&Columns>
-        ensures value { AreCut declared_cowns effect_of self.now.board (option_map (λ columns. columns.now) result) }
-        ensures bank { IfSome result (λ columns. IsBalances columns.now) }
-    {
-        self.board.cut_columns()
     }
 
     /// Drops the cut, where there is one.

@@ -1,10 +1,12 @@
-use Rattle.std.proofs.Common.{◌≡◌, ℕ, Ok, suc, sym, subst, ◌∙◌}
+use Rattle.std.proofs.Common.{◌≡◌, ℕ, Ok, rules, suc, sym, subst, ◌∙◌}
 use Rattle.cown_board.specs.Board.{length_of}
 use Rattle.cown_board.specs.Played.{StaysTrueToLog, Submitted}
 use Rattle.sb_calls.specs.Behaviour.{declared_cowns, effect_of}
 use Rattle.sb_replica.proofs.AcceptedEntries.{accepted_next, next_number, ok_is}
-use Rattle.sb_replica.specs.Hearing.{Accepts}
-use Rattle.sb_replica.specs.Replica.{ReplicaOf}
+use Rattle.sb_replica.proofs.HeardBytes.{hears_bytes}
+use Rattle.sb_replica.specs.Hearing.{Accepts, after_frame, heard as heard_as}
+use Rattle.sb_replica.specs.Replica.{ReplicaOf, log_of, with_log}
+use Rattle.sb_replica.specs.declared.heard.Heard.TheVariants as heard
 use Rattle.sb_replica.proofs.replica.Replica.hear.Goals as goal
 
 pub returns-clause-played : goal.returns-clause-played
@@ -21,3 +23,13 @@ returns-clause-played g c number e =
       played = subst (λ (n : ℕ). StaysTrueToLog declared_cowns effect_of board (Submitted op (Ok n)) c.offer_entry.new.self.board) next
           (offer.ensures.played both.0);
     })
+
+pub returns-in_default : goal.returns-in_default
+returns-in_default g c =
+    let old = c.args.self.now in
+    let told : heard.Ignored ≡ heard_as old.board c.args.frame.now = search rules in
+    let after : old ≡ with_log old (after_frame old.names (log_of old) c.args.frame.now) = search rules in
+    record { answer = told; err = tt; state = after; played = λ number e. absurd cc; bytes = hears_bytes old old c.args.frame.now heard.Ignored told after }
+
+pub returns-clause-bytes : goal.returns-clause-bytes
+returns-clause-bytes g c = hears_bytes c.args.self.now _ c.args.frame.now c.heard_of.result (search rules) (search rules)

@@ -1,0 +1,10 @@
+use Rattle.std.proofs.Common.{length}
+use Rattle.sb_replica.specs.Batches.{HearsEntries}
+use Rattle.sb_replica.proofs.replica.Replica.hear_stream.Given as goal
+
+-- all that was handed out so far were entries, and was heard
+abbrev pub invariant-loop-pause : goal.invariant-loop-pause
+invariant-loop-pause g l = HearsEntries l.fn.self l.fn.stream l.self l.stream
+
+abbrev pub decreases-loop-pause : goal.decreases-loop-pause
+decreases-loop-pause g l = length l.stream.unread

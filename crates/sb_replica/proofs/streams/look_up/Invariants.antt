@@ -1,0 +1,12 @@
+use Rattle.std.proofs.Common.{◌≡◌, ◌+◌, ◌≤◌, length}
+use Rattle.sb_replica.specs.Batches.{AreWithin, TakesEntries}
+use Rattle.sb_replica.proofs.streams.look_up.Given as goal
+
+-- so many entries were taken, and looked up
+abbrev pub invariant-loop-taken : goal.invariant-loop-taken
+invariant-loop-taken l = record {
+  takes : TakesEntries l.directory l.fn.stream l.batch.items l.stream;
+  within : AreWithin (length l.directory) l.batch.items;
+  count : length l.batch.items ≡ l.taken;
+  less : length l.stream.unread + length l.batch.items ≤ length l.fn.stream.unread;
+}

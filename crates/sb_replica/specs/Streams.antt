@@ -1,0 +1,100 @@
+-- What a replica hears of a stream of frames.
+use Rattle.std.specs.Prelude.{◌≡◌, ◌≢◌, ◌⊎◌, ℕ, ◌≤◌, true, Some, Ok, List, [], ◌∷◌, ◌++◌, map, length}
+use Rattle.std.specs.List.{All}
+use Rattle.sb_calls.specs.declared.op.Op.{Op}
+use Rattle.cown_board.specs.Board.{BoardOf, open_of}
+use Rattle.cown_board.specs.declared.board.TheConstants.{OPEN_BEHAVIOURS}
+use Rattle.sb_frames.specs.Grammar.{spelling}
+use Rattle.sb_frames.specs.Streaming.{StreamState, Next, StepsTo, IsShort, FailsBy}
+use Rattle.sb_frames.specs.declared.fault.StreamFault.{StreamFault}
+use Rattle.sb_frames.specs.declared.frame.Frame.{Frame}
+use Rattle.sb_frames.specs.declared.frame.Frame.TheVariants.{Ask, Entry, Ack, Answer, Outcome, Flush}
+use Rattle.sb_replica.specs.Hearing.{Hears, heard}
+use Rattle.sb_replica.specs.Replica.{ReplicaOf}
+use Rattle.sb_replica.specs.declared.fault.HearingFault.{HearingFault}
+use Rattle.sb_replica.specs.declared.fault.HearingFault.TheVariants as fault
+use Rattle.sb_replica.specs.declared.heard.Heard.{Heard}
+use Rattle.sb_replica.specs.declared.heard.Heard.TheVariants.{Accepted, Busy, Ignored}
+use Rattle.sb_replica.specs.declared.pause.Pause.{Pause}
+use Rattle.sb_replica.specs.declared.pause.Pause.TheVariants as pause
+use Rattle.sb_replica.specs.declared.streams.TheConstants.{BATCH_ENTRIES}
+
+-- a frame, and what it was to the replica
+pub record HeardFrame : Type 0 where
+  pub frame : Frame
+  pub answer : Heard
+
+abbrev pub frames_of : List HeardFrame → List Frame
+frames_of all = map (λ one. one.frame) all
+
+-- a stream handed out these frames, one after another
+abbrev pub HandsOutAll : StreamState → List Frame → StreamState → Type 0
+HandsOutAll old frames new = StepsTo old (map (λ frame. Next (Ok (Some frame))) frames) new
+
+-- they were heard one after another, each as the bytes that spell it
+abbrev pub HearsAll : {S : Type 0} → ReplicaOf S → List HeardFrame → ReplicaOf S → Type 0
+HearsAll old [] new = new ≡ old
+HearsAll {S} old (one ∷ others) new =
+    (mid : ReplicaOf S) × Hears old (spelling one.frame) one.answer mid × HearsAll mid others new
+
+abbrev pub IsEntry : Frame → Type 0
+IsEntry (Ask client request call) = ⊥
+IsEntry (Entry number call) = Unit {0}
+IsEntry (Ack replica size) = ⊥
+IsEntry (Answer number reply) = ⊥
+IsEntry (Outcome client request outcome) = ⊥
+IsEntry Flush = ⊥
+
+-- an entry that there was room for: it isn't lost
+abbrev pub IsEntryInTime : HeardFrame → Type 0
+IsEntryInTime one = IsEntry one.frame × ((size : ℕ) → one.answer ≢ Busy size)
+
+-- the frame that a pause is for
+abbrev pub last_heard : Pause → List HeardFrame
+last_heard pause.Short = []
+last_heard (pause.Other frame) = record { frame = frame; answer = Ignored } ∷ []
+last_heard pause.Busy = []
+
+-- why a pause is made, of a stream as it is then and a board
+abbrev pub IsPause : StreamState → BoardOf Op → Pause → Type 0
+IsPause stream board pause.Short = IsShort stream
+IsPause stream board (pause.Other frame) = ¬ IsEntry frame
+IsPause stream board pause.Busy = open_of board ≡ OPEN_BEHAVIOURS
+
+-- entries, and the frame of the pause behind them, were handed out and heard; nothing else happened
+pub record HearsUntil {S : Type 0} (old : ReplicaOf S) (from : StreamState) (pause : Pause) (new : ReplicaOf S)
+    (rest : StreamState) : Type 0 where
+  pub entries : List HeardFrame
+  pub in_time : All IsEntryInTime entries
+  pub handed_out : HandsOutAll from (frames_of (entries ++ last_heard pause)) rest
+  pub all_heard : HearsAll old (entries ++ last_heard pause) new
+  pub why : IsPause rest new.board pause
+
+-- the first of these frames would be accepted
+abbrev pub IsNext : BoardOf Op → List Frame → Type 0
+IsNext board [] = ⊥
+IsNext board (frame ∷ others) = (number : ℕ) × (heard board frame ≡ Accepted number)
+
+-- the stream fails here
+abbrev pub FailsHere : StreamState → StreamFault → StreamState → Type 0
+FailsHere old fault new = FailsBy old fault × (new ≡ record old { failed = true })
+
+-- why a stream is heard no further where this board is, these frames were handed out in vain, and the stream was as
+-- it is behind them
+abbrev pub IsHeardNoFurther : BoardOf Op → List Frame → StreamState → HearingFault → StreamState → Type 0
+-- the stream failed, and no frame is lost
+IsHeardNoFurther board lost old (fault.Stream failed) new = (lost ≡ []) × FailsHere old failed new
+-- memory was refused for the first; behind the last the stream may have failed
+IsHeardNoFurther board lost old fault.OutOfMemory new = IsNext board lost × (length lost ≤ BATCH_ENTRIES)
+    × ((new ≡ old) ⊎ ((failed : StreamFault) × FailsHere old failed new))
+
+-- entries were handed out and heard, and no more was heard
+pub record HearsUntilFault {S : Type 0} (old : ReplicaOf S) (from : StreamState) (fault : HearingFault)
+    (new : ReplicaOf S) (rest : StreamState) : Type 0 where
+  pub entries : List HeardFrame
+  pub in_time : All IsEntryInTime entries
+  pub all_heard : HearsAll old entries new
+  pub lost : List Frame
+  pub behind : StreamState
+  pub handed_out : HandsOutAll from (frames_of entries ++ lost) behind
+  pub why : IsHeardNoFurther new.board lost behind fault rest

@@ -1,0 +1,132 @@
+//! Frames from a stream.
+ghost use Rattle.std.specs.Prelude.{◌≡◌, ◌≢◌, ◌↔◌, ◌<◌, ◌≤◌, ◌+◌, [], Ok, None, IfOk, MatchResult, length};
+ghost use Rattle.cown_board.specs.Board.{open_of};
+ghost use Rattle.sb_replica.specs.Batches as spec;
+ghost use Rattle.sb_replica.specs.Batches.{AreWithin, HearsBatch, IsRefusedAmong, LooksUp, after_batch};
+ghost use Rattle.sb_replica.specs.Streams.{HearsUntil, HearsUntilFault};
+
+use crate::fault::HearingFault;
+use crate::pause::Pause;
+use crate::replica::Replica;
+use arrayvec::ArrayVec;
+use cown_board::OPEN_BEHAVIOURS;
+use sb_calls::{Op, resolve};
+use sb_checkpoint::CheckpointStore;
+use sb_frames::{Frame, Stream, StreamFault};
+use sb_replica_log::ReplicaLog;
+use sb_rows::Directory;
+use std::alloc::AllocError;
+
+/// How many entries are looked up before the first of them is offered.
+pub const BATCH_ENTRIES: usize = 64;
+
+// The op of an entry, under the entry's number.
+#[derive(Clone, Copy)]
+struct EntryOp {
+    number: u64,
+    op: Op,
+}
+
+// What a place of a batch holds before an entry.
+impl Default for EntryOp {
+    fn default() -> EntryOp {
+        EntryOp {
+            number: 0,
+            op: Op::NoCustomer,
+        }
+    }
+}
+
+type Batch = ArrayVec<EntryOp, BATCH_ENTRIES>;
+
+// Takes entries out of a stream, up to a limit, and looks up their names. Answers what ended it before that.
+fn look_up(
+    directory: &Directory,
+    stream: &mut Stream,
+    limit: usize,
+    batch: &mut Batch,
+) -> Result<Option<Pause>, StreamFault>
+    requires empty { batch.old.items ≡ [] }
+    requires few { limit ≤ BATCH_ENTRIES }
+    ensures looks_up { LooksUp directory.now stream.old batch.new.items result stream.new }
+    ensures within { AreWithin (length directory.now) batch.new.items }
+    ensures whole { result ≡ Ok None → length batch.new.items ≡ limit }
+    ensures early { result ≢ Ok None → length batch.new.items < limit }
+    ensures less { length stream.new.unread + length batch.new.items ≤ length stream.old.unread }
+{
+    for taken in 0..limit {
+        match stream.next()? {
+            Some(Frame::Entry { number, call }) => {
+                let op = resolve(directory, &call);
+                batch.push(EntryOp { number, op });
+            }
+            Some(other) => return Ok(Some(Pause::Other(other))),
+            None => return Ok(Some(Pause::Short)),
+        }
+    }
+    Ok(None)
+}
+
+// Offers entries in order, and stops at the first that memory is refused for.
+fn offer_all(log: &mut ReplicaLog, batch: &[EntryOp]) -> Result<(), AllocError>
+    requires { AreWithin (length log.old.board.opening.savings) batch.now }
+    ensures { MatchResult result
+        (λ done. log.new ≡ after_batch log.old batch.now)
+        (λ refused. IsRefusedAmong log.old batch.now log.new) }
+{
+    for entry in batch {
+        log.offer_entry(entry.number, entry.op)?;
+    }
+    Ok(())
+}
+
+// What ended looking up, once all that was looked up is heard.
+fn as_heard(end: Result<Option<Pause>, StreamFault>) -> Result<Option<Pause>, HearingFault>
+    ensures { result ≡ spec.as_heard end }
+{
+    match end {
+        Ok(pause) => Ok(pause),
+        Err(fault) => Err(HearingFault::Stream(fault)),
+    }
+}
+
+impl<S: CheckpointStore> Replica<S> {
+    /// Hears the frames that a stream has, one after another, each as [`Replica::on_frame`] hears its bytes, until the
+    /// stream has no whole frame, a frame came that is no entry, or no more may be unfinished. It takes no memory beside
+    /// what accepting entries takes.
+    ///
+    /// No entry that it takes is answered that the replica is busy: it takes none while as many behaviours are
+    /// unfinished as may be. Then the caller lets some finish and calls again.
+    ///
+    /// Fails with the stream's fault, where all that came before was heard. Fails where memory is refused for an entry:
+    /// all before it was heard, and that entry and up to 63 frames behind it were taken and are lost.
+    pub fn hear_stream(&mut self, stream: &mut Stream) -> Result<Pause, HearingFault>
+        ensures outcome { MatchResult result
+            (λ pause. HearsUntil self.old stream.old pause self.new stream.new)
+            (λ fault. HearsUntilFault self.old stream.old fault self.new stream.new) }
+        ensures busy { IfOk result (λ pause. (pause ≡ Pause.Busy) ↔ (open_of self.new.board ≡ OPEN_BEHAVIOURS)) }
+    {
+        loop {
+            if let Some(pause) = self.hear_batch(stream)? {
+                return Ok(pause);
+            }
+        }
+    }
+
+    // Hears as many entries as are looked up at once, or up to a pause. The names of all are looked up before the
+    // first is offered, so that neither the directory nor the queues push the other out of the processor's caches.
+    fn hear_batch(&mut self, stream: &mut Stream) -> Result<Option<Pause>, HearingFault>
+        ensures { HearsBatch self.old stream.old result self.new stream.new }
+    {
+        let room = OPEN_BEHAVIOURS - self.log.board().unfinished();
+        if room == 0 {
+            return Ok(Some(Pause::Busy));
+        }
+        let mut batch = Batch::new();
+        let end = look_up(&self.directory, stream, room.min(BATCH_ENTRIES), &mut batch);
+        match offer_all(&mut self.log, batch.as_slice()) {
+            Ok(()) => as_heard(end),
+            Err(_) => Err(HearingFault::OutOfMemory),
+        }
+    }
+}
