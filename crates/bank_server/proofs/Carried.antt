@@ -7,12 +7,12 @@ use Rattle.sb_calls.specs.declared.call.Call.{Call}
 use Rattle.sb_calls.specs.declared.op.Op.{Op}
 use Rattle.cown_board.specs.Board.{BoardOf}
 use Rattle.cown_workers.specs.Draining.{NoneOut}
+use Rattle.cown_workers.specs.declared.crew_fault.CrewFault.{CrewFault}
+use Rattle.cown_workers.specs.declared.crew_fault.CrewFault.TheVariants as crew
 use Rattle.sb_sequencer.specs.Numbering.{call_at}
 use Rattle.bank_server.specs.Faults.{IsCarryFault}
 use Rattle.bank_server.specs.Output.{calls_of}
-use Rattle.bank_server.specs.SessionFaults.{LosesCrew, session_of_carry_fault}
-use Rattle.bank_server.specs.declared.carry_fault.CarryFault.{CarryFault}
-use Rattle.bank_server.specs.declared.carry_fault.CarryFault.TheVariants as carry
+use Rattle.bank_server.specs.SessionFaults.{LosesCrew, session_of_crew_fault}
 
 some_is : {A : Type 0} {x y : A} → ◌≡◌ {A = Option A} (Some x) (Some y) → x ≡ y
 some_is h = cc
@@ -21,16 +21,16 @@ none_is_some : {A : Type 0} {x : A} → ◌≡◌ {A = Option A} None (Some x) �
 none_is_some h = cc
 
 -- a fault behind steps that ended well is one of them all
-pub fault_behind : (keeps later : Bool) (old mid : BoardOf Op) (fault : CarryFault) → (keeps ≡ false → later ≡ false) → (NoneOut old → NoneOut mid)
-    → IsCarryFault later mid fault → IsCarryFault keeps old fault
-fault_behind keeps later old mid carry.CrewGone stays none is = λ e out. is (stays e) (none out)
-fault_behind keeps later old mid carry.OutOfMemory stays none is = tt
+pub fault_behind : (keeps : Bool) (old mid : BoardOf Op) (fault : CrewFault) → (NoneOut old → NoneOut mid)
+    → IsCarryFault keeps mid fault → IsCarryFault keeps old fault
+fault_behind keeps old mid crew.CrewGone none is = λ e out. is e (none out)
+fault_behind keeps old mid crew.OutOfMemory none is = tt
 
 -- and so it ends a session
-pub loses_crew : (keeps : Bool) (board : BoardOf Op) (fault : CarryFault) → IsCarryFault keeps board fault
-    → LosesCrew keeps board (session_of_carry_fault fault)
-loses_crew keeps board carry.CrewGone is = is
-loses_crew keeps board carry.OutOfMemory is = tt
+pub loses_crew : (keeps : Bool) (board : BoardOf Op) (fault : CrewFault) → IsCarryFault keeps board fault
+    → LosesCrew keeps board (session_of_crew_fault fault)
+loses_crew keeps board crew.CrewGone is = is
+loses_crew keeps board crew.OutOfMemory is = tt
 
 -- ---- the next op
 

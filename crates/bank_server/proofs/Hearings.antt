@@ -43,13 +43,13 @@ hears_frame opening old mid new unread left behind frame bytes heard spells is l
 pub keeps_on : {S : Type 0} (old mid new : PrimaryOf S) → KeepsBank old mid → KeepsBank mid new → KeepsBank old new
 keeps_on old mid new first second = record { beside = second.beside ∙ first.beside; opening = second.opening ∙ first.opening }
 
-pub loses_behind : (keeps later : Bool) (old mid : BoardOf Op) (fault : SessionFault) → (keeps ≡ false → later ≡ false) → (NoneOut old → NoneOut mid)
-    → LosesCrew later mid fault → LosesCrew keeps old fault
-loses_behind keeps later old mid (Frame f) stays none is = tt
-loses_behind keeps later old mid Unexpected stays none is = tt
-loses_behind keeps later old mid CrewGone stays none is = λ e out. is (stays e) (none out)
-loses_behind keeps later old mid Device stays none is = tt
-loses_behind keeps later old mid OutOfMemory stays none is = tt
+pub loses_behind : (keeps : Bool) (old mid : BoardOf Op) (fault : SessionFault) → (NoneOut old → NoneOut mid) → LosesCrew keeps mid fault
+    → LosesCrew keeps old fault
+loses_behind keeps old mid (Frame f) none is = tt
+loses_behind keeps old mid Unexpected none is = tt
+loses_behind keeps old mid CrewGone none is = λ e out. is e (none out)
+loses_behind keeps old mid Device none is = tt
+loses_behind keeps old mid OutOfMemory none is = tt
 
 -- a frame that is refused stops a session
 pub refused_stops : (opening : Rows) (old mid new : Place) (unread left behind : List ℕ) (frame : frames.Frame) (bytes : List ℕ) (fault : SessionFault)

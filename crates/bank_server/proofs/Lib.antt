@@ -5,6 +5,7 @@ pub mod Boards
 pub mod Carried
 pub mod Flat
 pub mod Flushes
+pub mod Followings
 pub mod ForGood
 pub mod Hearings
 pub mod Keyed

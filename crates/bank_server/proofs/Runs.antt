@@ -1,39 +1,66 @@
--- What a replica that ran a prepared input has to tell.
-use Rattle.std.proofs.Common.{◌≡◌, ℕ, Ok, List, length, sym, ap, subst, ◌∙◌}
+-- What a node that carried out the log of a prepared input has to tell.
+use Rattle.std.proofs.Common.{◌≡◌, ℕ, Ok, List, length, map, refl, sym, ap, subst, ◌∙◌}
 use Rattle.std.specs.List.{All}
-use Rattle.std.proofs.lemmas.List.{length-map}
+use Rattle.sb_rows.specs.Rows.{SameCustomers}
+use Rattle.sb_rows.specs.declared.opening.Opening.{Opening}
+use Rattle.sb_replica.specs.Replica.{BesideOf, ReplicaOf, beside_of}
+use Rattle.sb_checkpoint.specs.declared.memory_store.MemoryStore.{MemoryStore}
+use Rattle.sb_calls.specs.declared.op.Op.{Op}
 use Rattle.sb_rows.specs.Balances.{Balances}
-use Rattle.sb_calls.specs.Op.{resolved}
-use Rattle.sb_replica.specs.Replica.{ReplicaOf}
-use Rattle.bank_server.specs.Execution.{HasRun, IsOneByOne}
+use Rattle.bank_server.specs.Execution.{IsCarriedOut, IsOpened}
 use Rattle.bank_server.specs.Output.{calls_of, output_of}
 use Rattle.bank_server.specs.Prepared.{IsPreparedOf, output_after}
+use Rattle.bank_server.specs.Primary.{PrimaryOf, RunsLog, opened_node, ops_of}
 use Rattle.bank_server.specs.Standing.{StandsAmong}
 use Rattle.bank_server.specs.declared.preparing.Prepared.{Prepared}
 use Rattle.bank_server.proofs.Boards.{one_by_one}
+use Rattle.bank_server.proofs.Carried.{length-ops}
+use Rattle.sb_calls.specs.Op.{resolved}
 
-module _ {S : Type 0} (text : List ℕ) (prepared : Prepared) (replica : ReplicaOf S) (ready : IsPreparedOf text prepared)
-    (run : HasRun prepared.directory prepared.columns prepared.ops.items replica) where
-  -- its calls one by one
-  pub ran : IsOneByOne replica.names (calls_of prepared.sequencer.log) replica.board.opening replica.board
-  ran =
-      let calls = calls_of prepared.sequencer.log in
-      subst (λ (d : List (List ℕ)). IsOneByOne d calls replica.board.opening replica.board) (sym run.names_are)
-      (subst (λ (b : Balances). IsOneByOne prepared.directory calls b replica.board) (sym run.opening_is)
-      (one_by_one prepared.directory prepared.columns calls prepared.ops.items replica.board ready.customers run.opening_is run.carried ready.ops))
-
-  -- each ask stands among them
+module _ (text : List ℕ) (prepared : Prepared) (replica : ReplicaOf MemoryStore) (ready : IsPreparedOf text prepared)
+    (run : RunsLog prepared.primary replica) where
+  -- each ask stands among its calls
   pub among : All (StandsAmong (length replica.board.log)) prepared.standings.items
   among =
-      let log = prepared.sequencer.log in
-      subst (λ (n : ℕ). All (StandsAmong n) prepared.standings.items)
-      (sym (ap length run.carried.log ∙ ap length ready.ops ∙ length-map (calls_of log) (resolved prepared.directory) ∙ length-map log (λ entry. entry.1)))
+      let primary = prepared.primary in
+      subst (λ (n : ℕ). All (StandsAmong n) prepared.standings.items) (sym (ap length run.log_is ∙ length-ops (resolved primary.node.names) primary.log))
       ready.among
 
   -- the output is what it makes of them
-  pub output : output_of text ≡ Ok (output_after replica.names replica.board.opening (calls_of prepared.sequencer.log) prepared.standings.items)
+  pub output : output_of text ≡ Ok (output_after replica.names replica.board.opening (calls_of prepared.primary.log) prepared.standings.items)
   output =
-      let calls = calls_of prepared.sequencer.log in
+      let primary = prepared.primary in
+      let calls = calls_of primary.log in
       ready.output
-      ∙ ap (λ (d : List (List ℕ)). Ok (output_after d prepared.columns calls prepared.standings.items)) (sym run.names_are)
-      ∙ ap (λ (b : Balances). Ok (output_after replica.names b calls prepared.standings.items)) (sym run.opening_is)
+      ∙ ap (λ (d : List (List ℕ)). Ok (output_after d primary.node.board.opening calls prepared.standings.items)) (sym run.names_are)
+      ∙ ap (λ b. Ok (output_after replica.names b calls prepared.standings.items)) (sym run.opening_is)
+
+-- an input is prepared once its asks stand in a log, and node 0 is as it was opened
+pub prepared_at : (text : List ℕ) (prepared : Prepared) (opening : Opening) (store : MemoryStore)
+    → prepared.primary.node ≡ opened_node opening store → SameCustomers opening.directory opening.columns
+    → All (StandsAmong (length prepared.primary.log)) prepared.standings.items
+    → output_of text ≡ Ok (output_after opening.directory opening.columns (calls_of prepared.primary.log) prepared.standings.items)
+    → IsPreparedOf text prepared
+prepared_at text prepared opening store is same among output =
+    let opened : ReplicaOf MemoryStore → Type 0 = λ node. SameCustomers node.names node.board.opening × IsOpened node.board
+    × (output_of text ≡ Ok (output_after node.names node.board.opening (calls_of prepared.primary.log) prepared.standings.items)) in
+    let at = subst opened (sym is) (same, record { earlier = refl; log = refl; states = refl }, output) in
+    record { customers = at.0; opened = at.1; among = among; output = at.2 }
+
+-- a node that began with a bank's names and balances and carried out the ops of its log ran the log
+pub runs_log : {S : Type 0} (primary : PrimaryOf S) (lent new : ReplicaOf S) (ops : List Op) → lent ≡ primary.node
+    → SameCustomers primary.node.names primary.node.board.opening → ops ≡ ops_of primary.node.names primary.log → IsCarriedOut ops new.board
+    → new.board.opening ≡ lent.board.opening → beside_of new ≡ beside_of lent → RunsLog primary new
+runs_log {S} primary lent new ops at same is carried opening beside =
+    let names : new.names ≡ primary.node.names = ap (λ (b : BesideOf S). b.names) beside ∙ ap (λ (r : ReplicaOf S). r.names) at in
+    let began : new.board.opening ≡ primary.node.board.opening = opening ∙ ap (λ (r : ReplicaOf S). r.board.opening) at in
+    let calls = calls_of primary.log in
+    let here : SameCustomers new.names new.board.opening = subst (λ (d : List (List ℕ)). SameCustomers d new.board.opening) (sym names)
+    (subst (λ (b : Balances). SameCustomers primary.node.names b) (sym began) same) in
+    record {
+      names_are = names;
+      opening_is = began;
+      log_is = carried.log ∙ is;
+      one_by_one = one_by_one new.names new.board.opening calls ops new.board here refl carried
+          (is ∙ ap (λ (d : List (List ℕ)). map (resolved d) calls) (sym names));
+    }

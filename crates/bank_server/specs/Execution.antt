@@ -13,7 +13,6 @@ use Rattle.sb_calls.specs.declared.op.Op.{Op}
 use Rattle.sb_calls.specs.declared.reply.Reply.{Reply}
 use Rattle.cown_board.specs.Board.{BoardOf, open_of, IsAfterAll}
 use Rattle.cown_workers.specs.Draining.{NoneOut}
-use Rattle.sb_replica.specs.Replica.{ReplicaOf}
 
 -- each op is at places of this many customers
 abbrev pub AreWithin : ℕ → List Op → Type 0
@@ -54,10 +53,3 @@ pub record IsOneByOne (directory : List (List ℕ)) (calls : List Call) (before 
   pub replies : Tells board (replies_to (rows_of directory before) calls)
   pub rows : (after : Balances) → IsBalances after → IsAfterAll declared_cowns effect_of board after
       → SameCustomers directory after × (rows_of directory after ≡ rows_after calls (rows_of directory before))
-
--- a replica that began with these names and balances, and carried out these ops
-pub record HasRun {S : Type 0} (names : List (List ℕ)) (opening : Balances) (ops : List Op) (replica : ReplicaOf S)
-    : Type 0 where
-  pub names_are : replica.names ≡ names
-  pub opening_is : replica.board.opening ≡ opening
-  pub carried : IsCarriedOut ops replica.board

@@ -8,8 +8,6 @@ use Rattle.cown_workers.specs.declared.crew_fault.CrewFault.TheVariants as crew
 use Rattle.cown_board.specs.Board.{BoardOf}
 use Rattle.cown_workers.specs.Draining.{NoneOut}
 use Rattle.sb_calls.specs.declared.op.Op.{Op}
-use Rattle.bank_server.specs.declared.carry_fault.CarryFault.{CarryFault}
-use Rattle.bank_server.specs.declared.carry_fault.CarryFault.TheVariants as carry
 use Rattle.bank_server.specs.declared.fault.InputFault.{InputFault}
 use Rattle.bank_server.specs.declared.fault.RunFault.{RunFault}
 use Rattle.bank_server.specs.declared.fault.RunFault.TheVariants.{Input, Strayed, CrewGone, Device, OutOfMemory}
@@ -22,27 +20,19 @@ Writes (Err fault) old new = ⊥
 -- an input fault is the first of the input
 abbrev pub Blames : {A : Type 0} → RunFault → Result A (ℕ × InputFault) → Type 0
 Blames (Input line fault) read = read ≡ Err (line, fault)
-Blames (Strayed node) read = Unit {0}
-Blames CrewGone read = Unit {0}
-Blames Device read = Unit {0}
-Blames OutOfMemory read = Unit {0}
+Blames other read = Unit {0}
 
 -- the same of a text that is in memory already, where nothing is carried out: no device, no node and no crew has a
 -- part in it
 abbrev pub BlamesText : {A : Type 0} → RunFault → Result A (ℕ × InputFault) → Type 0
 BlamesText (Input line fault) read = read ≡ Err (line, fault)
-BlamesText (Strayed node) read = ⊥
-BlamesText CrewGone read = ⊥
-BlamesText Device read = ⊥
 BlamesText OutOfMemory read = Unit {0}
+BlamesText other read = ⊥
 
 -- after an input fault nothing was written
 abbrev pub WritesNothing : RunFault → Option (List ℕ) → Option (List ℕ) → Type 0
 WritesNothing (Input line fault) old new = Keeps old new
-WritesNothing (Strayed node) old new = Unit {0}
-WritesNothing CrewGone old new = Unit {0}
-WritesNothing Device old new = Unit {0}
-WritesNothing OutOfMemory old new = Unit {0}
+WritesNothing other old new = Unit {0}
 
 -- how a run ends whose input isn't read
 abbrev pub of_read_fault : ReadFault → RunFault
@@ -58,38 +48,28 @@ fault_number Device = 4
 fault_number OutOfMemory = 5
 
 -- memory was refused, or the crew is gone, which one that keeps no job never is where none was out
-abbrev pub IsCarryFault : Bool → BoardOf Op → CarryFault → Type 0
-IsCarryFault keeps board carry.CrewGone = keeps ≡ false → ¬ NoneOut board
-IsCarryFault keeps board carry.OutOfMemory = Unit {0}
+abbrev pub IsCarryFault : Bool → BoardOf Op → CrewFault → Type 0
+IsCarryFault keeps board crew.CrewGone = keeps ≡ false → ¬ NoneOut board
+IsCarryFault keeps board crew.OutOfMemory = Unit {0}
 
--- how a run ends whose log isn't carried out
-abbrev pub of_carry_fault : CarryFault → RunFault
-of_carry_fault carry.CrewGone = CrewGone
-of_carry_fault carry.OutOfMemory = OutOfMemory
-
--- memory was refused, or the crew is gone, which one that keeps no job never is
-abbrev pub IsCrewFault : Bool → RunFault → Type 0
-IsCrewFault keeps (Input line fault) = ⊥
-IsCrewFault keeps (Strayed node) = ⊥
-IsCrewFault keeps CrewGone = keeps ≢ false
-IsCrewFault keeps Device = ⊥
-IsCrewFault keeps OutOfMemory = Unit {0}
+-- memory was refused, a follower of so many nodes strayed, or the crew is gone, which one that keeps no job never is
+abbrev pub IsTeamFault : ℕ → Bool → RunFault → Type 0
+IsTeamFault nodes keeps (Strayed node) = (1 ≤ node) × (node < nodes)
+IsTeamFault nodes keeps CrewGone = keeps ≢ false
+IsTeamFault nodes keeps OutOfMemory = Unit {0}
+IsTeamFault nodes keeps other = ⊥
 
 -- memory was refused, or a follower of so many nodes strayed
 abbrev pub IsFollowersFault : ℕ → RunFault → Type 0
-IsFollowersFault nodes (Input line fault) = ⊥
 IsFollowersFault nodes (Strayed node) = (1 ≤ node) × (node < nodes)
-IsFollowersFault nodes CrewGone = ⊥
-IsFollowersFault nodes Device = ⊥
 IsFollowersFault nodes OutOfMemory = Unit {0}
+IsFollowersFault nodes other = ⊥
 
 -- memory was refused, or the crew is gone, of so many workers: without any none are gone
 abbrev pub IsWorkersFault : ℕ → RunFault → Type 0
-IsWorkersFault workers (Input line fault) = ⊥
-IsWorkersFault workers (Strayed node) = ⊥
 IsWorkersFault workers CrewGone = 0 < workers
-IsWorkersFault workers Device = ⊥
 IsWorkersFault workers OutOfMemory = Unit {0}
+IsWorkersFault workers other = ⊥
 
 -- how a run ends that has no crew
 abbrev pub of_crew_fault : CrewFault → RunFault
@@ -99,24 +79,17 @@ of_crew_fault crew.OutOfMemory = OutOfMemory
 -- what ends a run of so many nodes and workers after its input was read: a follower strayed, the crew is gone, where
 -- there is one, or memory was refused
 abbrev pub IsNodesFault : ℕ → ℕ → RunFault → Type 0
-IsNodesFault nodes workers (Input line fault) = ⊥
 IsNodesFault nodes workers (Strayed node) = (1 ≤ node) × (node < nodes)
 IsNodesFault nodes workers CrewGone = 0 < workers
-IsNodesFault nodes workers Device = ⊥
 IsNodesFault nodes workers OutOfMemory = Unit {0}
+IsNodesFault nodes workers other = ⊥
 
 -- only a follower strays, of so many nodes
 abbrev pub StraysAmong : ℕ → RunFault → Type 0
-StraysAmong nodes (Input line fault) = Unit {0}
 StraysAmong nodes (Strayed node) = (1 ≤ node) × (node < nodes)
-StraysAmong nodes CrewGone = Unit {0}
-StraysAmong nodes Device = Unit {0}
-StraysAmong nodes OutOfMemory = Unit {0}
+StraysAmong nodes other = Unit {0}
 
 -- a crew is gone only where there is one, of so many workers
 abbrev pub GoesAmong : ℕ → RunFault → Type 0
-GoesAmong workers (Input line fault) = Unit {0}
-GoesAmong workers (Strayed node) = Unit {0}
 GoesAmong workers CrewGone = 0 < workers
-GoesAmong workers Device = Unit {0}
-GoesAmong workers OutOfMemory = Unit {0}
+GoesAmong workers other = Unit {0}

@@ -1,15 +1,13 @@
 -- What is ready to be carried out.
-use Rattle.std.specs.Prelude.{◌≡◌, ℕ, ◌≤◌, Ok, List, ◌++◌, length, map}
+use Rattle.std.specs.Prelude.{◌≡◌, ℕ, Ok, List, ◌++◌, length, map}
 use Rattle.std.specs.List.{All}
 use Rattle.sb_rows.specs.Balances.{Balances}
 use Rattle.sb_rows.specs.Rows.{SameCustomers, rows_of}
 use Rattle.sb_rows.specs.Text.{unlines}
 use Rattle.sb_calls.specs.Log.{rows_after, replies_to}
-use Rattle.sb_calls.specs.Op.{resolved}
 use Rattle.sb_calls.specs.declared.call.Call.{Call}
-use Rattle.sb_calls.specs.declared.call.TheConstants.{LOG_CALLS}
 use Rattle.sb_text.specs.Listing.{row_lines}
-use Rattle.bank_server.specs.Execution.{AreWithin}
+use Rattle.bank_server.specs.Execution.{IsOpened}
 use Rattle.bank_server.specs.Output.{calls_of, output_of}
 use Rattle.bank_server.specs.Standing.{StandsAmong, standing_line}
 use Rattle.bank_server.specs.declared.asking.Standing.{Standing}
@@ -21,12 +19,10 @@ output_after names opening calls standings =
     unlines (map (standing_line (replies_to (rows_of names opening) calls)) standings)
     ++ unlines (row_lines names (rows_after calls (rows_of names opening)))
 
--- the opening, the log, its ops and how each ask stands in it are those of this input
+-- the opening, the log and how each ask stands in it are those of this input, and nothing is carried out
 pub record IsPreparedOf (text : List ℕ) (prepared : Prepared) : Type 0 where
-  pub customers : SameCustomers prepared.directory prepared.columns
-  pub ops : prepared.ops.items ≡ map (resolved prepared.directory) (calls_of prepared.sequencer.log)
-  pub few : length prepared.ops.items ≤ LOG_CALLS
-  pub within : AreWithin (length prepared.directory) prepared.ops.items
-  pub among : All (StandsAmong (length prepared.sequencer.log)) prepared.standings.items
-  pub output : output_of text ≡
-      Ok (output_after prepared.directory prepared.columns (calls_of prepared.sequencer.log) prepared.standings.items)
+  pub customers : SameCustomers prepared.primary.node.names prepared.primary.node.board.opening
+  pub opened : IsOpened prepared.primary.node.board
+  pub among : All (StandsAmong (length prepared.primary.log)) prepared.standings.items
+  pub output : output_of text ≡ Ok (output_after prepared.primary.node.names prepared.primary.node.board.opening
+      (calls_of prepared.primary.log) prepared.standings.items)

@@ -5,10 +5,13 @@ use Rattle.sb_calls.specs.Op.{resolved}
 use Rattle.sb_calls.specs.declared.ask.Key.{Key}
 use Rattle.sb_calls.specs.declared.call.Call.{Call}
 use Rattle.sb_calls.specs.declared.op.Op.{Op}
+use Rattle.sb_rows.specs.declared.opening.Opening.{Opening}
 use Rattle.cown_board.specs.Board.{BoardOf}
+use Rattle.cown_board.specs.Played.{opened_with}
+use Rattle.sb_replica_log.specs.Log.{none_held}
 use Rattle.sb_replica.specs.Replica.{ReplicaOf, beside_of}
 use Rattle.sb_sequencer.specs.Numbering.{IsLog}
-use Rattle.bank_server.specs.Execution.{IsCarriedOut}
+use Rattle.bank_server.specs.Execution.{IsCarriedOut, IsOneByOne}
 use Rattle.bank_server.specs.Output.{calls_of}
 
 -- the ops of a log's calls, by these names
@@ -24,6 +27,17 @@ pub record IsBehind (ops : List Op) (board : BoardOf Op) : Type 0 where
 pub record PrimaryOf (S : Type 0) : Type 0 where
   pub log : List (Key × Call)
   pub node : ReplicaOf S
+
+-- node 0 at an opening, which has nothing of the log
+abbrev pub opened_node : {S : Type 0} → Opening → S → ReplicaOf S
+opened_node opening store = record {
+  id = 0;
+  names = opening.directory;
+  opening = opening.columns;
+  board = opened_with opening.columns [];
+  held = none_held;
+  store = store;
+}
 
 -- the rows that the log is carried out over
 abbrev pub opening_of : {S : Type 0} → PrimaryOf S → Rows
@@ -43,3 +57,10 @@ HasAll primary = IsCarriedOut (ops_of primary.node.names primary.log) primary.no
 pub record KeepsBank {S : Type 0} (old new : PrimaryOf S) : Type 0 where
   pub beside : beside_of new.node ≡ beside_of old.node
   pub opening : new.node.board.opening ≡ old.node.board.opening
+
+-- a node that began where node 0 of this bank did, and carried out its log, which is as if its calls had run one by one
+pub record RunsLog {S : Type 0} (primary : PrimaryOf S) (node : ReplicaOf S) : Type 0 where
+  pub names_are : node.names ≡ primary.node.names
+  pub opening_is : node.board.opening ≡ primary.node.board.opening
+  pub log_is : node.board.log ≡ ops_of primary.node.names primary.log
+  pub one_by_one : IsOneByOne node.names (calls_of primary.log) node.board.opening node.board

@@ -1,4 +1,4 @@
-//! The asks of an input, numbered into one log.
+//! The asks of an input, numbered into the log.
 ghost use Rattle.std.specs.Prelude.{◌≡◌, ◌+◌, ◌<◌, ◌≤◌, ◌^◌, None, List, [], length, IfOk, OnErr, MatchOption, MatchResult};
 ghost use Rattle.sb_rows.specs.Text.{lines};
 ghost use Rattle.sb_calls.specs.Ask.{IsKey};
@@ -14,7 +14,9 @@ ghost use Rattle.bank_server.specs.Standing.{StandsAmong};
 
 use crate::fault::{InputFault, RunFault};
 use crate::log_number::LogNumber;
+use crate::primary::Primary;
 use sb_calls::{Asked, Call, Key, LOG_CALLS, read_ask};
+use sb_checkpoint::CheckpointStore;
 use sb_rows::next_line;
 use sb_sequencer::{AskFault, Numbered, Sequencer};
 use std::alloc::{AllocError, Global};
@@ -33,48 +35,47 @@ pub enum Standing {
     LogFull,
 }
 
-/// All asks of an input.
-#[derive(Drop)]
-pub struct Asking {
-    /// The log.
-    pub sequencer: Sequencer,
-    /// How each line stands in it, in order.
-    pub standings: Vec<Standing>,
+/// How many asking lines a text of so many bytes has, as a rule.
+pub(crate) fn usual_lines(bytes: usize) -> usize {
+    bytes / USUAL_LINE
 }
 
-/// Asks for each line of a text; the first line has this number.
+/// Asks for each line of a text, of which nothing was asked yet, and answers how each stands in the log; the first line
+/// has this number.
 ///
 /// A line without `ask` is asked by client 0, with its running number among such lines.
-pub fn ask_lines(alloc: Global, text: &[u8], first_line: usize) -> Result<Asking, RunFault>
-    requires { first_line + length text.now < 2 ^ 64 }
-    ensures { MatchResult result
-        (λ asking. IsAsking (asks_from first_line [] (lines text.now)) asking.sequencer.log asking.standings.items)
+pub fn ask_lines<S: CheckpointStore>(
+    alloc: Global,
+    text: &[u8],
+    first_line: usize,
+    primary: &mut Primary<S>,
+) -> Result<Vec<Standing>, RunFault>
+    requires line { first_line + length text.now < 2 ^ 64 }
+    requires log { primary.old.log ≡ [] }
+    ensures asked { MatchResult result
+        (λ standings. IsAsking (asks_from first_line [] (lines text.now)) primary.new.log standings.items)
         (λ fault. BlamesText fault (in_call (asks_from first_line [] (lines text.now)))) }
+    ensures node { primary.new.node ≡ primary.old.node }
 {
-    let expected = text.len() / USUAL_LINE;
-    let mut standings = Vec::with_capacity(alloc, expected)?;
-    let sequencer = Sequencer::with_capacity(alloc, 1, expected.min(LOG_CALLS))?;
-    let mut sequencer = Box::new(alloc, sequencer)?;
-    ask_all(text, first_line, &mut sequencer, &mut standings)?;
-    Ok(Asking {
-        sequencer: Box::into_inner(sequencer),
-        standings,
-    })
+    let mut standings = Vec::with_capacity(alloc, usual_lines(text.len()))?;
+    ask_all(text, first_line, primary, &mut standings)?;
+    Ok(standings)
 }
 
 // Asks for each line of a text, of which nothing was asked yet.
-fn ask_all(
+fn ask_all<S: CheckpointStore>(
     text: &[u8],
     first_line: usize,
-    sequencer: &mut Sequencer,
+    primary: &mut Primary<S>,
     standings: &mut Vec<Standing>,
 ) -> Result<(), RunFault>
     requires line { first_line + length text.now < 2 ^ 64 }
-    requires log { sequencer.old.log ≡ [] }
+    requires log { primary.old.log ≡ [] }
     requires standings { standings.old.items ≡ [] }
-    ensures { MatchResult result
-        (λ done. IsAsking (asks_from first_line [] (lines text.now)) sequencer.new.log standings.new.items)
+    ensures asked { MatchResult result
+        (λ done. IsAsking (asks_from first_line [] (lines text.now)) primary.new.log standings.new.items)
         (λ fault. BlamesText fault (in_call (asks_from first_line [] (lines text.now)))) }
+    ensures node { primary.new.node ≡ primary.old.node }
 {
     let mut running = 1u64;
     let mut left = text;
@@ -88,7 +89,7 @@ fn ask_all(
                 });
             }
         };
-        standings.push(ask(sequencer, running, &asked)?)?;
+        standings.push(ask(primary, running, &asked)?)?;
         running = next_running(running, asked.key);
         left = rest;
     }
@@ -107,13 +108,18 @@ fn next_running(running: u64, key: Option<Key>) -> u64
 }
 
 // Asks for one line, where the next line without a key has this running number.
-fn ask(sequencer: &mut Sequencer, running: u64, asked: &Asked) -> Result<Standing, RunFault>
+fn ask<S: CheckpointStore>(
+    primary: &mut Primary<S>,
+    running: u64,
+    asked: &Asked,
+) -> Result<Standing, RunFault>
     requires { IsKey asked.now.key }
-    ensures { (asks : List AnyAsked) → IsAfter asks running sequencer.old.log
-        → AsksLine asks running asked.now sequencer.new.log result }
+    ensures asked { (asks : List AnyAsked) → IsAfter asks running primary.old.log
+        → AsksLine asks running asked.now primary.new.log result }
+    ensures node { primary.new.node ≡ primary.old.node }
 {
     match key_of(running, asked.key) {
-        Some(key) => Ok(ask_key(sequencer, key, &asked.call)?),
+        Some(key) => Ok(primary.ask(key, &asked.call)?),
         // So many keys came before this one that the log is full.
         None => Ok(Standing::LogFull),
     }

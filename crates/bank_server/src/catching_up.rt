@@ -7,9 +7,8 @@ ghost use Rattle.sb_replica.specs.Replica.{beside_of};
 ghost use Rattle.bank_server.specs.Faults.{IsCarryFault};
 ghost use Rattle.bank_server.specs.Primary.{IsBehind, ops_of};
 
-use crate::carry_fault::CarryFault;
 use crate::execution::submit;
-use cown_workers::Crew;
+use cown_workers::{Crew, CrewFault};
 use sb_calls::resolve;
 use sb_checkpoint::CheckpointStore;
 use sb_replica::Replica;
@@ -17,21 +16,20 @@ use sb_sequencer::Sequencer;
 
 /// Offers a node the entries of the log that it lacks.
 ///
-/// Fails with [`CarryFault::CrewGone`] where the crew leaves something unfinished that must be finished first, and
-/// with [`CarryFault::OutOfMemory`]. The node has a beginning of the log then too.
+/// Fails with [`CrewFault::CrewGone`] where the crew leaves something unfinished that must be finished first, and
+/// with [`CrewFault::OutOfMemory`]. The node has a beginning of the log then too.
 pub(crate) fn catch_up<S: CheckpointStore, C: Crew>(
     log: &Sequencer,
     node: &mut Replica<S>,
     crew: &mut C,
-) -> Result<(), CarryFault>
+) -> Result<(), CrewFault>
     requires behind { IsBehind (ops_of node.old.names log.now.log) node.old.board }
     ensures behind { IsBehind (ops_of node.old.names log.now.log) node.new.board }
     ensures whole { OnOk result (node.new.board.log ≡ ops_of node.old.names log.now.log) }
     ensures opening { node.new.board.opening ≡ node.old.board.opening }
     ensures beside { beside_of node.new ≡ beside_of node.old }
     ensures none_out { OnOk result (NoneOut node.old.board → NoneOut node.new.board) }
-    ensures fault { IfErr result (IsCarryFault (C.keeps crew.old) node.old.board) }
-    ensures stays { C.keeps crew.old ≡ false → C.keeps crew.new ≡ false }
+    ensures fault { IfErr result (IsCarryFault C.keeps node.old.board) }
 {
     for number in node.length() + 1..log.length() + 1 {
         let call = log.call(number).unwrap();

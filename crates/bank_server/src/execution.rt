@@ -9,29 +9,32 @@ ghost use Rattle.sb_replica.specs.Replica.{beside_of};
 ghost use Rattle.bank_server.specs.Execution.{ArePut, AreWithin, IsCarriedOut, IsOneByOne, IsOpened};
 ghost use Rattle.bank_server.specs.Faults.{IsCarryFault};
 
-use crate::carry_fault::CarryFault;
-use crate::feeding::Feed;
-use cown_workers::{Crew, CrewGone, drain};
+use crate::followers::Followers;
+use cown_workers::{Crew, CrewFault, CrewGone, drain};
 use sb_calls::{LOG_CALLS, Op};
 use sb_checkpoint::CheckpointStore;
 use sb_replica::Replica;
 use sb_replica_log::Offered;
+use sb_sequencer::Sequencer;
+use std::sync::Wait;
 
-// How many entries are submitted between two words to the feed.
+// How many entries are submitted between two words to the followers.
 pub(crate) const PART: usize = 1024;
 
-/// Carries out the ops of a log over a replica that has nothing yet, each as soon as its cowns are free. The feed hears
-/// of each part of the log before it is submitted, and of the log's end before all is carried out.
+/// Carries out the ops of a log over a replica that has nothing yet, each as soon as its cowns are free. The followers
+/// are told of each part of the log before it is submitted, and carry all of it out. Where there are none no log is
+/// wanted.
 ///
 /// Fails with
-/// - [`CarryFault::CrewGone`] where the crew leaves something unfinished, which one that keeps no job never does,
-/// - [`CarryFault::OutOfMemory`] where memory is refused.
-pub fn carry_out<S: CheckpointStore, C: Crew, F: Feed>(
+/// - [`CrewFault::CrewGone`] where the crew leaves something unfinished, which one that keeps no job never does,
+/// - [`CrewFault::OutOfMemory`] where memory is refused.
+pub(crate) fn carry_out<S: CheckpointStore, C: Crew, R: Wait>(
     ops: &[Op],
+    log: Option<&Sequencer>,
     replica: &mut Replica<S>,
     crew: &mut C,
-    feed: &mut F,
-) -> Result<(), CarryFault>
+    followers: &mut Followers<'_, R>,
+) -> Result<(), CrewFault>
     requires opened { IsOpened replica.old.board }
     requires few { length ops.now ≤ LOG_CALLS }
     requires within { AreWithin (length replica.old.names) ops.now }
@@ -43,33 +46,34 @@ pub fn carry_out<S: CheckpointStore, C: Crew, F: Feed>(
         → ops.now ≡ map (resolved replica.old.names) calls
         → IsOneByOne replica.old.names calls replica.old.board.opening replica.new.board) }
     ensures beside { beside_of replica.new ≡ beside_of replica.old }
-    ensures fault { IfErr result (IsCarryFault (C.keeps crew.old) replica.old.board) }
-    ensures stays { C.keeps crew.old ≡ false → C.keeps crew.new ≡ false }
+    ensures nodes { followers.new.nodes ≡ followers.old.nodes }
+    ensures fault { IfErr result (IsCarryFault C.keeps replica.old.board) }
 {
     replica.reserve(ops.len())?;
-    submit_parts(ops, replica, crew, feed)?;
-    feed.end()?;
+    submit_parts(ops, log, replica, crew, followers)?;
+    followers.flush()?;
     settle(replica, crew)
 }
 
-// Submits these ops in parts, each once the feed heard of it.
-fn submit_parts<S: CheckpointStore, C: Crew, F: Feed>(
+// Submits these ops in parts, each once the followers were told of it.
+fn submit_parts<S: CheckpointStore, C: Crew, R: Wait>(
     ops: &[Op],
+    log: Option<&Sequencer>,
     replica: &mut Replica<S>,
     crew: &mut C,
-    feed: &mut F,
-) -> Result<(), CarryFault>
+    followers: &mut Followers<'_, R>,
+) -> Result<(), CrewFault>
     requires few { length_of replica.old.board + length ops.now ≤ LOG_CALLS }
     requires within { AreWithin (length replica.old.names) ops.now }
     ensures put { OnOk result (ArePut ops.now replica.old.board replica.new.board) }
     ensures beside { beside_of replica.new ≡ beside_of replica.old }
-    ensures fault { IfErr result (IsCarryFault (C.keeps crew.old) replica.old.board) }
-    ensures stays { C.keeps crew.old ≡ false → C.keeps crew.new ≡ false }
+    ensures nodes { followers.new.nodes ≡ followers.old.nodes }
+    ensures fault { IfErr result (IsCarryFault C.keeps replica.old.board) }
 {
     let mut done = 0;
     while done < ops.len() {
         let end = done + PART.min(ops.len() - done);
-        feed.part(done, end)?;
+        followers.tell(log, end)?;
         submit_all(&ops[done..end], replica, crew)?;
         done = end;
     }
@@ -79,17 +83,16 @@ fn submit_parts<S: CheckpointStore, C: Crew, F: Feed>(
 /// Submits these ops, last in the log. Where as many are unfinished as may be, those are carried out first.
 ///
 /// Fails as [`carry_out`].
-pub fn submit_all<S: CheckpointStore, C: Crew>(
+pub(crate) fn submit_all<S: CheckpointStore, C: Crew>(
     ops: &[Op],
     replica: &mut Replica<S>,
     crew: &mut C,
-) -> Result<(), CarryFault>
+) -> Result<(), CrewFault>
     requires few { length_of replica.old.board + length ops.now ≤ LOG_CALLS }
     requires within { AreWithin (length replica.old.names) ops.now }
     ensures put { OnOk result (ArePut ops.now replica.old.board replica.new.board) }
     ensures beside { beside_of replica.new ≡ beside_of replica.old }
-    ensures fault { IfErr result (IsCarryFault (C.keeps crew.old) replica.old.board) }
-    ensures stays { C.keeps crew.old ≡ false → C.keeps crew.new ≡ false }
+    ensures fault { IfErr result (IsCarryFault C.keeps replica.old.board) }
 {
     for op in ops {
         submit(op, replica, crew)?;
@@ -104,15 +107,14 @@ pub(crate) fn submit<S: CheckpointStore, C: Crew>(
     op: &Op,
     replica: &mut Replica<S>,
     crew: &mut C,
-) -> Result<(), CarryFault>
+) -> Result<(), CrewFault>
     requires room { length_of replica.old.board < LOG_CALLS }
     requires within { IsOpWithin (length replica.old.names) op.now }
     ensures put { OnOk result (ArePut (op.now ∷ []) replica.old.board replica.new.board) }
     // After a fault the log is as it was.
     ensures err { OnErr result (Drains replica.old.board replica.new.board) }
     ensures beside { beside_of replica.new ≡ beside_of replica.old }
-    ensures fault { IfErr result (IsCarryFault (C.keeps crew.old) replica.old.board) }
-    ensures stays { C.keeps crew.old ≡ false → C.keeps crew.new ≡ false }
+    ensures fault { IfErr result (IsCarryFault C.keeps replica.old.board) }
 {
     let number = replica.length() + 1;
     match replica.offer_entry(number, *op)? {
@@ -129,19 +131,18 @@ pub(crate) fn submit<S: CheckpointStore, C: Crew>(
 
 /// Carries out all that is unfinished.
 ///
-/// Fails with [`CarryFault::CrewGone`] where the crew leaves something unfinished.
-pub fn settle<S: CheckpointStore, C: Crew>(
+/// Fails with [`CrewFault::CrewGone`] where the crew leaves something unfinished.
+pub(crate) fn settle<S: CheckpointStore, C: Crew>(
     replica: &mut Replica<S>,
     crew: &mut C,
-) -> Result<(), CarryFault>
+) -> Result<(), CrewFault>
     ensures idle { OnOk result (open_of replica.new.board ≡ 0) }
     ensures log { Drains replica.old.board replica.new.board }
     ensures beside { beside_of replica.new ≡ beside_of replica.old }
-    ensures fault { IfErr result (IsCarryFault (C.keeps crew.old) replica.old.board) }
-    ensures stays { C.keeps crew.old ≡ false → C.keeps crew.new ≡ false }
+    ensures fault { IfErr result (IsCarryFault C.keeps replica.old.board) }
 {
     match drain(replica, crew) {
         Ok(()) => Ok(()),
-        Err(CrewGone) => Err(CarryFault::CrewGone),
+        Err(CrewGone) => Err(CrewFault::CrewGone),
     }
 }

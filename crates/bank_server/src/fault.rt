@@ -1,9 +1,8 @@
 //! Why a run ends without its output.
 ghost use Rattle.std.specs.Prelude.{◌≡◌};
-ghost use Rattle.bank_server.specs.Faults.{fault_number, of_carry_fault, of_crew_fault, of_read_fault};
+ghost use Rattle.bank_server.specs.Faults.{fault_number, of_crew_fault, of_read_fault};
 ghost use Rattle.bank_server.specs.declared.fault.RunFault.TheVariants.{OutOfMemory};
 
-use crate::carry_fault::CarryFault;
 use cown_workers::CrewFault;
 use sb_calls::CallFault;
 use sb_rows::LineFault;
@@ -69,17 +68,6 @@ impl From<ReadFault> for RunFault {
         match read {
             ReadFault::Device => RunFault::Device,
             ReadFault::OutOfMemory => RunFault::OutOfMemory,
-        }
-    }
-}
-
-impl From<CarryFault> for RunFault {
-    ghost from_gives = { λ carry fault. fault ≡ of_carry_fault carry };
-
-    fn from(carry: CarryFault) -> RunFault {
-        match carry {
-            CarryFault::CrewGone => RunFault::CrewGone,
-            CarryFault::OutOfMemory => RunFault::OutOfMemory,
         }
     }
 }

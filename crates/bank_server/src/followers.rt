@@ -1,15 +1,15 @@
-//! The followers of a bank that is served.
+//! The followers of node 0, each in a thread of its own.
 ghost use Rattle.std.specs.Prelude.{◌≡◌, ◌≤◌, [], length, IfErr, IfOk, OnOk};
 ghost use Rattle.std.specs.Fn.{FnOnceReturnsAtMut};
 ghost use Rattle.bank_server.specs.Faults.{IsFollowersFault};
 
 use crate::execution::PART;
 use crate::fault::RunFault;
-use crate::follower_threads::{FollowerThreads, compare, open_followers, start};
+use crate::follower_threads::{FollowerThreads, compare, start};
 use crate::frames::Ends;
+use crate::ready_followers::ReadyFollowers;
 use sb_checkpoint::CheckpointStore;
 use sb_replica::Replica;
-use sb_rows::Opening;
 use sb_sequencer::Sequencer;
 use std::alloc::{AllocError, Global};
 use std::marker::Model;
@@ -35,6 +35,11 @@ impl<'a, R: Wait> Model for Followers<'a, R> {
 }
 
 impl<'a, R: Wait> Followers<'a, R> {
+    /// Whether there are none.
+    pub fn is_empty(&self) -> bool {
+        self.ends.is_empty()
+    }
+
     /// Tells the followers of the entries of the log that they weren't told of yet, and has them carry these out.
     ///
     /// Fails where memory is refused. A follower that is gone is found out by [`Followers::compare`].
@@ -45,9 +50,27 @@ impl<'a, R: Wait> Followers<'a, R> {
         let length = log.length() as usize;
         while self.told < length {
             let end = self.told + PART.min(length - self.told);
-            self.ends.part(log, self.told, end)?;
-            self.told = end;
+            self.tell(Some(log), end)?;
         }
+        self.flush()
+    }
+
+    // Tells them of the entries up to this number that they weren't told of yet. Without a log there is nobody to tell.
+    pub(crate) fn tell(&mut self, log: Option<&Sequencer>, end: usize) -> Result<(), AllocError>
+        ensures told { OnOk result (self.new.told ≡ end) }
+        ensures nodes { self.new.nodes ≡ self.old.nodes }
+    {
+        if let Some(log) = log {
+            self.ends.part(log, self.told, end)?;
+        }
+        self.told = end;
+        Ok(())
+    }
+
+    // Has them carry out what they were told of.
+    pub(crate) fn flush(&mut self) -> Result<(), AllocError>
+        ensures { self.new ≡ self.old }
+    {
         self.ends.flush()
     }
 
@@ -69,29 +92,30 @@ impl<'a, R: Wait> Followers<'a, R> {
     }
 }
 
-/// Opens followers for a bank of so many nodes at this opening, and hands them to `f`. Once `f` has answered and their
-/// threads have ended it answers the same.
+/// Starts these followers and hands them to `f`. Once `f` has answered and their threads have ended it answers the
+/// same.
 ///
-/// Fails, and doesn't call `f`, with
-/// - [`RunFault::Strayed`] where a follower can't be started,
-/// - [`RunFault::OutOfMemory`] where memory is refused.
+/// Fails with [`RunFault::Strayed`] where a follower can't be started, and with [`RunFault::OutOfMemory`]; then `f`
+/// isn't called.
 pub fn with_followers<R, T, F>(
     rt: &R,
     alloc: Global,
-    opening: &Opening,
-    nodes: usize,
+    ready: ReadyFollowers,
     f: F,
 ) -> Result<T, RunFault>
 where
     R: Threads + Wait + Sync,
     F: FnOnce(&mut Followers<'_, R>) -> T,
-    requires few { nodes ≤ 8 }
     requires callable { F.IsAlwaysCallable f }
     ensures answer { IfOk result (λ answer. (after : _) ×
-        FnOnceReturnsAtMut F.FnOnce f (record { nodes = nodes; told = 0 }) answer after) }
-    ensures fault { IfErr result (IsFollowersFault nodes) }
+        FnOnceReturnsAtMut F.FnOnce f (record { nodes = ready; told = 0 }) answer after) }
+    ensures fault { IfErr result (IsFollowersFault ready) }
 {
-    let (ends, followers) = open_followers(alloc, &opening.directory, &opening.columns, 0, nodes)?;
+    let ReadyFollowers {
+        nodes,
+        ends,
+        followers,
+    } = ready;
     let ends = Ends { rt, alloc, ends };
     thread::scope(
         thread::scope_env(),

@@ -1,5 +1,4 @@
 //! The log as frames, sent to the followers.
-use crate::feeding::Feed;
 use crossbeam_channel::Sender;
 use sb_frames::{Frame, encode};
 use sb_sequencer::Sequencer;
@@ -24,6 +23,11 @@ pub(crate) struct Ends<'a, R: Wait> {
 }
 
 impl<'a, R: Wait> Ends<'a, R> {
+    /// Whether there are none.
+    pub(crate) fn is_empty(&self) -> bool {
+        self.ends.is_empty()
+    }
+
     /// Sends the entries of a log after the first `from`, up to the first `to`.
     pub(crate) fn part(&self, log: &Sequencer, from: usize, to: usize) -> Result<(), AllocError> {
         if self.ends.is_empty() {
@@ -57,22 +61,5 @@ impl<'a, R: Wait> Ends<'a, R> {
             let _ = end.send(self.rt, Arc::try_clone(&message)?);
         }
         Ok(())
-    }
-}
-
-/// A log that followers hear of as a run goes on.
-#[derive(Drop)]
-pub(crate) struct Frames<'a, R: Wait> {
-    pub(crate) log: Box<Sequencer>,
-    pub(crate) ends: Ends<'a, R>,
-}
-
-impl<'a, R: Wait> Feed for Frames<'a, R> {
-    fn part(&mut self, from: usize, to: usize) -> Result<(), AllocError> {
-        self.ends.part(&self.log, from, to)
-    }
-
-    fn end(&mut self) -> Result<(), AllocError> {
-        self.ends.flush()
     }
 }

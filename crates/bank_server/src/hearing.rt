@@ -68,8 +68,7 @@ pub(crate) fn hear<W: Write, S: CheckpointStore, C: Crew>(
         fault (place_of primary.new.log hearing.new (W.contents writer.new))) }
     ensures bank { KeepsBank primary.old primary.new }
     ensures none_out { OnOk result (NoneOut primary.old.node.board → NoneOut primary.new.node.board) }
-    ensures gone { IfErr result (LosesCrew (C.keeps crew.old) primary.old.node.board) }
-    ensures stays { C.keeps crew.old ≡ false → C.keeps crew.new ≡ false }
+    ensures gone { IfErr result (LosesCrew C.keeps primary.old.node.board) }
 {
     if hearing.stream.feed(bytes).is_err() {
         // It hadn't failed.
@@ -98,8 +97,7 @@ fn deal_with_all<W: Write, S: CheckpointStore, C: Crew>(
         fault (place_of primary.new.log hearing.new (W.contents writer.new))) }
     ensures bank { KeepsBank primary.old primary.new }
     ensures none_out { OnOk result (NoneOut primary.old.node.board → NoneOut primary.new.node.board) }
-    ensures gone { IfErr result (LosesCrew (C.keeps crew.old) primary.old.node.board) }
-    ensures stays { C.keeps crew.old ≡ false → C.keeps crew.new ≡ false }
+    ensures gone { IfErr result (LosesCrew C.keeps primary.old.node.board) }
 {
     loop {
         match hearing.stream.next() {
@@ -131,8 +129,7 @@ fn deal_with<W: Write, S: CheckpointStore, C: Crew>(
     ensures stream { hearing.new.stream ≡ hearing.old.stream }
     ensures bank { KeepsBank primary.old primary.new }
     ensures none_out { OnOk result (NoneOut primary.old.node.board → NoneOut primary.new.node.board) }
-    ensures gone { IfErr result (LosesCrew (C.keeps crew.old) primary.old.node.board) }
-    ensures stays { C.keeps crew.old ≡ false → C.keeps crew.new ≡ false }
+    ensures gone { IfErr result (LosesCrew C.keeps primary.old.node.board) }
 {
     match frame {
         Frame::Ask {
@@ -194,8 +191,7 @@ fn tell<W: Write, S: CheckpointStore, C: Crew>(
     ensures stream { hearing.new.stream ≡ hearing.old.stream }
     ensures bank { KeepsBank primary.old primary.new }
     ensures none_out { OnOk result (NoneOut primary.new.node.board) }
-    ensures gone { IfErr result (LosesCrew (C.keeps crew.old) primary.old.node.board) }
-    ensures stays { C.keeps crew.old ≡ false → C.keeps crew.new ≡ false }
+    ensures gone { IfErr result (LosesCrew C.keeps primary.old.node.board) }
 {
     primary.settle(crew)?;
     hearing.outcomes.clear();

@@ -4,30 +4,23 @@ ghost use Rattle.bank_server.specs.Faults.{BlamesText};
 ghost use Rattle.bank_server.specs.Output.{output_of};
 ghost use Rattle.bank_server.specs.Prepared.{IsPreparedOf};
 
-use crate::asking::{Standing, ask_lines};
+use crate::asking::{Standing, ask_lines, usual_lines};
 use crate::fault::{InputFault, RunFault};
-use crate::resolving::resolve_all;
-use sb_calls::Op;
-use sb_rows::{Columns, Directory, OpeningFault, read_opening};
-use sb_sequencer::Sequencer;
+use crate::primary::Primary;
+use sb_checkpoint::MemoryStore;
+use sb_rows::{OpeningFault, read_opening};
 use std::alloc::Global;
 
 /// An input that is ready to be carried out.
 #[derive(Drop)]
 pub struct Prepared {
-    /// The customers' names, in opening order.
-    pub directory: Directory,
-    /// Their balances at the opening.
-    pub columns: Columns,
-    /// The log.
-    pub sequencer: Sequencer,
-    /// How each ask stands in it, in order.
+    /// Its log, and node 0 at its opening.
+    pub primary: Primary<MemoryStore>,
+    /// How each ask stands in the log, in order.
     pub standings: Vec<Standing>,
-    /// The log's ops.
-    pub ops: Vec<Op>,
 }
 
-/// Reads an input, asks for each of its asking lines, and looks up the names in the log.
+/// Reads an input, and asks for each of its asking lines.
 ///
 /// Fails with [`RunFault::Input`] at the first line at fault, and with [`RunFault::OutOfMemory`].
 pub fn prepare(alloc: Global, input: &[u8]) -> Result<Prepared, RunFault>
@@ -46,13 +39,9 @@ pub fn prepare(alloc: Global, input: &[u8]) -> Result<Prepared, RunFault>
         }
     };
     let first_line = opening.directory.len() + 2;
-    let asking = ask_lines(alloc, &input[opening.consumed..], first_line)?;
-    let ops = resolve_all(alloc, &asking.sequencer, &opening.directory)?;
-    Ok(Prepared {
-        directory: opening.directory,
-        columns: opening.columns,
-        sequencer: asking.sequencer,
-        standings: asking.standings,
-        ops,
-    })
+    let lines = &input[opening.consumed..];
+    let store = MemoryStore::new(alloc);
+    let mut primary = Primary::with_capacity(alloc, opening, store, usual_lines(lines.len()))?;
+    let standings = ask_lines(alloc, lines, first_line, &mut primary)?;
+    Ok(Prepared { primary, standings })
 }

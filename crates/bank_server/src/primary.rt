@@ -3,35 +3,39 @@ ghost use Rattle.std.specs.Prelude.{◌≡◌, ◌≢◌, ◌≤◌, ◌↔◌, 
 ghost use Rattle.sb_calls.specs.declared.ask.Key.{Key as AnyKey};
 ghost use Rattle.sb_calls.specs.declared.call.Call.{Call as AnyCall};
 ghost use Rattle.cown_board.specs.Board.{length_of, open_of};
-ghost use Rattle.cown_board.specs.Played.{opened_with};
 ghost use Rattle.cown_workers.specs.Draining.{NoneOut};
 ghost use Rattle.sb_checkpoint.specs.Stores.{StoreDoes};
-ghost use Rattle.sb_replica_log.specs.Log.{none_held};
 ghost use Rattle.sb_replica.specs.Replica.{beside_of};
 ghost use Rattle.sb_sequencer.specs.Numbering.{IsLog, first_asks};
 ghost use Rattle.bank_server.specs.Asking.{AsksOne};
-ghost use Rattle.bank_server.specs.Primary.{HasAll, IsPrimary, KeepsBank};
+ghost use Rattle.bank_server.specs.Execution.{IsOpened};
+ghost use Rattle.bank_server.specs.Faults.{IsCarryFault};
+ghost use Rattle.bank_server.specs.Primary.{HasAll, IsPrimary, KeepsBank, RunsLog, opened_node};
 ghost use Rattle.bank_server.specs.Saving.{HoldsCheckpoint, IsSaveFaultOf, Saves};
 ghost use Rattle.bank_server.specs.SessionFaults.{IsSettleFault, LosesCrew};
 ghost use Rattle.bank_server.specs.Standing.{StandsAmong};
 
 use crate::asking::{Standing, ask_key};
 use crate::catching_up::catch_up;
-use crate::execution::settle;
+use crate::execution::{carry_out, settle};
+use crate::followers::Followers;
+use crate::resolving::resolve_all;
 use crate::save_fault::SaveFault;
 use crate::session_fault::SessionFault;
-use cown_workers::Crew;
-use sb_calls::{Call, Key};
+use cown_workers::{Crew, CrewFault};
+use sb_calls::{Call, Key, LOG_CALLS};
 use sb_checkpoint::CheckpointStore;
 use sb_replica::Replica;
 use sb_rows::Opening;
 use sb_sequencer::Sequencer;
 use std::alloc::{AllocError, Global};
 use std::marker::Model;
+use std::sync::Wait;
 
 /// The log, and node 0, which has carried out a beginning of it.
 #[derive(Drop)]
 pub struct Primary<S: CheckpointStore> {
+    alloc: Global,
     log: Box<Sequencer>,
     node: Box<Replica<S>>,
 }
@@ -50,19 +54,26 @@ impl<S: CheckpointStore> Primary<S> {
     /// An empty log, and node 0 at this opening. The store isn't touched.
     pub fn open(alloc: Global, opening: Opening, store: S) -> Result<Primary<S>, AllocError>
         ensures log { IfOk result (λ primary. primary.log ≡ []) }
-        ensures node { IfOk result (λ primary. primary.node ≡ record {
-          id = 0;
-          names = opening.directory;
-          opening = opening.columns;
-          board = opened_with opening.columns [];
-          held = none_held;
-          store = store;
-        }) }
+        ensures node { IfOk result (λ primary. primary.node ≡ opened_node opening store) }
     {
+        Primary::with_capacity(alloc, opening, store, 0)
+    }
+
+    /// The same, with room in the log for so many entries.
+    pub fn with_capacity(
+        alloc: Global,
+        opening: Opening,
+        store: S,
+        entries: usize,
+    ) -> Result<Primary<S>, AllocError>
+        ensures log { IfOk result (λ primary. primary.log ≡ []) }
+        ensures node { IfOk result (λ primary. primary.node ≡ opened_node opening store) }
+    {
+        let log = Sequencer::with_capacity(alloc, 1, entries.min(LOG_CALLS))?;
+        let log = Box::new(alloc, log)?;
         let node = Replica::open(alloc, 0, opening.directory, opening.columns, store)?;
         let node = Box::new(alloc, node)?;
-        let log = Box::new(alloc, Sequencer::open(alloc, 1))?;
-        Ok(Primary { log, node })
+        Ok(Primary { alloc, log, node })
     }
 
     /// The log.
@@ -103,8 +114,7 @@ impl<S: CheckpointStore> Primary<S> {
         ensures bank { KeepsBank self.old self.new }
         ensures none_out { OnOk result (NoneOut self.old.node.board → NoneOut self.new.node.board) }
         ensures fault { IfErr result IsSettleFault }
-        ensures gone { IfErr result (LosesCrew (C.keeps crew.old) self.old.node.board) }
-        ensures stays { C.keeps crew.old ≡ false → C.keeps crew.new ≡ false }
+        ensures gone { IfErr result (LosesCrew C.keeps self.old.node.board) }
     {
         Ok(catch_up(&self.log, &mut self.node, crew)?)
     }
@@ -124,12 +134,43 @@ impl<S: CheckpointStore> Primary<S> {
         ensures one_each { IsLog self.new.log }
         ensures bank { KeepsBank self.old self.new }
         ensures fault { IfErr result IsSettleFault }
-        ensures gone { IfErr result (LosesCrew (C.keeps crew.old) self.old.node.board) }
-        ensures stays { C.keeps crew.old ≡ false → C.keeps crew.new ≡ false }
+        ensures gone { IfErr result (LosesCrew C.keeps self.old.node.board) }
     {
         let node = &mut *self.node;
         catch_up(&self.log, node, crew)?;
         Ok(settle(node, crew)?)
+    }
+
+    /// Has node 0 carry out the whole log, of which it has nothing yet, beside its followers, and gives it back.
+    ///
+    /// All names are looked up at once, and the log is let go of before the first entry is submitted, unless followers
+    /// hear of it.
+    ///
+    /// Fails with
+    /// - [`CrewFault::CrewGone`] where the crew leaves something unfinished, which one that keeps no job never does,
+    /// - [`CrewFault::OutOfMemory`] where memory is refused.
+    pub fn finish<R: Wait, C: Crew>(
+        self,
+        crew: &mut C,
+        followers: &mut Followers<'_, R>,
+    ) -> Result<Box<Replica<S>>, CrewFault>
+        requires opened { IsOpened self.node.board }
+        ensures run { IfOk result (λ node. RunsLog self node.value) }
+        ensures nodes { followers.new.nodes ≡ followers.old.nodes }
+        ensures fault { IfErr result (IsCarryFault C.keeps self.node.board) }
+    {
+        let Primary { alloc, log, node } = self;
+        let mut node = node;
+        let ops = resolve_all(alloc, &log, node.directory())?;
+        // Where no follower hears of the log, the board may take its place in memory.
+        let log = if followers.is_empty() {
+            drop(log);
+            None
+        } else {
+            Some(log)
+        };
+        carry_out(&ops, log.as_deref(), &mut node, crew, followers)?;
+        Ok(node)
     }
 
     /// Puts a checkpoint of all that node 0 carried out into its store, reads it back, and answers how many entries of

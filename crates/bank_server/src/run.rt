@@ -6,8 +6,9 @@ ghost use Rattle.bank_server.specs.Prepared.{IsPreparedOf};
 
 use crate::answers::push_output;
 use crate::fault::RunFault;
-use crate::nodes::{Bank, run_nodes};
 use crate::preparing::{Prepared, prepare};
+use crate::ready_followers::ReadyFollowers;
+use crate::whole_log::carry_out_log;
 use cown_workers::Gate;
 use sb_text::{read_all, write_whole};
 use std::alloc::Global;
@@ -81,17 +82,14 @@ fn output_text<H: Threads + Wait + Clock + Sync, G: Gate + Sync>(
     ensures value { IfOk result (λ output. output_of input.items ≡ Ok output.items) }
     ensures fault { IfErr result (IsNodesFault nodes workers) }
 {
-    let bank = Bank {
-        directory: prepared.directory,
-        columns: prepared.columns,
-        log: Box::new(alloc, prepared.sequencer)?,
-    };
-    let node = run_nodes(rt, alloc, bank, &prepared.ops, nodes, workers, gate)?;
-    drop(prepared.ops);
+    let Prepared { primary, standings } = prepared;
+    let entries = primary.log().length() as usize;
+    let followers = ReadyFollowers::open(alloc, primary.node(), nodes, entries)?;
+    let node = carry_out_log(rt, alloc, primary, followers, workers, gate)?;
     // The output takes the input's place in memory, whose pages are there already.
     let mut output = input;
     output.clear();
-    match push_output(&prepared.standings, &node, &mut output) {
+    match push_output(&standings, &node, &mut output) {
         Ok(()) => Ok(output),
         Err(_) => Err(RunFault::OutOfMemory),
     }

@@ -47,8 +47,7 @@ pub fn serve_session<R: Read, W: Write, S: CheckpointStore, C: Crew>(
         IsCutShort (opening_of primary.old) primary.old.log primary.new.log (W.contents writer.old)
         (W.contents writer.new) input fault)) }
     ensures bank { KeepsBank primary.old primary.new }
-    ensures gone { IfErr result (LosesCrew (C.keeps crew.old) primary.old.node.board) }
-    ensures stays { C.keeps crew.old ≡ false → C.keeps crew.new ≡ false }
+    ensures gone { IfErr result (LosesCrew C.keeps primary.old.node.board) }
 {
     primary.settle(crew)?;
     let mut hearing = Hearing::new(alloc);
@@ -78,8 +77,7 @@ fn end<S: CheckpointStore, C: Crew>(
     ensures log { primary.new.log ≡ primary.old.log }
     ensures fault { IfErr result (IsEndFault hearing.now.stream) }
     ensures bank { KeepsBank primary.old primary.new }
-    ensures gone { IfErr result (LosesCrew (C.keeps crew.old) primary.old.node.board) }
-    ensures stays { C.keeps crew.old ≡ false → C.keeps crew.new ≡ false }
+    ensures gone { IfErr result (LosesCrew C.keeps primary.old.node.board) }
 {
     if !hearing.stream.ended() {
         return Err(SessionFault::Frame(FrameFault::Short));

@@ -1,9 +1,9 @@
 //! Why a session ends before its client does.
 ghost use Rattle.std.specs.Prelude.{◌≡◌};
-ghost use Rattle.bank_server.specs.SessionFaults.{session_fault_number, session_of_carry_fault};
+ghost use Rattle.bank_server.specs.SessionFaults.{session_fault_number, session_of_crew_fault};
 ghost use Rattle.bank_server.specs.declared.session_fault.SessionFault.TheVariants.{OutOfMemory};
 
-use crate::carry_fault::CarryFault;
+use cown_workers::CrewFault;
 use sb_frames::FrameFault;
 use std::alloc::AllocError;
 use thiserror::Error;
@@ -45,13 +45,13 @@ impl SessionFault {
     }
 }
 
-impl From<CarryFault> for SessionFault {
-    ghost from_gives = { λ carry fault. fault ≡ session_of_carry_fault carry };
+impl From<CrewFault> for SessionFault {
+    ghost from_gives = { λ crew fault. fault ≡ session_of_crew_fault crew };
 
-    fn from(carry: CarryFault) -> SessionFault {
-        match carry {
-            CarryFault::CrewGone => SessionFault::CrewGone,
-            CarryFault::OutOfMemory => SessionFault::OutOfMemory,
+    fn from(crew: CrewFault) -> SessionFault {
+        match crew {
+            CrewFault::CrewGone => SessionFault::CrewGone,
+            CrewFault::OutOfMemory => SessionFault::OutOfMemory,
         }
     }
 }

@@ -1,6 +1,7 @@
 //! Why there is no crew.
 ghost use Rattle.std.specs.Prelude.{◌≡◌};
 ghost use Rattle.cown_workers.specs.CrewFaults.{crew_fault_number};
+ghost use Rattle.cown_workers.specs.declared.crew_fault.CrewFault.TheVariants.{OutOfMemory};
 
 use std::alloc::AllocError;
 use thiserror::Error;
@@ -29,6 +30,8 @@ impl CrewFault {
 }
 
 impl From<AllocError> for CrewFault {
+    ghost from_gives = { λ _ fault. fault ≡ OutOfMemory };
+
     fn from(_: AllocError) -> CrewFault {
         CrewFault::OutOfMemory
     }

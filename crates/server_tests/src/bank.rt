@@ -1,4 +1,7 @@
-//! The bank of three customers, and runs of inputs.
+//! The bank of three customers.
+ghost use Rattle.std.specs.Prelude.{◌≡◌, []};
+ghost use Rattle.bank_server.specs.Execution.{IsOpened};
+
 use bank_server::Primary;
 use sb_checkpoint::{CheckpointStore, MemoryStore};
 use sb_rows::read_opening;
@@ -6,6 +9,10 @@ use std::alloc::Global;
 use std::process::Abort;
 
 pub(crate) const OPENING: &[u8] = b"alice 100.00 50.00\nbob 0.00 20.00\ncarol 10.00 0.00\nbegin\n";
+
+/// The bank at another opening.
+pub(crate) const OTHER_OPENING: &[u8] =
+    b"alice 100.00 50.00\nbob 0.00 20.01\ncarol 10.00 0.00\nbegin\n";
 
 /// A case comes out as it has to.
 pub(crate) fn expect(rt: &impl Abort, holds: bool, case: &str) {
@@ -18,7 +25,10 @@ pub(crate) fn expect_bytes(rt: &impl Abort, found: &[u8], wanted: &[u8], case: &
 }
 
 /// The bank over a store in memory, with an empty log.
-pub(crate) fn opened(rt: &impl Abort, alloc: Global) -> Box<Primary<MemoryStore>> {
+pub(crate) fn opened(rt: &impl Abort, alloc: Global) -> Box<Primary<MemoryStore>>
+    ensures log { result.value.log ≡ [] }
+    ensures opened { IsOpened result.value.node.board }
+{
     opened_over(rt, alloc, MemoryStore::new(alloc))
 }
 
@@ -27,8 +37,24 @@ pub(crate) fn opened_over<S: CheckpointStore>(
     rt: &impl Abort,
     alloc: Global,
     store: S,
-) -> Box<Primary<S>> {
-    let opening = read_opening(alloc, OPENING).expect(rt, "an opening");
+) -> Box<Primary<S>>
+    ensures log { result.value.log ≡ [] }
+    ensures opened { IsOpened result.value.node.board }
+{
+    opened_at(rt, alloc, OPENING, store)
+}
+
+/// The same at this opening.
+pub(crate) fn opened_at<S: CheckpointStore>(
+    rt: &impl Abort,
+    alloc: Global,
+    opening: &[u8],
+    store: S,
+) -> Box<Primary<S>>
+    ensures log { result.value.log ≡ [] }
+    ensures opened { IsOpened result.value.node.board }
+{
+    let opening = read_opening(alloc, opening).expect(rt, "an opening");
     let primary = Primary::open(alloc, opening, store).expect(rt, "memory for a bank");
     Box::new(alloc, primary).expect(rt, "memory for a box")
 }

@@ -1,9 +1,8 @@
 //! Followers of a bank that is served.
-use crate::bank::{OPENING, expect, opened};
+use crate::bank::{OPENING, OTHER_OPENING, expect, opened, opened_at};
 use crate::wire::{BALANCE, DEPOSIT, DONE, FLUSH, SHOWN, serve};
-use bank_server::{Followers, Primary, RunFault, with_followers};
+use bank_server::{Followers, Primary, ReadyFollowers, RunFault, with_followers};
 use sb_checkpoint::MemoryStore;
-use sb_rows::read_opening;
 use std::alloc::Global;
 use std::process::Abort;
 use std::sync::Wait;
@@ -13,9 +12,6 @@ use std::thread::Threads;
 const PAYMENT: &[&[u8]] = &[DEPOSIT, FLUSH];
 
 const QUESTION: &[&[u8]] = &[BALANCE, FLUSH];
-
-// The bank at another opening.
-const OTHER_OPENING: &[u8] = b"alice 100.00 50.00\nbob 0.00 20.01\ncarol 10.00 0.00\nbegin\n";
 
 // What followers are told of the log of a bank that serves two clients.
 #[derive(Clone, Copy)]
@@ -75,9 +71,9 @@ fn expect_compared<R: Abort + Threads + Wait + Sync>(
     wanted: Result<(), RunFault>,
 ) {
     assert!(rt; nodes <= 8);
-    let opening = read_opening(alloc, opening).expect(rt, "an opening");
-    let opening = Box::new(alloc, opening).expect(rt, "memory for a box");
-    let compared = with_followers(rt, alloc, &opening, nodes, |followers| {
+    let other = opened_at(rt, alloc, opening, MemoryStore::new(alloc));
+    let ready = ReadyFollowers::open(alloc, other.node(), nodes, 0).expect(rt, "followers");
+    let compared = with_followers(rt, alloc, ready, |followers| {
         compared(rt, alloc, followers, told)
     });
     expect(rt, compared == Ok(wanted), "how they come out");

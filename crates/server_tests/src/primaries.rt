@@ -12,9 +12,10 @@ use std::process::Abort;
 // How lines stand that come to so many numbers.
 fn standings(rt: &impl Abort, alloc: Global, text: &[u8], numbers: u64) -> Vec<Standing> {
     assert!(rt; text.len() < 1_000);
-    let asking = ask_lines(alloc, text, 1).expect(rt, "asking lines");
-    expect(rt, asking.sequencer.length() == numbers, "the log");
-    asking.standings
+    let mut primary = opened(rt, alloc);
+    let standings = ask_lines(alloc, text, 1, &mut *primary).expect(rt, "asking lines");
+    expect(rt, primary.log().length() == numbers, "the log");
+    standings
 }
 
 #[test]

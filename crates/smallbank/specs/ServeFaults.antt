@@ -7,69 +7,50 @@ use Rattle.smallbank.specs.declared.serve_fault.ServeFault.TheVariants.{Run, Rea
 
 -- a device failed, or memory was refused
 abbrev pub IsPrintRunFault : RunFault → Type 0
-IsPrintRunFault (Input line fault) = ⊥
-IsPrintRunFault (Strayed node) = ⊥
-IsPrintRunFault CrewGone = ⊥
 IsPrintRunFault Device = Unit {0}
 IsPrintRunFault OutOfMemory = Unit {0}
+IsPrintRunFault other = ⊥
 
 abbrev pub IsPrintFault : ServeFault → Type 0
 IsPrintFault (Run fault) = IsPrintRunFault fault
-IsPrintFault ReadBack = ⊥
-IsPrintFault Store = ⊥
-IsPrintFault (PortTaken port) = ⊥
+IsPrintFault other = ⊥
 
 -- a device failed
 abbrev pub IsDeviceFault : RunFault → Type 0
-IsDeviceFault (Input line fault) = ⊥
-IsDeviceFault (Strayed node) = ⊥
-IsDeviceFault CrewGone = ⊥
 IsDeviceFault Device = Unit {0}
-IsDeviceFault OutOfMemory = ⊥
+IsDeviceFault other = ⊥
 
 -- this port is taken, or a device failed
 abbrev pub IsPortFault : ℕ → ServeFault → Type 0
 IsPortFault port (Run fault) = IsDeviceFault fault
-IsPortFault port ReadBack = ⊥
-IsPortFault port Store = ⊥
 IsPortFault port (PortTaken taken) = taken ≡ port
+IsPortFault port other = ⊥
 
 -- the crew is gone, a device failed, or memory was refused
 abbrev pub IsKeepRunFault : RunFault → Type 0
 IsKeepRunFault (Input line fault) = ⊥
 IsKeepRunFault (Strayed node) = ⊥
-IsKeepRunFault CrewGone = Unit {0}
-IsKeepRunFault Device = Unit {0}
-IsKeepRunFault OutOfMemory = Unit {0}
+IsKeepRunFault other = Unit {0}
 
 -- the same, or the store gives back something else, where it is asked
 abbrev pub IsKeepFault : Bool → ServeFault → Type 0
 IsKeepFault saves (Run fault) = IsKeepRunFault fault
 IsKeepFault saves ReadBack = saves ≡ true
-IsKeepFault saves Store = ⊥
-IsKeepFault saves (PortTaken port) = ⊥
+IsKeepFault saves other = ⊥
 
 -- the same, or one of so many nodes strayed, which node 0 isn't
 abbrev pub IsServingRunFault : ℕ → RunFault → Type 0
-IsServingRunFault nodes (Input line fault) = ⊥
 IsServingRunFault nodes (Strayed node) = (1 ≤ node) × (node < nodes)
-IsServingRunFault nodes CrewGone = Unit {0}
-IsServingRunFault nodes Device = Unit {0}
-IsServingRunFault nodes OutOfMemory = Unit {0}
+IsServingRunFault nodes other = IsKeepRunFault other
 
 abbrev pub IsServingFault : ℕ → Bool → ServeFault → Type 0
 IsServingFault nodes saves (Run fault) = IsServingRunFault nodes fault
-IsServingFault nodes saves ReadBack = saves ≡ true
-IsServingFault nodes saves Store = ⊥
-IsServingFault nodes saves (PortTaken port) = ⊥
+IsServingFault nodes saves other = IsKeepFault saves other
 
 -- the same, or a line of the opening is at fault
 abbrev pub IsProgramRunFault : ℕ → RunFault → Type 0
-IsProgramRunFault nodes (Input line fault) = Unit {0}
 IsProgramRunFault nodes (Strayed node) = (1 ≤ node) × (node < nodes)
-IsProgramRunFault nodes CrewGone = Unit {0}
-IsProgramRunFault nodes Device = Unit {0}
-IsProgramRunFault nodes OutOfMemory = Unit {0}
+IsProgramRunFault nodes other = Unit {0}
 
 -- the same, or the store gives back something else, or takes nothing, where there is one, or this port is taken
 abbrev pub IsProgramFault : ℕ → ℕ → Bool → Bool → ServeFault → Type 0

@@ -6,10 +6,10 @@ ghost use Rattle.sb_sequencer.specs.Numbering.{IsLog};
 ghost use Rattle.smallbank.specs.Heard.{IsHeard};
 
 use crate::hanging_up::hang_up;
-use crate::serving::Setting;
 use bank_server::{Primary, SessionFault, serve_session};
 use cown_workers::Crew;
 use sb_checkpoint::CheckpointStore;
+use std::alloc::Global;
 use std::io;
 use std::io::{Read, Write};
 use std::net::OpenStream;
@@ -18,9 +18,11 @@ use std::time::{Clock, Duration};
 /// Serves a client, as [`serve_session`], and hangs up.
 ///
 /// A client that sent what it may not still gets all that it was told. Where the stream can't be set up, it is as if it
-/// had failed at once; where the plan's patience with a read or a write is over, as if that had failed.
+/// had failed at once; where the patience with a read or a write, of so many seconds, is over, as if that had failed.
 pub(crate) fn serve_client<R, T, S, C>(
-    setting: &Setting<'_, R>,
+    rt: &R,
+    alloc: Global,
+    patience: Option<usize>,
     stream: T,
     primary: &mut Primary<S>,
     crew: &mut C,
@@ -35,16 +37,15 @@ where
     ensures heard { IfSome (T.remaining stream) (λ sent.
         IsHeard primary.old.log sent result primary.new.log) }
     ensures bank { KeepsBank primary.old primary.new }
-    ensures gone { IfErr result (LosesCrew (C.keeps crew.old) primary.old.node.board) }
-    ensures stays { C.keeps crew.old ≡ false → C.keeps crew.new ≡ false }
+    ensures gone { IfErr result (LosesCrew C.keeps primary.old.node.board) }
 {
     let mut reader = stream;
-    let Ok(mut writer) = set_up(&reader, setting.plan.patience) else {
+    let Ok(mut writer) = set_up(&reader, patience) else {
         return Err(SessionFault::Device);
     };
-    let served = serve_session(setting.alloc, &mut reader, &mut writer, primary, crew);
+    let served = serve_session(alloc, &mut reader, &mut writer, primary, crew);
     if let Err(SessionFault::Frame(_) | SessionFault::Unexpected) = served {
-        hang_up(setting.rt, &mut reader);
+        hang_up(rt, &mut reader);
     }
     served
 }

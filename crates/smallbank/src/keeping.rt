@@ -27,7 +27,6 @@ pub(crate) fn keep<R: Wait, S: CheckpointStore, C: Crew>(
     ensures left { OnOk result (IsLeft S.slot S.IsHonest saves 1 primary.old primary.new) }
     ensures nodes { followers.new.nodes ≡ followers.old.nodes }
     ensures fault { IfErr result (IsKeepFault saves) }
-    ensures stays { C.keeps crew.old ≡ false → C.keeps crew.new ≡ false }
 {
     settle(primary, crew)?;
     followers.feed(primary.log())?;
@@ -47,7 +46,6 @@ fn settle<S: CheckpointStore, C: Crew>(
     ensures one_each { IsLog primary.new.log }
     ensures all { OnOk result (HasAll primary.new) }
     ensures fault { IfErr result (IsKeepFault false) }
-    ensures stays { C.keeps crew.old ≡ false → C.keeps crew.new ≡ false }
 {
     match primary.settle(crew) {
         Ok(()) => Ok(()),

@@ -30,6 +30,7 @@ pub mod options;
 mod printing;
 pub mod serve_fault;
 pub mod serve_program;
+mod server;
 pub mod serving;
 #[cfg(test)]
 mod tests;

@@ -1,10 +1,13 @@
 //! Banks that are served to clients in memory.
-ghost use Rattle.std.specs.Prelude.{◌≤◌, None};
+ghost use Rattle.std.specs.Prelude.{◌≡◌, ◌≤◌, None, []};
+ghost use Rattle.sb_rows.specs.declared.opening.Opening.{Opening as AnyOpening};
+ghost use Rattle.bank_server.specs.Primary.{opened_node};
 
 use super::clients::{Client, Doorway, Manner, Told};
 use crate::serve_fault::ServeFault;
-use crate::serving::{Plan, Setting, open_bank, serve, serve_bank};
-use bank_server::RunFault;
+use crate::server::Server;
+use crate::serving::{Plan, serve, serve_beside};
+use bank_server::{Primary, ReadyFollowers, RunFault};
 use sb_checkpoint::{CheckpointStore, How, MemoryStore, StoreFault};
 use sb_rows::read_opening;
 use std::alloc::Global;
@@ -192,8 +195,17 @@ fn stores_that_fail(rt: HostRuntime) {
     expect(&rt, alloc, &clients, store, plan, ends, printed, TOLD);
 }
 
+// A bank with this opening.
+fn bank_of(rt: &impl Abort, alloc: Global, opening: &[u8]) -> Primary<MemoryStore>
+    ensures log { result.log ≡ [] }
+    ensures node { (opening : AnyOpening) × (result.node ≡ opened_node opening result.node.store) }
+{
+    let opening = read_opening(alloc, opening).expect(rt, "an opening");
+    Primary::open(alloc, opening, MemoryStore::new(alloc)).expect(rt, "a bank")
+}
+
 // Serves a client who is told, beside followers that begin with this opening, and gives how that ends.
-fn serve_beside(
+fn serve_one_beside(
     rt: &(impl Abort + Threads + Wait + Clock + Sync),
     alloc: Global,
     beside: &[u8],
@@ -202,19 +214,22 @@ fn serve_beside(
     requires { nodes ≤ 8 }
 {
     let told = Told::new(alloc);
-    let door = Doorway::of(alloc, &[plain(ASKED)], &told).expect(rt, "a door");
-    let opening = read_opening(alloc, OPENING).expect(rt, "an opening");
-    let primary = open_bank(alloc, &opening, MemoryStore::new(alloc)).expect(rt, "a bank");
-    let beside = read_opening(alloc, beside).expect(rt, "an opening");
-    let plan = Plan {
-        sessions: 1,
-        nodes,
-        workers: 0,
-        saves: false,
-        patience: None,
+    let other = bank_of(rt, alloc, beside);
+    let followers = ReadyFollowers::open(alloc, other.node(), nodes, 0).expect(rt, "followers");
+    let server = Server {
+        alloc,
+        plan: Plan {
+            sessions: 1,
+            nodes,
+            workers: 0,
+            saves: false,
+            patience: None,
+        },
+        door: Doorway::of(alloc, &[plain(ASKED)], &told).expect(rt, "a door"),
+        primary: bank_of(rt, alloc, OPENING),
+        writer: Vec::new(alloc),
     };
-    let setting = &Setting { rt, alloc, plan };
-    serve_bank(setting, door, primary, &beside, Vec::new(alloc)).map(|_| ())
+    serve_beside(rt, followers, server).map(|_| ())
 }
 
 // What `serve` does with its followers: it has no part of its own in which they could stray.
@@ -223,8 +238,8 @@ fn followers_that_began_otherwise_stray(rt: HostRuntime) {
     let alloc = rt.alloc();
     let other = b"alice 100.00 50.00\nbob 0.01 20.00\nbegin\n";
     let strayed = Err(ServeFault::Run(RunFault::Strayed(1)));
-    assert!(&rt; serve_beside(&rt, alloc, OPENING, 3).is_ok());
-    assert!(&rt; serve_beside(&rt, alloc, other, 3) == strayed);
+    assert!(&rt; serve_one_beside(&rt, alloc, OPENING, 3).is_ok());
+    assert!(&rt; serve_one_beside(&rt, alloc, other, 3) == strayed);
     // Without followers nobody is compared.
-    assert!(&rt; serve_beside(&rt, alloc, other, 1).is_ok());
+    assert!(&rt; serve_one_beside(&rt, alloc, other, 1).is_ok());
 }

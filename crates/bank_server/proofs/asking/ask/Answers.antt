@@ -5,10 +5,11 @@ use Rattle.bank_server.specs.Asking.{AsksOne}
 use Rattle.bank_server.proofs.Answered.{asks_past_requests}
 use Rattle.bank_server.proofs.asking.ask.Goals as goal
 
-pub returns-in_ok-ask_key-in-Some : goal.returns-in_ok-ask_key-in-Some
-returns-in_ok-ask_key-in-Some c asks after =
-    subst (λ (key : Key). AsksOne (keyed asks) (key, c.args.asked.now.call) c.ask_key.new.sequencer.log c.in_ok-ask_key-in-Some.field-0) c.in-Some.ensures
-    (c.in_ok-ask_key-in-Some.ensures.asked (keyed asks) after.log_is)
+pub returns-in_ok-ask-in-Some-clause-asked : goal.returns-in_ok-ask-in-Some-clause-asked
+returns-in_ok-ask-in-Some-clause-asked g c asks after =
+    subst (λ (key : Key). AsksOne (keyed asks) (key, c.args.asked.now.call) c.ask.new.self.log c.in_ok-ask-in-Some.field-0) c.in-Some.ensures
+    (c.in_ok-ask-in-Some.ensures.asked (keyed asks) after.log_is)
 
-pub returns-in-None : goal.returns-in-None
-returns-in-None c asks after = asks_past_requests asks c.args.running c.args.asked.now c.args.sequencer.now.log after c.in-None.ensures.0 c.in-None.ensures.1
+pub returns-in-None-clause-asked : goal.returns-in-None-clause-asked
+returns-in-None-clause-asked g c asks after =
+    asks_past_requests asks c.args.running c.args.asked.now c.args.primary.now.log after c.in-None.ensures.0 c.in-None.ensures.1

@@ -9,14 +9,15 @@ use Rattle.bank_server.proofs.asking.ask_all.Given as goal
 
 -- there are the asks so far: with those of what is left they are all, and the log and the standings are theirs
 abbrev pub invariant-loop-line : goal.invariant-loop-line
-invariant-loop-line l = (asks : List Asked) × record {
+invariant-loop-line g l = (asks : List Asked) × record {
   all : asks_from l.first_line asks (lines l.left) ≡ asks_from l.first_line [] (lines l.text);
-  after : IsAfter asks l.running l.sequencer.log;
-  standings : l.standings.items ≡ map (standing_of l.sequencer.log) (keyed asks);
+  after : IsAfter asks l.running l.primary.log;
+  standings : l.standings.items ≡ map (standing_of l.primary.log) (keyed asks);
   room : length asks + length l.left ≤ length l.text;
   count : length l.standings.items ≡ length asks;
+  node : l.primary.node ≡ l.fn.primary.node;
   few : l.running ≤ length asks + 1;
 }
 
 abbrev pub decreases-loop-line : goal.decreases-loop-line
-decreases-loop-line l = length l.left
+decreases-loop-line g l = length l.left

@@ -14,8 +14,8 @@ pub returns-in_err-submit-clause-fault : goal.returns-in_err-submit-clause-fault
 returns-in_err-submit-clause-fault g c =
     let p = err_from_is_err_and c.from_residual.result c.from_residual.ensures.1 in
     let kept = c.loop-number.invariant in
-    rw (p.1, p.2) (fault_behind (g.C.Crew.keeps c.args.crew.now) (g.C.Crew.keeps c.loop-number.crew) c.args.node.now.board c.loop-number.node.board
-    c.in_err-submit.field-0.0 kept.stays kept.none_out c.in_err-submit.ensures.fault)
+    rw (p.1, p.2) (fault_behind g.C.Crew.keeps c.args.node.now.board c.loop-number.node.board
+    c.in_err-submit.field-0.0 kept.none_out c.in_err-submit.ensures.fault)
 
 pub loop-number-preserved : goal.loop-number-preserved
 loop-number-preserved g c =
@@ -42,5 +42,4 @@ loop-number-preserved g c =
       opening = put.opening ∙ kept.opening;
       beside = c.submit.ensures.beside ∙ kept.beside;
       none_out = λ none. put.none_out (kept.none_out none);
-      stays = λ e. c.submit.ensures.stays (kept.stays e);
     }

@@ -12,5 +12,4 @@ invariant-loop-number g l = record {
   opening : l.node.board.opening ≡ l.fn.node.board.opening;
   beside : beside_of l.node ≡ beside_of l.fn.node;
   none_out : NoneOut l.fn.node.board → NoneOut l.node.board;
-  stays : g.C.Crew.keeps l.fn.crew ≡ false → g.C.Crew.keeps l.crew ≡ false;
 }

@@ -6,5 +6,5 @@ pub returns-in_err-submit-clause-fault : goal.returns-in_err-submit-clause-fault
 returns-in_err-submit-clause-fault g c =
     let p = err_from_is_err_and c.from_residual.result c.from_residual.ensures.1 in
     let kept = c.loop-op.invariant in
-    rw (p.1, p.2) (fault_behind (g.C.Crew.keeps c.args.crew.now) (g.C.Crew.keeps c.loop-op.crew) c.args.replica.now.board c.loop-op.replica.board
-    c.in_err-submit.field-0.0 kept.stays kept.none_out c.in_err-submit.ensures.fault)
+    rw (p.1, p.2) (fault_behind g.C.Crew.keeps c.args.replica.now.board c.loop-op.replica.board
+    c.in_err-submit.field-0.0 kept.none_out c.in_err-submit.ensures.fault)

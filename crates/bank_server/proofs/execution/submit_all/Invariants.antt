@@ -13,5 +13,4 @@ invariant-loop-op g l = record {
   count : length l.replica.board.log ≡ length l.fn.replica.board.log + l.op-index;
   none_out : NoneOut l.fn.replica.board → NoneOut l.replica.board;
   beside : beside_of l.replica ≡ beside_of l.fn.replica;
-  stays : g.C.Crew.keeps l.fn.crew ≡ false → g.C.Crew.keeps l.crew ≡ false;
 }

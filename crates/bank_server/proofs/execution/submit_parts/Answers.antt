@@ -24,12 +24,21 @@ loop-done-preserved g c =
       within = omega (arith, c.min.ensures, kept.within, c.loop-done-test.true);
       none_out = λ none. put.none_out (kept.none_out none);
       beside = c.submit_all.ensures.beside ∙ kept.beside;
-      stays = λ e. c.submit_all.ensures.stays (kept.stays e);
+      nodes = c.tell.ensures.nodes ∙ kept.nodes;
     }
 
 pub returns-in_err-submit_all-clause-fault : goal.returns-in_err-submit_all-clause-fault
 returns-in_err-submit_all-clause-fault g c =
     let p = err_from_is_err_and c.from_residual-in_err-submit_all.result c.from_residual-in_err-submit_all.ensures.1 in
     let kept = c.loop-done.invariant in
-    rw (p.1, p.2) (fault_behind (g.C.Crew.keeps c.args.crew.now) (g.C.Crew.keeps c.loop-done.crew) c.args.replica.now.board c.loop-done.replica.board
-    c.in_err-submit_all.field-0.0 kept.stays kept.none_out c.in_err-submit_all.ensures.fault)
+    rw (p.1, p.2) (fault_behind g.C.Crew.keeps c.args.replica.now.board c.loop-done.replica.board
+    c.in_err-submit_all.field-0.0 kept.none_out c.in_err-submit_all.ensures.fault)
+
+pub returns-in_err-tell-clause-nodes : goal.returns-in_err-tell-clause-nodes
+returns-in_err-tell-clause-nodes g c = c.tell.ensures.nodes ∙ c.loop-done.invariant.nodes
+
+pub returns-in_err-submit_all-clause-nodes : goal.returns-in_err-submit_all-clause-nodes
+returns-in_err-submit_all-clause-nodes g c = c.tell.ensures.nodes ∙ c.loop-done.invariant.nodes
+
+pub returns-clause-nodes : goal.returns-clause-nodes
+returns-clause-nodes g c = c.loop-done.invariant.nodes

@@ -13,7 +13,7 @@ invariant-loop-done g l = record {
   within : l.done ≤ length l.ops;
   none_out : NoneOut l.fn.replica.board → NoneOut l.replica.board;
   beside : beside_of l.replica ≡ beside_of l.fn.replica;
-  stays : g.C.Crew.keeps l.fn.crew ≡ false → g.C.Crew.keeps l.crew ≡ false;
+  nodes : l.followers.nodes ≡ l.fn.followers.nodes;
 }
 
 abbrev pub decreases-loop-done : goal.decreases-loop-done

@@ -32,7 +32,6 @@ loop-frame-preserved g c =
       going = ap (λ (s : StreamState). s.failed) step.stream ∙ handed.going;
       bank = keeps_on c.args.primary.now loop.primary c.deal_with.new.primary kept.bank step.bank;
       none_out = λ none. step.none_out (kept.none_out none);
-      stays = λ e. step.stays (kept.stays e);
     }
 
 pub returns-in_err-deal_with-in-Ok-Some-clause-stops : goal.returns-in_err-deal_with-in-Ok-Some-clause-stops
@@ -53,8 +52,8 @@ pub returns-in_err-deal_with-in-Ok-Some-clause-gone : goal.returns-in_err-deal_w
 returns-in_err-deal_with-in-Ok-Some-clause-gone g c =
     let p = err_from_is_err_and c.from_residual.result c.from_residual.ensures.1 in
     let kept = c.loop-frame.invariant in
-    rw (p.1, p.2) (loses_behind (g.C.Crew.keeps c.args.crew.now) (g.C.Crew.keeps c.loop-frame.crew) c.args.primary.now.node.board
-    c.loop-frame.primary.node.board c.in_err-deal_with-in-Ok-Some.field-0.0 kept.stays kept.none_out c.in_err-deal_with-in-Ok-Some.ensures.gone)
+    rw (p.1, p.2) (loses_behind g.C.Crew.keeps c.args.primary.now.node.board
+    c.loop-frame.primary.node.board c.in_err-deal_with-in-Ok-Some.field-0.0 kept.none_out c.in_err-deal_with-in-Ok-Some.ensures.gone)
 
 pub returns-in-Err-Bad-clause-stops : goal.returns-in-Err-Bad-clause-stops
 returns-in-Err-Bad-clause-stops g c =

@@ -13,7 +13,6 @@ invariant-loop-frame g l = record {
   going : l.hearing.stream.failed ≡ false;
   bank : KeepsBank l.fn.primary l.primary;
   none_out : NoneOut l.fn.primary.node.board → NoneOut l.primary.node.board;
-  stays : g.C.Crew.keeps l.fn.crew ≡ false → g.C.Crew.keeps l.crew ≡ false;
 }
 
 abbrev pub decreases-loop-frame : goal.decreases-loop-frame

@@ -17,6 +17,6 @@ returns-clause-none_out g c =
 
 pub returns-clause-gone : goal.returns-clause-gone
 returns-clause-gone g c =
-    if_err c.offer_rest.result (λ fault. loses_behind (g.C.Crew.keeps c.args.crew.now) (g.C.Crew.keeps c.deal_with_all.new.crew)
-    c.args.primary.now.node.board c.deal_with_all.new.primary.node.board fault c.in_ok-deal_with_all.ensures.stays
+    if_err c.offer_rest.result (λ fault. loses_behind g.C.Crew.keeps
+    c.args.primary.now.node.board c.deal_with_all.new.primary.node.board fault
     c.in_ok-deal_with_all.ensures.none_out) c.offer_rest.ensures.gone

@@ -55,7 +55,6 @@ loop-init g c =
           c.new-hearing.ensures.waiting (All-nil (λ (ask : Waiting). StandsAmong (length c.settle.new.self.log) ask.standing));
       bank = settled.bank;
       none_out = λ none. idle_none_out c.settle.new.self.node.board settled.all.idle;
-      stays = settled.stays;
     }
 
 pub returns-in-Ok-eq0-clause-served : goal.returns-in-Ok-eq0-clause-served
@@ -98,8 +97,8 @@ returns-in-Ok-eq0-clause-cut_short g c =
 pub returns-in-Ok-eq0-clause-gone : goal.returns-in-Ok-eq0-clause-gone
 returns-in-Ok-eq0-clause-gone g c =
     let kept = c.loop.invariant in
-    if_err c.end.result (λ fault. loses_behind (g.C.Crew.keeps c.args.crew.now) (g.C.Crew.keeps c.loop.crew) c.args.primary.now.node.board
-    c.loop.primary.node.board fault kept.stays kept.none_out) c.end.ensures.gone
+    if_err c.end.result (λ fault. loses_behind g.C.Crew.keeps c.args.primary.now.node.board
+    c.loop.primary.node.board fault kept.none_out) c.end.ensures.gone
 
 pub returns-in_err-hear-in-Ok-clause-cut_short : goal.returns-in_err-hear-in-Ok-clause-cut_short
 returns-in_err-hear-in-Ok-clause-cut_short g c =
@@ -124,8 +123,8 @@ pub returns-in_err-hear-in-Ok-clause-gone : goal.returns-in_err-hear-in-Ok-claus
 returns-in_err-hear-in-Ok-clause-gone g c =
     let p = err_from_is_err_and c.from_residual-in_err-hear-in-Ok.result c.from_residual-in_err-hear-in-Ok.ensures.1 in
     let kept = c.loop.invariant in
-    rw (p.1, p.2) (loses_behind (g.C.Crew.keeps c.args.crew.now) (g.C.Crew.keeps c.loop.crew) c.args.primary.now.node.board
-    c.loop.primary.node.board c.in_err-hear-in-Ok.field-0.0 kept.stays kept.none_out c.in_err-hear-in-Ok.ensures.gone)
+    rw (p.1, p.2) (loses_behind g.C.Crew.keeps c.args.primary.now.node.board
+    c.loop.primary.node.board c.in_err-hear-in-Ok.field-0.0 kept.none_out c.in_err-hear-in-Ok.ensures.gone)
 
 pub returns-then-ne-clause-cut_short : goal.returns-then-ne-clause-cut_short
 returns-then-ne-clause-cut_short g c =
@@ -165,7 +164,7 @@ loop-preserved g c =
           let hears : Hears (opening_of old) at (unread ++ chunk) new w.hear.new.hearing.stream.unread =
           subst (λ (rows : Rows). Hears rows at (unread ++ chunk) new w.hear.new.hearing.stream.unread) (same_opening old c.loop.primary kept.bank)
           heard.hears in
-          rw (w.writer-is, w.primary-is, w.crew-is, w.hearing-is) (record {
+          rw (w.writer-is, w.primary-is, w.hearing-is) (record {
             bytes = kept.bytes ++ chunk;
             read = consumes_more given before left kept.bytes chunk kept.read w.in-Ok.ensures.bytes.0;
             heard = heard_more (opening_of old) old.log start kept.bytes chunk at unread new w.hear.new.hearing.stream.unread kept.heard hears;
@@ -173,10 +172,9 @@ loop-preserved g c =
             among = heard.among;
             bank = keeps_on old c.loop.primary w.hear.new.primary kept.bank heard.bank;
             none_out = λ none. heard.none_out (kept.none_out none);
-            stays = λ e. heard.stays (kept.stays e);
           })
       | in-Err+else-ne w ↦
-          rw (w.writer-is, w.primary-is, w.crew-is, w.hearing-is) (record {
+          rw (w.writer-is, w.primary-is, w.hearing-is) (record {
             bytes = kept.bytes;
             read = consumes_kept given before left kept.bytes kept.read w.in-Err.ensures.bytes;
             heard = kept.heard;
@@ -184,6 +182,5 @@ loop-preserved g c =
             among = kept.among;
             bank = kept.bank;
             none_out = kept.none_out;
-            stays = kept.stays;
           })
     ]

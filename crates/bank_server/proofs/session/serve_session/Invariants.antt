@@ -18,5 +18,4 @@ invariant-loop g l = record {
   among : AreAmong (length l.primary.log) l.hearing.waiting.items;
   bank : KeepsBank l.fn.primary l.primary;
   none_out : NoneOut l.fn.primary.node.board → NoneOut l.primary.node.board;
-  stays : g.C.Crew.keeps l.fn.crew ≡ false → g.C.Crew.keeps l.crew ≡ false;
 }

@@ -1,0 +1,109 @@
+//! Who carries a log out beside node 0: its crew and its followers.
+ghost use Rattle.std.specs.Prelude.{◌≡◌, ℕ, ◌≤◌, ◌<◌, Bool, true, IfOk, IfErr};
+ghost use Rattle.std.specs.Fn.{FnOnceReturnsAtMut};
+ghost use Rattle.bank_server.specs.Faults.{IsNodesFault, IsWorkersFault};
+
+use crate::fault::RunFault;
+use crate::followers::{Followers, with_followers};
+use crate::ready_followers::ReadyFollowers;
+use cown_workers::{BenchCrew, Crew, Gate, InlineCrew, with_crew};
+use std::alloc::Global;
+use std::sync::Wait;
+use std::thread::Threads;
+use std::time::Clock;
+
+/// What is done with node 0's crew, whichever it is, beside its followers.
+pub trait Duty {
+    /// What it comes to.
+    type Answer: Drop;
+
+    /// What has to hold before.
+    ghost ready: { Self → Type 0 };
+
+    /// What holds then, of so many nodes, by a crew that may keep a job or not.
+    ghost does: { Self → ℕ → Bool → Self.Answer → Type 0 };
+
+    /// Does it.
+    fn carry_out<R, C>(self, rt: &R, followers: &mut Followers<'_, R>, crew: &mut C) -> Self::Answer
+    where
+        R: Threads + Wait + Clock,
+        C: Crew,
+        requires { ready self }
+        ensures { does self followers.old.nodes C.keeps result };
+}
+
+/// Starts the followers, hires so many workers for node 0, and has this done. Without workers node 0 works alone. Once
+/// it is done, all threads have ended.
+///
+/// Fails, and does nothing, with
+/// - [`RunFault::Strayed`] where a follower can't be started,
+/// - [`RunFault::CrewGone`] where a worker can't be started,
+/// - [`RunFault::OutOfMemory`] where memory is refused.
+pub fn with_team<H, G, D>(
+    rt: &H,
+    alloc: Global,
+    followers: ReadyFollowers,
+    workers: usize,
+    gate: &G,
+    duty: D,
+) -> Result<D::Answer, RunFault>
+where
+    H: Threads + Wait + Clock + Sync,
+    G: Gate + Sync,
+    D: Duty + Drop,
+    requires nodes { followers ≤ 8 }
+    requires workers { workers ≤ 16 }
+    requires ready { D.ready duty }
+    // A crew that may keep a job has workers.
+    ensures answer { IfOk result (λ answer. (keeps : Bool) × ((keeps ≡ true → 0 < workers)
+        × D.does duty followers keeps answer)) }
+    ensures fault { IfErr result (IsNodesFault followers workers) }
+{
+    with_followers(
+        rt,
+        alloc,
+        followers,
+        move |followers: &mut Followers<'_, H>| -> Result<D::Answer, RunFault>
+            requires workers { workers ≤ 16 }
+            requires ready { D.ready duty }
+            ensures answer { IfOk result (λ answer. (keeps : Bool) × ((keeps ≡ true → 0 < workers)
+                × D.does duty followers.old.nodes keeps answer)) }
+            ensures fault { IfErr result (IsWorkersFault workers) }
+        { by_workers(rt, alloc, followers, workers, gate, duty) },
+    )?
+}
+
+// Has this done beside these followers, by so many workers.
+fn by_workers<H, G, D>(
+    rt: &H,
+    alloc: Global,
+    followers: &mut Followers<'_, H>,
+    workers: usize,
+    gate: &G,
+    duty: D,
+) -> Result<D::Answer, RunFault>
+where
+    H: Threads + Wait + Clock + Sync,
+    G: Gate + Sync,
+    D: Duty + Drop,
+    requires workers { workers ≤ 16 }
+    requires ready { D.ready duty }
+    ensures answer { IfOk result (λ answer. (keeps : Bool) × ((keeps ≡ true → 0 < workers)
+        × D.does duty followers.old.nodes keeps answer)) }
+    ensures fault { IfErr result (IsWorkersFault workers) }
+{
+    if workers == 0 {
+        return Ok(duty.carry_out(rt, followers, &mut InlineCrew));
+    }
+    let answer = with_crew(
+        rt,
+        alloc,
+        workers,
+        gate,
+        move |crew: &mut BenchCrew<'_, H, G>| -> D::Answer
+            requires ready { D.ready duty }
+            ensures { D.does duty followers.entry.now.nodes true result }
+        { duty.carry_out(rt, followers, crew) },
+    )?;
+    Ok(answer)
+}

@@ -1,0 +1,78 @@
+//! A whole log, carried out once.
+ghost use Rattle.std.specs.Prelude.{◌≤◌, IfOk, IfErr};
+ghost use Rattle.bank_server.specs.Execution.{IsOpened};
+ghost use Rattle.bank_server.specs.Faults.{IsNodesFault, IsTeamFault};
+ghost use Rattle.bank_server.specs.Primary.{RunsLog};
+
+use crate::fault::RunFault;
+use crate::followers::Followers;
+use crate::primary::Primary;
+use crate::ready_followers::ReadyFollowers;
+use crate::team::{Duty, with_team};
+use cown_workers::{Crew, Gate};
+use sb_checkpoint::CheckpointStore;
+use sb_replica::Replica;
+use std::alloc::Global;
+use std::sync::Wait;
+use std::thread::Threads;
+use std::time::Clock;
+
+// Carrying out the log of a node 0 that has nothing of it yet, and comparing it with the followers.
+#[derive(Drop)]
+struct WholeLog<S: CheckpointStore> {
+    primary: Primary<S>,
+}
+
+impl<S: CheckpointStore> Duty for WholeLog<S> {
+    type Answer = Result<Box<Replica<S>>, RunFault>;
+
+    ghost ready = { λ duty. IsOpened duty.primary.node.board };
+
+    ghost does = { λ duty nodes keeps answer. IfOk answer (λ node. RunsLog duty.primary node.value)
+        × IfErr answer (IsTeamFault nodes keeps) };
+
+    fn carry_out<R, C>(
+        self,
+        rt: &R,
+        followers: &mut Followers<'_, R>,
+        crew: &mut C,
+    ) -> Result<Box<Replica<S>>, RunFault>
+    where
+        R: Threads + Wait + Clock,
+        C: Crew,
+    {
+        let node = self.primary.finish(crew, followers)?;
+        followers.compare(rt, &node)?;
+        Ok(node)
+    }
+}
+
+/// Has node 0 carry out the whole log, of which it has nothing yet, by so many workers, and its followers the log
+/// itself, each in a thread of its own, and gives it back once the followers came to the same.
+///
+/// Fails with
+/// - [`RunFault::Strayed`] where a follower can't be started, or differs from node 0, as where it began with another
+///   opening,
+/// - [`RunFault::CrewGone`] where a worker can't be started, or the workers left something unfinished,
+/// - [`RunFault::OutOfMemory`] where memory is refused.
+pub fn carry_out_log<H, S, G>(
+    rt: &H,
+    alloc: Global,
+    primary: Primary<S>,
+    followers: ReadyFollowers,
+    workers: usize,
+    gate: &G,
+) -> Result<Box<Replica<S>>, RunFault>
+where
+    H: Threads + Wait + Clock + Sync,
+    S: CheckpointStore,
+    G: Gate + Sync,
+    requires nodes { followers ≤ 8 }
+    requires workers { workers ≤ 16 }
+    requires opened { IsOpened primary.node.board }
+    // It began as this node 0, carried out the ops of the log, and that is as if its calls had run one by one.
+    ensures run { IfOk result (λ node. RunsLog primary node.value) }
+    ensures fault { IfErr result (IsNodesFault followers workers) }
+{
+    with_team(rt, alloc, followers, workers, gate, WholeLog { primary })?
+}

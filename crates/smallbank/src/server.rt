@@ -1,0 +1,171 @@
+//! Who serves a bank's clients.
+ghost use Rattle.std.specs.Prelude.{◌≡◌, [], IfErr, IfOk, MatchOption, OnOk};
+ghost use Rattle.bank_server.specs.Primary.{HasAll};
+ghost use Rattle.sb_sequencer.specs.Numbering.{IsLog};
+ghost use Rattle.smallbank.specs.Kept.{IsLeft};
+ghost use Rattle.smallbank.specs.ServeFaults.{IsKeepFault, IsKeepRunFault, IsServingFault};
+ghost use Rattle.smallbank.specs.Served.{GoesOn, ServesAll, ServesAsPlanned, ServesNext};
+
+use crate::client::serve_client;
+use crate::door::Door;
+use crate::keeping::keep;
+use crate::printing::{print_port, print_rows, print_session};
+use crate::serve_fault::ServeFault;
+use crate::serving::{Plan, Served};
+use bank_server::{Duty, Followers, Primary, RunFault, SessionFault};
+use cown_workers::Crew;
+use sb_checkpoint::CheckpointStore;
+use std::alloc::Global;
+use std::io::{Read, Write};
+use std::net::OpenStream;
+use std::sync::Wait;
+use std::thread::Threads;
+use std::time::Clock;
+
+/// A bank, where its clients come in, and where it is printed.
+#[derive(Drop)]
+pub(crate) struct Server<D, S: CheckpointStore, W> {
+    pub(crate) alloc: Global,
+    pub(crate) plan: Plan,
+    pub(crate) door: D,
+    pub(crate) primary: Primary<S>,
+    pub(crate) writer: W,
+}
+
+impl<D, S, W> Duty for Server<D, S, W>
+where
+    D: Door + Drop,
+    D::Stream: Read + Write + OpenStream,
+    S: CheckpointStore,
+    W: Write + Drop,
+{
+    type Answer = Result<Served<S, W>, ServeFault>;
+
+    ghost ready = { λ server. HasAll server.primary × (server.primary.log ≡ []) };
+
+    ghost does = { λ server nodes keeps answer. IfOk answer (λ bank. ServesAsPlanned D.Stream.remaining S.slot S.IsHonest
+        server.plan (D.coming server.door) server.primary bank.primary (W.contents server.writer) (W.contents bank.writer))
+        × IfErr answer (IsServingFault nodes server.plan.saves) };
+
+    // Serves the bank, and prints all that is printed of it.
+    fn carry_out<R, C>(
+        self,
+        rt: &R,
+        followers: &mut Followers<'_, R>,
+        crew: &mut C,
+    ) -> Result<Served<S, W>, ServeFault>
+    where
+        R: Threads + Wait + Clock,
+        C: Crew,
+    {
+        let mut server = self;
+        server.serve_whole(rt, followers, crew)?;
+        Ok(Served {
+            primary: server.primary,
+            writer: server.writer,
+        })
+    }
+}
+
+impl<D, S, W> Server<D, S, W>
+where
+    D: Door,
+    D::Stream: Read + Write + OpenStream,
+    S: CheckpointStore,
+    W: Write,
+{
+    // Serves the bank, and prints all that is printed of it.
+    fn serve_whole<R, C>(
+        &mut self,
+        rt: &R,
+        followers: &mut Followers<'_, R>,
+        crew: &mut C,
+    ) -> Result<(), ServeFault>
+    where
+        R: Threads + Wait + Clock,
+        C: Crew,
+        requires all { HasAll self.old.primary }
+        requires none { self.old.primary.log ≡ [] }
+        ensures served { OnOk result (ServesAsPlanned D.Stream.remaining S.slot S.IsHonest self.old.plan
+            (D.coming self.old.door) self.old.primary self.new.primary
+            (W.contents self.old.writer) (W.contents self.new.writer)) }
+        ensures fault { IfErr result (IsServingFault followers.old.nodes self.old.plan.saves) }
+    {
+        print_port(self.alloc, &self.door, &mut self.writer)?;
+        self.serve_all(rt, followers, crew)?;
+        followers.compare(rt, self.primary.node())?;
+        print_rows(self.alloc, &self.primary, &mut self.writer)?;
+        Ok(())
+    }
+
+    // Serves the clients, one after the other.
+    fn serve_all<R, C>(
+        &mut self,
+        rt: &R,
+        followers: &mut Followers<'_, R>,
+        crew: &mut C,
+    ) -> Result<(), ServeFault>
+    where
+        R: Wait + Clock,
+        C: Crew,
+        requires one_each { IsLog self.old.primary.log }
+        requires all { HasAll self.old.primary }
+        ensures served { OnOk result (ServesAll D.Stream.remaining self.old.plan.sessions
+            (D.coming self.old.door) (D.coming self.new.door) self.old.primary.log self.new.primary.log
+            (W.contents self.old.writer) (W.contents self.new.writer)) }
+        ensures left { OnOk result (IsLeft S.slot S.IsHonest self.old.plan.saves self.old.plan.sessions
+            self.old.primary self.new.primary) }
+        ensures nodes { followers.new.nodes ≡ followers.old.nodes }
+        ensures plan { self.new.plan ≡ self.old.plan }
+        ensures fault { IfErr result (IsKeepFault self.old.plan.saves) }
+    {
+        for before in 0..self.plan.sessions {
+            self.serve_next(before + 1, rt, followers, crew)?;
+        }
+        Ok(())
+    }
+
+    // Serves the next client, and prints how that ended.
+    fn serve_next<R, C>(
+        &mut self,
+        number: usize,
+        rt: &R,
+        followers: &mut Followers<'_, R>,
+        crew: &mut C,
+    ) -> Result<(), ServeFault>
+    where
+        R: Wait + Clock,
+        C: Crew,
+        requires one_each { IsLog self.old.primary.log }
+        ensures served { OnOk result (ServesNext D.Stream.remaining number
+            (D.coming self.old.door) (D.coming self.new.door) self.old.primary.log self.new.primary.log
+            (W.contents self.old.writer) (W.contents self.new.writer)) }
+        ensures left { OnOk result (IsLeft S.slot S.IsHonest self.old.plan.saves 1
+            self.old.primary self.new.primary) }
+        ensures nodes { followers.new.nodes ≡ followers.old.nodes }
+        ensures plan { self.new.plan ≡ self.old.plan }
+        ensures fault { IfErr result (IsKeepFault self.old.plan.saves) }
+    {
+        let stream = self.door.let_in()?;
+        let (alloc, patience) = (self.alloc, self.plan.patience);
+        let served = serve_client(rt, alloc, patience, stream, &mut self.primary, crew);
+        if let Some(fault) = ending(served) {
+            print_session(alloc, number, served, &mut self.writer)?;
+            return Err(ServeFault::Run(fault));
+        }
+        keep(&mut self.primary, followers, self.plan.saves, crew)?;
+        print_session(alloc, number, served, &mut self.writer)
+    }
+}
+
+// How the program ends after such a session, if it does.
+fn ending(served: Result<(), SessionFault>) -> Option<RunFault>
+    ensures { MatchOption result (GoesOn served) IsKeepRunFault }
+{
+    match served {
+        Err(SessionFault::CrewGone) => Some(RunFault::CrewGone),
+        Err(SessionFault::OutOfMemory) => Some(RunFault::OutOfMemory),
+        Ok(()) | Err(SessionFault::Frame(_) | SessionFault::Unexpected | SessionFault::Device) =>
+            None,
+    }
+}
