@@ -59,12 +59,7 @@ enters node n false false false full = enters_next node n full
 delivers : (node : NodeOf) (sent : Option Frame) → (frame_comes node sent).0.outbound ≡ node.outbound
 delivers node (Some (frame.Entry n call)) =
     enters node n (nat_le n (length_in node)) (nat_lt (length_in node + 64) n) (nat_lt (suc (length_in node)) n) (undone_in node == 1024)
-delivers node (Some (frame.Ask client request call)) = refl
-delivers node (Some (frame.Ack replica size)) = refl
-delivers node (Some (frame.Answer n reply)) = refl
-delivers node (Some (frame.Outcome client request outcome)) = refl
-delivers node (Some frame.Flush) = refl
-delivers node None = refl
+delivers node other = refl
 
 takes_next : (node : NodeOf) (held : Option Bool) → (next_taken node held).0.outbound ≡ node.outbound
 takes_next node (Some true) = enters_next node (suc (length_in node)) (undone_in node == 1024)
@@ -171,11 +166,7 @@ records_told : (world : WorldOf) (r place : ℕ) (node : NodeOf) (heard : Option
     → numbered node.outbound place ≡ heard → RecordsWereTold (told world r heard).0
 records_told world r place node (Some (frame.Ack replica size)) were here is = records_length world r place node replica size were here is
 records_told world r place node (Some (frame.Answer n reply)) were here is = records_kept world n reply (kept_at world.sequencer n) were
-records_told world r place node (Some (frame.Ask client request call)) were here is = were
-records_told world r place node (Some (frame.Entry n call)) were here is = were
-records_told world r place node (Some (frame.Outcome client request outcome)) were here is = were
-records_told world r place node (Some frame.Flush) were here is = were
-records_told world r place node None were here is = were
+records_told world r place node other were here is = were
 
 records_heard : (world : WorldOf) (r place : ℕ) (found : Option NodeOf) → RecordsWereTold world → slice_get world.nodes r ≡ found
     → RecordsWereTold (heard_from world r place found).0

@@ -318,6 +318,8 @@ goes_back bank r old new size is restarts =
     let held : new.held ≡ empty_held = ap (λ x. x.held) restarts.stays in
     let length_is : size ≡ length made.replies =
     let e = restarts.length_is ∙ ap length_of board in omega (arith, e) in
+    let stages : copies (kept_in old.replica.store.slot) IsDone ≡ stages_of new.board =
+    ap (λ n. copies n IsDone) kept ∙ sym (append_nothing (copies (length made.replies) IsDone)) ∙ ap stages_of (sym board) in
     record {
       along = node_stored bank r old new is
           (record {
@@ -328,19 +330,10 @@ goes_back bank r old new size is restarts =
           (subst (IsBoardAlong (held_of bank.opening) (ops_of bank)) (sym board) (along_opened (held_of bank.opening) (ops_of bank) made is.kept.along))
           (none_along (ops_of bank) (length_of new.board) new.held held)
           (subst (IsKeptAlong bank) (sym slot) is.kept);
-      as_moved =
-          ap (λ n. (record (seen_node old) { stages = copies n IsDone; cut = None; held = none_held }, note.Restarted n)) kept
-          ∙ ap (λ s. (record (seen_node old) { stages = s; cut = None; held = none_held }, note.Restarted (length made.replies)))
-          (sym (append_nothing (copies (length made.replies) IsDone)))
-          ∙ ap (λ b. (record (seen_node old) { stages = stages_of b; cut = b.cut; held = none_held }, note.Restarted (length made.replies))) (sym board)
-          ∙ ap (λ h. (record (seen_node old) { stages = stages_of new.board; cut = new.board.cut; held = h }, note.Restarted (length made.replies)))
-          (sym (none_seen new.held held))
-          ∙ ap (λ s. (
-            record (seen_node old) { stages = stages_of new.board; kept = kept_in s; cut = new.board.cut; held = map is_some new.held },
-            note.Restarted (length made.replies),
-          ))
-          (sym slot)
-          ∙ ap (λ n. (seen_node (record old { replica = new }), note.Restarted n)) (sym length_is);
+      as_moved = λ j. (
+        record (seen_node old) { stages = stages j; kept = kept_in (sym slot j); cut = sym (ap (λ b. b.cut) board) j; held = sym (none_seen new.held held) j },
+        note.Restarted ((kept ∙ sym length_is) j),
+      );
     }
 
 -- what is kept is never refused

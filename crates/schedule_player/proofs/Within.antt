@@ -62,11 +62,7 @@ wider size more node le is = record {
   where
     fits_wider : (sent : Frame) → Fits size sent → Fits more sent
     fits_wider (frame.Entry n call) fits = omega (arith, fits, le)
-    fits_wider (frame.Ask client request call) fits = tt
-    fits_wider (frame.Ack replica length) fits = tt
-    fits_wider (frame.Answer n reply) fits = tt
-    fits_wider (frame.Outcome client request outcome) fits = tt
-    fits_wider frame.Flush fits = tt
+    fits_wider other fits = tt
 
 module _ (size : ℕ) where
   -- as many entries as before
@@ -119,12 +115,7 @@ module _ (size : ℕ) where
   comes node (Some (frame.Entry n call)) fits is =
       enters node n (nat_le n (length_in node)) (nat_lt (length_in node + 64) n) (nat_lt (suc (length_in node)) n) (undone_in node == 1024)
       (fits (frame.Entry n call) refl) (leb-false n (length_in node)) (ltb-true (suc (length_in node)) n) is
-  comes node (Some (frame.Ask client request call)) fits is = is
-  comes node (Some (frame.Ack replica length)) fits is = is
-  comes node (Some (frame.Answer n reply)) fits is = is
-  comes node (Some (frame.Outcome client request outcome)) fits is = is
-  comes node (Some frame.Flush) fits is = is
-  comes node None fits is = is
+  comes node other fits is = is
 
   delivers : (node : NodeOf) (place : ℕ) → IsWithin size node → IsWithin size (delivered_to node place).0
   delivers node place is =
@@ -278,11 +269,7 @@ within_kept world n reply None all = all
 within_told : (world : WorldOf) (r : ℕ) (heard : Option Frame) → AllWithin world → AllWithin (told world r heard).0
 within_told world r (Some (frame.Ack replica size)) all = all
 within_told world r (Some (frame.Answer n reply)) all = within_kept world n reply (kept_at world.sequencer n) all
-within_told world r (Some (frame.Ask client request call)) all = all
-within_told world r (Some (frame.Entry n call)) all = all
-within_told world r (Some (frame.Outcome client request outcome)) all = all
-within_told world r (Some frame.Flush) all = all
-within_told world r None all = all
+within_told world r other all = all
 
 within_heard : (world : WorldOf) (r place : ℕ) (found : Option NodeOf) → AllWithin world → AllWithin (heard_from world r place found).0
 within_heard world r place (Some node) all = within_told world r (numbered node.outbound place) all
