@@ -1,34 +1,33 @@
 -- What each event keeps, a list of events keeps.
-use Rattle.std.proofs.Common.{◌≡◌, List, [], ◌∷◌, sym, subst}
+use Rattle.std.proofs.Common.{ℕ, Option, Some, None, List, [], ◌∷◌, sym, subst}
+use Rattle.std.specs.Prelude.{slice_get}
 use Rattle.sb_calls.specs.declared.ask.Key.{Key}
 use Rattle.sb_calls.specs.declared.call.Call.{Call}
 use Rattle.schedule_player.specs.Played.{Plays}
-use Rattle.schedule_player.specs.World.{WorldOf, Asks, Moves, moved}
+use Rattle.schedule_player.specs.ReplicaEvents.{replica_of, node_move}
+use Rattle.schedule_player.specs.World.{WorldOf, Asks, Moves, bank_of, moved, replica_move, moved_at, heard_from}
 use Rattle.schedule_text.specs.declared.event.Event.{Event}
 use Rattle.schedule_text.specs.declared.event.Event.TheVariants as event
 use Rattle.schedule_text.specs.declared.note.Note.{Note}
 
-module _ (P : WorldOf → Type 0) (moves_keep : (world : WorldOf) (happens : Event) → P world → P (moved world happens).0)
+module _ (P : WorldOf → Type 0)
+    (node_keeps : (world : WorldOf) (happens : Event) (r : ℕ) → P world
+    → P (moved_at world r (λ node. node_move (bank_of world) world.sequencer node happens)).0)
+    (heard_keeps : (world : WorldOf) (r place : ℕ) → P world → P (heard_from world r place (slice_get world.nodes r)).0)
     (asks_keep : (old : WorldOf) (ask : Key × Call) (n : Note) (new : WorldOf) → Asks old ask n new → P old → P new) where
-  by_moved : (old : WorldOf) (happens : Event) (n : Note) (new : WorldOf) → moved old happens ≡ (new, n) → P old → P new
-  by_moved old happens n new e holds = subst (λ m. P m.0) e (moves_keep old happens holds)
+  replica_keeps : (world : WorldOf) (happens : Event) (r : Option ℕ) → P world → P (replica_move world happens r).0
+  replica_keeps world happens (Some r) holds = node_keeps world happens r holds
+  replica_keeps world happens None holds = holds
+
+  moves_keep : (world : WorldOf) (happens : Event) → P world → P (moved world happens).0
+  moves_keep world (event.From r place) holds = heard_keeps world r place holds
+  moves_keep world (event.Audit a b) holds = holds
+  moves_keep world other holds = replica_keeps world other (replica_of other) holds
 
   one_keeps : (old : WorldOf) (happens : Event) (n : Note) (new : WorldOf) → Moves old happens n new → P old → P new
   one_keeps old (event.Ask client request call) n new moves holds =
       asks_keep old (record { client = client; request = request }, call) n new moves holds
-  one_keeps old (event.Send r k) n new moves holds = by_moved old (event.Send r k) n new moves holds
-  one_keeps old (event.Resend r) n new moves holds = by_moved old (event.Resend r) n new moves holds
-  one_keeps old (event.To r place) n new moves holds = by_moved old (event.To r place) n new moves holds
-  one_keeps old (event.Ack r) n new moves holds = by_moved old (event.Ack r) n new moves holds
-  one_keeps old (event.Answer r k) n new moves holds = by_moved old (event.Answer r k) n new moves holds
-  one_keeps old (event.From r place) n new moves holds = by_moved old (event.From r place) n new moves holds
-  one_keeps old (event.Take r worker index) n new moves holds = by_moved old (event.Take r worker index) n new moves holds
-  one_keeps old (event.Finish r worker) n new moves holds = by_moved old (event.Finish r worker) n new moves holds
-  one_keeps old (event.Mark r end) n new moves holds = by_moved old (event.Mark r end) n new moves holds
-  one_keeps old (event.Restart r) n new moves holds = by_moved old (event.Restart r) n new moves holds
-  one_keeps old (event.Cut r) n new moves holds = by_moved old (event.Cut r) n new moves holds
-  one_keeps old (event.Next r) n new moves holds = by_moved old (event.Next r) n new moves holds
-  one_keeps old (event.Audit a b) n new moves holds = by_moved old (event.Audit a b) n new moves holds
+  one_keeps old other n new moves holds = subst (λ m. P m.0) moves (moves_keep old other holds)
 
   pub all_keep : (old : WorldOf) (events : List Event) (notes : List Note) (new : WorldOf) → Plays old events notes new → P old → P new
   all_keep old [] [] new plays holds = subst P (sym plays) holds

@@ -1,22 +1,25 @@
 -- One replica of a world moves.
-use Rattle.std.proofs.Common.{◌≡◌, ◌≢◌, inl, inr, ℕ, ◌<◌, Option, Some, None, Result, Ok, Err, List, length, map, refl, sym, ap, subst, ◌∙◌, arith}
-use Rattle.std.specs.Prelude.{slice_get, slice_set, option_map, IfOk, OnErr, MatchResult}
+use Rattle.std.proofs.Common.{◌≡◌, inl, inr, ℕ, ◌<◌, Some, None, Result, Ok, Err, List, length, map, sym, ap, subst, ◌∙◌, arith}
+use Rattle.std.specs.Prelude.{slice_get, slice_set, option_map, IfOk, OnErr}
 use Rattle.std.proofs.lemmas.Bool.{cases_eq}
 use Rattle.std.proofs.lemmas.List.{length-set}
 use Rattle.std.proofs.lemmas.Option.{slice_get-map, slice_get_within}
 use Rattle.cown_board.proofs.States.{slice_get-set_same, slice_get-set_other}
 use Rattle.sb_rows.specs.Balances.{Balances}
 use Rattle.sb_sequencer.specs.Sequencer.{SequencerOf}
-use Rattle.schedule_player.specs.NodeAlong.{seen_node, IsNodeAt, IsAsBefore, Arrives}
+use Rattle.schedule_player.specs.NodeAlong.{seen_node, IsNodeAt, Arrives, Steps}
+use Rattle.schedule_player.specs.ReplicaEvents.{replica_of, node_move}
 use Rattle.schedule_player.specs.ReplicaMoves.{NodeOf}
-use Rattle.schedule_player.specs.World.{WorldOf, bank_with, placed, moved_if, moved_at}
+use Rattle.schedule_player.specs.World.{WorldOf, MayWantMemory, bank_with, moved_if, moved_at}
 use Rattle.schedule_player.specs.WorldAlong.{IsWorld}
 use Rattle.schedule_player.specs.declared.fault.StepFault.{StepFault}
 use Rattle.schedule_player.specs.declared.node.Node.{Node}
+use Rattle.schedule_text.specs.declared.event.Event.{Event}
 use Rattle.schedule_text.specs.declared.note.Note.{Note}
 use Rattle.schedule_text.specs.declared.note.Note.TheVariants as note
-use Rattle.schedule_player.proofs.Lists.{some_is, none_some, set_here}
+use Rattle.schedule_player.proofs.Lists.{some_is, set_here}
 use Rattle.schedule_player.proofs.Stages.{set-map}
+use Rattle.schedule_player.proofs.Working.{wants}
 
 abbrev pub world_of : List (List ℕ) → Balances → SequencerOf → List Node → WorldOf
 world_of names opening s nodes = record { names = names; opening = opening; sequencer = s; nodes = map seen_node nodes }
@@ -70,55 +73,32 @@ module _ (names : List (List ℕ)) (opening : Balances) (s : SequencerOf) (nodes
     pub err : OnErr result (world_of names opening s (slice_set nodes r new) ≡ world_of names opening s nodes)
 
   pub steps : (r : ℕ) (old new : Node) (move : NodeOf → NodeOf × Note) (result : Result Note StepFault) → IsWorld names opening s nodes
-      → slice_get nodes r ≡ Some old
-      → MatchResult result (λ n. Arrives (bank_with names opening s.log) r new n (move (seen_node old)))
-      (λ fault. IsAsBefore (bank_with names opening s.log) r old new)
+      → slice_get nodes r ≡ Some old → Steps (bank_with names opening s.log) r old new result (move (seen_node old))
       → Stepped r new move result
   steps r old new move (Ok n) is here arrives = record {
     is = world_with r new is arrives.along;
     moves = moves_node r old new n move here arrives;
     err = tt;
   }
-  steps r old new move (Err fault) is here before = record {
-    is = world_with r new is before.along;
+  steps r old new move (Err fault) is here failed = record {
+    is = world_with r new is failed.0.along;
     moves = tt;
     err =
         ap (λ ns. record (world_of names opening s nodes) { nodes = ns })
-        (set-map seen_node nodes r new ∙ ap (slice_set (map seen_node nodes) r) before.seen
+        (set-map seen_node nodes r new ∙ ap (slice_set (map seen_node nodes) r) failed.0.seen
         ∙ set_here (map seen_node nodes) r (seen_node old) (node_seen r old here));
   }
 
-  -- one that changes nothing at all where it fails
-  pub steps_wholly : (r : ℕ) (old new : Node) (move : NodeOf → NodeOf × Note) (result : Result Note StepFault) → IsWorld names opening s nodes
-      → slice_get nodes r ≡ Some old
-      → IfOk result (λ n. Arrives (bank_with names opening s.log) r new n (move (seen_node old))) → OnErr result (new ≡ old)
-      → Stepped r new move result
-  steps_wholly r old new move (Ok n) is here arrives same = steps r old new move (Ok n) is here arrives
-  steps_wholly r old new move (Err fault) is here arrives same =
-      steps r old new move (Err fault) is here
-      (record { along = subst (IsNodeAt (bank_with names opening s.log) r) (sym same) (is.each r old here); seen = ap seen_node same })
-
-  -- a replica that stays as it is
-  pub stays_node : (r : ℕ) (move : NodeOf → NodeOf × Note) → ((node : NodeOf) → move node ≡ (node, note.Nothing))
-      → moved_at (world_of names opening s nodes) r move ≡ (world_of names opening s nodes, note.Nothing)
-  stays_node r move nothing = by (slice_get (map seen_node nodes) r) refl
-    where
-      by : (found : Option NodeOf) → slice_get (map seen_node nodes) r ≡ found
-          → moved_at (world_of names opening s nodes) r move ≡ (world_of names opening s nodes, note.Nothing)
-      by None none = ap (moved_if (world_of names opening s nodes) r move) none
-      by (Some node) here =
-          ap (moved_if (world_of names opening s nodes) r move) here
-          ∙ ap (placed (world_of names opening s nodes) r) (nothing node)
-          ∙ ap (λ ns. (record (world_of names opening s nodes) { nodes = ns }, note.Nothing)) (set_here (map seen_node nodes) r node here)
+  -- and it failed only where its note may take memory
+  pub steps_wanted : (r : ℕ) (old new : Node) (happens : Event) (result : Result Note StepFault) → slice_get nodes r ≡ Some old
+      → replica_of happens ≡ Some r
+      → Steps (bank_with names opening s.log) r old new result (node_move (bank_with names opening s.log) s (seen_node old) happens)
+      → OnErr result (MayWantMemory (world_of names opening s nodes) happens)
+  steps_wanted r old new happens (Ok n) here at arrives = tt
+  steps_wanted r old new happens (Err fault) here at failed =
+      wants (world_of names opening s nodes) happens r (seen_node old) at (node_seen r old here) failed.1
 
 -- what holds anyway holds where it failed
 pub on_err : {A P : Type 0} (result : Result A StepFault) → P → OnErr result P
 on_err (Ok x) p = tt
 on_err (Err fault) p = p
-
-pub err_so : {P Q : Type 0} (result : Result Note StepFault) → (P → Q) → OnErr result P → OnErr result Q
-err_so (Ok n) f p = tt
-err_so (Err fault) f p = f p
-
-pub is_there : {A : Type 0} (x : Option A) (y : A) → x ≡ Some y → x ≢ None
-is_there x y e none = none_some (sym none ∙ e)

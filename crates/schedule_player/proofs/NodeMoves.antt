@@ -12,7 +12,7 @@ use Rattle.sb_checkpoint.specs.MemoryStore.{MemoryStoreOf}
 use Rattle.sb_replica.specs.Replica.{ReplicaOf, BesideOf, beside_of}
 use Rattle.schedule_player.specs.Along.{IsBoardAlong, AreHeldAlong}
 use Rattle.schedule_player.specs.Bank.{BankOf}
-use Rattle.schedule_player.specs.NodeAlong.{number_in, seen_node, IsEntryOf, IsToldBy, IsKeptAlong, IsHandAlong, IsNodeAt, Arrives}
+use Rattle.schedule_player.specs.NodeAlong.{number_in, seen_node, IsEntryOf, IsToldBy, IsKeptAlong, IsHandAlong, IsNodeAt, IsAsBefore, Arrives}
 use Rattle.schedule_player.specs.Numbered.{numbered, with_numbered, Every}
 use Rattle.schedule_player.specs.Readiness.{runnable}
 use Rattle.schedule_player.specs.ReplicaMoves.{NodeOf, goes_out, reaches_out, taken}
@@ -80,6 +80,10 @@ node_stays bank r old new moved n is same e = record {
   along = subst (IsNodeAt bank r) (sym same) is;
   as_moved = e ∙ ap (λ node. (seen_node node, n)) (sym same);
 }
+
+-- nothing changed where memory was refused
+pub node_fails : {P : Type 0} (bank : BankOf) (r : ℕ) (old new : Node) → IsNodeAt bank r old → new ≡ old → P → IsAsBefore bank r old new × P
+node_fails bank r old new is same wants = (record { along = subst (IsNodeAt bank r) (sym same) is; seen = ap seen_node same }, wants)
 
 -- ---- taking
 

@@ -3,14 +3,12 @@ use Rattle.std.proofs.Common.{◌≡◌, true, ℕ, Option, Some, None, Result, 
 use Rattle.std.specs.Prelude.{slice_get, IfOk, OnErr}
 use Rattle.std.specs.List.{cons_option, filter_map}
 use Rattle.std.proofs.lemmas.List.{length-set}
-use Rattle.sb_rows.specs.Balances.{Balances}
 use Rattle.sb_calls.specs.declared.ask.Key.{Key}
 use Rattle.sb_calls.specs.declared.call.Call.{Call}
 use Rattle.sb_calls.specs.declared.reply.Reply.{Reply}
 use Rattle.sb_frames.specs.declared.frame.Frame.{Frame}
 use Rattle.sb_frames.specs.declared.frame.Frame.TheVariants as frame
 use Rattle.sb_sequencer.proofs.Logs.{log_after-empty, log_with-answered}
-use Rattle.sb_sequencer.specs.Entries.{entry_of, resent}
 use Rattle.sb_sequencer.specs.Log.{log_with, log_after}
 use Rattle.sb_sequencer.specs.Notes.{kept_at}
 use Rattle.sb_sequencer.specs.declared.answer.AskFault.TheVariants.{Mismatch, LogFull}
@@ -18,9 +16,11 @@ use Rattle.sb_sequencer.specs.declared.answer.Numbered.TheVariants.{New, Repeat}
 use Rattle.schedule_player.specs.Comes.{may_come}
 use Rattle.schedule_player.specs.Numbered.{numbered}
 use Rattle.schedule_player.specs.declared.fault.StepFault.{StepFault}
-use Rattle.schedule_player.specs.Played.{Plays, ask_in, log_of, bank_after, IsPlayed}
-use Rattle.schedule_player.specs.ReplicaMoves.{NodeOf, sent, sent_all, delivered_to, advanced, acknowledged, answered, taken, finished_by, cut_off, marked, restarted}
-use Rattle.schedule_player.specs.World.{WorldOf, Asks, Moves, bank_of, moved, moved_if, moved_at, keeps, told, heard_from, opened_world}
+use Rattle.schedule_player.specs.Played.{Plays, ask_in, log_of, bank_after, IsPlayed, with_events}
+use Rattle.schedule_player.specs.ReplicaEvents.{replica_of, node_move}
+use Rattle.schedule_player.specs.ReplicaMoves.{NodeOf}
+use Rattle.schedule_player.specs.World.{WorldOf, Asks, Moves, bank_of, moved, replica_move, moved_if, moved_at, keeps, told, heard_from, opened_world}
+use Rattle.schedule_text.specs.ScheduleText.{ScheduleOf}
 use Rattle.schedule_text.specs.declared.event.Event.{Event}
 use Rattle.schedule_text.specs.declared.event.Event.TheVariants as event
 use Rattle.schedule_text.specs.declared.note.Note.{Note}
@@ -52,31 +52,20 @@ leaves_kept world n reply None = record { names = refl; opening = refl; log_is =
 leaves_told : (world : WorldOf) (r : ℕ) (sent : Option Frame) → Leaves world (told world r sent).0 world.sequencer.log
 leaves_told world r (Some (frame.Ack replica size)) = record { names = refl; opening = refl; log_is = refl; count = refl }
 leaves_told world r (Some (frame.Answer n reply)) = leaves_kept world n reply (kept_at world.sequencer n)
-leaves_told world r (Some (frame.Ask client request call)) = record { names = refl; opening = refl; log_is = refl; count = refl }
-leaves_told world r (Some (frame.Entry n call)) = record { names = refl; opening = refl; log_is = refl; count = refl }
-leaves_told world r (Some (frame.Outcome client request outcome)) = record { names = refl; opening = refl; log_is = refl; count = refl }
-leaves_told world r (Some frame.Flush) = record { names = refl; opening = refl; log_is = refl; count = refl }
-leaves_told world r None = record { names = refl; opening = refl; log_is = refl; count = refl }
+leaves_told world r other = record { names = refl; opening = refl; log_is = refl; count = refl }
 
 leaves_heard : (world : WorldOf) (r place : ℕ) (found : Option NodeOf) → Leaves world (heard_from world r place found).0 world.sequencer.log
 leaves_heard world r place (Some node) = leaves_told world r (numbered node.outbound place)
 leaves_heard world r place None = record { names = refl; opening = refl; log_is = refl; count = refl }
 
+leaves_by : (world : WorldOf) (happens : Event) (r : Option ℕ) → Leaves world (replica_move world happens r).0 world.sequencer.log
+leaves_by world happens (Some r) = leaves_at world r (λ node. node_move (bank_of world) world.sequencer node happens)
+leaves_by world happens None = record { names = refl; opening = refl; log_is = refl; count = refl }
+
 leaves_moved : (world : WorldOf) (happens : Event) → Leaves world (moved world happens).0 world.sequencer.log
-leaves_moved world (event.Ask client request call) = record { names = refl; opening = refl; log_is = refl; count = refl }
-leaves_moved world (event.Send r n) = leaves_at world r (λ node. sent node (entry_of world.sequencer.log n))
-leaves_moved world (event.Resend r) = leaves_at world r (λ node. sent_all node (resent world.sequencer r))
-leaves_moved world (event.To r place) = leaves_at world r (λ node. delivered_to node place)
-leaves_moved world (event.Ack r) = leaves_at world r (λ node. acknowledged node r)
-leaves_moved world (event.Answer r n) = leaves_at world r (λ node. answered (bank_of world) node n)
 leaves_moved world (event.From r place) = leaves_heard world r place (slice_get world.nodes r)
-leaves_moved world (event.Take r worker index) = leaves_at world r (λ node. taken (bank_of world) node worker index)
-leaves_moved world (event.Finish r worker) = leaves_at world r (λ node. finished_by (bank_of world) node worker)
-leaves_moved world (event.Mark r end) = leaves_at world r (λ node. marked node end)
-leaves_moved world (event.Restart r) = leaves_at world r (λ node. restarted node)
-leaves_moved world (event.Cut r) = leaves_at world r (λ node. cut_off node)
-leaves_moved world (event.Next r) = leaves_at world r (λ node. advanced node)
 leaves_moved world (event.Audit a b) = record { names = refl; opening = refl; log_is = refl; count = refl }
+leaves_moved world other = leaves_by world other (replica_of other)
 
 leaves_so : (old : WorldOf) (happens : Event) (n : Note) (new : WorldOf) → moved old happens ≡ (new, n) → Leaves old new old.sequencer.log
 leaves_so old happens n new e = subst (λ m. Leaves old m.0 old.sequencer.log) e (leaves_moved old happens)
@@ -120,19 +109,7 @@ with_ask log (Some ask) = log_with log ask
 leaves_one : (old : WorldOf) (happens : Event) (n : Note) (new : WorldOf) → Moves old happens n new
     → Leaves old new (with_ask old.sequencer.log (ask_in happens))
 leaves_one old (event.Ask client request call) n new moves = leaves_asked old (record { client = client; request = request }, call) n new moves
-leaves_one old (event.Send r k) n new moves = leaves_so old (event.Send r k) n new moves
-leaves_one old (event.Resend r) n new moves = leaves_so old (event.Resend r) n new moves
-leaves_one old (event.To r place) n new moves = leaves_so old (event.To r place) n new moves
-leaves_one old (event.Ack r) n new moves = leaves_so old (event.Ack r) n new moves
-leaves_one old (event.Answer r k) n new moves = leaves_so old (event.Answer r k) n new moves
-leaves_one old (event.From r place) n new moves = leaves_so old (event.From r place) n new moves
-leaves_one old (event.Take r worker index) n new moves = leaves_so old (event.Take r worker index) n new moves
-leaves_one old (event.Finish r worker) n new moves = leaves_so old (event.Finish r worker) n new moves
-leaves_one old (event.Mark r end) n new moves = leaves_so old (event.Mark r end) n new moves
-leaves_one old (event.Restart r) n new moves = leaves_so old (event.Restart r) n new moves
-leaves_one old (event.Cut r) n new moves = leaves_so old (event.Cut r) n new moves
-leaves_one old (event.Next r) n new moves = leaves_so old (event.Next r) n new moves
-leaves_one old (event.Audit a b) n new moves = leaves_so old (event.Audit a b) n new moves
+leaves_one old other n new moves = leaves_so old other n new moves
 
 -- ---- many events
 
@@ -163,18 +140,15 @@ leaves_all old (happens ∷ events) (n ∷ notes) new plays =
     }
 
 -- whatever happened since an opening, the log is the first asks
-pub played_log : (names : List (List ℕ)) (opening : Balances) (nodes workers : ℕ) (events : List Event) (world : WorldOf)
-    → IsPlayed names opening nodes workers events world → world.sequencer.log ≡ log_of events
-played_log names opening nodes workers events world played =
-    let all = leaves_all (opened_world names opening nodes workers) events played.notes world played.plays in
-    all.log_is ∙ log_after-empty (filter_map ask_in events)
+pub played_log : (schedule : ScheduleOf) (world : WorldOf) → IsPlayed schedule world → world.sequencer.log ≡ log_of schedule.events
+played_log schedule world played =
+    (leaves_all (opened_world schedule) schedule.events played.notes world played.plays).log_is ∙ log_after-empty (filter_map ask_in schedule.events)
 
 -- and the bank is the one of these events
-pub played_bank : (names : List (List ℕ)) (opening : Balances) (nodes workers : ℕ) (events : List Event) (world : WorldOf)
-    → IsPlayed names opening nodes workers events world → bank_of world ≡ bank_after names opening events
-played_bank names opening nodes workers events world played =
-    let all = leaves_all (opened_world names opening nodes workers) events played.notes world played.plays in
-    let log = all.log_is ∙ log_after-empty (filter_map ask_in events) in
+pub played_bank : (schedule : ScheduleOf) (world : WorldOf) → IsPlayed schedule world → bank_of world ≡ bank_after schedule
+played_bank schedule world played =
+    let all = leaves_all (opened_world schedule) schedule.events played.notes world played.plays in
+    let log = played_log schedule world played in
     λ j. record { names = all.names j; opening = all.opening j; calls = map (λ entry. entry.1) (log j) }
 
 -- ---- one event more
@@ -187,12 +161,11 @@ plays_more old (first ∷ events) [] middle happens n new plays moves = absurd p
 plays_more old (first ∷ events) (m ∷ notes) middle happens n new plays moves =
     (plays.0, plays.1, plays_more plays.0 events notes middle happens n new plays.2 moves)
 
-pub played_more : (names : List (List ℕ)) (opening : Balances) (nodes workers : ℕ) (events : List Event) (old : WorldOf) (happens : Event) (n : Note)
-    (new : WorldOf) → IsPlayed names opening nodes workers events old → Moves old happens n new
-    → IsPlayed names opening nodes workers (events ++ happens ∷ []) new
-played_more names opening nodes workers events old happens n new played moves = record {
+pub played_more : (schedule : ScheduleOf) (old : WorldOf) (happens : Event) (n : Note) (new : WorldOf) → IsPlayed schedule old → Moves old happens n new
+    → IsPlayed (with_events schedule (happens ∷ [])) new
+played_more schedule old happens n new played moves = record {
   notes = played.notes ++ n ∷ [];
-  plays = plays_more (opened_world names opening nodes workers) events played.notes old happens n new played.plays moves;
+  plays = plays_more (opened_world schedule) schedule.events played.notes old happens n new played.plays moves;
 }
 
 -- events and then events
@@ -204,21 +177,18 @@ plays_on old (first ∷ events) [] middle more later new plays goes = absurd pla
 plays_on old (first ∷ events) (m ∷ notes) middle more later new plays goes =
     (plays.0, plays.1, plays_on plays.0 events notes middle more later new plays.2 goes)
 
-pub played_on : (names : List (List ℕ)) (opening : Balances) (nodes workers : ℕ) (events : List Event) (old : WorldOf) (more : List Event)
-    (later : List Note) (new : WorldOf) → IsPlayed names opening nodes workers events old → Plays old more later new
-    → IsPlayed names opening nodes workers (events ++ more) new
-played_on names opening nodes workers events old more later new played goes = record {
+pub played_on : (schedule : ScheduleOf) (old : WorldOf) (more : List Event) (later : List Note) (new : WorldOf) → IsPlayed schedule old
+    → Plays old more later new → IsPlayed (with_events schedule more) new
+played_on schedule old more later new played goes = record {
   notes = played.notes ++ later;
-  plays = plays_on (opened_world names opening nodes workers) events played.notes old more later new played.plays goes;
+  plays = plays_on (opened_world schedule) schedule.events played.notes old more later new played.plays goes;
 }
 
 -- a step adds its event
-pub played_if : (names : List (List ℕ)) (opening : Balances) (nodes workers : ℕ) (events : List Event) (old : WorldOf) (happens : Event)
-    (result : Result Note StepFault) (new : WorldOf) → IsPlayed names opening nodes workers events old
-    → IfOk result (λ n. Moves old happens n new) → IfOk result (λ n. IsPlayed names opening nodes workers (events ++ happens ∷ []) new)
-played_if names opening nodes workers events old happens (Ok n) new played moves =
-    played_more names opening nodes workers events old happens n new played moves
-played_if names opening nodes workers events old happens (Err fault) new played moves = tt
+pub played_if : (schedule : ScheduleOf) (old : WorldOf) (happens : Event) (result : Result Note StepFault) (new : WorldOf) → IsPlayed schedule old
+    → IfOk result (λ n. Moves old happens n new) → IfOk result (λ n. IsPlayed (with_events schedule (happens ∷ [])) new)
+played_if schedule old happens (Ok n) new played moves = played_more schedule old happens n new played moves
+played_if schedule old happens (Err fault) new played moves = tt
 
 pub comes_if : (old : WorldOf) (happens : Event) (result : Result Note StepFault) (new : WorldOf) → IfOk result (λ n. Moves old happens n new)
     → IfOk result (λ n. may_come n ≡ true)

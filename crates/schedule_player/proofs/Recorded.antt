@@ -13,17 +13,19 @@ use Rattle.sb_checkpoint.specs.declared.memory_store.How.{How}
 use Rattle.sb_checkpoint.specs.declared.memory_store.How.TheVariants as how
 use Rattle.sb_frames.specs.declared.frame.Frame.{Frame}
 use Rattle.sb_frames.specs.declared.frame.Frame.TheVariants as frame
-use Rattle.sb_rows.specs.Balances.{Balances}
 use Rattle.sb_sequencer.specs.Entries.{entry_of, resent}
 use Rattle.sb_sequencer.specs.Notes.{kept_at}
+use Rattle.sb_sequencer.specs.Sequencer.{SequencerOf}
 use Rattle.schedule_player.specs.Bank.{BankOf}
 use Rattle.schedule_player.specs.Numbered.{numbered}
 use Rattle.schedule_player.specs.Played.{IsPlayed}
 use Rattle.schedule_player.specs.Readiness.{runnable}
-use Rattle.schedule_player.specs.ReplicaMoves.{NodeOf, length_in, undone_in, told_reply, answered, reply_in_node, sent, sent_all, frame_comes, delivered_to, next_taken, advanced, goes_out, reaches_out, taken, emptied, comes_back, gives_back, finished_by, cut_after, cut_off, undone_up_to, marked_to, marked, restarted, acknowledged}
+use Rattle.schedule_player.specs.ReplicaEvents.{node_move}
+use Rattle.schedule_player.specs.ReplicaMoves.{NodeOf, length_in, undone_in, told_reply, reply_in_node, sent, sent_all, frame_comes, delivered_to, next_taken, advanced, goes_out, reaches_out, taken, emptied, comes_back, gives_back, finished_by, cut_after, cut_off, undone_up_to, marked_to, marked, restarted}
 use Rattle.schedule_player.specs.Stage.{Stage, Waits, IsOut, IsDone}
 use Rattle.schedule_player.specs.TrueToLog.{IsTold, RecordsWereTold}
-use Rattle.schedule_player.specs.World.{WorldOf, Asks, bank_of, moved, moved_if, moved_at, keeps, told, heard_from, opened_world}
+use Rattle.schedule_player.specs.World.{WorldOf, Asks, bank_of, moved_if, moved_at, keeps, told, heard_from, opened_world}
+use Rattle.schedule_text.specs.ScheduleText.{ScheduleOf}
 use Rattle.schedule_text.specs.declared.event.Event.{Event}
 use Rattle.schedule_text.specs.declared.event.Event.TheVariants as event
 use Rattle.schedule_text.specs.declared.note.Note.{Note}
@@ -57,12 +59,7 @@ enters node n false false false full = enters_next node n full
 delivers : (node : NodeOf) (sent : Option Frame) → (frame_comes node sent).0.outbound ≡ node.outbound
 delivers node (Some (frame.Entry n call)) =
     enters node n (nat_le n (length_in node)) (nat_lt (length_in node + 64) n) (nat_lt (suc (length_in node)) n) (undone_in node == 1024)
-delivers node (Some (frame.Ask client request call)) = refl
-delivers node (Some (frame.Ack replica size)) = refl
-delivers node (Some (frame.Answer n reply)) = refl
-delivers node (Some (frame.Outcome client request outcome)) = refl
-delivers node (Some frame.Flush) = refl
-delivers node None = refl
+delivers node other = refl
 
 takes_next : (node : NodeOf) (held : Option Bool) → (next_taken node held).0.outbound ≡ node.outbound
 takes_next node (Some true) = enters_next node (suc (length_in node)) (undone_in node == 1024)
@@ -169,47 +166,36 @@ records_told : (world : WorldOf) (r place : ℕ) (node : NodeOf) (heard : Option
     → numbered node.outbound place ≡ heard → RecordsWereTold (told world r heard).0
 records_told world r place node (Some (frame.Ack replica size)) were here is = records_length world r place node replica size were here is
 records_told world r place node (Some (frame.Answer n reply)) were here is = records_kept world n reply (kept_at world.sequencer n) were
-records_told world r place node (Some (frame.Ask client request call)) were here is = were
-records_told world r place node (Some (frame.Entry n call)) were here is = were
-records_told world r place node (Some (frame.Outcome client request outcome)) were here is = were
-records_told world r place node (Some frame.Flush) were here is = were
-records_told world r place node None were here is = were
+records_told world r place node other were here is = were
 
 records_heard : (world : WorldOf) (r place : ℕ) (found : Option NodeOf) → RecordsWereTold world → slice_get world.nodes r ≡ found
     → RecordsWereTold (heard_from world r place found).0
 records_heard world r place (Some node) were here = records_told world r place node (numbered node.outbound place) were here refl
 records_heard world r place None were here = were
 
-records_moved : (world : WorldOf) (happens : Event) → RecordsWereTold world → RecordsWereTold (moved world happens).0
-records_moved world (event.Ask client request call) were = were
-records_moved world (event.Send r n) were =
-    records_at world r (λ node. sent node (entry_of world.sequencer.log n)) (λ node. sends node (entry_of world.sequencer.log n)) were
-records_moved world (event.Resend r) were =
-    records_at world r (λ node. sent_all node (resent world.sequencer r))
-    (λ node. same node (sent_all node (resent world.sequencer r)).0 refl) were
-records_moved world (event.To r place) were =
-    records_at world r (λ node. delivered_to node place)
-    (λ node. same node (delivered_to node place).0 (delivers node (numbered node.inbound place))) were
-records_moved world (event.Ack r) were =
-    records_at world r (λ node. acknowledged node r) (λ node. (frame.Ack r (length_in node) ∷ [], refl)) were
-records_moved world (event.Answer r n) were =
-    records_at world r (λ node. answered (bank_of world) node n) (λ node. replies node n (reply_in_node (bank_of world) node n)) were
-records_moved world (event.From r place) were = records_heard world r place (slice_get world.nodes r) were refl
-records_moved world (event.Take r worker index) were =
-    records_at world r (λ node. taken (bank_of world) node worker index)
-    (λ node. same node (taken (bank_of world) node worker index).0 (reaches (bank_of world) node worker index (numbered node.hands worker))) were
-records_moved world (event.Finish r worker) were =
-    records_at world r (λ node. finished_by (bank_of world) node worker)
-    (λ node. same node (finished_by (bank_of world) node worker).0 (gives (bank_of world) node worker (numbered node.hands worker))) were
-records_moved world (event.Mark r end) were =
-    records_at world r (λ node. marked node end) (λ node. same node (marked node end).0 (marks node end node.cut)) were
-records_moved world (event.Restart r) were =
-    records_at world r (λ node. restarted node) (λ node. same node (restarted node).0 refl) were
-records_moved world (event.Cut r) were =
-    records_at world r (λ node. cut_off node) (λ node. same node (cut_off node).0 (cuts node node.cut)) were
-records_moved world (event.Next r) were =
-    records_at world r (λ node. advanced node) (λ node. same node (advanced node).0 (takes_next node (slice_get node.held 0))) were
-records_moved world (event.Audit a b) were = were
+tells_node : (bank : BankOf) (s : SequencerOf) (node : NodeOf) (happens : Event) → Tells node (node_move bank s node happens).0
+tells_node bank s node (event.Send r n) = sends node (entry_of s.log n)
+tells_node bank s node (event.Resend r) = same node (sent_all node (resent s r)).0 refl
+tells_node bank s node (event.To r place) = same node (delivered_to node place).0 (delivers node (numbered node.inbound place))
+tells_node bank s node (event.Ack r) = (frame.Ack r (length_in node) ∷ [], refl)
+tells_node bank s node (event.Answer r n) = replies node n (reply_in_node bank node n)
+tells_node bank s node (event.Take r worker index) =
+    same node (taken bank node worker index).0 (reaches bank node worker index (numbered node.hands worker))
+tells_node bank s node (event.Finish r worker) = same node (finished_by bank node worker).0 (gives bank node worker (numbered node.hands worker))
+tells_node bank s node (event.Mark r end) = same node (marked node end).0 (marks node end node.cut)
+tells_node bank s node (event.Restart r) = same node (restarted node).0 refl
+tells_node bank s node (event.Cut r) = same node (cut_off node).0 (cuts node node.cut)
+tells_node bank s node (event.Next r) = same node (advanced node).0 (takes_next node (slice_get node.held 0))
+tells_node bank s node other = same node node refl
+
+records_node : (world : WorldOf) (happens : Event) (r : ℕ) → RecordsWereTold world
+    → RecordsWereTold (moved_at world r (λ node. node_move (bank_of world) world.sequencer node happens)).0
+records_node world happens r were =
+    records_at world r (λ node. node_move (bank_of world) world.sequencer node happens)
+    (λ node. tells_node (bank_of world) world.sequencer node happens) were
+
+records_from : (world : WorldOf) (r place : ℕ) → RecordsWereTold world → RecordsWereTold (heard_from world r place (slice_get world.nodes r)).0
+records_from world r place were = records_heard world r place (slice_get world.nodes r) were refl
 
 -- an ask records nothing
 records_asked : (old : WorldOf) (ask : Key × Call) (n : Note) (new : WorldOf) → Asks old ask n new → RecordsWereTold old → RecordsWereTold new
@@ -224,8 +210,7 @@ zero_at zero k size here = absurd (none_some here)
 zero_at (suc n) zero size here = sym (some_is here)
 zero_at (suc n) (suc k) size here = zero_at n k size here
 
-pub records_played : (names : List (List ℕ)) (opening : Balances) (nodes workers : ℕ) (events : List Event) (world : WorldOf)
-    → IsPlayed names opening nodes workers events world → RecordsWereTold world
-records_played names opening nodes workers events world played =
-    all_keep RecordsWereTold records_moved records_asked (opened_world names opening nodes workers) events played.notes world played.plays
-    (λ r node size there recorded. inl (zero_at nodes r size recorded))
+pub records_played : (schedule : ScheduleOf) (world : WorldOf) → IsPlayed schedule world → RecordsWereTold world
+records_played schedule world played =
+    all_keep RecordsWereTold records_node records_from records_asked (opened_world schedule) schedule.events played.notes world played.plays
+    (λ r node size there recorded. inl (zero_at schedule.nodes r size recorded))

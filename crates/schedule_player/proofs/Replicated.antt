@@ -1,12 +1,11 @@
 -- What a world is beside its events.
-use Rattle.std.proofs.Common.{◌≡◌, ◌⊎◌, inl, inr, ℕ, zero, suc, ◌<◌, ◌≤◌, get_or, Option, Some, None, List, length, sym, ap, subst, ◌∙◌, arith, refl}
+use Rattle.std.proofs.Common.{◌≡◌, ◌⊎◌, inl, inr, ℕ, zero, suc, ◌<◌, ◌≤◌, get_or, Option, Some, None, length, sym, ap, subst, ◌∙◌, arith, refl}
 use Rattle.std.specs.Prelude.{slice_get, option_and_then, option_map}
 use Rattle.std.proofs.lemmas.Option.{slice_get_cases, slice_get_within}
 use Rattle.sb_calls.specs.Log.{rows_after_calls}
 use Rattle.sb_calls.specs.Procedures.{procedure}
 use Rattle.sb_calls.specs.declared.call.Call.{Call}
 use Rattle.sb_calls.specs.declared.reply.Reply.{Reply}
-use Rattle.sb_rows.specs.Balances.{Balances}
 use Rattle.schedule_player.specs.Bank.{BankOf, opening_rows, log_reply}
 use Rattle.schedule_player.specs.Headline.{IsReplicated}
 use Rattle.schedule_player.specs.Numbered.{numbered}
@@ -15,7 +14,7 @@ use Rattle.schedule_player.specs.Played.{IsPlayed, log_of}
 use Rattle.schedule_player.specs.ReplicaMoves.{NodeOf, length_in, reply_held, reply_in_node}
 use Rattle.schedule_player.specs.Stage.{IsDone}
 use Rattle.schedule_player.specs.World.{WorldOf, bank_of}
-use Rattle.schedule_text.specs.declared.event.Event.{Event}
+use Rattle.schedule_text.specs.ScheduleText.{ScheduleOf}
 use Rattle.schedule_player.proofs.Lists.{some_is, none_some}
 use Rattle.schedule_player.proofs.Observed.{held_is_logged}
 use Rattle.schedule_player.proofs.Playing.{played_bank, played_log}
@@ -35,16 +34,15 @@ replied_in bank k lt = by (slice_get_cases bank.calls k).1
     )
     by (inr past) = absurd (omega (arith, lt, past.0))
 
-module _ (names : List (List ℕ)) (opening : Balances) (nodes workers : ℕ) (events : List Event) (world : WorldOf)
-    (played : IsPlayed names opening nodes workers events world) where
-  within_length : (r size : ℕ) → length_at world r ≡ Some size → size ≤ length (log_of events)
+module _ (schedule : ScheduleOf) (world : WorldOf) (played : IsPlayed schedule world) where
+  within_length : (r size : ℕ) → length_at world r ≡ Some size → size ≤ length (log_of schedule.events)
   within_length r size here = by (slice_get world.nodes r) refl here
     where
-      by : (found : Option NodeOf) → slice_get world.nodes r ≡ found → option_map length_in found ≡ Some size → size ≤ length (log_of events)
+      by : (found : Option NodeOf) → slice_get world.nodes r ≡ found → option_map length_in found ≡ Some size → size ≤ length (log_of schedule.events)
       by None none e = absurd (none_some e)
       by (Some node) at e =
-          let log = ap length (played_log names opening nodes workers events world played) in
-          let within = played_within names opening nodes workers events world played r node at in
+          let log = ap length (played_log schedule world played) in
+          let within = played_within schedule world played r node at in
           let same = some_is e in
           omega (arith, log, within, same)
 
@@ -59,17 +57,17 @@ module _ (names : List (List ℕ)) (opening : Balances) (nodes workers : ℕ) (e
   replied_done : (r number : ℕ) (node : NodeOf) → slice_get world.nodes r ≡ Some node → numbered node.stages number ≡ Some IsDone
       → (reply : Reply) × (reply_at world r number ≡ Some reply)
   replied_done r number node here done =
-      let within = played_within names opening nodes workers events world played r node here in
+      let within = played_within schedule world played r node here in
       let held = done_number node number within done in
       (held.0, ap (option_and_then (λ one. reply_in_node (bank_of world) one number)) here ∙ ap (reply_held (bank_of world) number) done ∙ held.1)
 
-  pub replicates : IsReplicated names opening events world
+  pub replicates : IsReplicated schedule world
   replicates = record {
-    log = played_log names opening nodes workers events world played;
+    log = played_log schedule world played;
     agree = λ a b number one other at_a at_b.
         some_is (sym (held_is_logged world a number one at_a) ∙ held_is_logged world b number other at_b);
     by_log = λ r number reply at.
-        subst (λ bank. log_reply bank number ≡ Some reply) (played_bank names opening nodes workers events world played)
+        subst (λ bank. log_reply bank number ≡ Some reply) (played_bank schedule world played)
         (held_is_logged world r number reply at);
     replied = replied_done;
     within = within_length;

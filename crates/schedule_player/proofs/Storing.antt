@@ -1,5 +1,5 @@
 -- A replica puts its checkpoint, and goes back to it.
-use Rattle.std.proofs.Common.{◌≡◌, inl, inr, true, ℕ, ℤ, Option, Some, None, Result, Ok, Err, List, [], ◌∷◌, length, map, refl, sym, ap, subst, ◌∙◌, arith}
+use Rattle.std.proofs.Common.{◌≡◌, ◌⊎◌, inl, inr, true, ℕ, ℤ, Option, Some, None, Result, Ok, Err, List, [], ◌∷◌, length, map, refl, sym, ap, subst, ◌∙◌, arith}
 use Rattle.std.specs.Prelude.{◌≢◌, is_some, if◌then◌else◌}
 use Rattle.std.proofs.lemmas.Bool.{eq-eqb, ne_eqb}
 use Rattle.cown_board.proofs.PlacesLaws.{append_nothing}
@@ -15,14 +15,14 @@ use Rattle.sb_checkpoint.proofs.Spelled.{read_back, one_checkpoint, spelled_is_t
 use Rattle.sb_checkpoint.specs.Checkpoint.{CheckpointOf}
 use Rattle.sb_checkpoint.specs.MemoryStore.{MemoryStoreOf, MemoryActs}
 use Rattle.sb_checkpoint.specs.Reading.{stated_length, first_fault}
-use Rattle.sb_checkpoint.specs.Stores.{StoreStep, StoreDoes, Put}
+use Rattle.sb_checkpoint.specs.Stores.{StoreStep, StoreDoes, Put, Got, NotGot}
 use Rattle.sb_checkpoint.specs.declared.fault.CheckpointFault.{CheckpointFault}
 use Rattle.sb_checkpoint.specs.declared.memory_store.How.{How}
 use Rattle.sb_checkpoint.specs.declared.store.StoreFault.{StoreFault}
 use Rattle.sb_checkpoint.specs.declared.store.StoreFault.TheVariants as store
 use Rattle.sb_replica.specs.Marking.{Puts, IsMarkFaultOf, up_to_cut}
 use Rattle.sb_replica.specs.Replica.{ReplicaOf, replies_held}
-use Rattle.sb_replica.specs.Restarting.{IsStoredAs, Restarts, IsRestartFaultOf, of_store_fault}
+use Rattle.sb_replica.specs.Restarting.{IsStoredAs, Restarts, IsRestartFaultOf, IsRefusalOf, of_store_fault}
 use Rattle.sb_replica.specs.declared.fault.MarkFault.TheVariants as fault
 use Rattle.sb_replica.specs.declared.fault.RestartFault.{RestartFault}
 use Rattle.sb_replica.specs.declared.fault.RestartFault.TheVariants as restart
@@ -30,7 +30,7 @@ use Rattle.sb_replica.proofs.IdleReplies.{length_held}
 use Rattle.sb_replica_log.specs.Log.{none_held as empty_held}
 use Rattle.schedule_player.specs.Along.{IsBoardAlong, AreHeldAlong}
 use Rattle.schedule_player.specs.Bank.{BankOf}
-use Rattle.schedule_player.specs.NodeAlong.{seen_node, IsKeptAlong, IsNodeAt, Arrives}
+use Rattle.schedule_player.specs.NodeAlong.{seen_node, IsKeptAlong, IsNodeAt, IsAsBefore, Arrives}
 use Rattle.schedule_player.specs.Numbered.{copies}
 use Rattle.schedule_player.specs.ReplicaMoves.{NodeOf, none_held, cut_after, cut_off, put_ends, marked, restarted}
 use Rattle.schedule_player.specs.Seen.{stages_of, kept_in, ops_of}
@@ -264,11 +264,28 @@ marks_busy bank r old end new is (busy, same) =
     (busy_marks bank r old end is busy ∙ ap (λ x. (record (seen_node old) { cut = x.board.cut }, note.Unfinished)) (sym same))
 
 -- memory is wanted only for a checkpoint that is put
-pub wants_marked : (bank : BankOf) (r : ℕ) (old : Node) (end : How) (new : ReplicaOf MemoryStoreOf) → IsNodeAt bank r old
+wants_marked : (bank : BankOf) (r : ℕ) (old : Node) (end : How) (new : ReplicaOf MemoryStoreOf) → IsNodeAt bank r old
     → IsMarkFaultOf Does (told_of old.replica end) fault.OutOfMemory new → may_take_memory (marked (seen_node old) end).1 ≡ true
 wants_marked bank r old end new is refused =
     ap (λ moved. may_take_memory moved.1) (idle_marks bank r old end is refused.0)
     ∙ puts (seen_node old) (length_of (up_to_cut old.replica.board)) end
+
+-- where memory was refused nothing that the machine sees changed
+pub mark_refused : (bank : BankOf) (r : ℕ) (old : Node) (end : How) (new : ReplicaOf MemoryStoreOf) → IsNodeAt bank r old
+    → IsMarkFaultOf Does (told_of old.replica end) fault.OutOfMemory new
+    → IsAsBefore bank r old (record old { replica = new }) × (may_take_memory (marked (seen_node old) end).1 ≡ true)
+mark_refused bank r old end new is refused = (by refused.1, wants_marked bank r old end new is refused)
+  where
+    told : IsNodeAt bank r (record old { replica = told_of old.replica end })
+    told = node_stored bank r old (told_of old.replica end) is (record { id = refl; names = refl; opening = refl }) is.board is.held is.kept
+
+    stays : new ≡ told_of old.replica end → IsAsBefore bank r old (record old { replica = new })
+    stays e = subst (λ x. IsAsBefore bank r old (record old { replica = x })) (sym e) (record { along = told; seen = refl })
+
+    by : ((new ≡ told_of old.replica end) ⊎ Puts Does (told_of old.replica end) (Err store.OutOfMemory) new)
+        → IsAsBefore bank r old (record old { replica = new })
+    by (inl e) = stays e
+    by (inr puts) = stays (puts.stays ∙ ap (λ s. record (told_of old.replica end) { store = s }) puts.put.as_told)
 
 -- ---- going back
 
@@ -301,6 +318,8 @@ goes_back bank r old new size is restarts =
     let held : new.held ≡ empty_held = ap (λ x. x.held) restarts.stays in
     let length_is : size ≡ length made.replies =
     let e = restarts.length_is ∙ ap length_of board in omega (arith, e) in
+    let stages : copies (kept_in old.replica.store.slot) IsDone ≡ stages_of new.board =
+    ap (λ n. copies n IsDone) kept ∙ sym (append_nothing (copies (length made.replies) IsDone)) ∙ ap stages_of (sym board) in
     record {
       along = node_stored bank r old new is
           (record {
@@ -311,19 +330,10 @@ goes_back bank r old new size is restarts =
           (subst (IsBoardAlong (held_of bank.opening) (ops_of bank)) (sym board) (along_opened (held_of bank.opening) (ops_of bank) made is.kept.along))
           (none_along (ops_of bank) (length_of new.board) new.held held)
           (subst (IsKeptAlong bank) (sym slot) is.kept);
-      as_moved =
-          ap (λ n. (record (seen_node old) { stages = copies n IsDone; cut = None; held = none_held }, note.Restarted n)) kept
-          ∙ ap (λ s. (record (seen_node old) { stages = s; cut = None; held = none_held }, note.Restarted (length made.replies)))
-          (sym (append_nothing (copies (length made.replies) IsDone)))
-          ∙ ap (λ b. (record (seen_node old) { stages = stages_of b; cut = b.cut; held = none_held }, note.Restarted (length made.replies))) (sym board)
-          ∙ ap (λ h. (record (seen_node old) { stages = stages_of new.board; cut = new.board.cut; held = h }, note.Restarted (length made.replies)))
-          (sym (none_seen new.held held))
-          ∙ ap (λ s. (
-            record (seen_node old) { stages = stages_of new.board; kept = kept_in s; cut = new.board.cut; held = map is_some new.held },
-            note.Restarted (length made.replies),
-          ))
-          (sym slot)
-          ∙ ap (λ n. (seen_node (record old { replica = new }), note.Restarted n)) (sym length_is);
+      as_moved = λ j. (
+        record (seen_node old) { stages = stages j; kept = kept_in (sym slot j); cut = sym (ap (λ b. b.cut) board) j; held = sym (none_seen new.held held) j },
+        note.Restarted ((kept ∙ sym length_is) j),
+      );
     }
 
 -- what is kept is never refused
@@ -351,3 +361,23 @@ never_bad bank r old new bad is (same, inr refused) =
     let why = refused.2 in
     kept_taken bank.opening (length bank.names) old.replica.store.slot is.kept.checkpoint why.0 bad is.kept.stored (sym acts.0 ∙ why.1)
     (subst (λ names. first_fault why.0 (length names) ≡ Some bad) is.names why.3)
+
+pub restart_refused : (bank : BankOf) (r : ℕ) (old : Node) (new : ReplicaOf MemoryStoreOf) → IsNodeAt bank r old
+    → IsRestartFaultOf Does old.replica restart.OutOfMemory new
+    → IsAsBefore bank r old (record old { replica = new }) × (may_take_memory (restarted (seen_node old)).1 ≡ true)
+restart_refused bank r old new is refused =
+    let same : new ≡ old.replica = refused.0 ∙ ap (λ s. record old.replica { store = s }) (by refused.1) in (
+      record {
+        along = subst (λ x. IsNodeAt bank r (record old { replica = x })) (sym same) is;
+        seen = ap (λ x. seen_node (record old { replica = x })) same;
+      },
+      refl,
+    )
+  where
+    by : (((failed : StoreFault) × Does old.replica.store (NotGot failed) new.store × (restart.OutOfMemory ≡ of_store_fault failed))
+        ⊎ ((held : Option (List ℕ)) × Does old.replica.store (Got held) new.store
+        × IsRefusalOf (length old.replica.names) held restart.OutOfMemory))
+        → new.store ≡ old.replica.store
+    by (inl (store.Device, acts, why)) = absurd acts.as_told
+    by (inl (store.OutOfMemory, acts, why)) = acts.as_told
+    by (inr (held, acts, why)) = acts.as_told.1

@@ -27,7 +27,7 @@ use Rattle.sb_replica_log.specs.Offers.{offered, after_offer, after_advance}
 use Rattle.schedule_player.specs.Bank.{BankOf, log_reply}
 use Rattle.schedule_player.specs.NodeAlong.{seen_node, IsEntryOf, IsToldBy, IsNodeAt, Arrives}
 use Rattle.schedule_player.specs.Numbered.{numbered, Every}
-use Rattle.schedule_player.specs.ReplicaMoves.{NodeOf, tells, acknowledged, answered, told_reply, reply_held, reply_in_node, frame_comes, delivered_to, advanced, note_of_heard}
+use Rattle.schedule_player.specs.ReplicaMoves.{NodeOf, tells, acknowledged, answered, told_reply, reply_held, reply_in_node, sent, sent_all, frame_comes, delivered_to, advanced, note_of_heard}
 use Rattle.schedule_player.specs.Seen.{stages_of, ops_of}
 use Rattle.schedule_player.specs.Stage.{Stage, Waits, IsOut, IsDone}
 use Rattle.schedule_player.specs.World.{may_take_memory}
@@ -35,12 +35,13 @@ use Rattle.schedule_player.specs.declared.node.Node.{Node}
 use Rattle.schedule_text.specs.declared.note.Note.{Note}
 use Rattle.schedule_text.specs.declared.note.Note.TheVariants as note
 use Rattle.schedule_player.proofs.Finishing.{reply_by_names}
-use Rattle.schedule_player.proofs.Lists.{some_is, none_some, every_push, every_numbered}
+use Rattle.schedule_player.proofs.Lists.{some_is, none_some, every_nil, every_cons, every_append, every_push, every_numbered}
 use Rattle.schedule_player.proofs.NodeMoves.{node_stored}
 use Rattle.schedule_player.proofs.Offering.{IsLogAlong, offer_along, advance_along, seeing, entry_alike, note_if, advance_alike}
 use Rattle.schedule_player.proofs.SeenReplies.{reply_if_done, reply_as_seen, within_log}
 use Rattle.schedule_player.proofs.SentFrames.{decoded_whole}
 use Rattle.schedule_player.proofs.Stages.{length-map, length_stages}
+use Rattle.schedule_player.proofs.Working.{answers_so}
 
 -- ---- telling
 
@@ -129,6 +130,51 @@ answers_reply bank r old outbound told n place is t e p = by (reply_in_node bank
         tells_frame bank r old outbound told place (answered bank (seen_node old) n) is e p
         (subst (IsToldBy bank r) (sym (some_is some)) (held_by_log bank n (numbered (stages_of old.replica.board) n) reply held))
         (ap (told_reply (seen_node old) n) held ∙ ap (tells (seen_node old)) (sym (some_is some)))
+
+-- memory may be wanted for a reply that is held
+pub answers_wanting : (bank : BankOf) (r : ℕ) (old : Node) (n : ℕ) (told : Frame) → IsNodeAt bank r old
+    → Some told ≡ option_map (frame.Answer n) (reply_in old.replica.board n) → may_take_memory (answered bank (seen_node old) n).1 ≡ true
+answers_wanting bank r old n told is t =
+    answers_so bank (seen_node old) n (λ none. none_some (sym (t ∙ ap (option_map (frame.Answer n)) (reply_seen bank r old n is ∙ none))))
+
+-- ---- entries are sent to it
+
+sends : (bank : BankOf) (r : ℕ) (old : Node) (inbound more : List Frame) (n : Note) (moved : NodeOf × Note) → IsNodeAt bank r old
+    → inbound ≡ old.inbound ++ more → Every (IsEntryOf bank) more → moved ≡ (record (seen_node old) { inbound = old.inbound ++ more }, n)
+    → Arrives bank r (record old { inbound = inbound }) n moved
+sends bank r old inbound more n moved is e entries m = record {
+  along = record {
+    customers = is.customers;
+    few = is.few;
+    id = is.id;
+    names = is.names;
+    opening = is.opening;
+    board = is.board;
+    held = is.held;
+    kept = is.kept;
+    hands = is.hands;
+    inbound = subst (Every (IsEntryOf bank)) (sym e) (every_append (IsEntryOf bank) old.inbound more is.inbound entries);
+    outbound = is.outbound;
+  };
+  as_moved = m ∙ ap (λ frames. (record (seen_node old) { inbound = frames }, n)) (sym e);
+}
+
+pub sends_one : (bank : BankOf) (r : ℕ) (old : Node) (inbound : List Frame) (found : Option Frame) (entry : Frame) (place : ℕ) → IsNodeAt bank r old
+    → found ≡ Some entry → IsEntryOf bank entry → inbound ≡ old.inbound ++ entry ∷ [] → place ≡ length inbound
+    → Arrives bank r (record old { inbound = inbound }) (note.Sent place) (sent (seen_node old) found)
+sends_one bank r old inbound found entry place is f entry_is e p =
+    let size : suc (length old.inbound) ≡ place =
+    let l = length-append old.inbound (entry ∷ []) in let q = p ∙ ap length e ∙ l in omega (arith, q) in
+    sends bank r old inbound (entry ∷ []) (note.Sent place) (sent (seen_node old) found) is e
+    (every_cons (IsEntryOf bank) entry [] entry_is (every_nil (IsEntryOf bank)))
+    (ap (sent (seen_node old)) f ∙ ap (λ n. (record (seen_node old) { inbound = old.inbound ++ entry ∷ [] }, note.Sent n)) size)
+
+pub sends_all : (bank : BankOf) (r : ℕ) (old : Node) (inbound entries : List Frame) (count : ℕ) → IsNodeAt bank r old → Every (IsEntryOf bank) entries
+    → inbound ≡ old.inbound ++ entries → count ≡ length entries
+    → Arrives bank r (record old { inbound = inbound }) (note.Resent count) (sent_all (seen_node old) entries)
+sends_all bank r old inbound entries count is all e size =
+    sends bank r old inbound entries (note.Resent count) (sent_all (seen_node old) entries) is e all
+    (ap (λ n. (record (seen_node old) { inbound = old.inbound ++ entries }, note.Resent n)) (sym size))
 
 -- ---- hearing
 

@@ -11,7 +11,6 @@ use Rattle.sb_checkpoint.specs.declared.memory_store.How.{How}
 use Rattle.sb_checkpoint.specs.declared.memory_store.How.TheVariants as how
 use Rattle.sb_frames.specs.declared.frame.Frame.{Frame}
 use Rattle.sb_frames.specs.declared.frame.Frame.TheVariants as frame
-use Rattle.sb_rows.specs.Balances.{Balances}
 use Rattle.sb_sequencer.specs.Entries.{entry_of, resent}
 use Rattle.sb_sequencer.specs.Notes.{kept_at}
 use Rattle.schedule_player.specs.Bank.{BankOf}
@@ -19,9 +18,11 @@ use Rattle.schedule_player.specs.NodeAlong.{IsEntryOf}
 use Rattle.schedule_player.specs.Numbered.{numbered, with_numbered, copies, Every}
 use Rattle.schedule_player.specs.Played.{IsPlayed}
 use Rattle.schedule_player.specs.Readiness.{runnable}
-use Rattle.schedule_player.specs.ReplicaMoves.{NodeOf, opened_node, length_in, undone_in, told_reply, answered, reply_in_node, sent, sent_all, holds, accepts, frame_comes, delivered_to, next_taken, advanced, goes_out, reaches_out, taken, emptied, comes_back, gives_back, finished_by, cut_after, cut_off, undone_up_to, marked_to, marked, restarted, acknowledged}
+use Rattle.schedule_player.specs.ReplicaEvents.{node_move}
+use Rattle.schedule_player.specs.ReplicaMoves.{NodeOf, opened_node, length_in, undone_in, told_reply, reply_in_node, sent, holds, accepts, frame_comes, delivered_to, next_taken, goes_out, reaches_out, emptied, comes_back, gives_back, cut_after, undone_up_to, marked_to, restarted}
 use Rattle.schedule_player.specs.Stage.{Stage, Waits, IsOut, IsDone}
-use Rattle.schedule_player.specs.World.{WorldOf, Asks, bank_of, moved, moved_if, moved_at, keeps, told, heard_from, opened_world}
+use Rattle.schedule_player.specs.World.{WorldOf, Asks, bank_of, moved_if, moved_at, keeps, told, heard_from, opened_world}
+use Rattle.schedule_text.specs.ScheduleText.{ScheduleOf}
 use Rattle.schedule_text.specs.declared.event.Event.{Event}
 use Rattle.schedule_text.specs.declared.event.Event.TheVariants as event
 use Rattle.schedule_text.specs.declared.note.Note.{Note}
@@ -61,11 +62,7 @@ wider size more node le is = record {
   where
     fits_wider : (sent : Frame) → Fits size sent → Fits more sent
     fits_wider (frame.Entry n call) fits = omega (arith, fits, le)
-    fits_wider (frame.Ask client request call) fits = tt
-    fits_wider (frame.Ack replica length) fits = tt
-    fits_wider (frame.Answer n reply) fits = tt
-    fits_wider (frame.Outcome client request outcome) fits = tt
-    fits_wider frame.Flush fits = tt
+    fits_wider other fits = tt
 
 module _ (size : ℕ) where
   -- as many entries as before
@@ -118,12 +115,7 @@ module _ (size : ℕ) where
   comes node (Some (frame.Entry n call)) fits is =
       enters node n (nat_le n (length_in node)) (nat_lt (length_in node + 64) n) (nat_lt (suc (length_in node)) n) (undone_in node == 1024)
       (fits (frame.Entry n call) refl) (leb-false n (length_in node)) (ltb-true (suc (length_in node)) n) is
-  comes node (Some (frame.Ask client request call)) fits is = is
-  comes node (Some (frame.Ack replica length)) fits is = is
-  comes node (Some (frame.Answer n reply)) fits is = is
-  comes node (Some (frame.Outcome client request outcome)) fits is = is
-  comes node (Some frame.Flush) fits is = is
-  comes node None fits is = is
+  comes node other fits is = is
 
   delivers : (node : NodeOf) (place : ℕ) → IsWithin size node → IsWithin size (delivered_to node place).0
   delivers node place is =
@@ -277,48 +269,39 @@ within_kept world n reply None all = all
 within_told : (world : WorldOf) (r : ℕ) (heard : Option Frame) → AllWithin world → AllWithin (told world r heard).0
 within_told world r (Some (frame.Ack replica size)) all = all
 within_told world r (Some (frame.Answer n reply)) all = within_kept world n reply (kept_at world.sequencer n) all
-within_told world r (Some (frame.Ask client request call)) all = all
-within_told world r (Some (frame.Entry n call)) all = all
-within_told world r (Some (frame.Outcome client request outcome)) all = all
-within_told world r (Some frame.Flush) all = all
-within_told world r None all = all
+within_told world r other all = all
 
 within_heard : (world : WorldOf) (r place : ℕ) (found : Option NodeOf) → AllWithin world → AllWithin (heard_from world r place found).0
 within_heard world r place (Some node) all = within_told world r (numbered node.outbound place) all
 within_heard world r place None all = all
 
-within_moved : (world : WorldOf) (happens : Event) → AllWithin world → AllWithin (moved world happens).0
-within_moved world (event.Ask client request call) all = all
-within_moved world (event.Send r n) all =
-    within_at world r (λ node. sent node (entry_of world.sequencer.log n))
-    (λ node. sends (length world.sequencer.log) node (entry_of world.sequencer.log n)
-    (λ entry here. entry_fits world entry (entry_is world.names world.opening world.sequencer.log n entry here))) all
-within_moved world (event.Resend r) all =
-    within_at world r (λ node. sent_all node (resent world.sequencer r))
-    (λ node. receives (length world.sequencer.log) node (resent world.sequencer r)
-    (λ k entry here. entry_fits world entry (resent_are world.names world.opening world.sequencer r k entry here))) all
-within_moved world (event.To r place) all =
-    within_at world r (λ node. delivered_to node place) (λ node. delivers (length world.sequencer.log) node place) all
-within_moved world (event.Ack r) all = within_at world r (λ node. acknowledged node r) (λ node is. is) all
-within_moved world (event.Answer r n) all =
-    within_at world r (λ node. answered (bank_of world) node n)
-    (λ node. replies (length world.sequencer.log) node n (reply_in_node (bank_of world) node n)) all
-within_moved world (event.From r place) all = within_heard world r place (slice_get world.nodes r) all
-within_moved world (event.Take r worker index) all =
-    within_at world r (λ node. taken (bank_of world) node worker index)
-    (λ node. reaches (length world.sequencer.log) (bank_of world) node worker index (numbered node.hands worker)) all
-within_moved world (event.Finish r worker) all =
-    within_at world r (λ node. finished_by (bank_of world) node worker)
-    (λ node. gives (length world.sequencer.log) (bank_of world) node worker (numbered node.hands worker)) all
-within_moved world (event.Mark r end) all =
-    within_at world r (λ node. marked node end) (λ node. marks (length world.sequencer.log) node end node.cut refl) all
-within_moved world (event.Restart r) all =
-    within_at world r (λ node. restarted node) (λ node. restarts (length world.sequencer.log) node) all
-within_moved world (event.Cut r) all =
-    within_at world r (λ node. cut_off node) (λ node. cuts (length world.sequencer.log) node node.cut) all
-within_moved world (event.Next r) all =
-    within_at world r (λ node. advanced node) (λ node. advances (length world.sequencer.log) node (slice_get node.held 0) refl) all
-within_moved world (event.Audit a b) all = all
+within_node : (world : WorldOf) (happens : Event) (node : NodeOf) → IsWithin (length world.sequencer.log) node
+    → IsWithin (length world.sequencer.log) (node_move (bank_of world) world.sequencer node happens).0
+within_node world (event.Send r n) node is =
+    sends (length world.sequencer.log) node (entry_of world.sequencer.log n)
+    (λ entry here. entry_fits world entry (entry_is world.names world.opening world.sequencer.log n entry here)) is
+within_node world (event.Resend r) node is =
+    receives (length world.sequencer.log) node (resent world.sequencer r)
+    (λ k entry here. entry_fits world entry (resent_are world.names world.opening world.sequencer r k entry here)) is
+within_node world (event.To r place) node is = delivers (length world.sequencer.log) node place is
+within_node world (event.Ack r) node is = is
+within_node world (event.Answer r n) node is = replies (length world.sequencer.log) node n (reply_in_node (bank_of world) node n) is
+within_node world (event.Take r worker index) node is =
+    reaches (length world.sequencer.log) (bank_of world) node worker index (numbered node.hands worker) is
+within_node world (event.Finish r worker) node is = gives (length world.sequencer.log) (bank_of world) node worker (numbered node.hands worker) is
+within_node world (event.Mark r end) node is = marks (length world.sequencer.log) node end node.cut refl is
+within_node world (event.Restart r) node is = restarts (length world.sequencer.log) node is
+within_node world (event.Cut r) node is = cuts (length world.sequencer.log) node node.cut is
+within_node world (event.Next r) node is = advances (length world.sequencer.log) node (slice_get node.held 0) refl is
+within_node world other node is = is
+
+within_replica : (world : WorldOf) (happens : Event) (r : ℕ) → AllWithin world
+    → AllWithin (moved_at world r (λ node. node_move (bank_of world) world.sequencer node happens)).0
+within_replica world happens r all =
+    within_at world r (λ node. node_move (bank_of world) world.sequencer node happens) (within_node world happens) all
+
+within_from : (world : WorldOf) (r place : ℕ) → AllWithin world → AllWithin (heard_from world r place (slice_get world.nodes r)).0
+within_from world r place all = within_heard world r place (slice_get world.nodes r) all
 
 -- an ask makes the log longer, or leaves it
 within_asked : (old : WorldOf) (ask : Key × Call) (n : Note) (new : WorldOf) → Asks old ask n new → AllWithin old → AllWithin new
@@ -332,11 +315,9 @@ within_asked old ask note.LogFull new asks all = subst AllWithin (sym asks.1) al
 within_asked old ask other new asks all = absurd asks
 
 -- whatever happened since an opening
-pub played_within : (names : List (List ℕ)) (opening : Balances) (nodes workers : ℕ) (events : List Event) (world : WorldOf)
-    → IsPlayed names opening nodes workers events world → (r : ℕ) (node : NodeOf) → slice_get world.nodes r ≡ Some node
+pub played_within : (schedule : ScheduleOf) (world : WorldOf) → IsPlayed schedule world → (r : ℕ) (node : NodeOf) → slice_get world.nodes r ≡ Some node
     → length_in node ≤ length world.sequencer.log
-played_within names opening nodes workers events world played r node here =
-    let opened = opened_world names opening nodes workers in
-    let all = all_keep AllWithin within_moved within_asked opened events played.notes world played.plays
-    (every_copies (IsWithin 0) nodes (opened_node workers) (opens 0 workers)) in
+played_within schedule world played r node here =
+    let all = all_keep AllWithin within_replica within_from within_asked (opened_world schedule) schedule.events played.notes world played.plays
+    (every_copies (IsWithin 0) schedule.nodes (opened_node schedule.workers) (opens 0 schedule.workers)) in
     (all r node here).count_in

@@ -1,26 +1,25 @@
 -- Where memory may be wanted, and moves by their tests.
-use Rattle.std.proofs.Common.{◌≡◌, ◌≢◌, Bool, true, ℕ, Option, Some, None, refl, ap, ◌∙◌}
+use Rattle.std.proofs.Common.{◌≡◌, ◌≢◌, Bool, true, false, ℕ, Option, Some, None, refl, sym, ap, ◌∙◌}
 use Rattle.std.specs.Prelude.{slice_get, if◌then◌else◌}
+use Rattle.std.proofs.lemmas.Bool.{true≢false}
 use Rattle.sb_calls.specs.declared.reply.Reply.{Reply}
 use Rattle.sb_checkpoint.specs.declared.memory_store.How.{How}
 use Rattle.sb_checkpoint.specs.declared.memory_store.How.TheVariants as how
-use Rattle.sb_frames.specs.declared.frame.Frame.{Frame}
-use Rattle.schedule_player.specs.Bank.{BankOf}
-use Rattle.schedule_player.specs.ReplicaMoves.{NodeOf, length_in, told_reply, answered, reply_in_node, sent, holds, accepts, cut_after, cut_off, put_ends}
-use Rattle.schedule_player.specs.World.{WorldOf, may_take_memory, moved_if, moved_at}
+use Rattle.schedule_player.specs.Bank.{BankOf, log_reply}
+use Rattle.schedule_player.specs.Comes.{may_come}
+use Rattle.schedule_player.specs.Numbered.{numbered}
+use Rattle.schedule_player.specs.Readiness.{runnable}
+use Rattle.schedule_player.specs.ReplicaEvents.{replica_of, node_move}
+use Rattle.schedule_player.specs.ReplicaMoves.{NodeOf, length_in, told_reply, answered, reply_in_node, holds, accepts, cut_after, cut_off, put_ends, goes_out, reaches_out, taken, emptied, note_of_reply, comes_back, gives_back, finished_by}
+use Rattle.schedule_player.specs.Stage.{Stage, IsOut}
+use Rattle.schedule_player.specs.World.{WorldOf, MayWantMemory, bank_of, may_take_memory, replica_move, moved_if}
+use Rattle.schedule_text.specs.declared.event.Event.{Event}
+use Rattle.schedule_text.specs.declared.event.Event.TheVariants as event
 use Rattle.schedule_text.specs.declared.note.Note.{Note}
 use Rattle.schedule_text.specs.declared.note.Note.TheVariants as note
-
--- a replica of a world whose move may take memory
-pub wants_at : (world : WorldOf) (r : ℕ) (node : NodeOf) (move : NodeOf → NodeOf × Note) → slice_get world.nodes r ≡ Some node
-    → may_take_memory (move node).1 ≡ true → may_take_memory (moved_at world r move).1 ≡ true
-wants_at world r node move here is = ap (λ found. may_take_memory (moved_if world r move found).1) here ∙ is
+use Rattle.schedule_player.proofs.Lists.{none_some}
 
 -- ---- what each event does at a replica
-
-pub sends : (node : NodeOf) (entry : Option Frame) → entry ≢ None → may_take_memory (sent node entry).1 ≡ true
-sends node (Some entry) there = refl
-sends node None there = absurd (there refl)
 
 -- what the next entry comes to, and any entry, by these tests
 abbrev pub next_by : NodeOf → ℕ → Bool → NodeOf × Note
@@ -50,3 +49,53 @@ puts node size how.New = refl
 -- a cut is made where there is none
 pub cuts : (node : NodeOf) → node.cut ≡ None → may_take_memory (cut_off node).1 ≡ true
 cuts node none = ap (λ cut. may_take_memory (cut_after node cut).1) none
+
+-- ---- a worker's part never takes memory
+
+-- a note that may come, and takes no memory
+abbrev pub IsQuiet : Note → Type 0
+IsQuiet n = (may_come n ≡ true) × (may_take_memory n ≡ false)
+
+goes : (node : NodeOf) (worker : ℕ) (place : Option ℕ) → IsQuiet (goes_out node worker place).1
+goes node worker (Some place) = (refl, refl)
+goes node worker None = (refl, refl)
+
+reaches : (bank : BankOf) (node : NodeOf) (worker index : ℕ) (hand : Option (Option ℕ)) → IsQuiet (reaches_out bank node worker index hand).1
+reaches bank node worker index None = (refl, refl)
+reaches bank node worker index (Some (Some n)) = (refl, refl)
+reaches bank node worker index (Some None) = goes node worker (slice_get (runnable bank node.stages) index)
+
+pub takes_quietly : (bank : BankOf) (node : NodeOf) (worker index : ℕ) → IsQuiet (taken bank node worker index).1
+takes_quietly bank node worker index = reaches bank node worker index (numbered node.hands worker)
+
+noted : (n : ℕ) (reply : Option Reply) → IsQuiet (note_of_reply n reply)
+noted n (Some reply) = (refl, refl)
+noted n None = (refl, refl)
+
+comes : (bank : BankOf) (node : NodeOf) (n : ℕ) (stage : Option Stage) → IsQuiet (comes_back bank node n stage).1
+comes bank node n (Some IsOut) = noted n (log_reply bank n)
+comes bank node n other = (refl, refl)
+
+gives : (bank : BankOf) (node : NodeOf) (worker : ℕ) (hand : Option (Option ℕ)) → IsQuiet (gives_back bank node worker hand).1
+gives bank node worker None = (refl, refl)
+gives bank node worker (Some None) = (refl, refl)
+gives bank node worker (Some (Some n)) = comes bank (emptied node worker) n (numbered node.stages n)
+
+pub finishes_quietly : (bank : BankOf) (node : NodeOf) (worker : ℕ) → IsQuiet (finished_by bank node worker).1
+finishes_quietly bank node worker = gives bank node worker (numbered node.hands worker)
+
+-- ---- in a world
+
+-- an event at a replica that may take memory
+pub wants : (world : WorldOf) (happens : Event) (r : ℕ) (node : NodeOf) → replica_of happens ≡ Some r → slice_get world.nodes r ≡ Some node
+    → may_take_memory (node_move (bank_of world) world.sequencer node happens).1 ≡ true → MayWantMemory world happens
+wants world (event.Ask client request call) r node at here is = absurd (none_some at)
+wants world (event.From q place) r node at here is = absurd (none_some at)
+wants world (event.Audit a b) r node at here is = absurd (none_some at)
+wants world (event.Take q worker index) r node at here is =
+    absurd (true≢false (sym is ∙ (takes_quietly (bank_of world) node worker index).1))
+wants world (event.Finish q worker) r node at here is =
+    absurd (true≢false (sym is ∙ (finishes_quietly (bank_of world) node worker).1))
+wants world other r node at here is =
+    ap (λ q. may_take_memory (replica_move world other q).1) at
+    ∙ ap (λ found. may_take_memory (moved_if world r (λ n. node_move (bank_of world) world.sequencer n other) found).1) here ∙ is

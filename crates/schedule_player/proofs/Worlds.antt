@@ -11,6 +11,7 @@ use Rattle.sb_calls.specs.declared.call.TheConstants.{LOG_CALLS}
 use Rattle.sb_rows.specs.Balances.{Balances}
 use Rattle.sb_rows.specs.Rows.{SameCustomers}
 use Rattle.sb_sequencer.specs.Sequencer.{SequencerOf, opened}
+use Rattle.sb_sequencer.specs.declared.sequencer.TheConstants.{REPLICAS}
 use Rattle.schedule_player.specs.Bank.{BankOf}
 use Rattle.schedule_player.specs.NodeAlong.{IsEntryOf, IsToldBy, IsNodeAt, seen_node}
 use Rattle.schedule_player.specs.Numbered.{copies, Every}
@@ -33,7 +34,7 @@ all_zeros : (n most : ℕ) → All (λ size. size ≤ most) (replicate n 0)
 all_zeros n most = All-replicate (λ size. size ≤ most) n 0 (omega arith)
 
 pub opened_so : (names : List (List ℕ)) (opening : Balances) (nodes workers : ℕ) (all : List Node) (s : SequencerOf) → SameCustomers names opening
-    → nodes ≤ 8 → s ≡ opened nodes → map seen_node all ≡ copies nodes (opened_node workers)
+    → nodes ≤ REPLICAS → s ≡ opened nodes → map seen_node all ≡ copies nodes (opened_node workers)
     → ((bank : BankOf) → bank.names ≡ names → bank.opening ≡ opening → SameCustomers bank.names bank.opening → length bank.calls ≤ LOG_CALLS
     → (r : ℕ) (node : Node) → slice_get all r ≡ Some node → IsNodeAt bank r node)
     → IsWorld names opening s all

@@ -1,6 +1,5 @@
 -- The replication theorem, as one law over every list of events.
-use Rattle.std.specs.Prelude.{◌≡◌, ℕ, ◌≤◌, Some, List, length, slice_get}
-use Rattle.sb_rows.specs.Balances.{Balances}
+use Rattle.std.specs.Prelude.{◌≡◌, ℕ, ◌≤◌, Some, length, slice_get}
 use Rattle.sb_calls.specs.declared.reply.Reply.{Reply}
 use Rattle.schedule_player.specs.Bank.{log_reply}
 use Rattle.schedule_player.specs.Numbered.{numbered}
@@ -9,26 +8,24 @@ use Rattle.schedule_player.specs.Played.{IsPlayed, bank_after, log_of}
 use Rattle.schedule_player.specs.ReplicaMoves.{NodeOf}
 use Rattle.schedule_player.specs.Stage.{IsDone}
 use Rattle.schedule_player.specs.World.{WorldOf}
-use Rattle.schedule_text.specs.declared.event.Event.{Event}
+use Rattle.schedule_text.specs.ScheduleText.{ScheduleOf}
 
--- what is so of a world in which these events happened
-pub record IsReplicated (names : List (List ℕ)) (opening : Balances) (events : List Event)
-    (world : WorldOf) : Type 0 where
+-- what is so of a world in which the events of a schedule happened
+pub record IsReplicated (schedule : ScheduleOf) (world : WorldOf) : Type 0 where
   -- the log is the first asks of the events
-  pub log : world.sequencer.log ≡ log_of events
+  pub log : world.sequencer.log ≡ log_of schedule.events
   -- any two replicas that hold a reply to a number hold the same one
   pub agree : (a b number : ℕ) (one other : Reply)
       → reply_at world a number ≡ Some one → reply_at world b number ≡ Some other → one ≡ other
   -- it is the reply that running the log one by one gives
   pub by_log : (r number : ℕ) (reply : Reply) → reply_at world r number ≡ Some reply
-      → log_reply (bank_after names opening events) number ≡ Some reply
+      → log_reply (bank_after schedule) number ≡ Some reply
   -- a replica holds one to each number that is done at it
   pub replied : (r number : ℕ) (node : NodeOf) → slice_get world.nodes r ≡ Some node
       → numbered node.stages number ≡ Some IsDone → (reply : Reply) × (reply_at world r number ≡ Some reply)
   -- and has at most as many entries as the log
-  pub within : (r size : ℕ) → length_at world r ≡ Some size → size ≤ length (log_of events)
+  pub within : (r size : ℕ) → length_at world r ≡ Some size → size ≤ length (log_of schedule.events)
 
--- after whatever events from an opening
+-- after whatever schedule: an opening, so many replicas with so many workers each, and the events in order
 abbrev pub Replication : Type 0
-Replication = (names : List (List ℕ)) (opening : Balances) (nodes workers : ℕ) (events : List Event) (world : WorldOf)
-    → IsPlayed names opening nodes workers events world → IsReplicated names opening events world
+Replication = (schedule : ScheduleOf) (world : WorldOf) → IsPlayed schedule world → IsReplicated schedule world

@@ -29,7 +29,4 @@ HearsFrame old (frame.Ack replica size) noted new =
 HearsFrame old (frame.Answer number reply) noted new =
     (answer : AnswerNote) × IsAnswerNote old number reply answer
     × (noted ≡ answer_noted number answer) × (new ≡ after_answer old number reply answer)
-HearsFrame old (frame.Ask client request call) noted new = (noted ≡ note.Nothing) × (new ≡ old)
-HearsFrame old (frame.Entry number call) noted new = (noted ≡ note.Nothing) × (new ≡ old)
-HearsFrame old (frame.Outcome client request outcome) noted new = (noted ≡ note.Nothing) × (new ≡ old)
-HearsFrame old frame.Flush noted new = (noted ≡ note.Nothing) × (new ≡ old)
+HearsFrame old other noted new = (noted ≡ note.Nothing) × (new ≡ old)

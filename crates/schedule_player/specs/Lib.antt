@@ -9,6 +9,7 @@ pub mod Numbered
 pub mod Observed
 pub mod Played
 pub mod Readiness
+pub mod ReplicaEvents
 pub mod ReplicaMoves
 pub mod RunText
 pub mod ScheduleFaults

@@ -1,5 +1,5 @@
 -- A node of the code, as the machine sees it, and beside the log.
-use Rattle.std.specs.Prelude.{◌≡◌, ℕ, ◌≤◌, Option, Some, IfSome, List, length, map, is_some, option_map}
+use Rattle.std.specs.Prelude.{◌≡◌, ℕ, ◌≤◌, Option, Some, IfSome, IsTrue, Result, Ok, Err, List, length, map, is_some, option_map}
 use Rattle.sb_rows.specs.Rows.{SameCustomers}
 use Rattle.sb_calls.specs.Cowns.{held_of}
 use Rattle.sb_calls.specs.declared.call.Call.{Call}
@@ -16,6 +16,8 @@ use Rattle.schedule_player.specs.Bank.{BankOf, log_reply}
 use Rattle.schedule_player.specs.Numbered.{numbered, Every}
 use Rattle.schedule_player.specs.ReplicaMoves.{NodeOf}
 use Rattle.schedule_player.specs.Seen.{stages_of, kept_in, ops_of}
+use Rattle.schedule_player.specs.World.{may_take_memory}
+use Rattle.schedule_player.specs.declared.fault.StepFault.{StepFault}
 use Rattle.schedule_player.specs.declared.node.Node.{Node}
 use Rattle.schedule_text.specs.declared.note.Note.{Note}
 
@@ -44,10 +46,7 @@ pub record IsEntryOf (bank : BankOf) (sent : Frame) : Type 0 where
 abbrev pub IsToldBy : BankOf → ℕ → Frame → Type 0
 IsToldBy bank r (frame.Ack replica size) = (replica ≡ r) × (size ≤ length bank.calls)
 IsToldBy bank r (frame.Answer number reply) = log_reply bank number ≡ Some reply
-IsToldBy bank r (frame.Ask client request call) = ⊥
-IsToldBy bank r (frame.Entry number call) = ⊥
-IsToldBy bank r (frame.Outcome client request outcome) = ⊥
-IsToldBy bank r frame.Flush = ⊥
+IsToldBy bank r other = ⊥
 
 -- what is stored, or the opening where nothing is, is what the log up to its length comes to
 pub record IsKeptAlong (bank : BankOf) (slot : Option (List ℕ)) : Type 0 where
@@ -82,3 +81,9 @@ pub record IsAsBefore (bank : BankOf) (r : ℕ) (old new : Node) : Type 0 where
 pub record Arrives (bank : BankOf) (r : ℕ) (new : Node) (note : Note) (moved : NodeOf × Note) : Type 0 where
   pub along : IsNodeAt bank r new
   pub as_moved : moved ≡ (seen_node new, note)
+
+-- so it does where it succeeds; where memory is refused nothing that the machine sees changed, and its note is one of
+-- those that may take memory
+abbrev pub Steps : BankOf → ℕ → Node → Node → Result Note StepFault → NodeOf × Note → Type 0
+Steps bank r old new (Ok note) moved = Arrives bank r new note moved
+Steps bank r old new (Err fault) moved = IsAsBefore bank r old new × IsTrue (may_take_memory moved.1)

@@ -5,8 +5,10 @@ use Rattle.sb_checkpoint.specs.declared.memory_store.How.{How}
 use Rattle.sb_checkpoint.specs.declared.memory_store.How.TheVariants as how
 use Rattle.sb_frames.specs.declared.frame.Frame.{Frame}
 use Rattle.sb_frames.specs.declared.frame.Frame.TheVariants as frame
+use Rattle.cown_board.specs.declared.board.TheConstants.{OPEN_BEHAVIOURS}
 use Rattle.sb_replica.specs.declared.heard.Heard.{Heard}
 use Rattle.sb_replica.specs.declared.heard.Heard.TheVariants as heard
+use Rattle.sb_replica_log.specs.declared.replica_log.TheConstants.{HELD_ENTRIES}
 use Rattle.schedule_player.specs.Bank.{BankOf, log_reply}
 use Rattle.schedule_player.specs.Numbered.{numbered, with_numbered, copies}
 use Rattle.schedule_player.specs.Readiness.{runnable}
@@ -15,8 +17,8 @@ use Rattle.schedule_text.specs.declared.note.Note.{Note}
 use Rattle.schedule_text.specs.declared.note.Note.TheVariants as note
 
 -- the entries that it accepted, by number from 1; what each worker has in hand, by worker from 1; the length of the
--- checkpoint that is kept; that of its cut, where it has one; which of the next 64 entries it holds, the next one
--- first; and all frames that were ever sent to it and from it, by place from 1
+-- checkpoint that is kept; that of its cut, where it has one; which of the next HELD_ENTRIES entries it holds, the
+-- next one first; and all frames that were ever sent to it and from it, by place from 1
 pub record NodeOf : Type 0 where
   pub stages : List Stage
   pub hands : List (Option ℕ)
@@ -26,9 +28,9 @@ pub record NodeOf : Type 0 where
   pub inbound : List Frame
   pub outbound : List Frame
 
--- none of the next 64 is held
+-- none of those that may be held is
 abbrev pub none_held : List Bool
-none_held = copies 64 false
+none_held = copies HELD_ENTRIES false
 
 -- a replica of so many workers at the opening
 abbrev pub opened_node : ℕ → NodeOf
@@ -65,24 +67,19 @@ accepts node = record node { stages = node.stages ++ Waits ∷ []; held = drop 1
 
 abbrev pub next_comes : NodeOf → ℕ → NodeOf × Note
 next_comes node number =
-    if undone_in node == 1024 then (node, note.Busy (length_in node)) else (accepts node, note.Accepted number)
+    if undone_in node == OPEN_BEHAVIOURS then (node, note.Busy (length_in node)) else (accepts node, note.Accepted number)
 
 -- the first case that holds
 abbrev pub entry_comes : NodeOf → ℕ → NodeOf × Note
 entry_comes node number =
     if nat_le number (length_in node) then (node, note.Repeat number)
-    else if nat_lt (length_in node + 64) number then (node, note.Gap (length_in node))
+    else if nat_lt (length_in node + HELD_ENTRIES) number then (node, note.Gap (length_in node))
     else if nat_lt (suc (length_in node)) number then (holds node number, note.Held number)
     else next_comes node number
 
 abbrev pub frame_comes : NodeOf → Option Frame → NodeOf × Note
 frame_comes node (Some (frame.Entry number call)) = entry_comes node number
-frame_comes node (Some (frame.Ask client request call)) = (node, note.Nothing)
-frame_comes node (Some (frame.Ack replica size)) = (node, note.Nothing)
-frame_comes node (Some (frame.Answer number reply)) = (node, note.Nothing)
-frame_comes node (Some (frame.Outcome client request outcome)) = (node, note.Nothing)
-frame_comes node (Some frame.Flush) = (node, note.Nothing)
-frame_comes node None = (node, note.Nothing)
+frame_comes node other = (node, note.Nothing)
 
 abbrev pub delivered_to : NodeOf → ℕ → NodeOf × Note
 delivered_to node place = frame_comes node (numbered node.inbound place)
@@ -91,8 +88,7 @@ delivered_to node place = frame_comes node (numbered node.inbound place)
 
 abbrev pub next_taken : NodeOf → Option Bool → NodeOf × Note
 next_taken node (Some true) = next_comes node (suc (length_in node))
-next_taken node (Some false) = (node, note.Nothing)
-next_taken node None = (node, note.Nothing)
+next_taken node other = (node, note.Nothing)
 
 -- the entry that is held for the next number
 abbrev pub advanced : NodeOf → NodeOf × Note
@@ -135,9 +131,7 @@ comes_back bank node number (Some IsOut) = (
   record node { stages = with_numbered node.stages number IsDone },
   note_of_reply number (log_reply bank number),
 )
-comes_back bank node number (Some Waits) = (node, note.Stranger number)
-comes_back bank node number (Some IsDone) = (node, note.Stranger number)
-comes_back bank node number None = (node, note.Stranger number)
+comes_back bank node number other = (node, note.Stranger number)
 
 abbrev pub gives_back : BankOf → NodeOf → ℕ → Option (Option ℕ) → NodeOf × Note
 gives_back bank node worker None = (node, note.Nothing)
@@ -198,9 +192,7 @@ told_reply node number None = (node, note.Nothing)
 -- the reply to a number that is done
 abbrev pub reply_held : BankOf → ℕ → Option Stage → Option Reply
 reply_held bank number (Some IsDone) = log_reply bank number
-reply_held bank number (Some IsOut) = None
-reply_held bank number (Some Waits) = None
-reply_held bank number None = None
+reply_held bank number other = None
 
 abbrev pub reply_in_node : BankOf → NodeOf → ℕ → Option Reply
 reply_in_node bank node number = reply_held bank number (numbered node.stages number)

@@ -40,8 +40,7 @@ played_lines notes world = map note_line notes ++ states_from world 0 world.node
 pub record IsOutput (schedule : ScheduleOf) (output : List ℕ) : Type 0 where
   pub notes : List Note
   pub world : WorldOf
-  pub plays : Plays (opened_world schedule.names schedule.balances schedule.nodes schedule.workers)
-      schedule.events notes world
+  pub plays : Plays (opened_world schedule) schedule.events notes world
   pub written : output ≡ unlines (played_lines notes world)
 
 -- there is no output of a text that is at fault

@@ -1,6 +1,5 @@
 -- What is so of every world, whatever happened.
-use Rattle.std.specs.Prelude.{◌≡◌, ◌⊎◌, ℕ, suc, ◌≤◌, Some, List, length, slice_get}
-use Rattle.sb_rows.specs.Balances.{Balances}
+use Rattle.std.specs.Prelude.{◌≡◌, ◌⊎◌, ℕ, suc, ◌≤◌, Some, length, slice_get}
 use Rattle.sb_calls.specs.declared.reply.Reply.{Reply}
 use Rattle.sb_frames.specs.declared.frame.Frame.TheVariants as frame
 use Rattle.schedule_player.specs.Bank.{log_reply}
@@ -9,7 +8,7 @@ use Rattle.schedule_player.specs.Numbered.{Every}
 use Rattle.schedule_player.specs.Played.{IsPlayed}
 use Rattle.schedule_player.specs.ReplicaMoves.{NodeOf, length_in}
 use Rattle.schedule_player.specs.World.{WorldOf, bank_of}
-use Rattle.schedule_text.specs.declared.event.Event.{Event}
+use Rattle.schedule_text.specs.ScheduleText.{ScheduleOf}
 
 -- each replica has at most as many entries as the log; each frame to it is an entry of the log; each frame from it
 -- tells a length up to the log's, under its own number, or the log's reply to a number; each answer that is kept is the
@@ -33,8 +32,6 @@ abbrev pub RecordsWereTold : WorldOf → Type 0
 RecordsWereTold world = (r : ℕ) (node : NodeOf) (size : ℕ) → slice_get world.nodes r ≡ Some node
     → slice_get world.sequencer.recorded r ≡ Some size → (size ≡ 0) ⊎ IsTold node size
 
--- after whatever events from an opening
+-- after whatever schedule
 abbrev pub RecordedLengths : Type 0
-RecordedLengths = (names : List (List ℕ)) (opening : Balances) (nodes workers : ℕ) (events : List Event)
-    (world : WorldOf)
-    → IsPlayed names opening nodes workers events world → RecordsWereTold world
+RecordedLengths = (schedule : ScheduleOf) (world : WorldOf) → IsPlayed schedule world → RecordsWereTold world

@@ -8,14 +8,15 @@ use Rattle.sb_calls.specs.declared.reply.Reply.{Reply}
 use Rattle.sb_frames.specs.declared.frame.Frame.{Frame}
 use Rattle.sb_frames.specs.declared.frame.Frame.TheVariants as frame
 use Rattle.sb_sequencer.specs.Answer.{IsAnswered}
-use Rattle.sb_sequencer.specs.Entries.{entry_of, resent}
 use Rattle.sb_sequencer.specs.Notes.{kept_at}
 use Rattle.sb_sequencer.specs.Sequencer.{SequencerOf, opened, after_ask}
 use Rattle.sb_sequencer.specs.declared.answer.AskFault.TheVariants.{Mismatch, LogFull, OutOfMemory}
 use Rattle.sb_sequencer.specs.declared.answer.Numbered.TheVariants.{New, Repeat}
 use Rattle.schedule_player.specs.Bank.{BankOf, log_rows}
 use Rattle.schedule_player.specs.Numbered.{numbered, copies}
-use Rattle.schedule_player.specs.ReplicaMoves.{NodeOf, opened_node, length_in, undone_in, sent, sent_all, delivered_to, advanced, taken, finished_by, cut_off, marked, restarted, acknowledged, answered}
+use Rattle.schedule_player.specs.ReplicaEvents.{replica_of, node_move}
+use Rattle.schedule_player.specs.ReplicaMoves.{NodeOf, opened_node, length_in, undone_in}
+use Rattle.schedule_text.specs.ScheduleText.{ScheduleOf}
 use Rattle.schedule_text.specs.declared.event.Event.{Event}
 use Rattle.schedule_text.specs.declared.event.Event.TheVariants as event
 use Rattle.schedule_text.specs.declared.note.AuditNote.{AuditNote}
@@ -37,13 +38,13 @@ bank_with names opening log = record { names = names; opening = opening; calls =
 abbrev pub bank_of : WorldOf → BankOf
 bank_of world = bank_with world.names world.opening world.sequencer.log
 
--- a bank at its opening, with so many replicas of so many workers each
-abbrev pub opened_world : List (List ℕ) → Balances → ℕ → ℕ → WorldOf
-opened_world names opening nodes workers = record {
-  names = names;
-  opening = opening;
-  sequencer = opened nodes;
-  nodes = copies nodes (opened_node workers);
+-- the world of a schedule before its first event
+abbrev pub opened_world : ScheduleOf → WorldOf
+opened_world schedule = record {
+  names = schedule.names;
+  opening = schedule.balances;
+  sequencer = opened schedule.nodes;
+  nodes = copies schedule.nodes (opened_node schedule.workers);
 }
 
 -- ---- what an event does
@@ -88,11 +89,7 @@ told world r (Some (frame.Ack replica size)) = (
   note.Recorded size,
 )
 told world r (Some (frame.Answer number reply)) = keeps world number reply (kept_at world.sequencer number)
-told world r (Some (frame.Ask client request call)) = (world, note.Nothing)
-told world r (Some (frame.Entry number call)) = (world, note.Nothing)
-told world r (Some (frame.Outcome client request outcome)) = (world, note.Nothing)
-told world r (Some frame.Flush) = (world, note.Nothing)
-told world r None = (world, note.Nothing)
+told world r other = (world, note.Nothing)
 
 abbrev pub heard_from : WorldOf → ℕ → ℕ → Option NodeOf → WorldOf × Note
 heard_from world r place (Some node) = told world r (numbered node.outbound place)
@@ -116,45 +113,27 @@ compared bank a b first second =
 
 abbrev pub audited : BankOf → ℕ → ℕ → Option NodeOf → Option NodeOf → Note
 audited bank a b (Some first) (Some second) = note.Audit (compared bank a b first second)
-audited bank a b (Some first) None = note.Nothing
-audited bank a b None second = note.Nothing
+audited bank a b first second = note.Nothing
 
 -- ---- all events but an ask
 
+-- one at a replica moves it
+abbrev pub replica_move : WorldOf → Event → Option ℕ → WorldOf × Note
+replica_move world happens (Some r) =
+    moved_at world r (λ node. node_move (bank_of world) world.sequencer node happens)
+replica_move world happens None = (world, note.Nothing)
+
 abbrev pub moved : WorldOf → Event → WorldOf × Note
-moved world (event.Ask client request call) = (world, note.Nothing)
-moved world (event.Send r number) = moved_at world r (λ node. sent node (entry_of world.sequencer.log number))
-moved world (event.Resend r) = moved_at world r (λ node. sent_all node (resent world.sequencer r))
-moved world (event.To r place) = moved_at world r (λ node. delivered_to node place)
-moved world (event.Ack r) = moved_at world r (λ node. acknowledged node r)
-moved world (event.Answer r number) = moved_at world r (λ node. answered (bank_of world) node number)
 moved world (event.From r place) = heard_from world r place (slice_get world.nodes r)
-moved world (event.Take r worker index) = moved_at world r (λ node. taken (bank_of world) node worker index)
-moved world (event.Finish r worker) = moved_at world r (λ node. finished_by (bank_of world) node worker)
-moved world (event.Mark r how) = moved_at world r (λ node. marked node how)
-moved world (event.Restart r) = moved_at world r (λ node. restarted node)
-moved world (event.Cut r) = moved_at world r (λ node. cut_off node)
-moved world (event.Next r) = moved_at world r (λ node. advanced node)
 moved world (event.Audit a b) =
     (world, audited (bank_of world) a b (slice_get world.nodes a) (slice_get world.nodes b))
+moved world other = replica_move world other (replica_of other)
 
 -- the machine goes from one world to another with this note
 abbrev pub Moves : WorldOf → Event → Note → WorldOf → Type 0
 Moves old (event.Ask client request call) note new =
     Asks old (record { client = client; request = request }, call) note new
-Moves old (event.Send r number) note new = moved old (event.Send r number) ≡ (new, note)
-Moves old (event.Resend r) note new = moved old (event.Resend r) ≡ (new, note)
-Moves old (event.To r place) note new = moved old (event.To r place) ≡ (new, note)
-Moves old (event.Ack r) note new = moved old (event.Ack r) ≡ (new, note)
-Moves old (event.Answer r number) note new = moved old (event.Answer r number) ≡ (new, note)
-Moves old (event.From r place) note new = moved old (event.From r place) ≡ (new, note)
-Moves old (event.Take r worker index) note new = moved old (event.Take r worker index) ≡ (new, note)
-Moves old (event.Finish r worker) note new = moved old (event.Finish r worker) ≡ (new, note)
-Moves old (event.Mark r how) note new = moved old (event.Mark r how) ≡ (new, note)
-Moves old (event.Restart r) note new = moved old (event.Restart r) ≡ (new, note)
-Moves old (event.Cut r) note new = moved old (event.Cut r) ≡ (new, note)
-Moves old (event.Next r) note new = moved old (event.Next r) ≡ (new, note)
-Moves old (event.Audit a b) note new = moved old (event.Audit a b) ≡ (new, note)
+Moves old other note new = moved old other ≡ (new, note)
 
 -- ---- where memory may be wanted
 

@@ -4,6 +4,7 @@ use Rattle.sb_rows.specs.Balances.{Balances}
 use Rattle.sb_rows.specs.Rows.{SameCustomers}
 use Rattle.sb_calls.specs.declared.reply.Reply.{Reply}
 use Rattle.sb_sequencer.specs.Sequencer.{SequencerOf, IsSequencer}
+use Rattle.sb_sequencer.specs.declared.sequencer.TheConstants.{REPLICAS}
 use Rattle.schedule_player.specs.Bank.{log_reply}
 use Rattle.schedule_player.specs.NodeAlong.{IsNodeAt}
 use Rattle.schedule_player.specs.World.{bank_with}
@@ -15,7 +16,7 @@ pub record IsWorld (names : List (List ℕ)) (opening : Balances) (sequencer : S
   pub customers : SameCustomers names opening
   pub valid : IsSequencer sequencer
   pub known : length sequencer.recorded ≡ length nodes
-  pub few : length nodes ≤ 8
+  pub few : length nodes ≤ REPLICAS
   pub each : (r : ℕ) (node : Node) → slice_get nodes r ≡ Some node
       → IsNodeAt (bank_with names opening sequencer.log) r node
   pub answers : (k : ℕ) (reply : Reply) → slice_get sequencer.answers k ≡ Some (Some reply)

@@ -2,6 +2,7 @@
 #![tactic(auto)]
 
 mod auditing;
+mod events;
 mod fault;
 mod frames;
 mod hearing;

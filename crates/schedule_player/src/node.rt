@@ -1,21 +1,22 @@
 //! A replica with its workers' hands, and the frames that were ever sent to it and from it.
-ghost use Rattle.std.specs.Prelude.{◌≡◌, ◌≢◌, ℕ, suc, ◌<◌, ◌≤◌, Some, None, length, MatchOption, IfOk, IsTrue, OnErr, MatchResult};
+ghost use Rattle.std.specs.Prelude.{◌≡◌, ℕ, suc, ◌<◌, ◌≤◌, None, List, length, MatchOption, IfOk};
+ghost use Rattle.sb_rows.specs.Balances.{Balances};
 ghost use Rattle.sb_rows.specs.Rows.{SameCustomers};
-ghost use Rattle.cown_board.specs.Board.{reply_in};
+ghost use Rattle.sb_sequencer.specs.Entries.{entry_of, resent};
 ghost use Rattle.schedule_player.specs.Bank.{BankOf};
-ghost use Rattle.schedule_player.specs.NodeAlong.{IsEntryOf, IsNodeAt, Arrives, IsAsBefore, seen_node};
-ghost use Rattle.schedule_player.specs.Numbered.{numbered, copies, Every};
-ghost use Rattle.schedule_player.specs.ReplicaMoves.{opened_node, taken, finished_by, delivered_to, advanced, sent, sent_all, acknowledged, answered, cut_off, marked, restarted, note_of_heard};
-ghost use Rattle.schedule_player.specs.World.{may_take_memory};
+ghost use Rattle.schedule_player.specs.NodeAlong.{Arrives, IsNodeAt, Steps, seen_node};
+ghost use Rattle.schedule_player.specs.Numbered.{copies, numbered};
+ghost use Rattle.schedule_player.specs.ReplicaMoves.{acknowledged, advanced, answered, cut_off, delivered_to, finished_by, marked, note_of_heard, opened_node, restarted, sent, sent_all, taken};
+ghost use Rattle.schedule_player.specs.World.{bank_with};
 
 use crate::fault::StepFault;
 use crate::frames::Frames;
 use cown_board::{CutFault, Job, Runs};
 use sb_calls::{LOG_CALLS, Op};
 use sb_checkpoint::{How, MemoryStore};
-use sb_frames::Frame;
 use sb_replica::{Heard, MarkFault, Replica, RestartFault};
 use sb_rows::{Columns, Directory};
+use sb_sequencer::{REPLICAS, Sequencer};
 use schedule_text::Note;
 use std::alloc::{AllocError, Global};
 
@@ -130,11 +131,8 @@ impl Node {
 
     /// The frame at a place of those that were sent to the replica comes there.
     pub fn deliver(&mut self, place: u32) -> Result<Note, StepFault>
-        ensures moves { (bank : BankOf) (r : ℕ) → IsNodeAt bank r self.old → IfOk result (λ note.
-            Arrives bank r self.new note (delivered_to (seen_node self.old) place)) }
-        ensures err { OnErr result (self.new ≡ self.old) }
-        ensures wanted { (bank : BankOf) (r : ℕ) → IsNodeAt bank r self.old
-            → OnErr result (IsTrue (may_take_memory (delivered_to (seen_node self.old) place).1)) }
+        ensures { (bank : BankOf) (r : ℕ) → IsNodeAt bank r self.old
+            → Steps bank r self.old self.new result (delivered_to (seen_node self.old) place) }
     {
         let Some(bytes) = self.inbound.get(place) else {
             return Ok(Note::Nothing);
@@ -146,32 +144,40 @@ impl Node {
         }
     }
 
-    /// An entry is sent to the replica.
-    pub fn send(&mut self, entry: &Frame) -> Result<Note, StepFault>
-        ensures moves { (bank : BankOf) (r : ℕ) → IsNodeAt bank r self.old → IsEntryOf bank entry.now
-            → IfOk result (λ note. Arrives bank r self.new note (sent (seen_node self.old) (Some entry.now))) }
-        ensures err { OnErr result (self.new ≡ self.old) }
+    /// The entry with a number is sent to the replica, if the log has it.
+    pub fn send(&mut self, number: u32, sequencer: &Sequencer) -> Result<Note, StepFault>
+        ensures { (names : List (List ℕ)) (opening : Balances) (r : ℕ)
+            → IsNodeAt (bank_with names opening sequencer.now.log) r self.old
+            → Steps (bank_with names opening sequencer.now.log) r self.old self.new result
+            (sent (seen_node self.old) (entry_of sequencer.now.log number)) }
     {
-        let place = self.inbound.send(entry)?;
+        let Some(entry) = sequencer.entry(number as u64) else {
+            return Ok(Note::Nothing);
+        };
+        let place = self.inbound.send(&entry)?;
         Ok(Note::Sent(place))
     }
 
-    /// Entries are sent to the replica, all of them or none.
-    pub fn send_all(&mut self, entries: &[Frame]) -> Result<Note, StepFault>
-        ensures moves { (bank : BankOf) (r : ℕ) → IsNodeAt bank r self.old → Every (IsEntryOf bank) entries.now
-            → IfOk result (λ note. Arrives bank r self.new note (sent_all (seen_node self.old) entries.now)) }
-        ensures err { OnErr result (self.new ≡ self.old) }
-        ensures some { OnErr result (0 < length entries.now) }
+    /// The entries that a replica lacks, as far as was heard of it, are sent to this one, all of them or none.
+    pub fn resend(&mut self, replica: u32, sequencer: &Sequencer) -> Result<Note, StepFault>
+        ensures { (names : List (List ℕ)) (opening : Balances) (r : ℕ) → replica < REPLICAS
+            → IsNodeAt (bank_with names opening sequencer.now.log) r self.old
+            → Steps (bank_with names opening sequencer.now.log) r self.old self.new result
+            (sent_all (seen_node self.old) (resent sequencer.now replica)) }
     {
-        self.inbound.send_all(entries)?;
+        // There are at most eight.
+        let Ok(id) = u8::try_from(replica) else {
+            return Ok(Note::Nothing);
+        };
+        let entries = sequencer.resend(id);
+        self.inbound.send_all(&entries)?;
         Ok(Note::Resent(entries.len() as u64))
     }
 
     /// The replica sends how long its log is.
     pub fn acknowledge(&mut self) -> Result<Note, StepFault>
-        ensures moves { (bank : BankOf) (r : ℕ) → IsNodeAt bank r self.old → IfOk result (λ note.
-            Arrives bank r self.new note (acknowledged (seen_node self.old) r)) }
-        ensures err { OnErr result (self.new ≡ self.old) }
+        ensures { (bank : BankOf) (r : ℕ) → IsNodeAt bank r self.old
+            → Steps bank r self.old self.new result (acknowledged (seen_node self.old) r) }
     {
         let frame = self.replica.ack_frame();
         let place = self.outbound.send(&frame)?;
@@ -180,10 +186,8 @@ impl Node {
 
     /// The replica sends its reply to a number, if it holds one.
     pub fn answer(&mut self, number: u32) -> Result<Note, StepFault>
-        ensures moves { (bank : BankOf) (r : ℕ) → IsNodeAt bank r self.old → IfOk result (λ note.
-            Arrives bank r self.new note (answered bank (seen_node self.old) number)) }
-        ensures err { OnErr result (self.new ≡ self.old) }
-        ensures held { OnErr result (reply_in self.old.replica.board number ≢ None) }
+        ensures { (bank : BankOf) (r : ℕ) → IsNodeAt bank r self.old
+            → Steps bank r self.old self.new result (answered bank (seen_node self.old) number) }
     {
         let Some(frame) = self.replica.answer_frame(number as u64) else {
             return Ok(Note::Nothing);
@@ -194,10 +198,8 @@ impl Node {
 
     /// The replica begins a cut, where it has none.
     pub fn cut(&mut self) -> Result<Note, StepFault>
-        ensures moves { (bank : BankOf) (r : ℕ) → IsNodeAt bank r self.old → IfOk result (λ note.
-            Arrives bank r self.new note (cut_off (seen_node self.old))) }
-        ensures err { OnErr result (self.new ≡ self.old) }
-        ensures none { OnErr result (self.old.replica.board.cut ≡ None) }
+        ensures { (bank : BankOf) (r : ℕ) → IsNodeAt bank r self.old
+            → Steps bank r self.old self.new result (cut_off (seen_node self.old)) }
     {
         match self.replica.cut() {
             Ok(length) => Ok(Note::Cut(length)),
@@ -208,10 +210,8 @@ impl Node {
 
     /// The replica takes the entry that it holds for its next number, if it holds one.
     pub fn advance(&mut self) -> Result<Note, StepFault>
-        ensures moves { (bank : BankOf) (r : ℕ) → IsNodeAt bank r self.old → IfOk result (λ note.
-            Arrives bank r self.new note (advanced (seen_node self.old))) }
-        ensures err { OnErr result (self.new ≡ self.old) }
-        ensures wanted { OnErr result (IsTrue (may_take_memory (advanced (seen_node self.old)).1)) }
+        ensures { (bank : BankOf) (r : ℕ) → IsNodeAt bank r self.old
+            → Steps bank r self.old self.new result (advanced (seen_node self.old)) }
     {
         match self.replica.advance() {
             Ok(Some(heard)) => Ok(heard_note(heard)),
@@ -222,11 +222,8 @@ impl Node {
 
     /// The replica puts a checkpoint, and the put ends so.
     pub fn mark(&mut self, how: How) -> Result<Note, StepFault>
-        ensures moves { (bank : BankOf) (r : ℕ) → IsNodeAt bank r self.old → MatchResult result
-            (λ note. Arrives bank r self.new note (marked (seen_node self.old) how))
-            (λ fault. IsAsBefore bank r self.old self.new) }
-        ensures wanted { (bank : BankOf) (r : ℕ) → IsNodeAt bank r self.old
-            → OnErr result (IsTrue (may_take_memory (marked (seen_node self.old) how).1)) }
+        ensures { (bank : BankOf) (r : ℕ) → IsNodeAt bank r self.old
+            → Steps bank r self.old self.new result (marked (seen_node self.old) how) }
     {
         self.replica.tell(how);
         match self.replica.mark() {
@@ -239,9 +236,8 @@ impl Node {
 
     /// The replica goes back to its checkpoint. Hands and frames stay.
     pub fn restart(&mut self) -> Result<Note, StepFault>
-        ensures moves { (bank : BankOf) (r : ℕ) → IsNodeAt bank r self.old → MatchResult result
-            (λ note. Arrives bank r self.new note (restarted (seen_node self.old)))
-            (λ fault. IsAsBefore bank r self.old self.new) }
+        ensures { (bank : BankOf) (r : ℕ) → IsNodeAt bank r self.old
+            → Steps bank r self.old self.new result (restarted (seen_node self.old)) }
     {
         match self.replica.restart() {
             Ok(length) => Ok(Note::Restarted(length)),

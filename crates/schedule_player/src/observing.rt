@@ -1,7 +1,6 @@
 //! What is seen of a world.
-ghost use Rattle.std.specs.Prelude.{◌≡◌, ℕ, ◌+◌, ◌<◌, ◌≤◌, ◌↔◌, true, false, Some, List, length, slice_get, IsTrue, IfOk, IfSome, MatchOption};
+ghost use Rattle.std.specs.Prelude.{◌≡◌, ℕ, ◌+◌, ◌<◌, ◌≤◌, ◌↔◌, true, false, Some, length, slice_get, IsTrue, IfOk, IfSome, MatchOption};
 ghost use Rattle.std.specs.Option.{option_copied};
-ghost use Rattle.sb_rows.specs.Balances.{Balances};
 ghost use Rattle.sb_sequencer.specs.Notes.{answer_of};
 ghost use Rattle.sb_sequencer.specs.Numbering.{call_at, place_of_key};
 ghost use Rattle.schedule_player.specs.Bank.{log_reply};
@@ -10,18 +9,19 @@ ghost use Rattle.schedule_player.specs.Observed.{idle_at, length_at, reply_at};
 ghost use Rattle.schedule_player.specs.Played.{IsPlayed, bank_after};
 ghost use Rattle.schedule_player.specs.TrueToLog.{IsTrueToLog};
 ghost use Rattle.schedule_player.specs.World.{bank_of};
-ghost use Rattle.schedule_text.specs.declared.event.Event.{Event as AnyEvent};
+ghost use Rattle.schedule_text.specs.ScheduleText.{ScheduleOf};
 
 use crate::world::World;
 use cown_board::Runs;
 use sb_calls::{Call, Reply};
 use sb_rows::{Columns, Directory};
+use sb_sequencer::REPLICAS;
 
 impl World {
     /// How many replicas there are, at most eight.
     pub fn replicas(&self) -> u32
         ensures value { result ≡ length self.now.nodes }
-        ensures few { result ≤ 8 }
+        ensures few { result ≤ REPLICAS }
         // Whatever happened, no replica is ahead of the log, and all frames and all answers are the log's.
         ensures true_to_log { IsTrueToLog self.now }
     {
@@ -56,10 +56,9 @@ impl World {
         requires { replica < length self.now.nodes }
         // Where the number is done it is the log's, and else there is none.
         ensures value { result ≡ reply_at self.now replica number }
-        // After whatever events from an opening, it is the reply of the first asks run one by one.
-        ensures by_log { (names : List (List ℕ)) (opening : Balances) (nodes workers : ℕ) (events : List AnyEvent)
-            → IsPlayed names opening nodes workers events self.now
-            → IfSome result (λ reply. log_reply (bank_after names opening events) number ≡ Some reply) }
+        // After whatever schedule, it is the reply of the first asks run one by one.
+        ensures by_log { (schedule : ScheduleOf) → IsPlayed schedule self.now
+            → IfSome result (λ reply. log_reply (bank_after schedule) number ≡ Some reply) }
     {
         self.nodes[replica as usize].replica.reply(number)
     }
@@ -71,11 +70,10 @@ impl World {
         // Read by the customers' names they are the rows after as many calls of the log as it has.
         ensures rows { IfSome result (λ columns. (size : ℕ) → length_at self.now replica ≡ Some size
             → IsRowsAt (bank_of self.now) size columns.now) }
-        // After whatever events from an opening, they are those after as many of the first asks of these events.
-        ensures by_log { (names : List (List ℕ)) (opening : Balances) (nodes workers : ℕ) (events : List AnyEvent)
-            → IsPlayed names opening nodes workers events self.now
+        // After whatever schedule, they are those after as many of the first asks of its events.
+        ensures by_log { (schedule : ScheduleOf) → IsPlayed schedule self.now
             → IfSome result (λ columns. (size : ℕ) → length_at self.now replica ≡ Some size
-            → IsRowsAt (bank_after names opening events) size columns.now) }
+            → IsRowsAt (bank_after schedule) size columns.now) }
     {
         self.nodes[replica as usize].replica.settled_columns()
     }

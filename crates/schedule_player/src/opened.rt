@@ -1,11 +1,11 @@
 //! A world at its opening.
-ghost use Rattle.std.specs.Prelude.{◌≡◌, ℕ, ◌≤◌, Some, [], length, map, slice_get, IfOk};
+ghost use Rattle.std.specs.Prelude.{◌≡◌, ℕ, ◌≤◌, Some, length, map, slice_get, IfOk};
 ghost use Rattle.sb_rows.specs.Rows.{SameCustomers};
 ghost use Rattle.sb_calls.specs.declared.call.TheConstants.{LOG_CALLS as MOST_CALLS};
 ghost use Rattle.schedule_player.specs.Bank.{BankOf};
 ghost use Rattle.schedule_player.specs.NodeAlong.{IsNodeAt, seen_node};
 ghost use Rattle.schedule_player.specs.Numbered.{copies};
-ghost use Rattle.schedule_player.specs.Played.{IsPlayed};
+ghost use Rattle.schedule_player.specs.Played.{IsPlayed, no_events};
 ghost use Rattle.schedule_player.specs.ReplicaMoves.{opened_node};
 ghost use Rattle.schedule_player.specs.World.{opened_world};
 ghost use Rattle.schedule_player.specs.declared.node.Node.{Node as AnyNode};
@@ -13,7 +13,7 @@ ghost use Rattle.schedule_player.specs.declared.node.Node.{Node as AnyNode};
 use crate::node::Node;
 use crate::world::World;
 use sb_rows::{Columns, Directory};
-use sb_sequencer::Sequencer;
+use sb_sequencer::{REPLICAS, Sequencer};
 use std::alloc::{AllocError, Global};
 
 // The replicas of a bank at its opening.
@@ -56,10 +56,10 @@ impl World {
         workers: u8,
     ) -> Result<World, AllocError>
         requires customers { SameCustomers directory opening }
-        requires few { nodes ≤ 8 }
-        ensures value { IfOk result (λ world. world ≡ opened_world directory opening nodes workers) }
+        requires few { nodes ≤ REPLICAS }
+        ensures value { IfOk result (λ world. world ≡ opened_world (no_events directory opening nodes workers)) }
         // No event has happened yet.
-        ensures played { IfOk result (IsPlayed directory opening nodes workers []) }
+        ensures played { IfOk result (IsPlayed (no_events directory opening nodes workers)) }
     {
         let replicas = open_nodes(alloc, &directory, &opening, nodes, workers)?;
         Ok(World {

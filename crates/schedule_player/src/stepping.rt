@@ -1,10 +1,9 @@
 //! One event after the other.
-ghost use Rattle.std.specs.Prelude.{◌≡◌, ◌⊎◌, ℕ, ◌<◌, List, [], ◌∷◌, ◌++◌, take, length, slice_get, IfOk, IfErr, OnErr, IsTrue};
-ghost use Rattle.sb_rows.specs.Balances.{Balances};
+ghost use Rattle.std.specs.Prelude.{◌≡◌, ◌⊎◌, ◌<◌, List, [], ◌∷◌, take, length, slice_get, IfOk, IfErr, OnErr, IsTrue};
 ghost use Rattle.schedule_player.specs.Comes.{may_come};
-ghost use Rattle.schedule_player.specs.Played.{IsPlayed, Plays};
+ghost use Rattle.schedule_player.specs.Played.{IsPlayed, Plays, with_events};
 ghost use Rattle.schedule_player.specs.World.{MayWantMemory, Moves, NextMayWantMemory};
-ghost use Rattle.schedule_text.specs.declared.event.Event.{Event as AnyEvent};
+ghost use Rattle.schedule_text.specs.ScheduleText.{ScheduleOf};
 ghost use Rattle.schedule_text.specs.declared.event.Event.TheVariants as event;
 ghost use Rattle.schedule_text.specs.declared.note.Note.{Note as AnyNote};
 
@@ -39,23 +38,19 @@ impl World {
                 request,
                 call,
             } => self.ask(client, request, &call),
-            Event::Send { replica, number } => self.send(replica, number),
-            Event::Resend { replica } => self.resend(replica),
-            Event::To { replica, place } => self.deliver(replica, place),
-            Event::Ack { replica } => self.acknowledge(replica),
-            Event::Answer { replica, number } => self.answer(replica, number),
             Event::From { replica, place } => Ok(self.hear(replica, place)),
-            Event::Take {
-                replica,
-                worker,
-                index,
-            } => Ok(self.take(replica, worker, index)),
-            Event::Finish { replica, worker } => Ok(self.finish(replica, worker)),
-            Event::Mark { replica, how } => self.mark(replica, how),
-            Event::Restart { replica } => self.restart(replica),
-            Event::Cut { replica } => self.cut(replica),
-            Event::Next { replica } => self.next(replica),
             Event::Audit { first, second } => self.compare(first, second),
+            Event::Send { replica, .. }
+            | Event::Resend { replica }
+            | Event::To { replica, .. }
+            | Event::Ack { replica }
+            | Event::Answer { replica, .. }
+            | Event::Take { replica, .. }
+            | Event::Finish { replica, .. }
+            | Event::Mark { replica, .. }
+            | Event::Restart { replica }
+            | Event::Cut { replica }
+            | Event::Next { replica } => self.at(replica, event),
         }
     }
 
@@ -72,10 +67,9 @@ impl World {
         ensures replicas { length self.new.nodes ≡ length self.old.nodes }
         // Nothing is ever odd, unknown, different or off the books.
         ensures comes { IfOk result (λ note. IsTrue (may_come note)) }
-        // After whatever events from an opening, the world is the one after these and this.
-        ensures played { (names : List (List ℕ)) (opening : Balances) (nodes workers : ℕ) (events : List AnyEvent)
-            → IsPlayed names opening nodes workers events self.old
-            → IfOk result (λ _. IsPlayed names opening nodes workers (events ++ event ∷ []) self.new) }
+        // After whatever schedule, the world is the one after it and this event.
+        ensures played { (schedule : ScheduleOf) → IsPlayed schedule self.old
+            → IfOk result (λ _. IsPlayed (with_events schedule (event ∷ [])) self.new) }
     {
         self.moves(event)
     }
@@ -95,10 +89,9 @@ pub fn play(alloc: Global, world: &mut World, events: &[Event]) -> Result<Vec<No
     ensures wanted { IfErr result (λ fault. (fault.done ≡ 0)
         ⊎ NextMayWantMemory world.new (slice_get events.now fault.done)) }
     ensures replicas { length world.new.nodes ≡ length world.old.nodes }
-    // After whatever events from an opening, the world is the one after these and those.
-    ensures played { (names : List (List ℕ)) (opening : Balances) (nodes workers : ℕ) (before : List AnyEvent)
-        → IsPlayed names opening nodes workers before world.old
-        → IfOk result (λ _. IsPlayed names opening nodes workers (before ++ events.now) world.new) }
+    // After whatever schedule, the world is the one after it and these events.
+    ensures played { (schedule : ScheduleOf) → IsPlayed schedule world.old
+        → IfOk result (λ _. IsPlayed (with_events schedule events.now) world.new) }
 {
     let mut notes = Vec::with_capacity(alloc, events.len()).map_err(|_| PlayFault { done: 0 })?;
     // The checker goes through what an event is made of, and has to be told the types.

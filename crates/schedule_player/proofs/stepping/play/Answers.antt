@@ -32,9 +32,9 @@ loop-done-preserved c =
     }
 
 pub returns-clause-played : goal.returns-clause-played
-returns-clause-played c names opening nodes workers before played =
+returns-clause-played c schedule played =
     let events = c.args.events.now in
     let all : take c.loop-done.done events ≡ events =
     take_all c.loop-done.done events (omega (arith, c.loop-done-test.false, c.loop-done.auto.done-end)) in
-    played_on names opening nodes workers before c.args.world.now events c.loop-done.notes.items c.loop-done.world played
+    played_on schedule c.args.world.now events c.loop-done.notes.items c.loop-done.world played
     (subst (λ es. Plays c.args.world.now es c.loop-done.notes.items c.loop-done.world) all c.loop-done.invariant.plays)

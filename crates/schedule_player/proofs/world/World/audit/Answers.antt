@@ -1,207 +1,157 @@
-use Rattle.std.proofs.Common.{◌≡◌, length, take, sym, ap, subst, ◌∙◌, arith}
+use Rattle.std.proofs.Common.{◌≡◌, true, Some, length, take, sym, ap, subst, ◌∙◌, arith}
+use Rattle.std.specs.Prelude.{slice_get}
 use Rattle.cown_board.specs.Board.{length_of}
 use Rattle.sb_calls.specs.Cowns.{held_of}
 use Rattle.sb_calls.specs.Log.{replies_to}
 use Rattle.sb_calls.specs.Op.{resolved}
+use Rattle.sb_replica.specs.Replica.{replies_held}
 use Rattle.schedule_player.specs.Bank.{opening_rows}
 use Rattle.schedule_player.specs.Books.{IsRowsAt}
+use Rattle.schedule_player.specs.NodeAlong.{seen_node}
+use Rattle.schedule_player.specs.ReplicaMoves.{NodeOf}
 use Rattle.schedule_player.specs.Seen.{ops_of}
-use Rattle.schedule_player.specs.World.{bank_of, compared}
+use Rattle.schedule_player.specs.World.{audited, bank_of, compared, may_take_memory}
 use Rattle.schedule_player.proofs.Books.{idle_rows, same_rows, idle_replies, length_replies}
-use Rattle.schedule_player.proofs.Comparing.{looked_up, seen_as, busy_first, busy_second, apart, same_length, adds_books}
+use Rattle.schedule_player.proofs.Comparing.{LookedUp, looked_up, seen_as, busy_first, busy_second, apart, same_length, adds_books}
 use Rattle.schedule_player.proofs.Lists.{none_some}
 use Rattle.schedule_player.proofs.Moving.{on_err}
 use Rattle.schedule_player.proofs.SeenReplies.{within_log}
 use Rattle.schedule_player.proofs.Stages.{length-map}
 use Rattle.schedule_player.proofs.world.World.audit.Goals as goal
+use Rattle.schedule_player.proofs.world.World.audit.Goals.{After-index-2, Else-length, After-deref}
+
+-- ---- the two replicas, as they were looked up
+
+look_one : (c : After-index-2) → LookedUp c.args.self.now c.args.first c.index.result.now
+look_one c =
+    let w = c.self.inside in
+    looked_up w.directory w.opening w.sequencer w.nodes.items c.args.self.now c.args.first c.index.result.now c.self.view_is c.self.invariant
+    c.requires.replicas.0 c.index.ensures
+
+look_other : (c : After-index-2) → LookedUp c.args.self.now c.args.second c.index-2.result.now
+look_other c =
+    let w = c.self.inside in
+    looked_up w.directory w.opening w.sequencer w.nodes.items c.args.self.now c.args.second c.index-2.result.now c.self.view_is c.self.invariant
+    c.requires.replicas.1 c.index-2.ensures
+
+-- the caller sees them so
+as_seen : (c : After-index-2) (one other : NodeOf) → slice_get c.args.self.now.nodes c.args.first ≡ Some one
+    → slice_get c.args.self.now.nodes c.args.second ≡ Some other
+    → compared (bank_of c.args.self.now) c.args.first c.args.second (seen_node c.index.result.now) (seen_node c.index-2.result.now)
+    ≡ compared (bank_of c.args.self.now) c.args.first c.args.second one other
+as_seen c one other seen_one seen_other = λ j.
+    compared (bank_of c.args.self.now) c.args.first c.args.second
+    (seen_as c.args.self.now c.args.first c.index.result.now one (look_one c) seen_one j)
+    (seen_as c.args.self.now c.args.second c.index-2.result.now other (look_other c) seen_other j)
+
+-- ---- what each way out answers
 
 pub returns-in_default-clause-value : goal.returns-in_default-clause-value
 returns-in_default-clause-value c one other seen_one seen_other =
-    let w = c.self.inside in
-    let now = c.args.self.now in
-    let first = c.index.result.now in
-    let second = c.index-2.result.now in
-    let look_a = looked_up w.directory w.opening w.sequencer w.nodes.items now c.args.first first c.self.view_is c.self.invariant
-    c.requires.replicas.0 c.index.ensures in
-    let look_b = looked_up w.directory w.opening w.sequencer w.nodes.items now c.args.second second c.self.view_is c.self.invariant
-    c.requires.replicas.1 c.index-2.ensures in
-    busy_first (bank_of now) c.args.first c.args.second first second look_a.along look_b.along c.in_default.ensures.value ∙ (λ j. compared
-    (bank_of now) c.args.first c.args.second (seen_as now c.args.first first one look_a seen_one j)
-    (seen_as now c.args.second second other look_b seen_other j))
+    let looks = (goal.at.returns-in_default-clause-value c).After-index-2 in
+    busy_first (bank_of c.args.self.now) c.args.first c.args.second c.index.result.now c.index-2.result.now (look_one looks).along (look_other looks).along
+    c.in_default.ensures.value ∙ as_seen looks one other seen_one seen_other
 
 pub returns-in_default-settled_columns-clause-value : goal.returns-in_default-settled_columns-clause-value
 returns-in_default-settled_columns-clause-value c one other seen_one seen_other =
-    let w = c.self.inside in
-    let now = c.args.self.now in
-    let first = c.index.result.now in
-    let second = c.index-2.result.now in
-    let look_a = looked_up w.directory w.opening w.sequencer w.nodes.items now c.args.first first c.self.view_is c.self.invariant
-    c.requires.replicas.0 c.index.ensures in
-    let look_b = looked_up w.directory w.opening w.sequencer w.nodes.items now c.args.second second c.self.view_is c.self.invariant
-    c.requires.replicas.1 c.index-2.ensures in
-    busy_second (bank_of now) c.args.first c.args.second first second look_a.along look_b.along c.in-Some.ensures.value.0
-    c.in_default-settled_columns.ensures.value ∙ (λ j. compared (bank_of now) c.args.first c.args.second (seen_as now c.args.first first one look_a seen_one j)
-    (seen_as now c.args.second second other look_b seen_other j))
+    let looks = (goal.at.returns-in_default-settled_columns-clause-value c).After-index-2 in
+    busy_second (bank_of c.args.self.now) c.args.first c.args.second c.index.result.now c.index-2.result.now (look_one looks).along
+    (look_other looks).along c.in-Some.ensures.value.0 c.in_default-settled_columns.ensures.value ∙ as_seen looks one other seen_one seen_other
 
 pub returns-then-length-clause-value : goal.returns-then-length-clause-value
 returns-then-length-clause-value c one other seen_one seen_other =
-    let w = c.self.inside in
-    let now = c.args.self.now in
-    let first = c.index.result.now in
-    let second = c.index-2.result.now in
-    let look_a = looked_up w.directory w.opening w.sequencer w.nodes.items now c.args.first first c.self.view_is c.self.invariant
-    c.requires.replicas.0 c.index.ensures in
-    let look_b = looked_up w.directory w.opening w.sequencer w.nodes.items now c.args.second second c.self.view_is c.self.invariant
-    c.requires.replicas.1 c.index-2.ensures in
+    let looks = (goal.at.returns-then-length-clause-value c).After-index-2 in
     let one_length = c.length-then-length in
     let other_length = c.length-then-length-2 in
-    apart (bank_of now) c.args.first c.args.second first second look_a.along look_b.along one_length.result other_length.result
-    c.in-Some.ensures.value.0 c.in-Some-settled_columns.ensures.value.0 one_length.ensures.value other_length.ensures.value
+    apart (bank_of c.args.self.now) c.args.first c.args.second c.index.result.now c.index-2.result.now (look_one looks).along (look_other looks).along
+    one_length.result other_length.result c.in-Some.ensures.value.0 c.in-Some-settled_columns.ensures.value.0 one_length.ensures.value
+    other_length.ensures.value
     (λ e. c.if-length.true (c.length.ensures.value ∙ sym one_length.ensures.value ∙ e ∙ other_length.ensures.value ∙ sym c.length-2.ensures.value))
-    ∙ (λ j. compared (bank_of now) c.args.first c.args.second (seen_as now c.args.first first one look_a seen_one j)
-    (seen_as now c.args.second second other look_b seen_other j))
+    ∙ as_seen looks one other seen_one seen_other
+
+-- ---- two idle replicas of one length
+
+alike : (c : Else-length) → length_of c.index.result.now.replica.board ≡ length_of c.index-2.result.now.replica.board
+alike c = sym c.length.ensures.value ∙ c.if-length.false ∙ c.length-2.ensures.value
+
+-- their columns are the same
+same_columns : (c : Else-length) → c.in-Some.left.now ≡ c.in-Some-settled_columns.right.now
+same_columns c =
+    let looks = (goal.at.first_place-requires-clause-savings c).After-index-2 in
+    same_rows (bank_of c.args.self.now) c.args.first c.args.second c.index.result.now c.index-2.result.now c.in-Some.left.now
+    c.in-Some-settled_columns.right.now (look_one looks).along (look_other looks).along c.in-Some.ensures.bank c.in-Some-settled_columns.ensures.bank
+    c.in-Some.ensures.value.1 c.in-Some-settled_columns.ensures.value.1 (alike c)
 
 pub first_place-requires-clause-savings : goal.first_place-requires-clause-savings
-first_place-requires-clause-savings c =
-    let w = c.self.inside in
-    let now = c.args.self.now in
-    let first = c.index.result.now in
-    let second = c.index-2.result.now in
-    let look_a = looked_up w.directory w.opening w.sequencer w.nodes.items now c.args.first first c.self.view_is c.self.invariant
-    c.requires.replicas.0 c.index.ensures in
-    let look_b = looked_up w.directory w.opening w.sequencer w.nodes.items now c.args.second second c.self.view_is c.self.invariant
-    c.requires.replicas.1 c.index-2.ensures in
-    let alike : length_of first.replica.board ≡ length_of second.replica.board =
-    sym c.length.ensures.value ∙ c.if-length.false ∙ c.length-2.ensures.value in
-    let same = same_rows (bank_of now) c.args.first c.args.second first second c.in-Some.left.now c.in-Some-settled_columns.right.now look_a.along look_b.along
-    c.in-Some.ensures.bank c.in-Some-settled_columns.ensures.bank c.in-Some.ensures.value.1 c.in-Some-settled_columns.ensures.value.1 alike in
-    ap (λ b. length b.savings) same
+first_place-requires-clause-savings c = ap (λ b. length b.savings) (same_columns c)
 
 pub first_place-requires-clause-checking : goal.first_place-requires-clause-checking
-first_place-requires-clause-checking c =
-    let w = c.self.inside in
-    let now = c.args.self.now in
-    let first = c.index.result.now in
-    let second = c.index-2.result.now in
-    let look_a = looked_up w.directory w.opening w.sequencer w.nodes.items now c.args.first first c.self.view_is c.self.invariant
-    c.requires.replicas.0 c.index.ensures in
-    let look_b = looked_up w.directory w.opening w.sequencer w.nodes.items now c.args.second second c.self.view_is c.self.invariant
-    c.requires.replicas.1 c.index-2.ensures in
-    let alike : length_of first.replica.board ≡ length_of second.replica.board =
-    sym c.length.ensures.value ∙ c.if-length.false ∙ c.length-2.ensures.value in
-    let same = same_rows (bank_of now) c.args.first c.args.second first second c.in-Some.left.now c.in-Some-settled_columns.right.now look_a.along look_b.along
-    c.in-Some.ensures.bank c.in-Some-settled_columns.ensures.bank c.in-Some.ensures.value.1 c.in-Some-settled_columns.ensures.value.1 alike in
-    ap (λ b. length b.checking) same
+first_place-requires-clause-checking c = ap (λ b. length b.checking) (same_columns c)
 
--- the columns are the same, so no place differs
+-- so no place differs
 pub returns-in-Some-first_place-clause-value : goal.returns-in-Some-first_place-clause-value
 returns-in-Some-first_place-clause-value c one other seen_one seen_other =
-    let w = c.self.inside in
-    let now = c.args.self.now in
-    let first = c.index.result.now in
-    let second = c.index-2.result.now in
-    let look_a = looked_up w.directory w.opening w.sequencer w.nodes.items now c.args.first first c.self.view_is c.self.invariant
-    c.requires.replicas.0 c.index.ensures in
-    let look_b = looked_up w.directory w.opening w.sequencer w.nodes.items now c.args.second second c.self.view_is c.self.invariant
-    c.requires.replicas.1 c.index-2.ensures in
-    let alike : length_of first.replica.board ≡ length_of second.replica.board =
-    sym c.length.ensures.value ∙ c.if-length.false ∙ c.length-2.ensures.value in
-    let same = same_rows (bank_of now) c.args.first c.args.second first second c.in-Some.left.now c.in-Some-settled_columns.right.now look_a.along look_b.along
-    c.in-Some.ensures.bank c.in-Some-settled_columns.ensures.bank c.in-Some.ensures.value.1 c.in-Some-settled_columns.ensures.value.1 alike in
-    absurd (none_some (sym (c.first_place.ensures same) ∙ c.in-Some-first_place.is))
-
-pub books-requires-clause-few : goal.books-requires-clause-few
-books-requires-clause-few c =
-    let w = c.self.inside in
-    let now = c.args.self.now in
-    let first = c.index.result.now in
-    let second = c.index-2.result.now in
-    let look_a = looked_up w.directory w.opening w.sequencer w.nodes.items now c.args.first first c.self.view_is c.self.invariant
-    c.requires.replicas.0 c.index.ensures in
-    let look_b = looked_up w.directory w.opening w.sequencer w.nodes.items now c.args.second second c.self.view_is c.self.invariant
-    c.requires.replicas.1 c.index-2.ensures in
-    let held = c.deref.ensures.value ∙ c.in_ok-replies.ensures.value in
-    let size = ap length held ∙ length_replies (bank_of now) c.args.first first look_a.along c.in-Some.ensures.value.0 in
-    let within = within_log (held_of (bank_of now).opening) (ops_of (bank_of now)) first.replica.board look_a.along.board in
-    let ops = length-map (resolved (bank_of now).names) (bank_of now).calls in
-    let calls = length-map (λ entry. entry.1) now.sequencer.log in
-    omega (arith, size, within, ops, calls)
-
-pub books-requires-clause-rows : goal.books-requires-clause-rows
-books-requires-clause-rows c =
-    let w = c.self.inside in
-    let now = c.args.self.now in
-    let first = c.index.result.now in
-    let second = c.index-2.result.now in
-    let look_a = looked_up w.directory w.opening w.sequencer w.nodes.items now c.args.first first c.self.view_is c.self.invariant
-    c.requires.replicas.0 c.index.ensures in
-    let look_b = looked_up w.directory w.opening w.sequencer w.nodes.items now c.args.second second c.self.view_is c.self.invariant
-    c.requires.replicas.1 c.index-2.ensures in
-    let held = c.deref.ensures.value ∙ c.in_ok-replies.ensures.value in
-    let size = ap length held ∙ length_replies (bank_of now) c.args.first first look_a.along c.in-Some.ensures.value.0 in
-    subst (λ n. IsRowsAt (bank_of now) n c.in-Some.left.now) (sym size)
-    (idle_rows (bank_of now) c.args.first first c.in-Some.left.now look_a.along c.in-Some.ensures.bank c.in-Some.ensures.value.1)
-
-pub books-requires-clause-replies : goal.books-requires-clause-replies
-books-requires-clause-replies c =
-    let w = c.self.inside in
-    let now = c.args.self.now in
-    let first = c.index.result.now in
-    let second = c.index-2.result.now in
-    let look_a = looked_up w.directory w.opening w.sequencer w.nodes.items now c.args.first first c.self.view_is c.self.invariant
-    c.requires.replicas.0 c.index.ensures in
-    let look_b = looked_up w.directory w.opening w.sequencer w.nodes.items now c.args.second second c.self.view_is c.self.invariant
-    c.requires.replicas.1 c.index-2.ensures in
-    let held = c.deref.ensures.value ∙ c.in_ok-replies.ensures.value in
-    let size = ap length held ∙ length_replies (bank_of now) c.args.first first look_a.along c.in-Some.ensures.value.0 in
-    subst (λ replies. replies ≡ take (length replies) (replies_to (opening_rows (bank_of now)) (bank_of now).calls)) (sym held)
-    (idle_replies (bank_of now) c.args.first first c.in-Some.left.now look_a.along c.in-Some.ensures.value.0 c.in-Some.ensures.value.1)
-
-pub returns-clause-value : goal.returns-clause-value
-returns-clause-value c one other seen_one seen_other =
-    let w = c.self.inside in
-    let now = c.args.self.now in
-    let first = c.index.result.now in
-    let second = c.index-2.result.now in
-    let look_a = looked_up w.directory w.opening w.sequencer w.nodes.items now c.args.first first c.self.view_is c.self.invariant
-    c.requires.replicas.0 c.index.ensures in
-    let look_b = looked_up w.directory w.opening w.sequencer w.nodes.items now c.args.second second c.self.view_is c.self.invariant
-    c.requires.replicas.1 c.index-2.ensures in
-    let held = c.deref.ensures.value ∙ c.in_ok-replies.ensures.value in
-    let size = ap length held ∙ length_replies (bank_of now) c.args.first first look_a.along c.in-Some.ensures.value.0 in
-    let alike : length_of first.replica.board ≡ length_of second.replica.board =
-    sym c.length.ensures.value ∙ c.if-length.false ∙ c.length-2.ensures.value in
-    c.in_ok-books.ensures
-    ∙ same_length (bank_of now) c.args.first c.args.second first second look_a.along look_b.along (length c.deref.result.now)
-    c.in-Some.ensures.value.0 c.in-Some-settled_columns.ensures.value.0 size alike
-    ∙ (λ j. compared (bank_of now) c.args.first c.args.second (seen_as now c.args.first first one look_a seen_one j)
-    (seen_as now c.args.second second other look_b seen_other j))
+    absurd (none_some (sym (c.first_place.ensures (same_columns (goal.at.returns-in-Some-first_place-clause-value c).Else-length))
+    ∙ c.in-Some-first_place.is))
 
 -- memory may be refused to the replies, and to the books
+wants : (c : Else-length) → let now = c.args.self.now in
+    may_take_memory (audited (bank_of now) c.args.first c.args.second (slice_get now.nodes c.args.first) (slice_get now.nodes c.args.second)) ≡ true
+wants c =
+    let looks = (goal.at.first_place-requires-clause-savings c).After-index-2 in
+    adds_books c.args.self.now c.args.first c.args.second c.index.result.now c.index-2.result.now (look_one looks) (look_other looks)
+    c.in-Some.ensures.value.0 c.in-Some-settled_columns.ensures.value.0 (alike c)
+
 pub returns-in_err-replies-clause-wanted : goal.returns-in_err-replies-clause-wanted
 returns-in_err-replies-clause-wanted c =
-    let w = c.self.inside in
-    let now = c.args.self.now in
-    let first = c.index.result.now in
-    let second = c.index-2.result.now in
-    let look_a = looked_up w.directory w.opening w.sequencer w.nodes.items now c.args.first first c.self.view_is c.self.invariant
-    c.requires.replicas.0 c.index.ensures in
-    let look_b = looked_up w.directory w.opening w.sequencer w.nodes.items now c.args.second second c.self.view_is c.self.invariant
-    c.requires.replicas.1 c.index-2.ensures in
-    on_err c.from_residual.result
-    (adds_books now c.args.first c.args.second first second look_a look_b c.in-Some.ensures.value.0 c.in-Some-settled_columns.ensures.value.0
-    (sym c.length.ensures.value ∙ c.if-length.false ∙ c.length-2.ensures.value))
+    on_err c.from_residual.result (wants (goal.at.returns-in_err-replies-clause-wanted c).Else-length)
 
 pub returns-in_err-books-clause-wanted : goal.returns-in_err-books-clause-wanted
 returns-in_err-books-clause-wanted c =
-    let w = c.self.inside in
+    on_err c.from_residual-in_err-books.result (wants (goal.at.returns-in_err-books-clause-wanted c).Else-length)
+
+-- ---- the books
+
+-- the replies are those of the whole log of the first
+held : (c : After-deref) → c.deref.result.now ≡ replies_held c.index.result.now.replica.board
+held c = c.deref.ensures.value ∙ c.in_ok-replies.ensures.value
+
+size : (c : After-deref) → length c.deref.result.now ≡ length_of c.index.result.now.replica.board
+size c =
+    let looks = (goal.at.books-requires-clause-few c).After-index-2 in
+    ap length (held c)
+    ∙ length_replies (bank_of c.args.self.now) c.args.first c.index.result.now (look_one looks).along c.in-Some.ensures.value.0
+
+pub books-requires-clause-few : goal.books-requires-clause-few
+books-requires-clause-few c =
+    let looks = (goal.at.books-requires-clause-few c).After-index-2 in
     let now = c.args.self.now in
-    let first = c.index.result.now in
-    let second = c.index-2.result.now in
-    let look_a = looked_up w.directory w.opening w.sequencer w.nodes.items now c.args.first first c.self.view_is c.self.invariant
-    c.requires.replicas.0 c.index.ensures in
-    let look_b = looked_up w.directory w.opening w.sequencer w.nodes.items now c.args.second second c.self.view_is c.self.invariant
-    c.requires.replicas.1 c.index-2.ensures in
-    on_err c.from_residual-in_err-books.result
-    (adds_books now c.args.first c.args.second first second look_a look_b c.in-Some.ensures.value.0 c.in-Some-settled_columns.ensures.value.0
-    (sym c.length.ensures.value ∙ c.if-length.false ∙ c.length-2.ensures.value))
+    let bank = bank_of now in
+    let count = size c in
+    let within = within_log (held_of bank.opening) (ops_of bank) c.index.result.now.replica.board (look_one looks).along.board in
+    let ops = length-map (resolved bank.names) bank.calls in
+    let calls = length-map (λ entry. entry.1) now.sequencer.log in
+    omega (arith, count, within, ops, calls)
+
+pub books-requires-clause-rows : goal.books-requires-clause-rows
+books-requires-clause-rows c =
+    let looks = (goal.at.books-requires-clause-rows c).After-index-2 in
+    let bank = bank_of c.args.self.now in
+    subst (λ n. IsRowsAt bank n c.in-Some.left.now) (sym (size c))
+    (idle_rows bank c.args.first c.index.result.now c.in-Some.left.now (look_one looks).along c.in-Some.ensures.bank c.in-Some.ensures.value.1)
+
+pub books-requires-clause-replies : goal.books-requires-clause-replies
+books-requires-clause-replies c =
+    let looks = (goal.at.books-requires-clause-replies c).After-index-2 in
+    let bank = bank_of c.args.self.now in
+    subst (λ replies. replies ≡ take (length replies) (replies_to (opening_rows bank) bank.calls)) (sym (held c))
+    (idle_replies bank c.args.first c.index.result.now c.in-Some.left.now (look_one looks).along c.in-Some.ensures.value.0 c.in-Some.ensures.value.1)
+
+pub returns-clause-value : goal.returns-clause-value
+returns-clause-value c one other seen_one seen_other =
+    let looks = (goal.at.returns-clause-value c).After-index-2 in
+    c.in_ok-books.ensures
+    ∙ same_length (bank_of c.args.self.now) c.args.first c.args.second c.index.result.now c.index-2.result.now (look_one looks).along
+    (look_other looks).along (length c.deref.result.now) c.in-Some.ensures.value.0 c.in-Some-settled_columns.ensures.value.0
+    (size (goal.at.returns-clause-value c).After-deref) (alike (goal.at.returns-clause-value c).Else-length)
+    ∙ as_seen looks one other seen_one seen_other

@@ -27,10 +27,10 @@ returns-clause-rows c =
     c.settled_columns.ensures.value c.settled_columns.ensures.bank refl
 
 pub returns-clause-by_log : goal.returns-clause-by_log
-returns-clause-by_log c names opening nodes workers events played =
+returns-clause-by_log c schedule played =
     let w = c.self.inside in
     let node = c.index.result.now in
     let found = looked_up w.directory w.opening w.sequencer w.nodes.items c.args.self.now c.args.replica node c.self.view_is c.self.invariant
     c.requires c.index.ensures in
-    lent_rows c.args.self.now c.args.replica node found (λ columns. columns.now) c.settled_columns.result (bank_after names opening events)
-    c.settled_columns.ensures.value c.settled_columns.ensures.bank (played_bank names opening nodes workers events c.args.self.now played)
+    lent_rows c.args.self.now c.args.replica node found (λ columns. columns.now) c.settled_columns.result (bank_after schedule)
+    c.settled_columns.ensures.value c.settled_columns.ensures.bank (played_bank schedule c.args.self.now played)

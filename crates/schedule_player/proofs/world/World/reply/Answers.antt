@@ -13,6 +13,6 @@ returns-clause-value c =
     reply_here c.args.self.now c.args.replica node found c.args.number c.reply.result c.reply.ensures.value
 
 pub returns-clause-by_log : goal.returns-clause-by_log
-returns-clause-by_log c names opening nodes workers events played =
-    observed_reply c.args.self.now c.args.replica c.args.number c.reply.result (bank_after names opening events) (returns-clause-value c)
-    (played_bank names opening nodes workers events c.args.self.now played)
+returns-clause-by_log c schedule played =
+    observed_reply c.args.self.now c.args.replica c.args.number c.reply.result (bank_after schedule) (returns-clause-value c)
+    (played_bank schedule c.args.self.now played)

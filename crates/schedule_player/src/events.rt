@@ -1,0 +1,36 @@
+//! What an event does at its replica.
+ghost use Rattle.std.specs.Prelude.{◌≡◌, ℕ, ◌<◌, Some, List};
+ghost use Rattle.sb_rows.specs.Balances.{Balances};
+ghost use Rattle.schedule_player.specs.NodeAlong.{IsNodeAt, Steps, seen_node};
+ghost use Rattle.schedule_player.specs.ReplicaEvents.{node_move, replica_of};
+ghost use Rattle.schedule_player.specs.World.{bank_with};
+
+use crate::fault::StepFault;
+use crate::node::Node;
+use sb_sequencer::{REPLICAS, Sequencer};
+use schedule_text::{Event, Note};
+
+impl Node {
+    /// An event happens at the replica. What happens at none does nothing.
+    pub fn step(&mut self, event: Event, sequencer: &Sequencer) -> Result<Note, StepFault>
+        ensures { (names : List (List ℕ)) (opening : Balances) (r : ℕ) → r < REPLICAS → replica_of event ≡ Some r
+            → IsNodeAt (bank_with names opening sequencer.now.log) r self.old
+            → Steps (bank_with names opening sequencer.now.log) r self.old self.new result
+            (node_move (bank_with names opening sequencer.now.log) sequencer.now (seen_node self.old) event) }
+    {
+        match event {
+            Event::Send { number, .. } => self.send(number, sequencer),
+            Event::Resend { replica } => self.resend(replica, sequencer),
+            Event::To { place, .. } => self.deliver(place),
+            Event::Ack { .. } => self.acknowledge(),
+            Event::Answer { number, .. } => self.answer(number),
+            Event::Take { worker, index, .. } => Ok(self.take(worker, index)),
+            Event::Finish { worker, .. } => Ok(self.finish(worker)),
+            Event::Mark { how, .. } => self.mark(how),
+            Event::Restart { .. } => self.restart(),
+            Event::Cut { .. } => self.cut(),
+            Event::Next { .. } => self.advance(),
+            Event::Ask { .. } | Event::From { .. } | Event::Audit { .. } => Ok(Note::Nothing),
+        }
+    }
+}
