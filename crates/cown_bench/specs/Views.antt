@@ -50,8 +50,11 @@ pub record IsWorker (pass : Pass WorkOf Known) : Type 0 where
   pub no_slot : pass.me.1 ≡ []
   pub knows : view pass ≡ worker_view (view pass).picked
 
--- a bench's queue holds as much as a bench may, and there is room for as much of what is left
-pub record HasRoom (capacity : ℕ) (left : List WorkOf) (room : ℕ) : Type 0 where
+-- a bench's queue holds as much as a bench may
+pub record HoldsAll (capacity : ℕ) : Type 0 where
   pub queue : capacity ≡ BENCH_CAPACITY
+
+-- nothing is left yet, and there is room for as much as a bench holds
+pub record HasRoom (left : List WorkOf) (room : ℕ) : Type 0 where
   pub empty : left ≡ []
   pub enough : BENCH_CAPACITY ≤ room

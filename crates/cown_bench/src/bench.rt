@@ -24,21 +24,18 @@ pub const BENCH_CAPACITY: usize = OPEN_BEHAVIOURS + WORKERS;
 #[derive(Drop)]
 pub struct Bench {
     queue: Queue,
-    // Room for what nobody picked.
-    left: Vec<Work>,
 }
 
 impl Model for Bench {
-    ghost use Rattle.std.specs.Prelude.{vec_capacity};
     ghost use Rattle.crossbeam_queue.specs.Passes.{ruled_capacity};
     ghost use Rattle.cown_bench.specs.BenchPasses.{BenchId};
-    ghost use Rattle.cown_bench.specs.Views.{HasRoom};
+    ghost use Rattle.cown_bench.specs.Views.{HoldsAll};
 
     ghost Value = { BenchId };
 
     ghost view = { λ b. b.queue.table.shared.table_id };
 
-    ghost invariant = { λ b. HasRoom (ruled_capacity b.queue) b.left.items (vec_capacity b.left) };
+    ghost invariant = { λ b. HoldsAll (ruled_capacity b.queue) };
 }
 
 impl Bench {
@@ -59,7 +56,7 @@ impl Bench {
         let mut passes = Vec::with_capacity(alloc, workers)?;
         let (queue, mut pass) = Queue::ruled(alloc, BENCH_CAPACITY)?;
         cut(&queue, &mut pass, workers, &mut passes);
-        Ok((Bench { queue, left }, OwnerPass { pass }, passes))
+        Ok((Bench { queue }, OwnerPass { pass, left }, passes))
     }
 
     /// Lays out a Work. Where the bench is full it comes back.
@@ -85,17 +82,16 @@ impl Bench {
     }
 
     /// Closes the bench, and answers what nobody picked, in the order in which it was offered. All passes that
-    /// were made with the bench come back. It allocates nothing.
-    pub fn close<R: Wait>(self, rt: &R, owner: OwnerPass, workers: Vec<WorkerPass>) -> Vec<Work>
-        requires owner { owner.bench ≡ self }
-        requires workers { All (λ worker. worker.bench ≡ self) workers.items }
+    /// were made with the bench are given up, so nothing is offered or picked there any more. It allocates nothing.
+    pub fn close<R: Wait>(&self, rt: &R, owner: OwnerPass, workers: Vec<WorkerPass>) -> Vec<Work>
+        requires owner { owner.bench ≡ self.now }
+        requires workers { All (λ worker. worker.bench ≡ self.now) workers.items }
         requires all { length workers.items ≡ owner.workers }
         ensures parted { IsPartedInto owner.offered (picked_of workers.items) result.items }
         // So whatever is added up over all that was offered is the same over what was picked and what is left.
         ensures weights { WeighAlike owner.offered (picked_of workers.items) result.items }
     {
-        let Bench { queue, left } = self;
-        let pass = gather(&queue, owner, workers);
-        drain(rt, &queue, pass, left)
+        let (pass, left) = gather(&self.queue, owner, workers);
+        drain(rt, &self.queue, pass, left)
     }
 }

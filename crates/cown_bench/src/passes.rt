@@ -9,6 +9,8 @@ use std::marker::Model;
 #[derive(Drop)]
 pub struct OwnerPass {
     pub(crate) pass: Pass<Work, Known>,
+    // Room for what nobody picked.
+    pub(crate) left: Vec<Work>,
 }
 
 impl Model for OwnerPass {
@@ -16,11 +18,12 @@ impl Model for OwnerPass {
 
     ghost Value = { OwnerOf };
 
-    ghost use Rattle.cown_bench.specs.Views.{IsOwner, owner_of};
+    ghost use Rattle.std.specs.Prelude.{vec_capacity};
+    ghost use Rattle.cown_bench.specs.Views.{HasRoom, IsOwner, owner_of};
 
     ghost view = { λ p. owner_of p.pass };
 
-    ghost invariant = { λ p. IsOwner p.pass };
+    ghost invariant = { λ p. IsOwner p.pass × HasRoom p.left.items (vec_capacity p.left) };
 }
 
 /// Who has it may pick from one bench. It remembers nothing when it runs: what it picked is known to contracts

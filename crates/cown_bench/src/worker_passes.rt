@@ -2,7 +2,7 @@
 ghost use Rattle.std.specs.Prelude.{◌≡◌, ◌-◌, ◌≤◌, [], All, length, vec_capacity};
 ghost use Rattle.crossbeam_queue.specs.Passes.{IsPassOf, view};
 ghost use Rattle.cown_bench.specs.BenchPasses.{picked_of};
-ghost use Rattle.cown_bench.specs.Views.{all_parts, owner_view};
+ghost use Rattle.cown_bench.specs.Views.{HasRoom, all_parts, owner_view};
 ghost use Rattle.cown_bench.specs.declared.bench.TheConstants.{WORKERS};
 
 use crate::known::Known;
@@ -35,19 +35,24 @@ pub(crate) fn cut(
     }
 }
 
-// Takes all workers' passes into the owner's, which knows all then.
-pub(crate) fn gather(queue: &Queue, owner: OwnerPass, workers: Vec<WorkerPass>) -> Pass<Work, Known>
+// Takes all workers' passes into the owner's, which knows all then. The owner's room for what is left comes with it.
+pub(crate) fn gather(
+    queue: &Queue,
+    owner: OwnerPass,
+    workers: Vec<WorkerPass>,
+) -> (Pass<Work, Known>, Vec<Work>)
     requires owner { owner.bench ≡ queue.now.table.shared.table_id }
     requires workers { All (λ worker. worker.bench ≡ queue.now.table.shared.table_id) workers.items }
     requires all { length workers.items ≡ owner.workers }
-    ensures queue { IsPassOf queue.now result }
-    ensures knows { view result ≡
+    ensures queue { IsPassOf queue.now result.0 }
+    ensures knows { view result.0 ≡
         owner_view all_parts owner.offered (picked_of workers.items) [] }
+    ensures room { HasRoom result.1.items (vec_capacity result.1) }
 {
-    let OwnerPass { mut pass } = owner;
+    let OwnerPass { mut pass, left } = owner;
     for worker in workers {
         let WorkerPass { pass: other } = worker;
         queue.absorb::<OnePart>(&mut pass, other);
     }
-    pass
+    (pass, left)
 }

@@ -1,5 +1,6 @@
 mod CarryingOut
 mod Changing
+mod Closing
 mod Counting
 mod Exchanging
 mod Picking

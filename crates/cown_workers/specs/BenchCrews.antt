@@ -1,7 +1,8 @@
 -- What a crew at a bench does at one exchange.
-use Rattle.std.specs.Prelude.{◌≡◌, ℕ, ◌≤◌, ◌⊎◌, Bool, true, Option, Some, None, List, [], ◌∷◌, ◌++◌, length}
+use Rattle.std.specs.Prelude.{◌≡◌, ℕ, ◌≤◌, ◌⊎◌, Bool, true, Option, Some, None, List, [], ◌∷◌, ◌++◌, length, replicate}
 use Rattle.sb_calls.specs.declared.op.Op.{Op}
 use Rattle.cown_board.specs.Job.{DoneOf}
+use Rattle.cown_bench.specs.Parting.{IsPartedInto}
 use Rattle.cown_bench.specs.Picks.{WorkOf, PickOf}
 use Rattle.cown_bench.specs.BenchPasses.{WorkerOf}
 use Rattle.cown_bench.specs.declared.work.Work.TheVariants.{Run, Stop}
@@ -52,3 +53,13 @@ abbrev pub LaysOut : BenchCrewOf → CrewStep → BenchCrewOf → Type 0
 LaysOut old (Kept job) new = new ≡ record old { offered = old.offered ++ Run job ∷ [] }
 LaysOut old (CameBack job) new = (new ≡ old) × (1040 ≤ length old.offered)
 LaysOut old (HandedOver answer) new = (new ≡ old) ⊎ HandsOverItsOwn old answer new
+
+-- a crew went home: behind all that it had laid out lay a `Stop` for each worker, and of this each Work was picked
+-- once, by its owner or by one worker, or is left
+pub record GoesHome (crew : BenchCrewOf) : Type 0 where
+  -- what each worker picked
+  pub by_workers : List (List PickOf)
+  pub as_many : length by_workers ≡ crew.workers
+  -- what nobody picked
+  pub left : List WorkOf
+  pub parted : IsPartedInto (crew.offered ++ replicate crew.workers Stop) (crew.picked ∷ by_workers) left

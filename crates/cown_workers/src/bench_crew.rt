@@ -1,21 +1,22 @@
 //! A crew that works at a bench.
-ghost use Rattle.std.specs.Prelude.{◌≡◌, ℕ, ◌⊎◌, [], ◌∷◌, ◌++◌, true, is_some, IfNone, IfSome};
+ghost use Rattle.std.specs.Prelude.{◌≡◌, ℕ, ◌+◌, ◌⊎◌, [], ◌∷◌, ◌++◌, All, length, true, is_some, IfNone, IfSome};
+ghost use Rattle.std.specs.Option.{option_to_list};
 ghost use Rattle.cown_board.specs.Job.{JobOf};
 ghost use Rattle.sb_calls.specs.declared.op.Op.{Op};
-ghost use Rattle.cown_workers.specs.BenchCrews.{picked_with, PicksItself, LaysOut};
+ghost use Rattle.cown_workers.specs.BenchCrews.{picked_with, GoesHome, LaysOut, PicksItself};
 ghost use Rattle.cown_workers.specs.Draining.{IsOf};
 
-use crate::bell::Bell;
 use crate::burst::Burst;
 use crate::crew::Crew;
+use crate::desk::Desk;
 use crate::gate::{Gate, carry_out};
-use crate::inbox::Inbox;
-use cown_bench::{Bench, OwnerPass, Work, WorkerPass};
+use crate::staff::Staff;
+use cown_bench::{Bench, Work, WorkerPass};
 use cown_board::{Done, Job};
 use sb_calls::Op;
 use std::marker::Model;
 use std::sync::Wait;
-use std::thread;
+use std::thread::Threads;
 use std::time::Clock;
 
 /// A crew in threads, as the owner of a board has it. What is given lies on a bench until a worker picks it, and comes
@@ -27,93 +28,75 @@ use std::time::Clock;
 // No bound stands on `G` here: with one whose trait has ghost members the check can't state `with_crew`'s bound on `f`.
 #[derive(Drop)]
 pub struct BenchCrew<'a, R: Wait + Clock, G> {
-    rt: &'a R,
-    bench: &'a Bench,
-    bell: &'a Bell,
+    desk: Desk<'a, R>,
     gate: &'a G,
-    pass: OwnerPass,
     // What it picks with itself, where it helps.
     hands: Option<WorkerPass>,
-    inbox: Inbox,
-    // How many workers were started.
-    workers: usize,
+    staff: Staff,
     // How many jobs it has, and since when it has some.
     jobs: usize,
     burst: Burst,
 }
 
 impl<'a, R: Wait + Clock, G> Model for BenchCrew<'a, R, G> {
-    ghost use Rattle.std.specs.Prelude.{◌≡◌, IfSome, is_some};
+    ghost use Rattle.std.specs.Prelude.{◌≡◌, ◌+◌, All, length, IfSome, is_some};
+    ghost use Rattle.std.specs.Option.{option_to_list};
     ghost use Rattle.cown_workers.specs.BenchCrews.{BenchCrewOf, picked_with};
 
     ghost Value = { BenchCrewOf };
 
     ghost view = { λ crew. record {
-      workers = crew.workers;
+      workers = length crew.staff.threads.items;
       owner_helps = is_some crew.hands;
-      offered = crew.pass.offered;
+      offered = crew.desk.pass.offered;
       picked = picked_with crew.hands;
     } };
 
-    ghost invariant = { λ crew. (crew.pass.bench ≡ crew.bench.now)
-        × IfSome crew.hands (λ hands. hands.bench ≡ crew.bench.now) };
+    // All passes of the bench are with the crew.
+    ghost invariant = { λ crew. (crew.desk.pass.bench ≡ crew.desk.bench.now)
+        × IfSome crew.hands (λ hands. hands.bench ≡ crew.desk.bench.now)
+        × All (λ thread. thread.promise.0.value ≡ crew.desk.bench.now) crew.staff.threads.items
+        × (crew.desk.pass.workers ≡ length (option_to_list crew.hands) + length crew.staff.threads.items) };
 }
 
 impl<'a, R: Wait + Clock, G: Gate> BenchCrew<'a, R, G> {
-    // A crew that has no worker yet.
+    // A crew that has these workers, and the other passes of their bench.
     pub(crate) fn new(
-        rt: &'a R,
-        bench: &'a Bench,
-        bell: &'a Bell,
+        desk: Desk<'a, R>,
         gate: &'a G,
-        pass: OwnerPass,
         hands: Option<WorkerPass>,
-        inbox: Inbox,
+        staff: Staff,
     ) -> BenchCrew<'a, R, G>
-        requires owner { pass.bench ≡ bench.now }
-        requires hands { IfSome hands (λ hands. hands.bench ≡ bench.now) }
+        requires owner { desk.pass.bench ≡ desk.bench.now }
+        requires hands { IfSome hands (λ hands. hands.bench ≡ desk.bench.now) }
+        requires staff { All (λ thread. thread.promise.0.value ≡ desk.bench.now) staff.threads.items }
+        requires all { desk.pass.workers ≡ length (option_to_list hands) + length staff.threads.items }
         ensures { result ≡ record {
-          workers = 0;
+          workers = length staff.threads.items;
           owner_helps = is_some hands;
-          offered = pass.offered;
+          offered = desk.entry.pass.offered;
           picked = picked_with hands;
         } }
     {
         BenchCrew {
-            rt,
-            bench,
-            bell,
+            desk,
             gate,
-            pass,
             hands,
-            inbox,
-            workers: 0,
+            staff,
             jobs: 0,
             burst: Burst::new(),
         }
-    }
-
-    pub(crate) fn workers(&self) -> usize
-        ensures { result ≡ self.now.workers }
-    {
-        self.workers
-    }
-
-    // So many workers were started for it.
-    pub(crate) fn hire(&mut self, workers: usize)
-        ensures { self.new ≡ record self.old { workers = workers } }
-    {
-        self.workers = workers;
     }
 
     // What a worker that is up has handed over, if anything. While all rest the bench comes first.
     fn handed_over(&mut self) -> Option<Done<Op>>
         ensures { self.new ≡ self.old }
     {
-        if self.bell.all_rest() {
+        if self.desk.bell.all_rest() {
             return None;
         }
-        self.inbox.try_recv(self.rt).ok()
+        let rt = self.desk.rt;
+        self.desk.inbox.try_recv(rt).ok()
     }
 
     // Carries out what lies on the bench longest, if the owner helps and something lies there. Once that has gone
@@ -126,46 +109,29 @@ impl<'a, R: Wait + Clock, G: Gate> BenchCrew<'a, R, G> {
         let Some(hands) = &mut self.hands else {
             return None;
         };
-        if self.jobs > 1 && self.burst.is_long(self.rt) {
-            self.bell.ring(self.rt, self.jobs - 1);
+        if self.jobs > 1 && self.burst.is_long(self.desk.rt) {
+            self.desk.bell.ring(self.desk.rt, self.jobs - 1);
         }
-        pick_and_carry_out(self.rt, self.bench, hands, self.gate)
+        pick_and_carry_out(self.desk.rt, self.desk.bench, hands, self.gate)
     }
+}
 
-    // Lays out a `Stop` for each worker, and waits until all are gone.
-    pub(crate) fn send_home(mut self) {
-        for _ in 0..self.workers {
-            self.lay_out_a_stop();
-        }
-        self.outlast_the_workers();
-    }
-
-    // Each worker has an end of the channel, so nothing more comes once all are gone.
-    fn outlast_the_workers(mut self) {
-        let rt = self.rt;
-        for _ in rt.forever() {
-            if self.inbox.next(rt).is_none() {
-                return;
-            }
-        }
-        unreachable!()
-    }
-
-    // Where the bench is full, what is carried out is taken in, so that no worker waits for room in the channel.
-    fn lay_out_a_stop(&mut self) {
-        for _ in self.rt.forever() {
-            if self
-                .bench
-                .offer(self.rt, &mut self.pass, Work::Stop)
-                .is_ok()
-            {
-                self.bell.ring(self.rt, usize::MAX);
-                return;
-            }
-            let _ = self.inbox.try_recv(self.rt);
-            thread::yield_now();
-        }
-        unreachable!()
+impl<'a, R: Threads + Wait + Clock, G: Gate> BenchCrew<'a, R, G> {
+    // Sends the workers home, and closes the bench once all are gone. What is left there is let go.
+    pub(crate) fn close(self)
+        ensures { GoesHome self.entry }
+    {
+        let BenchCrew {
+            desk,
+            hands,
+            staff,
+            ..
+        } = self;
+        let rt = desk.rt;
+        let bench = desk.bench;
+        let owner = desk.send_home(staff.len());
+        let workers = staff.join(rt, hands);
+        let _ = bench.close(rt, owner, workers);
     }
 }
 
@@ -179,15 +145,19 @@ impl<'a, R: Wait + Clock, G: Gate> Crew for BenchCrew<'a, R, G> {
     }
 
     fn give(&mut self, job: Job<Op>) -> Result<(), Job<Op>> {
-        match self.bench.offer(self.rt, &mut self.pass, Work::Run(job)) {
+        match self
+            .desk
+            .bench
+            .offer(self.desk.rt, &mut self.desk.pass, Work::Run(job))
+        {
             Ok(()) => {
                 if self.jobs == 0 {
-                    self.burst.begin(self.rt);
+                    self.burst.begin(self.desk.rt);
                 }
                 self.jobs = self.jobs.saturating_add(1);
                 // An owner that helps begins alone.
                 if self.hands.is_none() {
-                    self.bell.ring(self.rt, self.jobs);
+                    self.desk.bell.ring(self.desk.rt, self.jobs);
                 }
                 Ok(())
             }
@@ -197,11 +167,12 @@ impl<'a, R: Wait + Clock, G: Gate> Crew for BenchCrew<'a, R, G> {
     }
 
     fn next(&mut self) -> Option<Done<Op>> {
+        let rt = self.desk.rt;
         let done = match self.handed_over() {
             Some(done) => done,
             None => match self.help() {
                 Some(done) => done,
-                None => self.inbox.next(self.rt)?,
+                None => self.desk.inbox.next(rt)?,
             },
         };
         self.jobs = self.jobs.saturating_sub(1);
@@ -233,11 +204,34 @@ fn pick_and_carry_out<R: Wait, G: Gate>(
 #[cfg(test)]
 mod tests {
     use super::*;
+    use crate::bell::Bell;
     use crate::gate::OpenGate;
     use crate::inbox::open_inbox;
     use crate::jobs::job;
+    use crate::staff::PassOf;
     use std::alloc::Global;
     use std::process::Abort;
+    use std::snapshot::Snapshot;
+    use std::thread;
+
+    // The thread of a worker that gives its pass back at once.
+    fn idle_staff<R: Threads + Abort>(
+        rt: &R,
+        alloc: Global,
+        bench: &Bench,
+        pass: WorkerPass,
+    ) -> Staff
+        requires { pass.bench ≡ bench.now }
+        ensures one { length result.threads.items ≡ 1 }
+        ensures bench { All (λ thread. thread.promise.0.value ≡ bench.now) result.threads.items }
+    {
+        let mut threads = Vec::with_capacity(alloc, 1).expect(rt, "memory");
+        let passes = Vec::with_capacity(alloc, 2).expect(rt, "memory");
+        let promise = PassOf(Snapshot::of(bench));
+        let thread = thread::spawn_with(rt, promise, move || pass).expect(rt, "a thread");
+        threads.push_reserved(thread);
+        Staff { threads, passes }
+    }
 
     fn gives<R: Wait + Clock + Abort>(
         rt: &R,
@@ -249,16 +243,24 @@ mod tests {
 
     #[test]
     fn an_owner_that_only_waits_rings_for_each_job(rt: HostRuntime) {
-        let (bench, pass, _) = Bench::new(rt.alloc(), 1).expect(&rt, "memory");
+        let (bench, pass, mut passes) = Bench::new(rt.alloc(), 1).expect(&rt, "memory");
         let bell = Bell::new(rt.alloc(), 1).expect(&rt, "memory");
         let (_, inbox) = open_inbox(rt.alloc()).expect(&rt, "memory");
         bell.lie_down();
-        let mut crew = BenchCrew::new(&rt, &bench, &bell, &OpenGate, pass, None, inbox);
+        let worker = passes.pop().expect(&rt, "a pass");
+        let staff = idle_staff(&rt, rt.alloc(), &bench, worker);
+        let desk = Desk {
+            rt: &rt,
+            bench: &bench,
+            bell: &bell,
+            pass,
+            inbox,
+        };
+        let mut crew = BenchCrew::new(desk, &OpenGate, None, staff);
         gives(&rt, rt.alloc(), &mut crew);
         assert!(rt; bell.hears_a_ring(&rt));
         // It rings for a `Stop` too.
-        crew.hire(1);
-        crew.send_home();
+        crew.close();
         assert!(rt; bell.hears_a_ring(&rt));
     }
 
@@ -269,7 +271,16 @@ mod tests {
         let (_outbox, inbox) = open_inbox(rt.alloc()).expect(&rt, "memory");
         bell.lie_down();
         let hands = passes.pop();
-        let mut crew = BenchCrew::new(&rt, &bench, &bell, &OpenGate, pass, hands, inbox);
+        let worker = passes.pop().expect(&rt, "a pass");
+        let staff = idle_staff(&rt, rt.alloc(), &bench, worker);
+        let desk = Desk {
+            rt: &rt,
+            bench: &bench,
+            bell: &bell,
+            pass,
+            inbox,
+        };
+        let mut crew = BenchCrew::new(desk, &OpenGate, hands, staff);
         gives(&rt, rt.alloc(), &mut crew);
         gives(&rt, rt.alloc(), &mut crew);
         // To listen takes longer than the owner is alone.

@@ -2,24 +2,28 @@
 ghost use Rattle.std.specs.Prelude.{◌≡◌, ◌+◌, ◌<◌, ◌≤◌, [], ◌++◌, All, length, true, IfOk, OnOk, is_some};
 ghost use Rattle.std.specs.Option.{option_to_list};
 ghost use Rattle.std.specs.Fn.{FnOnceReturnsAtMut};
-ghost use Rattle.cown_workers.specs.BenchCrews.{BenchCrewOf, IsFresh};
+ghost use Rattle.cown_workers.specs.BenchCrews.{BenchCrewOf, GoesHome, IsFresh};
 
 use crate::bell::Bell;
 use crate::bench_crew::BenchCrew;
 use crate::crew_fault::CrewFault;
+use crate::desk::Desk;
 use crate::gate::Gate;
 use crate::inbox::{Outbox, open_inbox};
+use crate::recruits::Recruits;
 use crate::worker::Worker;
 use cown_bench::{Bench, WORKERS, WorkerPass};
 use std::alloc::{AllocError, Global};
 use std::sync::Wait;
 use std::thread;
-use std::thread::{Scope, Threads};
+use std::thread::Threads;
 use std::time::Clock;
 
 /// Hands a crew of this many workers, each in a thread of its own, to `f`. Once `f` has answered and all workers
 /// are gone it answers the same. Under a gate that admits the owner, and with fewer than sixteen workers, `f`'s own
 /// thread carries jobs out too while it waits for one.
+///
+/// All that `f` laid out was picked by then, each once, by one worker or by `f`'s own thread, or it is left.
 ///
 /// Fails where memory is refused or a thread can't be started; then `f` isn't called. Each job stands between two
 /// calls of the gate. What `f` gave and didn't take in is carried out and let go.
@@ -38,30 +42,33 @@ where
     requires few { workers ≤ 16 }
     requires callable { F.IsAlwaysCallable f }
     ensures answer { IfOk result (λ answer. (fresh after : BenchCrewOf) ×
-        IsFresh workers (G.admits gate.now) fresh × FnOnceReturnsAtMut F.FnOnce f fresh answer after) }
+        IsFresh workers (G.admits gate.now) fresh × FnOnceReturnsAtMut F.FnOnce f fresh answer after ×
+        GoesHome after) }
 {
     let bell = Bell::new(alloc, workers)?;
     let (outbox, inbox) = open_inbox(alloc)?;
     let (bench, pass, mut passes) = Bench::new(alloc, pickers(gate, workers))?;
     let hands = take_above(&mut passes, workers);
-    let mut crew = BenchCrew::new(rt, &bench, &bell, gate, pass, hands, inbox);
     let hired = workers_at(rt, alloc, &bench, passes, gate, &bell, outbox)?;
+    let desk = Desk {
+        rt,
+        bench: &bench,
+        bell: &bell,
+        pass,
+        inbox,
+    };
+    let recruits = Recruits::new(alloc, desk, gate, hands, hired);
     thread::scope(
         thread::scope_env(),
         rt,
         move |scope| -> Result<T, CrewFault>
             requires callable { F.IsAlwaysCallable f }
-            requires hired { length hired.items ≡ workers }
             ensures { IfOk result (λ answer. (after : BenchCrewOf) ×
-                FnOnceReturnsAtMut F.FnOnce f (record crew.entry { workers = workers }) answer after) }
+                FnOnceReturnsAtMut F.FnOnce f recruits.entry answer after × GoesHome after) }
         {
-            crew.hire(start(scope, hired));
-            if crew.workers() < workers {
-                crew.send_home();
-                return Err(CrewFault::CrewGone);
-            }
+            let mut crew = recruits.start(scope)?;
             let answer = f(&mut crew);
-            crew.send_home();
+            crew.close();
             Ok(answer)
         },
     )
@@ -107,7 +114,8 @@ fn workers_at<'a, R: Wait + Clock, G: Gate>(
     mut outbox: Outbox,
 ) -> Result<Vec<Worker<'a, R, G>>, AllocError>
     requires { All (λ pass. pass.bench ≡ bench.now) passes.items }
-    ensures { IfOk result (λ workers. length workers.items ≡ length passes.items) }
+    ensures as_many { IfOk result (λ workers. length workers.items ≡ length passes.items) }
+    ensures bench { IfOk result (λ workers. All (λ worker. worker.bench.now ≡ bench.now) workers.items) }
 {
     let mut workers = Vec::with_capacity(alloc, passes.len())?;
     for pass in passes {
@@ -125,8 +133,10 @@ fn push_worker<'a, R: Wait + Clock, G: Gate>(
     outbox: &mut Outbox,
     workers: &mut Vec<Worker<'a, R, G>>,
 ) -> Result<(), AllocError>
-    requires { pass.bench ≡ bench.now }
-    ensures { OnOk result (length workers.new.items ≡ length workers.old.items + 1) }
+    requires pass { pass.bench ≡ bench.now }
+    requires bench { All (λ worker. worker.bench.now ≡ bench.now) workers.old.items }
+    ensures as_many { OnOk result (length workers.new.items ≡ length workers.old.items + 1) }
+    ensures bench { OnOk result (All (λ worker. worker.bench.now ≡ bench.now) workers.new.items) }
 {
     let outbox = outbox.another()?;
     workers.push(Worker {
@@ -138,22 +148,4 @@ fn push_worker<'a, R: Wait + Clock, G: Gate>(
         outbox,
     })?;
     Ok(())
-}
-
-// Starts a thread for each worker, and answers how many it started. Where one can't be made, the workers that have none
-// are gone.
-fn start<'s, E, R, G>(scope: &'s Scope<'s, E>, workers: Vec<Worker<'s, R, G>>) -> usize
-where
-    R: Wait + Clock + Sync,
-    G: Gate + Sync,
-    ensures { result ≤ length workers.entry.items }
-{
-    let mut started = 0;
-    for worker in workers {
-        if scope.spawn(move || worker.work()).is_err() {
-            return started;
-        }
-        started += 1;
-    }
-    started
 }

@@ -7,6 +7,7 @@ mod bench_crew;
 mod burst;
 mod crew;
 mod crew_fault;
+mod desk;
 mod draining;
 mod gate;
 mod in_threads;
@@ -14,6 +15,8 @@ mod inbox;
 mod inline_crew;
 #[cfg(test)]
 mod jobs;
+mod recruits;
+mod staff;
 mod worker;
 
 pub use bench_crew::BenchCrew;

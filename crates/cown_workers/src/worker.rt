@@ -37,23 +37,27 @@ pub(crate) enum Turn {
 }
 
 impl<'a, R: Wait + Clock, G: Gate> Worker<'a, R, G> {
-    // Works until it picks a `Stop`.
-    pub(crate) fn work(mut self) {
+    // Works until it picks a `Stop`. Then it gives its pass back.
+    pub(crate) fn work(mut self) -> WorkerPass
+        ensures { result.bench ≡ self.entry.bench.now }
+    {
         let rt = self.rt;
         let mut back_off = BackOff::new();
         for _ in rt.forever() {
             match self.turn(&mut back_off) {
                 Turn::Waited => {}
                 Turn::HandedOver(_) => back_off = BackOff::new(),
-                Turn::Stopped => return,
+                Turn::Stopped => break,
             }
         }
-        unreachable!()
+        let Worker { pass, .. } = self;
+        pass
     }
 
     // One turn. No job that it picks is dropped.
     fn turn(&mut self, back_off: &mut BackOff) -> Turn
-        ensures { Takes self.old.pass result self.new.pass }
+        ensures takes { Takes self.old.pass result self.new.pass }
+        ensures bench { self.new.bench.now ≡ self.old.bench.now }
     {
         match pick_or_wait(self.rt, self.bench, &mut self.pass, self.bell, back_off) {
             Some(Work::Run(job)) => {

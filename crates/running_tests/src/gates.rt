@@ -212,10 +212,14 @@ pub(crate) struct Counter {
 }
 
 impl Counter {
+    pub(crate) fn carried_out(&self) -> u64 {
+        self.carried_out.load(Ordering::SeqCst)
+    }
+
     // Waits until so many were carried out.
     pub(crate) fn comes_to(&self, count: u64) -> bool {
         for _ in 0..TURNS {
-            if self.carried_out.load(Ordering::SeqCst) >= count {
+            if self.carried_out() >= count {
                 return true;
             }
             thread::yield_now();

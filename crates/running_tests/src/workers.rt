@@ -103,6 +103,18 @@ fn fills_the_inbox(rt: &impl Abort, alloc: Global, gate: &Counter, crew: &mut im
     takes_each_once(rt, alloc, crew);
 }
 
+#[test]
+fn all_that_was_laid_out_is_carried_out_before_a_crew_ends(rt: HostRuntime) {
+    for workers in [1, 4, 16] {
+        let gate = Counter::default();
+        let ended = with_crew(&rt, rt.alloc(), workers, &gate, |crew| {
+            give_jobs(&rt, crew, jobs(&rt, rt.alloc(), MANY / 2))
+        });
+        assert!(rt; ended.is_ok());
+        assert!(rt; gate.carried_out() == MANY as u64 / 2, "{workers}");
+    }
+}
+
 fn give_jobs(rt: &impl Abort, crew: &mut impl Crew, jobs: Vec<Job<Op>>) {
     for job in jobs {
         give_patiently(rt, crew, job);

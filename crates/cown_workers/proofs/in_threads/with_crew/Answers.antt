@@ -1,6 +1,7 @@
 -- The passes of the bench are its workers' and the owner's.
-use Rattle.std.proofs.Common.{◌≡◌, ◌<◌, List, [], refl, sym, ap, ◌∙◌, subst}
+use Rattle.std.proofs.Common.{◌≡◌, ◌<◌, List, [], length, sym, ap, ◌∙◌, subst, length-append, arith}
 use Rattle.std.specs.List.{All}
+use Rattle.std.specs.Option.{option_to_list}
 use Rattle.std.proofs.lemmas.List.Elements.{All-pop, All-weaker}
 use Rattle.std.proofs.lemmas.Result.{IfOk-weaker}
 use Rattle.cown_bench.specs.BenchPasses.{BenchId, OwnerOf, WorkerOf}
@@ -14,9 +15,22 @@ of_bench : (bench : BenchId) (passes : List WorkerOf) → All (λ pass. pass ≡
 of_bench bench passes = All-weaker (λ pass. pass ≡ record { bench = bench; picked = [] }) (λ pass. pass.bench ≡ bench)
     (λ pass fresh. ap (λ (p : WorkerOf). p.bench) fresh) passes
 
-pub new-crew-requires-clause-hands : goal.new-crew-requires-clause-hands
-new-crew-requires-clause-hands g c =
+pub new-recruits-requires-clause-hands : goal.new-recruits-requires-clause-hands
+new-recruits-requires-clause-hands g c =
     (All-pop (λ pass. pass.bench ≡ _) _ _ _ c.take_above-hands.ensures.parted (of_bench _ _ c.in_ok-bench.ensures.passes)).1
+
+pub new-recruits-requires-clause-all : goal.new-recruits-requires-clause-all
+new-recruits-requires-clause-all g c =
+    let many = ap (λ (pass : OwnerOf). pass.workers) c.in_ok-bench.ensures.owner in
+    let parted = ap length c.take_above-hands.ensures.parted in
+    omega (
+      arith,
+      many,
+      parted,
+      c.in_ok-bench.ensures.as_many,
+      c.in_ok-hired.ensures.as_many,
+      length-append (c.take_above-hands.new.passes.items) (option_to_list c.take_above-hands.result),
+    )
 
 pub workers_at-requires : goal.workers_at-requires
 workers_at-requires g c =
@@ -24,14 +38,14 @@ workers_at-requires g c =
 
 pub returns : goal.returns
 returns g c =
-    let made = c.new-crew.ensures in
+    let made = c.new-recruits.ensures in
     record {
       answer = IfOk-weaker c.scoped.result _ _
-          (λ answer (after, called). (
-            record c.new-crew.result { workers = c.args.workers },
+          (λ answer (after, called, home). (
+            c.new-recruits.result,
             after,
             record {
-              workers = refl;
+              workers = ap (λ (crew : BenchCrewOf). crew.workers) made ∙ c.in_ok-hired.ensures.as_many ∙ c.take_above-hands.ensures.as_many;
               owner = λ helps.
                   (c.pickers.ensures.owner
                   (subst (λ n. c.args.workers < n) c.in_ok-bench.ensures.as_many
@@ -41,6 +55,7 @@ returns g c =
                   ∙ fresh_taken c.in_ok-bench.bench _ _ _ c.take_above-hands.ensures.parted c.in_ok-bench.ensures.passes;
             },
             called,
+            home,
           ))
           c.scoped.ensures.1;
     }

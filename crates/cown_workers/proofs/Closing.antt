@@ -1,0 +1,70 @@
+-- A crew's bench, once it is closed.
+use Rattle.std.proofs.Common.{◌≡◌, ℕ, ◌+◌, Option, Some, None, List, [], ◌∷◌, ◌++◌, length, map, replicate, sym, ap, ◌∙◌, subst, arith}
+use Rattle.std.specs.Prelude.{◌==◌, IfSome, count_by}
+use Rattle.std.specs.List.{All}
+use Rattle.std.specs.Option.{option_to_list}
+use Rattle.std.proofs.lemmas.List.{length-map, get_or-map}
+use Rattle.std.proofs.lemmas.List.Elements.{All-cons, All-map, All-same}
+use Rattle.std.proofs.lemmas.List.Sums.{sum_by-cons}
+use Rattle.cown_bench.specs.BenchPasses.{BenchId, OwnerOf, WorkerOf, picked_of}
+use Rattle.cown_bench.specs.Parting.{AreRising, AreOffered, IsPartedInto, times_picked}
+use Rattle.cown_bench.specs.Picks.{WorkOf, PickOf}
+use Rattle.cown_bench.specs.declared.work.Work.TheVariants.{Stop}
+use Rattle.cown_workers.proofs.Picking.{crew_with}
+use Rattle.cown_workers.specs.BenchCrews.{BenchCrewOf, GoesHome, picked_with}
+
+-- as many that are alike in this, where the others are
+module _ {A B X : Type 0} (f : A → X) (g : B → X) (x : X) where
+  pub all_alike : (xs : List A) (ys : List B) → map f xs ≡ map g ys → All (λ b. g b ≡ x) ys → All (λ a. f a ≡ x) xs
+  all_alike xs ys same all = λ k d lt.
+      sym (get_or-map f xs k d (f d) lt)
+      ∙ All-same (λ y. y ≡ x) (map f xs) (map g ys) same (All-map (λ y. y ≡ x) g ys all) k (f d) (omega (arith, lt, length-map xs f))
+
+  pub as_many_alike : (xs : List A) (ys : List B) → map f xs ≡ map g ys → length xs ≡ length ys
+  as_many_alike xs ys same = sym (length-map xs f) ∙ ap length same ∙ length-map ys g
+
+-- the owner's pass and the workers' are of the bench
+pub passes_here : (bench : BenchId) (hands : Option WorkerOf) (workers passes : List WorkerOf) → passes ≡ option_to_list hands ++ workers
+    → IfSome hands (λ (hands : WorkerOf). hands.bench ≡ bench) → All (λ (w : WorkerOf). w.bench ≡ bench) workers → All (λ (w : WorkerOf). w.bench ≡ bench) passes
+passes_here bench None workers passes items own theirs = All-same (λ (w : WorkerOf). w.bench ≡ bench) passes workers items theirs
+passes_here bench (Some hands) workers passes items own theirs =
+    All-same (λ (w : WorkerOf). w.bench ≡ bench) passes (hands ∷ workers) items (All-cons (λ (w : WorkerOf). w.bench ≡ bench) hands workers own theirs)
+
+-- one who picked nothing changes nothing
+with_nothing : (offered : List WorkOf) (picked : List (List PickOf)) (left : List WorkOf) → IsPartedInto offered picked left
+    → IsPartedInto offered ([] ∷ picked) left
+with_nothing offered picked left parted = record {
+  count = parted.count;
+  within = parted.within;
+  others = parted.others;
+  once = λ place.
+      let first : times_picked place ([] ∷ picked) ≡ 0 + times_picked place picked =
+      sum_by-cons (count_by (λ (pick : PickOf). pick.0 == place)) [] picked in
+      let rest : 0 + times_picked place picked ≡ times_picked place picked = omega arith in
+      first ∙ rest ∙ parted.once place;
+  rising = All-cons AreRising [] picked (λ i j d lt below. absurd (omega arith)) parted.rising;
+  as_offered = All-cons (AreOffered offered) [] picked (λ k d below. absurd (omega arith)) parted.as_offered;
+}
+
+-- what the owner picked comes first, even where it is nothing
+owner_first : (offered : List WorkOf) (hands : Option WorkerOf) (workers : List WorkerOf) (left : List WorkOf)
+    → IsPartedInto offered (picked_of (option_to_list hands ++ workers)) left → IsPartedInto offered (picked_with hands ∷ picked_of workers) left
+owner_first offered None workers left parted = with_nothing offered (picked_of workers) left parted
+owner_first offered (Some hands) workers left parted = parted
+
+pub goes_home : (threads count : ℕ) (before owner : OwnerOf) (hands : Option WorkerOf) (passes workers : List WorkerOf) (left : List WorkOf) (crew : BenchCrewOf)
+    → crew_with threads before.offered hands ≡ crew
+    → count ≡ threads → owner ≡ record before { offered = before.offered ++ replicate count Stop }
+    → passes ≡ option_to_list hands ++ workers → length workers ≡ threads
+    → IsPartedInto owner.offered (picked_of passes) left → GoesHome crew
+goes_home threads count before owner hands passes workers left crew view counted stops items as_many parted =
+    let offered : owner.offered ≡ before.offered ++ replicate threads Stop =
+    ap (λ (o : OwnerOf). o.offered) stops ∙ ap (λ n. before.offered ++ replicate n Stop) counted in
+    let whole : IsPartedInto (before.offered ++ replicate threads Stop) (picked_of (option_to_list hands ++ workers)) left =
+    subst (λ (x : List WorkOf × List WorkerOf). IsPartedInto x.0 (picked_of x.1) left) (λ i. (offered i, items i)) parted in
+    subst GoesHome view (record {
+      by_workers = picked_of workers;
+      as_many = length-map workers (λ (w : WorkerOf). w.picked) ∙ as_many;
+      left = left;
+      parted = owner_first (before.offered ++ replicate threads Stop) hands workers left whole;
+    })

@@ -1,0 +1,128 @@
+//! The threads of a crew's workers.
+ghost use Rattle.std.specs.Prelude.{◌≡◌, ◌+◌, ◌≤◌, [], ◌++◌, List, All, length, map, vec_capacity, IfOk};
+ghost use Rattle.std.specs.Option.{option_to_list};
+ghost use Rattle.cown_bench.specs.BenchPasses.{WorkerOf};
+
+use crate::gate::Gate;
+use crate::worker::Worker;
+use cown_bench::{Bench, WORKERS, WorkerPass};
+use std::alloc::{AllocError, Global};
+use std::snapshot::Snapshot;
+use std::sync::Wait;
+use std::thread::{Promise, PromisedHandle, Scope, Threads};
+use std::time::Clock;
+
+// What the thread of a worker gives back: a pass of this bench.
+#[derive(Drop)]
+pub(crate) struct PassOf(pub(crate) Snapshot<Bench>);
+
+impl Promise<WorkerPass> for PassOf {
+    ghost kept_by = { λ promise pass. pass.bench ≡ promise.0.value };
+}
+
+pub(crate) type WorkerThread = PromisedHandle<WorkerPass, PassOf>;
+
+// The threads of workers, and room for the passes that they give back, and for the owner's.
+#[derive(Drop)]
+pub(crate) struct Staff {
+    pub(crate) threads: Vec<WorkerThread>,
+    pub(crate) passes: Vec<WorkerPass>,
+    pub(crate) ghost empty: { passes.items ≡ [] },
+    pub(crate) ghost room: { length threads.items + 1 ≤ vec_capacity passes },
+}
+
+impl Staff {
+    // Starts a thread for each of these workers. Where one can't be made, the workers that have none are gone.
+    pub(crate) fn start<'s, E, R, G>(
+        scope: &'s Scope<'s, E>,
+        alloc: Global,
+        bench: &'s Bench,
+        workers: Vec<Worker<'s, R, G>>,
+    ) -> Result<Staff, AllocError>
+    where
+        R: Wait + Clock + Sync,
+        G: Gate + Sync,
+        requires few { length workers.items ≤ WORKERS }
+        requires bench { All (λ worker. worker.bench.now ≡ bench.now) workers.items }
+        ensures few { IfOk result (λ staff. length staff.threads.items ≤ length workers.entry.items) }
+        ensures bench { IfOk result (λ staff.
+            All (λ thread. thread.promise.0.value ≡ bench.now) staff.threads.items) }
+    {
+        let mut threads = Vec::with_capacity(alloc, WORKERS)?;
+        let passes = Vec::with_capacity(alloc, WORKERS + 1)?;
+        start_each(scope, bench, workers, &mut threads);
+        Ok(Staff { threads, passes })
+    }
+
+    // How many there are.
+    pub(crate) fn len(&self) -> usize
+        ensures { result ≡ length self.now.threads.items }
+    {
+        self.threads.len()
+    }
+
+    // Joins all threads. What the owner picked with comes back first, if it is there, and then a pass from each.
+    pub(crate) fn join<R: Threads>(self, rt: &R, hands: Option<WorkerPass>) -> Vec<WorkerPass>
+        ensures { (workers : List WorkerOf) × (result.items ≡ option_to_list hands ++ workers) ×
+            (map (λ pass. pass.bench) workers ≡ map (λ thread. thread.promise.0.value) self.threads.items) }
+    {
+        let Staff { threads, passes } = self;
+        let passes = put_first(passes, hands);
+        join_each(rt, threads, passes)
+    }
+}
+
+// Starts a thread for each worker, until one can't be made.
+fn start_each<'s, E, R, G>(
+    scope: &'s Scope<'s, E>,
+    bench: &'s Bench,
+    workers: Vec<Worker<'s, R, G>>,
+    threads: &mut Vec<WorkerThread>,
+)
+where
+    R: Wait + Clock + Sync,
+    G: Gate + Sync,
+    requires bench { All (λ worker. worker.bench.now ≡ bench.now) workers.items }
+    requires empty { threads.old.items ≡ [] }
+    requires room { length workers.items ≤ vec_capacity threads.old }
+    ensures few { length threads.new.items ≤ length workers.entry.items }
+    ensures bench { All (λ thread. thread.promise.0.value ≡ bench.now) threads.new.items }
+{
+    for worker in workers {
+        let promise = PassOf(Snapshot::of(bench));
+        match scope.spawn_with(promise, move || worker.work()) {
+            Ok(thread) => threads.push_reserved(thread),
+            Err(_) => return,
+        }
+    }
+}
+
+// A list that has room, and begins with this pass if it is there.
+fn put_first(mut passes: Vec<WorkerPass>, hands: Option<WorkerPass>) -> Vec<WorkerPass>
+    requires empty { passes.items ≡ [] }
+    requires room { 1 ≤ vec_capacity passes }
+    ensures items { result.items ≡ option_to_list hands }
+    ensures few { length result.items ≤ 1 }
+    ensures room { vec_capacity result ≡ vec_capacity passes }
+{
+    if let Some(hands) = hands {
+        passes.push_reserved(hands);
+    }
+    passes
+}
+
+// Joins each thread, and puts what it gives back behind the others.
+fn join_each<R: Threads>(
+    rt: &R,
+    threads: Vec<WorkerThread>,
+    mut passes: Vec<WorkerPass>,
+) -> Vec<WorkerPass>
+    requires room { length passes.items + length threads.items ≤ vec_capacity passes }
+    ensures { (workers : List WorkerOf) × (result.items ≡ passes.items ++ workers) ×
+        (map (λ pass. pass.bench) workers ≡ map (λ thread. thread.promise.0.value) threads.items) }
+{
+    for thread in threads {
+        passes.push_reserved(thread.join(rt));
+    }
+    passes
+}
