@@ -32,7 +32,7 @@ use Rattle.schedule_player.specs.Along.{IsBoardAlong, AreHeldAlong}
 use Rattle.schedule_player.specs.Bank.{BankOf}
 use Rattle.schedule_player.specs.NodeAlong.{seen_node, IsKeptAlong, IsNodeAt, IsAsBefore, Arrives}
 use Rattle.schedule_player.specs.Numbered.{copies}
-use Rattle.schedule_player.specs.ReplicaMoves.{NodeOf, none_held, cut_after, cut_off, put_ends, marked, restarted}
+use Rattle.schedule_player.specs.ReplicaMoves.{NodeOf, cut_after, cut_off, put_ends, marked, restarted}
 use Rattle.schedule_player.specs.Seen.{stages_of, kept_in, ops_of}
 use Rattle.schedule_player.specs.Stage.{IsDone}
 use Rattle.schedule_player.specs.declared.node.Node.{Node}
