@@ -10,6 +10,7 @@ mod name;
 mod opening;
 mod reading;
 mod text;
+mod words;
 
 pub use columns::{CUSTOMERS, Columns};
 pub use directory::Directory;
@@ -19,3 +20,4 @@ pub use name::{NAME_BYTES, Name};
 pub use opening::Opening;
 pub use reading::read_opening;
 pub use text::{next_line, next_word};
+pub use words::{Words, WrongWords};
