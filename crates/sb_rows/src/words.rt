@@ -6,7 +6,7 @@ use crate::text::next_word;
 use std::marker::Model;
 use thiserror::Error;
 
-/// A line has another number of words than is asked for.
+/// A word that is asked for isn't there, or more words are left than are asked for.
 #[derive(Clone, Copy, Debug, PartialEq, Eq, Error)]
 #[error("wrong words")]
 pub struct WrongWords;
@@ -51,17 +51,17 @@ impl<'a> Words<'a> {
         Some(word)
     }
 
-    /// Takes the next word, which has to be there.
+    /// Takes the next word, which has to be there. Where it isn't, none is left then either.
     #[inline]
     pub fn word(&mut self) -> Result<&'a [u8], WrongWords>
         ensures { MatchResult result
             (λ word. self.old ≡ word.now ∷ self.new)
-            (λ _. self.old ≡ []) }
+            (λ _. (self.old ≡ []) × (self.new ≡ [])) }
     {
         self.next().ok_or(WrongWords)
     }
 
-    /// The one word that is left, which has to be the only one.
+    /// The one word that is left. Fails where there is none, or more than one.
     #[inline]
     pub fn last(mut self) -> Result<&'a [u8], WrongWords>
         ensures { MatchResult result
