@@ -1,3 +1,2 @@
 pub mod EventLines
-pub mod Heads
 pub mod OpeningFaults

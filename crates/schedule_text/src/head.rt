@@ -1,14 +1,14 @@
 //! The first line of a schedule: how many replicas there are, and how many workers each has.
-ghost use Rattle.std.specs.Prelude.{◌≡◌, ℕ, ◌≤◌, ◌<◌, Ok, Some, None, [], ◌∷◌, IfOk, IfSome, MatchOption, MatchResult};
+ghost use Rattle.std.specs.Prelude.{◌≡◌, ℕ, ◌≤◌, ◌<◌, Ok, Some, None, IfOk, IfSome, MatchOption, MatchResult};
 ghost use Rattle.sb_calls.specs.Ask as calls;
 ghost use Rattle.sb_rows.specs.Text.{lines, words, after_line};
 ghost use Rattle.schedule_text.specs.Head.{IsHead};
 ghost use Rattle.schedule_text.specs.Reads.{Blames};
-ghost use Rattle.schedule_text.specs.ScheduleText.{head_of_lines, head_of_words, head_with};
+ghost use Rattle.schedule_text.specs.ScheduleText.{head_of_lines, head_of_words};
 
 use crate::fault::{ScheduleLineFault, TextFault};
 use sb_calls::read_number;
-use sb_rows::{next_line, next_word};
+use sb_rows::{Words, next_line};
 
 // How many replicas there may be.
 const MOST_NODES: u8 = 8;
@@ -43,40 +43,15 @@ fn head_of(line: &[u8]) -> Option<(u8, u8)>
         (λ head. head_of_words (words line.now) ≡ Some (head.0, head.1)) }
     ensures within { IfSome result (λ head. IsHead head.0 head.1) }
 {
-    let (nodes, workers) = two_counts(line)?;
-    let nodes = count_of(nodes, MOST_NODES)?;
-    let workers = count_of(workers, MOST_WORKERS)?;
-    Some((nodes, workers))
-}
-
-// The words of a head in its numbers' places.
-fn two_counts(line: &[u8]) -> Option<(&[u8], &[u8])>
-    ensures { MatchOption result
-        (head_of_words (words line.now) ≡ None)
-        (λ two. head_of_words (words line.now)
-        ≡ head_with (calls.read_number two.0.now) (calls.read_number two.1.now)) }
-{
-    let (first, nodes, third, workers) = four_words(line)?;
+    let mut words = Words::of(line);
+    let (first, nodes) = (words.next()?, words.next()?);
+    let (third, workers) = (words.next()?, words.last().ok()?);
     if first != b"nodes".as_slice() || third != b"workers".as_slice() {
         return None;
     }
+    let nodes = count_of(nodes, MOST_NODES)?;
+    let workers = count_of(workers, MOST_WORKERS)?;
     Some((nodes, workers))
-}
-
-// The words of a line that has as many as a head.
-fn four_words(line: &[u8]) -> Option<(&[u8], &[u8], &[u8], &[u8])>
-    ensures { MatchOption result
-        (head_of_words (words line.now) ≡ None)
-        (λ w. words line.now ≡ w.0.now ∷ w.1.now ∷ w.2.now ∷ w.3.now ∷ []) }
-{
-    let (first, rest) = next_word(line);
-    let (second, rest) = next_word(rest?);
-    let (third, rest) = next_word(rest?);
-    let (fourth, rest) = next_word(rest?);
-    if rest.is_some() {
-        return None;
-    }
-    Some((first, second, third, fourth))
 }
 
 // The number from 1 to the most that a word is.
