@@ -1,10 +1,9 @@
 //! The first line of a schedule: how many replicas there are, and how many workers each has.
-ghost use Rattle.std.specs.Prelude.{◌≡◌, ℕ, ◌≤◌, ◌<◌, Ok, Some, None, IfOk, IfSome, MatchOption, MatchResult};
-ghost use Rattle.sb_calls.specs.Ask as calls;
+ghost use Rattle.std.specs.Prelude.{◌≡◌, ◌≤◌, ◌<◌, Ok, Some, None, IfOk, IfSome, MatchOption, MatchResult};
 ghost use Rattle.sb_rows.specs.Text.{lines, words, after_line};
 ghost use Rattle.schedule_text.specs.Head.{IsHead};
 ghost use Rattle.schedule_text.specs.Reads.{Blames};
-ghost use Rattle.schedule_text.specs.ScheduleText.{head_of_lines, head_of_words};
+ghost use Rattle.schedule_text.specs.ScheduleText.{head_of_lines, head_of_words, head_with};
 
 use crate::fault::{ScheduleLineFault, TextFault};
 use sb_calls::read_number;
@@ -43,24 +42,36 @@ fn head_of(line: &[u8]) -> Option<(u8, u8)>
         (λ head. head_of_words (words line.now) ≡ Some (head.0, head.1)) }
     ensures within { IfSome result (λ head. IsHead head.0 head.1) }
 {
-    let mut words = Words::of(line);
-    let (first, nodes) = (words.next()?, words.next()?);
-    let (third, workers) = (words.next()?, words.last().ok()?);
-    if first != b"nodes".as_slice() || third != b"workers".as_slice() {
-        return None;
-    }
+    let (nodes, workers) = numbers_of(line)?;
     let nodes = count_of(nodes, MOST_NODES)?;
     let workers = count_of(workers, MOST_WORKERS)?;
     Some((nodes, workers))
 }
 
-// The number from 1 to the most that a word is.
-fn count_of(word: &[u8], most: u8) -> Option<u8>
+// The two numbers of a line that is spelled as a head.
+fn numbers_of(line: &[u8]) -> Option<(u32, u32)>
     ensures { MatchOption result
-        ((n : ℕ) → calls.read_number word.now ≡ Some n → 1 ≤ n → most < n)
-        (λ n. (calls.read_number word.now ≡ Some n) × (1 ≤ n) × (n ≤ most)) }
+        (head_of_words (words line.now) ≡ None)
+        (λ two. head_of_words (words line.now) ≡ head_with (Some two.0) (Some two.1)) }
 {
-    let count = u8::try_from(read_number(word)?).ok()?;
+    let mut words = Words::of(line);
+    let (first, nodes, third) = (words.next()?, words.next()?, words.next()?);
+    let Ok(workers) = words.last() else {
+        return None;
+    };
+    if first != b"nodes".as_slice() || third != b"workers".as_slice() {
+        return None;
+    }
+    Some((read_number(nodes)?, read_number(workers)?))
+}
+
+// A number from 1 to the most.
+fn count_of(number: u32, most: u8) -> Option<u8>
+    ensures { MatchOption result
+        (1 ≤ number → most < number)
+        (λ count. (count ≡ number) × (1 ≤ count) × (count ≤ most)) }
+{
+    let count = u8::try_from(number).ok()?;
     if count == 0 || count > most {
         None
     } else {
