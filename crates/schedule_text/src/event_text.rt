@@ -1,5 +1,5 @@
 //! The lines of events.
-ghost use Rattle.std.specs.Prelude.{◌≡◌, ◌+◌, ◌<◌, ◌^◌, Ok, [], ◌∷◌, length, MatchResult};
+ghost use Rattle.std.specs.Prelude.{◌≡◌, ◌+◌, ◌<◌, ◌^◌, Ok, [], length, MatchResult};
 ghost use Rattle.sb_rows.specs.Opening.{at_line};
 ghost use Rattle.sb_rows.specs.Text.{lines};
 ghost use Rattle.schedule_text.specs.EventText as spec;
