@@ -64,12 +64,28 @@ fn last_behind(line: &str, others: usize) -> Option<&[u8]> {
 #[test]
 fn the_last_word_is_the_only_one_left(rt: HostRuntime) {
     expect(&rt, last_behind("", 0) == Some(b"".as_slice()), "no text");
-    expect(&rt, last_behind("ab", 0) == Some(b"ab".as_slice()), "one word");
+    expect(
+        &rt,
+        last_behind("ab", 0) == Some(b"ab".as_slice()),
+        "one word",
+    );
     expect(&rt, last_behind("ab c", 0).is_none(), "one of two");
     expect(&rt, last_behind("ab ", 0).is_none(), "a space behind it");
-    expect(&rt, last_behind("ab c", 1) == Some(b"c".as_slice()), "the second of two");
-    expect(&rt, last_behind("ab ", 1) == Some(b"".as_slice()), "an empty one");
-    expect(&rt, last_behind("ab c d", 1).is_none(), "the second of three");
+    expect(
+        &rt,
+        last_behind("ab c", 1) == Some(b"c".as_slice()),
+        "the second of two",
+    );
+    expect(
+        &rt,
+        last_behind("ab ", 1) == Some(b"".as_slice()),
+        "an empty one",
+    );
+    expect(
+        &rt,
+        last_behind("ab c d", 1).is_none(),
+        "the second of three",
+    );
     expect(&rt, last_behind("ab c", 2).is_none(), "a third of two");
     expect(&rt, last_behind("ab", 2).is_none(), "a third of one");
 }
