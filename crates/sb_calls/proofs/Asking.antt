@@ -27,6 +27,7 @@ use Rattle.sb_calls.specs.declared.text.fault.CallFault.{CallFault}
 
 -- a text that is read as a number is its decimal
 number_made : (text : List ℕ) (n : ℕ) → read_number text ≡ Some n → (text ≡ decimal n) × (n < 2 ^ 32)
+unfolding read_number
 number_made text n e =
     let tested = cond_some (list_all is_ascii_digit text && is_canonical text && nat_lt (digits_value 10 text) (2 ^ 32)) (digits_value 10 text) n e in
     let small = and_parts (list_all is_ascii_digit text && is_canonical text) (nat_lt (digits_value 10 text) (2 ^ 32)) tested.0 in
@@ -36,6 +37,7 @@ number_made text n e =
 
 -- the decimal of a number is read as it
 number_read : (n : ℕ) → n < 2 ^ 32 → read_number (decimal n) ≡ Some n
+unfolding read_number
 number_read n below =
     let small : n < 2 ^ 64 = omega arith in
     let digits : list_all is_ascii_digit (decimal n) ≡ true = all_digits-decimal n small in

@@ -21,4 +21,3 @@ pub mod ShownTotals
 pub mod Spelling
 pub mod Totals
 pub mod Touched
-pub mod Words

@@ -34,7 +34,7 @@ IsAsked asked = IsKey asked.key × IsCall asked.call
 -- ---- what it is read as
 
 -- a number below 2^32 in decimal, without leading zeros
-abbrev pub read_number : List ℕ → Option ℕ
+unfoldable pub read_number : List ℕ → Option ℕ
 read_number text =
     if list_all is_ascii_digit text && is_canonical text && nat_lt (digits_value 10 text) (2 ^ 32)
     then Some (digits_value 10 text) else None

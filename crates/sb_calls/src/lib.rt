@@ -26,6 +26,6 @@ pub use laws::{
 pub use net_change::net;
 pub use op::{Op, resolve};
 pub use reply::Reply;
-pub use text::{CallFault, print_reply, read_ask, read_call, read_number};
+pub use text::{CallFault, print_reply, read_ask, read_call, read_call_words, read_number};
 pub use two_places::TwoPlaces;
 pub use wire_reply::{TOTAL_LIMIT, WireReply};

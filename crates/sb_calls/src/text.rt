@@ -10,4 +10,4 @@ pub use asking::read_ask;
 pub use fault::CallFault;
 pub use number::read_number;
 pub use printing::print_reply;
-pub use reading::read_call;
+pub use reading::{read_call, read_call_words};

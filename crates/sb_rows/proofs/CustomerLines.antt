@@ -1,28 +1,20 @@
 -- What the line of a customer is read as, test by test.
-use Rattle.std.proofs.Common.{◌≡◌, ℕ, ◌<◌, Bool, true, false, not, if◌then◌else◌, Option, Some, None, is_some, Result, Err, List, [], ◌∷◌, length, bytes_eq, Bor, sym, ap, ◌∙◌, arith, option_map}
+use Rattle.std.proofs.Common.{◌≡◌, ℕ, Bool, true, false, not, if◌then◌else◌, Some, None, is_some, Result, Err, List, [], ◌∷◌, length, bytes_eq, sym, ap, ◌∙◌}
 use Rattle.std.specs.List.{list_any}
 use Rattle.std.proofs.lemmas.List.{length-map}
-use Rattle.std.proofs.lemmas.List.Splits.{length-slice_split}
 use Rattle.sb_amount.specs.Reading.{read_money}
 use Rattle.sb_rows.specs.Customer.{Customer, names_of}
 use Rattle.sb_rows.specs.CustomerLine.{IsNewName, name_fault}
 use Rattle.sb_rows.specs.Directory.{place_of}
 use Rattle.sb_rows.specs.Name.{is_name}
 use Rattle.sb_rows.specs.Opening.{customer_of, with_amounts}
-use Rattle.sb_rows.specs.Text.{words, words_left, is_space}
 use Rattle.sb_rows.proofs.Places.{has_place}
 use Rattle.sb_rows.specs.declared.fault.LineFault.{LineFault}
 use Rattle.sb_rows.specs.declared.fault.LineFault.TheVariants.{BadName, DoubleName}
 
--- each line has a word
-pub words_some : (line : List ℕ) → 0 < length (words line)
-unfolding words
-words_some line = omega (arith, length-slice_split is_space line)
-
--- what follows a word has one
-pub words_left_some : (rest : Option (Bor (List ℕ))) → is_some rest ≡ true → 0 < length (words_left (option_map (λ r. r.now) rest))
-words_left_some None h = cc
-words_left_some (Some r) h = words_some r.now
+-- three words, known one by one
+pub three_words : (all rest more : List (List ℕ)) (a b c : List ℕ) → all ≡ a ∷ rest → rest ≡ b ∷ more → more ≡ c ∷ [] → all ≡ a ∷ b ∷ c ∷ []
+three_words all rest more a b c first second third = cc
 
 -- the faults of a name come first
 fault_first : (valid double : Bool) (rest : Result Customer LineFault) (fault : LineFault)

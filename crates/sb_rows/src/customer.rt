@@ -1,5 +1,5 @@
 //! The line of one customer in an opening text.
-ghost use Rattle.std.specs.Prelude.{◌≡◌, ℕ, ◌<◌, ◌≢◌, [], ◌∷◌, List, length, pos, ◌≤ℤ◌, Ok, Err, Some, None, IfOk, IsErr, MatchOption, MatchResult};
+ghost use Rattle.std.specs.Prelude.{◌≡◌, ℕ, ◌<◌, List, length, pos, ◌≤ℤ◌, Ok, Err, Some, None, IfOk, IsErr, MatchOption, MatchResult};
 ghost use Rattle.sb_amount.specs.Reading.{read_money};
 ghost use Rattle.sb_rows.specs.Customer.{Customer, names_of};
 ghost use Rattle.sb_rows.specs.CustomerLine.{customer, IsNewName, name_fault};
@@ -12,7 +12,7 @@ use crate::columns::CUSTOMERS;
 use crate::directory::Directory;
 use crate::fault::LineFault;
 use crate::name::Name;
-use crate::text::next_word;
+use crate::words::Words;
 use sb_amount::Cents;
 
 // What the line of a customer says.
@@ -21,21 +21,6 @@ pub(crate) struct CustomerLine {
     pub(crate) name: Name,
     pub(crate) savings: Cents,
     pub(crate) checking: Cents,
-}
-
-// The words of a line that has three.
-fn three_words(line: &[u8]) -> Option<(&[u8], &[u8], &[u8])>
-    ensures { MatchOption result
-        (length (words line.now) ≢ 3)
-        (λ w. words line.now ≡ w.0.now ∷ w.1.now ∷ w.2.now ∷ []) }
-{
-    let (first, rest) = next_word(line);
-    let (second, rest) = next_word(rest?);
-    let (third, rest) = next_word(rest?);
-    if rest.is_some() {
-        return None;
-    }
-    Some((first, second, third))
 }
 
 // One amount of a line.
@@ -93,9 +78,10 @@ pub(crate) fn read_customer(before: &Directory, line: &[u8]) -> Result<CustomerL
     ensures room { IfOk result (λ c. length before.now < CUSTOMERS) }
     ensures not_negative { IfOk result (λ c. pos 0 ≤ℤ c.savings) }
 {
-    let Some((name, savings, checking)) = three_words(line) else {
-        return Err(LineFault::BadLine);
-    };
+    let mut words = Words::of(line);
+    let name = words.word()?;
+    let savings = words.word()?;
+    let checking = words.last()?;
     let name = read_name(before, name)?;
     let (savings, checking) = read_amounts(before.len(), savings, checking)?;
     Ok(CustomerLine {

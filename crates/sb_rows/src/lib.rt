@@ -10,6 +10,7 @@ mod name;
 mod opening;
 mod reading;
 mod text;
+mod words;
 
 pub use columns::{CUSTOMERS, Columns};
 pub use directory::Directory;
@@ -18,4 +19,5 @@ pub use laws::{limits, rows_by_place};
 pub use name::{NAME_BYTES, Name};
 pub use opening::Opening;
 pub use reading::read_opening;
-pub use text::{next_line, next_word};
+pub use text::next_line;
+pub use words::{Words, WrongWords};

@@ -1,4 +1,4 @@
-//! The lines of a text and the words of a line.
+//! How a text is parted into lines, and a line into words.
 ghost use Rattle.std.specs.Prelude.{◌≡◌, ◌<◌, [], ◌∷◌, length, MatchOption, IfSome};
 ghost use Rattle.std.specs.Option.{option_map};
 ghost use Rattle.sb_rows.specs.Text.{lines, words, words_left, after_line};
@@ -21,11 +21,9 @@ pub fn next_line(text: &[u8]) -> Option<(&[u8], &[u8])>
     }
 }
 
-/// The first word of a line, and what follows the space after it, if there is one.
-///
-/// A line is parted into words at each single space, so two spaces make an empty word.
+// The first word of a line, and what follows the space after it, if there is one.
 #[inline]
-pub fn next_word(line: &[u8]) -> (&[u8], Option<&[u8]>)
+pub(crate) fn next_word(line: &[u8]) -> (&[u8], Option<&[u8]>)
     ensures { words line.now ≡ result.0.now ∷ words_left (option_map (λ rest. rest.now) result.1) }
 {
     match memchr(b' ', line) {

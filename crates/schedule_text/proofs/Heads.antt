@@ -1,14 +1,16 @@
 -- The words of a head.
-use Rattle.std.proofs.Common.{◌≡◌, ℕ, ◌<◌, None, List, [], ◌∷◌, length, refl, ap, ◌∙◌, arith}
+use Rattle.std.proofs.Common.{◌≡◌, ℕ, None, List, [], ◌∷◌, refl, ap, ◌∙◌}
+use Rattle.std.specs.Prelude.{◌≢◌}
 use Rattle.schedule_text.specs.ScheduleText.{head_of_words}
 
--- five words or more are no head
-five_words : (a b c d : List ℕ) (more : List (List ℕ)) → 0 < length more → head_of_words (a ∷ b ∷ c ∷ d ∷ more) ≡ None
-five_words a b c d [] h = absurd (omega arith)
-five_words a b c d (e ∷ more) h = refl
+-- three words, and then none or more than one, are no head
+not_four : (a b c : List ℕ) (rest : List (List ℕ)) → ((word : List ℕ) → rest ≢ word ∷ []) → head_of_words (a ∷ b ∷ c ∷ rest) ≡ None
+not_four a b c [] h = refl
+not_four a b c (d ∷ []) h = absurd (h d refl)
+not_four a b c (d ∷ e ∷ more) h = refl
 
 -- the same, where they are known one by one
-pub too_many : (a b c d : List ℕ) (all second third fourth more : List (List ℕ)) → all ≡ a ∷ second → second ≡ b ∷ third → third ≡ c ∷ fourth
-    → fourth ≡ d ∷ more → 0 < length more → head_of_words all ≡ None
-too_many a b c d all second third fourth more first next after last some =
-    ap head_of_words (first ∙ ap (λ ws. a ∷ ws) (next ∙ ap (λ ws. b ∷ ws) (after ∙ ap (λ ws. c ∷ ws) last))) ∙ five_words a b c d more some
+pub no_head : (a b c : List ℕ) (all second third rest : List (List ℕ)) → all ≡ a ∷ second → second ≡ b ∷ third → third ≡ c ∷ rest
+    → ((word : List ℕ) → rest ≢ word ∷ []) → head_of_words all ≡ None
+no_head a b c all second third rest first next last h =
+    ap head_of_words (first ∙ ap (λ ws. a ∷ ws) (next ∙ ap (λ ws. b ∷ ws) last)) ∙ not_four a b c rest h

@@ -1,9 +1,7 @@
 //! The lines of events.
-ghost use Rattle.std.specs.Prelude.{◌≡◌, ◌+◌, ◌<◌, ◌^◌, Ok, Err, [], ◌∷◌, length, MatchOption, MatchResult};
-ghost use Rattle.std.specs.Option.{option_map};
-ghost use Rattle.sb_calls.specs.Call.{call_of_words};
+ghost use Rattle.std.specs.Prelude.{◌≡◌, ◌+◌, ◌<◌, ◌^◌, Ok, [], length, MatchResult};
 ghost use Rattle.sb_rows.specs.Opening.{at_line};
-ghost use Rattle.sb_rows.specs.Text.{lines, words_left};
+ghost use Rattle.sb_rows.specs.Text.{lines};
 ghost use Rattle.schedule_text.specs.EventText as spec;
 ghost use Rattle.schedule_text.specs.EventText.{event_of, event_of_words, of_ask, of_mark};
 ghost use Rattle.schedule_text.specs.Reads.{Blames};
@@ -11,10 +9,10 @@ ghost use Rattle.schedule_text.specs.ScheduleText.{events_from, in_events};
 
 use crate::event::Event;
 use crate::fault::{EventFault, ScheduleLineFault, TextFault};
-use crate::numbers::{number_of, one_number, three_numbers, two_numbers, two_words};
-use sb_calls::{Call, CallFault, read_call};
+use crate::numbers::{number_of, one_number, three_numbers, two_numbers};
+use sb_calls::{Call, read_call_words};
 use sb_checkpoint::How;
-use sb_rows::{next_line, next_word};
+use sb_rows::{Words, next_line};
 use std::alloc::Global;
 
 // How many bytes an event's line takes, as a rule. Room is made by that; where lines are shorter,
@@ -27,113 +25,102 @@ const USUAL_LINE: usize = 16;
 pub fn read_event(line: &[u8]) -> Result<Event, EventFault>
     ensures { result ≡ event_of line.now }
 {
-    let (verb, rest) = next_word(line);
-    event_with(verb, rest)
+    event_of(Words::of(line))
 }
 
-// The event with a first word, and what follows that word.
-fn event_with(verb: &[u8], rest: Option<&[u8]>) -> Result<Event, EventFault>
-    ensures { result
-        ≡ event_of_words (verb.now ∷ words_left (option_map (λ text. text.now) rest.entry)) }
+// The event that the words of a line say.
+fn event_of(mut words: Words) -> Result<Event, EventFault>
+    ensures { result ≡ event_of_words words.entry }
 {
+    let verb = words.next().ok_or(EventFault::UnknownEvent)?;
     if verb == b"ask".as_slice() {
-        return asked(rest);
+        return asked(words);
     }
     if verb == b"send".as_slice() {
-        return two_numbers(rest).map(|(replica, number)| Event::Send { replica, number });
+        let (replica, number) = two_numbers(words)?;
+        return Ok(Event::Send { replica, number });
     }
     if verb == b"resend".as_slice() {
-        return one_number(rest).map(|replica| Event::Resend { replica });
+        let replica = one_number(words)?;
+        return Ok(Event::Resend { replica });
     }
     if verb == b"to".as_slice() {
-        return two_numbers(rest).map(|(replica, place)| Event::To { replica, place });
+        let (replica, place) = two_numbers(words)?;
+        return Ok(Event::To { replica, place });
     }
     if verb == b"ack".as_slice() {
-        return one_number(rest).map(|replica| Event::Ack { replica });
+        let replica = one_number(words)?;
+        return Ok(Event::Ack { replica });
     }
     if verb == b"answer".as_slice() {
-        return two_numbers(rest).map(|(replica, number)| Event::Answer { replica, number });
+        let (replica, number) = two_numbers(words)?;
+        return Ok(Event::Answer { replica, number });
     }
     if verb == b"from".as_slice() {
-        return two_numbers(rest).map(|(replica, place)| Event::From { replica, place });
+        let (replica, place) = two_numbers(words)?;
+        return Ok(Event::From { replica, place });
     }
-    replica_event(verb, rest)
+    replica_event(verb, words)
 }
 
-// The same of what replicas do without the network.
-fn replica_event(verb: &[u8], rest: Option<&[u8]>) -> Result<Event, EventFault>
-    ensures { result
-        ≡ spec.replica_event verb.now (words_left (option_map (λ text. text.now) rest.entry)) }
+// The event with a first word, and the words after it, of what replicas do without the network.
+fn replica_event(verb: &[u8], words: Words) -> Result<Event, EventFault>
+    ensures { result ≡ spec.replica_event verb.now words.entry }
 {
     if verb == b"take".as_slice() {
-        return three_numbers(rest).map(|(replica, worker, index)| Event::Take {
+        let (replica, worker, index) = three_numbers(words)?;
+        return Ok(Event::Take {
             replica,
             worker,
             index,
         });
     }
     if verb == b"finish".as_slice() {
-        return two_numbers(rest).map(|(replica, worker)| Event::Finish { replica, worker });
+        let (replica, worker) = two_numbers(words)?;
+        return Ok(Event::Finish { replica, worker });
     }
     if verb == b"mark".as_slice() {
-        return marked(rest);
+        return marked(words);
     }
     if verb == b"restart".as_slice() {
-        return one_number(rest).map(|replica| Event::Restart { replica });
+        let replica = one_number(words)?;
+        return Ok(Event::Restart { replica });
     }
     if verb == b"cut".as_slice() {
-        return one_number(rest).map(|replica| Event::Cut { replica });
+        let replica = one_number(words)?;
+        return Ok(Event::Cut { replica });
     }
     if verb == b"next".as_slice() {
-        return one_number(rest).map(|replica| Event::Next { replica });
+        let replica = one_number(words)?;
+        return Ok(Event::Next { replica });
     }
     if verb == b"audit".as_slice() {
-        return two_numbers(rest).map(|(first, second)| Event::Audit { first, second });
+        let (first, second) = two_numbers(words)?;
+        return Ok(Event::Audit { first, second });
     }
     Err(EventFault::UnknownEvent)
 }
 
-// What follows `ask`: the client's number, its number for the request, and the call.
-fn asked(rest: Option<&[u8]>) -> Result<Event, EventFault>
-    ensures { result ≡ of_ask (words_left (option_map (λ text. text.now) rest.entry)) }
+// The words after `ask`: the client's number, its number for the request, and the call.
+fn asked(mut words: Words) -> Result<Event, EventFault>
+    ensures { result ≡ of_ask words.entry }
 {
-    let (client, request, rest) = key_words(rest).ok_or(EventFault::WrongWords)?;
+    let (client, request) = (words.word()?, words.word()?);
     let client = number_of(client)?;
     let request = number_of(request)?;
-    match call_left(rest) {
-        Ok(call) => Ok(Event::Ask {
-            client,
-            request,
-            call,
-        }),
-        Err(fault) => Err(EventFault::Call(fault)),
-    }
+    let call = read_call_words(words)?;
+    Ok(Event::Ask {
+        client,
+        request,
+        call,
+    })
 }
 
-// The words of a key, and what follows them.
-fn key_words(rest: Option<&[u8]>) -> Option<(&[u8], &[u8], Option<&[u8]>)>
-    ensures { let left = words_left (option_map (λ text. text.now) rest.entry) in MatchOption result
-        (of_ask left ≡ Err EventFault.WrongWords)
-        (λ key. left ≡ key.0.now ∷ key.1.now ∷ words_left (option_map (λ text. text.now) key.2)) }
+// The words after `mark`: the replica's number, and how the put ends.
+fn marked(mut words: Words) -> Result<Event, EventFault>
+    ensures { result ≡ of_mark words.entry }
 {
-    let (client, rest) = next_word(rest?);
-    let (request, rest) = next_word(rest?);
-    Some((client, request, rest))
-}
-
-// The call that is left.
-#[tactic(auto, unfolding(sb_calls::specs::Call::call_of))]
-fn call_left(rest: Option<&[u8]>) -> Result<Call, CallFault>
-    ensures { result ≡ call_of_words (words_left (option_map (λ text. text.now) rest.entry)) }
-{
-    read_call(rest.ok_or(CallFault::UnknownVerb)?)
-}
-
-// What follows `mark`: the replica's number, and how the put ends.
-fn marked(rest: Option<&[u8]>) -> Result<Event, EventFault>
-    ensures { result ≡ of_mark (words_left (option_map (λ text. text.now) rest.entry)) }
-{
-    let (replica, how) = two_words(rest).ok_or(EventFault::WrongWords)?;
+    let (replica, how) = (words.word()?, words.last()?);
     let replica = number_of(replica)?;
     let how = how_of(how).ok_or(EventFault::BadNumber)?;
     Ok(Event::Mark { replica, how })

@@ -1,9 +1,10 @@
 //! Why a text is no schedule.
 ghost use Rattle.std.specs.Prelude.{◌≡◌};
+ghost use Rattle.schedule_text.specs.declared.fault.EventFault.TheVariants as event;
 ghost use Rattle.schedule_text.specs.declared.fault.TextFault.TheVariants.{OutOfMemory};
 
 use sb_calls::CallFault;
-use sb_rows::LineFault;
+use sb_rows::{LineFault, WrongWords};
 use std::alloc::{AllocError, AllocFailed};
 use thiserror::Error;
 
@@ -22,6 +23,22 @@ pub enum EventFault {
     /// The call of an ask is at fault.
     #[error(transparent)]
     Call(CallFault),
+}
+
+impl From<WrongWords> for EventFault {
+    ghost from_gives = { λ _ fault. fault ≡ event.WrongWords };
+
+    fn from(_fault: WrongWords) -> EventFault {
+        EventFault::WrongWords
+    }
+}
+
+impl From<CallFault> for EventFault {
+    ghost from_gives = { λ fault answer. answer ≡ event.Call fault };
+
+    fn from(fault: CallFault) -> EventFault {
+        EventFault::Call(fault)
+    }
 }
 
 /// What is wrong with a line of a schedule.

@@ -1,6 +1,5 @@
 //! The first line of a schedule: how many replicas there are, and how many workers each has.
-ghost use Rattle.std.specs.Prelude.{◌≡◌, ℕ, ◌≤◌, ◌<◌, Ok, Some, None, [], ◌∷◌, IfOk, IfSome, MatchOption, MatchResult};
-ghost use Rattle.sb_calls.specs.Ask as calls;
+ghost use Rattle.std.specs.Prelude.{◌≡◌, ◌≤◌, ◌<◌, Ok, Some, None, IfOk, IfSome, MatchOption, MatchResult};
 ghost use Rattle.sb_rows.specs.Text.{lines, words, after_line};
 ghost use Rattle.schedule_text.specs.Head.{IsHead};
 ghost use Rattle.schedule_text.specs.Reads.{Blames};
@@ -8,7 +7,7 @@ ghost use Rattle.schedule_text.specs.ScheduleText.{head_of_lines, head_of_words,
 
 use crate::fault::{ScheduleLineFault, TextFault};
 use sb_calls::read_number;
-use sb_rows::{next_line, next_word};
+use sb_rows::{Words, next_line};
 
 // How many replicas there may be.
 const MOST_NODES: u8 = 8;
@@ -43,49 +42,36 @@ fn head_of(line: &[u8]) -> Option<(u8, u8)>
         (λ head. head_of_words (words line.now) ≡ Some (head.0, head.1)) }
     ensures within { IfSome result (λ head. IsHead head.0 head.1) }
 {
-    let (nodes, workers) = two_counts(line)?;
+    let (nodes, workers) = numbers_of(line)?;
     let nodes = count_of(nodes, MOST_NODES)?;
     let workers = count_of(workers, MOST_WORKERS)?;
     Some((nodes, workers))
 }
 
-// The words of a head in its numbers' places.
-fn two_counts(line: &[u8]) -> Option<(&[u8], &[u8])>
+// The two numbers of a line that is spelled as a head.
+fn numbers_of(line: &[u8]) -> Option<(u32, u32)>
     ensures { MatchOption result
         (head_of_words (words line.now) ≡ None)
-        (λ two. head_of_words (words line.now)
-        ≡ head_with (calls.read_number two.0.now) (calls.read_number two.1.now)) }
+        (λ two. head_of_words (words line.now) ≡ head_with (Some two.0) (Some two.1)) }
 {
-    let (first, nodes, third, workers) = four_words(line)?;
+    let mut words = Words::of(line);
+    let (first, nodes, third) = (words.next()?, words.next()?, words.next()?);
+    let Ok(workers) = words.last() else {
+        return None;
+    };
     if first != b"nodes".as_slice() || third != b"workers".as_slice() {
         return None;
     }
-    Some((nodes, workers))
+    Some((read_number(nodes)?, read_number(workers)?))
 }
 
-// The words of a line that has as many as a head.
-fn four_words(line: &[u8]) -> Option<(&[u8], &[u8], &[u8], &[u8])>
+// A number from 1 to the most.
+fn count_of(number: u32, most: u8) -> Option<u8>
     ensures { MatchOption result
-        (head_of_words (words line.now) ≡ None)
-        (λ w. words line.now ≡ w.0.now ∷ w.1.now ∷ w.2.now ∷ w.3.now ∷ []) }
+        (1 ≤ number → most < number)
+        (λ count. (count ≡ number) × (1 ≤ count) × (count ≤ most)) }
 {
-    let (first, rest) = next_word(line);
-    let (second, rest) = next_word(rest?);
-    let (third, rest) = next_word(rest?);
-    let (fourth, rest) = next_word(rest?);
-    if rest.is_some() {
-        return None;
-    }
-    Some((first, second, third, fourth))
-}
-
-// The number from 1 to the most that a word is.
-fn count_of(word: &[u8], most: u8) -> Option<u8>
-    ensures { MatchOption result
-        ((n : ℕ) → calls.read_number word.now ≡ Some n → 1 ≤ n → most < n)
-        (λ n. (calls.read_number word.now ≡ Some n) × (1 ≤ n) × (n ≤ most)) }
-{
-    let count = u8::try_from(read_number(word)?).ok()?;
+    let count = u8::try_from(number).ok()?;
     if count == 0 || count > most {
         None
     } else {

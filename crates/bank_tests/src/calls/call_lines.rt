@@ -1,6 +1,7 @@
 //! Lines that spell calls, and lines that don't.
 use crate::fixtures::{cents, expect, expect_bytes, name};
-use sb_calls::{Call, CallFault, read_call};
+use sb_calls::{Call, CallFault, read_call, read_call_words};
+use sb_rows::Words;
 use std::alloc::Global;
 use std::process::Abort;
 
@@ -20,6 +21,33 @@ fn lines_that_are_read(rt: HostRuntime) {
     let check = Call::WriteCheck(bob, cents(&rt, 2001));
     expect_call(&rt, "check bob 20.01", check);
     expect_call(&rt, "amalgamate alice bob", Call::Amalgamate(alice, bob));
+}
+
+// What the words of a line behind its first one spell.
+fn read_behind(line: &str) -> Result<Call, CallFault> {
+    let mut words = Words::of(line.as_bytes());
+    let _first = words.next();
+    read_call_words(words)
+}
+
+#[test]
+fn words_that_are_left_are_read(rt: HostRuntime) {
+    let balance = Call::Balance(name(&rt, "alice"));
+    expect(
+        &rt,
+        read_behind("ask balance alice").ok() == Some(balance),
+        "a call",
+    );
+    expect(
+        &rt,
+        read_behind("ask").err() == Some(CallFault::UnknownVerb),
+        "no word",
+    );
+    expect(
+        &rt,
+        read_behind("ask balance").err() == Some(CallFault::WrongWords),
+        "no name",
+    );
 }
 
 const FAULTS: &[(&str, CallFault)] = &[

@@ -1,6 +1,6 @@
 //! Texts in lines, and lines in words.
 use crate::fixtures::{expect, expect_bytes};
-use sb_rows::{next_line, next_word};
+use sb_rows::{Words, WrongWords, next_line};
 use std::process::Abort;
 
 // A text has these lines.
@@ -27,17 +27,18 @@ fn texts_in_lines(rt: HostRuntime) {
 }
 
 // A line has these words.
-fn expect_words(rt: &impl Abort, line: &str, words: &[&str]) {
-    let mut left = Some(line.as_bytes());
-    for wanted in words {
-        let Some(rest) = left else {
+fn expect_words(rt: &impl Abort, line: &str, wanted: &[&str]) {
+    let mut words = Words::of(line.as_bytes());
+    for text in wanted {
+        let Some(word) = words.next() else {
             return expect(rt, false, line);
         };
-        let (word, after) = next_word(rest);
-        expect_bytes(rt, word, wanted.as_bytes(), line);
-        left = after;
+        expect_bytes(rt, word, text.as_bytes(), line);
     }
-    expect(rt, left.is_none(), line);
+    expect(rt, words.next().is_none(), line);
+    // There is none behind the end either.
+    expect(rt, words.word() == Err(WrongWords), line);
+    expect(rt, words.last() == Err(WrongWords), line);
 }
 
 #[test]
@@ -49,4 +50,42 @@ fn lines_in_words(rt: HostRuntime) {
     expect_words(&rt, "a ", &["a", ""]);
     expect_words(&rt, "a  b", &["a", "", "b"]);
     expect_words(&rt, "a\tb", &["a\tb"]);
+}
+
+// The one word that is left of a line behind so many others.
+fn last_behind(line: &str, others: usize) -> Option<&[u8]> {
+    let mut words = Words::of(line.as_bytes());
+    for _ in 0..others {
+        let _word = words.word().ok()?;
+    }
+    words.last().ok()
+}
+
+#[test]
+fn the_last_word_is_the_only_one_left(rt: HostRuntime) {
+    expect(&rt, last_behind("", 0) == Some(b"".as_slice()), "no text");
+    expect(
+        &rt,
+        last_behind("ab", 0) == Some(b"ab".as_slice()),
+        "one word",
+    );
+    expect(&rt, last_behind("ab c", 0).is_none(), "one of two");
+    expect(&rt, last_behind("ab ", 0).is_none(), "a space behind it");
+    expect(
+        &rt,
+        last_behind("ab c", 1) == Some(b"c".as_slice()),
+        "the second of two",
+    );
+    expect(
+        &rt,
+        last_behind("ab ", 1) == Some(b"".as_slice()),
+        "an empty one",
+    );
+    expect(
+        &rt,
+        last_behind("ab c d", 1).is_none(),
+        "the second of three",
+    );
+    expect(&rt, last_behind("ab c", 2).is_none(), "a third of two");
+    expect(&rt, last_behind("ab", 2).is_none(), "a third of one");
 }

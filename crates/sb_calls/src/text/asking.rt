@@ -1,16 +1,14 @@
 //! The text of an asking line: a call, or `ask CLIENT REQUEST CALL`.
-ghost use Rattle.std.specs.Prelude.{◌≡◌, ◌∷◌, Ok, IfOk};
-ghost use Rattle.std.specs.Option.{option_map};
-ghost use Rattle.sb_rows.specs.Text.{words_left};
+ghost use Rattle.std.specs.Prelude.{◌≡◌, Ok, IfOk};
 ghost use Rattle.sb_calls.specs.declared.ask.Asked.{Asked as AnyAsked};
 ghost use Rattle.sb_calls.specs.Ask as spec;
 ghost use Rattle.sb_calls.specs.Ask.{IsAsked, ask_line, asked_of, asked_of_words, after_ask, key_of};
 
 use super::fault::CallFault;
 use super::number::read_number;
-use super::reading::{call_with, read_call};
+use super::reading::{call_with, read_call_words};
 use crate::ask::{Asked, Key};
-use sb_rows::next_word;
+use sb_rows::Words;
 
 /// What an asking line says.
 ///
@@ -27,31 +25,28 @@ pub fn read_ask(line: &[u8]) -> Result<Asked, CallFault>
     // Which fault it is.
     ensures exact { result ≡ asked_of line.now }
 {
-    let (verb, rest) = next_word(line);
-    asked_with(verb, rest)
+    asked_of(Words::of(line))
 }
 
-// What a line says that begins with this word, and what follows the word.
-fn asked_with(verb: &[u8], rest: Option<&[u8]>) -> Result<Asked, CallFault>
-    ensures { result
-        ≡ asked_of_words (verb.now ∷ words_left (option_map (λ text. text.now) rest.entry)) }
+// What the words of a line say.
+fn asked_of(mut words: Words) -> Result<Asked, CallFault>
+    ensures { result ≡ asked_of_words words.entry }
 {
+    let verb = words.next().ok_or(CallFault::UnknownVerb)?;
     if verb == b"ask".as_slice() {
-        return keyed(rest);
+        return keyed(words);
     }
-    let call = call_with(verb, rest)?;
+    let call = call_with(verb, words)?;
     Ok(Asked { key: None, call })
 }
 
-// What follows `ask`: the two numbers, and the call that they are the key of.
-#[tactic(auto, unfolding(crate::specs::Call::call_of))]
-fn keyed(rest: Option<&[u8]>) -> Result<Asked, CallFault>
-    ensures { result ≡ after_ask (words_left (option_map (λ text. text.now) rest.entry)) }
+// What the words after `ask` say: the two numbers, and the call that they are the key of.
+fn keyed(mut words: Words) -> Result<Asked, CallFault>
+    ensures { result ≡ after_ask words.entry }
 {
-    let (client, rest) = next_word(rest.ok_or(CallFault::WrongWords)?);
-    let (request, rest) = next_word(rest.ok_or(CallFault::WrongWords)?);
+    let (client, request) = (words.word()?, words.word()?);
     let key = key_of(client, request).ok_or(CallFault::BadNumber)?;
-    let call = read_call(rest.ok_or(CallFault::UnknownVerb)?)?;
+    let call = read_call_words(words)?;
     Ok(Asked {
         key: Some(key),
         call,

@@ -1,7 +1,9 @@
 //! Why a line is no call.
 ghost use Rattle.std.specs.Prelude.{◌≡◌};
+ghost use Rattle.sb_calls.specs.declared.text.fault.CallFault.TheVariants as faults;
 ghost use Rattle.sb_calls.specs.Faults.{call_fault_number};
 
+use sb_rows::WrongWords;
 use thiserror::Error;
 
 /// What is wrong with a line that is no call: the first fault in this order.
@@ -22,6 +24,14 @@ pub enum CallFault {
     /// A word in a client's or a request's place is no such number.
     #[error("bad number")]
     BadNumber,
+}
+
+impl From<WrongWords> for CallFault {
+    ghost from_gives = { λ _ fault. fault ≡ faults.WrongWords };
+
+    fn from(_fault: WrongWords) -> CallFault {
+        CallFault::WrongWords
+    }
 }
 
 impl CallFault {

@@ -1,17 +1,15 @@
 //! The text of a call: `balance N`, `deposit N V`, `savings N V`, `check N V` or `amalgamate N N2`.
-ghost use Rattle.std.specs.Prelude.{◌≡◌, ◌≢◌, ℕ, ℤ, List, [], ◌∷◌, Ok, IfOk, MatchResult, if◌then◌else◌};
-ghost use Rattle.std.specs.Option.{option_map};
+ghost use Rattle.std.specs.Prelude.{◌≡◌, ℕ, ℤ, List, ◌∷◌, Ok, IfOk, if◌then◌else◌};
 ghost use Rattle.std.specs.Result.{result_map_both};
 ghost use Rattle.sb_amount.specs.Reading.{read_money};
 ghost use Rattle.sb_rows.specs.Name.{is_name};
-ghost use Rattle.sb_rows.specs.Text.{words_left};
 ghost use Rattle.sb_calls.specs.declared.call.Call.{Call as AnyCall};
 ghost use Rattle.sb_calls.specs.Call.{IsCall, call_line, call_of, call_of_words, of_name, of_name_and_amount, of_two_names, with_amount};
 
 use super::fault::CallFault;
 use crate::call::Call;
 use sb_amount::Cents;
-use sb_rows::{Name, next_word};
+use sb_rows::{Name, Words};
 
 /// The call that a line spells.
 ///
@@ -24,32 +22,40 @@ pub fn read_call(line: &[u8]) -> Result<Call, CallFault>
     // Which fault it is.
     ensures exact { result ≡ call_of line.now }
 {
-    let (verb, rest) = next_word(line);
-    call_with(verb, rest)
+    read_call_words(Words::of(line))
 }
 
-// The call with a verb, and what follows the verb.
-pub(crate) fn call_with(verb: &[u8], rest: Option<&[u8]>) -> Result<Call, CallFault>
-    ensures { result
-        ≡ call_of_words (verb.now ∷ words_left (option_map (λ text. text.now) rest.entry)) }
+/// The call that the words that are left on a line spell, all of them.
+///
+/// Fails as [`read_call`] does, and with `UnknownVerb` where no word is left.
+pub fn read_call_words(mut words: Words) -> Result<Call, CallFault>
+    ensures { result ≡ call_of_words words.entry }
+{
+    let verb = words.next().ok_or(CallFault::UnknownVerb)?;
+    call_with(verb, words)
+}
+
+// The call with a verb, and the words after the verb.
+pub(crate) fn call_with(verb: &[u8], words: Words) -> Result<Call, CallFault>
+    ensures { result ≡ call_of_words (verb.now ∷ words.entry) }
 {
     if verb == b"balance".as_slice() {
-        return one_name(rest).map(Call::Balance);
+        return one_name(words).map(Call::Balance);
     }
     if verb == b"deposit".as_slice() {
-        let (name, amount) = name_and_amount(rest)?;
+        let (name, amount) = name_and_amount(words)?;
         return Ok(Call::DepositChecking(name, amount));
     }
     if verb == b"savings".as_slice() {
-        let (name, amount) = name_and_amount(rest)?;
+        let (name, amount) = name_and_amount(words)?;
         return Ok(Call::TransactSavings(name, amount));
     }
     if verb == b"check".as_slice() {
-        let (name, amount) = name_and_amount(rest)?;
+        let (name, amount) = name_and_amount(words)?;
         return Ok(Call::WriteCheck(name, amount));
     }
     if verb == b"amalgamate".as_slice() {
-        let (from, to) = two_names(rest)?;
+        let (from, to) = two_names(words)?;
         return Ok(Call::Amalgamate(from, to));
     }
     Err(CallFault::UnknownVerb)
@@ -57,59 +63,34 @@ pub(crate) fn call_with(verb: &[u8], rest: Option<&[u8]>) -> Result<Call, CallFa
 
 // The one name that is left, whatever call it is for.
 #[inline]
-fn one_name(rest: Option<&[u8]>) -> Result<Name, CallFault>
-    ensures { (call : List ℕ → AnyCall) → result_map_both call (λ fault. fault) result
-        ≡ of_name call (words_left (option_map (λ text. text.now) rest.entry)) }
+fn one_name(words: Words) -> Result<Name, CallFault>
+    ensures { (call : List ℕ → AnyCall)
+        → result_map_both call (λ fault. fault) result ≡ of_name call words.entry }
 {
-    name_of(one_word(rest)?)
+    let name = words.last()?;
+    name_of(name)
 }
 
 // The name and the amount that are left, whatever call they are for.
 #[inline]
-fn name_and_amount(rest: Option<&[u8]>) -> Result<(Name, Cents), CallFault>
+fn name_and_amount(mut words: Words) -> Result<(Name, Cents), CallFault>
     ensures { (call : List ℕ → ℤ → AnyCall)
         → result_map_both (λ both. call both.0 both.1) (λ fault. fault) result
-        ≡ of_name_and_amount call (words_left (option_map (λ text. text.now) rest.entry)) }
+        ≡ of_name_and_amount call words.entry }
 {
-    let (name, amount) = two_words(rest)?;
+    let (name, amount) = (words.word()?, words.last()?);
     Ok((name_of(name)?, amount_of(amount)?))
 }
 
 // The two names that are left, whatever call they are for.
 #[inline]
-fn two_names(rest: Option<&[u8]>) -> Result<(Name, Name), CallFault>
+fn two_names(mut words: Words) -> Result<(Name, Name), CallFault>
     ensures { (call : List ℕ → List ℕ → AnyCall)
         → result_map_both (λ both. call both.0 both.1) (λ fault. fault) result
-        ≡ of_two_names call (words_left (option_map (λ text. text.now) rest.entry)) }
+        ≡ of_two_names call words.entry }
 {
-    let (from, to) = two_words(rest)?;
+    let (from, to) = (words.word()?, words.last()?);
     Ok((name_of(from)?, name_of(to)?))
-}
-
-// The one word that is left.
-#[inline]
-fn one_word(rest: Option<&[u8]>) -> Result<&[u8], CallFault>
-    ensures { let left = words_left (option_map (λ text. text.now) rest.entry) in MatchResult result
-        (λ word. left ≡ word.now ∷ [])
-        (λ fault. (fault ≡ CallFault.WrongWords) × ((word : List ℕ) → left ≢ word ∷ [])) }
-{
-    let (word, more) = next_word(rest.ok_or(CallFault::WrongWords)?);
-    match more {
-        None => Ok(word),
-        Some(_) => Err(CallFault::WrongWords),
-    }
-}
-
-// The two words that are left.
-#[inline]
-fn two_words(rest: Option<&[u8]>) -> Result<(&[u8], &[u8]), CallFault>
-    ensures { let left = words_left (option_map (λ text. text.now) rest.entry) in MatchResult result
-        (λ two. left ≡ two.0.now ∷ two.1.now ∷ [])
-        (λ fault. (fault ≡ CallFault.WrongWords)
-        × ((first second : List ℕ) → left ≢ first ∷ second ∷ [])) }
-{
-    let (first, rest) = next_word(rest.ok_or(CallFault::WrongWords)?);
-    Ok((first, one_word(rest)?))
 }
 
 // The name that a word is.

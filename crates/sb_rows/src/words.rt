@@ -1,0 +1,77 @@
+//! The words of a line, taken from the left.
+ghost use Rattle.std.specs.Prelude.{◌≡◌, ◌≢◌, ℕ, List, [], ◌∷◌, MatchOption, MatchResult};
+ghost use Rattle.sb_rows.specs.Text.{words};
+
+use crate::text::next_word;
+use std::marker::Model;
+use thiserror::Error;
+
+/// A word that is asked for isn't there, or more words are left than are asked for.
+#[derive(Clone, Copy, Debug, PartialEq, Eq, Error)]
+#[error("wrong words")]
+pub struct WrongWords;
+
+/// The words of a line that aren't taken yet.
+///
+/// A line is parted into words at each single space, so two spaces make an empty word.
+#[derive(Drop)]
+pub struct Words<'a> {
+    // The text that they are the words of; where it is none there are none, since each text has a word.
+    text: Option<&'a [u8]>,
+}
+
+impl<'a> Model for Words<'a> {
+    ghost use Rattle.std.specs.Prelude.{ℕ, List};
+    ghost use Rattle.std.specs.Option.{option_map};
+    ghost use Rattle.sb_rows.specs.Text.{words_left};
+
+    ghost Value = { List (List ℕ) };
+
+    ghost view = { λ w. words_left (option_map (λ text. text.now) w.text) };
+}
+
+impl<'a> Words<'a> {
+    /// All words of a line.
+    #[inline]
+    pub fn of(line: &'a [u8]) -> Words<'a>
+        ensures { result ≡ words line.entry.now }
+    {
+        Words { text: Some(line) }
+    }
+
+    /// Takes the next word, or gives `None` where none is left.
+    #[inline]
+    pub fn next(&mut self) -> Option<&'a [u8]>
+        ensures { MatchOption result
+            ((self.old ≡ []) × (self.new ≡ []))
+            (λ word. self.old ≡ word.now ∷ self.new) }
+    {
+        let (word, rest) = next_word(self.text?);
+        self.text = rest;
+        Some(word)
+    }
+
+    /// Takes the next word, which has to be there. Where it isn't, none is left then either.
+    #[inline]
+    pub fn word(&mut self) -> Result<&'a [u8], WrongWords>
+        ensures { MatchResult result
+            (λ word. self.old ≡ word.now ∷ self.new)
+            (λ _. (self.old ≡ []) × (self.new ≡ [])) }
+    {
+        self.next().ok_or(WrongWords)
+    }
+
+    /// The one word that is left. Fails where there is none, or more than one.
+    #[inline]
+    pub fn last(mut self) -> Result<&'a [u8], WrongWords>
+        ensures { MatchResult result
+            (λ word. self.entry ≡ word.now ∷ [])
+            (λ _. (word : List ℕ) → self.entry ≢ word ∷ []) }
+    {
+        let word = self.word()?;
+        match self.next() {
+            None => Ok(word),
+            Some(_) => Err(WrongWords),
+        }
+    }
+}
