@@ -270,7 +270,7 @@ mod tests {
         let bell = Bell::new(rt.alloc(), 1).expect(&rt, "memory");
         let (_outbox, inbox) = open_inbox(rt.alloc()).expect(&rt, "memory");
         bell.lie_down();
-        let hands = passes.pop();
+        let hands = passes.pop().expect(&rt, "a pass");
         let worker = passes.pop().expect(&rt, "a pass");
         let staff = idle_staff(&rt, rt.alloc(), &bench, worker);
         let desk = Desk {
@@ -280,7 +280,7 @@ mod tests {
             pass,
             inbox,
         };
-        let mut crew = BenchCrew::new(desk, &OpenGate, hands, staff);
+        let mut crew = BenchCrew::new(desk, &OpenGate, Some(hands), staff);
         gives(&rt, rt.alloc(), &mut crew);
         gives(&rt, rt.alloc(), &mut crew);
         // To listen takes longer than the owner is alone.
