@@ -13,6 +13,7 @@ mod cuts;
 mod frames;
 mod marks;
 mod restarts;
+mod streams;
 
 // Replica 1 of the three, over a store in memory, and its jobs that are out, the earliest first.
 #[derive(Drop)]

@@ -1,7 +1,7 @@
 //! The numbers and the words of the faults.
 use sb_checkpoint::{CheckpointFault, StoreFault};
-use sb_frames::FrameFault;
-use sb_replica::{MarkFault, ReplicaFault, RestartFault};
+use sb_frames::{FrameFault, StreamFault};
+use sb_replica::{HearingFault, MarkFault, ReplicaFault, RestartFault};
 use std::fmt::Display;
 use std::process::Abort;
 
@@ -49,6 +49,17 @@ fn numbers_and_words_of_a_replicas_faults(rt: HostRuntime) {
             "bad frame: short",
         ),
         (ReplicaFault::OutOfMemory, 2, "out of memory"),
+    ] {
+        assert!(rt; fault.number() == number, "{words}");
+        says(&rt, fault, words);
+    }
+}
+
+#[test]
+fn numbers_and_words_of_a_streams_faults(rt: HostRuntime) {
+    for (fault, number, words) in [
+        (HearingFault::Stream(StreamFault::Failed), 1, "failed"),
+        (HearingFault::OutOfMemory, 2, "out of memory"),
     ] {
         assert!(rt; fault.number() == number, "{words}");
         says(&rt, fault, words);
