@@ -26,8 +26,7 @@ def asks_of(entries: list[log.Entry]) -> list[wire.Ask]:
 
 def run(program: pathlib.Path, opening: bytes, asks: list[wire.Ask]) -> Played:
     """Runs the log as text, without a server, a socket or etcd."""
-    lines = [b"ask %d %d %b\n" % (ask.client, ask.request, wire.spell_call(ask.call)) for ask in asks]
-    ended = subprocess.run([program, "run"], input=opening + b"".join(lines), capture_output=True)
+    ended = subprocess.run([program, "run"], input=opening + b"".join(map(wire.spell_ask, asks)), capture_output=True)
     if ended.returncode != 0:
         raise Wrong(f"a run of the log ended with status {ended.returncode}: {ended.stderr.decode()}")
     printed = ended.stdout.decode().splitlines()

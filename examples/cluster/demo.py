@@ -4,7 +4,7 @@
 It starts three members of etcd and three banks with their feeds on this machine, and has seven clients ask some 20,000 times
 at once, some of it twice. In the middle the member that leads, a bank and a feed are killed by -9 and started again, and at
 the end a fourth bank joins. Then outcomes and checkpoints have to be the same bytes everywhere, and those of one
-`smallbank run` of the log read back. It wants etcd (`apt-get install etcd-server etcd-client`) and Python 3.10, stops what it
+`smallbank run` of the log read back; and a bank with a cent too much has to be found. It wants etcd (`apt-get install etcd-server etcd-client`) and Python 3.10, stops what it
 started and nothing else, and ends within two minutes."""
 import argparse
 import json
@@ -133,7 +133,7 @@ class Demo:
 
     def join(self, mark: int) -> None:
         """A bank joins that begins with nothing but the opening."""
-        late = Node(f"node{len(self.nodes)}", self.fleet)
+        late = Node("late3", self.fleet, self.fleet.opening)
         late.bank.start()
         self.wait("the start of another bank", late.listens)
         start = time.monotonic()
@@ -143,6 +143,16 @@ class Demo:
         self.nodes.append(late)
         self.wait("another digest", lambda: len(self.digests(mark)) == len(self.nodes))
         self.say("another bank has joined, and is where the others are")
+
+    def stray(self) -> None:
+        """A bank joins whose opening has a cent more. Its feed has to find it, at the mark."""
+        rich = Node("rich4", self.fleet, self.fleet.opening.replace(b"1000.00", b"1000.01", 1))
+        rich.start()
+        fleet.wait_for("a bank that strayed", STEP_SECONDS, lambda: rich.feed.status() is not None)
+        told = rich.feed.errors.read_text()
+        checks.expect(rich.feed.status() == 3 and "the bank strayed" in told, f"a bank with a cent too much is told: {told}")
+        rich.feed.kill()
+        self.say("a bank with a cent too much was found, with status 3")
 
     # ---- what has to hold
 
@@ -156,7 +166,8 @@ class Demo:
         checkpoint = checks.same([node.checkpoint for node in self.nodes], "checkpoints")
         played = checks.run(self.fleet.program, self.fleet.opening, asks)
         checks.check_by_run(asks, outcomes, checkpoint, self.fleet.opening, played)
-        checks.expect(len(set(self.digests(mark).values())) == 1, "all feeds told the same digest")
+        digests = self.digests(mark)
+        checks.expect(len({digests.get(node.name) for node in self.nodes}) == 1, "these banks' feeds told the same digest")
         told = checks.check_submitters([(each.output, *self.work.given(each.name)) for each in submitters], asks, outcomes)
         self.fleet.watch()
         requests = len(wire.read_checkpoint(checkpoint).replies)
@@ -167,19 +178,20 @@ class Demo:
             f"{len(self.nodes)} banks gave the same outcomes, {len(outcomes)} bytes, and have the same node0.ckpt, {len(checkpoint)} bytes",
             "both are those of one `smallbank run` of the log read back: each reply by its number, each row, the total",
             f"the {told} outcomes that the submitters printed are those",
-            f"the feeds told the same digest at the last mark, and none that its bank strayed",
+            "their feeds told the same digest at the last mark, and none that its bank strayed",
         ]
 
 
 def run(options: argparse.Namespace, folder: pathlib.Path) -> Demo:
     """The whole of it, in a folder that is empty."""
-    work = load.Load(options.asks, SEED)
+    work = load.Load(options.asks, options.flush, SEED)
     with Fleet(folder, options.bank, load.opening(), SIZE) as machines:
         demo = Demo(machines, work)
         demo.begin()
         submitters = demo.ask(options.calm)
         mark = demo.compare()
         demo.join(mark)
+        demo.stray()
         held = demo.check(submitters, mark)
         demo.say("checked:")
     print("".join(f"  - {each}\n" for each in held))
@@ -195,13 +207,14 @@ def main() -> None:
     words = argparse.ArgumentParser(description="Three banks behind a replicated log, killed and started again.")
     words.add_argument("--bank", type=pathlib.Path, default=TOP / "smallbank", help="the bank's program (./smallbank at the top)")
     words.add_argument("--asks", type=int, default=20_000, help="about how many asks there are (20000)")
+    words.add_argument("--flush", type=int, default=100, help="how many of them a batch has (100)")
     words.add_argument("--calm", action="store_true", help="nothing is killed, and nobody pauses between two batches")
     words.add_argument("--keep", action="store_true", help="keep what all of them wrote, and say where")
     words.add_argument("--measures", type=pathlib.Path, help="a file for what was measured, as JSON")
     options = words.parse_args()
     options.bank = options.bank.resolve()
-    if not 4_000 <= options.asks <= 800_000:
-        words.error("asks are 4000 to 800000")
+    if not 4_000 <= options.asks <= 800_000 or not 1 <= options.flush <= 10_000:
+        words.error("asks are 4000 to 800000, and 1 to 10000 to a batch")
     if not shutil.which("etcd"):
         sys.exit("demo: etcd isn't there: apt-get install etcd-server etcd-client")
     # It may have to be built first, which isn't counted.

@@ -145,9 +145,7 @@ class Feed:
 
 def main() -> None:
     words = argparse.ArgumentParser(description="Feeds one bank with a log of batches in etcd.")
-    words.add_argument("--members", type=log.members, default="127.0.0.1:2379", metavar="HOST:PORT,..",
-                       help="etcd's members, the nearest first (127.0.0.1:2379)")
-    words.add_argument("--prefix", default="/smallbank", help="what the keys of this log begin with (/smallbank)")
+    log.add_words(words)
     words.add_argument("--port", type=int, required=True, help="the bank's port")
     words.add_argument("--host", default="127.0.0.1", help="the bank's host (127.0.0.1)")
     words.add_argument("--outcomes", type=pathlib.Path, required=True, help="the file that the outcomes are kept in")

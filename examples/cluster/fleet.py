@@ -3,7 +3,6 @@ import contextlib
 import os
 import pathlib
 import random
-import signal
 import socket
 import subprocess
 import sys
@@ -41,10 +40,10 @@ class Process:
 
     def kill(self) -> None:
         """Kills it by -9, where it runs."""
-        if self.child and self.child.poll() is None:
-            self.child.send_signal(signal.SIGKILL)
         if self.child:
+            self.child.kill()
             self.child.wait()
+        self.child = None
 
     def status(self) -> int | None:
         return self.child.poll() if self.child else None
@@ -73,14 +72,14 @@ def wait_for(what: str, seconds: float, holds: Callable[[], bool]) -> None:
 class Node:
     """A bank, and the feed beside it."""
 
-    def __init__(self, name: str, fleet: "Fleet"):
-        self.store = fleet.folder / name
+    def __init__(self, name: str, fleet: "Fleet", opening: bytes, nearest: int = 0):
+        self.name, self.store = name, fleet.folder / name
         self.store.mkdir()
         self.outcomes, self.checkpoint = fleet.folder / f"{name}.outcomes", self.store / "node0.ckpt"
         port = f"{free_ports(1)[0]}"
         serve = [fleet.program, "serve", "--port", port, "--sessions", "1000", "--store", self.store]
-        self.bank = Process(f"bank-{name}", serve, fleet.folder, fleet.opening)
-        feed = [sys.executable, HERE / "feed.py", "--members", fleet.addresses(int(name[-1])), "--port", port, "--name", name,
+        self.bank = Process(f"bank-{name}", serve, fleet.folder, opening)
+        feed = [sys.executable, HERE / "feed.py", "--members", fleet.addresses(nearest), "--port", port, "--name", name,
                 "--outcomes", self.outcomes, "--checkpoint", self.checkpoint, "--banks", f"{fleet.size}"]
         self.feed = Process(f"feed-{name}", feed, fleet.folder)
         fleet.processes += [self.bank, self.feed]
@@ -106,7 +105,7 @@ class Fleet:
         self.ports = free_ports(2 * size)
         self.members = [self.member(place) for place in range(size)]
         self.processes += self.members
-        self.nodes = [Node(f"node{place}", self) for place in range(size)]
+        self.nodes = [Node(f"node{place}", self, opening, place) for place in range(size)]
 
     def __enter__(self) -> "Fleet":
         return self
@@ -143,7 +142,7 @@ class Fleet:
         raise Broken("no member of etcd leads")
 
     def watch(self) -> None:
-        """A Broken where a feed or a bank ended by itself."""
+        """A Broken where something ended by itself with another status than 0."""
         for process in self.processes:
-            if process.status() not in (None, 0, -signal.SIGKILL):
+            if process.status() not in (None, 0):
                 raise Broken(f"{process.name} ended with status {process.status()}: {process.errors.read_text()[-500:]}")

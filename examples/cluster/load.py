@@ -6,7 +6,6 @@ from fleet import HERE, Fleet, Process
 
 CUSTOMERS = 100
 CLIENTS = range(1, 8)
-FLUSH, OTHER_FLUSH = 100, 130
 CHANGED = 100  # requests that are asked once more, as other calls
 KINDS = ["balance {0}", "deposit {0} {2}", "savings {0} {3}", "check {0} {2}", "amalgamate {0} {1}"]
 
@@ -30,23 +29,23 @@ class Load:
     are in the log once; the second one's once more in other batches, which are repeats in the log; and some of the third
     one's numbers also with other calls, of which just one each is carried out."""
 
-    def __init__(self, asks: int, seed: int):
+    def __init__(self, asks: int, flush: int, seed: int):
         numbers = random.Random(seed)
-        self.count = max(asks // (len(CLIENTS) + 1), CHANGED)
+        self.count, self.flush, self.other_flush = asks // (len(CLIENTS) + 1), flush, flush + flush // 3
         lines = {client: calls(self.count, numbers) for client in CLIENTS}
         # By a submitter's name: the client, its lines, and how many of them a batch has.
-        self.jobs = {f"client{client}": (client, lines[client], FLUSH) for client in CLIENTS}
-        self.jobs["client1-again"] = 1, lines[1], FLUSH
-        self.jobs["client2-again"] = 2, lines[2], OTHER_FLUSH
-        self.jobs["client3-changed"] = 3, calls(CHANGED, numbers), FLUSH
+        self.jobs = {f"client{client}": (client, lines[client], flush) for client in CLIENTS}
+        self.jobs["client1-again"] = 1, lines[1], flush
+        self.jobs["client2-again"] = 2, lines[2], self.other_flush
+        self.jobs["client3-changed"] = 3, calls(CHANGED, numbers), flush
 
     def batches_each(self) -> int:
         """How many batches a client has."""
-        return -(-self.count // FLUSH)
+        return -(-self.count // self.flush)
 
     def batches(self) -> int:
         """How many batches are in the log at the end."""
-        return len(CLIENTS) * self.batches_each() + -(-self.count // OTHER_FLUSH) + 1
+        return len(CLIENTS) * self.batches_each() + -(-self.count // self.other_flush) + -(-CHANGED // self.flush)
 
     def asks(self) -> int:
         """How many asks they have."""

@@ -2,6 +2,7 @@
 
 Each batch is a key of its own, which is made where it isn't there and never put again. The log's order is that of the
 revisions at which the keys were made. So a retry, by whoever and through whichever member, finds the key and moves nothing."""
+import argparse
 import base64
 import http.client
 import itertools
@@ -59,6 +60,13 @@ def members(words: str) -> list[tuple[str, int]]:
     if not all(host and port.isdecimal() for host, _, port in parted):
         raise ValueError(f"no members: {words}")
     return [(host, int(port)) for host, _, port in parted]
+
+
+def add_words(words: argparse.ArgumentParser) -> None:
+    """The options that say where a log is."""
+    words.add_argument("--members", type=members, default="127.0.0.1:2379", metavar="HOST:PORT,..",
+                       help="etcd's members, the nearest first (127.0.0.1:2379)")
+    words.add_argument("--prefix", default="/smallbank", help="what the keys of this log begin with (/smallbank)")
 
 
 class Etcd:

@@ -108,9 +108,7 @@ def submit(asked: list[Batch], book: log.Log, options: argparse.Namespace) -> No
 
 def main() -> None:
     words = argparse.ArgumentParser(description="Puts call lines into a log of batches in etcd.")
-    words.add_argument("--members", type=log.members, default="127.0.0.1:2379", metavar="HOST:PORT,..",
-                       help="etcd's members (127.0.0.1:2379)")
-    words.add_argument("--prefix", default="/smallbank", help="what the keys of this log begin with (/smallbank)")
+    log.add_words(words)
     words.add_argument("--client", type=int, default=1, help="the client's number (1)")
     words.add_argument("--first", type=int, default=1, help="the first request's number (1)")
     words.add_argument("--flush", type=int, default=1000, help="how many lines a batch has (1000)")

@@ -64,6 +64,11 @@ def spell_call(call: bytes) -> bytes:
     return b" ".join(words)
 
 
+def spell_ask(ask: Ask) -> bytes:
+    """The line of an ask in the input of `smallbank run`."""
+    return b"ask %d %d %b\n" % (ask.client, ask.request, spell_call(ask.call))
+
+
 def spell_name(name: bytes) -> bytes:
     if not NAME.fullmatch(name):
         raise ValueError("a bad name")
