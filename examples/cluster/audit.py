@@ -37,34 +37,35 @@ class Audit:
         self.tries[mark] += 1
         self.pending = mark, entries
 
-    def settle(self, known: int) -> None:
+    def settle(self, known: int) -> bool:
         """Compares the checkpoint of the mark that was passed, where one is pending. All that is known of the log has
-        `known` entries.
+        `known` entries. It answers whether the mark is to be passed anew.
 
         It's called when the bank has told the first outcomes of the next session. A session's stream ends before its
         checkpoint is put; but sessions are served one after the other, and a checkpoint is put in between. So it was put by
         now. (Where the end of a stream means that the checkpoint was put, this may be called at that end.)"""
         if self.pending is None:
-            return
+            return False
         (mark, entries), self.pending = self.pending, None
         try:
             read = self.checkpoint.read_bytes()
             length = wire.checkpoint_length(read)
+            if length < entries:
+                raise ValueError(f"{self.checkpoint} has {length} entries in place of {entries}")
         except (OSError, ValueError) as fault:
-            return self.missed(mark, str(fault))
+            # Perhaps the bank was killed there.
+            if self.tries[mark] >= TRIES:
+                raise OSError(f"mark {mark} was passed {TRIES} times, and no checkpoint of it was found: {fault}") from None
+            self.tell(f"mark {mark} is passed once more: {fault}")
+            return True
         if length > known:
             raise Strayed(f"its checkpoint has {length} entries, and the log {known}: somebody else asked it, or it's another log's")
-        if length < entries:
-            return self.missed(mark, f"{self.checkpoint} has {length} entries in place of {entries}")
         self.tries[mark] = TRIES
         if length > entries:
-            return self.tell(f"mark {mark}: not compared, since the bank is further, with {length} entries in place of {entries}")
-        self.compare(mark, entries, hashlib.sha256(read).hexdigest())
-
-    def missed(self, mark: int, why: str) -> None:
-        if self.tries[mark] >= TRIES:
-            raise Strayed(f"mark {mark} was passed {TRIES} times, and no checkpoint of it was saved: {why}")
-        self.tell(f"mark {mark} is passed once more: {why}")
+            self.tell(f"mark {mark}: not compared, since the bank is further, with {length} entries in place of {entries}")
+        else:
+            self.compare(mark, entries, hashlib.sha256(read).hexdigest())
+        return False
 
     def compare(self, mark: int, entries: int, digest: str) -> None:
         """Tells the others the digest of this bank's checkpoint, and looks at theirs."""

@@ -2,7 +2,7 @@
 import select
 import socket
 import time
-from collections.abc import Callable, Sequence
+from collections.abc import Callable
 
 import wire
 
@@ -44,12 +44,12 @@ class Session:
     def __exit__(self, *_fault: object) -> None:
         self.connection.close()
 
-    def ask(self, value: bytes, asks: Sequence[wire.Ask]) -> bytes:
-        """Asks a batch: the outcomes of its Asks."""
+    def ask(self, value: bytes, asks: int) -> bytes:
+        """Asks what a value says, which is so many Asks: their outcomes."""
         try:
             self.send(value + wire.FLUSH)
-            outcomes = self.receive(len(asks) * wire.client.OUTCOME.size)
-            wire.check_outcomes(outcomes, asks)
+            outcomes = self.receive(asks * wire.client.OUTCOME.size)
+            wire.check_outcomes(outcomes, value)
             return outcomes
         except (OSError, ValueError) as fault:
             raise BankAway(str(fault)) from None

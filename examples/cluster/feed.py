@@ -18,16 +18,16 @@ import log
 import wire
 from audit import Audit, Strayed
 
-AGAIN_SECONDS = 0.2  # before a session that takes the place of one that broke off
+AGAIN_SECONDS = 0.5  # before a session that takes the place of one that broke off
 TOGETHER = 10_000  # after how many asks there is a Flush, where so many wait
 LOG_LENGTH = 1_000_000  # how many numbers a bank's log has
 
 
 class Batch(NamedTuple):
-    """An entry of the log and its Asks: none where it is a mark, or at fault."""
+    """An entry of the log, and how many Asks it is: none where it is a mark, or at fault."""
 
     entry: log.Entry
-    asks: list[wire.Ask]
+    asks: int
     entries: int  # how many different requests there are up to its end, which the bank's log then has
 
 
@@ -56,7 +56,7 @@ class Feed:
         self.book, self.address, self.kept, self.audit, self.tell = book, address, kept, audit, tell
         self.coming = book.follow()
         self.batches: list[Batch] = []
-        self.requests: set[tuple[int, int]] = set()
+        self.requests: set[int] = set()  # client and request of each, as one number
         self.last_mark = 0
         self.told = book.names(f"{book.prefix}/outcomes/")  # the batches whose outcomes are in etcd, perhaps not all of them
 
@@ -86,8 +86,10 @@ class Feed:
             batch = self.batches[place]
             if not batch.entry.is_mark:
                 together = self.together(place)
-                self.ask(session, together)
-                asked += sum(len(batch.asks) for batch in together)
+                told = self.ask(session, together)
+                if told and self.audit.settle(self.batches[-1].entries):
+                    return session.end()
+                asked += sum(batch.asks for batch in together)
                 place += len(together)
                 continue
             place += 1
@@ -99,7 +101,7 @@ class Feed:
         """The batches from there on that are told with one Flush: to replay a log of small ones takes less so."""
         count, end = 0, place
         while end < len(self.batches) and not self.batches[end].entry.is_mark and count < TOGETHER:
-            count += len(self.batches[end].asks)
+            count += self.batches[end].asks
             end += 1
         return self.batches[place:end]
 
@@ -113,25 +115,24 @@ class Feed:
                 self.tell(f"{entry.key} of revision {entry.revision} is left out: {fault}")
                 if not entry.is_mark:
                     self.tell_outcomes(entry, b"")
-            self.requests.update((ask.client, ask.request) for ask in asks)
+            self.requests.update(ask.client << 32 | ask.request for ask in asks)
             # Of marks that came while nobody looked, the last one says all.
             self.last_mark = entry.revision if entry.is_mark else self.last_mark
-            self.batches.append(Batch(entry, asks, min(len(self.requests), LOG_LENGTH)))
+            self.batches.append(Batch(entry, len(asks), min(len(self.requests), LOG_LENGTH)))
 
-    def ask(self, session: bank.Session, batches: list[Batch]) -> None:
-        """Asks the bank these batches, and keeps and tells the outcomes."""
+    def ask(self, session: bank.Session, batches: list[Batch]) -> bool:
+        """Asks the bank these batches, and keeps and tells the outcomes: whether there are any."""
         good = [batch for batch in batches if batch.asks]
         if not good:
-            return
-        value = b"".join(batch.entry.value for batch in good)
-        outcomes = session.ask(value, [ask for batch in good for ask in batch.asks])
-        self.audit.settle(self.batches[-1].entries)
+            return False
+        outcomes = session.ask(b"".join(batch.entry.value for batch in good), sum(batch.asks for batch in good))
         self.kept.take(outcomes)
         start = 0
         for batch in good:
-            end = start + len(batch.asks) * wire.client.OUTCOME.size
+            end = start + batch.asks * wire.client.OUTCOME.size
             self.tell_outcomes(batch.entry, outcomes[start:end])
             start = end
+        return True
 
     def tell_outcomes(self, entry: log.Entry, outcomes: bytes) -> None:
         """Tells outcomes to whoever waits for them, where nobody did so before."""

@@ -26,6 +26,13 @@ class LogError(Exception):
     """etcd refuses what it is asked, or its keys aren't a log's: to go on would be of no use."""
 
 
+class SpaceIsUsedUp(LogError):
+    """etcd takes no more until its operator has made room."""
+
+    def __init__(self) -> None:
+        super().__init__("etcd's space is used up: give it more, or compact and defragment it, and disarm its alarm")
+
+
 class NobodyAnswers(Exception):
     """No member of etcd answered in the time that was given."""
 
@@ -97,7 +104,9 @@ class Etcd:
             seconds = min(CALL_SECONDS * 2 ** (tried // len(self.addresses)), LONGEST_CALL_SECONDS)
             try:
                 return self.ask_member(path, body, seconds)
-            except Unanswered as fault:
+            except (Unanswered, SpaceIsUsedUp) as fault:
+                if isinstance(fault, SpaceIsUsedUp) and self.give_up is not None:
+                    raise
                 self.leave()
                 now = time.monotonic()
                 if self.give_up is not None and now - start >= self.give_up:
@@ -114,12 +123,13 @@ class Etcd:
         try:
             self.connection.request("POST", path, json.dumps(body), {"Content-Type": "application/json"})
             response = self.connection.getresponse()
-            status, read = response.status, response.read()
-            answer = json.loads(read)
+            answer = json.loads(response.read())
         except (OSError, http.client.HTTPException, ValueError) as fault:
             raise Unanswered(f"{where}: {fault or type(fault).__name__}") from None
-        if status != 200:
+        if response.status != 200:
             refuse(where, answer)
+        if "header" not in answer:
+            raise LogError(f"what answers at {where} is no etcd")
         self.know(where, answer["header"])
         return answer
 
@@ -156,13 +166,14 @@ class Etcd:
             connection.close()
 
 
-def refuse(where: str, error: dict) -> None:
+def refuse(where: str, error: object) -> None:
     """Raises what etcd's error means."""
+    error = error if isinstance(error, dict) else {"message": error}
     said = str(error.get("message") or error.get("error") or error)
     if "too large" in said or "larger than max" in said:
         raise LogError("the value is too large for etcd: smaller batches are wanted")
     if "space exceeded" in said:
-        raise LogError("etcd's space is used up: compact it, defragment it, and disarm its alarm")
+        raise SpaceIsUsedUp()
     if "compacted" in said:
         raise Compacted()
     # Refusals of what was asked, by gRPC's numbers: invalid, not permitted, not there, not known.

@@ -3,7 +3,7 @@ import pathlib
 import re
 import struct
 import sys
-from collections.abc import Sequence
+from collections.abc import Iterator
 from typing import NamedTuple
 
 sys.path.append(str(pathlib.Path(__file__).resolve().parents[1]))
@@ -14,6 +14,8 @@ FLUSH = client.frame(bytes([client.TAG_FLUSH]))
 # 1.5 MB that etcd takes as a value.
 MOST_ASKS = 20_000
 LONGEST_BODY = 64
+HEAD_OF_ASK = struct.Struct(">HBII")  # length, tag, client, request
+GOOD_OUTCOMES = {(client.OUTCOME.size - 2, client.TAG_OUTCOME, status, code) for status, code in client.WORDS}
 VERBS = {kind: (verb, fields) for verb, (kind, fields) in client.CALLS.items()}
 NAME = re.compile(rb"[a-z0-9_]{1,20}")
 MAGIC = b"SBCKPT01"
@@ -114,14 +116,23 @@ def read_batch(value: bytes) -> list[Ask]:
     return asks
 
 
-def check_outcomes(read: bytes, asks: Sequence[Ask]) -> None:
-    """A ValueError where these bytes aren't an outcome of each of these asks, in order."""
-    if len(read) != len(asks) * client.OUTCOME.size:
-        raise ValueError(f"{len(read)} bytes are no {len(asks)} outcomes")
-    for ask, (length, tag, number, request, status, code, _) in zip(asks, client.OUTCOME.iter_unpack(read)):
-        head = (length, tag, number, request)
-        if head != (client.OUTCOME.size - 2, client.TAG_OUTCOME, ask.client, ask.request) or (status, code) not in client.WORDS:
-            raise ValueError(f"no outcome of client {ask.client}, request {ask.request}")
+def heads(value: bytes) -> Iterator[tuple[int, int]]:
+    """Client and request of each Ask of bytes that are whole Ask frames."""
+    place = 0
+    while place < len(value):
+        length, _, number, request = HEAD_OF_ASK.unpack_from(value, place)
+        yield number, request
+        place += 2 + length
+
+
+def check_outcomes(outcomes: bytes, value: bytes) -> None:
+    """A ValueError where these bytes aren't an outcome of each Ask of a value, in order."""
+    asked = iter(heads(value))
+    for length, tag, number, request, status, code, _ in client.OUTCOME.iter_unpack(outcomes):
+        if (length, tag, status, code) not in GOOD_OUTCOMES or (number, request) != next(asked, None):
+            raise ValueError(f"this is no outcome, or of another ask: client {number}, request {request}")
+    if next(asked, None):
+        raise ValueError("an outcome is missing")
 
 
 def checkpoint_length(checkpoint: bytes) -> int:
