@@ -41,6 +41,7 @@ class Demo:
         self.fleet, self.nodes, self.work = machines, machines.nodes, work
         self.book = machines.book()
         self.measures: dict[str, float] = {}
+        self.kills: list[tuple[str, list[Node], float, float]] = []  # what, the nodes that lived on, when, and to which end
         self.start = time.monotonic()
 
     def say(self, what: str) -> None:
@@ -82,14 +83,13 @@ class Demo:
             submitters = self.work.start(self.fleet, 0 if calm else ASK_SECONDS / self.work.batches_each())
             self.say(f"{len(load.CLIENTS)} clients ask {self.work.asks()} times, by {len(submitters)} submitters")
             if not calm:
-                self.kill_leader(progress)
-                self.mark("middle")
-                self.kill_beside(progress, 0.5, "bank", self.nodes[0], self.nodes[0].bank)
-                self.kill_beside(progress, 0.7, "feed", self.nodes[1], self.nodes[1].feed)
+                self.kill_all()
             self.wait("what the submitters do", lambda: all(each.status() == 0 for each in submitters))
             self.wait("all outcomes", lambda: all(map(self.complete, self.nodes)))
-            if calm:
-                self.measures["asks a second, to the last outcome everywhere"] = self.work.asks() / (progress.last() - start)
+        if calm:
+            self.measures["asks a second, to the last outcome everywhere"] = self.work.asks() / (progress.last() - start)
+        for what, nodes, killed, end in self.kills:
+            self.measures[f"{what} killed: longest time without an outcome at another node"] = progress.standstill(nodes, killed, end)
         self.say("all is answered, everywhere")
         return submitters
 
@@ -108,21 +108,26 @@ class Demo:
         self.say(f"{process.name} started again, with {self.book.count()} of {self.work.batches()} batches in the log")
         return killed
 
-    def kill_leader(self, progress: Progress) -> None:
-        self.reach(0.2)
+    def kill_all(self) -> None:
+        """Kills the member that leads, then a bank, then a feed, each in the midst of what there is to do."""
+        self.reach(0.1)
+        self.mark("middle")
+        self.reach(0.25)
         killed = self.kill(self.fleet.leader())
         self.reach(0.4)
-        self.measures["leader, no outcome anywhere"] = progress.standstill(self.nodes, killed)
+        self.kills.append(("leader", self.nodes, killed, time.monotonic()))
+        self.kill_beside(0.5, "bank", self.nodes[0], self.nodes[0].bank)
+        self.kill_beside(0.7, "feed", self.nodes[1], self.nodes[1].feed)
 
-    def kill_beside(self, progress: Progress, share: float, what: str, node: Node, process: Process) -> None:
+    def kill_beside(self, share: float, what: str, node: Node, process: Process) -> None:
         """Kills a bank or a feed, and waits until its node is as far as the others were when it was started again."""
         self.reach(share)
         killed = self.kill(process)
         started, others = time.monotonic(), [other for other in self.nodes if other is not node]
         far = max(other.length() for other in others)
         self.wait(f"the node whose {what} was killed", lambda: node.length() >= far)
-        self.measures[f"{what}, until it was where the others were"] = time.monotonic() - started
-        self.measures[f"{what}, no outcome at another node"] = progress.standstill(others, killed)
+        self.measures[f"{what} killed: from its new start until it's as far as the others"] = time.monotonic() - started
+        self.kills.append((what, others, killed, time.monotonic()))
 
     def compare(self) -> int:
         """Has all nodes be saved and compared: the mark where they are."""
@@ -139,7 +144,7 @@ class Demo:
         start = time.monotonic()
         late.feed.start()
         self.wait("the replay", lambda: self.complete(late))
-        self.measures["replay of the whole log"] = time.monotonic() - start
+        self.measures["another bank: from the start of its feed until it's as far as the others"] = time.monotonic() - start
         self.nodes.append(late)
         self.wait("another digest", lambda: len(self.digests(mark)) == len(self.nodes))
         self.say("another bank has joined, and is where the others are")
@@ -217,8 +222,11 @@ def main() -> None:
         words.error("asks are 4000 to 800000, and 1 to 10000 to a batch")
     if not shutil.which("etcd"):
         sys.exit("demo: etcd isn't there: apt-get install etcd-server etcd-client")
-    # It may have to be built first, which isn't counted.
-    subprocess.run([options.bank, "--version"], stdout=subprocess.DEVNULL, check=True)
+    try:
+        # It may have to be built first, which isn't counted.
+        subprocess.run([options.bank, "--version"], stdout=subprocess.DEVNULL, check=True)
+    except (OSError, subprocess.CalledProcessError) as fault:
+        sys.exit(f"demo: there is no bank to run: {fault}")
     folder = pathlib.Path(tempfile.mkdtemp(prefix="cluster-"))
     for number in (signal.SIGALRM, signal.SIGTERM):
         signal.signal(number, give_up)

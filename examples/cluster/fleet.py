@@ -99,8 +99,9 @@ class Node:
 class Fleet:
     """So many members of etcd and nodes, for a `with`, at whose end all that was started is killed."""
 
-    def __init__(self, folder: pathlib.Path, program: pathlib.Path, opening: bytes, size: int):
+    def __init__(self, folder: pathlib.Path, program: pathlib.Path, opening: bytes, size: int, *settings: str):
         self.folder, self.program, self.opening, self.size = folder, program, opening, size
+        self.settings = settings  # of etcd
         self.processes: list[Process] = []
         self.ports = free_ports(2 * size)
         self.members = [self.member(place) for place in range(size)]
@@ -121,7 +122,7 @@ class Fleet:
         return Process(f"member{place}", [
             "etcd", "--name", f"member{place}", "--data-dir", self.folder / f"member{place}", "--initial-cluster", cluster,
             "--listen-client-urls", clients[place], "--advertise-client-urls", clients[place],
-            "--listen-peer-urls", peers[place], "--initial-advertise-peer-urls", peers[place],
+            "--listen-peer-urls", peers[place], "--initial-advertise-peer-urls", peers[place], *self.settings,
         ], self.folder)
 
     def addresses(self, nearest: int = 0) -> str:
@@ -135,11 +136,17 @@ class Fleet:
 
     def leader(self) -> Process:
         """The member that leads, by its own word."""
-        for address, member in zip(log.members(self.addresses()), self.members):
-            told = log.Etcd([address], lambda _: None, give_up=10).call("/v3/maintenance/status", {})
-            if told["header"]["member_id"] == told["leader"]:
-                return member
-        raise Broken("no member of etcd leads")
+        leading: list[Process] = []
+
+        def is_there() -> bool:
+            for address, member in zip(log.members(self.addresses()), self.members):
+                told = log.Etcd([address], lambda _: None, give_up=10).call("/v3/maintenance/status", {})
+                if told["header"]["member_id"] == told.get("leader"):
+                    leading.append(member)
+            return bool(leading)
+
+        wait_for("an election", 20, is_there)
+        return leading[0]
 
     def watch(self) -> None:
         """A Broken where something ended by itself with another status than 0."""

@@ -1,6 +1,7 @@
 """Clients that ask at once, some of them twice, for a trial."""
 import random
 import sys
+import time
 
 from fleet import HERE, Fleet, Process
 
@@ -52,11 +53,12 @@ class Load:
         return (len(CLIENTS) + 1) * self.count + CHANGED
 
     def start(self, fleet: Fleet, pause: float) -> list[Process]:
-        """Starts the submitters."""
+        """Starts the submitters, which pause so long after a batch, each at another time."""
         submitters = [self.submitter(fleet, name, pause) for name in self.jobs]
         fleet.processes += submitters
         for submitter in submitters:
             submitter.start()
+            time.sleep(pause / len(submitters))
         return submitters
 
     def submitter(self, fleet: Fleet, name: str, pause: float) -> Process:

@@ -36,10 +36,10 @@ class Progress:
         """When outcomes grew last, anywhere."""
         return max(grown[-1] for grown in self.grown)
 
-    def standstill(self, nodes: list[Node], start: float) -> float:
-        """The longest time since then in which no outcomes grew, at one of these nodes."""
+    def standstill(self, nodes: list[Node], start: float, end: float) -> float:
+        """The longest time without an outcome at one of these nodes, of those that ended after the start and began before the end."""
         longest = 0.0
-        for grown in (list(self.grown[self.nodes.index(node)]) for node in nodes):
-            gaps = [after - before for before, after in zip(grown, grown[1:]) if after > start]
-            longest = max(longest, *gaps, 0.0)
+        for grown in (self.grown[self.nodes.index(node)] for node in nodes):
+            gaps = [after - before for before, after in zip(grown, grown[1:]) if after > start and before < end]
+            longest = max([longest, *gaps])
         return longest

@@ -130,6 +130,8 @@ def main() -> None:
     except (log.NobodyAnswers, log.LogError) as fault:
         tell(str(fault))
         sys.exit(1)
+    except KeyboardInterrupt:
+        sys.exit(130)
 
 
 if __name__ == "__main__":
