@@ -1,4 +1,4 @@
-"""What is compared at marks: each feed puts a digest of its bank's checkpoint into etcd, and looks at those of the others."""
+"""What is compared at marks: each feed puts a digest of its bank's checkpoint into etcd, and looks at the others'."""
 import hashlib
 import pathlib
 import time
@@ -59,7 +59,8 @@ class Audit:
             self.tell(f"mark {mark} is passed once more: {fault}")
             return True
         if length > known:
-            raise Strayed(f"its checkpoint has {length} entries, and the log {known}: somebody else asked it, or it's another log's")
+            why = "somebody else asked it, or it is another log's"
+            raise Strayed(f"its checkpoint has {length} entries, and the log {known}: {why}")
         self.tries[mark] = TRIES
         if length > entries:
             self.tell(f"mark {mark}: not compared, since the bank is further, with {length} entries in place of {entries}")

@@ -1,11 +1,12 @@
 #!/usr/bin/env python3
 """Three banks behind a replicated log, killed and started again: `examples/cluster/demo.py`.
 
-It starts three members of etcd and three banks with their feeds on this machine, and has seven clients ask some 20,000 times
-at once, some of it twice. In the middle the member that leads, a bank and a feed are killed by -9 and started again, and at
-the end a fourth bank joins. Then outcomes and checkpoints have to be the same bytes everywhere, and those of one
-`smallbank run` of the log read back; and a bank with a cent too much has to be found. It wants etcd (`apt-get install etcd-server etcd-client`) and Python 3.10, stops what it
-started and nothing else, and ends within two minutes."""
+It starts three members of etcd and three banks with their feeds on this machine, and has seven clients ask some 20,000
+times at once, some of it twice. In the middle the member that leads, a bank and a feed are killed by -9 and started again,
+and at the end a fourth bank joins. Then outcomes and checkpoints have to be the same bytes everywhere, and those of one
+`smallbank run` of the log read back; and a bank with a cent too much has to be found. It wants etcd
+(`apt-get install etcd-server etcd-client`) and Python 3.10, stops what it started and nothing else, and ends within two
+minutes."""
 import argparse
 import json
 import pathlib
@@ -89,7 +90,8 @@ class Demo:
         if calm:
             self.measures["asks a second, to the last outcome everywhere"] = self.work.asks() / (progress.last() - start)
         for what, nodes, killed, end in self.kills:
-            self.measures[f"{what} killed: longest time without an outcome at another node"] = progress.standstill(nodes, killed, end)
+            longest = progress.standstill(nodes, killed, end)
+            self.measures[f"{what} killed: longest time without an outcome at another node"] = longest
         self.say("all is answered, everywhere")
         return submitters
 
@@ -180,7 +182,8 @@ class Demo:
         return [
             f"the log has {len(batches)} batches, each once, with {len(asks)} asks: {requests} requests, "
             f"{len(asks) - requests - mismatches} repeats and {mismatches} mismatches",
-            f"{len(self.nodes)} banks gave the same outcomes, {len(outcomes)} bytes, and have the same node0.ckpt, {len(checkpoint)} bytes",
+            f"{len(self.nodes)} banks gave the same outcomes, {len(outcomes)} bytes, and have the same node0.ckpt, "
+            f"{len(checkpoint)} bytes",
             "both are those of one `smallbank run` of the log read back: each reply by its number, each row, the total",
             f"the {told} outcomes that the submitters printed are those",
             "their feeds told the same digest at the last mark, and none that its bank strayed",
@@ -210,7 +213,7 @@ def give_up(number: int, _frame: object) -> None:
 
 def main() -> None:
     words = argparse.ArgumentParser(description="Three banks behind a replicated log, killed and started again.")
-    words.add_argument("--bank", type=pathlib.Path, default=TOP / "smallbank", help="the bank's program (./smallbank at the top)")
+    words.add_argument("--bank", type=pathlib.Path, default=TOP / "smallbank", help="the bank's program (./smallbank)")
     words.add_argument("--asks", type=int, default=20_000, help="about how many asks there are (20000)")
     words.add_argument("--flush", type=int, default=100, help="how many of them a batch has (100)")
     words.add_argument("--calm", action="store_true", help="nothing is killed, and nobody pauses between two batches")

@@ -1,10 +1,10 @@
 #!/usr/bin/env python3
-"""Feeds one bank with a log of batches in etcd: `examples/cluster/feed.py --port 4000 --outcomes FILE --checkpoint node0.ckpt`.
+"""Feeds one bank with a log of batches in etcd: `feed.py --port 4000 --outcomes FILE --checkpoint FOLDER/node0.ckpt`.
 
-Each batch goes to the bank with a Flush behind it. The outcomes are kept in the file, those of the whole log in order, and told
-in etcd to whoever waits for them. A session begins at the log's beginning, always: a bank that is there again is an empty one,
-and one that is the same answers what is asked again as it did before, and does nothing again. At a mark the session ends, so
-that the bank puts its checkpoint, and the feeds compare what theirs put. A bank that strayed ends its feed with status 3."""
+Each batch goes to the bank with a Flush behind it. The outcomes are kept in the file, those of the whole log in order, and
+told in etcd to whoever waits for them. A session begins at the log's beginning, always: a bank that is there again is an
+empty one, and one that is the same answers what is asked again as it did before, and does nothing again. At a mark the
+session ends, so that the bank puts its checkpoint, and feeds compare theirs. A bank that strayed ends its feed by status 3."""
 import argparse
 import pathlib
 import signal
@@ -72,14 +72,14 @@ class Feed:
 
     def serve(self, session: bank.Session) -> None:
         """A session from the log's beginning to a mark, or to a fault of the bank."""
-        start, asked = time.monotonic(), 0
+        start, place, behind = time.monotonic(), 0, True
         self.kept.rewind()
-        place = 0
         while True:
             while place == len(self.batches):
-                if asked and start:
-                    self.tell(f"{asked} asks of the log told to the bank in {time.monotonic() - start:.3f} s")
-                    start = 0
+                if behind and place:
+                    behind = False
+                    asks = sum(batch.asks for batch in self.batches)
+                    self.tell(f"the bank has heard the log, {asks} asks, {time.monotonic() - start:.3f} s after it was there")
                 self.hear()
                 self.audit.look()
                 session.look()
@@ -89,13 +89,12 @@ class Feed:
                 told = self.ask(session, together)
                 if told and self.audit.settle(self.batches[-1].entries):
                     return session.end()
-                asked += sum(batch.asks for batch in together)
                 place += len(together)
-                continue
-            place += 1
-            if batch.entry.revision == self.last_mark and self.audit.wants(self.last_mark):
-                session.end()
-                return self.audit.passed(self.last_mark, batch.entries)
+            else:
+                place += 1
+                if batch.entry.revision == self.last_mark and self.audit.wants(self.last_mark):
+                    session.end()
+                    return self.audit.passed(self.last_mark, batch.entries)
 
     def together(self, place: int) -> list[Batch]:
         """The batches from there on that are told with one Flush: to replay a log of small ones takes less so."""
@@ -113,8 +112,7 @@ class Feed:
                 asks = wire.read_batch(entry.value)
             except ValueError as fault:
                 self.tell(f"{entry.key} of revision {entry.revision} is left out: {fault}")
-                if not entry.is_mark:
-                    self.tell_outcomes(entry, b"")
+                self.tell_outcomes(entry, b"")
             self.requests.update(ask.client << 32 | ask.request for ask in asks)
             # Of marks that came while nobody looked, the last one says all.
             self.last_mark = entry.revision if entry.is_mark else self.last_mark
@@ -150,7 +148,8 @@ def main() -> None:
     words.add_argument("--port", type=int, required=True, help="the bank's port")
     words.add_argument("--host", default="127.0.0.1", help="the bank's host (127.0.0.1)")
     words.add_argument("--outcomes", type=pathlib.Path, required=True, help="the file that the outcomes are kept in")
-    words.add_argument("--checkpoint", type=pathlib.Path, help="node0.ckpt in the bank's --store; without it marks are passed by")
+    words.add_argument("--checkpoint", type=pathlib.Path, metavar="FILE",
+                       help="node0.ckpt in the bank's --store; without it marks are passed by")
     words.add_argument("--name", default=socket.gethostname(), help="the feed's name, another one for each (the host's)")
     words.add_argument("--banks", type=int, default=3, help="how many banks there are; a majority of them is right (3)")
     options = words.parse_args()

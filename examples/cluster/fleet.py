@@ -22,7 +22,7 @@ class Broken(Exception):
 
 
 class Process:
-    """A process that can be killed, and started again with the same words. What it writes is in `NAME.output` and `NAME.errors`."""
+    """A process that can be killed, and started again. What it writes is in `NAME.output` and `NAME.errors`."""
 
     def __init__(self, name: str, words: list[str | pathlib.Path], folder: pathlib.Path, given: bytes = b""):
         self.name, self.words = name, words
@@ -33,8 +33,9 @@ class Process:
         self.child: subprocess.Popen | None = None
 
     def start(self) -> None:
-        # Settings that etcd takes from its environment are none of this one's.
-        clean = {name: value for name, value in os.environ.items() if not name.startswith("ETCD")}
+        # Settings that etcd takes from its environment are none of this one's, but for what lets it run here at all.
+        clean = {name: value for name, value in os.environ.items()
+                 if not name.startswith("ETCD_") or name == "ETCD_UNSUPPORTED_ARCH"}
         with self.given.open("rb") as given, self.output.open("ab") as output, self.errors.open("ab") as errors:
             self.child = subprocess.Popen(self.words, stdin=given, stdout=output, stderr=errors, env=clean)
 

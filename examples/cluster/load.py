@@ -1,7 +1,6 @@
 """Clients that ask at once, some of them twice, for a trial."""
 import random
 import sys
-import time
 
 from fleet import HERE, Fleet, Process
 
@@ -32,7 +31,7 @@ class Load:
 
     def __init__(self, asks: int, flush: int, seed: int):
         numbers = random.Random(seed)
-        self.count, self.flush, self.other_flush = asks // (len(CLIENTS) + 1), flush, flush + flush // 3
+        self.count, self.flush, self.other_flush = asks // (len(CLIENTS) + 1), flush, flush + flush // 3 + 1
         lines = {client: calls(self.count, numbers) for client in CLIENTS}
         # By a submitter's name: the client, its lines, and how many of them a batch has.
         self.jobs = {f"client{client}": (client, lines[client], flush) for client in CLIENTS}
@@ -53,12 +52,11 @@ class Load:
         return (len(CLIENTS) + 1) * self.count + CHANGED
 
     def start(self, fleet: Fleet, pause: float) -> list[Process]:
-        """Starts the submitters, which pause so long after a batch, each at another time."""
+        """Starts the submitters, which pause for about so long after a batch."""
         submitters = [self.submitter(fleet, name, pause) for name in self.jobs]
         fleet.processes += submitters
         for submitter in submitters:
             submitter.start()
-            time.sleep(pause / len(submitters))
         return submitters
 
     def submitter(self, fleet: Fleet, name: str, pause: float) -> Process:

@@ -1,7 +1,7 @@
 """A log of batches in etcd, over its JSON gateway.
 
 Each batch is a key of its own, which is made where it isn't there and never put again. The log's order is that of the
-revisions at which the keys were made. So a retry, by whoever and through whichever member, finds the key and moves nothing."""
+revisions at which the keys were made. So a retry, by whoever, through whichever member, finds the key and moves nothing."""
 import argparse
 import base64
 import http.client
@@ -12,8 +12,9 @@ from collections.abc import Callable, Iterator
 from typing import NamedTuple
 
 # A call is made at the next member after so many seconds, twice as many after each round of them all, and so many at last.
-# What a member handed on to a leader that died is lost, so to wait for long is of no use. A watch is made anew after so many.
-CALL_SECONDS, LONGEST_CALL_SECONDS, WATCH_SECONDS = 2.0, 16.0, 5.0
+# What a member handed on to a leader that died is lost, so to wait for long is of no use.
+CALL_SECONDS, LONGEST_CALL_SECONDS = 2.0, 16.0
+WATCH_SECONDS = 5.0  # of silence, after which a watch is made anew at the next member
 RETRY_SECONDS = 0.1
 # How often it is said that no member answers.
 TELL_SECONDS = 10.0

@@ -37,7 +37,7 @@ class Progress:
         return max(grown[-1] for grown in self.grown)
 
     def standstill(self, nodes: list[Node], start: float, end: float) -> float:
-        """The longest time without an outcome at one of these nodes, of those that ended after the start and began before the end."""
+        """The longest time without an outcome at one of these nodes, of those that reach into this while."""
         longest = 0.0
         for grown in (self.grown[self.nodes.index(node)] for node in nodes):
             gaps = [after - before for before, after in zip(grown, grown[1:]) if after > start and before < end]

@@ -7,6 +7,7 @@ Whoever isn't sure whether it went through gives the same words and lines again:
 import argparse
 import hashlib
 import io
+import random
 import secrets
 import sys
 import time
@@ -84,7 +85,7 @@ def submit(asked: list[Batch], book: log.Log, options: argparse.Namespace) -> No
     """Puts all batches, one after the other, since their order is that of the log; then waits for outcomes."""
     revisions = []
     for place, batch in enumerate(asked):
-        time.sleep(options.pause if place else 0)
+        time.sleep(options.pause * random.uniform(0.5, 1.5) if place else 0)
         where = f"requests {batch.asks[0].request} to {batch.asks[-1].request}"
         try:
             revisions.append(put(batch, book))
@@ -114,10 +115,10 @@ def main() -> None:
     words.add_argument("--flush", type=int, default=1000, help="how many lines a batch has (1000)")
     words.add_argument("--wait", action="store_true", help="print the outcomes")
     words.add_argument("--mark", action="store_true", help="put a mark behind, at which banks are saved and compared")
-    words.add_argument("--pause", type=float, default=0, help="seconds between two batches (0)")
+    words.add_argument("--pause", type=float, default=0, help="about so many seconds between two batches (0)")
     words.add_argument("--give-up", type=float, default=60, help="how many seconds etcd, and a feed, is waited for (60)")
     options = words.parse_args()
-    if options.client not in client.NUMBERS or options.first not in client.NUMBERS:
+    if options.client not in client.NUMBERS[1:] or options.first not in client.NUMBERS:
         words.error("a number is out of range")
     if not 1 <= options.flush <= wire.MOST_ASKS:
         words.error(f"a batch has 1 to {wire.MOST_ASKS} lines")

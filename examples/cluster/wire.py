@@ -1,4 +1,4 @@
-"""Batches of Ask frames, outcomes and checkpoints, as docs/FORMATS.md has them. What one frame is, examples/client.py says."""
+"""Batches of Ask frames, outcomes and checkpoints, as docs/FORMATS.md has them. A frame is as examples/client.py says."""
 import pathlib
 import re
 import struct
@@ -106,11 +106,13 @@ def read_frames(value: bytes) -> list[Ask]:
 
 
 def read_batch(value: bytes) -> list[Ask]:
-    """The Asks of a batch: whole Ask frames and nothing else, and not too many. Any other bytes are a ValueError.
+    """The Asks of a batch: whole Ask frames of clients from 1 on, and not too many. Any other bytes are a ValueError.
 
     Each feed judges each batch by this alone, so all leave out the same ones. A bank that got other bytes would end its
-    session in the midst of the batch, each time anew."""
+    session in the midst of the batch, each time anew. Client 0 is left out since a run can't be told its numbers."""
     asks = read_frames(value)
+    if any(ask.client == 0 for ask in asks):
+        raise ValueError("an ask of client 0")
     if len(asks) > MOST_ASKS:
         raise ValueError(f"{len(asks)} asks, and a batch has at most {MOST_ASKS}")
     return asks
