@@ -228,12 +228,13 @@ class Log:
         """The whole log in order, and the revision that it was read at, the same for all pages."""
         while True:
             try:
-                return self.read_pages()
+                return self.read_at(0)
             except Compacted:
                 continue
 
-    def read_pages(self) -> tuple[list[Entry], int]:
-        entries, revision, key = [], 0, text(self.first)
+    def read_at(self, revision: int) -> tuple[list[Entry], int]:
+        """The log as it was at a revision, or is now where that is 0."""
+        entries, key = [], text(self.first)
         while True:
             body = {"key": key, "range_end": text(self.end), "limit": str(PAGE), "revision": str(revision)}
             answer = self.etcd.call("/v3/kv/range", body)
@@ -274,13 +275,14 @@ def read_key(found: dict) -> Entry:
     """What a key of etcd says. A key that was put again is a LogError: readers may differ about its place and value."""
     key = base64.b64decode(found["key"]).decode(errors="replace")
     if found["create_revision"] != found["mod_revision"]:
-        raise LogError(f"{key} was put again after it was made: this is a log no more")
+        raise LogError(f"{key} was put again, at revision {found['mod_revision']}: this is a log no more")
     return Entry(int(found["create_revision"]), key, base64.b64decode(found.get("value", "")))
 
 
 def read_event(event: dict) -> Entry:
     if event.get("type", "PUT") != "PUT":
-        raise LogError(f"{base64.b64decode(event['kv']['key']).decode(errors='replace')} was deleted: this is a log no more")
+        key, revision = base64.b64decode(event["kv"]["key"]).decode(errors="replace"), event["kv"]["mod_revision"]
+        raise LogError(f"{key} was deleted, at revision {revision}: this is a log no more")
     return read_key(event["kv"])
 
 
@@ -288,5 +290,5 @@ def in_order(entries: list[Entry]) -> list[Entry]:
     """These entries. Two that were made at once are a LogError: nothing says which is the first."""
     for before, after in zip(entries, entries[1:]):
         if before.revision >= after.revision:
-            raise LogError(f"{before.key} and {after.key} were made at once: a transaction may make one of them alone")
+            raise LogError(f"{before.key} and {after.key} were made at once, at revision {after.revision}: this is a log no more")
     return entries
