@@ -14,6 +14,7 @@ import log
 HERE = pathlib.Path(__file__).resolve().parent
 # Below those that the system gives to whoever connects: such a one could be in use when a bank wants its own back.
 PORTS = range(20_000, 32_000)
+MORE_NODES = 4  # at most, beside as many as there are members
 LOOK_SECONDS = 0.02
 
 
@@ -77,7 +78,7 @@ class Node:
         self.name, self.store = name, fleet.folder / name
         self.store.mkdir()
         self.outcomes, self.checkpoint = fleet.folder / f"{name}.outcomes", self.store / "node0.ckpt"
-        port = f"{free_ports(1)[0]}"
+        port = f"{fleet.spare_ports.pop()}"
         serve = [fleet.program, "serve", "--port", port, "--sessions", "1000", "--store", self.store]
         self.bank = Process(f"bank-{name}", serve, fleet.folder, opening)
         feed = [sys.executable, HERE / "feed.py", "--members", fleet.addresses(nearest), "--port", port, "--name", name,
@@ -104,7 +105,8 @@ class Fleet:
         self.folder, self.program, self.opening, self.size = folder, program, opening, size
         self.settings = settings  # of etcd
         self.processes: list[Process] = []
-        self.ports = free_ports(2 * size)
+        ports = free_ports(3 * size + MORE_NODES)
+        self.ports, self.spare_ports = ports[: 2 * size], ports[2 * size :]
         self.members = [self.member(place) for place in range(size)]
         self.processes += self.members
         self.nodes = [Node(f"node{place}", self, opening, place) for place in range(size)]
