@@ -90,8 +90,7 @@ class Demo:
         if calm:
             self.measures["asks a second, to the last outcome everywhere"] = self.work.asks() / (progress.last() - start)
         for what, nodes, killed, end in self.kills:
-            longest = progress.standstill(nodes, killed, end)
-            self.measures[f"{what} killed: longest time without an outcome at another node"] = longest
+            self.measures[f"{what} killed: longest time without an outcome at a node"] = progress.standstill(nodes, killed, end)
         self.say("all is answered, everywhere")
         return submitters
 
@@ -129,7 +128,7 @@ class Demo:
         far = max(other.length() for other in others)
         self.wait(f"the node whose {what} was killed", lambda: node.length() >= far)
         self.measures[f"{what} killed: from its new start until it's as far as the others"] = time.monotonic() - started
-        self.kills.append((what, others, killed, time.monotonic()))
+        self.kills.append((f"{what} of another node", others, killed, time.monotonic()))
 
     def compare(self) -> int:
         """Has all nodes be saved and compared: the mark where they are."""
