@@ -110,15 +110,19 @@ class Demo:
         return killed
 
     def kill_all(self) -> None:
-        """Kills the member that leads, then a bank, then a feed, each in the midst of what there is to do."""
+        """Kills the member that leads, then a bank, then a feed, each in the midst of what there is to do, between two marks."""
+        self.mark("begin")
         self.reach(0.1)
-        self.mark("middle")
+        start = time.monotonic()
+        self.reach(0.2)
+        self.kills.append(("nothing", self.nodes, start, time.monotonic()))
         self.reach(0.25)
         killed = self.kill(self.fleet.leader())
         self.reach(0.4)
         self.kills.append(("leader", self.nodes, killed, time.monotonic()))
         self.kill_beside(0.5, "bank", self.nodes[0], self.nodes[0].bank)
         self.kill_beside(0.7, "feed", self.nodes[1], self.nodes[1].feed)
+        self.mark("middle")
 
     def kill_beside(self, share: float, what: str, node: Node, process: Process) -> None:
         """Kills a bank or a feed, and waits until its node is as far as the others were when it was started again."""
