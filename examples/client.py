@@ -112,4 +112,5 @@ def main():
         sys.exit(f"client: {options.host}:{options.port}: {fault}")
 
 
-main()
+if __name__ == "__main__":
+    main()

@@ -1,0 +1,90 @@
+"""What has to hold at the end: the same bytes at all banks, those of one `smallbank run` of the log read back."""
+import pathlib
+import subprocess
+from typing import NamedTuple
+
+import log
+import wire
+from wire import client
+
+
+class Wrong(Exception):
+    """Something that has to hold doesn't."""
+
+
+class Played(NamedTuple):
+    """What a run of the log prints: a line for each ask, and the rows."""
+
+    answers: list[str]
+    rows: list[str]
+
+
+def asks_of(entries: list[log.Entry]) -> list[wire.Ask]:
+    """All Asks of a log whose batches are good ones."""
+    return [ask for entry in entries for ask in wire.read_batch(entry.value)]
+
+
+def run(program: pathlib.Path, opening: bytes, asks: list[wire.Ask]) -> Played:
+    """Runs the log as text, without a server, a socket or etcd."""
+    ended = subprocess.run([program, "run"], input=opening + b"".join(map(wire.spell_ask, asks)), capture_output=True)
+    if ended.returncode != 0:
+        raise Wrong(f"a run of the log ended with status {ended.returncode}: {ended.stderr.decode()}")
+    printed = ended.stdout.decode().splitlines()
+    return Played(printed[: len(asks)], printed[len(asks) :])
+
+
+def spell_reply(code: int, total: int) -> str:
+    words = client.WORDS[0, code]
+    return words if words != "shown" else f"shown {wire.money(total)}"
+
+
+def spell_outcomes(outcomes: bytes) -> list[str]:
+    """The outcomes as a client is told them."""
+    read = client.OUTCOME.iter_unpack(outcomes)
+    return [spell_reply(code, total) if status == 0 else client.WORDS[status, code] for *_, status, code, total in read]
+
+
+def told_by(answer: str) -> str:
+    """What a client is told whose ask a run answers by this line: the number in the log isn't told."""
+    first, rest = answer.split(" ", 1)
+    return rest if first.isdecimal() else "mismatch" if first == "mismatch" else "log full"
+
+
+def same(files: list[pathlib.Path], what: str) -> bytes:
+    """The bytes of these files, which have to be the same."""
+    first, *others = [file.read_bytes() for file in files]
+    for file, other in zip(files[1:], others):
+        if other != first:
+            raise Wrong(f"the {what} of {files[0].name} and {file.name} differ")
+    return first
+
+
+def expect(holds: bool, what: str) -> None:
+    if not holds:
+        raise Wrong(f"this doesn't hold: {what}")
+
+
+def check_by_run(asks: list[wire.Ask], outcomes: bytes, checkpoint: bytes, opening: bytes, played: Played) -> None:
+    """Outcomes and checkpoint against a run of the log: replies one by one, rows, and the replies that are saved."""
+    expect([told_by(answer) for answer in played.answers] == spell_outcomes(outcomes), "the outcomes are a run's replies")
+    saved = wire.read_checkpoint(checkpoint)
+    names = [line.split(" ")[0] for line in opening.decode().splitlines()[:-1]]
+    rows = [f"{name} {wire.money(savings)} {wire.money(checking)}"
+            for name, savings, checking in zip(names, saved.savings, saved.checking)]
+    expect(rows + [f"total {wire.money(saved.total)}"] == played.rows, "the checkpoint's balances are a run's rows")
+    numbered = dict(answer.split(" ", 1) for answer in played.answers if answer[0].isdecimal())
+    replies = {f"{number}": spell_reply(*reply) for number, reply in enumerate(saved.replies, 1)}
+    expect(replies == numbered, "the checkpoint's replies are a run's, by their numbers")
+
+
+def check_submitters(submitters: list[tuple[pathlib.Path, int, bytes]], asks: list[wire.Ask], outcomes: bytes) -> int:
+    """What submitters printed that were given these lines under a client's number: how many outcomes that is, all of them
+    as in the log. The same ask has the same outcome wherever it is in the log."""
+    spelled = dict(zip(asks, spell_outcomes(outcomes)))
+    count = 0
+    for output, number, lines in submitters:
+        frames = b"".join(wire.encode_ask(number, *each) for each in enumerate(lines.splitlines(), 1))
+        expected = [spelled[ask] for ask in wire.read_frames(frames)]
+        expect(output.read_text().splitlines() == expected, f"{output.name} has the log's outcomes")
+        count += len(expected)
+    return count
