@@ -1,7 +1,7 @@
 //! Banks that are served to clients in memory.
 ghost use Rattle.std.specs.Prelude.{◌≡◌, ◌≤◌, None, []};
-ghost use Rattle.sb_rows.specs.declared.opening.Opening.{Opening as AnyOpening};
-ghost use Rattle.bank_server.specs.Primary.{opened_node};
+ghost use Rattle.bank_server.specs.Execution.{IsOpened};
+ghost use Rattle.bank_server.specs.Primary.{HasAll};
 
 use super::clients::{Client, Doorway, Manner, Told};
 use crate::serve_fault::ServeFault;
@@ -198,7 +198,8 @@ fn stores_that_fail(rt: HostRuntime) {
 // A bank with this opening.
 fn bank_of(rt: &impl Abort, alloc: Global, opening: &[u8]) -> Primary<MemoryStore>
     ensures log { result.log ≡ [] }
-    ensures node { (opening : AnyOpening) × (result.node ≡ opened_node opening result.node.store) }
+    ensures all { HasAll result }
+    ensures opened { IsOpened result.node.board }
 {
     let opening = read_opening(alloc, opening).expect(rt, "an opening");
     Primary::open(alloc, opening, MemoryStore::new(alloc)).expect(rt, "a bank")
