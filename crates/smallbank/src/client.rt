@@ -15,15 +15,16 @@ use std::io::{Read, Write};
 use std::net::OpenStream;
 use std::time::{Clock, Duration};
 
-/// Serves a client, as [`serve_session`], and hangs up.
+/// Serves a client, as [`serve_session`]. Its stream stays open: the client sees its end once the caller lets it go.
 ///
-/// A client that sent what it may not still gets all that it was told. Where the stream can't be set up, it is as if it
-/// had failed at once; where the patience with a read or a write, of so many seconds, is over, as if that had failed.
+/// A client that sent what it may not is told at once that nothing more comes, and still gets all that it was told.
+/// Where the stream can't be set up, it is as if it had failed at once; where the patience with a read or a write, of so
+/// many seconds, is over, as if that had failed.
 pub(crate) fn serve_client<R, T, S, C>(
     rt: &R,
     alloc: Global,
     patience: Option<usize>,
-    stream: T,
+    stream: &mut T,
     primary: &mut Primary<S>,
     crew: &mut C,
 ) -> Result<(), SessionFault>
@@ -34,18 +35,17 @@ where
     C: Crew,
     requires one_each { IsLog primary.old.log }
     // What the client sent was heard, and its asks are in the log.
-    ensures heard { IfSome (T.remaining stream) (λ sent.
+    ensures heard { IfSome (T.remaining stream.old) (λ sent.
         IsHeard primary.old.log sent result primary.new.log) }
     ensures bank { KeepsBank primary.old primary.new }
     ensures gone { IfErr result (LosesCrew C.keeps primary.old.node.board) }
 {
-    let mut reader = stream;
-    let Ok(mut writer) = set_up(&reader, patience) else {
+    let Ok(mut writer) = set_up(&*stream, patience) else {
         return Err(SessionFault::Device);
     };
-    let served = serve_session(alloc, &mut reader, &mut writer, primary, crew);
+    let served = serve_session(alloc, stream, &mut writer, primary, crew);
     if let Err(SessionFault::Frame(_) | SessionFault::Unexpected) = served {
-        hang_up(rt, &mut reader);
+        hang_up(rt, stream);
     }
     served
 }

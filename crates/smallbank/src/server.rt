@@ -146,9 +146,10 @@ where
         ensures plan { self.new.plan ≡ self.old.plan }
         ensures fault { IfErr result (IsKeepFault self.old.plan.saves) }
     {
-        let stream = self.door.let_in()?;
+        // It ends with this function, so a client whose stream ended well knows that its asks are saved.
+        let mut stream = self.door.let_in()?;
         let (alloc, patience) = (self.alloc, self.plan.patience);
-        let served = serve_client(rt, alloc, patience, stream, &mut self.primary, crew);
+        let served = serve_client(rt, alloc, patience, &mut stream, &mut self.primary, crew);
         if let Some(fault) = ending(served) {
             print_session(alloc, number, served, &mut self.writer)?;
             return Err(ServeFault::Run(fault));
