@@ -41,9 +41,9 @@ class Audit:
         """Compares the checkpoint of the mark that was passed, where one is pending. All that is known of the log has
         `known` entries. It answers whether the mark is to be passed anew.
 
-        It's called when the bank has told the first outcomes of the next session. A session's stream ends before its
-        checkpoint is put; but sessions are served one after the other, and a checkpoint is put in between. So it was put by
-        now. (Where the end of a stream means that the checkpoint was put, this may be called at that end.)"""
+        It's called when the bank has told the first outcomes of the next session. The end of a stream says that the
+        checkpoint was put where a session ended well; but it comes too where the bank is killed. Sessions are served one
+        after the other, so by now it was put, or this is a new bank, which has a shorter one or none."""
         if self.pending is None:
             return False
         (mark, entries), self.pending = self.pending, None
