@@ -1,6 +1,7 @@
 pub mod Checkpoint
 pub mod Drafts
 pub mod Faults
+pub mod FaultyStore
 pub mod FileStore
 pub mod FolderFile
 pub mod MemoryStore

@@ -1,6 +1,6 @@
 -- A store in memory.
-use Rattle.std.specs.Prelude.{◌≡◌, ℕ, suc, ◌^◌, ◌-◌, ◌==◌, ◌⊎◌, if◌then◌else◌, Option, Some, Ok, Err, List}
-use Rattle.sb_checkpoint.specs.Stores.{StoreStep, Put, Got, NotGot}
+use Rattle.std.specs.Prelude.{◌≡◌, ◌≢◌, ℕ, suc, ◌^◌, ◌-◌, ◌==◌, ◌⊎◌, if◌then◌else◌, Option, None, Some, Ok, Err, List}
+use Rattle.sb_checkpoint.specs.Stores.{StoreModel, StoreStep, Put, Got, NotGot}
 use Rattle.sb_checkpoint.specs.declared.memory_store.How.{How}
 use Rattle.sb_checkpoint.specs.declared.memory_store.How.TheVariants as how
 use Rattle.sb_checkpoint.specs.declared.store.StoreFault.TheVariants.{Device, OutOfMemory}
@@ -15,7 +15,8 @@ pub record MemoryStoreOf : Type 0 where
 abbrev pub one_more : ℕ → ℕ
 one_more failures = if failures == 2 ^ 64 - 1 then failures else suc failures
 
--- a put ends as it was told, and the next one well; a get changes nothing, and its device never fails
+-- a put ends as it was told, and the next one well; a get changes nothing, its device never fails, and it wants memory
+-- only for what is held
 abbrev pub MemoryActs : MemoryStoreOf → StoreStep → MemoryStoreOf → Type 0
 MemoryActs old (Put bytes (Ok done)) new =
     (old.next ≡ how.Ok) × (new ≡ record old { slot = Some bytes })
@@ -25,4 +26,13 @@ MemoryActs old (Put bytes (Err Device)) new =
 MemoryActs old (Put bytes (Err OutOfMemory)) new = new ≡ old
 MemoryActs old (Got held) new = (held ≡ old.slot) × (new ≡ old)
 MemoryActs old (NotGot Device) new = ⊥
-MemoryActs old (NotGot OutOfMemory) new = new ≡ old
+MemoryActs old (NotGot OutOfMemory) new = (old.slot ≢ None) × (new ≡ old)
+
+-- a store in memory holds what it says
+abbrev pub memory_model : StoreModel MemoryStoreOf
+memory_model = record {
+  slot = λ store. store.slot;
+  IsHonest = λ store. Unit {0};
+  failed = λ store. store.failures;
+  acts = MemoryActs;
+}

@@ -30,14 +30,21 @@ FailsAlong old (Got held) new = Unit {0}
 FailsAlong old (NotGot Device) new = HasFailed old new
 FailsAlong old (NotGot OutOfMemory) new = Unit {0}
 
+-- what contracts know of a store: the bytes that it holds, if any were put; whether it holds what it says; how often
+-- its device has failed; and what it may do at one call, from what it was before to what it is after
+pub record StoreModel (S : Type 0) : Type 1 where
+  pub slot : S → Option (List ℕ)
+  pub IsHonest : S → Type 0
+  pub failed : S → ℕ
+  pub acts : S → StoreStep → S → Type 0
+
 -- what a store promises of a call: whether it is honest stays; what it holds then; when its device failed; and
 -- whatever more is told of it
-pub record StoreDoes {S : Type 0} (slot : S → Option (List ℕ)) (IsHonest : S → Type 0) (failed : S → ℕ)
-    (acts : S → StoreStep → S → Type 0) (old : S) (step : StoreStep) (new : S) : Type 0 where
-  pub honest : IsHonest old → IsHonest new
-  pub holds : IsHonest old → HoldsAfter (slot old) step (slot new)
-  pub fails : FailsAlong (failed old) step (failed new)
-  pub as_told : acts old step new
+pub record StoreDoes {S : Type 0} (store : StoreModel S) (old : S) (step : StoreStep) (new : S) : Type 0 where
+  pub honest : store.IsHonest old → store.IsHonest new
+  pub holds : store.IsHonest old → HoldsAfter (store.slot old) step (store.slot new)
+  pub fails : FailsAlong (store.failed old) step (store.failed new)
+  pub as_told : store.acts old step new
 
 -- it is told whether just these bytes were found
 abbrev pub TellsSame : List ℕ → Bool → Option (List ℕ) → Type 0

@@ -67,13 +67,12 @@ impl<P: FileWithSpare> FileStore<P> {
 }
 
 impl<P: FileWithSpare> CheckpointStore for FileStore<P> {
-    ghost slot = { λ store. P.held store.file };
-
-    ghost IsHonest = { λ store. P.IsHonest store.file };
-
-    ghost failed = { λ store. store.failures };
-
-    ghost acts = { FileActs P.IsHonest P.spare };
+    ghost model = { record {
+      slot = λ store. P.held store.file;
+      IsHonest = λ store. P.IsHonest store.file;
+      failed = λ store. store.failures;
+      acts = FileActs P.IsHonest P.spare;
+    } };
 
     fn put(&mut self, bytes: &[u8]) -> Result<(), StoreFault> {
         let mut done = self.file.write_spare(bytes);

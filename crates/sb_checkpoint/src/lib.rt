@@ -3,6 +3,7 @@
 
 mod checkpoint;
 mod fault;
+mod faulty_store;
 mod fields;
 mod file_store;
 mod folder_file;
@@ -17,6 +18,7 @@ mod writing;
 
 pub use checkpoint::Checkpoint;
 pub use fault::CheckpointFault;
+pub use faulty_store::{FaultyStore, Version};
 pub use file_store::FileStore;
 pub use folder_file::FolderFile;
 pub use laws::{one_checkpoint, spelled_is_taken, taken_is_spelled};

@@ -1,6 +1,6 @@
 //! A store in memory, whose puts end as they are told to.
-ghost use Rattle.std.specs.Prelude.{◌≡◌, None, Err, IfOk, OnErr};
-ghost use Rattle.sb_checkpoint.specs.MemoryStore.{MemoryActs};
+ghost use Rattle.std.specs.Prelude.{◌≡◌, None, Some, Err, IfOk, MatchResult, OnErr};
+ghost use Rattle.sb_checkpoint.specs.MemoryStore.{memory_model, one_more};
 
 use crate::store::{CheckpointStore, StoreFault};
 use std::alloc::Global;
@@ -58,6 +58,25 @@ impl MemoryStore {
     {
         self.next = how;
     }
+
+    // Holds a copy of these bytes.
+    pub(crate) fn hold(&mut self, bytes: &[u8]) -> Result<(), StoreFault>
+        ensures { MatchResult result
+            (λ done. self.new ≡ record self.old { slot = Some bytes.now })
+            (λ fault. (fault ≡ StoreFault.OutOfMemory) × (self.new ≡ self.old)) }
+    {
+        self.bytes = Some(copied(self.alloc, bytes)?);
+        Ok(())
+    }
+
+    // The device failed once more.
+    pub(crate) fn failed(&mut self) -> StoreFault
+        ensures fault { result ≡ StoreFault.Device }
+        ensures counted { self.new ≡ record self.old { failures = one_more self.old.failures } }
+    {
+        self.failures = self.failures.saturating_add(1);
+        StoreFault::Device
+    }
 }
 
 // A copy of some bytes.
@@ -74,13 +93,7 @@ fn copied(alloc: Global, bytes: &[u8]) -> Result<Vec<u8>, StoreFault>
 
 // What it is told of is all that it does, so it is honest.
 impl CheckpointStore for MemoryStore {
-    ghost slot = { λ store. store.slot };
-
-    ghost IsHonest = { λ store. Unit {0} };
-
-    ghost failed = { λ store. store.failures };
-
-    ghost acts = { MemoryActs };
+    ghost model = { memory_model };
 
     fn put(&mut self, bytes: &[u8]) -> Result<(), StoreFault> {
         let copy = copied(self.alloc, bytes)?;
@@ -92,8 +105,7 @@ impl CheckpointStore for MemoryStore {
             return Ok(());
         }
         self.next = How::Ok;
-        self.failures = self.failures.saturating_add(1);
-        Err(StoreFault::Device)
+        Err(self.failed())
     }
 
     fn get(&mut self) -> Result<Option<Vec<u8>>, StoreFault> {

@@ -1,7 +1,7 @@
 //! Where a replica keeps its checkpoint.
-ghost use Rattle.std.specs.Prelude.{◌≡◌, ℕ, Option, List, MatchResult, option_map};
+ghost use Rattle.std.specs.Prelude.{◌≡◌, MatchResult, option_map};
 ghost use Rattle.sb_checkpoint.specs.StoreFaults.{store_fault_number};
-ghost use Rattle.sb_checkpoint.specs.Stores.{Compares, StoreDoes, StoreStep, TellsSame, Put, Got, NotGot};
+ghost use Rattle.sb_checkpoint.specs.Stores.{Compares, StoreDoes, StoreModel, TellsSame, Put, Got, NotGot};
 
 use thiserror::Error;
 
@@ -33,42 +33,33 @@ impl StoreFault {
 /// What is told of these bytes is told of an honest store. That a store in memory is honest is proved; of a
 /// file it is a premise.
 pub trait CheckpointStore: Drop {
-    /// The bytes that it holds, if any were put.
-    ghost slot: { Self → Option (List ℕ) };
-
-    /// Whether it holds what it says.
-    ghost IsHonest: { Self → Type 0 };
-
-    /// How often its device has failed.
-    ghost failed: { Self → ℕ };
-
-    /// What it may do at one call, from what it was before to what it is after. A store of which nothing more
-    /// is to be told says that it always holds.
-    ghost acts: { Self → StoreStep → Self → Type 0 };
+    /// What contracts know of it: the bytes that it holds, whether it is honest, how often its device has failed, and
+    /// what it may do at one call. A store of which nothing more is to be told says that the last always holds.
+    ghost model: { StoreModel Self };
 
     /// Holds these bytes in place of those before.
     fn put(&mut self, bytes: &[u8]) -> Result<(), StoreFault>
-        ensures { StoreDoes slot IsHonest failed acts self.old (Put bytes.now result) self.new };
+        ensures { StoreDoes model self.old (Put bytes.now result) self.new };
 
     /// The bytes that it holds, or `None` before the first put.
     fn get(&mut self) -> Result<Option<Vec<u8>>, StoreFault>
         ensures { MatchResult result
-            (λ held. StoreDoes slot IsHonest failed acts self.old
+            (λ held. StoreDoes model self.old
             (Got (option_map (λ bytes. bytes.items) held)) self.new)
-            (λ fault. StoreDoes slot IsHonest failed acts self.old (NotGot fault) self.new) };
+            (λ fault. StoreDoes model self.old (NotGot fault) self.new) };
 
     /// Whether it holds just these bytes, as [`CheckpointStore::get`] tells.
     fn holds(&mut self, bytes: &[u8]) -> Result<bool, StoreFault>
         ensures { MatchResult result
-            (λ same. Compares (StoreDoes slot IsHonest failed acts) self.old bytes.now same self.new)
-            (λ fault. StoreDoes slot IsHonest failed acts self.old (NotGot fault) self.new) }
+            (λ same. Compares (StoreDoes model) self.old bytes.now same self.new)
+            (λ fault. StoreDoes model self.old (NotGot fault) self.new) }
     {
         Ok(is_same(&self.get()?, bytes))
     }
 
     /// How often its device has failed, up to the greatest number that can be told.
     fn failures(&self) -> u64
-        ensures { result ≡ failed self.now };
+        ensures { result ≡ model.failed self.now };
 }
 
 // Whether just these bytes were found.
