@@ -6,4 +6,5 @@ pub mod HeardStreams
 pub mod HeldReplies
 pub mod IdleReplies
 pub mod MarkedReplies
+pub mod RightHeads
 pub mod TakenEntries

@@ -5,7 +5,7 @@ use Rattle.sb_calls.specs.declared.op.Op.{Op}
 use Rattle.cown_board.specs.Board.{BoardOf, length_of}
 use Rattle.cown_board.specs.Played.{opened_with}
 use Rattle.sb_checkpoint.specs.Checkpoint.{CheckpointOf, Spells}
-use Rattle.sb_checkpoint.specs.Reading.{first_fault}
+use Rattle.sb_checkpoint.specs.Reading.{first_fault, head_fault}
 use Rattle.sb_checkpoint.specs.Stores.{StoreStep, Got, NotGot}
 use Rattle.sb_checkpoint.specs.declared.fault.CheckpointFault.{CheckpointFault}
 use Rattle.sb_checkpoint.specs.declared.fault.CheckpointFault.TheVariants as checkpoint
@@ -38,13 +38,19 @@ abbrev pub of_checkpoint_fault : CheckpointFault → RestartFault
 of_checkpoint_fault checkpoint.OutOfMemory = restart.OutOfMemory
 of_checkpoint_fault fault = restart.BadCheckpoint fault
 
--- why what the store holds can't be gone back to: it is no checkpoint of this bank, or memory was refused
+-- what is held, if anything, begins as a checkpoint of so many customers and isn't short
+abbrev pub BeginsWell : ℕ → Option (List ℕ) → Type 0
+BeginsWell customers None = Unit {0}
+BeginsWell customers (Some bytes) = head_fault bytes customers ≡ None
+
+-- why what the store holds can't be gone back to: it is no checkpoint of this bank, or memory was refused, which only
+-- what begins well wants
 abbrev pub IsRefusalOf : ℕ → Option (List ℕ) → RestartFault → Type 0
 IsRefusalOf customers held restart.Device = ⊥
 IsRefusalOf customers held (restart.BadCheckpoint fault) =
     (bytes : List ℕ) × (held ≡ Some bytes) × (fault ≢ checkpoint.OutOfMemory)
     × (first_fault bytes customers ≡ Some fault)
-IsRefusalOf customers held restart.OutOfMemory = Unit {0}
+IsRefusalOf customers held restart.OutOfMemory = BeginsWell customers held
 
 module _ {S : Type 0} (does : S → StoreStep → S → Type 0) where
   -- a new board on what the store holds, and no op is held

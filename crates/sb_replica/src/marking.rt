@@ -46,12 +46,12 @@ impl<S: CheckpointStore> Replica<S> {
     pub fn mark(&mut self) -> Result<u64, MarkFault>
         ensures busy { IsErrOf result MarkFault.Busy ↔ (open_of (up_to_cut self.old.board) ≢ 0) }
         ensures ok { IfOk result (λ size. (size ≡ length_of (up_to_cut self.old.board))
-            × Puts (StoreDoes S.slot S.IsHonest S.failed S.acts) self.old (Ok tt) self.new) }
+            × Puts (StoreDoes S.model) self.old (Ok tt) self.new) }
         // After any calls on its board, with this one too, the board is true to its log.
         ensures played { OnOk result
             (StaysTrueToLog declared_cowns effect_of self.old.board CutDropped self.new.board) }
         ensures err { IfErr result (λ fault.
-            IsMarkFaultOf (StoreDoes S.slot S.IsHonest S.failed S.acts) self.old fault self.new) }
+            IsMarkFaultOf (StoreDoes S.model) self.old fault self.new) }
     {
         let length = self.marked_length();
         self.put_checkpoint()?;
@@ -64,12 +64,12 @@ impl<S: CheckpointStore> Replica<S> {
     pub fn put_checkpoint(&mut self) -> Result<Vec<u8>, MarkFault>
         ensures busy { IsErrOf result MarkFault.Busy ↔ (open_of (up_to_cut self.old.board) ≢ 0) }
         ensures ok { IfOk result (λ bytes.
-            PutsBytes (StoreDoes S.slot S.IsHonest S.failed S.acts) self.old bytes.items self.new) }
+            PutsBytes (StoreDoes S.model) self.old bytes.items self.new) }
         // After any calls on its board, with this one too, the board is true to its log.
         ensures played { OnOk result
             (StaysTrueToLog declared_cowns effect_of self.old.board CutDropped self.new.board) }
         ensures err { IfErr result (λ fault.
-            IsMarkFaultOf (StoreDoes S.slot S.IsHonest S.failed S.acts) self.old fault self.new) }
+            IsMarkFaultOf (StoreDoes S.model) self.old fault self.new) }
     {
         let Some(columns) = self.marked_columns() else {
             return Err(MarkFault::Busy);

@@ -172,9 +172,9 @@ impl<S: CheckpointStore> Replica<S> {
     /// What the store holds, as [`CheckpointStore::get`].
     pub fn stored(&mut self) -> Result<Option<Vec<u8>>, StoreFault>
         ensures got { MatchResult result
-            (λ held. StoreDoes S.slot S.IsHonest S.failed S.acts self.old.store
+            (λ held. StoreDoes S.model self.old.store
             (Got (option_map (λ bytes. bytes.items) held)) self.new.store)
-            (λ fault. StoreDoes S.slot S.IsHonest S.failed S.acts self.old.store (NotGot fault) self.new.store) }
+            (λ fault. StoreDoes S.model self.old.store (NotGot fault) self.new.store) }
         ensures stays { self.new ≡ record self.old { store = self.new.store } }
     {
         self.store.get()
@@ -183,9 +183,9 @@ impl<S: CheckpointStore> Replica<S> {
     /// Whether the store holds just these bytes, as [`CheckpointStore::holds`].
     pub fn store_holds(&mut self, bytes: &[u8]) -> Result<bool, StoreFault>
         ensures told { MatchResult result
-            (λ same. Compares (StoreDoes S.slot S.IsHonest S.failed S.acts) self.old.store bytes.now same
+            (λ same. Compares (StoreDoes S.model) self.old.store bytes.now same
             self.new.store)
-            (λ fault. StoreDoes S.slot S.IsHonest S.failed S.acts self.old.store (NotGot fault) self.new.store) }
+            (λ fault. StoreDoes S.model self.old.store (NotGot fault) self.new.store) }
         ensures stays { self.new ≡ record self.old { store = self.new.store } }
     {
         self.store.holds(bytes)

@@ -1,12 +1,12 @@
 //! Going back to the checkpoint that is stored.
-ghost use Rattle.std.specs.Prelude.{◌≡◌, ◌≤◌, IfOk, IfErr, length, option_map};
+ghost use Rattle.std.specs.Prelude.{◌≡◌, ◌≤◌, IfOk, IfErr, OnOk, length, option_map};
 ghost use Rattle.std.specs.List.{All};
 ghost use Rattle.sb_calls.specs.Replies.{IsReply};
 ghost use Rattle.cown_board.specs.Played.{opened_with};
 ghost use Rattle.sb_replica_log.specs.Log.{none_held};
 ghost use Rattle.sb_checkpoint.specs.Stores.{StoreDoes};
 ghost use Rattle.sb_replica.specs.Replica.{with_log};
-ghost use Rattle.sb_replica.specs.Restarting.{Restarts, IsRestartFaultOf, IsStoredAs, IsLogOn, IsRefusalOf};
+ghost use Rattle.sb_replica.specs.Restarting.{BeginsWell, Restarts, IsRestartFaultOf, IsStoredAs, IsLogOn, IsRefusalOf};
 
 use crate::fault::RestartFault;
 use crate::replica::Replica;
@@ -38,9 +38,9 @@ impl<S: CheckpointStore> Replica<S> {
     /// After a fault the replica is as it was.
     pub fn restart(&mut self) -> Result<u64, RestartFault>
         ensures ok { IfOk result (λ size.
-            Restarts (StoreDoes S.slot S.IsHonest S.failed S.acts) self.old size self.new) }
+            Restarts (StoreDoes S.model) self.old size self.new) }
         ensures err { IfErr result (λ fault.
-            IsRestartFaultOf (StoreDoes S.slot S.IsHonest S.failed S.acts) self.old fault self.new) }
+            IsRestartFaultOf (StoreDoes S.model) self.old fault self.new) }
     {
         let held = self.store.get()?;
         let log = self.held_log(held)?;
@@ -72,6 +72,7 @@ impl<S: CheckpointStore> Replica<S> {
     }
 
     // The balances and the replies that the store holds, or those of the opening where it holds nothing.
+    #[tactic(auto, using(crate::proofs::RightHeads::right_head))]
     fn held_parts(&self, held: Option<Vec<u8>>) -> Result<(Columns, Vec<Reply>), RestartFault>
         ensures held { IfOk result (λ parts. IsStoredAs self.now.opening (length self.now.names)
             (option_map (λ bytes. bytes.items) held)
@@ -79,6 +80,8 @@ impl<S: CheckpointStore> Replica<S> {
         ensures customers { IfOk result (λ parts. length parts.0.savings ≡ length self.now.names) }
         ensures few { IfOk result (λ parts. length parts.1.items ≤ LOG_CALLS) }
         ensures replies { IfOk result (λ parts. All IsReply parts.1.items) }
+        ensures begins { OnOk result
+            (BeginsWell (length self.now.names) (option_map (λ bytes. bytes.items) held)) }
         ensures err { IfErr result
             (IsRefusalOf (length self.now.names) (option_map (λ bytes. bytes.items) held)) }
     {

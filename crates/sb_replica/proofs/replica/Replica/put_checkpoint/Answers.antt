@@ -9,7 +9,7 @@ returns-in-Ok-put-clause-ok g c =
     let store = g.S.CheckpointStore in
     let old = c.args.self.now in
     let node = c.self.inside in
-    let put : StoreDoes store.slot store.IsHonest store.failed store.acts old.store (Put c.in-Ok.bytes.items (Ok tt)) c.put.new.self = search rules in
+    let put : StoreDoes store.model old.store (Put c.in-Ok.bytes.items (Ok tt)) c.put.new.self = search rules in
     let here : ReplicaOf g.row.S.Denot → ReplicaOf g.row.S.Denot = λ r. record r { board = record r.board { cut = None }; store = c.put.new.self } in
     let stays : record {
       id = node.id;

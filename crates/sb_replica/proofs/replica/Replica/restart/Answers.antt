@@ -20,11 +20,11 @@ returns-clause-ok g c =
       store = c.get.new.self;
     } in
     let gone_on : c.go_on_from.new.self ≡ holding log.held = c.go_on_from.ensures in
-    subst (λ (new : ReplicaOf g.row.S.Denot). Restarts (StoreDoes store.slot store.IsHonest store.failed store.acts) c.args.self.now c.length.result new)
+    subst (λ (new : ReplicaOf g.row.S.Denot). Restarts (StoreDoes store.model) c.args.self.now c.length.result new)
     (sym gone_on)
     (subst
     (λ (old : ReplicaOf g.row.S.Denot).
-    Restarts (StoreDoes store.slot store.IsHonest store.failed store.acts) old c.length.result (holding log.held))
+    Restarts (StoreDoes store.model) old c.length.result (holding log.held))
     c.self.view_is
     (record {
       held = option_map (λ bytes. bytes.items) c.in_ok-held.held;
