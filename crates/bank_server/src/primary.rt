@@ -184,15 +184,15 @@ impl<S: CheckpointStore> Primary<S> {
     ///
     /// The log and the rows stay.
     pub fn save(&mut self) -> Result<u64, SaveFault>
-        ensures saved { OnOk result (Saves (StoreDoes S.slot S.IsHonest S.failed S.acts) self.old.node self.new.node) }
+        ensures saved { OnOk result (Saves (StoreDoes S.model) self.old.node self.new.node) }
         ensures size { IfOk result (λ size. size ≡ length_of self.old.node.board) }
         // An honest store holds the checkpoint then.
-        ensures held { OnOk result (S.IsHonest self.old.node.store
-            → HoldsCheckpoint S.slot self.old.node self.new.node) }
-        ensures fault { IfErr result (λ fault. IsSaveFaultOf (StoreDoes S.slot S.IsHonest S.failed S.acts)
+        ensures held { OnOk result (S.model.IsHonest self.old.node.store
+            → HoldsCheckpoint S.model.slot self.old.node self.new.node) }
+        ensures fault { IfErr result (λ fault. IsSaveFaultOf (StoreDoes S.model)
             self.old.node fault self.new.node) }
         ensures busy { IsErrOf result SaveFault.Busy ↔ (open_of self.old.node.board ≢ 0) }
-        ensures honest { S.IsHonest self.old.node.store → ¬ IsErrOf result SaveFault.ReadBack }
+        ensures honest { S.model.IsHonest self.old.node.store → ¬ IsErrOf result SaveFault.ReadBack }
         ensures stays { self.new ≡ record self.old { node = record self.old.node { store = self.new.node.store } } }
     {
         let node = &mut *self.node;

@@ -13,8 +13,7 @@ pub returns-in_err-same-clause-fault : goal.returns-in_err-same-clause-fault
 returns-in_err-same-clause-fault g c =
     let p = err_from_is_err_and c.from_residual-in_err-same.result c.from_residual-in_err-same.ensures.1 in
     let fault = c.in_err-same.field-0.0 in
-    let does : g.row.S.Denot → StoreStep → g.row.S.Denot → Type 0 =
-    StoreDoes g.S.CheckpointStore.slot g.S.CheckpointStore.IsHonest g.S.CheckpointStore.failed g.S.CheckpointStore.acts in
+    let does : g.row.S.Denot → StoreStep → g.row.S.Denot → Type 0 = StoreDoes g.S.CheckpointStore.model in
     let new = c.store_holds.new.self in
     let puts = subst (λ (old : ReplicaOf g.row.S.Denot). PutsBytes does old c.in_ok-put.put.items c.put_checkpoint.new.self) c.deref_mut-node.ensures.value
     c.in_ok-put.ensures.ok in
@@ -25,8 +24,7 @@ returns-in_err-same-clause-fault g c =
 
 pub returns-then-not-same-clause-fault : goal.returns-then-not-same-clause-fault
 returns-then-not-same-clause-fault g c =
-    let does : g.row.S.Denot → StoreStep → g.row.S.Denot → Type 0 =
-    StoreDoes g.S.CheckpointStore.slot g.S.CheckpointStore.IsHonest g.S.CheckpointStore.failed g.S.CheckpointStore.acts in
+    let does : g.row.S.Denot → StoreStep → g.row.S.Denot → Type 0 = StoreDoes g.S.CheckpointStore.model in
     let new = c.store_holds.new.self in
     let puts = subst (λ (old : ReplicaOf g.row.S.Denot). PutsBytes does old c.in_ok-put.put.items c.put_checkpoint.new.self) c.deref_mut-node.ensures.value
     c.in_ok-put.ensures.ok in
@@ -37,8 +35,7 @@ returns-then-not-same-clause-fault g c =
 
 pub returns-clause-saved : goal.returns-clause-saved
 returns-clause-saved g c =
-    let does : g.row.S.Denot → StoreStep → g.row.S.Denot → Type 0 =
-    StoreDoes g.S.CheckpointStore.slot g.S.CheckpointStore.IsHonest g.S.CheckpointStore.failed g.S.CheckpointStore.acts in
+    let does : g.row.S.Denot → StoreStep → g.row.S.Denot → Type 0 = StoreDoes g.S.CheckpointStore.model in
     let new = c.store_holds.new.self in
     let puts = subst (λ (old : ReplicaOf g.row.S.Denot). PutsBytes does old c.in_ok-put.put.items c.put_checkpoint.new.self) c.deref_mut-node.ensures.value
     c.in_ok-put.ensures.ok in
