@@ -13,7 +13,7 @@ use Rattle.sb_calls.specs.declared.op.Op.{Op}
 use Rattle.sb_calls.proofs.OneByOneRuns.{log_by_cowns}
 use Rattle.sb_checkpoint.proofs.Spelled.{read_back, one_checkpoint, spelled_is_taken}
 use Rattle.sb_checkpoint.specs.Checkpoint.{CheckpointOf}
-use Rattle.sb_checkpoint.specs.MemoryStore.{MemoryStoreOf, MemoryActs}
+use Rattle.sb_checkpoint.specs.MemoryStore.{MemoryStoreOf, MemoryActs, memory_model}
 use Rattle.sb_checkpoint.specs.Reading.{stated_length, first_fault}
 use Rattle.sb_checkpoint.specs.Stores.{StoreStep, StoreDoes, Put, Got, NotGot}
 use Rattle.sb_checkpoint.specs.declared.fault.CheckpointFault.{CheckpointFault}
@@ -154,7 +154,7 @@ abbrev pub told_of : ReplicaOf MemoryStoreOf → How → ReplicaOf MemoryStoreOf
 told_of old end = record old { store = record old.store { next = end } }
 
 abbrev pub Does : MemoryStoreOf → StoreStep → MemoryStoreOf → Type 0
-Does = StoreDoes (λ s. s.slot) (λ s. Unit {0}) (λ s. s.failures) MemoryActs
+Does = StoreDoes memory_model
 
 -- what was put is a checkpoint beside the log
 kept_now : (bank : BankOf) (r : ℕ) (old : Node) (end : How) (answer : Result (Unit {0}) StoreFault) (new : ReplicaOf MemoryStoreOf) → IsNodeAt bank r old
@@ -379,5 +379,5 @@ restart_refused bank r old new is refused =
         × IsRefusalOf (length old.replica.names) held restart.OutOfMemory))
         → new.store ≡ old.replica.store
     by (inl (store.Device, acts, why)) = absurd acts.as_told
-    by (inl (store.OutOfMemory, acts, why)) = acts.as_told
+    by (inl (store.OutOfMemory, acts, why)) = acts.as_told.1
     by (inr (held, acts, why)) = acts.as_told.1
