@@ -47,6 +47,7 @@ world_longer names opening s nodes ask n is valid =
       few = is.few;
       each = λ r node here.
           subst (λ b. IsNodeAt b r node) longer (node_longer bank ask.1 r node (omega (arith, few, valid.log.few)) (is.each r node here));
+      staffed = is.staffed;
       answers = λ k reply here.
           subst (λ b. log_reply b (suc k) ≡ Some reply) longer
           (reply_stays bank ask.1 (suc k) reply is.customers (is.answers k reply (none_last s.answers k reply here)));

@@ -68,6 +68,7 @@ module _ (names : List (List ℕ)) (opening : Balances) (s : SequencerOf) (nodes
               known = length-set s.recorded r size ∙ is.known;
               few = is.few;
               each = is.each;
+              staffed = is.staffed;
               answers = is.answers;
             });
         moved = λ j. (world_of names opening (sym new_is j) nodes, sym noted_is j);
@@ -98,6 +99,7 @@ module _ (names : List (List ℕ)) (opening : Balances) (s : SequencerOf) (nodes
     known = is.known;
     few = is.few;
     each = is.each;
+    staffed = is.staffed;
     answers = λ j other there. elim (cases_eq place j) [
       | inl same ↦
           let within : place < length s.answers = let lt = replied_within k reply here in omega (arith, lt, at) in

@@ -1,9 +1,12 @@
+pub mod AbleWorlds
 pub mod Along
 pub mod Asking
+pub mod AtRest
 pub mod Books
 pub mod Coming
 pub mod Comparing
 pub mod Cuts
+pub mod EmptyHands
 pub mod FinalStates
 pub mod Finishing
 pub mod HeardFrames
@@ -24,10 +27,13 @@ pub mod Runnable
 pub mod SeenReplies
 pub mod SentEntries
 pub mod SentFrames
+pub mod SettledWorlds
 pub mod Sharing
+pub mod Staffing
 pub mod Stages
 pub mod Storing
 pub mod Telling
+pub mod Undone
 pub mod Within
 pub mod Working
 pub mod Worlds

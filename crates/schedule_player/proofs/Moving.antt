@@ -10,6 +10,7 @@ use Rattle.sb_sequencer.specs.Sequencer.{SequencerOf}
 use Rattle.schedule_player.specs.NodeAlong.{seen_node, IsNodeAt, Arrives, Steps}
 use Rattle.schedule_player.specs.ReplicaEvents.{replica_of, node_move}
 use Rattle.schedule_player.specs.ReplicaMoves.{NodeOf}
+use Rattle.schedule_player.specs.Staffed.{IsStaffed}
 use Rattle.schedule_player.specs.World.{WorldOf, MayWantMemory, bank_with, moved_if, moved_at}
 use Rattle.schedule_player.specs.WorldAlong.{IsWorld}
 use Rattle.schedule_player.specs.declared.fault.StepFault.{StepFault}
@@ -25,24 +26,31 @@ abbrev pub world_of : List (List ℕ) → Balances → SequencerOf → List Node
 world_of names opening s nodes = record { names = names; opening = opening; sequencer = s; nodes = map seen_node nodes }
 
 module _ (names : List (List ℕ)) (opening : Balances) (s : SequencerOf) (nodes : List Node) where
+  -- where it was put it stands
+  new_one : (r : ℕ) (new : Node) (q : ℕ) (node : Node) → r ≡ q → slice_get (slice_set nodes r new) q ≡ Some node → new ≡ node
+  new_one r new q node same here =
+      let within : r < length nodes =
+      subst (λ n. r < n) (length-set nodes r new)
+      (subst (λ p. p < length (slice_set nodes r new)) (sym same) (slice_get_within (slice_set nodes r new) q node here)) in
+      some_is (sym (slice_get-set_same nodes r new within) ∙ ap (slice_get (slice_set nodes r new)) same ∙ here)
+
   -- every other replica is as before
   pub world_with : (r : ℕ) (new : Node) → IsWorld names opening s nodes → IsNodeAt (bank_with names opening s.log) r new
-      → IsWorld names opening s (slice_set nodes r new)
-  world_with r new is along = record {
+      → IsStaffed (seen_node new) → IsWorld names opening s (slice_set nodes r new)
+  world_with r new is along staffed = record {
     customers = is.customers;
     valid = is.valid;
     known = is.known ∙ sym (length-set nodes r new);
     few = let l = length-set nodes r new in let f = is.few in omega (arith, l, f);
     each = λ q node here. elim (cases_eq r q) [
       | inl same ↦
-          let within : r < length nodes =
-          subst (λ n. r < n) (length-set nodes r new)
-          (subst (λ p. p < length (slice_set nodes r new)) (sym same) (slice_get_within (slice_set nodes r new) q node here)) in
-          let new_is : new ≡ node =
-          some_is (sym (slice_get-set_same nodes r new within) ∙ ap (slice_get (slice_set nodes r new)) same ∙ here) in
           subst (λ p. IsNodeAt (bank_with names opening s.log) p node) same
-          (subst (IsNodeAt (bank_with names opening s.log) r) new_is along)
+          (subst (IsNodeAt (bank_with names opening s.log) r) (new_one r new q node same here) along)
       | inr differs ↦ is.each q node (sym (slice_get-set_other nodes r q new (λ e. differs (sym e))) ∙ here)
+    ];
+    staffed = λ q node here. elim (cases_eq r q) [
+      | inl same ↦ subst (λ n. IsStaffed (seen_node n)) (new_one r new q node same here) staffed
+      | inr differs ↦ is.staffed q node (sym (slice_get-set_other nodes r q new (λ e. differs (sym e))) ∙ here)
     ];
     answers = is.answers;
   }
@@ -73,15 +81,15 @@ module _ (names : List (List ℕ)) (opening : Balances) (s : SequencerOf) (nodes
     pub err : OnErr result (world_of names opening s (slice_set nodes r new) ≡ world_of names opening s nodes)
 
   pub steps : (r : ℕ) (old new : Node) (move : NodeOf → NodeOf × Note) (result : Result Note StepFault) → IsWorld names opening s nodes
-      → slice_get nodes r ≡ Some old → Steps (bank_with names opening s.log) r old new result (move (seen_node old))
+      → slice_get nodes r ≡ Some old → (IsStaffed (seen_node old) → IsStaffed (move (seen_node old)).0) → Steps (bank_with names opening s.log) r old new result (move (seen_node old))
       → Stepped r new move result
-  steps r old new move (Ok n) is here arrives = record {
-    is = world_with r new is arrives.along;
+  steps r old new move (Ok n) is here keeps arrives = record {
+    is = world_with r new is arrives.along (subst (λ m. IsStaffed m.0) arrives.as_moved (keeps (is.staffed r old here)));
     moves = moves_node r old new n move here arrives;
     err = tt;
   }
-  steps r old new move (Err fault) is here failed = record {
-    is = world_with r new is failed.0.along;
+  steps r old new move (Err fault) is here keeps failed = record {
+    is = world_with r new is failed.0.along (subst IsStaffed (sym failed.0.seen) (is.staffed r old here));
     moves = tt;
     err =
         ap (λ ns. record (world_of names opening s nodes) { nodes = ns })

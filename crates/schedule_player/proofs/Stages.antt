@@ -34,7 +34,7 @@ set-copies zero x xs k y = let e : k ≡ 0 + k = omega arith in ap (λ j. slice_
 set-copies (suc n) x xs k y = ap (λ t. x ∷ t) (set-copies n x xs k y) ∙ (let e : suc (n + k) ≡ suc n + k = omega arith in ap (λ j. slice_set (copies
     (suc n) x ++ xs) j y) e)
 
-get-copies : {A : Type 0} (n : ℕ) (x : A) (k : ℕ) → k < n → slice_get (copies n x) k ≡ Some x
+pub get-copies : {A : Type 0} (n : ℕ) (x : A) (k : ℕ) → k < n → slice_get (copies n x) k ≡ Some x
 get-copies zero x k lt = absurd (omega (arith, lt))
 get-copies (suc n) x zero lt = refl
 get-copies (suc n) x (suc k) lt = get-copies n x k (omega (arith, lt))
@@ -53,7 +53,7 @@ waits_stage Waiting = refl
 waits_stage Out = refl
 waits_stage (Finished reply) = refl
 
-count_more : {A : Type 0} (p : A → Bool) (x : A) (xs : List A) → count_by p (x ∷ xs) ≡ (if p x then 1 else 0) + count_by p xs
+pub count_more : {A : Type 0} (p : A → Bool) (x : A) (xs : List A) → count_by p (x ∷ xs) ≡ (if p x then 1 else 0) + count_by p xs
 count_more p x xs = sum_by-cons (λ y. if p y then 1 else 0) x xs
 
 undone_states : (states : List State) → count_by is_undone (map stage_of states) ≡ count_by is_open states

@@ -17,13 +17,15 @@ use Rattle.schedule_player.specs.NodeAlong.{IsEntryOf, IsToldBy, IsNodeAt, seen_
 use Rattle.schedule_player.specs.Numbered.{copies, Every}
 use Rattle.schedule_player.specs.ReplicaMoves.{NodeOf, length_in, opened_node}
 use Rattle.schedule_player.specs.Seen.{ops_of}
+use Rattle.schedule_player.specs.Staffed.{IsStaffed}
 use Rattle.schedule_player.specs.TrueToLog.{IsTrueToLog}
 use Rattle.schedule_player.specs.World.{bank_with}
 use Rattle.schedule_player.specs.WorldAlong.{IsWorld}
 use Rattle.schedule_player.specs.declared.node.Node.{Node}
-use Rattle.schedule_player.proofs.Lists.{some_is, none_some}
+use Rattle.schedule_player.proofs.Lists.{some_is, none_some, every_copies}
 use Rattle.schedule_player.proofs.Moving.{world_of}
 use Rattle.schedule_player.proofs.SeenReplies.{within_log}
+use Rattle.schedule_player.proofs.Staffing.{opens_staffed}
 use Rattle.schedule_player.proofs.Stages.{length-map, length_stages}
 
 length-copies : {A : Type 0} (n : ℕ) (x : A) → length (copies n x) ≡ n
@@ -34,11 +36,11 @@ all_zeros : (n most : ℕ) → All (λ size. size ≤ most) (replicate n 0)
 all_zeros n most = All-replicate (λ size. size ≤ most) n 0 (omega arith)
 
 pub opened_so : (names : List (List ℕ)) (opening : Balances) (nodes workers : ℕ) (all : List Node) (s : SequencerOf) → SameCustomers names opening
-    → nodes ≤ REPLICAS → s ≡ opened nodes → map seen_node all ≡ copies nodes (opened_node workers)
+    → nodes ≤ REPLICAS → 1 ≤ workers → workers ≤ 16 → s ≡ opened nodes → map seen_node all ≡ copies nodes (opened_node workers)
     → ((bank : BankOf) → bank.names ≡ names → bank.opening ≡ opening → SameCustomers bank.names bank.opening → length bank.calls ≤ LOG_CALLS
     → (r : ℕ) (node : Node) → slice_get all r ≡ Some node → IsNodeAt bank r node)
     → IsWorld names opening s all
-opened_so names opening nodes workers all s same few is seen along =
+opened_so names opening nodes workers all s same few some_worker few_workers is seen along =
     let size : length all ≡ nodes = sym (length-map seen_node all) ∙ ap length seen ∙ length-copies nodes (opened_node workers) in
     let zeros = length-replicate nodes 0 in
     subst (λ x. IsWorld names opening x all) (sym is)
@@ -52,6 +54,9 @@ opened_so names opening nodes workers all s same few is seen along =
       known = zeros ∙ sym size;
       few = omega (arith, few, size);
       each = λ r node here. along (bank_with names opening []) refl refl same (omega arith) r node here;
+      staffed = λ r node here.
+          every_copies IsStaffed nodes (opened_node workers) (opens_staffed workers some_worker few_workers) r (seen_node node)
+          (ap (λ ns. slice_get ns r) (sym seen) ∙ slice_get-map seen_node all r ∙ ap (option_map seen_node) here);
       answers = λ k reply here. absurd (none_some here);
     })
 

@@ -14,6 +14,8 @@ pub mod ReplicaMoves
 pub mod RunText
 pub mod ScheduleFaults
 pub mod Seen
+pub mod Settling
+pub mod Staffed
 pub mod Stage
 pub mod TrueToLog
 pub mod World

@@ -6,11 +6,13 @@ use Rattle.sb_calls.specs.declared.reply.Reply.{Reply}
 use Rattle.sb_sequencer.specs.Sequencer.{SequencerOf, IsSequencer}
 use Rattle.sb_sequencer.specs.declared.sequencer.TheConstants.{REPLICAS}
 use Rattle.schedule_player.specs.Bank.{log_reply}
-use Rattle.schedule_player.specs.NodeAlong.{IsNodeAt}
+use Rattle.schedule_player.specs.NodeAlong.{IsNodeAt, seen_node}
+use Rattle.schedule_player.specs.Staffed.{IsStaffed}
 use Rattle.schedule_player.specs.World.{bank_with}
 use Rattle.schedule_player.specs.declared.node.Node.{Node}
 
--- each replica is one of this bank, each answer that is kept is the log's, and the sequencer knows these replicas
+-- each replica is one of this bank, with what is out in its workers' hands; each answer that is kept is the log's, and the
+-- sequencer knows these replicas
 pub record IsWorld (names : List (List ℕ)) (opening : Balances) (sequencer : SequencerOf)
     (nodes : List Node) : Type 0 where
   pub customers : SameCustomers names opening
@@ -19,5 +21,6 @@ pub record IsWorld (names : List (List ℕ)) (opening : Balances) (sequencer : S
   pub few : length nodes ≤ REPLICAS
   pub each : (r : ℕ) (node : Node) → slice_get nodes r ≡ Some node
       → IsNodeAt (bank_with names opening sequencer.log) r node
+  pub staffed : (r : ℕ) (node : Node) → slice_get nodes r ≡ Some node → IsStaffed (seen_node node)
   pub answers : (k : ℕ) (reply : Reply) → slice_get sequencer.answers k ≡ Some (Some reply)
       → log_reply (bank_with names opening sequencer.log) (suc k) ≡ Some reply

@@ -11,6 +11,7 @@ mod node;
 mod observing;
 mod opened;
 mod running;
+mod settling;
 mod states;
 mod stepping;
 mod world;

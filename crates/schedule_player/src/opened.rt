@@ -45,7 +45,7 @@ fn open_nodes(
 }
 
 impl World {
-    /// A bank at its opening, with an empty log: so many replicas, each with so many workers and an empty store.
+    /// A bank at its opening, with an empty log: at most eight replicas, each with 1 to 16 workers and an empty store.
     ///
     /// Fails where memory is refused.
     pub fn open(
@@ -57,6 +57,8 @@ impl World {
     ) -> Result<World, AllocError>
         requires customers { SameCustomers directory opening }
         requires few { nodes ≤ REPLICAS }
+        requires some_worker { 1 ≤ workers }
+        requires few_workers { workers ≤ 16 }
         ensures value { IfOk result (λ world. world ≡ opened_world (no_events directory opening nodes workers)) }
         // No event has happened yet.
         ensures played { IfOk result (IsPlayed (no_events directory opening nodes workers)) }

@@ -2,6 +2,8 @@
 //!
 //! `schedules random SEED COUNT FOLDER` writes so many, `N.schedule` each, and beside it what the definitions say is
 //! written: `N.output` to standard output, or `N.fault` to standard error where a line is at fault.
+//! `schedules restarts SEED COUNT FOLDER` makes so many short ones without fault, and writes each with restarts, marks
+//! and cuts at every place, as `N.schedule` and `N.output` too.
 //! `schedules long EVENTS NODES` writes a long one without fault to standard output.
 
 mod event;
@@ -12,8 +14,9 @@ mod machine;
 mod making;
 #[path = "../../random.rs"]
 mod random;
+mod restarts;
 
-use event::{money, name};
+use event::{Event, money, name};
 use ledger::{Ledger, Rows};
 use machine::{Machine, Note};
 use making::Maker;
@@ -35,6 +38,36 @@ const AHEAD: u32 = 80;
 // Of so many schedules one has too many customers.
 const TOO_MANY: u32 = 5_000;
 
+/// How large a schedule may be.
+struct Limits {
+    nodes: u32,
+    workers: u32,
+    events: u32,
+    ahead: u32,
+}
+
+const LARGE: Limits = Limits {
+    nodes: NODES,
+    workers: WORKERS,
+    events: EVENTS,
+    ahead: AHEAD,
+};
+
+const SHORT: Limits = Limits {
+    nodes: 2,
+    workers: 3,
+    events: 24,
+    ahead: 0,
+};
+
+/// What a schedule says.
+struct Schedule {
+    nodes: u32,
+    workers: u32,
+    opening: Rows,
+    events: Vec<Event>,
+}
+
 /// The lines of a schedule, and its output by the definitions.
 struct Made {
     lines: Vec<String>,
@@ -42,30 +75,51 @@ struct Made {
     output: String,
 }
 
-fn made(mut random: Random) -> Made {
-    let nodes = 1 + random.below(NODES);
-    let workers = 1 + random.below(WORKERS);
+fn drawn(mut random: Random, limits: &Limits) -> Schedule {
+    let nodes = 1 + random.below(limits.nodes);
+    let workers = 1 + random.below(limits.workers);
     let customers = random.below(CUSTOMERS + 1) as usize;
-    let events = random.below(EVENTS + 1);
+    let count = random.below(limits.events + 1);
     let mut maker = Maker::new(random);
-    let mut lines = vec![format!("nodes {nodes} workers {workers}")];
     let opening: Rows = (0..customers)
         .map(|_| (maker.amount().max(0), maker.amount()))
         .collect();
+    let mut machine = Machine::open(customers, nodes, workers);
+    let ahead = *maker.random.pick(&[0, 0, 0, 0, limits.ahead]);
+    let mut events = maker.burst(customers, ahead);
+    for event in &events {
+        machine.step(*event);
+    }
+    for _ in 0..count {
+        let event = maker.event(&machine);
+        events.push(event);
+        machine.step(event);
+    }
+    Schedule {
+        nodes,
+        workers,
+        opening,
+        events,
+    }
+}
+
+fn played(schedule: &Schedule, events: &[Event]) -> Made {
+    let Schedule {
+        nodes,
+        workers,
+        opening,
+        ..
+    } = schedule;
+    let mut lines = vec![format!("nodes {nodes} workers {workers}")];
     lines.extend(opening.iter().zip(0..).map(|((savings, checking), place)| {
         format!("{} {} {}", name(place), money(*savings), money(*checking))
     }));
     lines.push("begin".to_owned());
-    let mut machine = Machine::open(customers, nodes, workers);
-    let mut notes = Vec::new();
-    let ahead = *maker.random.pick(&[0, 0, 0, 0, AHEAD]);
-    let mut burst = maker.burst(customers, ahead).into_iter();
-    for _ in 0..burst.len() + events as usize {
-        let event = burst.next().unwrap_or_else(|| maker.event(&machine));
-        lines.push(event.to_string());
-        notes.push(machine.step(event));
-    }
-    let ledger = Ledger::new(opening, machine.log.iter().map(|(_, call)| *call));
+    lines.extend(events.iter().map(Event::to_string));
+    let customers = opening.len();
+    let mut machine = Machine::open(customers, *nodes, *workers);
+    let notes: Vec<Note> = events.iter().map(|event| machine.step(*event)).collect();
+    let ledger = Ledger::new(opening.clone(), machine.log.iter().map(|(_, call)| *call));
     Made {
         lines,
         customers,
@@ -94,7 +148,8 @@ fn write_random(seed: u64, folder: &Path, number: u32) -> io::Result<()> {
         write("schedule", text)?;
         return write("fault", fault);
     }
-    let made = made(Random::new(seed ^ u64::from(number)));
+    let schedule = drawn(Random::new(seed ^ u64::from(number)), &LARGE);
+    let made = played(&schedule, &schedule.events);
     if random.percent(33) {
         let (text, fault) = faults::spoil(&mut random, made.lines, made.customers);
         write("schedule", text)?;
@@ -106,6 +161,24 @@ fn write_random(seed: u64, folder: &Path, number: u32) -> io::Result<()> {
     write("output", made.output)
 }
 
+// Writes so many schedules, each with a restart at every place, numbered on from 0.
+fn write_restarts(seed: u64, folder: &Path, count: u32) -> io::Result<()> {
+    let mut number = 0;
+    for base in 0..count {
+        let mut random = Random::new(seed ^ u64::from(base) << 32);
+        let schedule = drawn(Random::new(seed ^ u64::from(base)), &SHORT);
+        let replica = random.below(schedule.nodes);
+        for events in restarts::everywhere(&schedule.events, replica, &mut random) {
+            let made = played(&schedule, &events);
+            let write = |ending, text| fs::write(folder.join(format!("{number}.{ending}")), text);
+            write("schedule", made.lines.join("\n") + "\n")?;
+            write("output", made.output)?;
+            number += 1;
+        }
+    }
+    Ok(())
+}
+
 fn main() -> Result<(), Box<dyn Error>> {
     let words: Vec<String> = env::args().skip(1).collect();
     match words.iter().map(String::as_str).collect::<Vec<_>>()[..] {
@@ -115,6 +188,10 @@ fn main() -> Result<(), Box<dyn Error>> {
                 write_random(seed.parse()?, Path::new(folder), number)?;
             }
         }
+        ["restarts", seed, count, folder] => {
+            fs::create_dir_all(folder)?;
+            write_restarts(seed.parse()?, Path::new(folder), count.parse()?)?;
+        }
         ["long", events, nodes] => {
             let mut out = BufWriter::new(io::stdout().lock());
             let mut maker = Maker::new(Random::new(SEED));
@@ -123,7 +200,9 @@ fn main() -> Result<(), Box<dyn Error>> {
         }
         _ => {
             return Err(
-                "usage: schedules random SEED COUNT FOLDER, or schedules long EVENTS NODES".into(),
+                "usage: schedules random SEED COUNT FOLDER, schedules restarts SEED COUNT FOLDER, \
+                 or schedules long EVENTS NODES"
+                    .into(),
             );
         }
     }

@@ -5,6 +5,7 @@ use Rattle.schedule_player.specs.ReplicaEvents.{node_move}
 use Rattle.schedule_player.specs.World.{MayWantMemory, bank_with, replica_move}
 use Rattle.schedule_player.proofs.Lists.{get_here}
 use Rattle.schedule_player.proofs.Moving.{Stepped, steps, steps_wanted, world_of}
+use Rattle.schedule_player.proofs.Staffing.{stays_staffed}
 use Rattle.schedule_player.proofs.world.World.at.Goals as goal
 
 -- the replica is there
@@ -29,7 +30,8 @@ stepped c =
     let w = c.self.inside in
     let bank = bank_with w.directory w.opening w.sequencer.log in
     steps w.directory w.opening w.sequencer w.nodes.items c.args.replica c.in-Some.node.now c.step.new.self
-    (λ node. node_move bank w.sequencer node c.args.event) c.step.result c.self.invariant (here c) (moves c)
+    (λ node. node_move bank w.sequencer node c.args.event) c.step.result c.self.invariant (here c)
+    (stays_staffed bank w.sequencer (seen_node c.in-Some.node.now) c.args.event) (moves c)
 
 pub invariant_of-self-2 : goal.invariant_of-self-2
 invariant_of-self-2 c = (stepped c).is

@@ -1,0 +1,101 @@
+//! Nothing is left unfinished at a replica.
+ghost use Rattle.std.specs.Prelude.{◌≡◌, ◌+◌, ◌*◌, ◌<◌, ◌≤◌, List, length, IsTrue};
+ghost use Rattle.sb_calls.specs.declared.call.TheConstants.{LOG_CALLS};
+ghost use Rattle.schedule_player.specs.Observed.{idle_at};
+ghost use Rattle.schedule_player.specs.Played.{IsPlayed, Plays, with_events};
+ghost use Rattle.schedule_player.specs.Settling.{IsAbleToSettle, IsAtRest, IsBusyBefore, SoAt, after_events, emptying, first_works, settled, settling, undone_at, workers_at};
+ghost use Rattle.schedule_player.specs.World.{moved};
+ghost use Rattle.schedule_text.specs.ScheduleText.{ScheduleOf};
+ghost use Rattle.schedule_text.specs.declared.event.Event.TheVariants as event;
+ghost use Rattle.schedule_text.specs.declared.note.Note.{Note as AnyNote};
+
+use crate::world::World;
+use schedule_text::Event;
+
+impl World {
+    // How many workers a replica has.
+    fn workers(&self, replica: u32) -> u32
+        requires { replica < length self.now.nodes }
+        ensures value { result ≡ workers_at self.now replica }
+        ensures few { result ≤ 16 }
+        ensures able { SoAt IsAbleToSettle self.now replica }
+    {
+        self.nodes[replica as usize].hands.len() as u32
+    }
+
+    // The first worker takes the first behaviour that is ready. That takes no memory, so it never fails.
+    fn take(&mut self, replica: u32)
+        ensures { self.new ≡ (moved self.old (event.Take replica 1 0)).0 }
+    {
+        let _ = self.step(Event::Take {
+            replica,
+            worker: 1,
+            index: 0,
+        });
+    }
+
+    // A worker finishes what it has in hand. That takes no memory, so it never fails.
+    fn finish(&mut self, replica: u32, worker: u32)
+        ensures { self.new ≡ (moved self.old (event.Finish replica worker)).0 }
+    {
+        let _ = self.step(Event::Finish { replica, worker });
+    }
+
+    // Each worker of a replica finishes what it has in hand. Answers how many there are.
+    fn empty_hands(&mut self, replica: u32) -> u32
+        requires { replica < length self.old.nodes }
+        ensures after { self.new ≡ after_events self.old (emptying self.old replica) }
+        ensures count { result ≡ workers_at self.old replica }
+        ensures few { result ≤ 16 }
+        ensures able { SoAt IsAbleToSettle self.old replica }
+        ensures rests { SoAt IsAtRest self.new replica }
+        ensures replicas { length self.new.nodes ≡ length self.old.nodes }
+    {
+        let workers = self.workers(replica);
+        for worker in 0..workers {
+            self.finish(replica, worker + 1);
+        }
+        workers
+    }
+
+    // The first worker takes and finishes one entry after the other until nothing is unfinished. Answers how many.
+    fn work_off(&mut self, replica: u32) -> u32
+        requires replica { replica < length self.old.nodes }
+        requires rests { SoAt IsAtRest self.old replica }
+        ensures after { self.new ≡ after_events self.old (first_works replica result) }
+        ensures count { result ≡ undone_at self.old replica }
+        ensures few { result ≤ LOG_CALLS }
+    {
+        let mut done = 0;
+        while !self.idle(replica) {
+            self.take(replica);
+            self.finish(replica, 1);
+            done += 1;
+        }
+        done
+    }
+
+    /// Settles a replica: each worker finishes what it has in hand, and then the first one takes and finishes one entry
+    /// after the other, until nothing is unfinished. Answers how many events that were.
+    ///
+    /// It takes no memory, so it never fails: whatever happened, no replica is stuck.
+    pub fn settle(&mut self, replica: u32) -> u32
+        requires { replica < length self.old.nodes }
+        // The world moves as the reference machine does by these events, and the last of them are done until it is idle.
+        ensures moves { (notes : List AnyNote) × Plays self.old (settling self.old replica) notes self.new }
+        ensures until { IsBusyBefore self.old replica }
+        ensures count { result ≡ length (settling self.old replica) }
+        // They are at most one for each worker, and two for each entry that was unfinished.
+        ensures most { result ≤ workers_at self.old replica + 2 * undone_at self.old replica }
+        // Nothing is unfinished then. All else at the replica, all other replicas, all frames and the log stay.
+        ensures idle { IsTrue (idle_at self.new replica) }
+        ensures settled { self.new ≡ settled self.old replica }
+        ensures replicas { length self.new.nodes ≡ length self.old.nodes }
+        // After whatever schedule, the world is the one after it and these events.
+        ensures played { (schedule : ScheduleOf) → IsPlayed schedule self.old
+            → IsPlayed (with_events schedule (settling self.old replica)) self.new }
+    {
+        let workers = self.empty_hands(replica);
+        workers + 2 * self.work_off(replica)
+    }
+}
