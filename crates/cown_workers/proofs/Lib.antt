@@ -5,3 +5,4 @@ mod Counting
 mod Exchanging
 mod Picking
 mod Settled
+mod Tracing

@@ -1,4 +1,5 @@
 pub mod BenchCrews
 pub mod CrewFaults
 pub mod Draining
+pub mod Traces
 pub mod Turns

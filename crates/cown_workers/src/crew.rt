@@ -39,3 +39,22 @@ pub trait Crew {
     fn next(&mut self) -> Option<Done<Op>>
         ensures acts { acts self.old (HandedOver result) self.new };
 }
+
+/// A crew that is lent is a crew, the same one.
+impl<C: Crew> Crew for &mut C {
+    ghost keeps = { C.keeps };
+
+    ghost acts = { λ old step new. C.acts old.now step new.now };
+
+    fn keeps(&self) -> bool {
+        (**self).keeps()
+    }
+
+    fn give(&mut self, job: Job<Op>) -> Result<(), Job<Op>> {
+        (**self).give(job)
+    }
+
+    fn next(&mut self) -> Option<Done<Op>> {
+        (**self).next()
+    }
+}

@@ -15,8 +15,10 @@ mod inbox;
 mod inline_crew;
 #[cfg(test)]
 mod jobs;
+mod laws;
 mod recruits;
 mod staff;
+mod traced;
 mod worker;
 
 pub use bench_crew::BenchCrew;
@@ -26,3 +28,5 @@ pub use draining::drain;
 pub use gate::{Gate, OpenGate};
 pub use in_threads::with_crew;
 pub use inline_crew::InlineCrew;
+pub use laws::notices_of_exchanges;
+pub use traced::{Notice, Traced};

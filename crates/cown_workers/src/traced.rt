@@ -1,0 +1,99 @@
+//! A crew whose exchanges are noted.
+ghost use Rattle.std.specs.Prelude.{◌≡◌, []};
+ghost use Rattle.cown_workers.specs.Traces.{Traces};
+
+use crate::crew::Crew;
+use arrayvec::ArrayVec;
+use cown_board::{Done, Job};
+use sb_calls::Op;
+use std::marker::Model;
+
+// How many exchanges are noted. Contracts have it as a number.
+const NOTICES: usize = 64;
+
+/// What is noted of an exchange with a crew.
+#[derive(Clone, Copy, Debug, PartialEq, Eq)]
+pub enum Notice {
+    /// The job with this number was given, and the crew keeps it.
+    Given(u64),
+    /// The job with this number was given, and came back.
+    Back(u64),
+    /// What was done of the job with this number was handed over.
+    Came(u64),
+}
+
+/// That of no job, since their numbers begin with 1. It fills the places that no notice has yet.
+impl Default for Notice {
+    fn default() -> Notice {
+        Notice::Given(0)
+    }
+}
+
+/// A crew whose exchanges are noted, the first 64 of them, in order. Where it is asked and nothing is handed over
+/// nothing is noted. It does what that crew does, and waits where that one waits, until it has 64 notices. From then
+/// on it hands each job back, of which the crew hears nothing, and what the crew hands over isn't noted.
+///
+/// Contracts see it as the crew and its notices.
+#[derive(Drop)]
+pub struct Traced<C: Crew> {
+    crew: C,
+    notices: ArrayVec<Notice, NOTICES>,
+}
+
+impl<C: Crew> Model for Traced<C> {
+    ghost use Rattle.cown_workers.specs.Traces.{TracedOf};
+
+    ghost Value = { TracedOf C };
+
+    ghost view = { λ traced. record { crew = traced.crew; notices = traced.notices.items } };
+}
+
+impl<C: Crew> Traced<C> {
+    /// This crew, of which nothing is noted yet. To lend a crew is enough, as `&mut C` is one too.
+    pub fn new(crew: C) -> Traced<C>
+        ensures { result ≡ record { crew = crew; notices = [] } }
+    {
+        Traced {
+            crew,
+            notices: ArrayVec::new(),
+        }
+    }
+
+    /// What was noted, the first exchange first.
+    pub fn notices(&self) -> &[Notice]
+        ensures { result.now ≡ self.now.notices }
+    {
+        self.notices.as_slice()
+    }
+}
+
+impl<C: Crew> Crew for Traced<C> {
+    ghost keeps = { C.keeps };
+
+    ghost acts = { λ old step new. Traces C.acts old step new };
+
+    fn keeps(&self) -> bool {
+        self.crew.keeps()
+    }
+
+    fn give(&mut self, job: Job<Op>) -> Result<(), Job<Op>> {
+        if self.notices.is_full() {
+            return Err(job);
+        }
+        let number = job.number();
+        let given = self.crew.give(job);
+        self.notices.push(match &given {
+            Ok(()) => Notice::Given(number),
+            Err(_) => Notice::Back(number),
+        });
+        given
+    }
+
+    fn next(&mut self) -> Option<Done<Op>> {
+        let done = self.crew.next()?;
+        if !self.notices.is_full() {
+            self.notices.push(Notice::Came(done.number()));
+        }
+        Some(done)
+    }
+}
