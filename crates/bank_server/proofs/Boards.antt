@@ -251,10 +251,3 @@ one_by_one directory b calls ops board same opening carried is = record {
   replies = all_replies directory b calls board same opening (carried.log ∙ is) carried.idle carried.earlier;
   rows = λ c valid after. all_rows directory b c calls board same valid opening (carried.log ∙ is) after;
 }
-
--- the columns of a board to which nothing was submitted are of as many customers as names
-pub opened_columns : (names : List (List ℕ)) (board : BoardOf Op) (columns : Balances) → IsOpened board → SameCustomers names board.opening
-    → open_of board ≡ 0 → IsAfterAll declared_cowns effect_of board columns → IsBalances columns → length columns.savings ≡ length names
-opened_columns names board columns opened same idle after bank =
-    let carried : IsCarriedOut [] board = record { idle = idle; earlier = opened.earlier; log = opened.log } in
-    ((one_by_one names board.opening [] [] board same refl carried refl).rows columns bank after).0.places

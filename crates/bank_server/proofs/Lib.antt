@@ -11,6 +11,7 @@ pub mod Hearings
 pub mod Keyed
 pub mod Leading
 pub mod Offers
+pub mod Openings
 pub mod Outcomes
 pub mod OwnLog
 pub mod Runs

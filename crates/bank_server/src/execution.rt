@@ -1,5 +1,5 @@
 //! Carrying out the ops of a log over a replica.
-ghost use Rattle.std.specs.Prelude.{◌≡◌, ◌≢◌, ◌≤◌, ◌<◌, ◌+◌, List, [], ◌∷◌, false, length, map, IfErr, OnOk, OnErr};
+ghost use Rattle.std.specs.Prelude.{◌≡◌, ◌≢◌, ◌≤◌, ◌<◌, ◌+◌, List, [], ◌∷◌, false, length, map, IfErr, IfNone, OnOk, OnErr};
 ghost use Rattle.sb_rows.specs.Rows.{SameCustomers};
 ghost use Rattle.sb_calls.specs.Op.{IsOpWithin, resolved};
 ghost use Rattle.sb_calls.specs.declared.call.Call.{Call as AnyCall};
@@ -22,7 +22,7 @@ use std::sync::Wait;
 pub(crate) const PART: usize = 1024;
 
 /// Carries out the ops of a log over a replica that has nothing yet, each as soon as its cowns are free. The followers
-/// are told of each part of the log before it is submitted, and carry all of it out. Where there are none no log is
+/// are told of each part of the log before it is submitted, and carry all of it out. Where nobody hears no log is
 /// wanted.
 ///
 /// Fails with
@@ -38,6 +38,7 @@ pub(crate) fn carry_out<S: CheckpointStore, C: Crew, R: Wait>(
     requires opened { IsOpened replica.old.board }
     requires few { length ops.now ≤ LOG_CALLS }
     requires within { AreWithin (length replica.old.names) ops.now }
+    requires heard { IfNone log (followers.old.listening ≡ 0) }
     ensures finished { OnOk result (IsCarriedOut ops.now replica.new.board) }
     ensures opening { OnOk result (replica.new.board.opening ≡ replica.old.board.opening) }
     // Where calls come to these ops, it is as if they were carried out one by one.
@@ -46,7 +47,8 @@ pub(crate) fn carry_out<S: CheckpointStore, C: Crew, R: Wait>(
         → ops.now ≡ map (resolved replica.old.names) calls
         → IsOneByOne replica.old.names calls replica.old.board.opening replica.new.board) }
     ensures beside { beside_of replica.new ≡ beside_of replica.old }
-    ensures nodes { followers.new.nodes ≡ followers.old.nodes }
+    ensures told { OnOk result (length ops.now ≤ followers.new.told) }
+    ensures stays { followers.new ≡ record followers.old { told = followers.new.told } }
     ensures fault { IfErr result (IsCarryFault C.keeps replica.old.board) }
 {
     replica.reserve(ops.len())?;
@@ -65,9 +67,11 @@ fn submit_parts<S: CheckpointStore, C: Crew, R: Wait>(
 ) -> Result<(), CrewFault>
     requires few { length_of replica.old.board + length ops.now ≤ LOG_CALLS }
     requires within { AreWithin (length replica.old.names) ops.now }
+    requires heard { IfNone log (followers.old.listening ≡ 0) }
     ensures put { OnOk result (ArePut ops.now replica.old.board replica.new.board) }
     ensures beside { beside_of replica.new ≡ beside_of replica.old }
-    ensures nodes { followers.new.nodes ≡ followers.old.nodes }
+    ensures told { OnOk result (length ops.now ≤ followers.new.told) }
+    ensures stays { followers.new ≡ record followers.old { told = followers.new.told } }
     ensures fault { IfErr result (IsCarryFault C.keeps replica.old.board) }
 {
     let mut done = 0;

@@ -1,5 +1,5 @@
 //! The followers of node 0, each in a thread of its own.
-ghost use Rattle.std.specs.Prelude.{◌≡◌, ◌≤◌, [], length, IfErr, IfOk, OnOk};
+ghost use Rattle.std.specs.Prelude.{◌≡◌, ◌-◌, ◌↔◌, [], length, max, IfErr, IfNone, IfOk, IsTrue, OnErr, OnOk};
 ghost use Rattle.std.specs.Fn.{FnOnceReturnsAtMut};
 ghost use Rattle.bank_server.specs.Faults.{IsFollowersFault};
 
@@ -17,7 +17,8 @@ use std::sync::Wait;
 use std::thread::Threads;
 use std::{mem, thread};
 
-/// The followers of node 0, each in a thread of its own, which hear of the log as frames.
+/// The followers of node 0, each in a thread of its own, which hear of the log as frames. Contracts see how many nodes
+/// the bank has, how many followers hear what they are told, and how many entries of the log they were told of.
 #[derive(Drop)]
 pub struct Followers<'a, R: Wait> {
     nodes: usize,
@@ -27,16 +28,23 @@ pub struct Followers<'a, R: Wait> {
 }
 
 impl<'a, R: Wait> Model for Followers<'a, R> {
+    ghost use Rattle.std.specs.Prelude.{length};
     ghost use Rattle.bank_server.specs.Followers.{FollowersOf};
 
     ghost Value = { FollowersOf };
 
-    ghost view = { λ f. record { nodes = f.nodes; told = f.told } };
+    ghost view = { λ f. record {
+      nodes = f.nodes;
+      listening = length f.ends.ends.items;
+      told = f.told;
+    } };
 }
 
 impl<'a, R: Wait> Followers<'a, R> {
-    /// Whether there are none.
-    pub fn is_empty(&self) -> bool {
+    /// Whether nobody hears what is told: there are none, or they were compared.
+    pub fn is_empty(&self) -> bool
+        ensures { IsTrue result ↔ (self.now.listening ≡ 0) }
+    {
         self.ends.is_empty()
     }
 
@@ -44,8 +52,8 @@ impl<'a, R: Wait> Followers<'a, R> {
     ///
     /// Fails where memory is refused. A follower that is gone is found out by [`Followers::compare`].
     pub fn feed(&mut self, log: &Sequencer) -> Result<(), AllocError>
-        ensures told { OnOk result (length log.now.log ≤ self.new.told) }
-        ensures nodes { self.new.nodes ≡ self.old.nodes }
+        ensures told { OnOk result (self.new.told ≡ max self.old.told (length log.now.log)) }
+        ensures stays { self.new ≡ record self.old { told = self.new.told } }
     {
         let length = log.length() as usize;
         while self.told < length {
@@ -55,10 +63,11 @@ impl<'a, R: Wait> Followers<'a, R> {
         self.flush()
     }
 
-    // Tells them of the entries up to this number that they weren't told of yet. Without a log there is nobody to tell.
+    // Tells them of the entries up to this number that they weren't told of yet. No log is wanted where nobody hears.
     pub(crate) fn tell(&mut self, log: Option<&Sequencer>, end: usize) -> Result<(), AllocError>
-        ensures told { OnOk result (self.new.told ≡ end) }
-        ensures nodes { self.new.nodes ≡ self.old.nodes }
+        requires heard { IfNone log (self.old.listening ≡ 0) }
+        ensures told { OnOk result (self.new ≡ record self.old { told = end }) }
+        ensures err { OnErr result (self.new ≡ self.old) }
     {
         if let Some(log) = log {
             self.ends.part(log, self.told, end)?;
@@ -83,7 +92,7 @@ impl<'a, R: Wait> Followers<'a, R> {
     where
         R: Threads,
         ensures fault { IfErr result (IsFollowersFault self.old.nodes) }
-        ensures stays { self.new ≡ self.old }
+        ensures closed { self.new ≡ record self.old { listening = 0 } }
     {
         // A thread ends with its channel.
         self.ends.close();
@@ -93,7 +102,7 @@ impl<'a, R: Wait> Followers<'a, R> {
 }
 
 /// Starts these followers and hands them to `f`. Once `f` has answered and their threads have ended it answers the
-/// same.
+/// same. All of them hear what they are told, and nothing was told before.
 ///
 /// Fails with [`RunFault::Strayed`] where a follower can't be started, and with [`RunFault::OutOfMemory`]; then `f`
 /// isn't called.
@@ -108,8 +117,9 @@ where
     F: FnOnce(&mut Followers<'_, R>) -> T,
     requires callable { F.IsAlwaysCallable f }
     ensures answer { IfOk result (λ answer. (after : _) ×
-        FnOnceReturnsAtMut F.FnOnce f (record { nodes = ready; told = 0 }) answer after) }
-    ensures fault { IfErr result (IsFollowersFault ready) }
+        FnOnceReturnsAtMut F.FnOnce f
+            (record { nodes = ready.nodes; listening = ready.nodes - 1; told = 0 }) answer after) }
+    ensures fault { IfErr result (IsFollowersFault ready.nodes) }
 {
     let ReadyFollowers {
         nodes,
@@ -122,8 +132,10 @@ where
         rt,
         move |scope| -> Result<T, RunFault>
             requires callable { F.IsAlwaysCallable f }
+            requires ends { length ends.ends.items ≡ nodes - 1 }
             ensures answer { IfOk result (λ answer. (after : _) ×
-                FnOnceReturnsAtMut F.FnOnce f (record { nodes = nodes; told = 0 }) answer after) }
+                FnOnceReturnsAtMut F.FnOnce f
+                    (record { nodes = nodes; listening = nodes - 1; told = 0 }) answer after) }
             ensures fault { IfErr result (IsFollowersFault nodes) }
         {
             let threads = start(scope, rt, alloc, followers, nodes)?;

@@ -1,4 +1,6 @@
 //! The log as frames, sent to the followers.
+ghost use Rattle.std.specs.Prelude.{◌≡◌, ◌↔◌, [], length, IsTrue};
+
 use crossbeam_channel::Sender;
 use sb_frames::{Frame, encode};
 use sb_sequencer::Sequencer;
@@ -24,7 +26,9 @@ pub(crate) struct Ends<'a, R: Wait> {
 
 impl<'a, R: Wait> Ends<'a, R> {
     /// Whether there are none.
-    pub(crate) fn is_empty(&self) -> bool {
+    pub(crate) fn is_empty(&self) -> bool
+        ensures { IsTrue result ↔ (length self.now.ends.items ≡ 0) }
+    {
         self.ends.is_empty()
     }
 
@@ -50,7 +54,9 @@ impl<'a, R: Wait> Ends<'a, R> {
     }
 
     /// Sends nothing more.
-    pub(crate) fn close(&mut self) {
+    pub(crate) fn close(&mut self)
+        ensures { self.new.ends.items ≡ [] }
+    {
         self.ends = Vec::new(self.alloc);
     }
 

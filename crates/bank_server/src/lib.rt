@@ -4,6 +4,7 @@
 mod agreement;
 mod answers;
 mod asking;
+mod boxed_replica;
 mod catching_up;
 mod execution;
 mod fault;
@@ -42,6 +43,6 @@ pub use run::run_text;
 pub use save_fault::SaveFault;
 pub use session::serve_session;
 pub use session_fault::SessionFault;
-pub use team::{Duty, with_team};
+pub use team::{Duty, Headcount, with_team};
 pub use waiting::Waiting;
 pub use whole_log::carry_out_log;

@@ -1,5 +1,5 @@
 //! The log and node 0, which carries it out.
-ghost use Rattle.std.specs.Prelude.{◌≡◌, ◌≢◌, ◌≤◌, ◌↔◌, [], List, length, false, IfOk, IfErr, IsErrOf, OnOk, OnErr};
+ghost use Rattle.std.specs.Prelude.{◌≡◌, ◌≢◌, ◌≤◌, ◌↔◌, [], List, length, false, IfOk, IfErr, IsErrOf, MatchOption, OnOk, OnErr};
 ghost use Rattle.sb_calls.specs.declared.ask.Key.{Key as AnyKey};
 ghost use Rattle.sb_calls.specs.declared.call.Call.{Call as AnyCall};
 ghost use Rattle.cown_board.specs.Board.{length_of, open_of};
@@ -7,6 +7,7 @@ ghost use Rattle.cown_workers.specs.Draining.{NoneOut};
 ghost use Rattle.sb_checkpoint.specs.Stores.{StoreDoes};
 ghost use Rattle.sb_replica.specs.Replica.{beside_of};
 ghost use Rattle.sb_sequencer.specs.Numbering.{IsLog, first_asks};
+ghost use Rattle.sb_sequencer.specs.Sequencer.{opened};
 ghost use Rattle.bank_server.specs.Asking.{AsksOne};
 ghost use Rattle.bank_server.specs.Execution.{IsOpened};
 ghost use Rattle.bank_server.specs.Faults.{IsCarryFault};
@@ -16,6 +17,7 @@ ghost use Rattle.bank_server.specs.SessionFaults.{IsSettleFault, LosesCrew};
 ghost use Rattle.bank_server.specs.Standing.{StandsAmong};
 
 use crate::asking::{Standing, ask_key};
+use crate::boxed_replica::open_boxed;
 use crate::catching_up::catch_up;
 use crate::execution::{carry_out, settle};
 use crate::followers::Followers;
@@ -69,10 +71,8 @@ impl<S: CheckpointStore> Primary<S> {
         ensures log { IfOk result (λ primary. primary.log ≡ []) }
         ensures node { IfOk result (λ primary. primary.node ≡ opened_node opening store) }
     {
-        let log = Sequencer::with_capacity(alloc, 1, entries.min(LOG_CALLS))?;
-        let log = Box::new(alloc, log)?;
-        let node = Replica::open(alloc, 0, opening.directory, opening.columns, store)?;
-        let node = Box::new(alloc, node)?;
+        let log = boxed_log(alloc, entries.min(LOG_CALLS))?;
+        let node = open_boxed(alloc, 0, opening.directory, opening.columns, store)?;
         Ok(Primary { alloc, log, node })
     }
 
@@ -156,19 +156,15 @@ impl<S: CheckpointStore> Primary<S> {
     ) -> Result<Box<Replica<S>>, CrewFault>
         requires opened { IsOpened self.node.board }
         ensures run { IfOk result (λ node. RunsLog self node.value) }
-        ensures nodes { followers.new.nodes ≡ followers.old.nodes }
+        // The followers were told of all of it.
+        ensures told { OnOk result (length self.log ≤ followers.new.told) }
+        ensures stays { followers.new ≡ record followers.old { told = followers.new.told } }
         ensures fault { IfErr result (IsCarryFault C.keeps self.node.board) }
     {
         let Primary { alloc, log, node } = self;
         let mut node = node;
         let ops = resolve_all(alloc, &log, node.directory())?;
-        // Where no follower hears of the log, the board may take its place in memory.
-        let log = if followers.is_empty() {
-            drop(log);
-            None
-        } else {
-            Some(log)
-        };
+        let log = kept_for(log, followers);
         carry_out(&ops, log.as_deref(), &mut node, crew, followers)?;
         Ok(node)
     }
@@ -202,5 +198,24 @@ impl<S: CheckpointStore> Primary<S> {
             return Err(SaveFault::ReadBack);
         }
         Ok(node.length())
+    }
+}
+
+// An empty log with room for so many entries. It owns nothing else: each way out of a function drops what that owns.
+fn boxed_log(alloc: Global, entries: usize) -> Result<Box<Sequencer>, AllocError>
+    ensures { IfOk result (λ log. log.value ≡ opened 1) }
+{
+    let log = Sequencer::with_capacity(alloc, 1, entries)?;
+    Ok(Box::new(alloc, log)?)
+}
+
+// The log, where a follower hears of it. Where none does it is let go of, so that the board may take its place in memory.
+fn kept_for<R: Wait>(log: Box<Sequencer>, followers: &Followers<'_, R>) -> Option<Box<Sequencer>>
+    ensures { MatchOption result (followers.now.listening ≡ 0) (λ kept. kept ≡ log) }
+{
+    if followers.is_empty() {
+        None
+    } else {
+        Some(log)
     }
 }

@@ -1,8 +1,10 @@
 //! Followers that aren't started yet.
-ghost use Rattle.std.specs.Prelude.{◌≡◌, ◌≤◌, length, IfOk};
+ghost use Rattle.std.specs.Prelude.{◌≡◌, ◌+◌, ◌-◌, ◌≤◌, [], ◌∷◌, ◌++◌, All, length, IfOk, OnOk};
 ghost use Rattle.sb_rows.specs.Rows.{SameCustomers};
 ghost use Rattle.bank_server.specs.Execution.{IsOpened};
+ghost use Rattle.bank_server.specs.Followers.{IsAtOpening};
 
+use crate::boxed_replica::open_boxed;
 use crate::follower::Follower;
 use crate::frames::{MESSAGES, Message};
 use crossbeam_channel::{Sender, bounded};
@@ -10,11 +12,12 @@ use sb_checkpoint::{CheckpointStore, MemoryStore};
 use sb_frames::Stream;
 use sb_replica::Replica;
 use sb_rows::{Columns, Directory};
+use sb_sequencer::REPLICAS;
 use std::alloc::{AllocError, Global};
 use std::marker::Model;
 
 /// The followers of a bank that aren't started yet, at its opening. Contracts see how many nodes the bank has, node 0
-/// among them.
+/// among them, and the followers' replicas.
 #[derive(Drop)]
 pub struct ReadyFollowers {
     pub(crate) nodes: usize,
@@ -23,11 +26,19 @@ pub struct ReadyFollowers {
 }
 
 impl Model for ReadyFollowers {
-    ghost use Rattle.std.specs.Prelude.{ℕ};
+    ghost use Rattle.std.specs.Prelude.{◌≡◌, ◌-◌, length, map};
+    ghost use Rattle.bank_server.specs.Followers.{ReadyFollowersOf};
 
-    ghost Value = { ℕ };
+    ghost Value = { ReadyFollowersOf };
 
-    ghost view = { λ f. f.nodes };
+    ghost view = { λ ready. record {
+      nodes = ready.nodes;
+      replicas = map (λ follower. follower.replica.value) ready.followers.items;
+    } };
+
+    // One for each node but node 0, and a channel to each.
+    ghost invariant = { λ ready. (length ready.ends.items ≡ ready.nodes - 1)
+        × (length ready.followers.items ≡ ready.nodes - 1) };
 }
 
 impl ReadyFollowers {
@@ -41,10 +52,14 @@ impl ReadyFollowers {
         nodes: usize,
         entries: usize,
     ) -> Result<ReadyFollowers, AllocError>
-        requires few { nodes ≤ 8 }
+        requires few { nodes ≤ REPLICAS }
         requires opened { IsOpened node.now.board }
         requires customers { SameCustomers node.now.names node.now.board.opening }
-        ensures { IfOk result (λ ready. ready ≡ nodes) }
+        ensures nodes { IfOk result (λ ready. ready.nodes ≡ nodes) }
+        // One for each node but node 0, at its opening.
+        ensures as_many { IfOk result (λ ready. length ready.replicas ≡ nodes - 1) }
+        ensures opened { IfOk result (λ ready. All (IsAtOpening node.now.names node.now.board.opening)
+            ready.replicas) }
     {
         // Nothing is unfinished.
         let columns = node.settled_columns().unwrap();
@@ -60,28 +75,45 @@ fn open_followers(
     nodes: usize,
     entries: usize,
 ) -> Result<ReadyFollowers, AllocError>
-    requires few { nodes ≤ 8 }
+    requires few { nodes ≤ REPLICAS }
     requires customers { length columns.now.savings ≡ length directory.now }
-    ensures { IfOk result (λ ready. ready ≡ nodes) }
+    ensures nodes { IfOk result (λ ready. ready.nodes ≡ nodes) }
+    ensures as_many { IfOk result (λ ready. length ready.replicas ≡ nodes - 1) }
+    ensures opened { IfOk result (λ ready. All (IsAtOpening directory.now columns.now) ready.replicas) }
 {
     let mut ends = Vec::new(alloc);
     let mut followers = Vec::new(alloc);
     for id in 1..nodes {
-        let (end, inbox) = bounded(alloc, MESSAGES)?;
         let replica = open_copy(alloc, id as u8, directory, columns, entries)?;
-        let stream = Stream::new(alloc);
-        ends.push(end)?;
-        followers.push(Follower {
-            replica,
-            stream,
-            inbox,
-        })?;
+        push_follower(alloc, replica, &mut ends, &mut followers)?;
     }
     Ok(ReadyFollowers {
         nodes,
         ends,
         followers,
     })
+}
+
+// Adds a follower with this replica, and the end of a channel to it.
+fn push_follower(
+    alloc: Global,
+    replica: Box<Replica<MemoryStore>>,
+    ends: &mut Vec<Sender<Message>>,
+    followers: &mut Vec<Follower>,
+) -> Result<(), AllocError>
+    ensures ends { OnOk result (length ends.new.items ≡ length ends.old.items + 1) }
+    ensures follower { OnOk result ((follower : _) × (follower.replica ≡ replica)
+        × (followers.new.items ≡ followers.old.items ++ follower ∷ [])) }
+{
+    let (end, inbox) = bounded(alloc, MESSAGES)?;
+    let stream = Stream::new(alloc);
+    ends.push(end)?;
+    followers.push(Follower {
+        replica,
+        stream,
+        inbox,
+    })?;
+    Ok(())
 }
 
 // A replica with its own names and columns, and room for so many entries.
@@ -93,10 +125,10 @@ fn open_copy(
     entries: usize,
 ) -> Result<Box<Replica<MemoryStore>>, AllocError>
     requires { length columns.now.savings ≡ length directory.now }
+    ensures { IfOk result (λ node. IsAtOpening directory.now columns.now node.value) }
 {
     let store = MemoryStore::new(alloc);
-    let node = Replica::open(alloc, id, directory.copy()?, columns.copy()?, store)?;
-    let mut node = Box::new(alloc, node)?;
+    let mut node = open_boxed(alloc, id, directory.copy()?, columns.copy()?, store)?;
     node.reserve(entries)?;
     Ok(node)
 }

@@ -9,7 +9,9 @@ use crate::fault::RunFault;
 use crate::preparing::{Prepared, prepare};
 use crate::ready_followers::ReadyFollowers;
 use crate::whole_log::carry_out_log;
+use cown_bench::WORKERS;
 use cown_workers::Gate;
+use sb_sequencer::REPLICAS;
 use sb_text::{read_all, write_whole};
 use std::alloc::Global;
 use std::io::{Read, Write};
@@ -41,8 +43,8 @@ pub fn run_text<H: Threads + Wait + Clock + Sync, R: Read, W: Write, G: Gate + S
     workers: usize,
     gate: &G,
 ) -> Result<(), RunFault>
-    requires nodes { (1 ≤ nodes) × (nodes ≤ 8) }
-    requires workers { workers ≤ 16 }
+    requires nodes { (1 ≤ nodes) × (nodes ≤ REPLICAS) }
+    requires workers { workers ≤ WORKERS }
     // No line was at fault, and the output of all that was read is written.
     ensures done { OnOk result (IfSome (R.remaining reader.old) (λ input.
         Writes (output_of input) (W.contents writer.old) (W.contents writer.new))) }
@@ -77,8 +79,8 @@ fn output_text<H: Threads + Wait + Clock + Sync, G: Gate + Sync>(
     gate: &G,
 ) -> Result<Vec<u8>, RunFault>
     requires prepared { IsPreparedOf input.items prepared }
-    requires nodes { nodes ≤ 8 }
-    requires workers { workers ≤ 16 }
+    requires nodes { nodes ≤ REPLICAS }
+    requires workers { workers ≤ WORKERS }
     ensures value { IfOk result (λ output. output_of input.items ≡ Ok output.items) }
     ensures fault { IfErr result (IsNodesFault nodes workers) }
 {

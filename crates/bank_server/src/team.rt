@@ -6,11 +6,27 @@ ghost use Rattle.bank_server.specs.Faults.{IsNodesFault, IsWorkersFault};
 use crate::fault::RunFault;
 use crate::followers::{Followers, with_followers};
 use crate::ready_followers::ReadyFollowers;
+use cown_bench::WORKERS;
 use cown_workers::{BenchCrew, Crew, Gate, InlineCrew, with_crew};
+use sb_sequencer::REPLICAS;
 use std::alloc::Global;
 use std::sync::Wait;
 use std::thread::Threads;
 use std::time::Clock;
+
+/// How many workers a crew has, each in a thread of its own.
+pub trait Headcount {
+    /// How many.
+    ghost workers: { Self → ℕ };
+}
+
+impl Headcount for InlineCrew {
+    ghost workers = { λ crew. 0 };
+}
+
+impl<'a, R: Wait + Clock, G: Gate> Headcount for BenchCrew<'a, R, G> {
+    ghost workers = { λ crew. crew.workers };
+}
 
 /// What is done with node 0's crew, whichever it is, beside its followers.
 pub trait Duty {
@@ -20,16 +36,16 @@ pub trait Duty {
     /// What has to hold before.
     ghost ready: { Self → Type 0 };
 
-    /// What holds then, of so many nodes, by a crew that may keep a job or not.
-    ghost does: { Self → ℕ → Bool → Self.Answer → Type 0 };
+    /// What holds then, of so many nodes, by a crew of so many workers that may keep a job or not.
+    ghost does: { Self → ℕ → ℕ → Bool → Self.Answer → Type 0 };
 
     /// Does it.
     fn carry_out<R, C>(self, rt: &R, followers: &mut Followers<'_, R>, crew: &mut C) -> Self::Answer
     where
         R: Threads + Wait + Clock,
-        C: Crew,
+        C: Crew + Headcount,
         requires { ready self }
-        ensures { does self followers.old.nodes C.keeps result };
+        ensures { does self followers.old.nodes (C.workers crew.old) C.keeps result };
 }
 
 /// Starts the followers, hires so many workers for node 0, and has this done. Without workers node 0 works alone. Once
@@ -51,23 +67,23 @@ where
     H: Threads + Wait + Clock + Sync,
     G: Gate + Sync,
     D: Duty + Drop,
-    requires nodes { followers ≤ 8 }
-    requires workers { workers ≤ 16 }
+    requires nodes { followers.nodes ≤ REPLICAS }
+    requires workers { workers ≤ WORKERS }
     requires ready { D.ready duty }
-    // A crew that may keep a job has workers.
+    // It is done by a crew of as many workers as were asked for, and one that may keep a job has some.
     ensures answer { IfOk result (λ answer. (keeps : Bool) × ((keeps ≡ true → 0 < workers)
-        × D.does duty followers keeps answer)) }
-    ensures fault { IfErr result (IsNodesFault followers workers) }
+        × D.does duty followers.nodes workers keeps answer)) }
+    ensures fault { IfErr result (IsNodesFault followers.nodes workers) }
 {
     with_followers(
         rt,
         alloc,
         followers,
         move |followers: &mut Followers<'_, H>| -> Result<D::Answer, RunFault>
-            requires workers { workers ≤ 16 }
+            requires workers { workers ≤ WORKERS }
             requires ready { D.ready duty }
             ensures answer { IfOk result (λ answer. (keeps : Bool) × ((keeps ≡ true → 0 < workers)
-                × D.does duty followers.old.nodes keeps answer)) }
+                × D.does duty followers.old.nodes workers keeps answer)) }
             ensures fault { IfErr result (IsWorkersFault workers) }
         { by_workers(rt, alloc, followers, workers, gate, duty) },
     )?
@@ -86,10 +102,10 @@ where
     H: Threads + Wait + Clock + Sync,
     G: Gate + Sync,
     D: Duty + Drop,
-    requires workers { workers ≤ 16 }
+    requires workers { workers ≤ WORKERS }
     requires ready { D.ready duty }
     ensures answer { IfOk result (λ answer. (keeps : Bool) × ((keeps ≡ true → 0 < workers)
-        × D.does duty followers.old.nodes keeps answer)) }
+        × D.does duty followers.old.nodes workers keeps answer)) }
     ensures fault { IfErr result (IsWorkersFault workers) }
 {
     if workers == 0 {
@@ -102,7 +118,7 @@ where
         gate,
         move |crew: &mut BenchCrew<'_, H, G>| -> D::Answer
             requires ready { D.ready duty }
-            ensures { D.does duty followers.entry.now.nodes true result }
+            ensures { D.does duty followers.entry.now.nodes crew.old.workers true result }
         { duty.carry_out(rt, followers, crew) },
     )?;
     Ok(answer)

@@ -8,10 +8,12 @@ use crate::fault::RunFault;
 use crate::followers::Followers;
 use crate::primary::Primary;
 use crate::ready_followers::ReadyFollowers;
-use crate::team::{Duty, with_team};
+use crate::team::{Duty, Headcount, with_team};
+use cown_bench::WORKERS;
 use cown_workers::{Crew, Gate};
 use sb_checkpoint::CheckpointStore;
 use sb_replica::Replica;
+use sb_sequencer::REPLICAS;
 use std::alloc::Global;
 use std::sync::Wait;
 use std::thread::Threads;
@@ -28,7 +30,7 @@ impl<S: CheckpointStore> Duty for WholeLog<S> {
 
     ghost ready = { λ duty. IsOpened duty.primary.node.board };
 
-    ghost does = { λ duty nodes keeps answer. IfOk answer (λ node. RunsLog duty.primary node.value)
+    ghost does = { λ duty nodes workers keeps answer. IfOk answer (λ node. RunsLog duty.primary node.value)
         × IfErr answer (IsTeamFault nodes keeps) };
 
     fn carry_out<R, C>(
@@ -39,7 +41,7 @@ impl<S: CheckpointStore> Duty for WholeLog<S> {
     ) -> Result<Box<Replica<S>>, RunFault>
     where
         R: Threads + Wait + Clock,
-        C: Crew,
+        C: Crew + Headcount,
     {
         let node = self.primary.finish(crew, followers)?;
         followers.compare(rt, &node)?;
@@ -67,12 +69,12 @@ where
     H: Threads + Wait + Clock + Sync,
     S: CheckpointStore,
     G: Gate + Sync,
-    requires nodes { followers ≤ 8 }
-    requires workers { workers ≤ 16 }
+    requires nodes { followers.nodes ≤ REPLICAS }
+    requires workers { workers ≤ WORKERS }
     requires opened { IsOpened primary.node.board }
     // It began as this node 0, carried out the ops of the log, and that is as if its calls had run one by one.
     ensures run { IfOk result (λ node. RunsLog primary node.value) }
-    ensures fault { IfErr result (IsNodesFault followers workers) }
+    ensures fault { IfErr result (IsNodesFault followers.nodes workers) }
 {
     with_team(rt, alloc, followers, workers, gate, WholeLog { primary })?
 }

@@ -55,7 +55,7 @@ impl Model for Sequencer {
 
 // So many lengths of 0.
 fn zeros(count: usize) -> ArrayVec<u64, REPLICAS>
-    requires { count ≤ 8 }
+    requires { count ≤ REPLICAS }
     ensures { result.items ≡ replicate count 0 }
 {
     let mut zeros = ArrayVec::new();
@@ -68,7 +68,7 @@ fn zeros(count: usize) -> ArrayVec<u64, REPLICAS>
 impl Sequencer {
     /// A sequencer for so many replicas with an empty log.
     pub fn open(alloc: Global, nodes: usize) -> Sequencer
-        requires { nodes ≤ 8 }
+        requires { nodes ≤ REPLICAS }
         ensures { result ≡ opened nodes }
     {
         Sequencer {
@@ -81,7 +81,7 @@ impl Sequencer {
     /// A sequencer for so many replicas with an empty log that takes this many calls before it needs more
     /// memory. Fails where memory is refused.
     pub fn with_capacity(alloc: Global, nodes: usize, calls: usize) -> Result<Sequencer, AllocError>
-        requires { nodes ≤ 8 }
+        requires { nodes ≤ REPLICAS }
         ensures { IfOk result (λ sequencer. sequencer ≡ opened nodes) }
     {
         Ok(Sequencer {

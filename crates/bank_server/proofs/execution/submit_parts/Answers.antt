@@ -1,4 +1,4 @@
-use Rattle.std.proofs.Common.{◌≡◌, ℕ, ◌+◌, ◌-◌, List, ◌++◌, take, drop, sym, ap, ◌∙◌, arith, append_assoc}
+use Rattle.std.proofs.Common.{◌≡◌, ℕ, ◌+◌, ◌-◌, List, ◌++◌, take, drop, sym, ap, ◌∙◌, arith, append_assoc, rules}
 use Rattle.std.proofs.Math.Seq.{take-add}
 use Rattle.std.proofs.lemmas.Result.{err_from_is_err_and}
 use Rattle.bank_server.proofs.Carried.{fault_behind}
@@ -24,7 +24,8 @@ loop-done-preserved g c =
       within = omega (arith, c.min.ensures, kept.within, c.loop-done-test.true);
       none_out = λ none. put.none_out (kept.none_out none);
       beside = c.submit_all.ensures.beside ∙ kept.beside;
-      nodes = c.tell.ensures.nodes ∙ kept.nodes;
+      told = search rules;
+      stays = search rules;
     }
 
 pub returns-in_err-submit_all-clause-fault : goal.returns-in_err-submit_all-clause-fault
@@ -33,12 +34,3 @@ returns-in_err-submit_all-clause-fault g c =
     let kept = c.loop-done.invariant in
     rw (p.1, p.2) (fault_behind g.C.Crew.keeps c.args.replica.now.board c.loop-done.replica.board
     c.in_err-submit_all.field-0.0 kept.none_out c.in_err-submit_all.ensures.fault)
-
-pub returns-in_err-tell-clause-nodes : goal.returns-in_err-tell-clause-nodes
-returns-in_err-tell-clause-nodes g c = c.tell.ensures.nodes ∙ c.loop-done.invariant.nodes
-
-pub returns-in_err-submit_all-clause-nodes : goal.returns-in_err-submit_all-clause-nodes
-returns-in_err-submit_all-clause-nodes g c = c.tell.ensures.nodes ∙ c.loop-done.invariant.nodes
-
-pub returns-clause-nodes : goal.returns-clause-nodes
-returns-clause-nodes g c = c.loop-done.invariant.nodes

@@ -13,7 +13,8 @@ invariant-loop-done g l = record {
   within : l.done ≤ length l.ops;
   none_out : NoneOut l.fn.replica.board → NoneOut l.replica.board;
   beside : beside_of l.replica ≡ beside_of l.fn.replica;
-  nodes : l.followers.nodes ≡ l.fn.followers.nodes;
+  told : l.done ≤ l.followers.told;
+  stays : l.followers ≡ record l.fn.followers { told = l.followers.told };
 }
 
 abbrev pub decreases-loop-done : goal.decreases-loop-done

@@ -1,9 +1,13 @@
-use Rattle.std.proofs.Common.{◌≡◌, ◌-◌}
+use Rattle.std.proofs.Common.{◌≡◌, ◌≤◌, ◌⊎◌, ◌-◌}
 use Rattle.bank_server.proofs.followers.Followers.feed.Given as goal
 
--- only what they were told grows
+-- only what they were told grows, up to the log's length
 abbrev pub invariant-loop-self : goal.invariant-loop-self
-invariant-loop-self g l = l.self.nodes ≡ l.fn.self.nodes
+invariant-loop-self g l = record {
+  stays : l.self ≡ record l.fn.self { told = l.self.told };
+  grows : l.fn.self.told ≤ l.self.told;
+  within : (l.self.told ≡ l.fn.self.told) ⊎ (l.self.told ≤ l.length);
+}
 
 abbrev pub decreases-loop-self : goal.decreases-loop-self
 decreases-loop-self g l = l.length - l.self.told

@@ -1,6 +1,14 @@
--- The closure was called once, on the followers that were started.
-use Rattle.std.proofs.Common.{refl}
+-- The closure was called once, on the followers that were started, each of whom hears.
+use Rattle.std.proofs.Common.{ℕ, refl, ap}
+use Rattle.bank_server.specs.Followers.{FollowersOf}
 use Rattle.bank_server.proofs.followers.fn.with_followers.scope.Goals as goal
 
+-- followers of whom so many hear
+abbrev listening : ℕ → ℕ → FollowersOf
+listening nodes n = record { nodes = nodes; listening = n; told = 0 }
+
 pub returns : goal.returns
-returns g c = record { answer = (_, record { shown = _; shows = refl; left = _; met = c.f.ensures; leaves = refl }); fault = tt }
+returns g c = record {
+  answer = (_, record { shown = _; shows = ap (listening c.captures.nodes) c.requires.ends; left = _; met = c.f.ensures; leaves = refl });
+  fault = tt;
+}

@@ -1,0 +1,31 @@
+//! A replica in a box.
+ghost use Rattle.std.specs.Prelude.{◌≡◌, [], length, IfOk};
+ghost use Rattle.cown_board.specs.Played.{opened_with};
+ghost use Rattle.sb_replica_log.specs.Log.{none_held};
+
+use sb_checkpoint::CheckpointStore;
+use sb_replica::Replica;
+use sb_rows::{Columns, Directory};
+use std::alloc::{AllocError, Global};
+
+/// A replica as [`Replica::open`] makes it.
+pub(crate) fn open_boxed<S: CheckpointStore>(
+    alloc: Global,
+    id: u8,
+    directory: Directory,
+    opening: Columns,
+    store: S,
+) -> Result<Box<Replica<S>>, AllocError>
+    requires { length opening.savings ≡ length directory }
+    ensures { IfOk result (λ replica. replica.value ≡ record {
+      id = id;
+      names = directory;
+      opening = opening;
+      board = opened_with opening [];
+      held = none_held;
+      store = store;
+    }) }
+{
+    let replica = Replica::open(alloc, id, directory, opening, store)?;
+    Ok(Box::new(alloc, replica)?)
+}
