@@ -4,6 +4,8 @@
 #[cfg(test)]
 mod audits;
 #[cfg(test)]
+mod breaks;
+#[cfg(test)]
 mod devices;
 #[cfg(test)]
 mod disorder;
