@@ -146,7 +146,7 @@ where
         ensures plan { self.new.plan ≡ self.old.plan }
         ensures fault { IfErr result (IsKeepFault self.old.plan.saves) }
     {
-        // It ends with this function, so a client whose stream ended well knows that its asks are saved.
+        // It ends with this function, so a client whose stream ends while the server goes on knows that its asks are saved.
         let mut stream = self.door.let_in()?;
         let (alloc, patience) = (self.alloc, self.plan.patience);
         let served = serve_client(rt, alloc, patience, &mut stream, &mut self.primary, crew);

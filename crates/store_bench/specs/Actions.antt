@@ -5,7 +5,9 @@ use Rattle.store_bench.specs.declared.payees.Payees.TheVariants.{One, Many}
 use Rattle.store_bench.specs.declared.words.Crewed.{Crewed}
 use Rattle.store_bench.specs.declared.words.Crewed.TheVariants.{InPlace, InThreads, Wait, Held}
 use Rattle.store_bench.specs.declared.words.Action.{Action}
-use Rattle.store_bench.specs.declared.words.Action.TheVariants.{Drain, Write, Read}
+use Rattle.store_bench.specs.declared.words.Action.TheVariants.{Measure, Cases}
+use Rattle.store_bench.specs.declared.words.Measurement.{Measurement}
+use Rattle.store_bench.specs.declared.words.Measurement.TheVariants.{Drain, Write, Read}
 
 module _ {A : Type 0} where
   -- there are so many words, of which the second is this one
@@ -26,8 +28,13 @@ module _ {A : Type 0} where
   Drains (Held One calls) words = Asks words 3 (codes "one-customer") × Spells words 2 calls
   Drains (Held Many calls) words = Asks words 3 (codes "many-customers") × Spells words 2 calls
 
-  -- the words are the program's name, the action, and its numbers in order
+  -- the words are the program's name, what is measured, and its numbers in order
+  abbrev pub Measures : Measurement → List (String A) → Type 0
+  Measures (Drain crewed) words = Drains crewed words
+  Measures (Write count) words = Asks words 3 (codes "write") × Spells words 2 count
+  Measures (Read count) words = Asks words 3 (codes "read") × Spells words 2 count
+
+  -- the words are the program's name, and what it does
   abbrev pub Says : Action → List (String A) → Type 0
-  Says (Drain crewed) words = Drains crewed words
-  Says (Write count) words = Asks words 3 (codes "write") × Spells words 2 count
-  Says (Read count) words = Asks words 3 (codes "read") × Spells words 2 count
+  Says (Measure measurement) words = Measures measurement words
+  Says Cases words = Asks words 2 (codes "cases")

@@ -1,5 +1,6 @@
-//! Why nothing was measured.
+//! Why nothing is measured or told.
 
+use crate::cases::fault::CaseFault;
 use cown_board::SubmitFault;
 use cown_workers::{CrewFault, CrewGone};
 use sb_checkpoint::CheckpointFault;
@@ -7,7 +8,7 @@ use std::alloc::AllocError;
 use std::io;
 use thiserror::Error;
 
-/// Why nothing was measured.
+/// Why nothing is measured or told.
 #[derive(Debug, Error, Drop)]
 pub enum Fault {
     /// The number of workers isn't from 1 to 16.
@@ -31,6 +32,9 @@ pub enum Fault {
     /// A checkpoint isn't read.
     #[error("{0}")]
     Checkpoint(#[from] CheckpointFault),
+    /// A case goes otherwise.
+    #[error("{0}")]
+    Case(#[from] CaseFault),
     /// Memory was refused.
     #[error("out of memory")]
     OutOfMemory(#[from(alloc)] AllocError),

@@ -1,15 +1,22 @@
 //! `store_bench`: times how a crew drains a board, for `bench/nodes`, and what checkpoints take, for
-//! `bench/replica`.
+//! `bench/replica`; goes through cases that are refused memory, for `bench/refusals`.
 #![tactic(auto)]
 
+use cases::report::Report;
+use cases::tell_all;
 use fault::Fault;
 use measured::Measured;
 use measuring::measure;
+use sb_text::write_whole;
 use std::env;
 use std::process::ExitCode;
-use words::{Action, read_words};
+use std::sync::Wait;
+use std::thread::Threads;
+use std::time::Clock;
+use words::{Action, Measurement, read_words};
 
 mod bank;
+mod cases;
 mod checkpoints;
 mod crews;
 mod fault;
@@ -23,7 +30,7 @@ mod payees;
 mod words;
 
 const USAGE: &str = "usage: store_bench none STEPS CALLS | workers WORKERS STEPS CALLS
-     | wait WORKERS | one-customer CALLS | many-customers CALLS | write COUNT | read COUNT";
+     | wait WORKERS | one-customer CALLS | many-customers CALLS | write COUNT | read COUNT | cases";
 
 fn main(rt: HostRuntime) -> ExitCode {
     let action = match action(&rt) {
@@ -34,11 +41,11 @@ fn main(rt: HostRuntime) -> ExitCode {
         }
         Err(fault) => return failed(&rt, fault),
     };
-    let told = match measure(&rt, rt.alloc(), action) {
-        Ok(measured) => print(&rt, measured),
-        Err(fault) => Err(fault),
+    let done = match action {
+        Action::Measure(measurement) => print_measured(&rt, &rt, measurement),
+        Action::Cases => print_cases(&rt, &rt),
     };
-    match told {
+    match done {
         Ok(()) => ExitCode::SUCCESS,
         Err(fault) => failed(&rt, fault),
     }
@@ -51,10 +58,34 @@ fn action(rt: &HostRuntime) -> Result<Option<Action>, Fault> {
 }
 
 // The count and the sum go to standard output, and the time to standard error.
-fn print(rt: &HostRuntime, measured: Measured) -> Result<(), Fault> {
-    let milliseconds = measured.time.as_secs_f64() * 1e3;
-    println!(rt; "{} {}", measured.length, measured.sum)?;
+fn print_measured<H: Threads + Wait + Clock + Sync>(
+    rt: &HostRuntime,
+    threads: &H,
+    measurement: Measurement,
+) -> Result<(), Fault> {
+    let Measured { length, sum, time } = measure(threads, rt.alloc(), measurement)?;
+    let milliseconds = time.as_secs_f64() * 1e3;
+    println!(rt; "{length} {sum}")?;
     eprintln!(rt; "{milliseconds:.3} ms")?;
+    Ok(())
+}
+
+// All that is told of the cases goes to standard output, and how many refusals there were.
+fn print_cases<H: Threads + Wait + Clock + Sync>(
+    rt: &HostRuntime,
+    threads: &H,
+) -> Result<(), Fault> {
+    let mut report = match Report::new(rt.alloc()) {
+        Err(_) => {
+            let mut report = Report::new(rt.alloc())?;
+            report.refused("Report::new")?;
+            report
+        }
+        report => report?,
+    };
+    tell_all(threads, rt.alloc(), &mut report)?;
+    write_whole(&mut rt.stdout(), &report.text)?;
+    println!(rt; "refusals {}", report.refusals)?;
     Ok(())
 }
 

@@ -1,24 +1,24 @@
-//! The measured actions.
+//! What is measured.
 
 use crate::checkpoints;
 use crate::crews::drain_calls;
 use crate::fault::Fault;
 use crate::measured::Measured;
-use crate::words::Action;
+use crate::words::Measurement;
 use std::alloc::Global;
 use std::sync::Wait;
 use std::thread::Threads;
 use std::time::Clock;
 
-/// Measures an action.
+/// Measures something.
 pub(crate) fn measure<R: Threads + Wait + Clock + Sync>(
     rt: &R,
     alloc: Global,
-    action: Action,
+    measurement: Measurement,
 ) -> Result<Measured, Fault> {
-    match action {
-        Action::Drain(crew) => drain_calls(rt, alloc, crew),
-        Action::Write { count } => checkpoints::write(rt, alloc, count),
-        Action::Read { count } => checkpoints::read(rt, alloc, count),
+    match measurement {
+        Measurement::Drain(crew) => drain_calls(rt, alloc, crew),
+        Measurement::Write { count } => checkpoints::write(rt, alloc, count),
+        Measurement::Read { count } => checkpoints::read(rt, alloc, count),
     }
 }

@@ -1,12 +1,21 @@
 //! The program's words.
 ghost use Rattle.std.specs.Prelude.{◌≡◌, IfSome, IsTrue, Some, map, slice_get, string_bytes};
-ghost use Rattle.store_bench.specs.Actions.{Asks, Drains, Says, Spells};
+ghost use Rattle.store_bench.specs.Actions.{Asks, Drains, Measures, Says, Spells};
 
 use crate::payees::Payees;
 
-/// What is measured.
+/// What the program does.
 #[derive(Clone, Copy)]
 pub enum Action {
+    /// It measures something.
+    Measure(Measurement),
+    /// It goes through its cases.
+    Cases,
+}
+
+/// What is measured.
+#[derive(Clone, Copy)]
+pub enum Measurement {
     /// A crew drains a board.
     Drain(Crewed),
     /// A checkpoint of the greatest size is written so often.
@@ -44,19 +53,29 @@ pub enum Crewed {
 pub fn read_words(words: &[String]) -> Option<Action>
     ensures { IfSome result (λ action. Says action words.now) }
 {
+    if asks(words, 2, "cases") {
+        return Some(Action::Cases);
+    }
+    Some(Action::Measure(read_measurement(words)?))
+}
+
+// What is measured.
+fn read_measurement(words: &[String]) -> Option<Measurement>
+    ensures { IfSome result (λ measurement. Measures measurement words.now) }
+{
     if asks(words, 3, "write") {
         let count = few(words, 2)?;
-        return Some(Action::Write { count });
+        return Some(Measurement::Write { count });
     }
     if asks(words, 3, "read") {
         let count = few(words, 2)?;
-        return Some(Action::Read { count });
+        return Some(Measurement::Read { count });
     }
     let crewed = match held(words) {
         Some(crewed) => crewed,
         None => threads(words)?,
     };
-    Some(Action::Drain(crewed))
+    Some(Measurement::Drain(crewed))
 }
 
 // What is carried out without threads.

@@ -1,0 +1,33 @@
+//! Cases that are gone through with a refusal of memory at any place, for `bench/refusals`.
+
+use fault::CaseFault;
+use report::Report;
+use std::alloc::Global;
+use std::sync::Wait;
+use std::thread::Threads;
+use std::time::Clock;
+
+mod amounts;
+mod bytewise;
+mod checkpoint;
+pub(crate) mod fault;
+mod five_calls;
+mod frames;
+pub(crate) mod report;
+mod schedule;
+mod session;
+mod story;
+
+/// Goes through all cases, one after the other, and tells what each answers. A call that is refused memory is made again.
+pub(crate) fn tell_all<R: Threads + Wait + Clock + Sync>(
+    rt: &R,
+    alloc: Global,
+    report: &mut Report,
+) -> Result<(), CaseFault> {
+    five_calls::tell(rt, alloc, report)?;
+    session::tell(alloc, report)?;
+    story::tell(alloc, story::TWO_HANDS, report)?;
+    story::tell(alloc, story::CUT, report)?;
+    checkpoint::tell(alloc, report)?;
+    frames::tell(alloc, report)
+}

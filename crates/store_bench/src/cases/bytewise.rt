@@ -1,0 +1,23 @@
+//! A client whose bytes come one by one.
+
+use std::io;
+use std::io::Read;
+
+/// Gives a byte a read.
+#[derive(Drop)]
+pub(crate) struct Bytewise<'a> {
+    pub(crate) left: &'a [u8],
+}
+
+impl Read for Bytewise<'_> {
+    fn read(&mut self, buf: &mut [u8]) -> io::Result<usize> {
+        match self.left {
+            [first, rest @ ..] if !buf.is_empty() => {
+                buf[0] = *first;
+                self.left = rest;
+                Ok(1)
+            }
+            _ => Ok(0),
+        }
+    }
+}

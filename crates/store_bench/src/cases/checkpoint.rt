@@ -1,0 +1,51 @@
+//! A checkpoint that is read, and written again.
+ghost use Rattle.std.specs.Prelude.{IfOk};
+ghost use Rattle.sb_checkpoint.specs.Checkpoint.{IsCheckpoint};
+
+use crate::cases::fault::CaseFault;
+use crate::cases::report::Report;
+use sb_checkpoint::{Checkpoint, CheckpointFault, read_checkpoint, write_checkpoint};
+use std::alloc::{AllocError, Global};
+
+// Three customers and five replies.
+const BYTES: &[u8] = b"SBCKPT01\x00\x00\x00\x00\x00\x00\x00\x05\x00\x00\x00\x03\
+\x00\x00\x00\x00\x00\x00\x00\x00\x00\x00\x00\x00\x00\x00\x00\x00\x00\x00\x00\x00\x00\x00\x00\x00\
+\x00\x00\x00\x00\x00\x00\x00\x00\x00\x00\x00\x00\x00\x00\x09\xc4\x00\x00\x00\x00\x00\x00\x00\x00\
+\x00\x00\x00\x00\x00\x00\x09\xc4\
+\x00\x00\x00\x00\x00\x00\x00\x3a\x98\
+\x01\x00\x00\x00\x00\x00\x00\x00\x00\
+\x01\x00\x00\x00\x00\x00\x00\x00\x00\
+\x01\x00\x00\x00\x00\x00\x00\x00\x00\
+\x01\x00\x00\x00\x00\x00\x00\x00\x00";
+
+/// Tells the bytes that it is written as.
+pub(crate) fn tell(alloc: Global, report: &mut Report) -> Result<(), CaseFault> {
+    let checkpoint = read(alloc, report)?;
+    match write(alloc, &checkpoint, report) {
+        Err(_) => {
+            report.refused("write_checkpoint")?;
+            write(alloc, &checkpoint, report)?;
+        }
+        Ok(()) => {}
+    }
+    Ok(report.tell_bytes()?)
+}
+
+fn read(alloc: Global, report: &mut Report) -> Result<Checkpoint, CaseFault>
+    ensures { IfOk result IsCheckpoint }
+{
+    match read_checkpoint(alloc, BYTES, 3) {
+        Err(CheckpointFault::OutOfMemory) => {
+            report.refused("read_checkpoint")?;
+            Ok(read_checkpoint(alloc, BYTES, 3)?)
+        }
+        read => Ok(read?),
+    }
+}
+
+fn write(alloc: Global, checkpoint: &Checkpoint, report: &mut Report) -> Result<(), AllocError>
+    requires { IsCheckpoint checkpoint.now }
+{
+    let bytes = write_checkpoint(alloc, checkpoint.columns(), checkpoint.replies())?;
+    report.written.extend_from_slice(&bytes)
+}

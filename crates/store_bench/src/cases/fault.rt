@@ -1,0 +1,42 @@
+//! Why a case goes otherwise than it should.
+
+use bank_server::{RunFault, SessionFault};
+use sb_checkpoint::CheckpointFault;
+use sb_frames::StreamFault;
+use sb_rows::OpeningFault;
+use schedule_player::StepFault;
+use schedule_text::TextFault;
+use std::alloc::AllocError;
+use thiserror::Error;
+
+/// Why a case goes otherwise than it should. Where it is a want of memory, a call that was made again was refused it again.
+#[derive(Clone, Copy, Debug, Error)]
+pub enum CaseFault {
+    /// A run ends without its output.
+    #[error("{0}")]
+    Run(#[from] RunFault),
+    /// An opening isn't read.
+    #[error("{0}")]
+    Opening(#[from] OpeningFault),
+    /// A session ends early.
+    #[error("{0}")]
+    Session(#[from] SessionFault),
+    /// A schedule isn't read.
+    #[error("{0}")]
+    Schedule(#[from] TextFault),
+    /// An event doesn't happen.
+    #[error("{0}")]
+    Step(#[from] StepFault),
+    /// Something is unfinished after the last event.
+    #[error("unfinished")]
+    Unfinished,
+    /// A checkpoint isn't read.
+    #[error("{0}")]
+    Checkpoint(#[from] CheckpointFault),
+    /// A stream takes no bytes, or gives no frame.
+    #[error("{0}")]
+    Stream(#[from] StreamFault),
+    /// Memory was refused.
+    #[error("out of memory")]
+    OutOfMemory(#[from(alloc)] AllocError),
+}

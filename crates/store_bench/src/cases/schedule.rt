@@ -1,0 +1,50 @@
+//! A schedule as a world at its opening, and its events.
+
+use crate::cases::fault::CaseFault;
+use crate::cases::report::Report;
+use schedule_player::{Event, World};
+use schedule_text::{Schedule, TextFault, read_schedule};
+use std::alloc::{AllocError, Global};
+
+/// A world, and what is to happen in it.
+#[derive(Drop)]
+pub(crate) struct Planned {
+    pub(crate) world: Box<World>,
+    pub(crate) events: Vec<Event>,
+}
+
+/// A world at the opening of a schedule, of which nothing has happened.
+pub(crate) fn plan(alloc: Global, text: &str, report: &mut Report) -> Result<Planned, CaseFault> {
+    let schedule = read(alloc, text, report)?;
+    match open(alloc, schedule) {
+        Err(_) => {
+            report.refused("World::open")?;
+            let schedule = read(alloc, text, report)?;
+            Ok(open(alloc, schedule)?)
+        }
+        opened => Ok(opened?),
+    }
+}
+
+fn open(alloc: Global, schedule: Schedule) -> Result<Planned, AllocError> {
+    let Schedule {
+        nodes,
+        workers,
+        directory,
+        columns,
+        events,
+    } = schedule;
+    let world = World::open(alloc, directory, columns, nodes, workers)?;
+    let world = Box::new(alloc, world)?;
+    Ok(Planned { world, events })
+}
+
+fn read(alloc: Global, text: &str, report: &mut Report) -> Result<Schedule, CaseFault> {
+    match read_schedule(alloc, text.as_bytes()) {
+        Err(TextFault::OutOfMemory) => {
+            report.refused("read_schedule")?;
+            Ok(read_schedule(alloc, text.as_bytes())?)
+        }
+        read => Ok(read?),
+    }
+}

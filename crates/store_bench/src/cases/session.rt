@@ -1,0 +1,75 @@
+//! A session of two asks, of which one is asked again.
+
+use crate::cases::bytewise::Bytewise;
+use crate::cases::fault::CaseFault;
+use crate::cases::report::Report;
+use bank_server::{Primary, SessionFault, serve_session};
+use cown_workers::InlineCrew;
+use sb_checkpoint::MemoryStore;
+use sb_rows::{Opening, OpeningFault, read_opening};
+use std::alloc::{AllocError, Global};
+
+const OPENING: &[u8] = b"alice 100.00 50.00\nbob 0.00 20.00\ncarol 10.00 0.00\nbegin\n";
+
+// Client 7 asks for alice's balance, pays 5.00 to bob, flushes, asks for the balance again, and flushes.
+const SENT: &[u8] = b"\x00\x10\x01\x00\x00\x00\x07\x00\x00\x00\x01\x01\x05alice\
+\x00\x16\x01\x00\x00\x00\x07\x00\x00\x00\x02\x02\x03bob\x00\x00\x00\x00\x00\x00\x01\xf4\
+\x00\x01\x06\
+\x00\x10\x01\x00\x00\x00\x07\x00\x00\x00\x01\x01\x05alice\
+\x00\x01\x06";
+
+/// Tells what the client is told.
+pub(crate) fn tell(alloc: Global, report: &mut Report) -> Result<(), CaseFault> {
+    let mut primary = opened(alloc, report)?;
+    match serve(alloc, &mut primary, report) {
+        Err(SessionFault::OutOfMemory) => {
+            report.refused("serve_session")?;
+            serve(alloc, &mut primary, report)?;
+        }
+        ended => ended?,
+    }
+    Ok(report.tell_bytes()?)
+}
+
+fn serve(
+    alloc: Global,
+    primary: &mut Primary<MemoryStore>,
+    report: &mut Report,
+) -> Result<(), SessionFault> {
+    let mut reader = Bytewise { left: SENT };
+    serve_session(
+        alloc,
+        &mut reader,
+        &mut report.written,
+        primary,
+        &mut InlineCrew,
+    )
+}
+
+// The bank that is served.
+fn opened(alloc: Global, report: &mut Report) -> Result<Box<Primary<MemoryStore>>, CaseFault> {
+    let opening = read(alloc, report)?;
+    match open(alloc, opening) {
+        Err(_) => {
+            report.refused("Primary::open")?;
+            let opening = read(alloc, report)?;
+            Ok(open(alloc, opening)?)
+        }
+        opened => Ok(opened?),
+    }
+}
+
+fn open(alloc: Global, opening: Opening) -> Result<Box<Primary<MemoryStore>>, AllocError> {
+    let primary = Primary::open(alloc, opening, MemoryStore::new(alloc))?;
+    Ok(Box::new(alloc, primary)?)
+}
+
+fn read(alloc: Global, report: &mut Report) -> Result<Opening, CaseFault> {
+    match read_opening(alloc, OPENING) {
+        Err(OpeningFault::OutOfMemory) => {
+            report.refused("read_opening")?;
+            Ok(read_opening(alloc, OPENING)?)
+        }
+        read => Ok(read?),
+    }
+}

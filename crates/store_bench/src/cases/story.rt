@@ -1,0 +1,93 @@
+//! Schedules that are played event by event.
+
+use crate::cases::amounts::push_amounts;
+use crate::cases::fault::CaseFault;
+use crate::cases::report::Report;
+use crate::cases::schedule::plan;
+use schedule_player::{Event, StepFault, World};
+use schedule_text::push_notes;
+use std::alloc::Global;
+
+/// Two workers of one replica finish jobs out of order.
+pub(crate) const TWO_HANDS: &str = "nodes 1 workers 2
+alice 100.00 50.00
+bob 0.00 20.00
+carol 10.00 0.00
+begin
+ask 1 1 deposit alice 1.00
+ask 1 2 deposit bob 1.00
+ask 1 3 amalgamate alice bob
+ask 1 4 balance alice
+send 0 1
+send 0 2
+send 0 3
+send 0 4
+to 0 1
+to 0 2
+to 0 3
+to 0 4
+take 0 1 1
+take 0 2 0
+finish 0 1
+take 0 1 0
+finish 0 2
+take 0 1 0
+take 0 2 0
+finish 0 1
+take 0 1 0
+finish 0 1
+";
+
+/// A replica marks a cut while later entries run, and goes back to it.
+pub(crate) const CUT: &str = "nodes 1 workers 2
+alice 100.00 50.00
+bob 0.00 20.00
+carol 10.00 0.00
+begin
+ask 1 1 deposit alice 1.00
+ask 1 2 deposit alice 2.00
+send 0 1
+send 0 2
+to 0 1
+cut 0
+cut 0
+mark 0 ok
+to 0 2
+take 0 1 0
+finish 0 1
+take 0 1 0
+mark 0 ok
+finish 0 1
+restart 0
+";
+
+/// Tells what happens in a schedule, and what the first replica has in the end.
+pub(crate) fn tell(alloc: Global, text: &str, report: &mut Report) -> Result<(), CaseFault> {
+    let mut planned = plan(alloc, text, report)?;
+    for event in &planned.events {
+        tell_step(&mut planned.world, *event, report)?;
+    }
+    tell_columns(&planned.world, report)
+}
+
+// An event happens.
+fn tell_step(world: &mut World, event: Event, report: &mut Report) -> Result<(), CaseFault> {
+    let note = match world.step(event) {
+        Ok(note) => note,
+        Err(StepFault::OutOfMemory) => {
+            report.refused("World::step")?;
+            world.step(event)?
+        }
+    };
+    Ok(push_notes(&[note], &mut report.text)?)
+}
+
+fn tell_columns(world: &World, report: &mut Report) -> Result<(), CaseFault> {
+    if world.replicas() == 0 {
+        return Err(CaseFault::Unfinished);
+    }
+    let columns = world.columns(0).ok_or(CaseFault::Unfinished)?;
+    push_amounts("savings", columns.savings(), &mut report.text)?;
+    push_amounts("checking", columns.checking(), &mut report.text)?;
+    Ok(())
+}
