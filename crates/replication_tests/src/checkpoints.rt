@@ -5,6 +5,7 @@ use sb_rows::CUSTOMERS;
 use std::process::Abort;
 
 mod faults;
+mod flips;
 pub(crate) mod limits;
 mod spellings;
 

@@ -10,6 +10,7 @@ use sb_replica::{Heard, MarkFault, Replica, ReplicaFault, RestartFault};
 use std::process::Abort;
 
 mod cuts;
+mod faults;
 mod frames;
 mod marks;
 mod restarts;
@@ -73,9 +74,9 @@ fn opened_over(rt: &(impl Abort + AllocGlobal), stored: Option<&[u8]>) -> Box<No
     Box::new(rt.alloc(), node).expect(rt, "memory for a node")
 }
 
-fn hears(
+fn hears<S: CheckpointStore>(
     rt: &impl Abort,
-    replica: &mut Replica<MemoryStore>,
+    replica: &mut Replica<S>,
     number: u64,
     line: &str,
     heard: Heard,
@@ -92,13 +93,18 @@ fn accepts_up_to(rt: &impl Abort, replica: &mut Replica<MemoryStore>, last: u64,
     }
 }
 
-fn is_done(rt: &impl Abort, replica: &mut Replica<MemoryStore>, done: Done<Op>, reply: Reply) {
+fn is_done<S: CheckpointStore>(
+    rt: &impl Abort,
+    replica: &mut Replica<S>,
+    done: Done<Op>,
+    reply: Reply,
+) {
     let number = done.number();
     assert!(rt; replica.finish(done).ok() == Some(reply), "{number}");
     assert!(rt; replica.reply(number) == Some(reply), "{number}");
 }
 
-fn runs(rt: &impl Abort, replica: &mut Replica<MemoryStore>, number: u64, reply: Reply) {
+fn runs<S: CheckpointStore>(rt: &impl Abort, replica: &mut Replica<S>, number: u64, reply: Reply) {
     let job = replica.take_at(0).expect(rt, "none is ready");
     assert!(rt; job.number() == number);
     is_done(rt, replica, job.run(), reply);

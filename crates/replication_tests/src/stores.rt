@@ -3,6 +3,7 @@ use sb_checkpoint::{CheckpointStore, StoreFault};
 use std::process::Abort;
 
 mod faulty_files;
+mod faulty_stores;
 mod files;
 mod memory;
 mod pairs;

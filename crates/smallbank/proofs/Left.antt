@@ -1,10 +1,10 @@
 -- A bank after its sessions.
-use Rattle.std.proofs.Common.{◌≡◌, ℕ, ◌+◌, Bool, true, false, Option, List, refl, sym, ap, subst, ◌∙◌, arith}
+use Rattle.std.proofs.Common.{◌≡◌, ℕ, ◌+◌, Bool, true, false, refl, sym, ap, subst, ◌∙◌, arith}
 use Rattle.sb_calls.specs.Behaviour.{declared_cowns, effect_of}
 use Rattle.cown_board.specs.Board.{BoardOf, IsAfterAll, open_of}
 use Rattle.sb_calls.specs.declared.op.Op.{Op}
 use Rattle.sb_checkpoint.specs.Checkpoint.{Spells}
-use Rattle.sb_checkpoint.specs.Stores.{StoreDoes, StoreStep}
+use Rattle.sb_checkpoint.specs.Stores.{StoreDoes, StoreModel}
 use Rattle.sb_replica.specs.Replica.{BesideOf, replies_held}
 use Rattle.sb_sequencer.specs.Numbering.{IsLog}
 use Rattle.bank_server.specs.Primary.{HasAll, KeepsBank, PrimaryOf}
@@ -14,7 +14,7 @@ use Rattle.smallbank.specs.Kept.{IsKept, IsLeft, IsSameBank}
 false_true : false ≡ true → ⊥
 false_true e = cc
 
-module _ {S : Type 0} (slot : S → Option (List ℕ)) (IsHonest : S → Type 0) where
+module _ {S : Type 0} (model : StoreModel S) where
   same_bank : (old new : PrimaryOf S) → KeepsBank old new → IsSameBank old new
   same_bank old new keeps = record { names = ap (λ (b : BesideOf S). b.names) keeps.beside; opening = keeps.opening }
 
@@ -22,7 +22,7 @@ module _ {S : Type 0} (slot : S → Option (List ℕ)) (IsHonest : S → Type 0)
   same_store old new keeps = ap (λ (b : BesideOf S). b.store) keeps.beside
 
   -- before any session
-  pub left_at_first : (saves : Bool) (bank : PrimaryOf S) → IsLog bank.log → HasAll bank → IsLeft slot IsHonest saves 0 bank bank
+  pub left_at_first : (saves : Bool) (bank : PrimaryOf S) → IsLog bank.log → HasAll bank → IsLeft model saves 0 bank bank
   left_at_first saves bank one_each all = record {
     bank = record { names = refl; opening = refl };
     one_each = one_each;
@@ -31,8 +31,8 @@ module _ {S : Type 0} (slot : S → Option (List ℕ)) (IsHonest : S → Type 0)
   }
 
   -- one session more
-  pub left_after_next : (saves : Bool) (count : ℕ) (old mid new : PrimaryOf S) → IsLeft slot IsHonest saves count old mid
-      → IsLeft slot IsHonest saves 1 mid new → IsLeft slot IsHonest saves (count + 1) old new
+  pub left_after_next : (saves : Bool) (count : ℕ) (old mid new : PrimaryOf S) → IsLeft model saves count old mid
+      → IsLeft model saves 1 mid new → IsLeft model saves (count + 1) old new
   left_after_next saves count old mid new first next = record {
     bank = record { names = next.bank.names ∙ first.bank.names; opening = next.bank.opening ∙ first.bank.opening };
     one_each = next.one_each;
@@ -45,8 +45,8 @@ module _ {S : Type 0} (slot : S → Option (List ℕ)) (IsHonest : S → Type 0)
   }
 
   -- what a bank was before it was settled counts
-  pub left_since : (saves : Bool) (count : ℕ) (old mid new : PrimaryOf S) → KeepsBank old mid → IsLeft slot IsHonest saves count mid new
-      → IsLeft slot IsHonest saves count old new
+  pub left_since : (saves : Bool) (count : ℕ) (old mid new : PrimaryOf S) → KeepsBank old mid → IsLeft model saves count mid new
+      → IsLeft model saves count old new
   left_since saves count old mid new keeps left =
       let same = same_store old mid keeps in
       let bank = same_bank old mid keeps in
@@ -54,7 +54,7 @@ module _ {S : Type 0} (slot : S → Option (List ℕ)) (IsHonest : S → Type 0)
         bank = record { names = left.bank.names ∙ bank.names; opening = left.bank.opening ∙ bank.opening };
         one_each = left.one_each;
         all = left.all;
-        kept = subst (λ (store : S). IsKept slot IsHonest saves count store new.node) same left.kept;
+        kept = subst (λ (store : S). IsKept model saves count store new.node) same left.kept;
       }
 
   unsaved : {A : Type 0} (saves : Bool) → saves ≡ false → saves ≡ true → A
@@ -62,7 +62,7 @@ module _ {S : Type 0} (slot : S → Option (List ℕ)) (IsHonest : S → Type 0)
 
   -- nothing is saved
   pub left_unsaved : (saves : Bool) → saves ≡ false → (old new : PrimaryOf S) → KeepsBank old new → IsLog new.log → HasAll new
-      → IsLeft slot IsHonest saves 1 old new
+      → IsLeft model saves 1 old new
   left_unsaved saves none old new keeps one_each all =
       let same = same_store old new keeps in
       record {
@@ -70,38 +70,37 @@ module _ {S : Type 0} (slot : S → Option (List ℕ)) (IsHonest : S → Type 0)
         one_each = one_each;
         all = all;
         kept = record {
-          honest = λ honest. subst IsHonest (sym same) honest;
+          honest = λ honest. subst model.IsHonest (sym same) honest;
           held = λ s some honest. unsaved saves none s;
           stays = λ s. same;
         };
       }
 
-  module _ (failed : S → ℕ) (acts : S → StoreStep → S → Type 0) where
-    -- what was saved is held
-    pub left_saved : (old new : PrimaryOf S) → IsLog old.log → HasAll old → Saves (StoreDoes slot IsHonest failed acts) old.node new.node
-        → (IsHonest old.node.store → HoldsCheckpoint slot old.node new.node)
-        → new ≡ record old { node = record old.node { store = new.node.store } } → IsLeft slot IsHonest true 1 old new
-    left_saved old new one_each all saves held stays =
-        let log : new.log ≡ old.log = ap (λ (p : PrimaryOf S). p.log) stays in
-        let names : new.node.names ≡ old.node.names = ap (λ (p : PrimaryOf S). p.node.names) stays in
-        let board : new.node.board ≡ old.node.board = ap (λ (p : PrimaryOf S). p.node.board) stays in
-        record {
-          bank = record { names = names; opening = ap (λ (b : BoardOf Op). b.opening) board };
-          one_each = subst IsLog (sym log) one_each;
-          all = subst HasAll (sym stays) all;
-          kept = record {
-            honest = λ honest. saves.does_so.honest (saves.puts.put.honest honest);
-            held = λ s some honest. here board (held honest);
-            stays = λ s. absurd (false_true (sym s));
-          };
-        }
-      where
-        here : new.node.board ≡ old.node.board → HoldsCheckpoint slot old.node new.node → HoldsCheckpoint slot new.node new.node
-        here board held = record {
-          idle = subst (λ (b : BoardOf Op). open_of b ≡ 0) (sym board) held.idle;
-          columns = held.columns;
-          after = subst (λ (b : BoardOf Op). IsAfterAll declared_cowns effect_of b held.columns) (sym board) held.after;
-          bytes = held.bytes;
-          spelled = subst (λ (b : BoardOf Op). Spells (record { columns = held.columns; replies = replies_held b }) held.bytes) (sym board) held.spelled;
-          holds = held.holds;
-        }
+  -- what was saved is held
+  pub left_saved : (old new : PrimaryOf S) → IsLog old.log → HasAll old → Saves (StoreDoes model) old.node new.node
+      → (model.IsHonest old.node.store → HoldsCheckpoint model.slot old.node new.node)
+      → new ≡ record old { node = record old.node { store = new.node.store } } → IsLeft model true 1 old new
+  left_saved old new one_each all saves held stays =
+      let log : new.log ≡ old.log = ap (λ (p : PrimaryOf S). p.log) stays in
+      let names : new.node.names ≡ old.node.names = ap (λ (p : PrimaryOf S). p.node.names) stays in
+      let board : new.node.board ≡ old.node.board = ap (λ (p : PrimaryOf S). p.node.board) stays in
+      record {
+        bank = record { names = names; opening = ap (λ (b : BoardOf Op). b.opening) board };
+        one_each = subst IsLog (sym log) one_each;
+        all = subst HasAll (sym stays) all;
+        kept = record {
+          honest = λ honest. saves.does_so.honest (saves.puts.put.honest honest);
+          held = λ s some honest. here board (held honest);
+          stays = λ s. absurd (false_true (sym s));
+        };
+      }
+    where
+      here : new.node.board ≡ old.node.board → HoldsCheckpoint model.slot old.node new.node → HoldsCheckpoint model.slot new.node new.node
+      here board held = record {
+        idle = subst (λ (b : BoardOf Op). open_of b ≡ 0) (sym board) held.idle;
+        columns = held.columns;
+        after = subst (λ (b : BoardOf Op). IsAfterAll declared_cowns effect_of b held.columns) (sym board) held.after;
+        bytes = held.bytes;
+        spelled = subst (λ (b : BoardOf Op). Spells (record { columns = held.columns; replies = replies_held b }) held.bytes) (sym board) held.spelled;
+        holds = held.holds;
+      }

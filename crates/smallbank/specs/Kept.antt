@@ -1,5 +1,6 @@
 -- A bank after its sessions, and what its store holds then.
-use Rattle.std.specs.Prelude.{◌≡◌, ◌≤◌, ℕ, Bool, true, false, Option, List}
+use Rattle.std.specs.Prelude.{◌≡◌, ◌≤◌, ℕ, Bool, true, false}
+use Rattle.sb_checkpoint.specs.Stores.{StoreModel}
 use Rattle.bank_server.specs.Primary.{HasAll, PrimaryOf}
 use Rattle.bank_server.specs.Saving.{HoldsCheckpoint}
 use Rattle.sb_replica.specs.Replica.{ReplicaOf}
@@ -7,10 +8,10 @@ use Rattle.sb_sequencer.specs.Numbering.{IsLog}
 
 -- whatever was saved after each of so many sessions, the store is honest where it was, and then holds the checkpoint of
 -- all that the node carried out; where nothing is saved the store stays as it was
-pub record IsKept {S : Type 0} (slot : S → Option (List ℕ)) (IsHonest : S → Type 0) (saves : Bool) (sessions : ℕ)
-    (store : S) (node : ReplicaOf S) : Type 0 where
-  pub honest : IsHonest store → IsHonest node.store
-  pub held : saves ≡ true → 1 ≤ sessions → IsHonest store → HoldsCheckpoint slot node node
+pub record IsKept {S : Type 0} (model : StoreModel S) (saves : Bool) (sessions : ℕ) (store : S)
+    (node : ReplicaOf S) : Type 0 where
+  pub honest : model.IsHonest store → model.IsHonest node.store
+  pub held : saves ≡ true → 1 ≤ sessions → model.IsHonest store → HoldsCheckpoint model.slot node node
   pub stays : saves ≡ false → node.store ≡ store
 
 -- the bank has the same names, over the same opening
@@ -20,9 +21,9 @@ pub record IsSameBank {S : Type 0} (old new : PrimaryOf S) : Type 0 where
 
 -- the same bank after so many sessions: its log has one number a key, node 0 has carried out all of it, and its store
 -- is as told above
-pub record IsLeft {S : Type 0} (slot : S → Option (List ℕ)) (IsHonest : S → Type 0) (saves : Bool) (sessions : ℕ)
+pub record IsLeft {S : Type 0} (model : StoreModel S) (saves : Bool) (sessions : ℕ)
     (old new : PrimaryOf S) : Type 0 where
   pub bank : IsSameBank old new
   pub one_each : IsLog new.log
   pub all : HasAll new
-  pub kept : IsKept slot IsHonest saves sessions old.node.store new.node
+  pub kept : IsKept model saves sessions old.node.store new.node

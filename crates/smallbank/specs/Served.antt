@@ -9,6 +9,7 @@ use Rattle.sb_calls.specs.Log.{rows_after}
 use Rattle.sb_calls.specs.declared.ask.Key.{Key}
 use Rattle.sb_calls.specs.declared.call.Call.{Call}
 use Rattle.sb_text.specs.Listing.{row_lines}
+use Rattle.sb_checkpoint.specs.Stores.{StoreModel}
 use Rattle.bank_server.specs.Output.{calls_of}
 use Rattle.bank_server.specs.Primary.{PrimaryOf}
 use Rattle.bank_server.specs.SessionFaults.{session_fault_number}
@@ -91,8 +92,8 @@ pub record ServesBank {T : Type 0} (sends : T → Option (List ℕ)) (names : Li
   pub printed : PrintsLines (port_line port ∷ session_lines 1 ends ++ end_lines names opening log) old new
 
 -- a bank with an empty log is served as planned: what was printed and its log are told above, and what it is left as in Kept
-pub record ServesAsPlanned {T S : Type 0} (sends : T → Option (List ℕ)) (slot : S → Option (List ℕ))
-    (IsHonest : S → Type 0) (plan : Plan) (coming : Option (List T)) (before after : PrimaryOf S)
+pub record ServesAsPlanned {T S : Type 0} (sends : T → Option (List ℕ))
+    (model : StoreModel S) (plan : Plan) (coming : Option (List T)) (before after : PrimaryOf S)
     (old new : Option (List ℕ)) : Type 0 where
   pub bank : ServesBank sends before.node.names before.node.board.opening plan.sessions coming after.log old new
-  pub left : IsLeft slot IsHonest plan.saves plan.sessions before after
+  pub left : IsLeft model plan.saves plan.sessions before after

@@ -24,7 +24,7 @@ pub(crate) fn keep<R: Wait, S: CheckpointStore, C: Crew>(
     crew: &mut C,
 ) -> Result<(), ServeFault>
     ensures log { primary.new.log ≡ primary.old.log }
-    ensures left { OnOk result (IsLeft S.slot S.IsHonest saves 1 primary.old primary.new) }
+    ensures left { OnOk result (IsLeft S.model saves 1 primary.old primary.new) }
     ensures nodes { followers.new.nodes ≡ followers.old.nodes }
     ensures fault { IfErr result (IsKeepFault saves) }
 {
@@ -61,7 +61,7 @@ fn save<S: CheckpointStore>(primary: &mut Primary<S>) -> Result<(), ServeFault>
     requires one_each { IsLog primary.old.log }
     requires all { HasAll primary.old }
     ensures log { primary.new.log ≡ primary.old.log }
-    ensures left { OnOk result (IsLeft S.slot S.IsHonest true 1 primary.old primary.new) }
+    ensures left { OnOk result (IsLeft S.model true 1 primary.old primary.new) }
     ensures fault { IfErr result (IsKeepFault true) }
 {
     match primary.save() {

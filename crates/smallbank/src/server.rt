@@ -43,7 +43,7 @@ where
 
     ghost ready = { λ server. HasAll server.primary × (server.primary.log ≡ []) };
 
-    ghost does = { λ server nodes keeps answer. IfOk answer (λ bank. ServesAsPlanned D.Stream.remaining S.slot S.IsHonest
+    ghost does = { λ server nodes keeps answer. IfOk answer (λ bank. ServesAsPlanned D.Stream.remaining S.model
         server.plan (D.coming server.door) server.primary bank.primary (W.contents server.writer) (W.contents bank.writer))
         × IfErr answer (IsServingFault nodes server.plan.saves) };
 
@@ -86,7 +86,7 @@ where
         C: Crew,
         requires all { HasAll self.old.primary }
         requires none { self.old.primary.log ≡ [] }
-        ensures served { OnOk result (ServesAsPlanned D.Stream.remaining S.slot S.IsHonest self.old.plan
+        ensures served { OnOk result (ServesAsPlanned D.Stream.remaining S.model self.old.plan
             (D.coming self.old.door) self.old.primary self.new.primary
             (W.contents self.old.writer) (W.contents self.new.writer)) }
         ensures fault { IfErr result (IsServingFault followers.old.nodes self.old.plan.saves) }
@@ -113,7 +113,7 @@ where
         ensures served { OnOk result (ServesAll D.Stream.remaining self.old.plan.sessions
             (D.coming self.old.door) (D.coming self.new.door) self.old.primary.log self.new.primary.log
             (W.contents self.old.writer) (W.contents self.new.writer)) }
-        ensures left { OnOk result (IsLeft S.slot S.IsHonest self.old.plan.saves self.old.plan.sessions
+        ensures left { OnOk result (IsLeft S.model self.old.plan.saves self.old.plan.sessions
             self.old.primary self.new.primary) }
         ensures nodes { followers.new.nodes ≡ followers.old.nodes }
         ensures plan { self.new.plan ≡ self.old.plan }
@@ -140,7 +140,7 @@ where
         ensures served { OnOk result (ServesNext D.Stream.remaining number
             (D.coming self.old.door) (D.coming self.new.door) self.old.primary.log self.new.primary.log
             (W.contents self.old.writer) (W.contents self.new.writer)) }
-        ensures left { OnOk result (IsLeft S.slot S.IsHonest self.old.plan.saves 1
+        ensures left { OnOk result (IsLeft S.model self.old.plan.saves 1
             self.old.primary self.new.primary) }
         ensures nodes { followers.new.nodes ≡ followers.old.nodes }
         ensures plan { self.new.plan ≡ self.old.plan }

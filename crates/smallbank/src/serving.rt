@@ -82,7 +82,7 @@ where
     ensures names { IfOk result (λ bank. bank.primary.node.names ≡ opening.directory) }
     ensures opening { IfOk result (λ bank. bank.primary.node.board.opening ≡ opening.columns) }
     // What is saved is the checkpoint of all of that log.
-    ensures kept { IfOk result (λ bank. IsKept S.slot S.IsHonest plan.saves plan.sessions store
+    ensures kept { IfOk result (λ bank. IsKept S.model plan.saves plan.sessions store
         bank.primary.node) }
     // Node 0 never strays, and the store is asked only where the plan says so.
     ensures fault { IfErr result (IsServingFault plan.nodes plan.saves) }
@@ -115,7 +115,7 @@ where
     requires workers { server.plan.workers ≤ 16 }
     requires all { HasAll server.primary }
     requires none { server.primary.log ≡ [] }
-    ensures served { IfOk result (λ bank. ServesAsPlanned D.Stream.remaining S.slot S.IsHonest server.plan
+    ensures served { IfOk result (λ bank. ServesAsPlanned D.Stream.remaining S.model server.plan
         (D.coming server.door) server.primary bank.primary (W.contents server.writer) (W.contents bank.writer)) }
     ensures fault { IfErr result (IsServingFault followers server.plan.saves) }
 {

@@ -44,13 +44,12 @@ fn plain(sent: &[u8]) -> Client<'_> {
 struct Forgetful;
 
 impl CheckpointStore for Forgetful {
-    ghost slot = { λ store. None };
-
-    ghost IsHonest = { λ store. ⊥ };
-
-    ghost failed = { λ store. 0 };
-
-    ghost acts = { λ before step after. Unit {0} };
+    ghost model = { record {
+      slot = λ store. None;
+      IsHonest = λ store. ⊥;
+      failed = λ store. 0;
+      acts = λ old step new. Unit {0};
+    } };
 
     fn put(&mut self, _bytes: &[u8]) -> Result<(), StoreFault> {
         Ok(())

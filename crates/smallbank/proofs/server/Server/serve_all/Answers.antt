@@ -9,7 +9,7 @@ pub loop-before-init : goal.loop-before-init
 loop-before-init g c = record {
   served = no_sessions g.D.Stream.Read.remaining (g.D.Door.coming c.args.self.now.door) c.args.self.now.primary.log (g.W.Write.contents c.args.self.now.writer);
   within = omega arith;
-  left = left_at_first g.S.CheckpointStore.slot g.S.CheckpointStore.IsHonest c.args.self.now.plan.saves c.args.self.now.primary c.requires.one_each c.requires.all;
+  left = left_at_first g.S.CheckpointStore.model c.args.self.now.plan.saves c.args.self.now.primary c.requires.one_each c.requires.all;
   plan = refl;
   nodes = refl;
 }
@@ -24,9 +24,9 @@ loop-before-preserved g c =
           (g.W.Write.contents c.args.self.now.writer) (g.W.Write.contents c.loop-before.self.writer) (g.W.Write.contents c.serve_next.new.self.writer)
           kept.served next.served;
       within = omega (arith, c.loop-before-test.true);
-      left = left_after_next g.S.CheckpointStore.slot g.S.CheckpointStore.IsHonest c.args.self.now.plan.saves c.loop-before.before c.args.self.now.primary
+      left = left_after_next g.S.CheckpointStore.model c.args.self.now.plan.saves c.loop-before.before c.args.self.now.primary
           c.loop-before.self.primary c.serve_next.new.self.primary kept.left
-          (subst (λ (plan : Plan). IsLeft g.S.CheckpointStore.slot g.S.CheckpointStore.IsHonest plan.saves 1 c.loop-before.self.primary c.serve_next.new.self.primary)
+          (subst (λ (plan : Plan). IsLeft g.S.CheckpointStore.model plan.saves 1 c.loop-before.self.primary c.serve_next.new.self.primary)
           kept.plan next.left);
       plan = c.serve_next.ensures.plan ∙ kept.plan;
       nodes = c.serve_next.ensures.nodes ∙ kept.nodes;
