@@ -12,6 +12,8 @@ mod disorder;
 #[cfg(test)]
 mod events;
 #[cfg(test)]
+mod every_place;
+#[cfg(test)]
 mod faults;
 #[cfg(test)]
 mod hands;
