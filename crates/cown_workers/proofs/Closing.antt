@@ -1,17 +1,18 @@
 -- A crew's bench, once it is closed.
-use Rattle.std.proofs.Common.{◌≡◌, ℕ, ◌+◌, Option, Some, None, List, [], ◌∷◌, ◌++◌, length, map, replicate, sym, ap, ◌∙◌, subst, arith}
+use Rattle.std.proofs.Common.{◌≡◌, ℕ, ◌+◌, ◌≤◌, Option, Some, None, List, [], ◌∷◌, ◌++◌, length, map, replicate, sym, ap, ◌∙◌, subst, arith}
 use Rattle.std.specs.Prelude.{◌==◌, IfSome, count_by}
 use Rattle.std.specs.List.{All}
 use Rattle.std.specs.Option.{option_to_list}
-use Rattle.std.proofs.lemmas.List.{length-map, get_or-map}
+use Rattle.std.proofs.lemmas.List.{length-map, get_or-map, map-append}
 use Rattle.std.proofs.lemmas.List.Elements.{All-cons, All-map, All-same}
 use Rattle.std.proofs.lemmas.List.Sums.{sum_by-cons}
 use Rattle.cown_bench.specs.BenchPasses.{BenchId, OwnerOf, WorkerOf, picked_of}
-use Rattle.cown_bench.specs.Parting.{AreRising, AreOffered, IsPartedInto, times_picked}
+use Rattle.cown_bench.specs.Parting.{AreRising, AreOffered, IsPartedInto, WeighAlike, times_picked}
 use Rattle.cown_bench.specs.Picks.{WorkOf, PickOf}
 use Rattle.cown_bench.specs.declared.work.Work.TheVariants.{Stop}
 use Rattle.cown_workers.proofs.Picking.{crew_with}
-use Rattle.cown_workers.specs.BenchCrews.{BenchCrewOf, GoesHome, picked_with}
+use Rattle.cown_workers.proofs.Stops.{nothing_left}
+use Rattle.cown_workers.specs.BenchCrews.{BenchCrewOf, EndsAtStop, GoesHome, is_stop, picked_with}
 
 -- as many that are alike in this, where the others are
 module _ {A B X : Type 0} (f : A → X) (g : B → X) (x : X) where
@@ -22,6 +23,12 @@ module _ {A B X : Type 0} (f : A → X) (g : B → X) (x : X) where
 
   pub as_many_alike : (xs : List A) (ys : List B) → map f xs ≡ map g ys → length xs ≡ length ys
   as_many_alike xs ys same = sym (length-map xs f) ∙ ap length same ∙ length-map ys g
+
+-- one more of each
+pub one_more_alike : {A B X : Type 0} (f : A → X) (g : B → X) (xs : List A) (ys : List B) (x : A) (y : B) → map f xs ≡ map g ys → f x ≡ g y
+    → map f (xs ++ x ∷ []) ≡ map g (ys ++ y ∷ [])
+one_more_alike f g xs ys x y same here =
+    map-append f xs (x ∷ []) ∙ ap (λ l. l ++ f x ∷ []) same ∙ ap (λ z. map g ys ++ z ∷ []) here ∙ sym (map-append g ys (y ∷ []))
 
 -- the owner's pass and the workers' are of the bench
 pub passes_here : (bench : BenchId) (hands : Option WorkerOf) (workers passes : List WorkerOf) → passes ≡ option_to_list hands ++ workers
@@ -56,15 +63,20 @@ pub goes_home : (threads count : ℕ) (before owner : OwnerOf) (hands : Option W
     → crew_with threads before.offered hands ≡ crew
     → count ≡ threads → owner ≡ record before { offered = before.offered ++ replicate count Stop }
     → passes ≡ option_to_list hands ++ workers → length workers ≡ threads
-    → IsPartedInto owner.offered (picked_of passes) left → GoesHome crew
-goes_home threads count before owner hands passes workers left crew view counted stops items as_many parted =
+    → IsPartedInto owner.offered (picked_of passes) left → WeighAlike owner.offered (picked_of passes) left
+    → count_by is_stop before.offered ≡ 0 → All (λ (pass : WorkerOf). EndsAtStop pass.picked) workers → 1 ≤ threads
+    → GoesHome crew
+goes_home threads count before owner hands passes workers left crew view counted stops items as_many parted alike none stopped some =
     let offered : owner.offered ≡ before.offered ++ replicate threads Stop =
     ap (λ (o : OwnerOf). o.offered) stops ∙ ap (λ n. before.offered ++ replicate n Stop) counted in
     let whole : IsPartedInto (before.offered ++ replicate threads Stop) (picked_of (option_to_list hands ++ workers)) left =
     subst (λ (x : List WorkOf × List WorkerOf). IsPartedInto x.0 (picked_of x.1) left) (λ i. (offered i, items i)) parted in
+    let weighs : WeighAlike (before.offered ++ replicate threads Stop) (picked_of (option_to_list hands ++ workers)) left =
+    subst (λ (x : List WorkOf × List WorkerOf). WeighAlike x.0 (picked_of x.1) left) (λ i. (offered i, items i)) alike in
+    let nothing : left ≡ [] = nothing_left before.offered threads hands workers left whole weighs none stopped as_many some in
     subst GoesHome view (record {
       by_workers = picked_of workers;
       as_many = length-map workers (λ (w : WorkerOf). w.picked) ∙ as_many;
-      left = left;
-      parted = owner_first (before.offered ++ replicate threads Stop) hands workers left whole;
+      parted = subst (IsPartedInto (before.offered ++ replicate threads Stop) (picked_with hands ∷ picked_of workers)) nothing
+          (owner_first (before.offered ++ replicate threads Stop) hands workers left whole);
     })

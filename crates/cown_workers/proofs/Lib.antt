@@ -5,4 +5,5 @@ mod Counting
 mod Exchanging
 mod Picking
 mod Settled
+mod Stops
 mod Tracing

@@ -1,5 +1,5 @@
 -- What a crew at a bench does at one exchange.
-use Rattle.std.specs.Prelude.{◌≡◌, ℕ, ◌≤◌, ◌⊎◌, Bool, true, Option, Some, None, List, [], ◌∷◌, ◌++◌, length, replicate}
+use Rattle.std.specs.Prelude.{◌≡◌, ℕ, ◌≤◌, ◌⊎◌, Bool, true, false, Option, Some, None, List, [], ◌∷◌, ◌++◌, length, replicate}
 use Rattle.sb_calls.specs.declared.op.Op.{Op}
 use Rattle.cown_board.specs.Job.{DoneOf}
 use Rattle.cown_bench.specs.Parting.{IsPartedInto}
@@ -46,6 +46,11 @@ pub record HandsOverItsOwn (old : BenchCrewOf) (answer : Option (DoneOf Op)) (ne
   pub picks : PicksItself old work new
   pub made : IsMadeOf work answer
 
+-- whether it is a `Stop`
+abbrev pub is_stop : WorkOf → Bool
+is_stop (Run job) = false
+is_stop Stop = true
+
 -- what was laid out and picked before and after an exchange. A job that is kept is laid out behind the others; one
 -- comes back only where at least 1,040 were laid out. What is handed over came from a worker, if any did, and then
 -- nothing changed; or it is what the owner made of what it picked.
@@ -54,12 +59,14 @@ LaysOut old (Kept job) new = new ≡ record old { offered = old.offered ++ Run j
 LaysOut old (CameBack job) new = (new ≡ old) × (1040 ≤ length old.offered)
 LaysOut old (HandedOver answer) new = (new ≡ old) ⊎ HandsOverItsOwn old answer new
 
+-- what was picked last is a `Stop`
+abbrev pub EndsAtStop : List PickOf → Type 0
+EndsAtStop picked = (before : List PickOf) × (place : ℕ) × (picked ≡ before ++ (place, Stop) ∷ [])
+
 -- a crew went home: behind all that it had laid out lay a `Stop` for each worker, and of this each Work was picked
--- once, by its owner or by one worker, or is left
+-- once, by its owner or by one worker; nothing is left
 pub record GoesHome (crew : BenchCrewOf) : Type 0 where
   -- what each worker picked
   pub by_workers : List (List PickOf)
   pub as_many : length by_workers ≡ crew.workers
-  -- what nobody picked
-  pub left : List WorkOf
-  pub parted : IsPartedInto (crew.offered ++ replicate crew.workers Stop) (crew.picked ∷ by_workers) left
+  pub parted : IsPartedInto (crew.offered ++ replicate crew.workers Stop) (crew.picked ∷ by_workers) []

@@ -1,9 +1,9 @@
 //! A crew that works at a bench.
-ghost use Rattle.std.specs.Prelude.{◌≡◌, ℕ, ◌+◌, ◌⊎◌, [], ◌∷◌, ◌++◌, All, length, true, is_some, IfNone, IfSome};
+ghost use Rattle.std.specs.Prelude.{◌≡◌, ℕ, ◌+◌, ◌≤◌, ◌⊎◌, [], ◌∷◌, ◌++◌, All, length, count_by, true, is_some, IfNone, IfSome};
 ghost use Rattle.std.specs.Option.{option_to_list};
 ghost use Rattle.cown_board.specs.Job.{JobOf};
 ghost use Rattle.sb_calls.specs.declared.op.Op.{Op};
-ghost use Rattle.cown_workers.specs.BenchCrews.{picked_with, GoesHome, LaysOut, PicksItself};
+ghost use Rattle.cown_workers.specs.BenchCrews.{is_stop, picked_with, EndsAtStop, GoesHome, LaysOut, PicksItself};
 ghost use Rattle.cown_workers.specs.Draining.{IsOf};
 
 use crate::burst::Burst;
@@ -39,9 +39,9 @@ pub struct BenchCrew<'a, R: Wait + Clock, G> {
 }
 
 impl<'a, R: Wait + Clock, G> Model for BenchCrew<'a, R, G> {
-    ghost use Rattle.std.specs.Prelude.{◌≡◌, ◌+◌, All, length, IfSome, is_some};
+    ghost use Rattle.std.specs.Prelude.{◌≡◌, ◌+◌, ◌≤◌, All, length, count_by, IfSome, is_some};
     ghost use Rattle.std.specs.Option.{option_to_list};
-    ghost use Rattle.cown_workers.specs.BenchCrews.{BenchCrewOf, picked_with};
+    ghost use Rattle.cown_workers.specs.BenchCrews.{BenchCrewOf, is_stop, picked_with};
 
     ghost Value = { BenchCrewOf };
 
@@ -52,11 +52,13 @@ impl<'a, R: Wait + Clock, G> Model for BenchCrew<'a, R, G> {
       picked = picked_with crew.hands;
     } };
 
-    // All passes of the bench are with the crew.
+    // All passes of the bench are with the crew, and no `Stop` was laid out.
     ghost invariant = { λ crew. (crew.desk.pass.bench ≡ crew.desk.bench.now)
         × IfSome crew.hands (λ hands. hands.bench ≡ crew.desk.bench.now)
         × All (λ thread. thread.promise.0.value ≡ crew.desk.bench.now) crew.staff.threads.items
-        × (crew.desk.pass.workers ≡ length (option_to_list crew.hands) + length crew.staff.threads.items) };
+        × (crew.desk.pass.workers ≡ length (option_to_list crew.hands) + length crew.staff.threads.items)
+        × (1 ≤ length crew.staff.threads.items)
+        × (count_by is_stop crew.desk.pass.offered ≡ 0) };
 }
 
 impl<'a, R: Wait + Clock, G: Gate> BenchCrew<'a, R, G> {
@@ -71,6 +73,8 @@ impl<'a, R: Wait + Clock, G: Gate> BenchCrew<'a, R, G> {
         requires hands { IfSome hands (λ hands. hands.bench ≡ desk.bench.now) }
         requires staff { All (λ thread. thread.promise.0.value ≡ desk.bench.now) staff.threads.items }
         requires all { desk.pass.workers ≡ length (option_to_list hands) + length staff.threads.items }
+        requires some { 1 ≤ length staff.threads.items }
+        requires jobs { count_by is_stop desk.pass.offered ≡ 0 }
         ensures { result ≡ record {
           workers = length staff.threads.items;
           owner_helps = is_some hands;
@@ -117,7 +121,7 @@ impl<'a, R: Wait + Clock, G: Gate> BenchCrew<'a, R, G> {
 }
 
 impl<'a, R: Threads + Wait + Clock, G: Gate> BenchCrew<'a, R, G> {
-    // Sends the workers home, and closes the bench once all are gone. What is left there is let go.
+    // Sends the workers home, and closes the bench once all are gone. Nothing is left there.
     pub(crate) fn close(self)
         ensures { GoesHome self.entry }
     {
@@ -144,6 +148,7 @@ impl<'a, R: Wait + Clock, G: Gate> Crew for BenchCrew<'a, R, G> {
         true
     }
 
+    #[tactic(auto, using(crate::proofs::Stops::no_stop_more))]
     fn give(&mut self, job: Job<Op>) -> Result<(), Job<Op>> {
         match self
             .desk
@@ -200,7 +205,8 @@ fn pick_and_carry_out<R: Wait, G: Gate>(
     }
 }
 
-// From outside a ring can't be told from a rest that ends by itself, so who rings is shown here.
+// From outside a ring can't be told from a rest that ends by itself, so who rings is shown here. The worker has a bell
+// of its own, so that each ring of the owner's is there to be heard.
 #[cfg(test)]
 mod tests {
     use super::*;
@@ -208,29 +214,60 @@ mod tests {
     use crate::gate::OpenGate;
     use crate::inbox::open_inbox;
     use crate::jobs::job;
-    use crate::staff::PassOf;
+    use crate::worker::Worker;
+    use cown_bench::OwnerPass;
     use std::alloc::Global;
     use std::process::Abort;
-    use std::snapshot::Snapshot;
+    use std::sync::atomic::{AtomicBool, Ordering};
     use std::thread;
+    use std::thread::Scope;
 
-    // The thread of a worker that gives its pass back at once.
-    fn idle_staff<R: Threads + Abort>(
+    const TURNS: u32 = 1_000_000;
+
+    // Holds a job until it is opened, or for so many turns.
+    #[derive(Default, Drop)]
+    struct Hold {
+        came: AtomicBool,
+        open: AtomicBool,
+    }
+
+    impl Gate for Hold {
+        fn before(&self, _number: u64) {
+            self.came.store(true, Ordering::SeqCst);
+            let _ = comes_true(&self.open);
+        }
+
+        fn after(&self, _number: u64) {}
+    }
+
+    // Waits for a flag, for so many turns, and answers whether it was set.
+    fn comes_true(flag: &AtomicBool) -> bool {
+        for _ in 0..TURNS {
+            if flag.load(Ordering::SeqCst) {
+                return true;
+            }
+            thread::yield_now();
+        }
+        false
+    }
+
+    // A staff of this one worker.
+    fn staff_of<'s, E, R: Wait + Clock + Sync + Abort, G: Gate + Sync>(
+        scope: &'s Scope<'s, E>,
         rt: &R,
         alloc: Global,
-        bench: &Bench,
-        pass: WorkerPass,
+        bench: &'s Bench,
+        worker: Worker<'s, R, G>,
     ) -> Staff
-        requires { pass.bench ≡ bench.now }
+        requires { worker.bench.now ≡ bench.now }
         ensures one { length result.threads.items ≡ 1 }
         ensures bench { All (λ thread. thread.promise.0.value ≡ bench.now) result.threads.items }
     {
-        let mut threads = Vec::with_capacity(alloc, 1).expect(rt, "memory");
-        let passes = Vec::with_capacity(alloc, 2).expect(rt, "memory");
-        let promise = PassOf(Snapshot::of(bench));
-        let thread = thread::spawn_with(rt, promise, move || pass).expect(rt, "a thread");
-        threads.push_reserved(thread);
-        Staff { threads, passes }
+        let mut workers = Vec::with_capacity(alloc, 1).expect(rt, "memory");
+        workers.push_reserved(worker);
+        let staff = Staff::start(scope, alloc, bench, workers).expect(rt, "memory");
+        assert!(rt; staff.len() == 1);
+        staff
     }
 
     fn gives<R: Wait + Clock + Abort>(
@@ -241,51 +278,159 @@ mod tests {
         assert!(rt; crew.give(job(rt, alloc)).is_ok());
     }
 
-    #[test]
-    fn an_owner_that_only_waits_rings_for_each_job(rt: HostRuntime) {
-        let (bench, pass, mut passes) = Bench::new(rt.alloc(), 1).expect(&rt, "memory");
-        let bell = Bell::new(rt.alloc(), 1).expect(&rt, "memory");
-        let (_, inbox) = open_inbox(rt.alloc()).expect(&rt, "memory");
-        bell.lie_down();
-        let worker = passes.pop().expect(&rt, "a pass");
-        let staff = idle_staff(&rt, rt.alloc(), &bench, worker);
+    // What an owner and its worker share.
+    #[derive(Clone, Copy)]
+    struct Shared<'s> {
+        bench: &'s Bench,
+        bell: &'s Bell,
+        other_bell: &'s Bell,
+        hold: &'s Hold,
+    }
+
+    // One picks from the bench, the worker.
+    fn rings_for_each_job<'s, E, R: Threads + Wait + Clock + Sync + Abort>(
+        scope: &'s Scope<'s, E>,
+        rt: &'s R,
+        alloc: Global,
+        shared: Shared<'s>,
+        pass: OwnerPass,
+        mut passes: Vec<WorkerPass>,
+    )
+        requires owner { pass ≡ record {
+          bench = shared.bench.now;
+          workers = length passes.items;
+          offered = [];
+        } }
+        requires workers { All (λ worker. worker.bench ≡ shared.bench.now) passes.items }
+    {
+        assert!(rt; passes.len() == 1);
+        let Shared {
+            bench,
+            bell,
+            other_bell,
+            hold,
+        } = shared;
+        let (outbox, inbox) = open_inbox(alloc).expect(rt, "memory");
+        let worker = Worker {
+            rt,
+            bench,
+            pass: passes.pop().expect(rt, "a pass"),
+            gate: hold,
+            bell: other_bell,
+            outbox,
+        };
+        let staff = staff_of(scope, rt, alloc, bench, worker);
         let desk = Desk {
-            rt: &rt,
-            bench: &bench,
-            bell: &bell,
+            rt,
+            bench,
+            bell,
             pass,
             inbox,
         };
         let mut crew = BenchCrew::new(desk, &OpenGate, None, staff);
-        gives(&rt, rt.alloc(), &mut crew);
-        assert!(rt; bell.hears_a_ring(&rt));
+        gives(rt, alloc, &mut crew);
+        assert!(rt; bell.hears_a_ring(rt));
         // It rings for a `Stop` too.
+        hold.open.store(true, Ordering::SeqCst);
         crew.close();
-        assert!(rt; bell.hears_a_ring(&rt));
+        assert!(rt; bell.hears_a_ring(rt));
     }
 
-    #[test]
-    fn an_owner_that_helps_rings_once_it_was_alone_for_a_while(rt: HostRuntime) {
-        let (bench, pass, mut passes) = Bench::new(rt.alloc(), 2).expect(&rt, "memory");
-        let bell = Bell::new(rt.alloc(), 1).expect(&rt, "memory");
-        let (_outbox, inbox) = open_inbox(rt.alloc()).expect(&rt, "memory");
-        bell.lie_down();
-        let hands = passes.pop().expect(&rt, "a pass");
-        let worker = passes.pop().expect(&rt, "a pass");
-        let staff = idle_staff(&rt, rt.alloc(), &bench, worker);
+    // Two do, the worker, which has a job that is held, and the owner.
+    fn rings_once_it_was_alone<'s, E, R: Threads + Wait + Clock + Sync + Abort>(
+        scope: &'s Scope<'s, E>,
+        rt: &'s R,
+        alloc: Global,
+        shared: Shared<'s>,
+        pass: OwnerPass,
+        mut passes: Vec<WorkerPass>,
+    )
+        requires owner { pass ≡ record {
+          bench = shared.bench.now;
+          workers = length passes.items;
+          offered = [];
+        } }
+        requires workers { All (λ worker. worker.bench ≡ shared.bench.now) passes.items }
+    {
+        assert!(rt; passes.len() == 2);
+        let Shared {
+            bench,
+            bell,
+            other_bell,
+            hold,
+        } = shared;
+        let (outbox, inbox) = open_inbox(alloc).expect(rt, "memory");
+        let hands = passes.pop().expect(rt, "a pass");
+        let worker = Worker {
+            rt,
+            bench,
+            pass: passes.pop().expect(rt, "a pass"),
+            gate: hold,
+            bell: other_bell,
+            outbox,
+        };
+        let staff = staff_of(scope, rt, alloc, bench, worker);
         let desk = Desk {
-            rt: &rt,
-            bench: &bench,
-            bell: &bell,
+            rt,
+            bench,
+            bell,
             pass,
             inbox,
         };
         let mut crew = BenchCrew::new(desk, &OpenGate, Some(hands), staff);
-        gives(&rt, rt.alloc(), &mut crew);
-        gives(&rt, rt.alloc(), &mut crew);
+        gives(rt, alloc, &mut crew);
+        assert!(rt; comes_true(&hold.came));
+        gives(rt, alloc, &mut crew);
+        gives(rt, alloc, &mut crew);
         // To listen takes longer than the owner is alone.
-        assert!(rt; !bell.hears_a_ring(&rt));
+        assert!(rt; !bell.hears_a_ring(rt));
         assert!(rt; crew.next().is_some());
-        assert!(rt; bell.hears_a_ring(&rt));
+        assert!(rt; bell.hears_a_ring(rt));
+        hold.open.store(true, Ordering::SeqCst);
+        crew.close();
+    }
+
+    // An owner that helps or only waits, and a worker that rests as the owner's bell has it.
+    fn with_bench(rt: &(impl Threads + Wait + Clock + Sync + Abort), alloc: Global, helps: bool) {
+        let pickers = if helps { 2 } else { 1 };
+        let (bench, pass, passes) = Bench::new(alloc, pickers).expect(rt, "memory");
+        let bell = Bell::new(alloc, 1).expect(rt, "memory");
+        let other_bell = Bell::new(alloc, 1).expect(rt, "memory");
+        let hold = Hold::default();
+        bell.lie_down();
+        let shared = Shared {
+            bench: &bench,
+            bell: &bell,
+            other_bell: &other_bell,
+            hold: &hold,
+        };
+        thread::scope(
+            thread::scope_env(),
+            rt,
+            move |scope| -> ()
+                requires owner { pass ≡ record {
+                  bench = shared.bench.now;
+                  workers = length passes.items;
+                  offered = [];
+                } }
+                requires workers { All (λ worker. worker.bench ≡ shared.bench.now) passes.items }
+            {
+                if helps {
+                    rings_once_it_was_alone(scope, rt, alloc, shared, pass, passes);
+                } else {
+                    rings_for_each_job(scope, rt, alloc, shared, pass, passes);
+                }
+            },
+        );
+    }
+
+    #[test]
+    fn an_owner_that_only_waits_rings_for_each_job(rt: HostRuntime) {
+        with_bench(&rt, rt.alloc(), false);
+    }
+
+    #[test]
+    fn an_owner_that_helps_rings_once_it_was_alone_for_a_while(rt: HostRuntime) {
+        with_bench(&rt, rt.alloc(), true);
     }
 }

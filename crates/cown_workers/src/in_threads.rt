@@ -23,7 +23,7 @@ use std::time::Clock;
 /// are gone it answers the same. Under a gate that admits the owner, and with fewer than sixteen workers, `f`'s own
 /// thread carries jobs out too while it waits for one.
 ///
-/// All that `f` laid out was picked by then, each once, by one worker or by `f`'s own thread, or it is left.
+/// All that `f` laid out was picked by then, each once, by one worker or by `f`'s own thread; nothing is left.
 ///
 /// Fails where memory is refused or a thread can't be started; then `f` isn't called. Each job stands between two
 /// calls of the gate. What `f` gave and didn't take in is carried out and let go.
@@ -39,7 +39,7 @@ where
     G: Gate + Sync,
     F: FnOnce(&mut BenchCrew<'_, R, G>) -> T,
     requires some { 1 ≤ workers }
-    requires few { workers ≤ 16 }
+    requires few { workers ≤ WORKERS }
     requires callable { F.IsAlwaysCallable f }
     ensures answer { IfOk result (λ answer. (fresh after : BenchCrewOf) ×
         IsFresh workers (G.admits gate.now) fresh × FnOnceReturnsAtMut F.FnOnce f fresh answer after ×
@@ -76,9 +76,9 @@ where
 
 // How many pick from the bench: the workers, and the owner where the gate admits it and the bench has a pass for it.
 fn pickers<G: Gate>(gate: &G, workers: usize) -> usize
-    requires { workers ≤ 16 }
+    requires { workers ≤ WORKERS }
     ensures enough { workers ≤ result }
-    ensures few { result ≤ 16 }
+    ensures few { result ≤ WORKERS }
     ensures owner { workers < result → (result ≡ workers + 1) × (G.admits gate.now ≡ true) }
 {
     if gate.admits_owner() {

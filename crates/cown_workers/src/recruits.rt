@@ -1,7 +1,7 @@
 //! A crew whose workers have no threads yet.
-ghost use Rattle.std.specs.Prelude.{◌≡◌, ◌+◌, ◌≤◌, All, length, is_some, IfOk, IfSome};
+ghost use Rattle.std.specs.Prelude.{◌≡◌, ◌+◌, ◌≤◌, All, length, count_by, is_some, IfOk, IfSome};
 ghost use Rattle.std.specs.Option.{option_to_list};
-ghost use Rattle.cown_workers.specs.BenchCrews.{picked_with};
+ghost use Rattle.cown_workers.specs.BenchCrews.{is_stop, picked_with};
 
 use crate::bench_crew::BenchCrew;
 use crate::crew_fault::CrewFault;
@@ -9,7 +9,7 @@ use crate::desk::Desk;
 use crate::gate::Gate;
 use crate::staff::Staff;
 use crate::worker::Worker;
-use cown_bench::WorkerPass;
+use cown_bench::{WORKERS, WorkerPass};
 use std::alloc::Global;
 use std::marker::Model;
 use std::sync::Wait;
@@ -28,9 +28,10 @@ pub(crate) struct Recruits<'a, R: Wait + Clock, G: Gate> {
 }
 
 impl<'a, R: Wait + Clock, G: Gate> Model for Recruits<'a, R, G> {
-    ghost use Rattle.std.specs.Prelude.{◌≡◌, ◌+◌, ◌≤◌, All, length, IfSome, is_some};
+    ghost use Rattle.std.specs.Prelude.{◌≡◌, ◌+◌, ◌≤◌, All, length, count_by, IfSome, is_some};
     ghost use Rattle.std.specs.Option.{option_to_list};
-    ghost use Rattle.cown_workers.specs.BenchCrews.{BenchCrewOf, picked_with};
+    ghost use Rattle.cown_bench.specs.declared.bench.TheConstants.{WORKERS};
+    ghost use Rattle.cown_workers.specs.BenchCrews.{BenchCrewOf, is_stop, picked_with};
 
     ghost Value = { BenchCrewOf };
 
@@ -44,8 +45,10 @@ impl<'a, R: Wait + Clock, G: Gate> Model for Recruits<'a, R, G> {
     ghost invariant = { λ recruits. (recruits.desk.pass.bench ≡ recruits.desk.bench.now)
         × IfSome recruits.hands (λ hands. hands.bench ≡ recruits.desk.bench.now)
         × All (λ worker. worker.bench.now ≡ recruits.desk.bench.now) recruits.workers.items
-        × (length recruits.workers.items ≤ 16)
-        × (recruits.desk.pass.workers ≡ length (option_to_list recruits.hands) + length recruits.workers.items) };
+        × (length recruits.workers.items ≤ WORKERS)
+        × (recruits.desk.pass.workers ≡ length (option_to_list recruits.hands) + length recruits.workers.items)
+        × (1 ≤ length recruits.workers.items)
+        × (count_by is_stop recruits.desk.pass.offered ≡ 0) };
 }
 
 impl<'a, R: Wait + Clock, G: Gate> Recruits<'a, R, G> {
@@ -60,8 +63,10 @@ impl<'a, R: Wait + Clock, G: Gate> Recruits<'a, R, G> {
         requires owner { desk.pass.bench ≡ desk.bench.now }
         requires hands { IfSome hands (λ hands. hands.bench ≡ desk.bench.now) }
         requires workers { All (λ worker. worker.bench.now ≡ desk.bench.now) workers.items }
-        requires few { length workers.items ≤ 16 }
+        requires some { 1 ≤ length workers.items }
+        requires few { length workers.items ≤ WORKERS }
         requires all { desk.pass.workers ≡ length (option_to_list hands) + length workers.items }
+        requires jobs { count_by is_stop desk.pass.offered ≡ 0 }
         ensures { result ≡ record {
           workers = length workers.entry.items;
           owner_helps = is_some hands;

@@ -2,6 +2,7 @@
 ghost use Rattle.std.specs.Prelude.{◌≡◌, ◌+◌, ◌≤◌, [], ◌++◌, List, All, length, map, vec_capacity, IfOk};
 ghost use Rattle.std.specs.Option.{option_to_list};
 ghost use Rattle.cown_bench.specs.BenchPasses.{WorkerOf};
+ghost use Rattle.cown_workers.specs.BenchCrews.{EndsAtStop};
 
 use crate::gate::Gate;
 use crate::worker::Worker;
@@ -12,12 +13,15 @@ use std::sync::Wait;
 use std::thread::{Promise, PromisedHandle, Scope, Threads};
 use std::time::Clock;
 
-// What the thread of a worker gives back: a pass of this bench.
+// What the thread of a worker gives back: a pass of this bench, with which a `Stop` was picked last.
 #[derive(Drop)]
 pub(crate) struct PassOf(pub(crate) Snapshot<Bench>);
 
 impl Promise<WorkerPass> for PassOf {
-    ghost kept_by = { λ promise pass. pass.bench ≡ promise.0.value };
+    ghost use Rattle.std.specs.Prelude.{◌≡◌};
+    ghost use Rattle.cown_workers.specs.BenchCrews.{EndsAtStop};
+
+    ghost kept_by = { λ promise pass. (pass.bench ≡ promise.0.value) × EndsAtStop pass.picked };
 }
 
 pub(crate) type WorkerThread = PromisedHandle<WorkerPass, PassOf>;
@@ -64,7 +68,8 @@ impl Staff {
     // Joins all threads. What the owner picked with comes back first, if it is there, and then a pass from each.
     pub(crate) fn join<R: Threads>(self, rt: &R, hands: Option<WorkerPass>) -> Vec<WorkerPass>
         ensures { (workers : List WorkerOf) × (result.items ≡ option_to_list hands ++ workers) ×
-            (map (λ pass. pass.bench) workers ≡ map (λ thread. thread.promise.0.value) self.threads.items) }
+            (map (λ pass. pass.bench) workers ≡ map (λ thread. thread.promise.0.value) self.threads.items) ×
+            All (λ pass. EndsAtStop pass.picked) workers }
     {
         let Staff { threads, passes } = self;
         let passes = put_first(passes, hands);
@@ -119,7 +124,8 @@ fn join_each<R: Threads>(
 ) -> Vec<WorkerPass>
     requires room { length passes.items + length threads.items ≤ vec_capacity passes }
     ensures { (workers : List WorkerOf) × (result.items ≡ passes.items ++ workers) ×
-        (map (λ pass. pass.bench) workers ≡ map (λ thread. thread.promise.0.value) threads.items) }
+        (map (λ pass. pass.bench) workers ≡ map (λ thread. thread.promise.0.value) threads.items) ×
+        All (λ pass. EndsAtStop pass.picked) workers }
 {
     for thread in threads {
         passes.push_reserved(thread.join(rt));

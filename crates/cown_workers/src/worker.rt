@@ -1,5 +1,6 @@
 //! What each thread of a crew does.
 ghost use Rattle.std.specs.Prelude.{◌≡◌, ℕ, ◌∷◌, ◌++◌, [], IfNone, IfSome};
+ghost use Rattle.cown_workers.specs.BenchCrews.{EndsAtStop};
 ghost use Rattle.cown_workers.specs.Turns.{Takes};
 
 use crate::back_off::BackOff;
@@ -39,7 +40,8 @@ pub(crate) enum Turn {
 impl<'a, R: Wait + Clock, G: Gate> Worker<'a, R, G> {
     // Works until it picks a `Stop`. Then it gives its pass back.
     pub(crate) fn work(mut self) -> WorkerPass
-        ensures { result.bench ≡ self.entry.bench.now }
+        ensures bench { result.bench ≡ self.entry.bench.now }
+        ensures stopped { EndsAtStop result.picked }
     {
         let rt = self.rt;
         let mut back_off = BackOff::new();
@@ -47,11 +49,13 @@ impl<'a, R: Wait + Clock, G: Gate> Worker<'a, R, G> {
             match self.turn(&mut back_off) {
                 Turn::Waited => {}
                 Turn::HandedOver(_) => back_off = BackOff::new(),
-                Turn::Stopped => break,
+                Turn::Stopped => {
+                    let Worker { pass, .. } = self;
+                    return pass;
+                }
             }
         }
-        let Worker { pass, .. } = self;
-        pass
+        unreachable!()
     }
 
     // One turn. No job that it picks is dropped.

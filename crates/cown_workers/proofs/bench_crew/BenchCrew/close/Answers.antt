@@ -7,12 +7,12 @@ use Rattle.cown_workers.proofs.bench_crew.BenchCrew.close.Goals as goal
 
 pub close-requires-clause-workers : goal.close-requires-clause-workers
 close-requires-clause-workers g c =
-    let (workers, items, benches) = c.join-workers.ensures in
+    let (workers, items, benches, stopped) = c.join-workers.ensures in
     passes_here _ c.self.inside.hands workers _ items c.self.invariant.1 (all_alike _ _ _ _ _ benches c.self.invariant.2)
 
 pub close-requires-clause-all : goal.close-requires-clause-all
 close-requires-clause-all g c =
-    let (workers, items, benches) = c.join-workers.ensures in
+    let (workers, items, benches, stopped) = c.join-workers.ensures in
     omega (
       arith,
       ap length items,
@@ -24,6 +24,6 @@ close-requires-clause-all g c =
 
 pub returns : goal.returns
 returns g c =
-    let (workers, items, benches) = c.join-workers.ensures in
+    let (workers, items, benches, stopped) = c.join-workers.ensures in
     goes_home _ _ _ _ _ _ workers _ _ c.self.view_is c.len.ensures c.send_home-owner.ensures items
-    (as_many_alike _ _ c.self.inside.desk.pass.bench _ _ benches) c.close.ensures.parted
+    (as_many_alike _ _ c.self.inside.desk.pass.bench _ _ benches) c.close.ensures.parted c.close.ensures.weights c.self.invariant.5 stopped c.self.invariant.4
