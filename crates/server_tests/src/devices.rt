@@ -34,6 +34,55 @@ impl Read for Bytewise<'_> {
     }
 }
 
+/// What is the matter with one read.
+#[derive(Clone, Copy, PartialEq, Eq)]
+pub(crate) enum Hitch {
+    /// It gives a byte fewer than the others.
+    Short,
+    /// It is interrupted.
+    Interrupted,
+}
+
+/// Gives a text two bytes at a time, with a hitch at one read, which is so many reads away.
+#[derive(Drop)]
+pub(crate) struct Halting<'a> {
+    pub(crate) left: &'a [u8],
+    pub(crate) away: u32,
+    pub(crate) hitch: Hitch,
+}
+
+impl Halting<'_> {
+    // Whether this read has the hitch.
+    fn halts(&mut self) -> bool {
+        let halts = self.away == 1;
+        self.away = self.away.saturating_sub(1);
+        halts
+    }
+}
+
+impl Read for Halting<'_> {
+    fn read(&mut self, buf: &mut [u8]) -> io::Result<usize> {
+        let halts = self.halts();
+        if halts && self.hitch == Hitch::Interrupted {
+            return Err(io::Error::from(ErrorKind::Interrupted));
+        }
+        match (self.left, buf) {
+            ([first, second, rest @ ..], [one, other, ..]) if !halts => {
+                *one = *first;
+                *other = *second;
+                self.left = rest;
+                Ok(2)
+            }
+            ([first, rest @ ..], [one, ..]) => {
+                *one = *first;
+                self.left = rest;
+                Ok(1)
+            }
+            _ => Ok(0),
+        }
+    }
+}
+
 /// Gives nothing: so many reads are interrupted, and the next one is the end.
 #[derive(Drop)]
 pub(crate) struct Interrupted {

@@ -1,6 +1,6 @@
 //! Runs over readers and writers that fail.
 use crate::bank::expect_bytes;
-use crate::devices::{Bytewise, Narrow};
+use crate::devices::{Bytewise, Halting, Hitch, Narrow};
 use bank_server::{RunFault, run_text};
 use cown_workers::OpenGate;
 use std::alloc::Global;
@@ -50,6 +50,31 @@ fn reads_in_pieces(rt: HostRuntime) {
 fn a_read_that_fails(rt: HostRuntime) {
     for reads in 0..67u32 {
         expect_read(&rt, rt.alloc(), reads, Err(RunFault::Device), b"");
+    }
+}
+
+// A run that is read with a hitch is as any other.
+fn halt_at(
+    rt: &(impl Abort + Threads + Wait + Clock + Sync),
+    alloc: Global,
+    away: u32,
+    hitch: Hitch,
+) {
+    let left = DEPOSIT;
+    let mut reader = Halting { left, away, hitch };
+    let mut written: Vec<u8> = Vec::new(alloc);
+    let ended = run_text(rt, alloc, &mut reader, &mut written, 1, 0, &OpenGate);
+    expect_ended(rt, ended, Ok(()), away as usize);
+    let output = b"1 done\na 1.00 2.50\ntotal 3.50\n";
+    expect_bytes(rt, &written, output, "what is written");
+}
+
+// The 33 bytes are 17 reads, and one more is the end.
+#[test]
+fn a_read_with_a_hitch(rt: HostRuntime) {
+    for away in 1..19u32 {
+        halt_at(&rt, rt.alloc(), away, Hitch::Short);
+        halt_at(&rt, rt.alloc(), away, Hitch::Interrupted);
     }
 }
 

@@ -1,6 +1,6 @@
 //! Clients whose connections break.
-use crate::bank::{expect, joined, opened};
-use crate::devices::{Bytewise, Interrupted, Narrow};
+use crate::bank::{expect, expect_bytes, joined, opened};
+use crate::devices::{Bytewise, Halting, Hitch, Interrupted, Narrow};
 use crate::wire::{BALANCE, DEPOSIT, DONE, FLUSH, SHOWN, serve};
 use bank_server::{Primary, SessionFault, serve_session};
 use cown_workers::InlineCrew;
@@ -69,10 +69,38 @@ fn hang_up_after(rt: &impl Abort, alloc: Global, room: usize, primary: &mut Prim
 
 #[test]
 fn a_client_that_hangs_up(rt: HostRuntime) {
-    for room in 0..42usize {
+    for room in 0..63usize {
         let mut primary = opened(&rt, rt.alloc());
         hang_up_after(&rt, rt.alloc(), room, &mut primary);
         serve(&rt, rt.alloc(), &mut *primary, SENT, TOLD);
+    }
+}
+
+// A session that is read with a hitch is as any other.
+fn halt_at(rt: &impl Abort, alloc: Global, away: u32, hitch: Hitch) {
+    let mut primary = opened(rt, alloc);
+    let sent = joined(rt, alloc, SENT);
+    let told = joined(rt, alloc, TOLD);
+    let left = sent.as_slice();
+    let mut reader = Halting { left, away, hitch };
+    let mut written: Vec<u8> = Vec::new(alloc);
+    let ended = serve_session(
+        alloc,
+        &mut reader,
+        &mut written,
+        &mut primary,
+        &mut InlineCrew,
+    );
+    expect(rt, ended == Ok(()), "how the session ends");
+    expect_bytes(rt, &written, &told, "what the client is told");
+}
+
+// The 66 bytes are 33 reads, and one more is the end.
+#[test]
+fn a_read_with_a_hitch(rt: HostRuntime) {
+    for away in 1..35u32 {
+        halt_at(&rt, rt.alloc(), away, Hitch::Short);
+        halt_at(&rt, rt.alloc(), away, Hitch::Interrupted);
     }
 }
 

@@ -28,13 +28,12 @@ pub(crate) struct Habitual {
 impl CheckpointStore for Habitual {
     ghost use Rattle.std.specs.Prelude.{None, ◌^◌, ◌-◌};
 
-    ghost slot = { λ store. None };
-
-    ghost IsHonest = { λ store. ⊥ };
-
-    ghost failed = { λ store. 2 ^ 64 - 1 };
-
-    ghost acts = { λ old step new. Unit {0} };
+    ghost model = { record {
+      slot = λ store. None;
+      IsHonest = λ store. ⊥;
+      failed = λ store. 2 ^ 64 - 1;
+      acts = λ old step new. Unit {0};
+    } };
 
     fn put(&mut self, bytes: &[u8]) -> Result<(), StoreFault> {
         if let Habit::FailsPuts(fault) = self.habit {
