@@ -81,7 +81,7 @@ impl World {
     /// It takes no memory, so it never fails: whatever happened, no replica is stuck.
     pub fn settle(&mut self, replica: u32) -> u32
         requires { replica < length self.old.nodes }
-        // The world moves as the reference machine does by these events, and the last of them are done until it is idle.
+        // The world moves as the reference machine does by these events, the last of them until it is idle.
         ensures moves { (notes : List AnyNote) × Plays self.old (settling self.old replica) notes self.new }
         ensures until { IsBusyBefore self.old replica }
         ensures count { result ≡ length (settling self.old replica) }
