@@ -32,6 +32,8 @@ mod stories;
 #[cfg(test)]
 mod texts;
 #[cfg(test)]
+mod traces;
+#[cfg(test)]
 mod workers;
 #[cfg(test)]
 mod worlds;
