@@ -32,6 +32,8 @@ mod rests;
 #[cfg(test)]
 mod threads;
 #[cfg(test)]
+mod traces;
+#[cfg(test)]
 mod two_threads;
 #[cfg(test)]
 mod workers;

@@ -36,6 +36,8 @@ mod stories;
 #[cfg(test)]
 mod texts;
 #[cfg(test)]
+mod traces;
+#[cfg(test)]
 mod workers;
 #[cfg(test)]
 mod worlds;

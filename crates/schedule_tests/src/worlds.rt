@@ -6,7 +6,7 @@ use schedule_text::read_event;
 use std::alloc::Global;
 use std::process::Abort;
 
-const OPENING: &str = "alice 100.00 50.00\nbob 0.00 20.00\ncarol 10.00 0.00\nbegin\n";
+pub(crate) const OPENING: &str = "alice 100.00 50.00\nbob 0.00 20.00\ncarol 10.00 0.00\nbegin\n";
 
 // A world of the three, with so many replicas of so many workers.
 pub(crate) fn world_of(rt: &impl Abort, alloc: Global, nodes: u8, workers: u8) -> Box<World> {

@@ -1,0 +1,93 @@
+//! Crews whose exchanges are noted.
+ghost use Rattle.std.specs.Prelude.{◌≡◌, ◌≤◌, List, false, length, IsOk, OnOk, MatchResult};
+ghost use Rattle.cown_board.specs.Board.{open_of};
+ghost use Rattle.cown_workers.specs.Draining.{CrewStep, Drains, IsDrained, IsGivenUp, NoneOut};
+ghost use Rattle.cown_workers.specs.Traces.{AreTraced};
+
+use crate::bank::board_of;
+use crate::crews::{Desk, Keeper, Pile};
+use cown_board::{Board, Runs};
+use cown_workers::{Crew, CrewGone, InlineCrew, Notice, Traced, drain, notices_of_exchanges};
+use sb_calls::Op;
+use std::alloc::Global;
+use std::process::Abort;
+
+// Draining by a traced crew keeps what draining keeps, and of the exchanges with which it does the first 64 are noted.
+fn drain_traced<R: Runs, C: Crew>(runs: &mut R, crew: &mut Traced<C>) -> Result<(), CrewGone>
+    requires { length crew.old.notices ≤ 64 }
+    ensures exchanged { (steps : List CrewStep) × (AreTraced C.acts crew.old steps crew.new × MatchResult result
+        (λ done. IsDrained (R.board runs.old) steps (R.board runs.new))
+        (λ gone. IsGivenUp (R.board runs.old) steps (R.board runs.new))) }
+    ensures ok { OnOk result (open_of (R.board runs.new) ≡ 0) }
+    ensures log { Drains (R.board runs.old) (R.board runs.new) }
+    ensures sure { C.keeps ≡ false → NoneOut (R.board runs.old) → IsOk result }
+{
+    notices_of_exchanges::<C>();
+    drain(runs, crew)
+}
+
+// Draining these calls by this crew ends so, and these exchanges are noted.
+fn are_noted<C: Crew + Drop>(
+    rt: &impl Abort,
+    alloc: Global,
+    crew: C,
+    lines: &[&str],
+    ended: Result<(), CrewGone>,
+    wanted: &[Notice],
+) {
+    let mut board = board_of(rt, alloc, lines);
+    let mut traced = Traced::new(crew);
+    assert!(rt; drain_traced(&mut *board, &mut traced) == ended);
+    assert!(rt; traced.notices() == wanted);
+}
+
+const LINES: [&str; 3] = ["deposit bob 5.00", "balance bob", "balance carol"];
+
+#[test]
+fn what_a_crew_does_is_noted(rt: HostRuntime) {
+    let in_place = [Notice::Back(1), Notice::Back(2), Notice::Back(3)];
+    are_noted(&rt, rt.alloc(), InlineCrew, &LINES, Ok(()), &in_place);
+    // It keeps the first, which the second waits for, and lets the third go.
+    let kept = [
+        Notice::Given(1),
+        Notice::Back(3),
+        Notice::Came(1),
+        Notice::Given(2),
+        Notice::Came(2),
+    ];
+    are_noted(&rt, rt.alloc(), Desk::new(), &LINES, Ok(()), &kept);
+    // What isn't handed over isn't noted.
+    let gone = [Notice::Given(1), Notice::Back(3)];
+    let ended = Err(CrewGone);
+    are_noted(&rt, rt.alloc(), Keeper::after(0), &LINES, ended, &gone);
+}
+
+// This crew keeps each job that it is given, or hands each back. Either way the 65th comes back, and nothing is noted of
+// it, nor of what is handed over then.
+fn notes_no_more_than_64<C: Crew + Drop>(rt: &impl Abort, alloc: Global, crew: C, keeps: bool) {
+    let mut board = board_of(rt, alloc, &["balance zed"; 66]);
+    let mut traced = Traced::new(crew);
+    for _ in 0..64 {
+        gives(rt, &mut board, &mut traced, keeps);
+    }
+    let last = if keeps { Notice::Given(64) } else { Notice::Back(64) };
+    for _ in 0..2 {
+        assert!(rt; traced.notices().len() == 64);
+        assert!(rt; traced.notices().last() == Some(&last));
+        gives(rt, &mut board, &mut traced, false);
+        assert!(rt; traced.next().is_some() == keeps);
+    }
+}
+
+// The first that is ready is given to a crew, which keeps it or hands it back.
+fn gives(rt: &impl Abort, board: &mut Board<Op>, crew: &mut impl Crew, keeps: bool) {
+    let job = board.take_at(0).expect(rt, "a ready one");
+    assert!(rt; crew.give(job).is_ok() == keeps);
+}
+
+#[test]
+fn a_full_trace_hands_each_job_back(rt: HostRuntime) {
+    notes_no_more_than_64(&rt, rt.alloc(), InlineCrew, false);
+    let pile = Pile::of(rt.alloc(), 66).expect(&rt, "memory");
+    notes_no_more_than_64(&rt, rt.alloc(), pile, true);
+}
