@@ -1,9 +1,11 @@
 -- How many replicas and workers a schedule may have.
 use Rattle.std.specs.Prelude.{ℕ, ◌≤◌}
+use Rattle.cown_bench.specs.declared.bench.TheConstants.{WORKERS}
+use Rattle.sb_sequencer.specs.declared.sequencer.TheConstants.{REPLICAS}
 
--- from 1 to 8 replicas, with 1 to 16 workers each
+-- a replica or more, with a worker or more each, as many as a bank may have
 pub record IsHead (nodes workers : ℕ) : Type 0 where
   pub some_node : 1 ≤ nodes
-  pub few_nodes : nodes ≤ 8
+  pub few_nodes : nodes ≤ REPLICAS
   pub some_worker : 1 ≤ workers
-  pub few_workers : workers ≤ 16
+  pub few_workers : workers ≤ WORKERS

@@ -5,7 +5,9 @@ use Rattle.sb_rows.specs.Balances.{Balances}
 use Rattle.sb_rows.specs.Opening.{opening_of, ◌>>=◌, at_line}
 use Rattle.sb_rows.specs.Text.{lines, words, after_line}
 use Rattle.sb_rows.specs.declared.fault.LineFault.{LineFault}
+use Rattle.cown_bench.specs.declared.bench.TheConstants.{WORKERS}
 use Rattle.sb_calls.specs.Ask.{read_number}
+use Rattle.sb_sequencer.specs.declared.sequencer.TheConstants.{REPLICAS}
 use Rattle.schedule_text.specs.EventText.{event_of}
 use Rattle.schedule_text.specs.declared.event.Event.{Event}
 use Rattle.schedule_text.specs.declared.fault.EventFault.{EventFault}
@@ -20,11 +22,11 @@ pub record ScheduleOf : Type 0 where
   pub balances : Balances
   pub events : List Event
 
--- ---- the head: `nodes N workers W`, with N from 1 to 8 and W from 1 to 16
+-- ---- the head: `nodes N workers W`, with N from 1 to as many replicas as a bank may have, and W to as many workers
 
 abbrev pub head_with : Option ℕ → Option ℕ → Option (ℕ × ℕ)
 head_with (Some nodes) (Some workers) =
-    if nat_le 1 nodes && nat_le nodes 8 && nat_le 1 workers && nat_le workers 16 then Some (nodes, workers) else None
+    if nat_le 1 nodes && nat_le nodes REPLICAS && nat_le 1 workers && nat_le workers WORKERS then Some (nodes, workers) else None
 head_with (Some nodes) None = None
 head_with None workers = None
 

@@ -6,14 +6,16 @@ ghost use Rattle.schedule_text.specs.Reads.{Blames};
 ghost use Rattle.schedule_text.specs.ScheduleText.{head_of_lines, head_of_words, head_with};
 
 use crate::fault::{ScheduleLineFault, TextFault};
+use cown_bench::WORKERS;
 use sb_calls::read_number;
 use sb_rows::{Words, next_line};
+use sb_sequencer::REPLICAS;
 
 // How many replicas there may be.
-const MOST_NODES: u8 = 8;
+const MOST_NODES: u8 = REPLICAS as u8;
 
 // How many workers each may have.
-const MOST_WORKERS: u8 = 16;
+const MOST_WORKERS: u8 = WORKERS as u8;
 
 // A text whose first line is no head, or that has no line.
 const BAD_HEAD: TextFault = TextFault::Line {

@@ -2,6 +2,10 @@
 use Rattle.std.specs.Prelude.{◌≡◌, ◌≤◌, ◌⊎◌, ℕ, Bool, Option, Some, None, List, [], ◌∷◌, ◌++◌, String, codes, map, string_bytes, is_some, IfSome}
 use Rattle.std.specs.Borrow.{Bor}
 use Rattle.std.specs.Str.Parse.{IsNumeral, digits_value, without_leading_plus}
+use Rattle.clap.specs.declared.error.kind.ErrorKind.{ErrorKind}
+use Rattle.clap.specs.declared.error.kind.ErrorKind.TheVariants.{ValueValidation, OutOfMemory}
+use Rattle.cown_bench.specs.declared.bench.TheConstants.{WORKERS}
+use Rattle.sb_sequencer.specs.declared.sequencer.TheConstants.{REPLICAS}
 use Rattle.smallbank.specs.declared.serving.Plan.{Plan}
 use Rattle.smallbank.specs.declared.words.Words.{Words}
 use Rattle.smallbank.specs.declared.words.Words.TheVariants.{Run, Play, Serve}
@@ -19,16 +23,24 @@ module _ {A : Type 0} where
   Names (Serve port plan store) (name ∷ []) = ⊥
   Names (Serve port plan store) (name ∷ program ∷ options) = string_bytes program ≡ codes "serve"
 
--- there are 1 to 1,000 sessions, 1 to 8 nodes and 0 to 16 workers, and a client may be waited for, for a day at most
+-- there are 1 to 1,000 sessions, a node or more and any workers, as many as a bank may have, and a client may be waited
+-- for, for a day at most
 abbrev pub IsPlanInRange : Plan → Type 0
-IsPlanInRange plan = (1 ≤ plan.sessions) × (plan.sessions ≤ 1000) × (1 ≤ plan.nodes) × (plan.nodes ≤ 8)
-    × (plan.workers ≤ 16) × IfSome plan.patience (λ seconds. (1 ≤ seconds) × (seconds ≤ 86400))
+IsPlanInRange plan = (1 ≤ plan.sessions) × (plan.sessions ≤ 1000) × (1 ≤ plan.nodes) × (plan.nodes ≤ REPLICAS)
+    × (plan.workers ≤ WORKERS) × IfSome plan.patience (λ seconds. (1 ≤ seconds) × (seconds ≤ 86400))
 
--- a bank has 1 to 8 nodes and 0 to 16 workers, a port is below 2^16, and a bank that is served saves where it has a store
+-- a bank has a node or more and any workers, as many as it may have, a port is below 2^16, and a bank that is served
+-- saves where it has a store
 abbrev pub InRange : Words → Type 0
-InRange (Run nodes workers) = (1 ≤ nodes) × (nodes ≤ 8) × (workers ≤ 16)
+InRange (Run nodes workers) = (1 ≤ nodes) × (nodes ≤ REPLICAS) × (workers ≤ WORKERS)
 InRange Play = Unit {0}
 InRange (Serve port plan store) = (port ≤ 65535) × IsPlanInRange plan × (plan.saves ≡ is_some store)
+
+-- the words are wrong, or memory was refused
+abbrev pub IsRefusal : ErrorKind → Type 0
+IsRefusal ValueValidation = Unit {0}
+IsRefusal OutOfMemory = Unit {0}
+IsRefusal other = ⊥
 
 -- a value stands for an option: it is the next word, or it follows `=` in the same one
 abbrev pub Stands : List ℕ → List ℕ → List (List ℕ) → Type 0

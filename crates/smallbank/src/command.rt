@@ -46,7 +46,7 @@ struct Count {
 const NODES: Count = Count {
     name: "nodes",
     first: 1,
-    last: 8,
+    last: sb_sequencer::REPLICAS as i64,
     shown: "1..8",
     standard: Some("1"),
     help: "How many nodes carry the calls out, each in a thread; all must end alike",
@@ -55,7 +55,7 @@ const NODES: Count = Count {
 const WORKERS: Count = Count {
     name: "workers",
     first: 0,
-    last: 16,
+    last: cown_bench::WORKERS as i64,
     shown: "0..16",
     standard: Some("0"),
     help: "How many threads work for the first node; with 0 it works alone",

@@ -1,5 +1,5 @@
 //! What a bank does after a session.
-ghost use Rattle.std.specs.Prelude.{◌≡◌, false, true, IfErr, OnOk};
+ghost use Rattle.std.specs.Prelude.{◌≡◌, ◌≤◌, false, length, true, IfErr, OnOk};
 ghost use Rattle.bank_server.specs.Primary.{HasAll, KeepsBank};
 ghost use Rattle.sb_sequencer.specs.Numbering.{IsLog};
 ghost use Rattle.smallbank.specs.Kept.{IsLeft};
@@ -25,6 +25,8 @@ pub(crate) fn keep<R: Wait, S: CheckpointStore, C: Crew>(
 ) -> Result<(), ServeFault>
     ensures log { primary.new.log ≡ primary.old.log }
     ensures left { OnOk result (IsLeft S.model saves 1 primary.old primary.new) }
+    // The followers were told of all of the log.
+    ensures told { OnOk result (length primary.new.log ≤ followers.new.told) }
     ensures nodes { followers.new.nodes ≡ followers.old.nodes }
     ensures fault { IfErr result (IsKeepFault saves) }
 {

@@ -10,8 +10,10 @@ use crate::opening::whole_opening;
 use crate::serve_fault::ServeFault;
 use crate::serving::{Plan, serve};
 use bank_server::RunFault;
+use cown_bench::WORKERS;
 use sb_checkpoint::{CheckpointStore, FileStore, FileWithSpare, FolderFile, MemoryStore};
 use sb_rows::Opening;
+use sb_sequencer::REPLICAS;
 use sb_text::read_all;
 use std::alloc::Global;
 use std::io::{Read, Write};
@@ -36,8 +38,8 @@ pub fn serve_program<H>(
 ) -> Result<(), ServeFault>
 where
     H: Threads + Wait + Clock + Sync + Net,
-    requires nodes { plan.nodes ≤ 8 }
-    requires workers { plan.workers ≤ 16 }
+    requires nodes { plan.nodes ≤ REPLICAS }
+    requires workers { plan.workers ≤ WORKERS }
     ensures fault { IfErr result (IsProgramFault port plan.nodes plan.saves (is_some folder.entry)) }
 {
     let alloc = rt.alloc();
@@ -87,8 +89,8 @@ fn serve_at<H, S>(
 where
     H: Threads + Wait + Clock + Sync + Net,
     S: CheckpointStore,
-    requires nodes { plan.nodes ≤ 8 }
-    requires workers { plan.workers ≤ 16 }
+    requires nodes { plan.nodes ≤ REPLICAS }
+    requires workers { plan.workers ≤ WORKERS }
     ensures fault { IfErr result (IsProgramFault port plan.nodes plan.saves false) }
 {
     let door = ListenerDoor::new(threads, listen(threads, port)?);

@@ -12,7 +12,7 @@ use crate::keeping::keep;
 use crate::printing::{print_port, print_rows, print_session};
 use crate::serve_fault::ServeFault;
 use crate::serving::{Plan, Served};
-use bank_server::{Duty, Followers, Primary, RunFault, SessionFault};
+use bank_server::{Duty, Followers, Headcount, Primary, RunFault, SessionFault};
 use cown_workers::Crew;
 use sb_checkpoint::CheckpointStore;
 use std::alloc::Global;
@@ -43,7 +43,7 @@ where
 
     ghost ready = { λ server. HasAll server.primary × (server.primary.log ≡ []) };
 
-    ghost does = { λ server nodes keeps answer. IfOk answer (λ bank. ServesAsPlanned D.Stream.remaining S.model
+    ghost does = { λ server nodes workers keeps answer. IfOk answer (λ bank. ServesAsPlanned D.Stream.remaining S.model
         server.plan (D.coming server.door) server.primary bank.primary (W.contents server.writer) (W.contents bank.writer))
         × IfErr answer (IsServingFault nodes server.plan.saves) };
 
@@ -56,7 +56,7 @@ where
     ) -> Result<Served<S, W>, ServeFault>
     where
         R: Threads + Wait + Clock,
-        C: Crew,
+        C: Crew + Headcount,
     {
         let mut server = self;
         server.serve_whole(rt, followers, crew)?;

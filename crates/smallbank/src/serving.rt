@@ -10,9 +10,11 @@ use crate::door::Door;
 use crate::serve_fault::ServeFault;
 use crate::server::Server;
 use bank_server::{Primary, ReadyFollowers, with_team};
+use cown_bench::WORKERS;
 use cown_workers::OpenGate;
 use sb_checkpoint::CheckpointStore;
 use sb_rows::Opening;
+use sb_sequencer::REPLICAS;
 use std::alloc::Global;
 use std::io::{Read, Write};
 use std::net::OpenStream;
@@ -71,8 +73,8 @@ where
     D::Stream: Read + Write + OpenStream,
     S: CheckpointStore,
     W: Write + Drop,
-    requires nodes { plan.nodes ≤ 8 }
-    requires workers { plan.workers ≤ 16 }
+    requires nodes { plan.nodes ≤ REPLICAS }
+    requires workers { plan.workers ≤ WORKERS }
     // The log is that of the clients' sessions, and the rows that are printed are those after it.
     ensures served { IfOk result (λ bank. ServesBank D.Stream.remaining opening.directory
         opening.columns plan.sessions (D.coming door) bank.primary.log
@@ -111,13 +113,13 @@ where
     D::Stream: Read + Write + OpenStream,
     S: CheckpointStore,
     W: Write + Drop,
-    requires nodes { followers ≤ 8 }
-    requires workers { server.plan.workers ≤ 16 }
+    requires nodes { followers.nodes ≤ REPLICAS }
+    requires workers { server.plan.workers ≤ WORKERS }
     requires all { HasAll server.primary }
     requires none { server.primary.log ≡ [] }
     ensures served { IfOk result (λ bank. ServesAsPlanned D.Stream.remaining S.model server.plan
         (D.coming server.door) server.primary bank.primary (W.contents server.writer) (W.contents bank.writer)) }
-    ensures fault { IfErr result (IsServingFault followers server.plan.saves) }
+    ensures fault { IfErr result (IsServingFault followers.nodes server.plan.saves) }
 {
     let (alloc, workers) = (server.alloc, server.plan.workers);
     with_team(rt, alloc, followers, workers, &OpenGate, server)?

@@ -1,12 +1,15 @@
 //! The program's words.
-ghost use Rattle.std.specs.Prelude.{◌≡◌, IfOk, IfSome};
-ghost use Rattle.smallbank.specs.Words.{InRange, IsPlanOf, IsRunOf, IsServeOf, Names, Says};
+ghost use Rattle.std.specs.Prelude.{◌≡◌, IfErr, IfOk, IfSome};
+ghost use Rattle.clap.specs.Values.{kind_of};
+ghost use Rattle.smallbank.specs.Words.{InRange, IsPlanOf, IsRefusal, IsRunOf, IsServeOf, Names, Says};
 
 use crate::command::command;
 use crate::options::{count, maybe, number, value};
 use crate::serving::Plan;
 use clap::error::ErrorKind;
 use clap::{Command, Error};
+use cown_bench::WORKERS;
+use sb_sequencer::REPLICAS;
 use std::alloc::{AllocError, Global};
 
 // What is told of words that clap takes and `named` doesn't. None are known.
@@ -57,15 +60,20 @@ pub fn read_words<'a>(alloc: Global, words: &'a [String]) -> Result<Words<'a>, E
     }
 }
 
-/// What is told where a word isn't UTF-8.
-pub fn refuse_bytes(alloc: Global) -> Error {
+/// What is told where a word isn't UTF-8: that the words are wrong, or that memory was refused.
+pub fn refuse_bytes(alloc: Global) -> Error
+    ensures { IsRefusal (kind_of result) }
+{
     match refusal(alloc, NO_TEXT) {
         Ok(error) | Err(error) => error,
     }
 }
 
 // A fault of the words with this text.
-fn refusal(alloc: Global, text: &str) -> Result<Error, Error> {
+fn refusal(alloc: Global, text: &str) -> Result<Error, Error>
+    ensures ok { IfOk result (λ error. kind_of error ≡ ErrorKind.ValueValidation) }
+    ensures err { IfErr result (λ error. kind_of error ≡ ErrorKind.OutOfMemory) }
+{
     let mut command = boxed_command(alloc)?;
     Ok(command.error(ErrorKind::ValueValidation, text)?)
 }
@@ -111,7 +119,7 @@ fn run<'a>(options: &'a [String]) -> Option<Words<'a>>
 {
     let nodes = count(options, "--nodes", 1)?;
     let workers = count(options, "--workers", 0)?;
-    if (1..=8).contains(&nodes) && workers <= 16 {
+    if (1..=REPLICAS).contains(&nodes) && workers <= WORKERS {
         Some(Words::Run { nodes, workers })
     } else {
         None
@@ -143,7 +151,7 @@ fn plan_of(options: &[String], saves: bool) -> Option<Plan>
         .patience
         .is_none_or(|seconds| (1..=86_400).contains(&seconds));
     let is_served = (1..=1_000).contains(&plan.sessions) && is_patient;
-    if is_served && (1..=8).contains(&plan.nodes) && plan.workers <= 16 {
+    if is_served && (1..=REPLICAS).contains(&plan.nodes) && plan.workers <= WORKERS {
         Some(plan)
     } else {
         None

@@ -8,8 +8,10 @@ use crate::serve_fault::ServeFault;
 use crate::server::Server;
 use crate::serving::{Plan, serve, serve_beside};
 use bank_server::{Primary, ReadyFollowers, RunFault};
+use cown_bench::WORKERS;
 use sb_checkpoint::{CheckpointStore, How, MemoryStore, StoreFault};
 use sb_rows::read_opening;
+use sb_sequencer::REPLICAS;
 use std::alloc::Global;
 use std::process::Abort;
 use std::sync::Wait;
@@ -75,8 +77,8 @@ fn expect<S: CheckpointStore>(
     printed: &str,
     told: &[u8],
 ) -> usize
-    requires nodes { plan.nodes ≤ 8 }
-    requires workers { plan.workers ≤ 16 }
+    requires nodes { plan.nodes ≤ REPLICAS }
+    requires workers { plan.workers ≤ WORKERS }
 {
     let all = Told::new(alloc);
     let door = Doorway::of(alloc, clients, &all).expect(rt, "a door");
@@ -195,13 +197,14 @@ fn stores_that_fail(rt: HostRuntime) {
 }
 
 // A bank with this opening.
-fn bank_of(rt: &impl Abort, alloc: Global, opening: &[u8]) -> Primary<MemoryStore>
-    ensures log { result.log ≡ [] }
-    ensures all { HasAll result }
-    ensures opened { IsOpened result.node.board }
+fn bank_of(rt: &impl Abort, alloc: Global, opening: &[u8]) -> Box<Primary<MemoryStore>>
+    ensures log { result.value.log ≡ [] }
+    ensures all { HasAll result.value }
+    ensures opened { IsOpened result.value.node.board }
 {
     let opening = read_opening(alloc, opening).expect(rt, "an opening");
-    Primary::open(alloc, opening, MemoryStore::new(alloc)).expect(rt, "a bank")
+    let bank = Primary::open(alloc, opening, MemoryStore::new(alloc)).expect(rt, "a bank");
+    Box::new(alloc, bank).expect(rt, "a box")
 }
 
 // Serves a client who is told, beside followers that begin with this opening, and gives how that ends.
@@ -211,7 +214,7 @@ fn serve_one_beside(
     beside: &[u8],
     nodes: usize,
 ) -> Result<(), ServeFault>
-    requires { nodes ≤ 8 }
+    requires { nodes ≤ REPLICAS }
 {
     let told = Told::new(alloc);
     let other = bank_of(rt, alloc, beside);
@@ -226,7 +229,7 @@ fn serve_one_beside(
             patience: None,
         },
         door: Doorway::of(alloc, &[plain(ASKED)], &told).expect(rt, "a door"),
-        primary: bank_of(rt, alloc, OPENING),
+        primary: Box::into_inner(bank_of(rt, alloc, OPENING)),
         writer: Vec::new(alloc),
     };
     serve_beside(rt, followers, server).map(|_| ())
