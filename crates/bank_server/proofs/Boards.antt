@@ -26,7 +26,7 @@ use Rattle.cown_board.specs.declared.state.State.TheVariants.{Waiting, Out, Fini
 use Rattle.cown_workers.specs.Draining.{NoneOut, Drains}
 use Rattle.sb_sequencer.specs.Numbering.{call_at}
 use Rattle.sb_replica_log.specs.Offers.{accepted}
-use Rattle.bank_server.specs.Execution.{ArePut, IsCarriedOut, IsOneByOne, IsOpened, Tells}
+use Rattle.bank_server.specs.Execution.{ArePut, IsCarriedOut, IsOneByOne, Tells}
 use Rattle.bank_server.specs.Output.{calls_of}
 
 none_is_some : {A : Type 0} {x : A} → ◌≡◌ {A = Option A} None (Some x) → ⊥

@@ -118,7 +118,7 @@ where
     requires callable { F.IsAlwaysCallable f }
     ensures answer { IfOk result (λ answer. (after : _) ×
         FnOnceReturnsAtMut F.FnOnce f
-            (record { nodes = ready.nodes; listening = ready.nodes - 1; told = 0 }) answer after) }
+        (record { nodes = ready.nodes; listening = ready.nodes - 1; told = 0 }) answer after) }
     ensures fault { IfErr result (IsFollowersFault ready.nodes) }
 {
     let ReadyFollowers {
@@ -135,7 +135,7 @@ where
             requires ends { length ends.ends.items ≡ nodes - 1 }
             ensures answer { IfOk result (λ answer. (after : _) ×
                 FnOnceReturnsAtMut F.FnOnce f
-                    (record { nodes = nodes; listening = nodes - 1; told = 0 }) answer after) }
+                (record { nodes = nodes; listening = nodes - 1; told = 0 }) answer after) }
             ensures fault { IfErr result (IsFollowersFault nodes) }
         {
             let threads = start(scope, rt, alloc, followers, nodes)?;

@@ -1,4 +1,4 @@
-use Rattle.std.proofs.Common.{◌≡◌, ℕ, Some, List, sym, ap, subst, ◌∙◌}
+use Rattle.std.proofs.Common.{◌≡◌, ℕ, List, sym, ap, subst, ◌∙◌}
 use Rattle.std.specs.Prelude.{◌≢◌, MatchOption, IfOk, IfSome, length}
 use Rattle.std.specs.List.{All}
 use Rattle.sb_rows.specs.Balances.{Balances, IsBalances}
