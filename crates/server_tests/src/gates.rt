@@ -1,7 +1,7 @@
 //! Workers that are held up at the gate.
 use crate::bank::{OPENING, expect, expect_bytes, joined};
 use bank_server::run_text;
-use cown_workers::Gate;
+use cown_workers::{Gate, OpenGate};
 use std::alloc::Global;
 use std::process::Abort;
 use std::sync::Wait;
@@ -72,4 +72,113 @@ fn expect_meeting(rt: &(impl Abort + Threads + Wait + Clock + Sync), alloc: Glob
 #[test]
 fn two_calls_wait_for_each_other(rt: HostRuntime) {
     expect_meeting(&rt, rt.alloc());
+}
+
+// Holds each job with an odd number up, so that later ones are carried out before it.
+struct Uneven;
+
+impl Gate for Uneven {
+    fn before(&self, number: u64) {
+        if number % 2 == 1 {
+            for _ in 0..1_000 {
+                thread::yield_now();
+            }
+        }
+    }
+
+    fn after(&self, _number: u64) {}
+}
+
+// Holds the first job until the second, the third and the fourth are carried out.
+#[derive(Default, Drop)]
+struct LastOfFour {
+    // Which numbers have come, and which of them are carried out. There is no job 0.
+    came: [AtomicBool; 5],
+    carried_out: [AtomicBool; 5],
+    gave_up: AtomicBool,
+}
+
+impl LastOfFour {
+    fn others_are_carried_out(&self) -> bool {
+        (2..=4).all(|number: usize| self.carried_out[number].load(Ordering::SeqCst))
+    }
+}
+
+impl Gate for LastOfFour {
+    fn before(&self, number: u64) {
+        set(&self.came, number);
+        if number != 1 {
+            return;
+        }
+        for _ in 0..TURNS {
+            if self.others_are_carried_out() {
+                return;
+            }
+            thread::yield_now();
+        }
+        self.gave_up.store(true, Ordering::SeqCst);
+    }
+
+    fn after(&self, number: u64) {
+        set(&self.carried_out, number);
+    }
+}
+
+// The flag of this number is set, if it has one.
+fn set(flags: &[AtomicBool; 5], number: u64) {
+    if let Some(flag) = flags.get(number as usize) {
+        flag.store(true, Ordering::SeqCst);
+    }
+}
+
+// All four came, and none gave up.
+fn expect_last(rt: &impl Abort, gate: &LastOfFour) {
+    for number in 1..5 {
+        let came = gate.came[number].load(Ordering::SeqCst);
+        expect(rt, came, "each came");
+    }
+    expect(rt, !gate.gave_up.load(Ordering::SeqCst), "none gave up");
+}
+
+// What so many nodes and workers write of four calls of four customers, and of four that wait for these.
+fn written_by<G: Gate + Sync>(
+    rt: &(impl Abort + Threads + Wait + Clock + Sync),
+    alloc: Global,
+    nodes: usize,
+    workers: usize,
+    gate: &G,
+) -> Vec<u8> {
+    assert!(rt; 1 <= nodes && nodes <= 8 && workers <= 16);
+    let mut reader = FOUR_CUSTOMERS;
+    let mut written: Vec<u8> = Vec::new(alloc);
+    let ended = run_text(rt, alloc, &mut reader, &mut written, nodes, workers, gate);
+    expect(rt, ended == Ok(()), "how it ends");
+    written
+}
+
+const FOUR_CUSTOMERS: &[u8] = b"alice 100.00 50.00\nbob 0.00 20.00\ncarol 10.00 0.00\n\
+      dave 0.00 1.00\nbegin\ndeposit alice 1.00\ndeposit bob 1.00\ndeposit carol 1.00\n\
+      deposit dave 1.00\namalgamate alice bob\namalgamate carol dave\nbalance bob\nbalance dave\n";
+
+// Two nodes with four workers write what one thread does, though workers are held up at this gate.
+fn expect_same_output<G: Gate + Sync>(
+    rt: &(impl Abort + Threads + Wait + Clock + Sync),
+    alloc: Global,
+    gate: &G,
+) {
+    let alone = written_by(rt, alloc, 1, 0, &OpenGate);
+    let together = written_by(rt, alloc, 2, 4, gate);
+    expect_bytes(rt, &together, &alone, "what is written");
+}
+
+#[test]
+fn workers_of_uneven_speed(rt: HostRuntime) {
+    expect_same_output(&rt, rt.alloc(), &Uneven);
+}
+
+#[test]
+fn the_first_call_is_carried_out_last(rt: HostRuntime) {
+    let gate = LastOfFour::default();
+    expect_same_output(&rt, rt.alloc(), &gate);
+    expect_last(&rt, &gate);
 }
