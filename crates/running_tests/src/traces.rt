@@ -70,7 +70,11 @@ fn notes_no_more_than_64<C: Crew + Drop>(rt: &impl Abort, alloc: Global, crew: C
     for _ in 0..64 {
         gives(rt, &mut board, &mut traced, keeps);
     }
-    let last = if keeps { Notice::Given(64) } else { Notice::Back(64) };
+    let last = if keeps {
+        Notice::Given(64)
+    } else {
+        Notice::Back(64)
+    };
     for _ in 0..2 {
         assert!(rt; traced.notices().len() == 64);
         assert!(rt; traced.notices().last() == Some(&last));

@@ -123,7 +123,10 @@ fn finishes(
         worker: hand_over(rt, hands, number, 0),
     };
     let reply = board.reply(number).expect(rt, "a reply");
-    assert!(rt; world.step(finish) == Ok(Note::Finished(number, reply)), "{number}");
+    assert!(rt;
+        world.step(finish) == Ok(Note::Finished(number, reply)),
+        "{number}"
+    );
 }
 
 // Each exchange that was noted happens in the world, with the same number.
