@@ -1,6 +1,5 @@
 -- Exchanges with a traced crew, one after another.
-use Rattle.std.proofs.Common.{◌≡◌, ◌⊎◌, inl, inr, ◌<◌, ◌≤◌, ◌+◌, ℕ, Option, Some, None, List, [], ◌∷◌, ◌++◌, length, take, refl, sym, ap, ◌∙◌, subst, append_assoc, append-nil, length-append, arith}
-use Rattle.std.specs.Prelude.{filter_map}
+use Rattle.std.proofs.Common.{◌≡◌, ◌⊎◌, inl, inr, ◌<◌, ◌≤◌, Option, Some, None, List, [], ◌∷◌, ◌++◌, length, take, sym, ap, ◌∙◌, subst, append_assoc, append-nil, length-append, arith}
 use Rattle.std.specs.List.{cons_option}
 use Rattle.std.specs.Option.{option_to_list}
 use Rattle.std.proofs.Math.Seq.{take-append_seam}
@@ -9,7 +8,6 @@ use Rattle.std.proofs.lemmas.List.{take_all}
 use Rattle.cown_workers.specs.Draining.{ActsAlong, CrewStep, Kept, CameBack, HandedOver}
 use Rattle.cown_workers.specs.Traces.{AreTraced, IsNoted, IsUnnoted, TracedOf, Traces, notice_of, notices_of}
 use Rattle.cown_workers.specs.declared.traced.Notice.{Notice}
-use Rattle.cown_workers.specs.declared.traced.Notice.TheVariants.{Given, Back, Came}
 
 -- one notice more before others
 onto_one : (notices : List Notice) (one : Option Notice) (others : List Notice)

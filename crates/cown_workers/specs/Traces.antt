@@ -1,5 +1,5 @@
 -- A crew with a history of its exchanges.
-use Rattle.std.specs.Prelude.{◌≡◌, ℕ, ◌+◌, ◌<◌, ◌≤◌, Option, Some, None, List, ◌++◌, length, take, filter_map}
+use Rattle.std.specs.Prelude.{◌≡◌, ◌<◌, ◌≤◌, Option, Some, None, List, ◌++◌, length, take, filter_map}
 use Rattle.std.specs.Option.{option_to_list}
 use Rattle.cown_workers.specs.Draining.{CrewStep, Kept, CameBack, HandedOver, ActsAlong}
 use Rattle.cown_workers.specs.declared.traced.Notice.{Notice}

@@ -1,7 +1,7 @@
 -- What a fault of a bank that is served says.
 use Rattle.std.specs.Prelude.{◌≡◌, ◌<◌, ◌≤◌, ℕ, Bool, true}
 use Rattle.bank_server.specs.declared.fault.RunFault.{RunFault}
-use Rattle.bank_server.specs.declared.fault.RunFault.TheVariants.{Input, Strayed, CrewGone, Device, OutOfMemory}
+use Rattle.bank_server.specs.declared.fault.RunFault.TheVariants.{Input, Strayed, Device, OutOfMemory}
 use Rattle.smallbank.specs.declared.serve_fault.ServeFault.{ServeFault}
 use Rattle.smallbank.specs.declared.serve_fault.ServeFault.TheVariants.{Run, ReadBack, Store, PortTaken}
 

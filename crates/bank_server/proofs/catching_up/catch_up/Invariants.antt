@@ -1,4 +1,4 @@
-use Rattle.std.proofs.Common.{◌≡◌, ◌+◌, false, length}
+use Rattle.std.proofs.Common.{◌≡◌, ◌+◌, length}
 use Rattle.cown_workers.specs.Draining.{NoneOut}
 use Rattle.sb_replica.specs.Replica.{beside_of}
 use Rattle.bank_server.specs.Primary.{IsBehind, ops_of}

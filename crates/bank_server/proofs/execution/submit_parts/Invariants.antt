@@ -1,4 +1,4 @@
-use Rattle.std.proofs.Common.{◌≡◌, false, ◌++◌, ◌-◌, ◌≤◌, length, take}
+use Rattle.std.proofs.Common.{◌≡◌, ◌++◌, ◌-◌, ◌≤◌, length, take}
 use Rattle.cown_workers.specs.Draining.{NoneOut}
 use Rattle.sb_replica.specs.Replica.{beside_of}
 use Rattle.bank_server.proofs.execution.submit_parts.Given as goal

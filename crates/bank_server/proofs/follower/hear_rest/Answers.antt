@@ -1,7 +1,6 @@
 use Rattle.std.proofs.Common.{[], ◌∷◌, ◌++◌, refl, subst}
 use Rattle.sb_checkpoint.specs.declared.memory_store.MemoryStore.{MemoryStore}
 use Rattle.sb_replica.specs.Streams.{HearsUntil, HearsUntilFault, IsPause}
-use Rattle.sb_replica.specs.declared.pause.Pause.{Pause}
 use Rattle.bank_server.specs.Following.{FollowerOf, Hears, Runs}
 use Rattle.bank_server.proofs.Followings.{of_pause, turn_after}
 use Rattle.bank_server.proofs.follower.hear_rest.Goals as goal

@@ -1,7 +1,5 @@
-use Rattle.std.proofs.Common.{◌≡◌, ℕ, ◌+◌, ◌-◌, List, [], length, take, drop, sym, ap, subst, ◌∙◌, arith, length-drop}
+use Rattle.std.proofs.Common.{◌≡◌, ℕ, ◌+◌, ◌-◌, List, [], length, take, drop, subst, ◌∙◌, arith, length-drop}
 use Rattle.std.proofs.lemmas.List.{take_all}
-use Rattle.sb_checkpoint.specs.declared.memory_store.MemoryStore.{MemoryStore}
-use Rattle.sb_replica.specs.Replica.{ReplicaOf}
 use Rattle.sb_rows.specs.Opening.{OpeningText}
 use Rattle.sb_rows.specs.Text.{lines}
 use Rattle.bank_server.specs.Asking.{IsAsking}

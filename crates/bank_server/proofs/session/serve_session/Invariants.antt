@@ -1,4 +1,4 @@
-use Rattle.std.proofs.Common.{◌≡◌, ℕ, false, List, length}
+use Rattle.std.proofs.Common.{ℕ, List, length}
 use Rattle.std.specs.Io.KnownBytes.{Consumes}
 use Rattle.sb_frames.specs.Streaming.{IsShort}
 use Rattle.cown_workers.specs.Draining.{NoneOut}
