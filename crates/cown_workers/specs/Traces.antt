@@ -22,24 +22,28 @@ abbrev pub notices_of : List CrewStep → List Notice
 notices_of steps = filter_map notice_of steps
 
 -- the crew did this, and it was noted
-pub record IsNoted {C : Type 0} (acts : C → CrewStep → C → Type 0) (old : TracedOf C) (step : CrewStep) (new : TracedOf C) : Type 0 where
+pub record IsNoted {C : Type 0} (acts : C → CrewStep → C → Type 0) (old : TracedOf C) (step : CrewStep)
+    (new : TracedOf C) : Type 0 where
   pub acted : acts old.crew step new.crew
   pub noted : new.notices ≡ old.notices ++ option_to_list (notice_of step)
 
 -- nothing was noted: a job came back without the crew, and all stayed; or the crew was asked
-abbrev pub IsUnnoted : {C : Type 0} → (C → CrewStep → C → Type 0) → TracedOf C → CrewStep → TracedOf C → Type 0
+abbrev pub IsUnnoted : {C : Type 0} → (C → CrewStep → C → Type 0)
+    → TracedOf C → CrewStep → TracedOf C → Type 0
 IsUnnoted acts old (Kept job) new = ⊥
 IsUnnoted acts old (CameBack job) new = new ≡ old
 IsUnnoted acts old (HandedOver answer) new =
     acts old.crew (HandedOver answer) new.crew × (new.notices ≡ old.notices)
 
 -- one exchange with a traced crew: it is noted while there are fewer than 64 notices
-pub record Traces {C : Type 0} (acts : C → CrewStep → C → Type 0) (old : TracedOf C) (step : CrewStep) (new : TracedOf C) : Type 0 where
+pub record Traces {C : Type 0} (acts : C → CrewStep → C → Type 0) (old : TracedOf C) (step : CrewStep)
+    (new : TracedOf C) : Type 0 where
   pub room : length old.notices < 64 → IsNoted acts old step new
   pub full : 64 ≤ length old.notices → IsUnnoted acts old step new
 
 -- exchanges with a traced crew, one after another: the first 64 notices are there, and if these are all then the crew
 -- itself made these exchanges
-pub record AreTraced {C : Type 0} (acts : C → CrewStep → C → Type 0) (old : TracedOf C) (steps : List CrewStep) (new : TracedOf C) : Type 0 where
+pub record AreTraced {C : Type 0} (acts : C → CrewStep → C → Type 0) (old : TracedOf C) (steps : List CrewStep)
+    (new : TracedOf C) : Type 0 where
   pub notices : new.notices ≡ take 64 (old.notices ++ notices_of steps)
   pub crew : length (old.notices ++ notices_of steps) ≤ 64 → ActsAlong acts old.crew steps new.crew
