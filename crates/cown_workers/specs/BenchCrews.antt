@@ -5,6 +5,7 @@ use Rattle.cown_board.specs.Job.{DoneOf}
 use Rattle.cown_bench.specs.Parting.{IsPartedInto}
 use Rattle.cown_bench.specs.Picks.{WorkOf, PickOf}
 use Rattle.cown_bench.specs.BenchPasses.{WorkerOf}
+use Rattle.cown_bench.specs.declared.bench.TheConstants.{BENCH_CAPACITY}
 use Rattle.cown_bench.specs.declared.work.Work.TheVariants.{Run, Stop}
 use Rattle.cown_workers.specs.Draining.{CrewStep, Kept, CameBack, HandedOver, IsOf}
 
@@ -56,7 +57,7 @@ is_stop Stop = true
 -- nothing changed; or it is what the owner made of what it picked.
 abbrev pub LaysOut : BenchCrewOf → CrewStep → BenchCrewOf → Type 0
 LaysOut old (Kept job) new = new ≡ record old { offered = old.offered ++ Run job ∷ [] }
-LaysOut old (CameBack job) new = (new ≡ old) × (1040 ≤ length old.offered)
+LaysOut old (CameBack job) new = (new ≡ old) × (BENCH_CAPACITY ≤ length old.offered)
 LaysOut old (HandedOver answer) new = (new ≡ old) ⊎ HandsOverItsOwn old answer new
 
 -- what was picked last is a `Stop`

@@ -7,6 +7,7 @@ use Rattle.sb_frames.specs.declared.frame.Frame.{Frame}
 use Rattle.sb_frames.specs.declared.frame.Frame.TheVariants.{Entry}
 use Rattle.sb_sequencer.specs.Numbering.{call_at}
 use Rattle.sb_sequencer.specs.Sequencer.{SequencerOf}
+use Rattle.sb_sequencer.specs.declared.sequencer.TheConstants.{RESEND}
 
 -- the entry with a number
 abbrev pub entry_of : List (Key × Call) → ℕ → Option Frame
@@ -23,7 +24,7 @@ entries log = entries_from 1 log
 
 -- the entries after so many, at most 16
 unfoldable pub entries_after : List (Key × Call) → ℕ → List Frame
-entries_after log size = take 16 (drop size (entries log))
+entries_after log size = take RESEND (drop size (entries log))
 
 -- the entries after the length that a replica recorded, if it is one
 abbrev pub after_recorded : List (Key × Call) → Option ℕ → List Frame

@@ -12,6 +12,7 @@ ghost use Rattle.schedule_player.specs.declared.node.Node.{Node as AnyNode};
 
 use crate::node::Node;
 use crate::world::World;
+use cown_bench::WORKERS;
 use sb_rows::{Columns, Directory};
 use sb_sequencer::{REPLICAS, Sequencer};
 use std::alloc::{AllocError, Global};
@@ -58,7 +59,7 @@ impl World {
         requires customers { SameCustomers directory opening }
         requires few { nodes ≤ REPLICAS }
         requires some_worker { 1 ≤ workers }
-        requires few_workers { workers ≤ 16 }
+        requires few_workers { workers ≤ WORKERS }
         ensures value { IfOk result (λ world. world ≡ opened_world (no_events directory opening nodes workers)) }
         // No event has happened yet.
         ensures played { IfOk result (IsPlayed (no_events directory opening nodes workers)) }

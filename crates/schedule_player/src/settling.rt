@@ -10,6 +10,7 @@ ghost use Rattle.schedule_text.specs.declared.event.Event.TheVariants as event;
 ghost use Rattle.schedule_text.specs.declared.note.Note.{Note as AnyNote};
 
 use crate::world::World;
+use cown_bench::WORKERS;
 use schedule_text::Event;
 
 impl World {
@@ -17,7 +18,7 @@ impl World {
     fn workers(&self, replica: u32) -> u32
         requires { replica < length self.now.nodes }
         ensures value { result ≡ workers_at self.now replica }
-        ensures few { result ≤ 16 }
+        ensures few { result ≤ WORKERS }
         ensures able { SoAt IsAbleToSettle self.now replica }
     {
         self.nodes[replica as usize].hands.len() as u32
@@ -46,7 +47,7 @@ impl World {
         requires { replica < length self.old.nodes }
         ensures after { self.new ≡ after_events self.old (emptying self.old replica) }
         ensures count { result ≡ workers_at self.old replica }
-        ensures few { result ≤ 16 }
+        ensures few { result ≤ WORKERS }
         ensures able { SoAt IsAbleToSettle self.old replica }
         ensures rests { SoAt IsAtRest self.new replica }
         ensures replicas { length self.new.nodes ≡ length self.old.nodes }
