@@ -5,7 +5,7 @@ use cown_workers::{Gate, OpenGate};
 use std::alloc::Global;
 use std::process::Abort;
 use std::sync::Wait;
-use std::sync::atomic::{AtomicBool, Ordering};
+use std::sync::atomic::{AtomicBool, AtomicU64, Ordering};
 use std::thread;
 use std::thread::Threads;
 use std::time::Clock;
@@ -92,15 +92,16 @@ impl Gate for Uneven {
 // Holds the first job until the second, the third and the fourth are carried out.
 #[derive(Default, Drop)]
 struct LastOfFour {
-    // Which numbers have come, and which of them are carried out. There is no job 0.
+    // Which numbers have come, of the first four. There is no job 0.
     came: [AtomicBool; 5],
-    carried_out: [AtomicBool; 5],
+    // How many of the other three are carried out.
+    others: AtomicU64,
     gave_up: AtomicBool,
 }
 
 impl LastOfFour {
     fn others_are_carried_out(&self) -> bool {
-        (2..=4).all(|number: usize| self.carried_out[number].load(Ordering::SeqCst))
+        self.others.load(Ordering::SeqCst) == 3
     }
 }
 
@@ -120,7 +121,9 @@ impl Gate for LastOfFour {
     }
 
     fn after(&self, number: u64) {
-        set(&self.carried_out, number);
+        if (2..=4).contains(&number) {
+            self.others.fetch_add(1, Ordering::SeqCst);
+        }
     }
 }
 
