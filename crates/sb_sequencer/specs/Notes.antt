@@ -7,6 +7,8 @@ use Rattle.sb_sequencer.specs.Numbering.{place_of_key}
 use Rattle.sb_sequencer.specs.Sequencer.{SequencerOf}
 use Rattle.sb_sequencer.specs.declared.note.AckNote.{AckNote}
 use Rattle.sb_sequencer.specs.declared.note.AckNote.TheVariants as acks
+use Rattle.sb_sequencer.specs.declared.note.HaveNote.{HaveNote}
+use Rattle.sb_sequencer.specs.declared.note.HaveNote.TheVariants as haves
 use Rattle.sb_sequencer.specs.declared.note.AnswerNote.{AnswerNote}
 use Rattle.sb_sequencer.specs.declared.note.AnswerNote.TheVariants as answers
 
@@ -24,6 +26,21 @@ recording s replica size acks.Odd = s
 
 abbrev pub after_ack : SequencerOf → ℕ → ℕ → SequencerOf
 after_ack s replica size = recording s replica size (hears_ack s replica size)
+
+-- ---- the length of the checkpoint that a replica keeps
+
+-- a length of a known replica, and not beyond the log
+abbrev pub hears_have : SequencerOf → ℕ → ℕ → HaveNote
+hears_have s replica size =
+    if nat_lt replica (length s.recorded) && nat_le size (length s.log) then haves.Recorded else haves.Odd
+
+-- what is recorded takes the place of what was
+abbrev pub recording_have : SequencerOf → ℕ → ℕ → HaveNote → SequencerOf
+recording_have s replica size haves.Recorded = record s { checkpoints = slice_set s.checkpoints replica size }
+recording_have s replica size haves.Odd = s
+
+abbrev pub after_have : SequencerOf → ℕ → ℕ → SequencerOf
+after_have s replica size = recording_have s replica size (hears_have s replica size)
 
 -- ---- what a call was answered
 

@@ -6,11 +6,11 @@ use Rattle.sb_sequencer.proofs.sequencer.Sequencer.answer_of.Goals as goal
 pub returns-in_err-place : goal.returns-in_err-place
 returns-in_err-place c =
     c.from_residual.ensures
-    ∙ sym (answer_at c.self.inside.log.entries c.self.inside.recorded.items c.self.inside.kept.items c.args.self.now _ None c.self.view_is
+    ∙ sym (answer_at c.self.inside.log.entries c.self.inside.recorded.items c.self.inside.checkpoints.items c.self.inside.kept.items c.args.self.now _ None c.self.view_is
     c.in_err-place.ensures.index)
 
 pub returns : goal.returns
 returns c =
     c.kept_at.ensures ∙ ap (λ kept. option_flatten (slice_get kept c.in_ok-place.place)) c.as_slice.ensures.value
-    ∙ sym (answer_at c.self.inside.log.entries c.self.inside.recorded.items c.self.inside.kept.items c.args.self.now _ (Some c.in_ok-place.place)
+    ∙ sym (answer_at c.self.inside.log.entries c.self.inside.recorded.items c.self.inside.checkpoints.items c.self.inside.kept.items c.args.self.now _ (Some c.in_ok-place.place)
     c.self.view_is c.in_ok-place.ensures.index)
