@@ -7,11 +7,11 @@ use Rattle.sb_calls.specs.declared.reply.Reply.{Reply}
 use Rattle.sb_sequencer.specs.Numbering.{IsLog}
 
 -- no replica is beyond the log, and none of as many checkpoints; answers are kept for its calls alone, and there is room for one to each
-pub record HasRooms (entries : List (Key × Call)) (sizes checkpoints : List ℕ)
+pub record HasRooms (entries : List (Key × Call)) (sizes states : List ℕ)
     (answers : List (Option Reply)) (places : ℕ) : Type 0 where
   pub log : IsLog entries
   pub recorded : All (λ size. size ≤ length entries) sizes
-  pub each : length checkpoints ≡ length sizes
-  pub checkpoints : All (λ size. size ≤ length entries) checkpoints
+  pub each : length states ≡ length sizes
+  pub checkpoints : All (λ size. size ≤ length entries) states
   pub kept : length answers ≤ length entries
   pub room : length entries ≤ places
