@@ -119,7 +119,8 @@ flatten-padded places kept place = flatten-append kept (places - length kept) pl
 
 -- so the answer for a key is what is kept at the place that a map finds for it
 pub answer_at : (log : List (Key × Call)) (recorded checkpoints : List ℕ) (kept : List (Option Reply)) (s : SequencerOf) (key : Key) (found : Option ℕ)
-    → record { log = log; recorded = recorded; checkpoints = checkpoints; answers = padded (length log) kept } ≡ s → found ≡ position (same_key key) (keys_of log)
+    → record { log = log; recorded = recorded; checkpoints = checkpoints; answers = padded (length log) kept } ≡ s
+    → found ≡ position (same_key key) (keys_of log)
     → answer_of s key ≡ option_and_then (λ place. option_flatten (slice_get kept place)) found
 answer_at log recorded checkpoints kept s key found is e =
     ap (λ sequencer. answer_of sequencer key) (sym is)

@@ -51,7 +51,12 @@ asked_state old new recorded checkpoints kept after ask (Ok (Repeat n)) few e sa
   answers = padded (length (e j))
       (same j);
 }
-asked_state old new recorded checkpoints kept after ask (Err fault) few e same = λ j. record { log = e j; recorded = recorded; checkpoints = checkpoints; answers = padded (length (e j)) (same j) }
+asked_state old new recorded checkpoints kept after ask (Err fault) few e same = λ j. record {
+  log = e j;
+  recorded = recorded;
+  checkpoints = checkpoints;
+  answers = padded (length (e j)) (same j);
+}
 
 -- a sequencer with its rooms is one
 pub rooms_sequencer : (log : List (Key × Call)) (recorded checkpoints : List ℕ) (kept : List (Option Reply)) (room : ℕ)

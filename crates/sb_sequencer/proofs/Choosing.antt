@@ -1,8 +1,8 @@
 -- The donor among the first of some checkpoints.
-use Rattle.std.proofs.Common.{◌≡◌, ◌≢◌, ℕ, suc, ◌+◌, ◌<◌, ◌≤◌, ◌⊎◌, inl, inr, Option, Some, None, List, length, slice_get, refl, sym, subst, ◌∙◌, arith}
-use Rattle.std.proofs.lemmas.Bool.{cases_lt, cases_eq}
+use Rattle.std.proofs.Common.{◌≡◌, ◌≢◌, ℕ, suc, ◌+◌, ◌<◌, ◌≤◌, inl, inr, Option, Some, None, List, length, slice_get, refl, sym, subst, ◌∙◌, arith}
+use Rattle.std.proofs.lemmas.Bool.{cases_lt}
 use Rattle.std.proofs.lemmas.Option.{get_or_from_slice_get, slice_get_within}
-use Rattle.sb_sequencer.specs.Donors.{HasStateFor, IsDonor}
+use Rattle.sb_sequencer.specs.Donors.{IsDonor}
 use Rattle.sb_sequencer.specs.Sequencer.{SequencerOf}
 
 same_at : (sizes : List ℕ) (place one other : ℕ) → slice_get sizes place ≡ Some one → slice_get sizes place ≡ Some other → one ≡ other

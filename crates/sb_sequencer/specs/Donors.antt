@@ -11,5 +11,6 @@ HasStateFor s replica donor size =
 -- the one with the most of the log; of several the first
 abbrev pub IsDonor : SequencerOf → ℕ → Option (ℕ × ℕ) → Type 0
 IsDonor s replica (Some (donor, size)) = HasStateFor s replica donor size
-    × ((other more : ℕ) → HasStateFor s replica other more → (more < size) ⊎ ((more ≡ size) × (donor ≤ other)))
+    × ((other more : ℕ) → HasStateFor s replica other more
+    → (more < size) ⊎ ((more ≡ size) × (donor ≤ other)))
 IsDonor s replica None = (donor size : ℕ) → HasStateFor s replica donor size → ⊥

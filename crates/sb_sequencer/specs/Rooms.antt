@@ -6,7 +6,8 @@ use Rattle.sb_calls.specs.declared.call.Call.{Call}
 use Rattle.sb_calls.specs.declared.reply.Reply.{Reply}
 use Rattle.sb_sequencer.specs.Numbering.{IsLog}
 
--- no replica is beyond the log, and none of as many checkpoints; answers are kept for its calls alone, and there is room for one to each
+-- no replica is beyond the log, and none of as many checkpoints; answers are kept for its calls alone,
+-- and there is room for one to each
 pub record HasRooms (entries : List (Key × Call)) (sizes states : List ℕ)
     (answers : List (Option Reply)) (places : ℕ) : Type 0 where
   pub log : IsLog entries

@@ -9,8 +9,8 @@ use Rattle.sb_sequencer.specs.declared.answer.AskFault.{AskFault}
 use Rattle.sb_sequencer.specs.declared.answer.Numbered.{Numbered}
 use Rattle.sb_sequencer.specs.declared.answer.Numbered.TheVariants.{New, Repeat}
 
--- the log, the length last heard of each replica and that of its checkpoint, and the answer kept for
--- each number, if any
+-- the log, the lengths last heard of each replica and of its checkpoint, and the answer kept for each
+-- number, if any
 pub record SequencerOf : Type 0 where
   pub log : List (Key × Call)
   pub recorded : List ℕ
@@ -26,8 +26,8 @@ opened nodes = record {
   answers = [];
 }
 
--- one place for an answer for each call, and a checkpoint's length for each replica; no replica was heard
--- of beyond the log, and no checkpoint
+-- one place for an answer for each call, and a length of a checkpoint for each replica; no replica and
+-- no checkpoint was heard of beyond the log
 pub record IsSequencer (s : SequencerOf) : Type 0 where
   pub log : IsLog s.log
   pub answers : length s.answers ≡ length s.log

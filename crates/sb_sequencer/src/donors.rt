@@ -1,4 +1,4 @@
-//! The checkpoints that replicas keep, and from whom one gets a state in place of the log's entries.
+//! The checkpoints that replicas keep, and from whom one gets a state in place of entries.
 ghost use Rattle.std.specs.Prelude.{◌≡◌, Some, slice_get};
 ghost use Rattle.sb_sequencer.specs.Donors.{IsDonor};
 ghost use Rattle.sb_sequencer.specs.Notes.{after_have, hears_have};
@@ -7,8 +7,8 @@ use crate::note::HaveNote;
 use crate::sequencer::Sequencer;
 
 impl Sequencer {
-    /// Notes that a replica keeps a checkpoint of this length. The last length that is heard counts, also
-    /// one below that before.
+    /// Notes that a replica keeps a checkpoint of this length. The last length that was heard counts,
+    /// also one below that before. It takes no memory.
     pub fn on_have(&mut self, replica: u8, length: u64) -> HaveNote
         ensures note { result ≡ hears_have self.old replica length }
         ensures state { self.new ≡ after_have self.old replica length }
@@ -45,9 +45,9 @@ impl Sequencer {
         donor
     }
 
-    /// The replica that another one gets a state from, and the length of it: of the other replicas that
-    /// keep a checkpoint of more of the log than this one has, the one with the most, of several the first.
-    /// `None` where there is none, or no such replica. It takes no memory.
+    /// The replica that another one gets a state from, and the state's length: of the other replicas
+    /// that keep a checkpoint of more of the log than this one has, the one with the most; of several
+    /// the first. `None` where there is none, or no such replica. It takes no memory.
     pub fn donor(&self, replica: u8) -> Option<(u8, u64)>
         ensures { IsDonor self.now replica result }
     {

@@ -1,4 +1,4 @@
-use Rattle.std.proofs.Common.{◌≡◌, ◌≢◌, ℕ, ◌≤◌, inl, inr, Some, List, length, slice_get, get_or, refl, sym, ap, subst, ◌∙◌, arith}
+use Rattle.std.proofs.Common.{◌≡◌, ◌≢◌, ℕ, ◌≤◌, inl, inr, Some, List, length, slice_get, get_or, refl, ap, subst, ◌∙◌, arith}
 use Rattle.std.proofs.lemmas.Option.{get_or_from_slice_get, slice_get-get_or}
 use Rattle.sb_sequencer.proofs.Choosing.{IsDonorBefore, donor_is, donor_with_more, donor_stays, donor_of_all}
 use Rattle.sb_sequencer.proofs.sequencer.Sequencer.donor_above.Goals as goal
