@@ -48,6 +48,13 @@ fn event_of(mut words: Words) -> Result<Event, EventFault>
         let (replica, place) = two_numbers(words)?;
         return Ok(Event::To { replica, place });
     }
+    report_event(verb, words)
+}
+
+// The event with a first word, and the words after it, of what replicas tell the sequencer.
+fn report_event(verb: &[u8], words: Words) -> Result<Event, EventFault>
+    ensures { result ≡ spec.report_event verb.now words.entry }
+{
     if verb == b"ack".as_slice() {
         let replica = one_number(words)?;
         return Ok(Event::Ack { replica });
@@ -55,6 +62,10 @@ fn event_of(mut words: Words) -> Result<Event, EventFault>
     if verb == b"answer".as_slice() {
         let (replica, number) = two_numbers(words)?;
         return Ok(Event::Answer { replica, number });
+    }
+    if verb == b"have".as_slice() {
+        let replica = one_number(words)?;
+        return Ok(Event::Have { replica });
     }
     if verb == b"from".as_slice() {
         let (replica, place) = two_numbers(words)?;
@@ -79,6 +90,21 @@ fn replica_event(verb: &[u8], words: Words) -> Result<Event, EventFault>
         let (replica, worker) = two_numbers(words)?;
         return Ok(Event::Finish { replica, worker });
     }
+    if verb == b"next".as_slice() {
+        let replica = one_number(words)?;
+        return Ok(Event::Next { replica });
+    }
+    if verb == b"audit".as_slice() {
+        let (first, second) = two_numbers(words)?;
+        return Ok(Event::Audit { first, second });
+    }
+    state_event(verb, words)
+}
+
+// The event with a first word, and the words after it, of checkpoints and states.
+fn state_event(verb: &[u8], words: Words) -> Result<Event, EventFault>
+    ensures { result ≡ spec.state_event verb.now words.entry }
+{
     if verb == b"mark".as_slice() {
         return marked(words);
     }
@@ -90,13 +116,17 @@ fn replica_event(verb: &[u8], words: Words) -> Result<Event, EventFault>
         let replica = one_number(words)?;
         return Ok(Event::Cut { replica });
     }
-    if verb == b"next".as_slice() {
+    if verb == b"donor".as_slice() {
         let replica = one_number(words)?;
-        return Ok(Event::Next { replica });
+        return Ok(Event::Donor { replica });
     }
-    if verb == b"audit".as_slice() {
-        let (first, second) = two_numbers(words)?;
-        return Ok(Event::Audit { first, second });
+    if verb == b"give".as_slice() {
+        let (donor, replica) = two_numbers(words)?;
+        return Ok(Event::Give { donor, replica });
+    }
+    if verb == b"adopt".as_slice() {
+        let (replica, place) = two_numbers(words)?;
+        return Ok(Event::Adopt { replica, place });
     }
     Err(EventFault::UnknownEvent)
 }

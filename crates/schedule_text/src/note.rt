@@ -3,7 +3,7 @@
 use sb_calls::Reply;
 
 /// What came of one event.
-#[derive(Clone, Copy, Debug, PartialEq, Eq)]
+#[derive(Clone, Copy, PartialEq, Eq)]
 pub enum Note {
     /// The ask got this new number.
     New(u64),
@@ -55,6 +55,16 @@ pub enum Note {
     Cut(u64),
     /// There is a cut already, of this length.
     Pending(u64),
+    /// The sequencer recorded that a replica keeps a checkpoint of this length.
+    Has(u64),
+    /// This replica keeps a checkpoint of this length, from which another gets its state.
+    Donor(u32, u64),
+    /// A state was sent, at this place of its list.
+    Gave(u64),
+    /// The replica is at this length, by a state.
+    Adopted(u64),
+    /// The state has no more than the replica's log, of this length.
+    Behind(u64),
     /// What comparing two replicas gave.
     Audit(AuditNote),
     /// The event names something that doesn't exist, or finds nothing to do.
@@ -62,7 +72,7 @@ pub enum Note {
 }
 
 /// What comparing two replicas gave: the first that holds.
-#[derive(Clone, Copy, Debug, PartialEq, Eq)]
+#[derive(Clone, Copy, PartialEq, Eq)]
 pub enum AuditNote {
     /// Something is unfinished at this replica.
     Busy(u32),
@@ -77,7 +87,7 @@ pub enum AuditNote {
 }
 
 /// One of a bank's two columns.
-#[derive(Clone, Copy, Debug, PartialEq, Eq)]
+#[derive(Clone, Copy, PartialEq, Eq)]
 pub enum Column {
     /// The savings.
     Savings,
