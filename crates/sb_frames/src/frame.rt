@@ -56,6 +56,13 @@ pub enum Frame {
     /// What was sent before is to be handled now. It has no fields.
     #[default]
     Flush,
+    /// The checkpoint that a replica keeps is of this length.
+    Have {
+        /// The replica's number.
+        replica: u8,
+        /// The length of the log at the checkpoint, 0 where it keeps none.
+        length: u64,
+    },
 }
 
 /// How a client's ask ended.
