@@ -1,16 +1,18 @@
 //! The checkpoint of one replica, taken by another in place of the log's entries.
-ghost use Rattle.std.specs.Prelude.{◌≡◌, IfOk, IfErr, MatchResult, None, length, option_map};
+ghost use Rattle.std.specs.Prelude.{◌≡◌, ℕ, IfOk, IfErr, List, MatchResult, None, Option, length, option_map};
 ghost use Rattle.sb_checkpoint.specs.Checkpoint.{Spells};
 ghost use Rattle.sb_checkpoint.specs.Reading.{first_fault, IsRefusedBy};
 ghost use Rattle.sb_checkpoint.specs.Stores.{StoreDoes};
+ghost use Rattle.sb_frames.specs.declared.frame.Frame.TheVariants as frames;
 ghost use Rattle.sb_replica.specs.Restarting.{IsRestartFaultOf};
-ghost use Rattle.sb_replica.specs.States.{Adopts, IsAdoptFaultOf, IsStateOf, KeepsState};
+ghost use Rattle.sb_replica.specs.States.{Adopts, IsAdoptFaultOf, IsStateOf, KeepsState, state_length};
 
 use crate::adopted::Adopted;
 use crate::fault::{AdoptFault, RestartFault};
 use crate::replica::Replica;
 use crate::restarting::log_on;
 use sb_checkpoint::{Checkpoint, CheckpointFault, CheckpointStore, read_checkpoint};
+use sb_frames::Frame;
 
 impl<S: CheckpointStore> Replica<S> {
     /// The state that it has for another replica: the checkpoint that its store holds, with its length, or `None` where
@@ -26,11 +28,32 @@ impl<S: CheckpointStore> Replica<S> {
         let Some(bytes) = self.store.get()? else {
             return Ok(None);
         };
-        let length = self.state_length(&bytes)?;
+        let length = self.length_in(&bytes)?;
         if length == 0 {
             return Ok(None);
         }
         Ok(Some((length, bytes)))
+    }
+
+    /// That it has a state of this length for another replica, of length 0 where it has none. Nothing but the store
+    /// changes.
+    ///
+    /// Fails as [`Replica::kept_state`].
+    pub fn have_frame(&mut self) -> Result<Frame, RestartFault>
+        ensures ok { IfOk result (λ frame. (state : Option (ℕ × List ℕ))
+            × KeepsState (StoreDoes S.model) self.old state self.new
+            × (frame ≡ frames.Have self.old.id (state_length state))) }
+        ensures err { IfErr result (λ fault.
+            IsRestartFaultOf (StoreDoes S.model) self.old fault self.new) }
+    {
+        let length = match self.kept_state()? {
+            Some((length, _)) => length,
+            None => 0,
+        };
+        Ok(Frame::Have {
+            replica: self.id,
+            length,
+        })
     }
 
     /// Goes on from another replica's state, where it has more entries than the own log. What is unfinished here or
@@ -55,7 +78,7 @@ impl<S: CheckpointStore> Replica<S> {
     }
 
     // How many entries the checkpoint of this bank has that these bytes are.
-    fn state_length(&self, bytes: &[u8]) -> Result<u64, CheckpointFault>
+    fn length_in(&self, bytes: &[u8]) -> Result<u64, CheckpointFault>
         ensures length { IfOk result (λ size. IsStateOf (length self.now.names) size bytes.now) }
         ensures fault { IfErr result (IsRefusedBy bytes.now (length self.now.names)) }
     {
