@@ -60,7 +60,7 @@ pub enum Frame {
     Have {
         /// The replica's number.
         replica: u8,
-        /// The length of the log at the checkpoint, 0 where it keeps none.
+        /// The checkpoint's length, 0 where the replica keeps none.
         length: u64,
     },
 }
