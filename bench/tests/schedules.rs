@@ -257,7 +257,7 @@ fn answers_and_acknowledgements() {
 #[test]
 fn the_first_fault_counts_and_nothing_is_written() {
     check_fault("", "line 1: bad head");
-    check_fault("nodes 9 workers 1\nbegin\n", "line 1: bad head");
+    check_fault("nodes 17 workers 1\nbegin\n", "line 1: bad head");
     check_fault("nodes 1 workers 1\na 0.00 0.00\n", "line 3: no begin");
     let after = |event: &str| format!("nodes 1 workers 1\n{OPENING}ack 0\n{event}\nack x\n");
     check_fault(&after(""), "line 7: unknown event");

@@ -9,7 +9,7 @@ const HEADS: [&str; 18] = [
     "nodes 1 workers",
     "nodes 1 workers 1 1",
     "nodes 0 workers 1",
-    "nodes 9 workers 1",
+    "nodes 17 workers 1",
     "nodes 1 workers 0",
     "nodes 1 workers 17",
     "nodes 01 workers 1",
