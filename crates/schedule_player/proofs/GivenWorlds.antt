@@ -12,7 +12,7 @@ use Rattle.sb_sequencer.specs.Sequencer.{SequencerOf}
 use Rattle.sb_sequencer.specs.declared.sequencer.TheConstants.{REPLICAS}
 use Rattle.schedule_player.specs.Bank.{BankOf}
 use Rattle.schedule_player.specs.Books.{IsStateAt}
-use Rattle.schedule_player.specs.NodeAlong.{IsNodeAt, IsStateAlong, Steps, seen_node}
+use Rattle.schedule_player.specs.NodeAlong.{IsNodeAt, IsStateAlong, HasState, Steps, seen_node}
 use Rattle.schedule_player.specs.Numbered.{numbered}
 use Rattle.schedule_player.specs.Observed.{state_at}
 use Rattle.schedule_player.specs.ReplicaMoves.{NodeOf, given, opened_node}
@@ -45,6 +45,19 @@ received names opening s nodes now r old new bytes result view is within at stat
 -- a replica that is there
 pub there : (now : WorldOf) (r : ℕ) → r < length now.nodes → (node : NodeOf) × (slice_get now.nodes r ≡ Some node)
 there now r within = (get_or now.nodes r (opened_node 0), slice_get-get_or now.nodes r (opened_node 0) within)
+
+-- as many are seen as there are
+pub counted : (names : List (List ℕ)) (opening : Balances) (s : SequencerOf) (nodes : List Node) (now : WorldOf) (r count : ℕ)
+    → world_of names opening s nodes ≡ now → count ≡ length nodes → r < count → r < length now.nodes
+counted names opening s nodes now r count view is within =
+    let size = ap (λ w. length w.nodes) view in
+    let many = length-map seen_node nodes in
+    omega (arith, size, many, is, within)
+
+-- the state that it has, where that is of these bytes
+pub has_these : {A : Type 0} (items : A → List ℕ) (bank : BankOf) (node : NodeOf) (state : Option A) (bytes : A) → state ≡ Some bytes
+    → HasState bank node (option_map items state) → HasState bank node (Some (items bytes))
+has_these items bank node state bytes is has = subst (λ s. HasState bank node (option_map items s)) is has
 
 -- a state of one entry or more goes to the other replica
 pub gives : (now : WorldOf) (a r size : ℕ) (node : NodeOf) → slice_get now.nodes a ≡ Some node → size ≡ node.kept → node.kept ≢ 0
