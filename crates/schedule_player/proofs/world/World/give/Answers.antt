@@ -1,4 +1,4 @@
-use Rattle.std.proofs.Common.{◌≡◌, sym, ap, subst, ◌∙◌}
+use Rattle.std.proofs.Common.{◌≡◌, sym, ap, subst, ◌∙◌, arith}
 use Rattle.std.specs.Prelude.{IfOk}
 use Rattle.sb_checkpoint.specs.Reading.{stated_length}
 use Rattle.schedule_player.specs.NodeAlong.{IsStateAlong}
@@ -12,7 +12,7 @@ receive-requires-clause-state c =
     let w = c.self.inside in
     let now = c.args.self.now in
     let donor = there now c.args.donor (counted w.directory w.opening w.sequencer w.nodes.items now c.args.donor c.len.result c.self.view_is
-    c.len.ensures c.if-donor-len.false) in
+    (omega (arith, c.len.ensures)) c.if-donor-len.false) in
     subst (λ world. IsStateAlong (bank_of world) c.in-Some.bytes.items) (sym c.in_ok-bytes.ensures.same)
     (has_these (λ bytes. bytes.items) (bank_of now) donor.0 c.in_ok-bytes.field-0 c.in-Some.bytes c.in-Some.is
     (c.in_ok-bytes.ensures.kept donor.0 donor.1)).0
@@ -22,7 +22,7 @@ returns-clause-moves c =
     let w = c.self.inside in
     let now = c.args.self.now in
     let donor = there now c.args.donor (counted w.directory w.opening w.sequencer w.nodes.items now c.args.donor c.len.result c.self.view_is
-    c.len.ensures c.if-donor-len.false) in
+    (omega (arith, c.len.ensures)) c.if-donor-len.false) in
     let size = stated_length c.in-Some.bytes.items in
     let has = has_these (λ bytes. bytes.items) (bank_of now) donor.0 c.in_ok-bytes.field-0 c.in-Some.bytes c.in-Some.is
     (c.in_ok-bytes.ensures.kept donor.0 donor.1) in
