@@ -28,7 +28,11 @@ fn with_deposits(rt: &impl Abort, alloc: Global, count: u32) -> Box<World> {
     accepts(rt, &mut world, count);
     assert!(rt; world.replicas() == 2);
     world.settle(0);
-    all_happen(rt, &mut world, &[("mark 0 ok", Note::Marked(u64::from(count)))]);
+    all_happen(
+        rt,
+        &mut world,
+        &[("mark 0 ok", Note::Marked(u64::from(count)))],
+    );
     world
 }
 
@@ -155,7 +159,9 @@ fn is_checkpoint(rt: &impl Abort, alloc: Global, world: &World, place: u32, repl
     assert!(rt; world.replicas() == 2);
     let columns = world.columns(0).expect(rt, "columns");
     let bytes = world.state(1, place).expect(rt, "a state");
-    let checkpoint = read_checkpoint(alloc, bytes, 3).ok().expect(rt, "a checkpoint");
+    let checkpoint = read_checkpoint(alloc, bytes, 3)
+        .ok()
+        .expect(rt, "a checkpoint");
     assert!(rt; checkpoint.columns().savings() == columns.savings());
     assert!(rt; checkpoint.columns().checking() == columns.checking());
     assert!(rt; checkpoint.replies() == replies);
@@ -187,7 +193,13 @@ fn a_state_is_the_checkpoint_as_it_was_sent(rt: HostRuntime) {
             ("adopt 1 3", Note::Adopted(3)),
         ],
     );
-    is_checkpoint(&rt, alloc, &world, 3, &[Reply::Done, Reply::Done, Reply::Done]);
+    is_checkpoint(
+        &rt,
+        alloc,
+        &world,
+        3,
+        &[Reply::Done, Reply::Done, Reply::Done],
+    );
     assert!(rt; world.replicas() == 2);
     assert!(rt; world.state(1, 1) == world.state(1, 2));
     assert!(rt; world.state(1, 1) == world.state(0, 1));
