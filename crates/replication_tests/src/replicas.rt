@@ -1,4 +1,4 @@
-//! Replicas: entries from the network, checkpoints and restarts.
+//! Replicas: entries from the network, checkpoints, restarts and states of other replicas.
 use crate::bank::opening;
 use crate::checkpoints::bytes;
 use crate::steps::is_so;
@@ -6,7 +6,7 @@ use cown_board::{CutFault, Done, Job, Runs};
 use sb_calls::{Op, Reply, read_call};
 use sb_checkpoint::{CheckpointFault, CheckpointStore, How, MemoryStore};
 use sb_frames::{Frame, FrameFault, encode};
-use sb_replica::{Heard, MarkFault, Replica, ReplicaFault, RestartFault};
+use sb_replica::{AdoptFault, Adopted, Heard, MarkFault, Replica, ReplicaFault, RestartFault};
 use std::process::Abort;
 
 mod cuts;
@@ -14,6 +14,7 @@ mod faults;
 mod frames;
 mod marks;
 mod restarts;
+mod states;
 mod streams;
 
 // Replica 1 of the three, over a store in memory, and its jobs that are out, the earliest first.
@@ -54,6 +55,14 @@ enum Step {
     // A checkpoint of these fields is stored, each in hexadecimal digits; or none is.
     Stored(Option<&'static [&'static str]>),
     Restart(Result<u64, RestartFault>),
+    // The state of these fields is answered so.
+    Adopt(&'static [&'static str], Result<Adopted, AdoptFault>),
+    // The state that it has: its length, and its fields; or none.
+    Keeps(Option<(u64, &'static [&'static str])>),
+    // Why it has no state to tell, and no length of one.
+    KeepsNone(RestartFault),
+    // What it says of the length of that.
+    HaveFrame(Frame),
     // What it says of its length, and of its reply to a number.
     AckFrame(Frame),
     AnswerFrame(u64, Option<Frame>),
@@ -160,6 +169,27 @@ fn restarts_so(
     }
 }
 
+fn keeps(
+    rt: &(impl Abort + AllocGlobal),
+    replica: &mut Replica<MemoryStore>,
+    state: Option<(u64, &[&str])>,
+) {
+    let kept = replica.kept_state().expect(rt, "no state is told");
+    match state {
+        None => assert!(rt; kept.is_none()),
+        Some((size, fields)) => {
+            let (length, told) = kept.expect(rt, "no state is kept");
+            assert!(rt; length == size);
+            assert!(rt; told == bytes(rt, fields));
+        }
+    }
+}
+
+fn keeps_none(rt: &impl Abort, replica: &mut Replica<MemoryStore>, fault: RestartFault) {
+    assert!(rt; replica.kept_state().err() == Some(fault));
+    assert!(rt; replica.have_frame().err() == Some(fault));
+}
+
 fn plays_one(rt: &(impl Abort + AllocGlobal), node: &mut Node, place: usize, step: &Step) {
     match *step {
         Step::Hear(number, line, heard) => hears(rt, &mut node.replica, number, line, heard),
@@ -182,6 +212,12 @@ fn plays_one(rt: &(impl Abort + AllocGlobal), node: &mut Node, place: usize, ste
         Step::Mark(answer) => is_so(rt, place, node.replica.mark() == answer),
         Step::Stored(fields) => holds(rt, &mut node.replica, fields),
         Step::Restart(answer) => restarts_so(rt, &mut node.replica, answer),
+        Step::Adopt(fields, answer) => {
+            is_so(rt, place, node.replica.adopt(&bytes(rt, fields)) == answer);
+        }
+        Step::Keeps(state) => keeps(rt, &mut node.replica, state),
+        Step::KeepsNone(fault) => keeps_none(rt, &mut node.replica, fault),
+        Step::HaveFrame(frame) => is_so(rt, place, node.replica.have_frame() == Ok(frame)),
         Step::AckFrame(frame) => is_so(rt, place, node.replica.ack_frame() == frame),
         Step::AnswerFrame(number, frame) => {
             is_so(rt, place, node.replica.answer_frame(number) == frame);

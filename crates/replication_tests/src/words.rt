@@ -1,7 +1,7 @@
 //! The numbers and the words of the faults.
 use sb_checkpoint::{CheckpointFault, StoreFault};
 use sb_frames::{FrameFault, StreamFault};
-use sb_replica::{HearingFault, MarkFault, ReplicaFault, RestartFault};
+use sb_replica::{AdoptFault, HearingFault, MarkFault, ReplicaFault, RestartFault};
 use std::fmt::Display;
 use std::process::Abort;
 
@@ -88,6 +88,21 @@ fn numbers_and_words_of_a_restarts_faults(rt: HostRuntime) {
             "bad checkpoint: long",
         ),
         (RestartFault::OutOfMemory, 3, "out of memory"),
+    ] {
+        assert!(rt; fault.number() == number, "{words}");
+        says(&rt, fault, words);
+    }
+}
+
+#[test]
+fn numbers_and_words_of_an_adoptions_faults(rt: HostRuntime) {
+    for (fault, number, words) in [
+        (
+            AdoptFault::BadCheckpoint(CheckpointFault::WrongTotal),
+            1,
+            "bad checkpoint: wrong total",
+        ),
+        (AdoptFault::OutOfMemory, 2, "out of memory"),
     ] {
         assert!(rt; fault.number() == number, "{words}");
         says(&rt, fault, words);

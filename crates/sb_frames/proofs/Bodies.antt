@@ -5,7 +5,7 @@ use Rattle.std.proofs.lemmas.Bool.{eqb-true}
 use Rattle.std.proofs.lemmas.List.{append-nil, nil_from_length}
 use Rattle.std.proofs.lemmas.List.Elements.{All-head}
 use Rattle.sb_calls.specs.Replies.{number_field, reply_field}
-use Rattle.sb_frames.specs.Decoding.{ask_at, entry_at, ack_at, answer_at, outcome_frame_at, of_tag, tagged_at, frame_of}
+use Rattle.sb_frames.specs.Decoding.{ask_at, entry_at, replica_and_length_at, answer_at, outcome_frame_at, of_tag, tagged_at, frame_of}
 use Rattle.sb_frames.specs.Fields.{call_field, outcome_field}
 use Rattle.sb_frames.specs.Grammar.{IsFrame, body}
 use Rattle.sb_frames.specs.Reading.{byte_at}
@@ -13,7 +13,7 @@ use Rattle.sb_frames.specs.Streaming.{AreBytes}
 use Rattle.sb_frames.specs.declared.fault.FrameFault.{FrameFault}
 use Rattle.sb_frames.specs.declared.fault.FrameFault.TheVariants.{BadLength, UnknownTag}
 use Rattle.sb_frames.specs.declared.frame.Frame.{Frame}
-use Rattle.sb_frames.specs.declared.frame.Frame.TheVariants.{Ask, Entry, Ack, Answer, Outcome, Flush}
+use Rattle.sb_frames.specs.declared.frame.Frame.TheVariants.{Ask, Entry, Ack, Answer, Outcome, Flush, Have}
 use Rattle.sb_frames.proofs.Calls.{call}
 use Rattle.sb_frames.proofs.Numbers.{IsField, number32, number64}
 use Rattle.sb_frames.proofs.Outcomes.{reply, outcome}
@@ -47,12 +47,17 @@ entry_takes tag bytes frame rest are is e =
     let t = two_take number64 call Entry bytes frame rest are e in
     is_behind IsFrame body tag 2 bytes (number_field w64 t.0 ++ call_field t.1) rest frame (Entry t.0 t.1) is t.4 t.5 (t.2, t.3) refl
 
-ack_takes : (tag : ℕ) (bytes : List ℕ) (frame : Frame) (rest : List ℕ) → AreBytes bytes → tag ≡ 3 → ack_at bytes ≡ Ok (frame, rest)
+-- a frame of a replica's number and a length
+replica_and_length_takes : (tag n : ℕ) (make : ℕ → ℕ → Frame)
+    → ((replica size : ℕ) → replica < 2 ^ 8 → size < 2 ^ 64
+    → IsFrame (make replica size) × (body (make replica size) ≡ n ∷ replica ∷ number_field w64 size))
+    → (bytes : List ℕ) (frame : Frame) (rest : List ℕ) → AreBytes bytes → tag ≡ n → replica_and_length_at make bytes ≡ Ok (frame, rest)
     → Framed tag bytes frame rest
-unfolding ack_at
-ack_takes tag bytes frame rest are is e =
-    let t = two_take byte number64 Ack bytes frame rest are e in
-    is_behind IsFrame body tag 3 bytes (t.0 ∷ number_field w64 t.1) rest frame (Ack t.0 t.1) is t.4 t.5 (t.2, t.3) refl
+unfolding replica_and_length_at
+replica_and_length_takes tag n make made bytes frame rest are is e =
+    let t = two_take byte number64 make bytes frame rest are e in
+    let m = made t.0 t.1 t.2 t.3 in
+    is_behind IsFrame body tag n bytes (t.0 ∷ number_field w64 t.1) rest frame (make t.0 t.1) is t.4 t.5 m.0 m.1
 
 answer_takes : (tag : ℕ) (bytes : List ℕ) (frame : Frame) (rest : List ℕ) → AreBytes bytes → tag ≡ 4 → answer_at bytes ≡ Ok (frame, rest)
     → Framed tag bytes frame rest
@@ -78,18 +83,22 @@ tag_takes : (tag : ℕ) (bytes : List ℕ) (frame : Frame) (rest : List ℕ) →
 tag_takes tag bytes frame rest are e =
     let Goal = Framed tag bytes frame rest in
     let none : Result (Frame × List ℕ) FrameFault = Err UnknownTag in
-    let six : Result (Frame × List ℕ) FrameFault = cond (eqb tag 6) (Ok (Flush, bytes)) none in
+    let seven : Result (Frame × List ℕ) FrameFault = cond (eqb tag 7) (replica_and_length_at Have bytes) none in
+    let six : Result (Frame × List ℕ) FrameFault = cond (eqb tag 6) (Ok (Flush, bytes)) seven in
     let five : Result (Frame × List ℕ) FrameFault = cond (eqb tag 5) (outcome_frame_at bytes) six in
     let four : Result (Frame × List ℕ) FrameFault = cond (eqb tag 4) (answer_at bytes) five in
-    let three : Result (Frame × List ℕ) FrameFault = cond (eqb tag 3) (ack_at bytes) four in
+    let three : Result (Frame × List ℕ) FrameFault = cond (eqb tag 3) (replica_and_length_at Ack bytes) four in
     let two : Result (Frame × List ℕ) FrameFault = cond (eqb tag 2) (entry_at bytes) three in
     tagged Goal tag 1 (ask_at bytes) two (frame, rest) e (ask_takes tag bytes frame rest are)
     (λ e2. tagged Goal tag 2 (entry_at bytes) three (frame, rest) e2 (entry_takes tag bytes frame rest are)
-    (λ e3. tagged Goal tag 3 (ack_at bytes) four (frame, rest) e3 (ack_takes tag bytes frame rest are)
+    (λ e3. tagged Goal tag 3 (replica_and_length_at Ack bytes) four (frame, rest) e3
+    (replica_and_length_takes tag 3 Ack (λ replica size v w. ((v, w), refl)) bytes frame rest are)
     (λ e4. tagged Goal tag 4 (answer_at bytes) five (frame, rest) e4 (answer_takes tag bytes frame rest are)
     (λ e5. tagged Goal tag 5 (outcome_frame_at bytes) six (frame, rest) e5 (outcome_frame_takes tag bytes frame rest are)
-    (λ e6. tagged Goal tag 6 (Ok (Flush, bytes)) none (frame, rest) e6 (flush_takes tag bytes frame rest)
-    (λ last. absurd cc))))))
+    (λ e6. tagged Goal tag 6 (Ok (Flush, bytes)) seven (frame, rest) e6 (flush_takes tag bytes frame rest)
+    (λ e7. tagged Goal tag 7 (replica_and_length_at Have bytes) none (frame, rest) e7
+    (replica_and_length_takes tag 7 Have (λ replica size v w. ((v, w), refl)) bytes frame rest are)
+    (λ last. absurd cc)))))))
 
 tagged_takes : (bytes : List ℕ) (frame : Frame) (rest : List ℕ) → AreBytes bytes → tagged_at bytes ≡ Ok (frame, rest)
     → IsFrame frame × (bytes ≡ body frame ++ rest)
@@ -101,13 +110,14 @@ tagged_takes bytes frame rest are e =
     (framed.0, front ∙ framed.1)
 
 tagged_again : (frame : Frame) (rest : List ℕ) → IsFrame frame → tagged_at (body frame ++ rest) ≡ Ok (frame, rest)
-unfolding tagged_at ask_at entry_at ack_at answer_at outcome_frame_at
+unfolding tagged_at ask_at entry_at replica_and_length_at answer_at outcome_frame_at
 tagged_again (Ask client request c) rest v = three_again number32 number32 call Ask client request c rest v.0 v.1 v.2
 tagged_again (Entry number c) rest v = two_again number64 call Entry number c rest v.0 v.1
 tagged_again (Ack replica size) rest v = two_again byte number64 Ack replica size rest v.0 v.1
 tagged_again (Answer number r) rest v = two_again number64 reply Answer number r rest v.0 v.1
 tagged_again (Outcome client request o) rest v = three_again number32 number32 outcome Outcome client request o rest v.0 v.1 v.2
 tagged_again Flush rest v = refl
+tagged_again (Have replica size) rest v = two_again byte number64 Have replica size rest v.0 v.1
 
 -- what is read as a body is one, and a body is read as its frame
 pub frame_takes : (bytes : List ℕ) (frame : Frame) → AreBytes bytes → frame_of bytes ≡ Ok frame → IsFrame frame × (bytes ≡ body frame)

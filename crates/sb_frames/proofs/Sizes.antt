@@ -13,7 +13,7 @@ use Rattle.sb_frames.specs.Grammar.{IsFrame, body}
 use Rattle.sb_frames.specs.declared.frame.AskOutcome.{AskOutcome}
 use Rattle.sb_frames.specs.declared.frame.AskOutcome.TheVariants.{Replied, Mismatch, LogFull}
 use Rattle.sb_frames.specs.declared.frame.Frame.{Frame}
-use Rattle.sb_frames.specs.declared.frame.Frame.TheVariants.{Ask, Entry, Ack, Answer, Outcome, Flush}
+use Rattle.sb_frames.specs.declared.frame.Frame.TheVariants.{Ask, Entry, Ack, Answer, Outcome, Flush, Have}
 use Rattle.sb_frames.specs.declared.frame.TheConstants.{MAX_BODY}
 use Rattle.sb_frames.proofs.Names.{name_sizes}
 
@@ -86,3 +86,4 @@ body_size (Outcome client request outcome) v =
     ) in
     (omega arith, omega arith)
 body_size Flush v = (omega arith, omega arith)
+body_size (Have replica size) v = (omega arith, omega (arith, number_size64 size))

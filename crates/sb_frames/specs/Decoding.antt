@@ -7,7 +7,7 @@ use Rattle.sb_frames.specs.Reading.{◌>>=◌, byte_at, number_at}
 use Rattle.sb_frames.specs.declared.fault.FrameFault.{FrameFault}
 use Rattle.sb_frames.specs.declared.fault.FrameFault.TheVariants.{Short, BadLength, UnknownTag}
 use Rattle.sb_frames.specs.declared.frame.Frame.{Frame}
-use Rattle.sb_frames.specs.declared.frame.Frame.TheVariants.{Ask, Entry, Ack, Answer, Outcome, Flush}
+use Rattle.sb_frames.specs.declared.frame.Frame.TheVariants.{Ask, Entry, Ack, Answer, Outcome, Flush, Have}
 use Rattle.sb_frames.specs.declared.frame.TheConstants.{MAX_BODY}
 
 -- ---- the fields of each frame
@@ -25,11 +25,12 @@ entry_at bytes = do
   call ← call_at number.1
   Ok (Entry number.0 call.0, call.1)
 
-unfoldable pub ack_at : List ℕ → Result (Frame × List ℕ) FrameFault
-ack_at bytes = do
+-- a frame of a replica's number and a length
+unfoldable pub replica_and_length_at : (ℕ → ℕ → Frame) → List ℕ → Result (Frame × List ℕ) FrameFault
+replica_and_length_at frame bytes = do
   replica ← byte_at bytes
   size ← number_at w64 replica.1
-  Ok (Ack replica.0 size.0, size.1)
+  Ok (frame replica.0 size.0, size.1)
 
 unfoldable pub answer_at : List ℕ → Result (Frame × List ℕ) FrameFault
 answer_at bytes = do
@@ -51,10 +52,11 @@ abbrev pub of_tag : ℕ → List ℕ → Result (Frame × List ℕ) FrameFault
 of_tag tag bytes =
     if tag == 1 then ask_at bytes
     else if tag == 2 then entry_at bytes
-    else if tag == 3 then ack_at bytes
+    else if tag == 3 then replica_and_length_at Ack bytes
     else if tag == 4 then answer_at bytes
     else if tag == 5 then outcome_frame_at bytes
     else if tag == 6 then Ok (Flush, bytes)
+    else if tag == 7 then replica_and_length_at Have bytes
     else Err UnknownTag
 
 -- a tag, and its fields

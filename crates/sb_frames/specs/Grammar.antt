@@ -7,7 +7,7 @@ use Rattle.sb_frames.specs.Fields.{call_field, outcome_field}
 use Rattle.sb_frames.specs.declared.frame.AskOutcome.{AskOutcome}
 use Rattle.sb_frames.specs.declared.frame.AskOutcome.TheVariants.{Replied, Mismatch, LogFull}
 use Rattle.sb_frames.specs.declared.frame.Frame.{Frame}
-use Rattle.sb_frames.specs.declared.frame.Frame.TheVariants.{Ask, Entry, Ack, Answer, Outcome, Flush}
+use Rattle.sb_frames.specs.declared.frame.Frame.TheVariants.{Ask, Entry, Ack, Answer, Outcome, Flush, Have}
 
 -- its reply, if it has one, is a reply
 abbrev pub IsOutcome : AskOutcome → Type 0
@@ -23,6 +23,7 @@ IsFrame (Ack replica size) = (replica < 2 ^ 8) × (size < 2 ^ 64)
 IsFrame (Answer number reply) = (number < 2 ^ 64) × IsReply reply
 IsFrame (Outcome client request outcome) = (client < 2 ^ 32) × (request < 2 ^ 32) × IsOutcome outcome
 IsFrame Flush = Unit {0}
+IsFrame (Have replica size) = (replica < 2 ^ 8) × (size < 2 ^ 64)
 
 -- the tag, and the fields in order
 abbrev pub body : Frame → List ℕ
@@ -33,6 +34,7 @@ body (Answer number reply) = 4 ∷ (number_field w64 number ++ reply_field reply
 body (Outcome client request outcome) =
     5 ∷ (number_field w32 client ++ (number_field w32 request ++ outcome_field outcome))
 body Flush = 6 ∷ []
+body (Have replica size) = 7 ∷ replica ∷ number_field w64 size
 
 -- the length of the body in two bytes, and the body
 unfoldable pub spelling : Frame → List ℕ

@@ -5,6 +5,7 @@ ghost use Rattle.sb_frames.specs.Decoding.{decoded};
 ghost use Rattle.sb_frames.specs.Grammar.{Spells};
 ghost use Rattle.sb_frames.specs.Reading.{TakesField};
 ghost use Rattle.sb_frames.specs.declared.frame.Frame.{Frame as AnyFrame};
+ghost use Rattle.sb_frames.specs.declared.frame.Frame.TheVariants.{Ack, Have};
 
 use crate::call::read_call;
 use crate::fault::FrameFault;
@@ -25,6 +26,8 @@ pub(crate) const ANSWER: u8 = 4;
 pub(crate) const OUTCOME: u8 = 5;
 
 pub(crate) const FLUSH: u8 = 6;
+
+pub(crate) const HAVE: u8 = 7;
 
 #[tactic(auto, unfolding(crate::specs::Decoding::ask_at))]
 fn read_ask(fields: &mut Fields) -> Result<Frame, FrameFault>
@@ -48,9 +51,9 @@ fn read_entry(fields: &mut Fields) -> Result<Frame, FrameFault>
     })
 }
 
-#[tactic(auto, unfolding(crate::specs::Decoding::ack_at))]
+#[tactic(auto, unfolding(crate::specs::Decoding::replica_and_length_at))]
 fn read_ack(fields: &mut Fields) -> Result<Frame, FrameFault>
-    ensures { TakesField result fields.new (spec.ack_at fields.old) }
+    ensures { TakesField result fields.new (spec.replica_and_length_at Ack fields.old) }
 {
     Ok(Frame::Ack {
         replica: fields.byte()?,
@@ -79,6 +82,16 @@ fn read_outcome_frame(fields: &mut Fields) -> Result<Frame, FrameFault>
     })
 }
 
+#[tactic(auto, unfolding(crate::specs::Decoding::replica_and_length_at))]
+fn read_have(fields: &mut Fields) -> Result<Frame, FrameFault>
+    ensures { TakesField result fields.new (spec.replica_and_length_at Have fields.old) }
+{
+    Ok(Frame::Have {
+        replica: fields.byte()?,
+        length: fields.u64()?,
+    })
+}
+
 // The frame, by its tag. This and what it leads to are inlined: a frame handed from one to the next would be copied
 // each time.
 #[inline]
@@ -93,6 +106,7 @@ fn read_tagged(fields: &mut Fields) -> Result<Frame, FrameFault>
         ANSWER => read_answer(fields),
         OUTCOME => read_outcome_frame(fields),
         FLUSH => Ok(Frame::Flush),
+        HAVE => read_have(fields),
         _ => Err(FrameFault::UnknownTag),
     }
 }

@@ -3,9 +3,9 @@ ghost use Rattle.std.specs.Prelude.{◌≡◌, ◌≤◌, length};
 ghost use Rattle.sb_frames.specs.Grammar as grammar;
 ghost use Rattle.sb_frames.specs.Grammar.{IsFrame, Spells};
 
-use crate::decoding::{ACK, ANSWER, ASK, ENTRY, FLUSH, OUTCOME};
+use crate::decoding::{ACK, ANSWER, ASK, ENTRY, FLUSH, HAVE, OUTCOME};
 use crate::frame::{Frame, MAX_FRAME};
-use crate::writing::{Body, put, put_call, put_outcome, put_reply};
+use crate::writing::{Body, put, put_call, put_outcome, put_replica_and_length, put_reply};
 use arrayvec::ArrayVec;
 
 // The tag and the fields.
@@ -32,8 +32,7 @@ fn body_of(frame: &Frame) -> Body
             put_call(&mut body, call);
         }
         Frame::Ack { replica, length } => {
-            put(&mut body, &[ACK, *replica]);
-            put(&mut body, &length.to_be_bytes());
+            put_replica_and_length(&mut body, ACK, *replica, *length);
         }
         Frame::Answer { number, reply } => {
             put(&mut body, &[ANSWER]);
@@ -51,6 +50,9 @@ fn body_of(frame: &Frame) -> Body
             put_outcome(&mut body, *outcome);
         }
         Frame::Flush => put(&mut body, &[FLUSH]),
+        Frame::Have { replica, length } => {
+            put_replica_and_length(&mut body, HAVE, *replica, *length);
+        }
     }
     body
 }

@@ -56,6 +56,13 @@ pub enum Frame {
     /// What was sent before is to be handled now. It has no fields.
     #[default]
     Flush,
+    /// The checkpoint that a replica keeps is of this length.
+    Have {
+        /// The replica's number.
+        replica: u8,
+        /// The checkpoint's length, 0 where the replica keeps none.
+        length: u64,
+    },
 }
 
 /// How a client's ask ended.

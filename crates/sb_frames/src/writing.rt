@@ -1,8 +1,9 @@
 //! Fields written at the end of a body.
 ghost use Rattle.std.specs.Prelude.{◌≡◌, ◌+◌, ◌≤◌, ◌∷◌, ◌++◌, length};
+ghost use Rattle.std.specs.Int.{w64};
 ghost use Rattle.sb_amount.specs.Limit.{IsWithinLimit};
 ghost use Rattle.sb_calls.specs.Call.{IsCall};
-ghost use Rattle.sb_calls.specs.Replies.{IsReply, amount_field, reply_field};
+ghost use Rattle.sb_calls.specs.Replies.{IsReply, amount_field, number_field, reply_field};
 ghost use Rattle.sb_rows.specs.Name.{IsName};
 ghost use Rattle.sb_frames.specs.Fields.{name_field, call_field, no_reply_field, outcome_field};
 ghost use Rattle.sb_frames.specs.Grammar.{IsOutcome};
@@ -19,7 +20,8 @@ use sb_rows::{NAME_BYTES, Name};
 pub(crate) type Body = ArrayVec<u8, MAX_BODY>;
 
 // How many bytes each field takes at most: a name with its length, cents, a call of a name and an amount
-// with its kind, any call (two names are the most), a reply with its code, and an outcome with its status.
+// with its kind, any call (two names are the most), a reply with its code, an outcome with its status, and
+// a replica's number and a length behind their tag.
 const NAME_FIELD: usize = 1 + NAME_BYTES;
 
 const AMOUNT_FIELD: usize = 8;
@@ -32,6 +34,8 @@ const REPLY_FIELD: usize = 1 + AMOUNT_FIELD;
 
 const OUTCOME_FIELD: usize = 1 + REPLY_FIELD;
 
+const REPLICA_AND_LENGTH: usize = 2 + 8;
+
 /// Puts bytes last.
 #[inline]
 pub(crate) fn put(body: &mut Body, bytes: &[u8])
@@ -39,6 +43,16 @@ pub(crate) fn put(body: &mut Body, bytes: &[u8])
     ensures { body.new.items ≡ body.old.items ++ bytes.now }
 {
     body.try_extend_from_slice(bytes).unwrap();
+}
+
+/// A tag, a replica's number and a length, in `REPLICA_AND_LENGTH` bytes.
+#[tactic(auto, unfolding(sb_calls::specs::Replies::number_field))]
+pub(crate) fn put_replica_and_length(body: &mut Body, tag: u8, replica: u8, size: u64)
+    requires { length body.old.items + REPLICA_AND_LENGTH ≤ MAX_BODY }
+    ensures { body.new.items ≡ body.old.items ++ (tag ∷ replica ∷ number_field w64 size) }
+{
+    put(body, &[tag, replica]);
+    put(body, &size.to_be_bytes());
 }
 
 // At most `NAME_FIELD` bytes.

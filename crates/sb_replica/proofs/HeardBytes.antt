@@ -7,7 +7,7 @@ use Rattle.sb_frames.specs.Decoding.{decoded}
 use Rattle.sb_frames.specs.Grammar.{IsFrame, Spells, spelling}
 use Rattle.sb_frames.specs.declared.fault.FrameFault.TheVariants.{BadLength}
 use Rattle.sb_frames.specs.declared.frame.Frame.{Frame}
-use Rattle.sb_frames.specs.declared.frame.Frame.TheVariants.{Ask, Entry, Ack, Answer, Outcome, Flush}
+use Rattle.sb_frames.specs.declared.frame.Frame.TheVariants.{Ask, Entry, Ack, Answer, Outcome, Flush, Have}
 use Rattle.sb_replica.specs.Hearing.{Hears, after_frame, all_of, heard, whole_frame}
 use Rattle.sb_replica.specs.Replica.{ReplicaOf, log_of, with_log}
 use Rattle.sb_replica.specs.Streams.{IsEntry}
@@ -44,3 +44,4 @@ ignores old (Ack replica size) valid other = hears_frame old (Ack replica size) 
 ignores old (Answer number reply) valid other = hears_frame old (Answer number reply) valid
 ignores old (Outcome client request outcome) valid other = hears_frame old (Outcome client request outcome) valid
 ignores old Flush valid other = hears_frame old Flush valid
+ignores old (Have replica size) valid other = hears_frame old (Have replica size) valid

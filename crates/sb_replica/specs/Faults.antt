@@ -1,5 +1,7 @@
 -- The numbers of a replica's faults.
 use Rattle.std.specs.Prelude.{ℕ}
+use Rattle.sb_replica.specs.declared.fault.AdoptFault.{AdoptFault}
+use Rattle.sb_replica.specs.declared.fault.AdoptFault.TheVariants as adopt
 use Rattle.sb_replica.specs.declared.fault.HearingFault.{HearingFault}
 use Rattle.sb_replica.specs.declared.fault.HearingFault.TheVariants as hearing
 use Rattle.sb_replica.specs.declared.fault.MarkFault.{MarkFault}
@@ -26,3 +28,7 @@ abbrev pub restart_fault_number : RestartFault → ℕ
 restart_fault_number restart.Device = 1
 restart_fault_number (restart.BadCheckpoint fault) = 2
 restart_fault_number restart.OutOfMemory = 3
+
+abbrev pub adopt_fault_number : AdoptFault → ℕ
+adopt_fault_number (adopt.BadCheckpoint fault) = 1
+adopt_fault_number adopt.OutOfMemory = 2

@@ -9,7 +9,7 @@ use Rattle.sb_frames.specs.Decoding.{decoded}
 use Rattle.sb_frames.specs.declared.fault.FrameFault.{FrameFault}
 use Rattle.sb_frames.specs.declared.fault.FrameFault.TheVariants.{BadLength}
 use Rattle.sb_frames.specs.declared.frame.Frame.{Frame}
-use Rattle.sb_frames.specs.declared.frame.Frame.TheVariants.{Ask, Entry, Ack, Answer, Outcome, Flush}
+use Rattle.sb_frames.specs.declared.frame.Frame.TheVariants.{Ask, Entry, Ack, Answer, Outcome, Flush, Have}
 use Rattle.sb_replica_log.specs.Log.{LogOf}
 use Rattle.sb_replica_log.specs.Offers.{offered, after_offer, advanced}
 use Rattle.sb_replica_log.specs.declared.offered.Offered.{Offered}
@@ -43,6 +43,7 @@ heard board (Ack replica size) = Ignored
 heard board (Answer number reply) = Ignored
 heard board (Outcome client request outcome) = Ignored
 heard board Flush = Ignored
+heard board (Have replica size) = Ignored
 
 -- the log after a frame: only an entry changes it
 abbrev pub after_frame : List (List ℕ) → LogOf → Frame → LogOf
@@ -52,6 +53,7 @@ after_frame names log (Ack replica size) = log
 after_frame names log (Answer number reply) = log
 after_frame names log (Outcome client request outcome) = log
 after_frame names log Flush = log
+after_frame names log (Have replica size) = log
 
 -- what the op that is held for the next number is heard as, if there is one
 abbrev pub heard_next : LogOf → Option Heard

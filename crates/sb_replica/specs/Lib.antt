@@ -4,4 +4,5 @@ pub mod Hearing
 pub mod Marking
 pub mod Replica
 pub mod Restarting
+pub mod States
 pub mod Streams

@@ -8,7 +8,7 @@ use Rattle.sb_frames.specs.Grammar.{spelling}
 use Rattle.sb_frames.specs.Streaming.{StreamState, Next, StepsTo, IsShort, FailsBy}
 use Rattle.sb_frames.specs.declared.fault.StreamFault.{StreamFault}
 use Rattle.sb_frames.specs.declared.frame.Frame.{Frame}
-use Rattle.sb_frames.specs.declared.frame.Frame.TheVariants.{Ask, Entry, Ack, Answer, Outcome, Flush}
+use Rattle.sb_frames.specs.declared.frame.Frame.TheVariants.{Ask, Entry, Ack, Answer, Outcome, Flush, Have}
 use Rattle.sb_replica.specs.Hearing.{Hears, heard}
 use Rattle.sb_replica.specs.Replica.{ReplicaOf}
 use Rattle.sb_replica.specs.declared.fault.HearingFault.{HearingFault}
@@ -44,6 +44,7 @@ IsEntry (Ack replica size) = ⊥
 IsEntry (Answer number reply) = ⊥
 IsEntry (Outcome client request outcome) = ⊥
 IsEntry Flush = ⊥
+IsEntry (Have replica size) = ⊥
 
 -- an entry that there was room for: it isn't lost
 abbrev pub IsEntryInTime : HeardFrame → Type 0

@@ -1,7 +1,9 @@
 //! Why a replica didn't do what it was asked.
 ghost use Rattle.std.specs.Prelude.{◌≡◌};
-ghost use Rattle.sb_replica.specs.Faults.{replica_fault_number, hearing_fault_number, mark_fault_number, restart_fault_number};
+ghost use Rattle.sb_replica.specs.Faults.{replica_fault_number, hearing_fault_number, mark_fault_number, restart_fault_number, adopt_fault_number};
 ghost use Rattle.sb_replica.specs.Restarting.{of_store_fault, of_checkpoint_fault};
+ghost use Rattle.sb_replica.specs.States.{adopt_fault_of};
+ghost use Rattle.sb_replica.specs.declared.fault.AdoptFault.TheVariants as adopt;
 ghost use Rattle.sb_replica.specs.declared.fault.RestartFault.TheVariants as restart;
 
 use sb_checkpoint::{CheckpointFault, StoreFault};
@@ -135,6 +137,48 @@ impl From<CheckpointFault> for RestartFault {
         match fault {
             CheckpointFault::OutOfMemory => RestartFault::OutOfMemory,
             _ => RestartFault::BadCheckpoint(fault),
+        }
+    }
+}
+
+/// Why another replica's state wasn't adopted. The replica is as it was.
+#[derive(Clone, Copy, Debug, PartialEq, Eq, Error, Drop)]
+pub enum AdoptFault {
+    /// The bytes are no checkpoint of this bank.
+    #[error("bad checkpoint: {0}")]
+    BadCheckpoint(CheckpointFault),
+    /// Memory was refused.
+    #[error("out of memory")]
+    OutOfMemory,
+}
+
+impl AdoptFault {
+    /// The number of the fault, from 1 to 2 in the order of the variants.
+    pub fn number(&self) -> u8
+        ensures { result ≡ adopt_fault_number self.now }
+    {
+        match self {
+            AdoptFault::BadCheckpoint(_) => 1,
+            AdoptFault::OutOfMemory => 2,
+        }
+    }
+}
+
+impl From<AllocError> for AdoptFault {
+    ghost from_gives = { λ _ fault. fault ≡ adopt.OutOfMemory };
+
+    fn from(_: AllocError) -> AdoptFault {
+        AdoptFault::OutOfMemory
+    }
+}
+
+impl From<CheckpointFault> for AdoptFault {
+    ghost from_gives = { λ fault answer. answer ≡ adopt_fault_of fault };
+
+    fn from(fault: CheckpointFault) -> AdoptFault {
+        match fault {
+            CheckpointFault::OutOfMemory => AdoptFault::OutOfMemory,
+            _ => AdoptFault::BadCheckpoint(fault),
         }
     }
 }

@@ -1,6 +1,7 @@
-//! One node of the bank: entries in order, checkpoints, restarts.
+//! One node of the bank: entries in order, checkpoints, restarts, states of other nodes.
 #![tactic(auto)]
 
+mod adopted;
 mod fault;
 mod heard;
 mod hearing;
@@ -10,9 +11,11 @@ mod pause;
 mod replica;
 mod restarting;
 mod running;
+mod states;
 mod streams;
 
-pub use fault::{HearingFault, MarkFault, ReplicaFault, RestartFault};
+pub use adopted::Adopted;
+pub use fault::{AdoptFault, HearingFault, MarkFault, ReplicaFault, RestartFault};
 pub use heard::Heard;
 pub use laws::limits;
 pub use pause::Pause;

@@ -12,19 +12,22 @@ use crate::fault::RestartFault;
 use crate::replica::Replica;
 use cown_board::Board;
 use sb_calls::{LOG_CALLS, Reply};
-use sb_checkpoint::{CheckpointStore, read_checkpoint};
+use sb_checkpoint::CheckpointStore;
 use sb_replica_log::ReplicaLog;
 use sb_rows::Columns;
-use std::alloc::Global;
+use std::alloc::{AllocError, Global};
 
 // The log of a board on these columns, with the replies to the numbers before it.
-fn log_on(alloc: Global, columns: Columns, replies: Vec<Reply>) -> Result<ReplicaLog, RestartFault>
-    requires few { length replies.items ≤ LOG_CALLS }
-    ensures log { IfOk result (λ log. log ≡ record {
+pub(crate) fn log_on(
+    alloc: Global,
+    columns: Columns,
+    replies: Vec<Reply>,
+) -> Result<ReplicaLog, AllocError>
+    requires { length replies.items ≤ LOG_CALLS }
+    ensures { IfOk result (λ log. log ≡ record {
       board = opened_with columns replies.items;
       held = none_held;
     }) }
-    ensures err { IfErr result (λ fault. fault ≡ RestartFault.OutOfMemory) }
 {
     let length = replies.len() as u64;
     let board = Board::open(alloc, columns, length, replies)?;
@@ -49,7 +52,7 @@ impl<S: CheckpointStore> Replica<S> {
     }
 
     // The log that was here is gone, with its cut and what it held.
-    fn go_on_from(&mut self, log: ReplicaLog)
+    pub(crate) fn go_on_from(&mut self, log: ReplicaLog)
         requires customers { length log.board.opening.savings ≡ length self.old.names }
         requires replies { All IsReply log.board.earlier }
         ensures { self.new ≡ with_log self.old log }
@@ -68,7 +71,7 @@ impl<S: CheckpointStore> Replica<S> {
             (IsRefusalOf (length self.now.names) (option_map (λ bytes. bytes.items) held)) }
     {
         let (columns, replies) = self.held_parts(held)?;
-        log_on(self.alloc, columns, replies)
+        Ok(log_on(self.alloc, columns, replies)?)
     }
 
     // The balances and the replies that the store holds, or those of the opening where it holds nothing.
@@ -87,8 +90,7 @@ impl<S: CheckpointStore> Replica<S> {
     {
         match held {
             Some(bytes) => {
-                let customers = self.opening.customers();
-                let checkpoint = read_checkpoint(self.alloc, &bytes, customers)?;
+                let checkpoint = self.checkpoint_in(&bytes)?;
                 Ok(checkpoint.into_parts())
             }
             None => Ok((self.opening.copy()?, Vec::new(self.alloc))),

@@ -7,9 +7,9 @@ ghost use Rattle.sb_sequencer.specs.Numbering.{first_asks};
 
 use crate::sequencer::{REPLICAS, RESEND};
 
-/// A sequencer has at most 8 replicas, and sends at most 16 entries again at a time.
+/// A sequencer has at most 16 replicas, and sends at most 16 entries again at a time.
 pub fn limits()
-    ensures replicas { REPLICAS ≡ 8 }
+    ensures replicas { REPLICAS ≡ 16 }
     ensures resend { RESEND ≡ 16 }
 {}
 

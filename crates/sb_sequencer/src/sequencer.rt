@@ -22,7 +22,7 @@ use std::alloc::{AllocError, Global};
 use std::marker::Model;
 
 /// How many replicas a sequencer has at most.
-pub const REPLICAS: usize = 8;
+pub const REPLICAS: usize = 16;
 
 /// How many entries are sent again to a replica at most.
 pub const RESEND: usize = 16;

@@ -15,14 +15,14 @@ use Rattle.schedule_player.specs.Bank.{BankOf}
 use Rattle.schedule_player.specs.Comes.{may_come, audit_may_come}
 use Rattle.schedule_player.specs.Numbered.{numbered}
 use Rattle.schedule_player.specs.ReplicaEvents.{replica_of, node_move}
-use Rattle.schedule_player.specs.ReplicaMoves.{NodeOf, length_in, undone_in, told_reply, reply_in_node, sent, frame_comes, next_taken, cut_after, undone_up_to, marked_to}
-use Rattle.schedule_player.specs.World.{WorldOf, Asks, Moves, bank_of, moved, replica_move, moved_if, moved_at, keeps, told, heard_from, books_after, audited}
+use Rattle.schedule_player.specs.ReplicaMoves.{NodeOf, length_in, undone_in, told_reply, reply_in_node, sent, frame_comes, next_taken, cut_after, undone_up_to, marked_to, state_comes, given}
+use Rattle.schedule_player.specs.World.{WorldOf, Asks, Moves, bank_of, moved, replica_move, moved_if, moved_at, keeps, told, heard_from, given_from, IsDonorNoted, books_after, audited}
 use Rattle.schedule_text.specs.declared.event.Event.{Event}
 use Rattle.schedule_text.specs.declared.event.Event.TheVariants as event
 use Rattle.schedule_text.specs.declared.note.AuditNote.TheVariants as audit
 use Rattle.schedule_text.specs.declared.note.Note.{Note}
 use Rattle.schedule_text.specs.declared.note.Note.TheVariants as note
-use Rattle.schedule_player.proofs.Working.{next_by, entry_by, mark_by, takes_quietly, finishes_quietly}
+use Rattle.schedule_player.proofs.Working.{next_by, entry_by, mark_by, state_by, give_by, takes_quietly, finishes_quietly}
 
 comes_if : (world : WorldOf) (r : ℕ) (move : NodeOf → NodeOf × Note) → ((node : NodeOf) → may_come (move node).1 ≡ true)
     → (found : Option NodeOf) → may_come (moved_if world r move found).1 ≡ true
@@ -73,6 +73,14 @@ takes_next node (Some true) = next_does node (suc (length_in node)) (undone_in n
 takes_next node (Some false) = refl
 takes_next node None = refl
 
+begins_so : (node : NodeOf) (size : ℕ) (behind : Bool) → may_come (state_by node size behind).1 ≡ true
+begins_so node size true = refl
+begins_so node size false = refl
+
+adopts : (node : NodeOf) (state : Option ℕ) → may_come (state_comes node state).1 ≡ true
+adopts node (Some size) = begins_so node size (nat_le size (length_in node))
+adopts node None = refl
+
 cuts : (node : NodeOf) (cut : Option ℕ) → may_come (cut_after node cut).1 ≡ true
 cuts node (Some size) = refl
 cuts node None = refl
@@ -86,6 +94,7 @@ kept_so world n reply None = refl
 
 told_so : (world : WorldOf) (r : ℕ) (sent : Option Frame) → may_come (told world r sent).1 ≡ true
 told_so world r (Some (frame.Ack replica size)) = refl
+told_so world r (Some (frame.Have replica size)) = refl
 told_so world r (Some (frame.Answer n reply)) = kept_so world n reply (kept_at world.sequencer n)
 told_so world r other = refl
 
@@ -93,7 +102,20 @@ heard_so : (world : WorldOf) (r place : ℕ) (found : Option NodeOf) → may_com
 heard_so world r place (Some node) = told_so world r (numbered node.outbound place)
 heard_so world r place None = refl
 
+donor_so : (s : SequencerOf) (r : ℕ) (n : Note) → IsDonorNoted s r n → may_come n ≡ true
+donor_so s r (note.Donor donor size) is = refl
+donor_so s r note.Nothing is = refl
+donor_so s r other is = absurd is
+
 -- ---- of two replicas
+
+gives_by : (world : WorldOf) (r size : ℕ) (nothing : Bool) → may_come (give_by world r size nothing).1 ≡ true
+gives_by world r size true = refl
+gives_by world r size false = comes_at world r (λ node. given node size) (λ node. refl)
+
+gives_so : (world : WorldOf) (r : ℕ) (found : Option NodeOf) → may_come (given_from world r found).1 ≡ true
+gives_so world r (Some donor) = gives_by world r donor.kept (donor.kept == 0)
+gives_so world r None = refl
 
 tests_so : (bank : BankOf) (a b : ℕ) (first second : NodeOf) (idle also same : Bool)
     → audit_may_come (if idle then (if also then (if same then books_after bank (length_in first)
@@ -122,6 +144,8 @@ node_so bank s node (event.Mark r end) = marks node end node.cut
 node_so bank s node (event.Restart r) = refl
 node_so bank s node (event.Cut r) = cuts node node.cut
 node_so bank s node (event.Next r) = takes_next node (slice_get node.held 0)
+node_so bank s node (event.Have r) = refl
+node_so bank s node (event.Adopt r place) = adopts node (numbered node.states place)
 node_so bank s node other = refl
 
 replica_so : (world : WorldOf) (happens : Event) (r : Option ℕ) → may_come (replica_move world happens r).1 ≡ true
@@ -131,6 +155,7 @@ replica_so world happens None = refl
 
 moved_so : (world : WorldOf) (happens : Event) → may_come (moved world happens).1 ≡ true
 moved_so world (event.From r place) = heard_so world r place (slice_get world.nodes r)
+moved_so world (event.Give a r) = gives_so world r (slice_get world.nodes a)
 moved_so world (event.Audit a b) = audits_so (bank_of world) a b (slice_get world.nodes a) (slice_get world.nodes b)
 moved_so world other = replica_so world other (replica_of other)
 
@@ -143,4 +168,5 @@ asks_so old ask other new asks = absurd asks
 
 pub comes_of : (old : WorldOf) (happens : Event) (n : Note) (new : WorldOf) → Moves old happens n new → may_come n ≡ true
 comes_of old (event.Ask client request call) n new moves = asks_so old (record { client = client; request = request }, call) n new moves
+comes_of old (event.Donor r) n new moves = donor_so old.sequencer r n moves.0
 comes_of old other n new moves = ap (λ m. may_come m.1) (sym moves) ∙ moved_so old other

@@ -13,6 +13,7 @@ use Rattle.sb_calls.specs.OneByOne.{reply_by_log}
 use Rattle.sb_calls.specs.declared.op.Op.{Op}
 use Rattle.sb_calls.specs.declared.reply.Reply.{Reply}
 use Rattle.sb_calls.proofs.OneByOneRuns.{log_by_cowns}
+use Rattle.sb_checkpoint.specs.Reading.{stated_length}
 use Rattle.schedule_player.specs.Along.{IsBoardAlong}
 use Rattle.schedule_player.specs.Bank.{BankOf, log_reply}
 use Rattle.schedule_player.specs.NodeAlong.{number_in, seen_node, IsHandAlong, IsNodeAt, Arrives}
@@ -70,7 +71,7 @@ finishes_nothing bank r old new worker place is w empty replica within hands = r
       ∙ ap (λ node. (node, note.Nothing)) (sym (same_node (seen_node new) (seen_node old) (ap (λ rep. stages_of rep.board) replica)
       (ap (map (option_map number_in)) (hands ∙ set_same old.hands.items place None empty))
       (kept_within old new within) (ap (λ rep. rep.board.cut) replica) (held_within old new within)
-      within.inbound within.outbound));
+      within.inbound within.outbound (ap (map stated_length) within.states)));
 }
 
 -- ---- whether it is out
@@ -137,7 +138,7 @@ finishes_stranger bank r old new worker place job done is w here of not_out boar
           ∙ stranger_unless_out bank (emptied (seen_node old) worker) job.number (numbered (stages_of old.replica.board) job.number) absent
           ∙ ap (λ node. (node, note.Stranger job.number)) (sym (same_node (seen_node new) (emptied (seen_node old) worker) (ap stages_of board)
           (hands_emptied old new worker place w hands) (kept_within old new within) (ap (λ b. b.cut) board) (held_within old new within)
-          within.inbound within.outbound));
+          within.inbound within.outbound (ap (map stated_length) within.states)));
     }
 
 pub finishes_done : (bank : BankOf) (r : ℕ) (old new : Node) (worker place : ℕ) (job : JobOf Op) (done : DoneOf Op) (reply : Reply)
@@ -169,5 +170,5 @@ finishes_done bank r old new worker place job done reply is w here of finishes w
           (ap stages_of finishes.finished ∙ stages_set board finishes.place (Finished reply)
           ∙ ap (λ n. with_numbered (stages_of board) n IsDone) (sym number))
           (hands_emptied old new worker place w hands) (kept_within old new within) (ap (λ b. b.cut) finishes.finished)
-          (held_within old new within) within.inbound within.outbound));
+          (held_within old new within) within.inbound within.outbound (ap (map stated_length) within.states)));
     }

@@ -13,13 +13,14 @@ use Rattle.sb_calls.specs.declared.call.Call.{Call}
 use Rattle.sb_calls.specs.declared.reply.Reply.{Reply}
 use Rattle.sb_frames.specs.declared.frame.Frame.{Frame}
 use Rattle.sb_frames.specs.declared.frame.Frame.TheVariants as frame
-use Rattle.sb_sequencer.specs.Notes.{hears_ack, recording, IsAnswerNote, after_answer}
+use Rattle.sb_sequencer.specs.Notes.{hears_ack, recording, hears_have, recording_have, IsAnswerNote, after_answer}
 use Rattle.sb_sequencer.specs.Sequencer.{SequencerOf}
 use Rattle.sb_sequencer.specs.declared.note.AckNote.TheVariants as acks
 use Rattle.sb_sequencer.specs.declared.note.AnswerNote.{AnswerNote}
 use Rattle.sb_sequencer.specs.declared.note.AnswerNote.TheVariants as answers
+use Rattle.sb_sequencer.specs.declared.note.HaveNote.TheVariants as haves
 use Rattle.schedule_player.specs.Bank.{BankOf, opening_rows, log_reply}
-use Rattle.schedule_player.specs.HearsFrame.{ack_noted, answer_noted, HearsFrame}
+use Rattle.schedule_player.specs.HearsFrame.{ack_noted, have_noted, answer_noted, HearsFrame}
 use Rattle.schedule_player.specs.NodeAlong.{seen_node, IsToldBy}
 use Rattle.schedule_player.specs.Numbered.{numbered}
 use Rattle.schedule_player.specs.World.{bank_with, keeps, told, heard_from}
@@ -64,8 +65,44 @@ module _ (names : List (List ℕ)) (opening : Balances) (s : SequencerOf) (nodes
                 log = is.valid.log;
                 answers = is.valid.answers;
                 recorded = All-set (λ n. n ≤ length s.log) s.recorded r size within is.valid.recorded;
+                each = is.valid.each ∙ sym (length-set s.recorded r size);
+                checkpoints = is.valid.checkpoints;
               };
               known = length-set s.recorded r size ∙ is.known;
+              few = is.few;
+              each = is.each;
+              staffed = is.staffed;
+              answers = is.answers;
+            });
+        moved = λ j. (world_of names opening (sym new_is j) nodes, sym noted_is j);
+      }
+
+  -- ---- the length of a checkpoint
+
+  haves_so : (r size : ℕ) → r < length nodes → size ≤ length s.log → hears_have s r size ≡ haves.Recorded
+  haves_so r size known within =
+      let l : nat_lt r (length s.recorded) ≡ true = lt-ltb r (length s.recorded) (omega (arith, known, is.known)) in
+      let w : nat_le size (length s.log) ≡ true = le-leb size (length s.log) within in
+      λ j. if l j && w j then haves.Recorded else haves.Odd
+
+  hears_checkpoint : (r size : ℕ) (noted : Note) (new : SequencerOf) → r < length nodes → size ≤ length s.log
+      → HearsFrame s (frame.Have r size) noted new → Hears names opening s nodes r (frame.Have r size) noted new
+  hears_checkpoint r size noted new known within hears =
+      let so = haves_so r size known within in
+      let new_is : new ≡ record s { checkpoints = slice_set s.checkpoints r size } = hears.1 ∙ ap (recording_have s r size) so in
+      let noted_is : noted ≡ note.Has size = hears.0 ∙ ap (have_noted size) so in
+      record {
+        is = subst (λ x. IsWorld names opening x nodes) (sym new_is)
+            (record {
+              customers = is.customers;
+              valid = record {
+                log = is.valid.log;
+                answers = is.valid.answers;
+                recorded = is.valid.recorded;
+                each = length-set s.checkpoints r size ∙ is.valid.each;
+                checkpoints = All-set (λ n. n ≤ length s.log) s.checkpoints r size within is.valid.checkpoints;
+              };
+              known = is.known;
               few = is.few;
               each = is.each;
               staffed = is.staffed;
@@ -95,6 +132,8 @@ module _ (names : List (List ℕ)) (opening : Balances) (s : SequencerOf) (nodes
       log = is.valid.log;
       answers = length-set s.answers place (Some reply) ∙ is.valid.answers;
       recorded = is.valid.recorded;
+      each = is.valid.each;
+      checkpoints = is.valid.checkpoints;
     };
     known = is.known;
     few = is.few;
@@ -152,6 +191,20 @@ module _ (names : List (List ℕ)) (opening : Balances) (s : SequencerOf) (nodes
             ap (λ q. (
               record (world_of names opening s nodes) { sequencer = record s { recorded = slice_set s.recorded q size } },
               note.Recorded size,
+            )) (sym same)
+            ∙ heard.moved;
+      }
+  hears_by r (frame.Have replica size) noted new known by hears =
+      let m = length-map (λ entry. entry.1) s.log in
+      let same = by.0 in
+      let within : size ≤ length s.log = let few = by.1 in omega (arith, few, m) in
+      let heard = hears_checkpoint replica size noted new (omega (arith, known, same)) within hears in
+      record {
+        is = heard.is;
+        moved =
+            ap (λ q. (
+              record (world_of names opening s nodes) { sequencer = record s { checkpoints = slice_set s.checkpoints q size } },
+              note.Has size,
             )) (sym same)
             ∙ heard.moved;
       }

@@ -9,6 +9,7 @@ pub mod Cuts
 pub mod EmptyHands
 pub mod FinalStates
 pub mod Finishing
+pub mod GivenStates
 pub mod HeardFrames
 pub mod HeldEntries
 pub mod Keeping
@@ -31,6 +32,7 @@ pub mod SettledWorlds
 pub mod Sharing
 pub mod Staffing
 pub mod Stages
+pub mod StateMoves
 pub mod Storing
 pub mod Telling
 pub mod Undone

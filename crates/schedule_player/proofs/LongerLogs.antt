@@ -18,7 +18,7 @@ use Rattle.sb_frames.specs.declared.frame.Frame.{Frame}
 use Rattle.sb_frames.specs.declared.frame.Frame.TheVariants as frame
 use Rattle.schedule_player.specs.Along.{IsBoardAlong, IsJobAlong, IsCheckpointAlong, AreHeldAlong}
 use Rattle.schedule_player.specs.Bank.{BankOf, log_reply}
-use Rattle.schedule_player.specs.NodeAlong.{IsToldBy, IsHandAlong, IsNodeAt}
+use Rattle.schedule_player.specs.NodeAlong.{IsToldBy, IsKeptAlong, IsHandAlong, IsNodeAt}
 use Rattle.schedule_player.specs.Numbered.{numbered}
 use Rattle.schedule_player.specs.Seen.{ops_of}
 use Rattle.schedule_player.specs.declared.node.Node.{Node}
@@ -54,9 +54,20 @@ hand_stays bank call (Some job) along =
     subst (λ ops. IsJobAlong (held_of bank.opening) ops job) (sym (ops_with bank call))
     (job_longer (held_of bank.opening) (ops_of bank) (resolved bank.names call ∷ []) job along)
 
+-- what is stored, or sent as a state
+kept_stays : (bank : BankOf) (call : Call) (slot : Option (List ℕ)) → IsKeptAlong bank slot → IsKeptAlong (with_call bank call) slot
+kept_stays bank call slot kept = record {
+  checkpoint = kept.checkpoint;
+  stored = kept.stored;
+  along = subst (λ ops. IsCheckpointAlong (held_of bank.opening) ops kept.checkpoint) (sym (ops_with bank call))
+      (checkpoint_longer (held_of bank.opening) (ops_of bank) (resolved bank.names call ∷ []) kept.checkpoint kept.along);
+}
+
 told_stays : (bank : BankOf) (call : Call) (r : ℕ) (told : Frame) → SameCustomers bank.names bank.opening → IsToldBy bank r told
     → IsToldBy (with_call bank call) r told
 told_stays bank call r (frame.Ack replica size) same by =
+    let more = length-append bank.calls (call ∷ []) in let few = by.1 in (by.0, omega (arith, more, few))
+told_stays bank call r (frame.Have replica size) same by =
     let more = length-append bank.calls (call ∷ []) in let few = by.1 in (by.0, omega (arith, more, few))
 told_stays bank call r (frame.Answer number reply) same by = reply_stays bank call number reply same by
 told_stays bank call r (frame.Ask client request asked) same by = absurd by
@@ -78,12 +89,7 @@ node_longer bank call r node few is =
       board = subst (λ ops. IsBoardAlong o ops node.replica.board) (sym (ops_with bank call)) (board_longer o (ops_of bank) more node.replica.board is.board);
       held = subst (λ ops. AreHeldAlong ops (length_of node.replica.board) node.replica.held) (sym (ops_with bank call))
           (held_longer (ops_of bank) more (length_of node.replica.board) node.replica.held is.held);
-      kept = record {
-        checkpoint = is.kept.checkpoint;
-        stored = is.kept.stored;
-        along = subst (λ ops. IsCheckpointAlong o ops is.kept.checkpoint) (sym (ops_with bank call))
-            (checkpoint_longer o (ops_of bank) more is.kept.checkpoint is.kept.along);
-      };
+      kept = kept_stays bank call node.replica.store.slot is.kept;
       hands = λ k hand here. hand_stays bank call hand (is.hands k hand here);
       inbound = λ k sent here.
           let entry = is.inbound k sent here in
@@ -94,4 +100,5 @@ node_longer bank call r node few is =
             in_log = numbered_longer bank.calls (call ∷ []) entry.number entry.call entry.in_log;
           };
       outbound = λ k told here. told_stays bank call r told is.customers (is.outbound k told here);
+      states = λ k bytes here. kept_stays bank call (Some bytes) (is.states k bytes here);
     }

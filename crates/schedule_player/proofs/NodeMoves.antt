@@ -9,10 +9,11 @@ use Rattle.sb_calls.specs.Behaviour.{declared_cowns, effect_of}
 use Rattle.sb_calls.specs.Cowns.{held_of}
 use Rattle.sb_calls.specs.declared.op.Op.{Op}
 use Rattle.sb_checkpoint.specs.MemoryStore.{MemoryStoreOf}
+use Rattle.sb_checkpoint.specs.Reading.{stated_length}
 use Rattle.sb_replica.specs.Replica.{ReplicaOf, BesideOf, beside_of}
 use Rattle.schedule_player.specs.Along.{IsBoardAlong, AreHeldAlong}
 use Rattle.schedule_player.specs.Bank.{BankOf}
-use Rattle.schedule_player.specs.NodeAlong.{number_in, seen_node, IsEntryOf, IsToldBy, IsKeptAlong, IsHandAlong, IsNodeAt, IsAsBefore, Arrives}
+use Rattle.schedule_player.specs.NodeAlong.{number_in, seen_node, IsEntryOf, IsToldBy, IsKeptAlong, IsStateAlong, IsHandAlong, IsNodeAt, IsAsBefore, Arrives}
 use Rattle.schedule_player.specs.Numbered.{numbered, with_numbered, Every}
 use Rattle.schedule_player.specs.Readiness.{runnable}
 use Rattle.schedule_player.specs.ReplicaMoves.{NodeOf, goes_out, reaches_out, taken}
@@ -47,6 +48,7 @@ node_stored bank r old new is beside board held kept = record {
   hands = is.hands;
   inbound = is.inbound;
   outbound = is.outbound;
+  states = is.states;
 }
 
 -- nothing but the board and the hands of the old node changed
@@ -54,6 +56,7 @@ pub record ChangesWithin (old new : Node) : Type 0 where
   pub beside : ◌≡◌ {A = BesideOf MemoryStoreOf × List (Option Op)} (beside_of new.replica, new.replica.held) (beside_of old.replica, old.replica.held)
   pub inbound : new.inbound ≡ old.inbound
   pub outbound : new.outbound ≡ old.outbound
+  pub states : new.states ≡ old.states
 
 pub node_within : (bank : BankOf) (r : ℕ) (old new : Node) → IsNodeAt bank r old → ChangesWithin old new
     → IsBoardAlong (held_of bank.opening) (ops_of bank) new.replica.board → length_of new.replica.board ≡ length_of old.replica.board
@@ -71,6 +74,7 @@ node_within bank r old new is within board size hands = record {
   hands = hands;
   inbound = subst (Every (IsEntryOf bank)) (sym within.inbound) is.inbound;
   outbound = subst (Every (IsToldBy bank r)) (sym within.outbound) is.outbound;
+  states = subst (Every (IsStateAlong bank)) (sym within.states) is.states;
 }
 
 -- nothing changed
@@ -93,9 +97,9 @@ hand_seen bank node zero = refl
 hand_seen bank node (suc k) = slice_get-map (option_map number_in) node.hands.items k
 
 pub same_node : (a b : NodeOf) → a.stages ≡ b.stages → a.hands ≡ b.hands → a.kept ≡ b.kept → a.cut ≡ b.cut → a.held ≡ b.held
-    → a.inbound ≡ b.inbound → a.outbound ≡ b.outbound → a ≡ b
-same_node a b s h k c e i o =
-    λ j. record { stages = s j; hands = h j; kept = k j; cut = c j; held = e j; inbound = i j; outbound = o j }
+    → a.inbound ≡ b.inbound → a.outbound ≡ b.outbound → a.states ≡ b.states → a ≡ b
+same_node a b s h k c e i o t =
+    λ j. record { stages = s j; hands = h j; kept = k j; cut = c j; held = e j; inbound = i j; outbound = o j; states = t j }
 
 pub kept_within : (old new : Node) → ChangesWithin old new → (seen_node new).kept ≡ (seen_node old).kept
 kept_within old new within = ap (λ b. kept_in b.0.store.slot) within.beside
@@ -128,7 +132,7 @@ takes_nothing bank r old new worker place index is w empty within hands few boar
           reaches bank old worker place index w empty ∙ ap (goes_out (seen_node old) worker) none
           ∙ ap (λ node. (node, note.Nothing)) (sym (same_node (seen_node new) (seen_node old) (ap stages_of board)
           (ap (λ h. map (option_map number_in) h.items) hands) (kept_within old new within) (ap (λ b. b.cut) board) (held_within old new within)
-          within.inbound within.outbound));
+          within.inbound within.outbound (ap (map stated_length) within.states)));
     }
 
 pub takes_job : (bank : BankOf) (r : ℕ) (old new : Node) (worker place index : ℕ) (job : JobOf Op) → IsNodeAt bank r old → worker ≡ suc place
@@ -156,6 +160,7 @@ takes_job bank r old new worker place index job is w empty within hands takes =
           (ap (map (option_map number_in)) hands ∙ set-map (option_map number_in) old.hands.items place (Some job)
           ∙ ap (λ n. slice_set (map (option_map number_in) old.hands.items) place (Some n)) takes.number
           ∙ ap (λ v. with_numbered (map (option_map number_in) old.hands.items) v (Some (suc (base + takes.place)))) (sym w))
-          (kept_within old new within) (ap (λ b. b.cut) takes.out) (held_within old new within) within.inbound within.outbound))
+          (kept_within old new within) (ap (λ b. b.cut) takes.out) (held_within old new within) within.inbound within.outbound
+          (ap (map stated_length) within.states)))
           ∙ ap (λ n. (seen_node new, note.Took n)) (sym takes.number);
     }

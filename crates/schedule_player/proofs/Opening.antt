@@ -8,10 +8,11 @@ use Rattle.sb_rows.specs.Rows.{SameCustomers}
 use Rattle.sb_calls.specs.Cowns.{held_of}
 use Rattle.sb_calls.specs.declared.call.TheConstants.{LOG_CALLS}
 use Rattle.sb_calls.specs.declared.op.Op.{Op}
+use Rattle.sb_checkpoint.specs.Reading.{stated_length}
 use Rattle.sb_replica_log.specs.Log.{none_held as empty_held}
 use Rattle.schedule_player.specs.Along.{IsBoardAlong}
 use Rattle.schedule_player.specs.Bank.{BankOf}
-use Rattle.schedule_player.specs.NodeAlong.{number_in, seen_node, IsEntryOf, IsToldBy, IsHandAlong, IsKeptAlong, IsNodeAt}
+use Rattle.schedule_player.specs.NodeAlong.{number_in, seen_node, IsEntryOf, IsToldBy, IsHandAlong, IsKeptAlong, IsStateAlong, IsNodeAt}
 use Rattle.schedule_player.specs.Numbered.{copies, Every}
 use Rattle.schedule_player.specs.ReplicaMoves.{opened_node}
 use Rattle.schedule_player.specs.Seen.{stages_of, kept_in, ops_of}
@@ -27,10 +28,10 @@ empty_seen (suc n) = ap (λ t. None ∷ t) (empty_seen n)
 
 pub opens_so : (node : Node) (workers : ℕ) → stages_of node.replica.board ≡ [] → node.replica.board.cut ≡ None
     → node.replica.held ≡ empty_held → node.replica.store.slot ≡ None → node.hands.items ≡ copies workers None → node.inbound ≡ [] → node.outbound ≡ []
-    → seen_node node ≡ opened_node workers
-opens_so node workers stages cut held slot hands inbound outbound =
+    → node.states ≡ [] → seen_node node ≡ opened_node workers
+opens_so node workers stages cut held slot hands inbound outbound states =
     same_node (seen_node node) (opened_node workers) stages (ap (map (option_map number_in)) hands ∙ empty_seen workers)
-    (ap kept_in slot) cut (none_seen node.replica.held held) inbound outbound
+    (ap kept_in slot) cut (none_seen node.replica.held held) inbound outbound (ap (map stated_length) states)
 
 empty_hand : (bank : BankOf) (workers k : ℕ) (hand : Option (JobOf Op)) → slice_get (copies workers None) k ≡ Some hand → IsHandAlong bank hand
 empty_hand bank zero k hand here = absurd (none_some here)
@@ -40,8 +41,9 @@ empty_hand bank (suc n) (suc k) hand here = empty_hand bank n k hand here
 pub opens_along : (bank : BankOf) (r : ℕ) (node : Node) (workers : ℕ) → SameCustomers bank.names bank.opening → length bank.calls ≤ LOG_CALLS
     → node.replica.id ≡ r → node.replica.names ≡ bank.names → node.replica.opening ≡ bank.opening
     → node.replica.board ≡ opened_with bank.opening [] → node.replica.held ≡ empty_held → node.replica.store.slot ≡ None
-    → node.hands.items ≡ copies workers None → node.inbound ≡ [] → node.outbound ≡ [] → IsNodeAt bank r node
-opens_along bank r node workers same few id names opening board held slot hands inbound outbound =
+    → node.hands.items ≡ copies workers None → node.inbound ≡ [] → node.outbound ≡ [] → node.states ≡ []
+    → IsNodeAt bank r node
+opens_along bank r node workers same few id names opening board held slot hands inbound outbound states =
     let made = opening_along (held_of bank.opening) (ops_of bank) bank.opening refl in
     record {
       customers = same;
@@ -57,4 +59,5 @@ opens_along bank r node workers same few id names opening board held slot hands 
       hands = subst (Every (IsHandAlong bank)) (sym hands) (λ k hand here. empty_hand bank workers k hand here);
       inbound = subst (Every (IsEntryOf bank)) (sym inbound) (every_nil (IsEntryOf bank));
       outbound = subst (Every (IsToldBy bank r)) (sym outbound) (every_nil (IsToldBy bank r));
+      states = subst (Every (IsStateAlong bank)) (sym states) (every_nil (IsStateAlong bank));
     }

@@ -1,6 +1,6 @@
 -- Events one after the other.
-use Rattle.std.proofs.Common.{◌≡◌, true, ℕ, Option, Some, None, Result, Ok, Err, List, [], ◌∷◌, ◌++◌, length, map, refl, sym, ap, subst, ◌∙◌}
-use Rattle.std.specs.Prelude.{slice_get, IfOk, OnErr}
+use Rattle.std.proofs.Common.{◌≡◌, Bool, true, false, ℕ, Option, Some, None, Result, Ok, Err, List, [], ◌∷◌, ◌++◌, length, map, refl, sym, ap, subst, ◌∙◌}
+use Rattle.std.specs.Prelude.{slice_get, ◌==◌, IfOk, OnErr}
 use Rattle.std.specs.List.{cons_option, filter_map}
 use Rattle.std.proofs.lemmas.List.{length-set}
 use Rattle.sb_calls.specs.declared.ask.Key.{Key}
@@ -18,14 +18,15 @@ use Rattle.schedule_player.specs.Numbered.{numbered}
 use Rattle.schedule_player.specs.declared.fault.StepFault.{StepFault}
 use Rattle.schedule_player.specs.Played.{Plays, ask_in, log_of, bank_after, IsPlayed, with_events}
 use Rattle.schedule_player.specs.ReplicaEvents.{replica_of, node_move}
-use Rattle.schedule_player.specs.ReplicaMoves.{NodeOf}
-use Rattle.schedule_player.specs.World.{WorldOf, Asks, Moves, bank_of, moved, replica_move, moved_if, moved_at, keeps, told, heard_from, opened_world}
+use Rattle.schedule_player.specs.ReplicaMoves.{NodeOf, given}
+use Rattle.schedule_player.specs.World.{WorldOf, Asks, Moves, bank_of, moved, replica_move, moved_if, moved_at, keeps, told, heard_from, given_from, opened_world}
 use Rattle.schedule_text.specs.ScheduleText.{ScheduleOf}
 use Rattle.schedule_text.specs.declared.event.Event.{Event}
 use Rattle.schedule_text.specs.declared.event.Event.TheVariants as event
 use Rattle.schedule_text.specs.declared.note.Note.{Note}
 use Rattle.schedule_text.specs.declared.note.Note.TheVariants as note
 use Rattle.schedule_player.proofs.Coming.{comes_of}
+use Rattle.schedule_player.proofs.Working.{give_by}
 
 -- ---- what stays, and what becomes of the log
 
@@ -51,6 +52,7 @@ leaves_kept world n reply None = record { names = refl; opening = refl; log_is =
 
 leaves_told : (world : WorldOf) (r : ℕ) (sent : Option Frame) → Leaves world (told world r sent).0 world.sequencer.log
 leaves_told world r (Some (frame.Ack replica size)) = record { names = refl; opening = refl; log_is = refl; count = refl }
+leaves_told world r (Some (frame.Have replica size)) = record { names = refl; opening = refl; log_is = refl; count = refl }
 leaves_told world r (Some (frame.Answer n reply)) = leaves_kept world n reply (kept_at world.sequencer n)
 leaves_told world r other = record { names = refl; opening = refl; log_is = refl; count = refl }
 
@@ -62,8 +64,17 @@ leaves_by : (world : WorldOf) (happens : Event) (r : Option ℕ) → Leaves worl
 leaves_by world happens (Some r) = leaves_at world r (λ node. node_move (bank_of world) world.sequencer node happens)
 leaves_by world happens None = record { names = refl; opening = refl; log_is = refl; count = refl }
 
+leaves_given_by : (world : WorldOf) (r size : ℕ) (nothing : Bool) → Leaves world (give_by world r size nothing).0 world.sequencer.log
+leaves_given_by world r size true = record { names = refl; opening = refl; log_is = refl; count = refl }
+leaves_given_by world r size false = leaves_at world r (λ node. given node size)
+
+leaves_given : (world : WorldOf) (r : ℕ) (found : Option NodeOf) → Leaves world (given_from world r found).0 world.sequencer.log
+leaves_given world r (Some donor) = leaves_given_by world r donor.kept (donor.kept == 0)
+leaves_given world r None = record { names = refl; opening = refl; log_is = refl; count = refl }
+
 leaves_moved : (world : WorldOf) (happens : Event) → Leaves world (moved world happens).0 world.sequencer.log
 leaves_moved world (event.From r place) = leaves_heard world r place (slice_get world.nodes r)
+leaves_moved world (event.Give a r) = leaves_given world r (slice_get world.nodes a)
 leaves_moved world (event.Audit a b) = record { names = refl; opening = refl; log_is = refl; count = refl }
 leaves_moved world other = leaves_by world other (replica_of other)
 
@@ -109,6 +120,8 @@ with_ask log (Some ask) = log_with log ask
 leaves_one : (old : WorldOf) (happens : Event) (n : Note) (new : WorldOf) → Moves old happens n new
     → Leaves old new (with_ask old.sequencer.log (ask_in happens))
 leaves_one old (event.Ask client request call) n new moves = leaves_asked old (record { client = client; request = request }, call) n new moves
+leaves_one old (event.Donor r) n new moves =
+    subst (λ w. Leaves old w old.sequencer.log) (sym moves.1) (record { names = refl; opening = refl; log_is = refl; count = refl })
 leaves_one old other n new moves = leaves_so old other n new moves
 
 -- ---- many events

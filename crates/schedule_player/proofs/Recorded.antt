@@ -21,10 +21,10 @@ use Rattle.schedule_player.specs.Numbered.{numbered}
 use Rattle.schedule_player.specs.Played.{IsPlayed}
 use Rattle.schedule_player.specs.Readiness.{runnable}
 use Rattle.schedule_player.specs.ReplicaEvents.{node_move}
-use Rattle.schedule_player.specs.ReplicaMoves.{NodeOf, length_in, undone_in, told_reply, reply_in_node, sent, sent_all, frame_comes, delivered_to, next_taken, advanced, goes_out, reaches_out, taken, emptied, comes_back, gives_back, finished_by, cut_after, cut_off, undone_up_to, marked_to, marked, restarted}
+use Rattle.schedule_player.specs.ReplicaMoves.{NodeOf, length_in, undone_in, told_reply, reply_in_node, sent, sent_all, frame_comes, delivered_to, next_taken, advanced, goes_out, reaches_out, taken, emptied, comes_back, gives_back, finished_by, cut_after, cut_off, undone_up_to, marked_to, marked, restarted, state_comes, adopted, given}
 use Rattle.schedule_player.specs.Stage.{Stage, Waits, IsOut, IsDone}
-use Rattle.schedule_player.specs.TrueToLog.{IsTold, RecordsWereTold}
-use Rattle.schedule_player.specs.World.{WorldOf, Asks, bank_of, moved_if, moved_at, keeps, told, heard_from, opened_world}
+use Rattle.schedule_player.specs.TrueToLog.{IsTold, WereTold, RecordsWereTold}
+use Rattle.schedule_player.specs.World.{WorldOf, Asks, bank_of, moved_if, moved_at, keeps, told, heard_from, given_from, opened_world}
 use Rattle.schedule_text.specs.ScheduleText.{ScheduleOf}
 use Rattle.schedule_text.specs.declared.event.Event.{Event}
 use Rattle.schedule_text.specs.declared.event.Event.TheVariants as event
@@ -32,7 +32,7 @@ use Rattle.schedule_text.specs.declared.note.Note.{Note}
 use Rattle.schedule_text.specs.declared.note.Note.TheVariants as note
 use Rattle.schedule_player.proofs.Keeping.{all_keep}
 use Rattle.schedule_player.proofs.Lists.{some_is, none_some}
-use Rattle.schedule_player.proofs.Working.{next_by, entry_by, mark_by}
+use Rattle.schedule_player.proofs.Working.{next_by, entry_by, mark_by, state_by, give_by}
 
 -- ---- a replica's frames only become more
 
@@ -105,55 +105,69 @@ cuts : (node : NodeOf) (cut : Option ℕ) → (cut_after node cut).0.outbound �
 cuts node (Some size) = refl
 cuts node None = refl
 
+adopts_by : (node : NodeOf) (size : ℕ) (behind : Bool) → (state_by node size behind).0.outbound ≡ node.outbound
+adopts_by node size true = refl
+adopts_by node size false = refl
+
+adopts : (node : NodeOf) (state : Option ℕ) → (state_comes node state).0.outbound ≡ node.outbound
+adopts node (Some size) = adopts_by node size (nat_le size (length_in node))
+adopts node None = refl
+
 -- ---- what is recorded
 
-told_longer : (old new : NodeOf) (size : ℕ) → Tells old new → IsTold old size → IsTold new size
-told_longer old new size more is = (
+told_longer : (kind : ℕ → ℕ → Frame) (old new : NodeOf) (size : ℕ) → Tells old new → IsTold kind old size → IsTold kind new size
+told_longer kind old new size more is = (
   is.0,
   is.1,
   ap (λ frames. slice_get frames is.0) more.1
-      ∙ slice_get-left old.outbound more.0 is.0 (slice_get_within old.outbound is.0 (frame.Ack is.1 size) is.2)
+      ∙ slice_get-left old.outbound more.0 is.0 (slice_get_within old.outbound is.0 (kind is.1 size) is.2)
       ∙ is.2,
 )
+
+-- a replica told more
+were_longer : (kind : ℕ → ℕ → Frame) (nodes : List NodeOf) (sizes : List ℕ) (r : ℕ) (node new : NodeOf) → Tells node new → WereTold kind nodes sizes
+    → slice_get nodes r ≡ Some node → WereTold kind (slice_set nodes r new) sizes
+were_longer kind nodes sizes r node new more were here = λ q now size there recorded. elim (cases_eq r q) [
+  | inl same ↦
+      let within = slice_get_within nodes r node here in
+      let is : new ≡ now =
+      some_is (sym (slice_get-set_same nodes r new within) ∙ ap (slice_get (slice_set nodes r new)) same ∙ there) in
+      elim (were q node size (ap (slice_get nodes) (sym same) ∙ here) recorded) [
+        | inl none ↦ inl none
+        | inr told ↦ inr (subst (λ n. IsTold kind n size) is (told_longer kind node new size more told))
+      ]
+  | inr differs ↦
+      were q now size (sym (slice_get-set_other nodes r q new (λ e. differs (sym e))) ∙ there) recorded
+]
 
 records_if : (world : WorldOf) (r : ℕ) (move : NodeOf → NodeOf × Note) → ((node : NodeOf) → Tells node (move node).0) → RecordsWereTold world
     → (found : Option NodeOf) → slice_get world.nodes r ≡ found → RecordsWereTold (moved_if world r move found).0
 records_if world r move more were None here = were
-records_if world r move more were (Some node) here = λ q now size there recorded. elim (cases_eq r q) [
-  | inl same ↦
-      let within = slice_get_within world.nodes r node here in
-      let is : (move node).0 ≡ now =
-      some_is (sym (slice_get-set_same world.nodes r (move node).0 within) ∙ ap (slice_get (slice_set world.nodes r (move node).0)) same ∙ there) in
-      elim (were q node size (ap (slice_get world.nodes) (sym same) ∙ here) recorded) [
-        | inl none ↦ inl none
-        | inr told ↦ inr (subst (λ n. IsTold n size) is (told_longer node (move node).0 size (more node) told))
-      ]
-  | inr differs ↦
-      were q now size (sym (slice_get-set_other world.nodes r q (move node).0 (λ e. differs (sym e))) ∙ there) recorded
-]
+records_if world r move more were (Some node) here = (
+  were_longer frame.Ack world.nodes world.sequencer.recorded r node (move node).0 (more node) were.0 here,
+  were_longer frame.Have world.nodes world.sequencer.checkpoints r node (move node).0 (more node) were.1 here,
+)
 
 records_at : (world : WorldOf) (r : ℕ) (move : NodeOf → NodeOf × Note) → ((node : NodeOf) → Tells node (move node).0) → RecordsWereTold world
     → RecordsWereTold (moved_at world r move).0
 records_at world r move more were = records_if world r move more were (slice_get world.nodes r) refl
 
 -- a length that is heard stands in the list
-records_length : (world : WorldOf) (r place : ℕ) (node : NodeOf) (replica size : ℕ) → RecordsWereTold world → slice_get world.nodes r ≡ Some node
-    → numbered node.outbound place ≡ Some (frame.Ack replica size)
-    → RecordsWereTold (record world { sequencer = record world.sequencer { recorded = slice_set world.sequencer.recorded r size } })
-records_length world r zero node replica size were here told = absurd (none_some told)
-records_length world r (suc place) node replica size were here told = λ q now length_of there recorded. elim (cases_eq r q) [
+were_set : (kind : ℕ → ℕ → Frame) (nodes : List NodeOf) (sizes : List ℕ) (r place : ℕ) (node : NodeOf) (replica size : ℕ) → WereTold kind nodes sizes
+    → slice_get nodes r ≡ Some node → numbered node.outbound place ≡ Some (kind replica size)
+    → WereTold kind nodes (slice_set sizes r size)
+were_set kind nodes sizes r zero node replica size were here told = absurd (none_some told)
+were_set kind nodes sizes r (suc place) node replica size were here told = λ q now length_of there recorded. elim (cases_eq r q) [
   | inl same ↦
-      let within : r < length world.sequencer.recorded =
-      subst (λ n. r < n) (length-set world.sequencer.recorded r size)
-      (subst (λ p. p < length (slice_set world.sequencer.recorded r size)) (sym same)
-      (slice_get_within (slice_set world.sequencer.recorded r size) q length_of recorded)) in
+      let within : r < length sizes =
+      subst (λ n. r < n) (length-set sizes r size)
+      (subst (λ p. p < length (slice_set sizes r size)) (sym same) (slice_get_within (slice_set sizes r size) q length_of recorded)) in
       let is : size ≡ length_of =
-      some_is (sym (slice_get-set_same world.sequencer.recorded r size within)
-      ∙ ap (slice_get (slice_set world.sequencer.recorded r size)) same ∙ recorded) in
-      let node_is : node ≡ now = some_is (sym here ∙ ap (slice_get world.nodes) same ∙ there) in
-      inr (subst (λ n. IsTold n length_of) node_is (place, replica, told ∙ ap (λ s. Some (frame.Ack replica s)) is))
+      some_is (sym (slice_get-set_same sizes r size within) ∙ ap (slice_get (slice_set sizes r size)) same ∙ recorded) in
+      let node_is : node ≡ now = some_is (sym here ∙ ap (slice_get nodes) same ∙ there) in
+      inr (subst (λ n. IsTold kind n length_of) node_is (place, replica, told ∙ ap (λ s. Some (kind replica s)) is))
   | inr differs ↦
-      were q now length_of there (sym (slice_get-set_other world.sequencer.recorded r q size (λ e. differs (sym e))) ∙ recorded)
+      were q now length_of there (sym (slice_get-set_other sizes r q size (λ e. differs (sym e))) ∙ recorded)
 ]
 
 records_kept : (world : WorldOf) (n : ℕ) (reply : Reply) (kept : Option (Option Reply)) → RecordsWereTold world
@@ -164,7 +178,10 @@ records_kept world n reply None were = were
 
 records_told : (world : WorldOf) (r place : ℕ) (node : NodeOf) (heard : Option Frame) → RecordsWereTold world → slice_get world.nodes r ≡ Some node
     → numbered node.outbound place ≡ heard → RecordsWereTold (told world r heard).0
-records_told world r place node (Some (frame.Ack replica size)) were here is = records_length world r place node replica size were here is
+records_told world r place node (Some (frame.Ack replica size)) were here is =
+    (were_set frame.Ack world.nodes world.sequencer.recorded r place node replica size were.0 here is, were.1)
+records_told world r place node (Some (frame.Have replica size)) were here is =
+    (were.0, were_set frame.Have world.nodes world.sequencer.checkpoints r place node replica size were.1 here is)
 records_told world r place node (Some (frame.Answer n reply)) were here is = records_kept world n reply (kept_at world.sequencer n) were
 records_told world r place node other were here is = were
 
@@ -186,6 +203,8 @@ tells_node bank s node (event.Mark r end) = same node (marked node end).0 (marks
 tells_node bank s node (event.Restart r) = same node (restarted node).0 refl
 tells_node bank s node (event.Cut r) = same node (cut_off node).0 (cuts node node.cut)
 tells_node bank s node (event.Next r) = same node (advanced node).0 (takes_next node (slice_get node.held 0))
+tells_node bank s node (event.Have r) = (frame.Have r node.kept ∷ [], refl)
+tells_node bank s node (event.Adopt r place) = same node (adopted node place).0 (adopts node (numbered node.states place))
 tells_node bank s node other = same node node refl
 
 records_node : (world : WorldOf) (happens : Event) (r : ℕ) → RecordsWereTold world
@@ -196,6 +215,17 @@ records_node world happens r were =
 
 records_from : (world : WorldOf) (r place : ℕ) → RecordsWereTold world → RecordsWereTold (heard_from world r place (slice_get world.nodes r)).0
 records_from world r place were = records_heard world r place (slice_get world.nodes r) were refl
+
+records_given_by : (world : WorldOf) (r size : ℕ) (nothing : Bool) → RecordsWereTold world → RecordsWereTold (give_by world r size nothing).0
+records_given_by world r size true were = were
+records_given_by world r size false were = records_at world r (λ node. given node size) (λ node. same node (given node size).0 refl) were
+
+records_given : (world : WorldOf) (a r : ℕ) → RecordsWereTold world → RecordsWereTold (given_from world r (slice_get world.nodes a)).0
+records_given world a r were = by (slice_get world.nodes a)
+  where
+    by : (found : Option NodeOf) → RecordsWereTold (given_from world r found).0
+    by None = were
+    by (Some donor) = records_given_by world r donor.kept (donor.kept == 0) were
 
 -- an ask records nothing
 records_asked : (old : WorldOf) (ask : Key × Call) (n : Note) (new : WorldOf) → Asks old ask n new → RecordsWereTold old → RecordsWereTold new
@@ -212,5 +242,8 @@ zero_at (suc n) (suc k) size here = zero_at n k size here
 
 pub records_played : (schedule : ScheduleOf) (world : WorldOf) → IsPlayed schedule world → RecordsWereTold world
 records_played schedule world played =
-    all_keep RecordsWereTold records_node records_from records_asked (opened_world schedule) schedule.events played.notes world played.plays
-    (λ r node size there recorded. inl (zero_at schedule.nodes r size recorded))
+    all_keep RecordsWereTold records_node records_from records_given records_asked (opened_world schedule) schedule.events played.notes world played.plays
+    (
+      (λ r node size there recorded. inl (zero_at schedule.nodes r size recorded)),
+      (λ r node size there recorded. inl (zero_at schedule.nodes r size recorded)),
+    )

@@ -16,14 +16,14 @@ use Rattle.schedule_player.specs.Bank.{BankOf}
 use Rattle.schedule_player.specs.Numbered.{numbered, with_numbered, copies}
 use Rattle.schedule_player.specs.Readiness.{runnable}
 use Rattle.schedule_player.specs.ReplicaEvents.{node_move}
-use Rattle.schedule_player.specs.ReplicaMoves.{NodeOf, opened_node, length_in, undone_in, told_reply, reply_in_node, sent, accepts, frame_comes, next_taken, goes_out, reaches_out, emptied, comes_back, gives_back, cut_after, undone_up_to, marked_to, restarted}
+use Rattle.schedule_player.specs.ReplicaMoves.{NodeOf, opened_node, length_in, undone_in, told_reply, reply_in_node, sent, accepts, frame_comes, next_taken, goes_out, reaches_out, emptied, comes_back, gives_back, cut_after, undone_up_to, marked_to, begun_at, state_comes}
 use Rattle.schedule_player.specs.Staffed.{AreInHands, IsStaffed}
 use Rattle.schedule_player.specs.Stage.{Stage, Waits, IsOut, IsDone}
 use Rattle.schedule_text.specs.declared.event.Event.{Event}
 use Rattle.schedule_text.specs.declared.event.Event.TheVariants as event
 use Rattle.schedule_player.proofs.Lists.{some_is, none_some, every_copies, pushed_cases}
 use Rattle.schedule_player.proofs.Stages.{length-copies}
-use Rattle.schedule_player.proofs.Working.{next_by, entry_by, mark_by}
+use Rattle.schedule_player.proofs.Working.{next_by, entry_by, mark_by, state_by}
 
 -- ---- items that are counted from 1
 
@@ -163,13 +163,21 @@ marks : (node : NodeOf) (end : How) (cut : Option ℕ) → IsStaffed node → Is
 marks node end (Some n) is = puts node n end (undone_up_to node n == 0) is
 marks node end None is = puts node (length_in node) end (undone_in node == 0) is
 
--- all that is kept is done
-restarts : (node : NodeOf) → IsStaffed node → IsStaffed (restarted node).0
-restarts node is = record { some = is.some; few = is.few; out = found }
+-- all that it begins with is done
+begins : (node : NodeOf) (size : ℕ) → IsStaffed node → IsStaffed (begun_at node size)
+begins node size is = record { some = is.some; few = is.few; out = found }
   where
-    found : (n : ℕ) → numbered (copies node.kept IsDone) n ≡ Some IsOut → (worker : ℕ) × (numbered node.hands worker ≡ Some (Some n))
+    found : (n : ℕ) → numbered (copies size IsDone) n ≡ Some IsOut → (worker : ℕ) × (numbered node.hands worker ≡ Some (Some n))
     found zero here = absurd (none_some here)
-    found (suc k) here = absurd (every_copies (λ stage. stage ≡ IsOut → ⊥) node.kept IsDone done_or_out k IsOut here refl)
+    found (suc k) here = absurd (every_copies (λ stage. stage ≡ IsOut → ⊥) size IsDone done_or_out k IsOut here refl)
+
+adopts_by : (node : NodeOf) (size : ℕ) (behind : Bool) → IsStaffed node → IsStaffed (state_by node size behind).0
+adopts_by node size true is = is
+adopts_by node size false is = begins node size is
+
+adopts : (node : NodeOf) (state : Option ℕ) → IsStaffed node → IsStaffed (state_comes node state).0
+adopts node (Some size) is = adopts_by node size (nat_le size (length_in node)) is
+adopts node None is = is
 
 sends : (node : NodeOf) (entry : Option Frame) → IsStaffed node → IsStaffed (sent node entry).0
 sends node (Some entry) is = is
@@ -190,9 +198,11 @@ stays_staffed bank s node (event.Answer r n) is = replies node n (reply_in_node 
 stays_staffed bank s node (event.Take r worker index) is = reaches bank node worker index (numbered node.hands worker) refl is
 stays_staffed bank s node (event.Finish r worker) is = gives bank node worker (numbered node.hands worker) refl is
 stays_staffed bank s node (event.Mark r end) is = marks node end node.cut is
-stays_staffed bank s node (event.Restart r) is = restarts node is
+stays_staffed bank s node (event.Restart r) is = begins node node.kept is
 stays_staffed bank s node (event.Cut r) is = cuts node node.cut is
 stays_staffed bank s node (event.Next r) is = advances node (slice_get node.held 0) is
+stays_staffed bank s node (event.Have r) is = is
+stays_staffed bank s node (event.Adopt r place) is = adopts node (numbered node.states place) is
 stays_staffed bank s node other is = is
 
 -- at the opening nothing is out

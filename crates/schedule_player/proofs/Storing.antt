@@ -22,7 +22,7 @@ use Rattle.sb_checkpoint.specs.declared.store.StoreFault.{StoreFault}
 use Rattle.sb_checkpoint.specs.declared.store.StoreFault.TheVariants as store
 use Rattle.sb_replica.specs.Marking.{Puts, IsMarkFaultOf, up_to_cut}
 use Rattle.sb_replica.specs.Replica.{ReplicaOf, replies_held}
-use Rattle.sb_replica.specs.Restarting.{IsStoredAs, Restarts, IsRestartFaultOf, IsRefusalOf, of_store_fault}
+use Rattle.sb_replica.specs.Restarting.{IsStoredAs, IsLogOn, Restarts, IsRestartFaultOf, IsRefusalOf, of_store_fault}
 use Rattle.sb_replica.specs.declared.fault.MarkFault.TheVariants as fault
 use Rattle.sb_replica.specs.declared.fault.RestartFault.{RestartFault}
 use Rattle.sb_replica.specs.declared.fault.RestartFault.TheVariants as restart
@@ -32,7 +32,7 @@ use Rattle.schedule_player.specs.Along.{IsBoardAlong, AreHeldAlong}
 use Rattle.schedule_player.specs.Bank.{BankOf}
 use Rattle.schedule_player.specs.NodeAlong.{seen_node, IsKeptAlong, IsNodeAt, IsAsBefore, Arrives}
 use Rattle.schedule_player.specs.Numbered.{copies}
-use Rattle.schedule_player.specs.ReplicaMoves.{NodeOf, cut_after, cut_off, put_ends, marked, restarted}
+use Rattle.schedule_player.specs.ReplicaMoves.{NodeOf, cut_after, cut_off, put_ends, marked, begun_at, restarted}
 use Rattle.schedule_player.specs.Seen.{stages_of, kept_in, ops_of}
 use Rattle.schedule_player.specs.Stage.{IsDone}
 use Rattle.schedule_player.specs.declared.node.Node.{Node}
@@ -294,47 +294,52 @@ one_kept : (opening : Balances) (customers : ℕ) (slot : Option (List ℕ)) (a 
 one_kept opening customers None a b is_a is_b = is_a ∙ sym is_b
 one_kept opening customers (Some bytes) a b is_a is_b = one_checkpoint a b bytes is_a.0 is_b.0
 
-kept_of : (opening : Balances) (customers : ℕ) (slot : Option (List ℕ)) (checkpoint : CheckpointOf) → IsStoredAs opening customers slot checkpoint
+pub kept_of : (opening : Balances) (customers : ℕ) (slot : Option (List ℕ)) (checkpoint : CheckpointOf) → IsStoredAs opening customers slot checkpoint
     → kept_in slot ≡ length checkpoint.replies
 kept_of opening customers None checkpoint is = ap (λ c. length c.replies) (sym is)
 kept_of opening customers (Some bytes) checkpoint is = let back = read_back checkpoint bytes is.0 in back.count
+
+-- a new board on what is stored, or on a state, and no op is held: it begins at that length
+pub begins_on : (bank : BankOf) (r : ℕ) (old : Node) (new : ReplicaOf MemoryStoreOf) (slot : Option (List ℕ)) (size : ℕ) (noted : ℕ → Note) (moved : NodeOf × Note)
+    → IsNodeAt bank r old → IsKeptAlong bank slot → IsLogOn old.replica.opening (length old.replica.names) slot new.board → size ≡ length_of new.board
+    → KeepsBeside old.replica new → new.held ≡ empty_held → new.store.slot ≡ old.replica.store.slot
+    → moved ≡ (begun_at (seen_node old) (kept_in slot), noted (kept_in slot)) → Arrives bank r (record old { replica = new }) (noted size) moved
+begins_on bank r old new slot size noted moved is along on size_is beside held store e =
+    let made = along.checkpoint in
+    let read = on.checkpoint in
+    let stored : IsStoredAs bank.opening (length bank.names) slot read =
+    subst (λ o. IsStoredAs o (length bank.names) slot read) is.opening
+    (subst (λ names. IsStoredAs old.replica.opening (length names) slot read) is.names on.is_stored) in
+    let same : made ≡ read = one_kept bank.opening (length bank.names) slot made read along.stored stored in
+    let board : new.board ≡ opened_with made.columns made.replies = on.board_is ∙ ap (λ c. opened_with c.columns c.replies) (sym same) in
+    let kept : kept_in slot ≡ length made.replies = kept_of bank.opening (length bank.names) slot made along.stored in
+    let length_is : size ≡ length made.replies = let e = size_is ∙ ap length_of board in omega (arith, e) in
+    let stages : copies (kept_in slot) IsDone ≡ stages_of new.board =
+    ap (λ n. copies n IsDone) kept ∙ sym (append_nothing (copies (length made.replies) IsDone)) ∙ ap stages_of (sym board) in
+    record {
+      along = node_stored bank r old new is beside
+          (subst (IsBoardAlong (held_of bank.opening) (ops_of bank)) (sym board) (along_opened (held_of bank.opening) (ops_of bank) made along.along))
+          (none_along (ops_of bank) (length_of new.board) new.held held)
+          (subst (IsKeptAlong bank) (sym store) is.kept);
+      as_moved = e ∙ (λ j. (
+        record (seen_node old) { stages = stages j; kept = kept_in (sym store j); cut = sym (ap (λ b. b.cut) board) j; held = sym (none_seen new.held held) j },
+        noted ((kept ∙ sym length_is) j),
+      ));
+    }
 
 pub goes_back : (bank : BankOf) (r : ℕ) (old : Node) (new : ReplicaOf MemoryStoreOf) (size : ℕ) → IsNodeAt bank r old
     → Restarts Does old.replica size new
     → Arrives bank r (record old { replica = new }) (note.Restarted size) (restarted (seen_node old))
 goes_back bank r old new size is restarts =
     let acts = restarts.got.as_told in
-    let slot : new.store.slot ≡ old.replica.store.slot = ap (λ x. x.slot) acts.1 in
-    let made = is.kept.checkpoint in
-    let read = restarts.board.checkpoint in
-    let stored : IsStoredAs bank.opening (length bank.names) old.replica.store.slot read =
-    subst (λ o. IsStoredAs o (length bank.names) old.replica.store.slot read) is.opening
-    (subst (λ names. IsStoredAs old.replica.opening (length names) old.replica.store.slot read) is.names
-    (subst (λ held. IsStoredAs old.replica.opening (length old.replica.names) held read) acts.0 restarts.board.is_stored)) in
-    let same : made ≡ read = one_kept bank.opening (length bank.names) old.replica.store.slot made read is.kept.stored stored in
-    let board : new.board ≡ opened_with made.columns made.replies =
-    restarts.board.board_is ∙ ap (λ c. opened_with c.columns c.replies) (sym same) in
-    let kept : kept_in old.replica.store.slot ≡ length made.replies = kept_of bank.opening (length bank.names) old.replica.store.slot made is.kept.stored in
-    let held : new.held ≡ empty_held = ap (λ x. x.held) restarts.stays in
-    let length_is : size ≡ length made.replies =
-    let e = restarts.length_is ∙ ap length_of board in omega (arith, e) in
-    let stages : copies (kept_in old.replica.store.slot) IsDone ≡ stages_of new.board =
-    ap (λ n. copies n IsDone) kept ∙ sym (append_nothing (copies (length made.replies) IsDone)) ∙ ap stages_of (sym board) in
-    record {
-      along = node_stored bank r old new is
-          (record {
-            id = ap (λ x. x.id) restarts.stays;
-            names = ap (λ x. x.names) restarts.stays;
-            opening = ap (λ x. x.opening) restarts.stays;
-          })
-          (subst (IsBoardAlong (held_of bank.opening) (ops_of bank)) (sym board) (along_opened (held_of bank.opening) (ops_of bank) made is.kept.along))
-          (none_along (ops_of bank) (length_of new.board) new.held held)
-          (subst (IsKeptAlong bank) (sym slot) is.kept);
-      as_moved = λ j. (
-        record (seen_node old) { stages = stages j; kept = kept_in (sym slot j); cut = sym (ap (λ b. b.cut) board) j; held = sym (none_seen new.held held) j },
-        note.Restarted ((kept ∙ sym length_is) j),
-      );
-    }
+    begins_on bank r old new old.replica.store.slot size note.Restarted (restarted (seen_node old)) is is.kept
+    (subst (λ held. IsLogOn old.replica.opening (length old.replica.names) held new.board) acts.0 restarts.board) restarts.length_is
+    (record {
+      id = ap (λ x. x.id) restarts.stays;
+      names = ap (λ x. x.names) restarts.stays;
+      opening = ap (λ x. x.opening) restarts.stays;
+    })
+    (ap (λ x. x.held) restarts.stays) (ap (λ x. x.slot) acts.1) refl
 
 -- what is kept is never refused
 not_bad : (fault : StoreFault) (bad : CheckpointFault) → restart.BadCheckpoint bad ≡ of_store_fault fault → ⊥
@@ -362,22 +367,25 @@ never_bad bank r old new bad is (same, inr refused) =
     kept_taken bank.opening (length bank.names) old.replica.store.slot is.kept.checkpoint why.0 bad is.kept.stored (sym acts.0 ∙ why.1)
     (subst (λ names. first_fault why.0 (length names) ≡ Some bad) is.names why.3)
 
+-- where a restart, or a look at what is stored, fails, nothing changed
+pub restart_same : (old new : ReplicaOf MemoryStoreOf) (fault : RestartFault) → IsRestartFaultOf Does old fault new → new ≡ old
+restart_same old new fault refused = refused.0 ∙ ap (λ s. record old { store = s }) (by refused.1)
+  where
+    by : (((failed : StoreFault) × Does old.store (NotGot failed) new.store × (fault ≡ of_store_fault failed))
+        ⊎ ((held : Option (List ℕ)) × Does old.store (Got held) new.store × IsRefusalOf (length old.names) held fault))
+        → new.store ≡ old.store
+    by (inl (store.Device, acts, why)) = absurd acts.as_told
+    by (inl (store.OutOfMemory, acts, why)) = acts.as_told.1
+    by (inr (held, acts, why)) = acts.as_told.1
+
 pub restart_refused : (bank : BankOf) (r : ℕ) (old : Node) (new : ReplicaOf MemoryStoreOf) → IsNodeAt bank r old
     → IsRestartFaultOf Does old.replica restart.OutOfMemory new
     → IsAsBefore bank r old (record old { replica = new }) × (may_take_memory (restarted (seen_node old)).1 ≡ true)
 restart_refused bank r old new is refused =
-    let same : new ≡ old.replica = refused.0 ∙ ap (λ s. record old.replica { store = s }) (by refused.1) in (
+    let same = restart_same old.replica new restart.OutOfMemory refused in (
       record {
         along = subst (λ x. IsNodeAt bank r (record old { replica = x })) (sym same) is;
         seen = ap (λ x. seen_node (record old { replica = x })) same;
       },
       refl,
     )
-  where
-    by : (((failed : StoreFault) × Does old.replica.store (NotGot failed) new.store × (restart.OutOfMemory ≡ of_store_fault failed))
-        ⊎ ((held : Option (List ℕ)) × Does old.replica.store (Got held) new.store
-        × IsRefusalOf (length old.replica.names) held restart.OutOfMemory))
-        → new.store ≡ old.replica.store
-    by (inl (store.Device, acts, why)) = absurd acts.as_told
-    by (inl (store.OutOfMemory, acts, why)) = acts.as_told.1
-    by (inr (held, acts, why)) = acts.as_told.1

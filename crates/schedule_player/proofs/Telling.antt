@@ -64,6 +64,7 @@ tells_frame bank r old outbound told place moved is e p by m =
         hands = is.hands;
         inbound = is.inbound;
         outbound = subst (Every (IsToldBy bank r)) (sym e) (every_push (IsToldBy bank r) old.outbound told is.outbound by);
+        states = is.states;
       };
       as_moved =
           m ∙ ap (λ frames. (record (seen_node old) { outbound = frames }, note.Sent (suc (length old.outbound)))) (sym e)
@@ -155,6 +156,7 @@ sends bank r old inbound more n moved is e entries m = record {
     hands = is.hands;
     inbound = subst (Every (IsEntryOf bank)) (sym e) (every_append (IsEntryOf bank) old.inbound more is.inbound entries);
     outbound = is.outbound;
+    states = is.states;
   };
   as_moved = m ∙ ap (λ frames. (record (seen_node old) { inbound = frames }, n)) (sym e);
 }

@@ -19,9 +19,9 @@ use Rattle.schedule_player.specs.Numbered.{numbered, with_numbered, copies, Ever
 use Rattle.schedule_player.specs.Played.{IsPlayed}
 use Rattle.schedule_player.specs.Readiness.{runnable}
 use Rattle.schedule_player.specs.ReplicaEvents.{node_move}
-use Rattle.schedule_player.specs.ReplicaMoves.{NodeOf, opened_node, length_in, undone_in, told_reply, reply_in_node, sent, holds, accepts, frame_comes, delivered_to, next_taken, goes_out, reaches_out, emptied, comes_back, gives_back, cut_after, undone_up_to, marked_to, restarted}
+use Rattle.schedule_player.specs.ReplicaMoves.{NodeOf, opened_node, length_in, undone_in, told_reply, reply_in_node, sent, holds, accepts, frame_comes, delivered_to, next_taken, goes_out, reaches_out, emptied, comes_back, gives_back, cut_after, undone_up_to, marked_to, begun_at, state_comes, given}
 use Rattle.schedule_player.specs.Stage.{Stage, Waits, IsOut, IsDone}
-use Rattle.schedule_player.specs.World.{WorldOf, Asks, bank_of, moved_if, moved_at, keeps, told, heard_from, opened_world}
+use Rattle.schedule_player.specs.World.{WorldOf, Asks, bank_of, moved_if, moved_at, keeps, told, heard_from, given_from, opened_world}
 use Rattle.schedule_text.specs.ScheduleText.{ScheduleOf}
 use Rattle.schedule_text.specs.declared.event.Event.{Event}
 use Rattle.schedule_text.specs.declared.event.Event.TheVariants as event
@@ -33,23 +33,24 @@ use Rattle.schedule_player.proofs.Lists.{some_is, none_some, every_nil, every_ap
 use Rattle.schedule_player.proofs.SentEntries.{entry_is, resent_are}
 use Rattle.schedule_player.proofs.Stages.{length-copies, length-map}
 use Rattle.schedule_player.proofs.Telling.{number_within}
-use Rattle.schedule_player.proofs.Working.{next_by, entry_by, mark_by}
+use Rattle.schedule_player.proofs.Working.{next_by, entry_by, mark_by, state_by, give_by}
 
 -- an entry's number is at most this
 abbrev Fits : ℕ → Frame → Type 0
 Fits size (frame.Entry n call) = n ≤ size
 Fits size other = Unit {0}
 
--- a replica of so many entries, with this kept, cut, held and sent to it, has none past so many
-record Within (size count kept : ℕ) (cut : Option ℕ) (held : List Bool) (inbound : List Frame) : Type 0 where
+-- a replica of so many entries, with this kept, cut, held and sent to it, has none past so many, and no state of more
+record Within (size count kept : ℕ) (cut : Option ℕ) (held : List Bool) (inbound : List Frame) (states : List ℕ) : Type 0 where
   count_in : count ≤ size
   kept_in : kept ≤ size
   cut_in : (n : ℕ) → cut ≡ Some n → n ≤ size
   held_in : (k : ℕ) → slice_get held k ≡ Some true → count + k < size
   inbound_in : Every (Fits size) inbound
+  states_in : Every (λ n. n ≤ size) states
 
 abbrev IsWithin : ℕ → NodeOf → Type 0
-IsWithin size node = Within size (length node.stages) node.kept node.cut node.held node.inbound
+IsWithin size node = Within size (length node.stages) node.kept node.cut node.held node.inbound node.states
 
 wider : (size more : ℕ) (node : NodeOf) → size ≤ more → IsWithin size node → IsWithin more node
 wider size more node le is = record {
@@ -58,6 +59,7 @@ wider size more node le is = record {
   cut_in = λ n here. let c = is.cut_in n here in omega (arith, c, le);
   held_in = λ k here. let h = is.held_in k here in omega (arith, h, le);
   inbound_in = λ k sent here. fits_wider sent (is.inbound_in k sent here);
+  states_in = λ k n here. let s = is.states_in k n here in omega (arith, s, le);
 }
   where
     fits_wider : (sent : Frame) → Fits size sent → Fits more sent
@@ -67,8 +69,8 @@ wider size more node le is = record {
 module _ (size : ℕ) where
   -- as many entries as before
   restaged : (node : NodeOf) (stages : List Stage) → length stages ≡ length node.stages → IsWithin size node
-      → Within size (length stages) node.kept node.cut node.held node.inbound
-  restaged node stages same is = subst (λ count. Within size count node.kept node.cut node.held node.inbound) (sym same) is
+      → Within size (length stages) node.kept node.cut node.held node.inbound node.states
+  restaged node stages same is = subst (λ count. Within size count node.kept node.cut node.held node.inbound node.states) (sym same) is
 
   -- ---- a frame comes
 
@@ -84,6 +86,7 @@ module _ (size : ℕ) where
           | inr last ↦ absurd (true≢false (sym last.1))
         ];
         inbound_in = is.inbound_in;
+        states_in = is.states_in;
       }
 
   holds_one : (node : NodeOf) (n : ℕ) → n ≤ size → suc (length_in node) < n → IsWithin size node → IsWithin size (holds node n)
@@ -96,6 +99,7 @@ module _ (size : ℕ) where
       | inr differs ↦ is.held_in k (sym (slice_get-set_other node.held (n - length_in node - 1) k true (λ e. differs (sym e))) ∙ here)
     ];
     inbound_in = is.inbound_in;
+    states_in = is.states_in;
   }
 
   next_comes : (node : NodeOf) (n : ℕ) (full : Bool) → length_in node < size → IsWithin size node → IsWithin size (next_by node n full).0
@@ -166,6 +170,7 @@ module _ (size : ℕ) where
     cut_in = λ n here. subst (λ m. m ≤ size) (some_is here) is.count_in;
     held_in = is.held_in;
     inbound_in = is.inbound_in;
+    states_in = is.states_in;
   }
 
   -- so many are kept
@@ -176,6 +181,7 @@ module _ (size : ℕ) where
     cut_in = is.cut_in;
     held_in = is.held_in;
     inbound_in = is.inbound_in;
+    states_in = is.states_in;
   }
 
   puts : (node : NodeOf) (n : ℕ) (end : How) (idle : Bool) → n ≤ size → IsWithin size node → IsWithin size (mark_by node n end idle).0
@@ -185,6 +191,7 @@ module _ (size : ℕ) where
     cut_in = λ k here. absurd (none_some here);
     held_in = is.held_in;
     inbound_in = is.inbound_in;
+    states_in = is.states_in;
   }
   puts node n how.Old true le is = is
   puts node n how.New true le is = keeping node n le is
@@ -199,14 +206,25 @@ module _ (size : ℕ) where
   none_of (suc n) zero here = true≢false (sym (some_is here))
   none_of (suc n) (suc k) here = none_of n k here
 
-  restarts : (node : NodeOf) → IsWithin size node → IsWithin size (restarted node).0
-  restarts node is = record {
-    count_in = let same = length-copies node.kept IsDone in let kept = is.kept_in in omega (arith, same, kept);
+  -- it begins at a length that isn't past
+  begins : (node : NodeOf) (n : ℕ) → n ≤ size → IsWithin size node → IsWithin size (begun_at node n)
+  begins node n le is = record {
+    count_in = let same = length-copies n IsDone in omega (arith, same, le);
     kept_in = is.kept_in;
     cut_in = λ n here. absurd (none_some here);
     held_in = λ k here. absurd (none_of 64 k here);
     inbound_in = is.inbound_in;
+    states_in = is.states_in;
   }
+
+  -- a state comes
+  adopts_by : (node : NodeOf) (n : ℕ) (behind : Bool) → n ≤ size → IsWithin size node → IsWithin size (state_by node n behind).0
+  adopts_by node n true le is = is
+  adopts_by node n false le is = begins node n le is
+
+  adopts : (node : NodeOf) (state : Option ℕ) → ((n : ℕ) → state ≡ Some n → n ≤ size) → IsWithin size node → IsWithin size (state_comes node state).0
+  adopts node (Some n) fits is = adopts_by node n (nat_le n (length_in node)) (fits n refl) is
+  adopts node None fits is = is
 
   opens : (workers : ℕ) → IsWithin size (opened_node workers)
   opens workers = record {
@@ -215,9 +233,10 @@ module _ (size : ℕ) where
     cut_in = λ n here. absurd (none_some here);
     held_in = λ k here. absurd (none_of 64 k here);
     inbound_in = every_nil (Fits size);
+    states_in = every_nil (λ n. n ≤ size);
   }
 
-  -- ---- frames are sent
+  -- ---- frames and states are sent
 
   receives : (node : NodeOf) (entries : List Frame) → Every (Fits size) entries → IsWithin size node
       → IsWithin size (record node { inbound = node.inbound ++ entries })
@@ -227,6 +246,17 @@ module _ (size : ℕ) where
     cut_in = is.cut_in;
     held_in = is.held_in;
     inbound_in = every_append (Fits size) node.inbound entries is.inbound_in fits;
+    states_in = is.states_in;
+  }
+
+  takes_state : (node : NodeOf) (n : ℕ) → n ≤ size → IsWithin size node → IsWithin size (given node n).0
+  takes_state node n le is = record {
+    count_in = is.count_in;
+    kept_in = is.kept_in;
+    cut_in = is.cut_in;
+    held_in = is.held_in;
+    inbound_in = is.inbound_in;
+    states_in = every_push (λ m. m ≤ size) node.states n is.states_in le;
   }
 
   sends : (node : NodeOf) (entry : Option Frame) → ((one : Frame) → entry ≡ Some one → Fits size one) → IsWithin size node
@@ -268,6 +298,7 @@ within_kept world n reply None all = all
 
 within_told : (world : WorldOf) (r : ℕ) (heard : Option Frame) → AllWithin world → AllWithin (told world r heard).0
 within_told world r (Some (frame.Ack replica size)) all = all
+within_told world r (Some (frame.Have replica size)) all = all
 within_told world r (Some (frame.Answer n reply)) all = within_kept world n reply (kept_at world.sequencer n) all
 within_told world r other all = all
 
@@ -290,9 +321,13 @@ within_node world (event.Take r worker index) node is =
     reaches (length world.sequencer.log) (bank_of world) node worker index (numbered node.hands worker) is
 within_node world (event.Finish r worker) node is = gives (length world.sequencer.log) (bank_of world) node worker (numbered node.hands worker) is
 within_node world (event.Mark r end) node is = marks (length world.sequencer.log) node end node.cut refl is
-within_node world (event.Restart r) node is = restarts (length world.sequencer.log) node is
+within_node world (event.Restart r) node is = begins (length world.sequencer.log) node node.kept is.kept_in is
 within_node world (event.Cut r) node is = cuts (length world.sequencer.log) node node.cut is
 within_node world (event.Next r) node is = advances (length world.sequencer.log) node (slice_get node.held 0) refl is
+within_node world (event.Have r) node is = is
+within_node world (event.Adopt r place) node is =
+    adopts (length world.sequencer.log) node (numbered node.states place)
+    (λ n here. every_numbered (λ m. m ≤ length world.sequencer.log) node.states place n is.states_in here) is
 within_node world other node is = is
 
 within_replica : (world : WorldOf) (happens : Event) (r : ℕ) → AllWithin world
@@ -302,6 +337,20 @@ within_replica world happens r all =
 
 within_from : (world : WorldOf) (r place : ℕ) → AllWithin world → AllWithin (heard_from world r place (slice_get world.nodes r)).0
 within_from world r place all = within_heard world r place (slice_get world.nodes r) all
+
+-- a state that is given is one that is kept
+within_given_by : (world : WorldOf) (r size : ℕ) (nothing : Bool) → size ≤ length world.sequencer.log → AllWithin world
+    → AllWithin (give_by world r size nothing).0
+within_given_by world r size true le all = all
+within_given_by world r size false le all =
+    within_at world r (λ node. given node size) (λ node is. takes_state (length world.sequencer.log) node size le is) all
+
+within_given : (world : WorldOf) (a r : ℕ) → AllWithin world → AllWithin (given_from world r (slice_get world.nodes a)).0
+within_given world a r all = by (slice_get world.nodes a) refl
+  where
+    by : (found : Option NodeOf) → slice_get world.nodes a ≡ found → AllWithin (given_from world r found).0
+    by None here = all
+    by (Some donor) here = within_given_by world r donor.kept (donor.kept == 0) (all a donor here).kept_in all
 
 -- an ask makes the log longer, or leaves it
 within_asked : (old : WorldOf) (ask : Key × Call) (n : Note) (new : WorldOf) → Asks old ask n new → AllWithin old → AllWithin new
@@ -318,6 +367,6 @@ within_asked old ask other new asks all = absurd asks
 pub played_within : (schedule : ScheduleOf) (world : WorldOf) → IsPlayed schedule world → (r : ℕ) (node : NodeOf) → slice_get world.nodes r ≡ Some node
     → length_in node ≤ length world.sequencer.log
 played_within schedule world played r node here =
-    let all = all_keep AllWithin within_replica within_from within_asked (opened_world schedule) schedule.events played.notes world played.plays
+    let all = all_keep AllWithin within_replica within_from within_given within_asked (opened_world schedule) schedule.events played.notes world played.plays
     (every_copies (IsWithin 0) schedule.nodes (opened_node schedule.workers) (opens 0 schedule.workers)) in
     (all r node here).count_in

@@ -1,6 +1,6 @@
 -- Where memory may be wanted, and moves by their tests.
 use Rattle.std.proofs.Common.{◌≡◌, ◌≢◌, Bool, true, false, ℕ, Option, Some, None, refl, sym, ap, ◌∙◌}
-use Rattle.std.specs.Prelude.{slice_get, if◌then◌else◌}
+use Rattle.std.specs.Prelude.{slice_get, nat_le, if◌then◌else◌}
 use Rattle.std.proofs.lemmas.Bool.{true≢false}
 use Rattle.sb_calls.specs.declared.reply.Reply.{Reply}
 use Rattle.sb_checkpoint.specs.declared.memory_store.How.{How}
@@ -10,9 +10,9 @@ use Rattle.schedule_player.specs.Comes.{may_come}
 use Rattle.schedule_player.specs.Numbered.{numbered}
 use Rattle.schedule_player.specs.Readiness.{runnable}
 use Rattle.schedule_player.specs.ReplicaEvents.{replica_of, node_move}
-use Rattle.schedule_player.specs.ReplicaMoves.{NodeOf, length_in, told_reply, answered, reply_in_node, holds, accepts, cut_after, cut_off, put_ends, goes_out, reaches_out, taken, emptied, note_of_reply, comes_back, gives_back, finished_by}
+use Rattle.schedule_player.specs.ReplicaMoves.{NodeOf, length_in, told_reply, answered, reply_in_node, holds, accepts, cut_after, cut_off, put_ends, begun_at, state_comes, given, goes_out, reaches_out, taken, emptied, note_of_reply, comes_back, gives_back, finished_by}
 use Rattle.schedule_player.specs.Stage.{Stage, IsOut}
-use Rattle.schedule_player.specs.World.{WorldOf, MayWantMemory, bank_of, may_take_memory, replica_move, moved_if}
+use Rattle.schedule_player.specs.World.{WorldOf, MayWantMemory, bank_of, may_take_memory, replica_move, moved_if, moved_at}
 use Rattle.schedule_text.specs.declared.event.Event.{Event}
 use Rattle.schedule_text.specs.declared.event.Event.TheVariants as event
 use Rattle.schedule_text.specs.declared.note.Note.{Note}
@@ -49,6 +49,21 @@ puts node size how.New = refl
 -- a cut is made where there is none
 pub cuts : (node : NodeOf) → node.cut ≡ None → may_take_memory (cut_off node).1 ≡ true
 cuts node none = ap (λ cut. may_take_memory (cut_after node cut).1) none
+
+-- what a state of so many entries comes to, and one that is given, by these tests
+abbrev pub state_by : NodeOf → ℕ → Bool → NodeOf × Note
+state_by node size behind = if behind then (node, note.Behind (length_in node)) else (begun_at node size, note.Adopted size)
+
+abbrev pub give_by : WorldOf → ℕ → ℕ → Bool → WorldOf × Note
+give_by world r size nothing = if nothing then (world, note.Nothing) else moved_at world r (λ node. given node size)
+
+state_wants : (node : NodeOf) (size : ℕ) (behind : Bool) → may_take_memory (state_by node size behind).1 ≡ true
+state_wants node size true = refl
+state_wants node size false = refl
+
+-- a state that is there may want memory
+pub adopts_so : (node : NodeOf) (size : ℕ) → may_take_memory (state_comes node (Some size)).1 ≡ true
+adopts_so node size = state_wants node size (nat_le size (length_in node))
 
 -- ---- a worker's part never takes memory
 
@@ -91,6 +106,8 @@ pub wants : (world : WorldOf) (happens : Event) (r : ℕ) (node : NodeOf) → re
     → may_take_memory (node_move (bank_of world) world.sequencer node happens).1 ≡ true → MayWantMemory world happens
 wants world (event.Ask client request call) r node at here is = absurd (none_some at)
 wants world (event.From q place) r node at here is = absurd (none_some at)
+wants world (event.Donor q) r node at here is = absurd (none_some at)
+wants world (event.Give a q) r node at here is = absurd (none_some at)
 wants world (event.Audit a b) r node at here is = absurd (none_some at)
 wants world (event.Take q worker index) r node at here is =
     absurd (true≢false (sym is ∙ (takes_quietly (bank_of world) node worker index).1))

@@ -27,6 +27,7 @@ use Rattle.schedule_player.proofs.Moving.{world_of}
 use Rattle.schedule_player.proofs.SeenReplies.{within_log}
 use Rattle.schedule_player.proofs.Staffing.{opens_staffed}
 use Rattle.schedule_player.proofs.Stages.{length-map, length_stages}
+use Rattle.schedule_player.proofs.GivenStates.{states_within}
 
 length-copies : {A : Type 0} (n : ℕ) (x : A) → length (copies n x) ≡ n
 length-copies zero x = refl
@@ -50,6 +51,8 @@ opened_so names opening nodes workers all s same few some_worker few_workers is 
         log = record { few = omega arith; different = λ i j d before below. absurd (omega (arith, below)) };
         answers = refl;
         recorded = all_zeros nodes 0;
+        each = refl;
+        checkpoints = all_zeros nodes 0;
       };
       known = zeros ∙ sym size;
       few = omega (arith, few, size);
@@ -95,5 +98,11 @@ true_to_log names opening s nodes is =
       outbound = λ r one here.
           let found = seen_is bank nodes r one is.each here in
           subst (λ n. Every (IsToldBy bank r) n.outbound) found.2 found.1.outbound;
+      states = λ r one here.
+          let found = seen_is bank nodes r one is.each here in
+          let calls = length-map (λ entry. entry.1) s.log in
+          subst (λ n. Every (λ size. size ≤ length s.log) n.states) found.2
+          (subst (λ most. Every (λ size. size ≤ most) (seen_node found.0).states) calls
+          (states_within bank found.0.states found.1.states));
       kept = is.answers;
     }

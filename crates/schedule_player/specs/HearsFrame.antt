@@ -2,19 +2,25 @@
 use Rattle.std.specs.Prelude.{◌≡◌, ℕ}
 use Rattle.sb_frames.specs.declared.frame.Frame.{Frame}
 use Rattle.sb_frames.specs.declared.frame.Frame.TheVariants as frame
-use Rattle.sb_sequencer.specs.Notes.{hears_ack, after_ack, IsAnswerNote, after_answer}
+use Rattle.sb_sequencer.specs.Notes.{hears_ack, after_ack, hears_have, after_have, IsAnswerNote, after_answer}
 use Rattle.sb_sequencer.specs.Sequencer.{SequencerOf}
 use Rattle.sb_sequencer.specs.declared.note.AckNote.{AckNote}
 use Rattle.sb_sequencer.specs.declared.note.AckNote.TheVariants as acks
 use Rattle.sb_sequencer.specs.declared.note.AnswerNote.{AnswerNote}
 use Rattle.sb_sequencer.specs.declared.note.AnswerNote.TheVariants as answers
+use Rattle.sb_sequencer.specs.declared.note.HaveNote.{HaveNote}
+use Rattle.sb_sequencer.specs.declared.note.HaveNote.TheVariants as haves
 use Rattle.schedule_text.specs.declared.note.Note.{Note}
 use Rattle.schedule_text.specs.declared.note.Note.TheVariants as note
 
--- how it notes a length, and a reply
+-- how it notes a log's length, a checkpoint's, and a reply
 abbrev pub ack_noted : ℕ → AckNote → Note
 ack_noted size acks.Recorded = note.Recorded size
 ack_noted size acks.Odd = note.Odd
+
+abbrev pub have_noted : ℕ → HaveNote → Note
+have_noted size haves.Recorded = note.Has size
+have_noted size haves.Odd = note.Odd
 
 abbrev pub answer_noted : ℕ → AnswerNote → Note
 answer_noted number answers.Kept = note.Kept number
@@ -26,6 +32,8 @@ answer_noted number answers.Unknown = note.Unknown number
 abbrev pub HearsFrame : SequencerOf → Frame → Note → SequencerOf → Type 0
 HearsFrame old (frame.Ack replica size) noted new =
     (noted ≡ ack_noted size (hears_ack old replica size)) × (new ≡ after_ack old replica size)
+HearsFrame old (frame.Have replica size) noted new =
+    (noted ≡ have_noted size (hears_have old replica size)) × (new ≡ after_have old replica size)
 HearsFrame old (frame.Answer number reply) noted new =
     (answer : AnswerNote) × IsAnswerNote old number reply answer
     × (noted ≡ answer_noted number answer) × (new ≡ after_answer old number reply answer)

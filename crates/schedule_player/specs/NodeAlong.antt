@@ -1,11 +1,12 @@
 -- A node of the code, as the machine sees it, and beside the log.
-use Rattle.std.specs.Prelude.{◌≡◌, ℕ, ◌≤◌, Option, Some, IfSome, IsTrue, Result, Ok, Err, List, length, map, is_some, option_map}
+use Rattle.std.specs.Prelude.{◌≡◌, ◌≢◌, ℕ, ◌≤◌, Option, Some, None, IfSome, IsTrue, Result, Ok, Err, List, length, map, is_some, option_map}
 use Rattle.sb_rows.specs.Rows.{SameCustomers}
 use Rattle.sb_calls.specs.Cowns.{held_of}
 use Rattle.sb_calls.specs.declared.call.Call.{Call}
 use Rattle.sb_calls.specs.declared.call.TheConstants.{LOG_CALLS}
 use Rattle.sb_calls.specs.declared.op.Op.{Op}
 use Rattle.sb_checkpoint.specs.Checkpoint.{CheckpointOf}
+use Rattle.sb_checkpoint.specs.Reading.{stated_length}
 use Rattle.sb_frames.specs.declared.frame.Frame.{Frame}
 use Rattle.sb_frames.specs.declared.frame.Frame.TheVariants as frame
 use Rattle.sb_replica.specs.Restarting.{IsStoredAs}
@@ -33,6 +34,7 @@ seen_node node = record {
   held = map is_some node.replica.held;
   inbound = node.inbound;
   outbound = node.outbound;
+  states = map stated_length node.states;
 }
 
 -- a frame is an entry of the log
@@ -42,9 +44,11 @@ pub record IsEntryOf (bank : BankOf) (sent : Frame) : Type 0 where
   pub frame_is : sent ≡ frame.Entry number call
   pub in_log : numbered bank.calls number ≡ Some call
 
--- what a replica may tell: a length up to the log's, under its own number, or the log's reply to a number
+-- what a replica may tell: a length up to the log's, of its log or of its checkpoint, under its own number, or the log's
+-- reply to a number
 abbrev pub IsToldBy : BankOf → ℕ → Frame → Type 0
 IsToldBy bank r (frame.Ack replica size) = (replica ≡ r) × (size ≤ length bank.calls)
+IsToldBy bank r (frame.Have replica size) = (replica ≡ r) × (size ≤ length bank.calls)
 IsToldBy bank r (frame.Answer number reply) = log_reply bank number ≡ Some reply
 IsToldBy bank r other = ⊥
 
@@ -53,6 +57,15 @@ pub record IsKeptAlong (bank : BankOf) (slot : Option (List ℕ)) : Type 0 where
   pub checkpoint : CheckpointOf
   pub stored : IsStoredAs bank.opening (length bank.names) slot checkpoint
   pub along : IsCheckpointAlong (held_of bank.opening) (ops_of bank) checkpoint
+
+-- bytes are a state of the bank: they could be what is stored
+abbrev pub IsStateAlong : BankOf → List ℕ → Type 0
+IsStateAlong bank bytes = IsKeptAlong bank (Some bytes)
+
+-- the state that a replica has for others: the bytes of what it keeps, if that has an entry
+abbrev pub HasState : BankOf → NodeOf → Option (List ℕ) → Type 0
+HasState bank node (Some bytes) = IsStateAlong bank bytes × (stated_length bytes ≡ node.kept) × (node.kept ≢ 0)
+HasState bank node None = node.kept ≡ 0
 
 -- a hand is empty, or has a job of the log
 abbrev pub IsHandAlong : BankOf → Option (JobOf Op) → Type 0
@@ -71,6 +84,7 @@ pub record IsNodeAt (bank : BankOf) (r : ℕ) (node : Node) : Type 0 where
   pub hands : Every (IsHandAlong bank) node.hands.items
   pub inbound : Every (IsEntryOf bank) node.inbound
   pub outbound : Every (IsToldBy bank r) node.outbound
+  pub states : Every (IsStateAlong bank) node.states
 
 -- nothing of what the machine sees changed
 pub record IsAsBefore (bank : BankOf) (r : ℕ) (old new : Node) : Type 0 where

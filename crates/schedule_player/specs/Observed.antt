@@ -1,6 +1,7 @@
 -- What is seen of a world.
 use Rattle.std.specs.Prelude.{ℕ, ◌==◌, Bool, false, Option, option_and_then, option_map, Some, None, slice_get}
 use Rattle.sb_calls.specs.declared.reply.Reply.{Reply}
+use Rattle.schedule_player.specs.Numbered.{numbered}
 use Rattle.schedule_player.specs.ReplicaMoves.{NodeOf, length_in, undone_in, reply_in_node}
 use Rattle.schedule_player.specs.World.{WorldOf, bank_of}
 
@@ -19,3 +20,7 @@ idle_at world r = idle_if (slice_get world.nodes r)
 -- the reply that a replica holds to a number
 abbrev pub reply_at : WorldOf → ℕ → ℕ → Option Reply
 reply_at world r number = option_and_then (λ node. reply_in_node (bank_of world) node number) (slice_get world.nodes r)
+
+-- the length of the state at a place of those that were ever sent to a replica
+abbrev pub state_at : WorldOf → ℕ → ℕ → Option ℕ
+state_at world r place = option_and_then (λ node. numbered node.states place) (slice_get world.nodes r)

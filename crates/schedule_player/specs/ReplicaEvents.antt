@@ -3,13 +3,13 @@ use Rattle.std.specs.Prelude.{ℕ, Option, Some, None}
 use Rattle.sb_sequencer.specs.Entries.{entry_of, resent}
 use Rattle.sb_sequencer.specs.Sequencer.{SequencerOf}
 use Rattle.schedule_player.specs.Bank.{BankOf}
-use Rattle.schedule_player.specs.ReplicaMoves.{NodeOf, sent, sent_all, delivered_to, advanced, taken, finished_by, cut_off, marked, restarted, acknowledged, answered}
+use Rattle.schedule_player.specs.ReplicaMoves.{NodeOf, sent, sent_all, delivered_to, advanced, taken, finished_by, cut_off, marked, restarted, acknowledged, answered, told_kept, adopted}
 use Rattle.schedule_text.specs.declared.event.Event.{Event}
 use Rattle.schedule_text.specs.declared.event.Event.TheVariants as event
 use Rattle.schedule_text.specs.declared.note.Note.{Note}
 use Rattle.schedule_text.specs.declared.note.Note.TheVariants as note
 
--- an ask, what the sequencer hears and an audit happen at none
+-- an ask, what the sequencer hears or is asked, a state that is given and an audit happen at none
 abbrev pub replica_of : Event → Option ℕ
 replica_of (event.Send r number) = Some r
 replica_of (event.Resend r) = Some r
@@ -22,6 +22,8 @@ replica_of (event.Mark r how) = Some r
 replica_of (event.Restart r) = Some r
 replica_of (event.Cut r) = Some r
 replica_of (event.Next r) = Some r
+replica_of (event.Have r) = Some r
+replica_of (event.Adopt r place) = Some r
 replica_of other = None
 
 -- what an event does at its replica, with the bank and the sequencer as they are
@@ -37,4 +39,6 @@ node_move bank sequencer node (event.Mark r how) = marked node how
 node_move bank sequencer node (event.Restart r) = restarted node
 node_move bank sequencer node (event.Cut r) = cut_off node
 node_move bank sequencer node (event.Next r) = advanced node
+node_move bank sequencer node (event.Have r) = told_kept node r
+node_move bank sequencer node (event.Adopt r place) = adopted node place
 node_move bank sequencer node other = (node, note.Nothing)

@@ -18,7 +18,8 @@ use Rattle.schedule_text.specs.declared.note.Note.TheVariants as note
 
 -- the entries that it accepted, by number from 1; what each worker has in hand, by worker from 1; the length of the
 -- checkpoint that is kept; that of its cut, where it has one; which of the next HELD_ENTRIES entries it holds, the
--- next one first; and all frames that were ever sent to it and from it, by place from 1
+-- next one first; all frames that were ever sent to it and from it, and the lengths of all states that were ever sent
+-- to it, each by place from 1
 pub record NodeOf : Type 0 where
   pub stages : List Stage
   pub hands : List (Option ℕ)
@@ -27,6 +28,7 @@ pub record NodeOf : Type 0 where
   pub held : List Bool
   pub inbound : List Frame
   pub outbound : List Frame
+  pub states : List ℕ
 
 -- none of those that may be held is
 abbrev pub none_held : List Bool
@@ -42,6 +44,7 @@ opened_node workers = record {
   held = none_held;
   inbound = [];
   outbound = [];
+  states = [];
 }
 
 -- how many entries it accepted, and how many of them are undone
@@ -171,10 +174,24 @@ marked_to node how None =
 abbrev pub marked : NodeOf → How → NodeOf × Note
 marked node how = marked_to node how node.cut
 
--- the cut and what was held are gone; hands and frames stay as they are
+-- it begins at a length, with all of it done: the cut and what was held are gone; hands and frames stay as they are
+abbrev pub begun_at : NodeOf → ℕ → NodeOf
+begun_at node size = record node { stages = copies size IsDone; cut = None; held = none_held }
+
 abbrev pub restarted : NodeOf → NodeOf × Note
-restarted node =
-    (record node { stages = copies node.kept IsDone; cut = None; held = none_held }, note.Restarted node.kept)
+restarted node = (begun_at node node.kept, note.Restarted node.kept)
+
+-- ---- it goes on from a state
+
+-- one of more entries than its log has; one of no more leaves it as it is
+abbrev pub state_comes : NodeOf → Option ℕ → NodeOf × Note
+state_comes node (Some size) =
+    if nat_le size (length_in node) then (node, note.Behind (length_in node))
+    else (begun_at node size, note.Adopted size)
+state_comes node None = (node, note.Nothing)
+
+abbrev pub adopted : NodeOf → ℕ → NodeOf × Note
+adopted node place = state_comes node (numbered node.states place)
 
 -- ---- a replica tells
 
@@ -184,6 +201,10 @@ tells node told =
 
 abbrev pub acknowledged : NodeOf → ℕ → NodeOf × Note
 acknowledged node replica = tells node (frame.Ack replica (length_in node))
+
+-- the length of the checkpoint that it keeps
+abbrev pub told_kept : NodeOf → ℕ → NodeOf × Note
+told_kept node replica = tells node (frame.Have replica node.kept)
 
 abbrev pub told_reply : NodeOf → ℕ → Option Reply → NodeOf × Note
 told_reply node number (Some reply) = tells node (frame.Answer number reply)
@@ -200,7 +221,7 @@ reply_in_node bank node number = reply_held bank number (numbered node.stages nu
 abbrev pub answered : BankOf → NodeOf → ℕ → NodeOf × Note
 answered bank node number = told_reply node number (reply_in_node bank node number)
 
--- ---- an entry is sent to it
+-- ---- an entry is sent to it, and a state
 
 abbrev pub sent : NodeOf → Option Frame → NodeOf × Note
 sent node (Some entry) =
@@ -209,6 +230,10 @@ sent node None = (node, note.Nothing)
 
 abbrev pub sent_all : NodeOf → List Frame → NodeOf × Note
 sent_all node entries = (record node { inbound = node.inbound ++ entries }, note.Resent (length entries))
+
+-- a state of so many entries
+abbrev pub given : NodeOf → ℕ → NodeOf × Note
+given node size = (record node { states = node.states ++ size ∷ [] }, note.Gave (suc (length node.states)))
 
 -- what a replica's answer to a frame is as a note
 abbrev pub note_of_heard : Heard → Note

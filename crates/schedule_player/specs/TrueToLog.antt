@@ -1,6 +1,7 @@
 -- What is so of every world, whatever happened.
-use Rattle.std.specs.Prelude.{◌≡◌, ◌⊎◌, ℕ, suc, ◌≤◌, Some, length, slice_get}
+use Rattle.std.specs.Prelude.{◌≡◌, ◌⊎◌, ℕ, suc, ◌≤◌, Some, List, length, slice_get}
 use Rattle.sb_calls.specs.declared.reply.Reply.{Reply}
+use Rattle.sb_frames.specs.declared.frame.Frame.{Frame}
 use Rattle.sb_frames.specs.declared.frame.Frame.TheVariants as frame
 use Rattle.schedule_player.specs.Bank.{log_reply}
 use Rattle.schedule_player.specs.NodeAlong.{IsEntryOf, IsToldBy}
@@ -11,8 +12,8 @@ use Rattle.schedule_player.specs.World.{WorldOf, bank_of}
 use Rattle.schedule_text.specs.ScheduleText.{ScheduleOf}
 
 -- each replica has at most as many entries as the log; each frame to it is an entry of the log; each frame from it
--- tells a length up to the log's, under its own number, or the log's reply to a number; each answer that is kept is the
--- log's reply
+-- tells a length up to the log's, of its log or of its checkpoint, under its own number, or the log's reply to a number;
+-- each state that was sent to it is at most as long as the log; each answer that is kept is the log's reply
 pub record IsTrueToLog (world : WorldOf) : Type 0 where
   pub within : (r : ℕ) (node : NodeOf) → slice_get world.nodes r ≡ Some node
       → length_in node ≤ length world.sequencer.log
@@ -20,17 +21,24 @@ pub record IsTrueToLog (world : WorldOf) : Type 0 where
       → Every (IsEntryOf (bank_of world)) node.inbound
   pub outbound : (r : ℕ) (node : NodeOf) → slice_get world.nodes r ≡ Some node
       → Every (IsToldBy (bank_of world) r) node.outbound
+  pub states : (r : ℕ) (node : NodeOf) → slice_get world.nodes r ≡ Some node
+      → Every (λ size. size ≤ length world.sequencer.log) node.states
   pub kept : (k : ℕ) (reply : Reply) → slice_get world.sequencer.answers k ≡ Some (Some reply)
       → log_reply (bank_of world) (suc k) ≡ Some reply
 
--- a length in a list of frames
-abbrev pub IsTold : NodeOf → ℕ → Type 0
-IsTold node size = (place replica : ℕ) × (slice_get node.outbound place ≡ Some (frame.Ack replica size))
+-- a length in a list of frames, in one of this kind
+abbrev pub IsTold : (ℕ → ℕ → Frame) → NodeOf → ℕ → Type 0
+IsTold kind node size = (place replica : ℕ) × (slice_get node.outbound place ≡ Some (kind replica size))
 
--- a recorded length is 0, or was told by its replica
+-- each of these lengths, one a replica, is 0, or was told by its replica
+abbrev pub WereTold : (ℕ → ℕ → Frame) → List NodeOf → List ℕ → Type 0
+WereTold kind nodes sizes = (r : ℕ) (node : NodeOf) (size : ℕ) → slice_get nodes r ≡ Some node
+    → slice_get sizes r ≡ Some size → (size ≡ 0) ⊎ IsTold kind node size
+
+-- the recorded lengths of logs by acknowledgements, and those of checkpoints by frames on what is kept
 abbrev pub RecordsWereTold : WorldOf → Type 0
-RecordsWereTold world = (r : ℕ) (node : NodeOf) (size : ℕ) → slice_get world.nodes r ≡ Some node
-    → slice_get world.sequencer.recorded r ≡ Some size → (size ≡ 0) ⊎ IsTold node size
+RecordsWereTold world = WereTold frame.Ack world.nodes world.sequencer.recorded
+    × WereTold frame.Have world.nodes world.sequencer.checkpoints
 
 -- after whatever schedule
 abbrev pub RecordedLengths : Type 0

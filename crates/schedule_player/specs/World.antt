@@ -1,5 +1,5 @@
 -- The reference machine: a sequencer, its replicas, and the frames between them.
-use Rattle.std.specs.Prelude.{◌≡◌, ℕ, ◌-◌, nat_lt, pos, int_lt, ◌==◌, if◌then◌else◌, Bool, true, false, IsTrue, Option, Some, None, Ok, Err, List, map, count_by, slice_get, slice_set}
+use Rattle.std.specs.Prelude.{◌≡◌, ℕ, ◌-◌, ◌<◌, nat_lt, pos, int_lt, ◌==◌, if◌then◌else◌, Bool, true, false, IsTrue, Option, Some, None, Ok, Err, List, length, map, count_by, slice_get, slice_set}
 use Rattle.sb_rows.specs.Balances.{Balances}
 use Rattle.sb_rows.specs.Listing.{listed, total_of}
 use Rattle.sb_calls.specs.declared.ask.Key.{Key}
@@ -8,6 +8,7 @@ use Rattle.sb_calls.specs.declared.reply.Reply.{Reply}
 use Rattle.sb_frames.specs.declared.frame.Frame.{Frame}
 use Rattle.sb_frames.specs.declared.frame.Frame.TheVariants as frame
 use Rattle.sb_sequencer.specs.Answer.{IsAnswered}
+use Rattle.sb_sequencer.specs.Donors.{IsDonor}
 use Rattle.sb_sequencer.specs.Notes.{kept_at}
 use Rattle.sb_sequencer.specs.Sequencer.{SequencerOf, opened, after_ask}
 use Rattle.sb_sequencer.specs.declared.answer.AskFault.TheVariants.{Mismatch, LogFull, OutOfMemory}
@@ -15,7 +16,7 @@ use Rattle.sb_sequencer.specs.declared.answer.Numbered.TheVariants.{New, Repeat}
 use Rattle.schedule_player.specs.Bank.{BankOf, log_rows}
 use Rattle.schedule_player.specs.Numbered.{numbered, copies}
 use Rattle.schedule_player.specs.ReplicaEvents.{replica_of, node_move}
-use Rattle.schedule_player.specs.ReplicaMoves.{NodeOf, opened_node, length_in, undone_in}
+use Rattle.schedule_player.specs.ReplicaMoves.{NodeOf, opened_node, length_in, undone_in, given}
 use Rattle.schedule_text.specs.ScheduleText.{ScheduleOf}
 use Rattle.schedule_text.specs.declared.event.Event.{Event}
 use Rattle.schedule_text.specs.declared.event.Event.TheVariants as event
@@ -70,7 +71,8 @@ moved_if world r move None = (world, note.Nothing)
 abbrev pub moved_at : WorldOf → ℕ → (NodeOf → NodeOf × Note) → WorldOf × Note
 moved_at world r move = moved_if world r move (slice_get world.nodes r)
 
--- what a replica told comes to the sequencer: a length is recorded, the first answer to a number is kept
+-- what a replica told comes to the sequencer: a length is recorded, that of its log or of its checkpoint; the first
+-- answer to a number is kept
 abbrev pub keeps : WorldOf → ℕ → Reply → Option (Option Reply) → WorldOf × Note
 keeps world number reply (Some None) = (
   record world {
@@ -87,6 +89,10 @@ abbrev pub told : WorldOf → ℕ → Option Frame → WorldOf × Note
 told world r (Some (frame.Ack replica size)) = (
   record world { sequencer = record world.sequencer { recorded = slice_set world.sequencer.recorded r size } },
   note.Recorded size,
+)
+told world r (Some (frame.Have replica size)) = (
+  record world { sequencer = record world.sequencer { checkpoints = slice_set world.sequencer.checkpoints r size } },
+  note.Has size,
 )
 told world r (Some (frame.Answer number reply)) = keeps world number reply (kept_at world.sequencer number)
 told world r other = (world, note.Nothing)
@@ -115,7 +121,16 @@ abbrev pub audited : BankOf → ℕ → ℕ → Option NodeOf → Option NodeOf 
 audited bank a b (Some first) (Some second) = note.Audit (compared bank a b first second)
 audited bank a b first second = note.Nothing
 
--- ---- all events but an ask
+-- the state that a replica keeps, if it is of one entry or more, is sent to another
+abbrev pub given_at : WorldOf → ℕ → ℕ → WorldOf × Note
+given_at world r size =
+    if size == 0 then (world, note.Nothing) else moved_at world r (λ node. given node size)
+
+abbrev pub given_from : WorldOf → ℕ → Option NodeOf → WorldOf × Note
+given_from world r (Some donor) = given_at world r donor.kept
+given_from world r None = (world, note.Nothing)
+
+-- ---- all events but an ask and a donor
 
 -- one at a replica moves it
 abbrev pub replica_move : WorldOf → Event → Option ℕ → WorldOf × Note
@@ -125,14 +140,22 @@ replica_move world happens None = (world, note.Nothing)
 
 abbrev pub moved : WorldOf → Event → WorldOf × Note
 moved world (event.From r place) = heard_from world r place (slice_get world.nodes r)
+moved world (event.Give a r) = given_from world r (slice_get world.nodes a)
 moved world (event.Audit a b) =
     (world, audited (bank_of world) a b (slice_get world.nodes a) (slice_get world.nodes b))
 moved world other = replica_move world other (replica_of other)
+
+-- from whom a replica gets a state, as the sequencer answers it
+abbrev pub IsDonorNoted : SequencerOf → ℕ → Note → Type 0
+IsDonorNoted s r (note.Donor donor size) = IsDonor s r (Some (donor, size))
+IsDonorNoted s r note.Nothing = IsDonor s r None
+IsDonorNoted s r other = ⊥
 
 -- the machine goes from one world to another with this note
 abbrev pub Moves : WorldOf → Event → Note → WorldOf → Type 0
 Moves old (event.Ask client request call) note new =
     Asks old (record { client = client; request = request }, call) note new
+Moves old (event.Donor r) note new = IsDonorNoted old.sequencer r note × (new ≡ old)
 Moves old other note new = moved old other ≡ (new, note)
 
 -- ---- where memory may be wanted
@@ -143,7 +166,7 @@ adds_up (audit.Same total overdrawn) = true
 adds_up other = false
 
 -- the notes on what may take memory: a frame is sent, an entry accepted, a cut made, a checkpoint put or gone back to,
--- or the books are added up
+-- a state given or read, or the books are added up
 abbrev pub may_take_memory : Note → Bool
 may_take_memory (note.Sent place) = true
 may_take_memory (note.Resent count) = nat_lt 0 count
@@ -152,17 +175,23 @@ may_take_memory (note.Cut size) = true
 may_take_memory (note.Marked size) = true
 may_take_memory note.StoreFault = true
 may_take_memory (note.Restarted size) = true
+may_take_memory (note.Gave place) = true
+may_take_memory (note.Adopted size) = true
+may_take_memory (note.Behind size) = true
 may_take_memory (note.Audit found) = adds_up found
 may_take_memory other = false
 
--- never for a take, a finish or what the sequencer hears; an ask wants it for a new number alone, and each other event
--- only where the machine's note on it is one of these
+-- never for a take, a finish or what the sequencer hears or is asked of states; an ask wants it for a new number alone;
+-- a give wherever both replicas exist, since a checkpoint of no entry is read too; and each other event only where the
+-- machine's note on it is one of these
 abbrev pub MayWantMemory : WorldOf → Event → Type 0
 MayWantMemory world (event.Ask client request call) =
     IsAnswered world.sequencer.log (record { client = client; request = request }, call) (Err OutOfMemory)
 MayWantMemory world (event.Take r worker index) = ⊥
 MayWantMemory world (event.Finish r worker) = ⊥
 MayWantMemory world (event.From r place) = ⊥
+MayWantMemory world (event.Donor r) = ⊥
+MayWantMemory world (event.Give a r) = (a < length world.nodes) × (r < length world.nodes)
 MayWantMemory world other = IsTrue (may_take_memory (moved world other).1)
 
 -- the next event may; after the last one there is none

@@ -30,7 +30,13 @@ impl Node {
             Event::Restart { .. } => self.restart(),
             Event::Cut { .. } => self.cut(),
             Event::Next { .. } => self.advance(),
-            Event::Ask { .. } | Event::From { .. } | Event::Audit { .. } => Ok(Note::Nothing),
+            Event::Have { .. } => self.have(),
+            Event::Adopt { place, .. } => self.adopt(place),
+            Event::Ask { .. }
+            | Event::From { .. }
+            | Event::Donor { .. }
+            | Event::Give { .. }
+            | Event::Audit { .. } => Ok(Note::Nothing),
         }
     }
 }

@@ -30,8 +30,8 @@ impl Model for Frames {
     ghost invariant = { λ f. Every (λ bytes. IsSpelled bytes.items) f.sent.items };
 }
 
-// The item at a place, from 1.
-fn item_at<T>(items: &[T], place: u32) -> Option<&T>
+/// The item at a place, from 1.
+pub(crate) fn item_at<T>(items: &[T], place: u32) -> Option<&T>
     ensures { option_copied result ≡ numbered items.now place }
 {
     let place = place.checked_sub(1)?;

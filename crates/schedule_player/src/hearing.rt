@@ -2,10 +2,10 @@
 ghost use Rattle.std.specs.Prelude.{◌≡◌};
 ghost use Rattle.sb_frames.specs.Grammar.{Spells};
 ghost use Rattle.sb_frames.specs.declared.frame.Frame.{Frame as AnyFrame};
-ghost use Rattle.schedule_player.specs.HearsFrame.{HearsFrame, ack_noted, answer_noted};
+ghost use Rattle.schedule_player.specs.HearsFrame.{HearsFrame, ack_noted, answer_noted, have_noted};
 
 use sb_frames::{Frame, decode};
-use sb_sequencer::{AckNote, AnswerNote, Sequencer};
+use sb_sequencer::{AckNote, AnswerNote, HaveNote, Sequencer};
 use schedule_text::Note;
 
 // How the sequencer notes a length.
@@ -15,6 +15,16 @@ fn ack_noted(length: u64, noted: AckNote) -> Note
     match noted {
         AckNote::Recorded => Note::Recorded(length),
         AckNote::Odd => Note::Odd,
+    }
+}
+
+// How the sequencer notes a checkpoint's length.
+fn have_noted(length: u64, noted: HaveNote) -> Note
+    ensures { result ≡ have_noted length noted }
+{
+    match noted {
+        HaveNote::Recorded => Note::Has(length),
+        HaveNote::Odd => Note::Odd,
     }
 }
 
@@ -36,6 +46,7 @@ fn hear_frame(sequencer: &mut Sequencer, frame: &Frame) -> Note
 {
     match frame {
         Frame::Ack { replica, length } => ack_noted(*length, sequencer.on_ack(*replica, *length)),
+        Frame::Have { replica, length } => have_noted(*length, sequencer.on_have(*replica, *length)),
         Frame::Answer { number, reply } => {
             answer_noted(*number, sequencer.on_answer(*number, reply.reply()))
         }

@@ -9,8 +9,9 @@ pub fn replication()
     ensures { Replication }
 {}
 
-/// After every list of events from an opened world, each length that the sequencer recorded is 0, or that of an
-/// acknowledgement among the frames that its replica sent.
+/// After every list of events from an opened world, each length of a log that the sequencer recorded is 0, or that of an
+/// acknowledgement among the frames that its replica sent; and each length of a checkpoint is 0, or that of a frame
+/// there on what the replica keeps.
 pub fn recorded_lengths()
     ensures { RecordedLengths }
 {}

@@ -1,10 +1,13 @@
 //! Plays schedules: a sequencer and its replicas, event after event.
 #![tactic(auto)]
 
+mod adopting;
 mod auditing;
 mod events;
 mod fault;
 mod frames;
+mod given;
+mod giving;
 mod hearing;
 mod laws;
 mod node;

@@ -1,4 +1,4 @@
-//! A replica with its workers' hands, and the frames that were ever sent to it and from it.
+//! A replica with its workers' hands, and all that was ever sent to it and from it.
 ghost use Rattle.std.specs.Prelude.{◌≡◌, ℕ, suc, ◌<◌, ◌≤◌, None, List, length, MatchOption, IfOk};
 ghost use Rattle.sb_rows.specs.Balances.{Balances};
 ghost use Rattle.sb_rows.specs.Rows.{SameCustomers};
@@ -11,6 +11,7 @@ ghost use Rattle.schedule_player.specs.World.{bank_with};
 
 use crate::fault::StepFault;
 use crate::frames::Frames;
+use crate::given::States;
 use cown_board::{CutFault, Job, Runs};
 use sb_calls::{LOG_CALLS, Op};
 use sb_checkpoint::{How, MemoryStore};
@@ -20,13 +21,15 @@ use sb_sequencer::{REPLICAS, Sequencer};
 use schedule_text::Note;
 use std::alloc::{AllocError, Global};
 
-/// A replica, what each worker has in hand, and all frames that were ever sent to it and from it.
+/// A replica, what each worker has in hand, all frames that were ever sent to it and from it, and all states that
+/// were ever sent to it.
 #[derive(Drop)]
 pub(crate) struct Node {
     pub replica: Replica<MemoryStore>,
     pub hands: Vec<Option<Job<Op>>>,
     pub inbound: Frames,
     pub outbound: Frames,
+    pub states: States,
 }
 
 // What a replica's answer to a frame is as a note.
@@ -76,6 +79,7 @@ impl Node {
             hands,
             inbound: Frames::new(alloc),
             outbound: Frames::new(alloc),
+            states: States::new(alloc),
         })
     }
 
@@ -165,7 +169,7 @@ impl Node {
             → Steps (bank_with names opening sequencer.now.log) r self.old self.new result
             (sent_all (seen_node self.old) (resent sequencer.now replica)) }
     {
-        // There are at most eight.
+        // There are at most sixteen.
         let Ok(id) = u8::try_from(replica) else {
             return Ok(Note::Nothing);
         };

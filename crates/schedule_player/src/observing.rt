@@ -1,11 +1,11 @@
 //! What is seen of a world.
-ghost use Rattle.std.specs.Prelude.{◌≡◌, ℕ, ◌+◌, ◌<◌, ◌≤◌, ◌↔◌, true, false, Some, length, slice_get, IsTrue, IfOk, IfSome, MatchOption};
+ghost use Rattle.std.specs.Prelude.{◌≡◌, ℕ, ◌+◌, ◌<◌, ◌≤◌, ◌↔◌, true, false, Some, None, length, slice_get, IsTrue, IfOk, IfSome, MatchOption};
 ghost use Rattle.std.specs.Option.{option_copied};
 ghost use Rattle.sb_sequencer.specs.Notes.{answer_of};
 ghost use Rattle.sb_sequencer.specs.Numbering.{call_at, place_of_key};
 ghost use Rattle.schedule_player.specs.Bank.{log_reply};
-ghost use Rattle.schedule_player.specs.Books.{IsRowsAt};
-ghost use Rattle.schedule_player.specs.Observed.{idle_at, length_at, reply_at};
+ghost use Rattle.schedule_player.specs.Books.{IsRowsAt, IsStateAt};
+ghost use Rattle.schedule_player.specs.Observed.{idle_at, length_at, reply_at, state_at};
 ghost use Rattle.schedule_player.specs.Played.{IsPlayed, bank_after};
 ghost use Rattle.schedule_player.specs.TrueToLog.{IsTrueToLog};
 ghost use Rattle.schedule_player.specs.World.{bank_of};
@@ -18,11 +18,11 @@ use sb_rows::{Columns, Directory};
 use sb_sequencer::REPLICAS;
 
 impl World {
-    /// How many replicas there are, at most eight.
+    /// How many replicas there are, at most sixteen.
     pub fn replicas(&self) -> u32
         ensures value { result ≡ length self.now.nodes }
         ensures few { result ≤ REPLICAS }
-        // Whatever happened, no replica is ahead of the log, and all frames and all answers are the log's.
+        // Whatever happened, no replica is ahead of the log, and all frames, states and answers are the log's.
         ensures true_to_log { IsTrueToLog self.now }
     {
         self.nodes.len() as u32
@@ -76,6 +76,17 @@ impl World {
             → IsRowsAt (bank_after schedule) size columns.now) }
     {
         self.nodes[replica as usize].replica.settled_columns()
+    }
+
+    /// The bytes of the state at a place, from 1, of those that were ever sent to a replica.
+    pub fn state(&self, replica: u32, place: u32) -> Option<&[u8]>
+        requires { replica < length self.now.nodes }
+        // They are the checkpoint of the bank after as many calls of the log as the machine says.
+        ensures { MatchOption result (state_at self.now replica place ≡ None) (λ bytes.
+            (size : ℕ) × (state_at self.now replica place ≡ Some size)
+            × IsStateAt (bank_of self.now) size bytes.now) }
+    {
+        self.nodes[replica as usize].states.get(place)
     }
 
     /// The call with a number of the log.

@@ -39,6 +39,8 @@ impl World {
                 call,
             } => self.ask(client, request, &call),
             Event::From { replica, place } => Ok(self.hear(replica, place)),
+            Event::Donor { replica } => Ok(self.donor(replica)),
+            Event::Give { donor, replica } => self.give(donor, replica),
             Event::Audit { first, second } => self.compare(first, second),
             Event::Send { replica, .. }
             | Event::Resend { replica }
@@ -50,15 +52,17 @@ impl World {
             | Event::Mark { replica, .. }
             | Event::Restart { replica }
             | Event::Cut { replica }
-            | Event::Next { replica } => self.at(replica, event),
+            | Event::Next { replica }
+            | Event::Have { replica }
+            | Event::Adopt { replica, .. } => self.at(replica, event),
         }
     }
 
     /// One event happens, and is noted.
     ///
     /// Fails where memory is refused, which may be only where a request gets a new number, a frame is sent, an entry is
-    /// accepted, a cut is made, a checkpoint is put or gone back to, or an audit adds up the books. Nothing is changed
-    /// then.
+    /// accepted, a cut is made, a checkpoint is put or gone back to, a state is given or read, or an audit adds up the
+    /// books. Nothing is changed then.
     pub fn step(&mut self, event: Event) -> Result<Note, StepFault>
         // The world moves as the reference machine does.
         ensures moves { IfOk result (λ note. Moves self.old event note self.new) }

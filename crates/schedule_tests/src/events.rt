@@ -65,6 +65,26 @@ fn reads_a_line_of_each_event(rt: HostRuntime) {
 }
 
 #[test]
+fn reads_a_line_of_each_event_of_states(rt: HostRuntime) {
+    let give = Event::Give {
+        donor: 3,
+        replica: 4,
+    };
+    let adopt = Event::Adopt {
+        replica: 5,
+        place: 4294967295,
+    };
+    for (line, event) in [
+        ("have 1", Event::Have { replica: 1 }),
+        ("donor 2", Event::Donor { replica: 2 }),
+        ("give 3 4", give),
+        ("adopt 5 4294967295", adopt),
+    ] {
+        assert!(rt; read_event(line.as_bytes()) == Ok(event), "{line}");
+    }
+}
+
+#[test]
 fn reads_how_a_put_ends(rt: HostRuntime) {
     for (line, how) in [
         ("mark 0 ok", How::Ok),
@@ -150,6 +170,50 @@ const BAD_NUMBERS: [&str; 16] = [
     "ask 1 4294967296 pay",
 ];
 
+// The same of the events of states.
+const UNKNOWN_STATES: [&str; 6] = [
+    "donors 1",
+    "haves 1",
+    "gives 0 1",
+    "adopts 0 1",
+    "Give 0 1",
+    "gave 1",
+];
+
+const WRONG_STATE_WORDS: [&str; 10] = [
+    "have",
+    "have 0 1",
+    "have 0 ",
+    "donor",
+    "donor 0 1",
+    "give 0",
+    "give 0 1 2",
+    "give 0  1",
+    "adopt 0",
+    "adopt 0 1 2",
+];
+
+const BAD_STATE_NUMBERS: [&str; 18] = [
+    "have 01",
+    "have 4294967296",
+    "have x",
+    "donor 01",
+    "donor 4294967296",
+    "donor x",
+    "give 01 1",
+    "give 4294967296 1",
+    "give x 1",
+    "give 0 01",
+    "give 0 4294967296",
+    "give 0 x",
+    "adopt 01 1",
+    "adopt 4294967296 1",
+    "adopt x 1",
+    "adopt 0 01",
+    "adopt 0 4294967296",
+    "adopt 0 x",
+];
+
 // Each of these lines has this fault first.
 fn are_at_fault(rt: &impl Abort, lines: &[&str], fault: EventFault) {
     for line in lines {
@@ -162,6 +226,13 @@ fn names_the_first_fault_of_a_line(rt: HostRuntime) {
     are_at_fault(&rt, &UNKNOWN_EVENTS, EventFault::UnknownEvent);
     are_at_fault(&rt, &WRONG_WORDS, EventFault::WrongWords);
     are_at_fault(&rt, &BAD_NUMBERS, EventFault::BadNumber);
+}
+
+#[test]
+fn names_the_first_fault_of_a_line_of_states(rt: HostRuntime) {
+    are_at_fault(&rt, &UNKNOWN_STATES, EventFault::UnknownEvent);
+    are_at_fault(&rt, &WRONG_STATE_WORDS, EventFault::WrongWords);
+    are_at_fault(&rt, &BAD_STATE_NUMBERS, EventFault::BadNumber);
 }
 
 #[test]

@@ -14,10 +14,10 @@ fn heads_at_fault(rt: HostRuntime) {
     for schedule in [
         "",
         "nodes 0 workers 1\nbegin\n",
-        "nodes 9 workers 1\nbegin\n",
+        "nodes 17 workers 1\nbegin\n",
         "nodes 1 workers 17\nbegin\n",
         // The first of two faults.
-        "nodes 9 workers 1\nleave\n",
+        "nodes 17 workers 1\nleave\n",
     ] {
         let fault = ScheduleLineFault::BadHead;
         expect_fault(&rt, rt.alloc(), schedule.as_bytes(), 1, fault);

@@ -57,6 +57,28 @@ fn notes_with_a_number(rt: HostRuntime) {
 }
 
 #[test]
+fn notes_of_states(rt: HostRuntime) {
+    expect_lines(
+        &rt,
+        rt.alloc(),
+        &[
+            (Note::Has(0), "has 0\n"),
+            (Note::Donor(15, 1_000_000), "donor 15 1000000\n"),
+            (
+                Note::Donor(4_294_967_295, 18_446_744_073_709_551_615),
+                "donor 4294967295 18446744073709551615\n",
+            ),
+            (Note::Gave(1), "gave 1\n"),
+            (Note::Adopted(20), "adopted 20\n"),
+            (
+                Note::Behind(18_446_744_073_709_551_615),
+                "behind 18446744073709551615\n",
+            ),
+        ],
+    );
+}
+
+#[test]
 fn notes_in_words(rt: HostRuntime) {
     expect_lines(
         &rt,

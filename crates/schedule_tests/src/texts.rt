@@ -75,8 +75,8 @@ fn reads_schedules_at_their_edges(rt: HostRuntime) {
     for (text, head) in &[
         ("nodes 1 workers 1\nbegin", (1, 1)),
         ("nodes 1 workers 16\nbegin\n", (1, 16)),
-        ("nodes 8 workers 1\nbegin\n", (8, 1)),
-        ("nodes 8 workers 16\nbegin\n", (8, 16)),
+        ("nodes 16 workers 1\nbegin\n", (16, 1)),
+        ("nodes 16 workers 16\nbegin\n", (16, 16)),
     ] {
         let schedule = read(&rt, rt.alloc(), text);
         has_counts(&rt, &schedule, *head, [0, 0]);
@@ -89,9 +89,9 @@ const BAD_HEADS: [&str; 16] = [
     "begin\n",
     "nodes 0 workers 1\nbegin\n",
     "nodes 1 workers 0\nbegin\n",
-    "nodes 9 workers 1\nbegin\n",
+    "nodes 17 workers 1\nbegin\n",
     "nodes 1 workers 17\nbegin\n",
-    "nodes 264 workers 1\nbegin\n",
+    "nodes 272 workers 1\nbegin\n",
     "nodes 01 workers 1\nbegin\n",
     "nodes 1  workers 1\nbegin\n",
     "nodes 1 workers 1 \nbegin\n",
@@ -99,7 +99,7 @@ const BAD_HEADS: [&str; 16] = [
     "nodes 1 worker 1\nbegin\n",
     "node 1 workers 1\nbegin\n",
     "nodes x workers 1\nbegin\n",
-    "nodes 9 workers 1\nx\n",
+    "nodes 17 workers 1\nx\n",
 ];
 
 #[test]

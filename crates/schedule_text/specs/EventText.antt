@@ -87,6 +87,15 @@ of_ask (client ∷ []) = Err WrongWords
 
 -- ---- a line
 
+-- by its first word, of states that replicas get from others
+abbrev pub state_event : List ℕ → List (List ℕ) → Result Event EventFault
+state_event verb rest =
+    if bytes_eq verb (codes "have") then of_one event.Have rest
+    else if bytes_eq verb (codes "donor") then of_one event.Donor rest
+    else if bytes_eq verb (codes "give") then of_two event.Give rest
+    else if bytes_eq verb (codes "adopt") then of_two event.Adopt rest
+    else Err UnknownEvent
+
 -- by its first word, of what replicas do without the network
 abbrev pub replica_event : List ℕ → List (List ℕ) → Result Event EventFault
 replica_event verb rest =
@@ -97,7 +106,7 @@ replica_event verb rest =
     else if bytes_eq verb (codes "cut") then of_one event.Cut rest
     else if bytes_eq verb (codes "next") then of_one event.Next rest
     else if bytes_eq verb (codes "audit") then of_two event.Audit rest
-    else Err UnknownEvent
+    else state_event verb rest
 
 -- by its first word
 abbrev pub event_of_words : List (List ℕ) → Result Event EventFault

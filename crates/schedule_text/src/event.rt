@@ -3,7 +3,7 @@
 use sb_calls::Call;
 use sb_checkpoint::How;
 
-/// One event of a schedule. Replicas are counted from 0; workers, numbers and places in a list of frames from 1.
+/// One event of a schedule. Replicas are counted from 0; workers, numbers and places in a list of frames or of states from 1.
 /// An event that names something that doesn't exist changes nothing.
 #[derive(Clone, Copy, Debug, PartialEq, Eq)]
 pub enum Event {
@@ -91,6 +91,30 @@ pub enum Event {
     Next {
         /// Who.
         replica: u32,
+    },
+    /// A replica tells the length of the checkpoint that it keeps.
+    Have {
+        /// Who.
+        replica: u32,
+    },
+    /// The sequencer is asked from whom a replica gets a state.
+    Donor {
+        /// Who gets one.
+        replica: u32,
+    },
+    /// The state that a replica keeps is sent to another.
+    Give {
+        /// Whose state.
+        donor: u32,
+        /// To whom.
+        replica: u32,
+    },
+    /// A state that was sent to a replica is adopted there; it may be again.
+    Adopt {
+        /// Where.
+        replica: u32,
+        /// Which of the states that were ever sent to it.
+        place: u32,
     },
     /// Two replicas are compared.
     Audit {

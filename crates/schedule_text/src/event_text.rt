@@ -98,6 +98,29 @@ fn replica_event(verb: &[u8], words: Words) -> Result<Event, EventFault>
         let (first, second) = two_numbers(words)?;
         return Ok(Event::Audit { first, second });
     }
+    state_event(verb, words)
+}
+
+// The event with a first word, and the words after it, of states that replicas get from others.
+fn state_event(verb: &[u8], words: Words) -> Result<Event, EventFault>
+    ensures { result ≡ spec.state_event verb.now words.entry }
+{
+    if verb == b"have".as_slice() {
+        let replica = one_number(words)?;
+        return Ok(Event::Have { replica });
+    }
+    if verb == b"donor".as_slice() {
+        let replica = one_number(words)?;
+        return Ok(Event::Donor { replica });
+    }
+    if verb == b"give".as_slice() {
+        let (donor, replica) = two_numbers(words)?;
+        return Ok(Event::Give { donor, replica });
+    }
+    if verb == b"adopt".as_slice() {
+        let (replica, place) = two_numbers(words)?;
+        return Ok(Event::Adopt { replica, place });
+    }
     Err(EventFault::UnknownEvent)
 }
 

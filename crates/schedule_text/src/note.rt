@@ -55,6 +55,16 @@ pub enum Note {
     Cut(u64),
     /// There is a cut already, of this length.
     Pending(u64),
+    /// The sequencer recorded that a replica keeps a checkpoint of this length.
+    Has(u64),
+    /// This replica keeps a checkpoint of this length, from which another gets its state.
+    Donor(u32, u64),
+    /// A state was sent, at this place of its list.
+    Gave(u64),
+    /// The replica is at this length, by a state.
+    Adopted(u64),
+    /// The state has no more than the replica's log, of this length.
+    Behind(u64),
     /// What comparing two replicas gave.
     Audit(AuditNote),
     /// The event names something that doesn't exist, or finds nothing to do.

@@ -52,6 +52,11 @@ fn push_note(note: Note, out: &mut Vec<u8>) -> Result<(), AllocError>
         Note::Restarted(size) => push_numbered(b"restarted ", size, out),
         Note::Cut(size) => push_numbered(b"cut ", size, out),
         Note::Pending(size) => push_numbered(b"pending ", size, out),
+        Note::Has(size) => push_numbered(b"has ", size, out),
+        Note::Donor(donor, size) => push_two(b"donor ", u64::from(donor), size, out),
+        Note::Gave(place) => push_numbered(b"gave ", place, out),
+        Note::Adopted(size) => push_numbered(b"adopted ", size, out),
+        Note::Behind(size) => push_numbered(b"behind ", size, out),
         Note::Audit(found) => push_audit(found, out),
         Note::Nothing => out.extend_from_slice(b"nothing"),
     }
@@ -63,10 +68,7 @@ fn push_audit(found: AuditNote, out: &mut Vec<u8>) -> Result<(), AllocError>
 {
     match found {
         AuditNote::Busy(replica) => push_numbered(b"busy ", u64::from(replica), out),
-        AuditNote::Apart(first, second) => {
-            push_numbered(b"apart ", first, out)?;
-            push_numbered(b" ", second, out)
-        }
+        AuditNote::Apart(first, second) => push_two(b"apart ", first, second, out),
         AuditNote::Differ(column, place) => {
             out.extend_from_slice(b"differ ")?;
             out.extend_from_slice(column_word(column))?;
@@ -110,6 +112,15 @@ pub fn push_numbered(words: &[u8], number: u64, out: &mut Vec<u8>) -> Result<(),
     let mut buffer = Buffer::new();
     out.extend_from_slice(words)?;
     out.extend_from_slice(buffer.format(number).as_bytes())
+}
+
+// Writes some words and two numbers.
+fn push_two(words: &[u8], first: u64, second: u64, out: &mut Vec<u8>) -> Result<(), AllocError>
+    ensures { OnOk result (out.new.items
+        ≡ out.old.items ++ (words.now ++ (decimal first ++ (32 ∷ decimal second)))) }
+{
+    push_numbered(words, first, out)?;
+    push_numbered(b" ", second, out)
 }
 
 // Writes some words and a total in cents, as money.

@@ -8,7 +8,7 @@ use sb_rows::{Columns, Directory};
 /// What the text of a schedule says.
 #[derive(Drop)]
 pub struct Schedule {
-    /// How many replicas there are, from 1 to 8.
+    /// How many replicas there are, from 1 to 16.
     pub nodes: u8,
     /// How many workers each has, from 1 to 16.
     pub workers: u8,

@@ -63,7 +63,7 @@ pub(crate) fn entry(number: u64, call: &Call) -> Frame {
 }
 
 // Frames with their spellings, by hand.
-pub(crate) fn vectors(rt: &impl Abort) -> [(Frame, &'static str); 8] {
+pub(crate) fn vectors(rt: &impl Abort) -> [(Frame, &'static str); 9] {
     let alice = name(rt, "alice");
     let bob = name(rt, "bob");
     let amount = cents(rt, 500);
@@ -124,5 +124,12 @@ pub(crate) fn vectors(rt: &impl Abort) -> [(Frame, &'static str); 8] {
             "0013 05 00000007 00000002 00 01 0000000000000000",
         ),
         (Frame::Flush, "0001 06"),
+        (
+            Frame::Have {
+                replica: 1,
+                length: 2,
+            },
+            "000a 07 01 0000000000000002",
+        ),
     ]
 }

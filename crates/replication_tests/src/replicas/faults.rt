@@ -12,9 +12,13 @@ struct Case {
     restarts: [Result<u64, RestartFault>; 2],
 }
 
-fn opened_over_faulty(rt: &(impl Abort + AllocGlobal), case: &Case) -> Box<Replica<FaultyStore>> {
+fn opened_over_faulty(
+    rt: &(impl Abort + AllocGlobal),
+    at: u64,
+    leaves: Version,
+) -> Box<Replica<FaultyStore>> {
     let inner = MemoryStore::new(rt.alloc());
-    let store = FaultyStore::new(inner, case.at, case.leaves);
+    let store = FaultyStore::new(inner, at, leaves);
     let bank = opening(rt);
     let replica = Replica::open(rt.alloc(), 1, bank.directory, bank.columns, store);
     let replica = replica.expect(rt, "memory for a replica");
@@ -35,7 +39,7 @@ fn restarts_so(
 }
 
 fn plays(rt: &(impl Abort + AllocGlobal), case: &Case) {
-    let mut replica = opened_over_faulty(rt, case);
+    let mut replica = opened_over_faulty(rt, case.at, case.leaves);
     hears(
         rt,
         &mut *replica,
@@ -80,4 +84,16 @@ fn a_device_that_fails_at_one_call(rt: HostRuntime) {
     ] {
         plays(&rt, &case);
     }
+}
+
+#[test]
+fn a_device_that_fails_where_a_state_is_looked_for(rt: HostRuntime) {
+    let mut replica = opened_over_faulty(&rt, 2, Version::Old);
+    let none = Frame::Have {
+        replica: 1,
+        length: 0,
+    };
+    assert!(rt; replica.have_frame() == Ok(none));
+    assert!(rt; replica.kept_state().err() == Some(RestartFault::Device));
+    assert!(rt; replica.have_frame() == Ok(none));
 }

@@ -2,6 +2,9 @@
 use super::*;
 use crate::checkpoints::{CHECKING, HEAD, REPLIES, SAVINGS, TOTAL};
 
+// The checkpoint after the five calls of the last test, by hand.
+pub(crate) const AFTER_FIVE_CALLS: [&str; 5] = [HEAD, SAVINGS, CHECKING, TOTAL, REPLIES];
+
 // The checkpoint after a deposit of 1.00 to alice, by hand.
 pub(crate) const AFTER_A_DEPOSIT: [&str; 5] = [
     "5342434b50543031 0000000000000001 00000003",
@@ -58,7 +61,12 @@ fn a_mark_after_five_calls(rt: HostRuntime) {
             Step::AcceptUpTo(5, "amalgamate alice bob"),
             Step::Run(5, Reply::Done),
             Step::Mark(Ok(5)),
-            Step::Stored(Some(&[HEAD, SAVINGS, CHECKING, TOTAL, REPLIES])),
+            Step::Stored(Some(&AFTER_FIVE_CALLS)),
+            Step::Keeps(Some((5, &AFTER_FIVE_CALLS))),
+            Step::HaveFrame(Frame::Have {
+                replica: 1,
+                length: 5,
+            }),
         ],
     );
 }

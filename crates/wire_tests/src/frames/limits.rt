@@ -57,11 +57,27 @@ fn numbers_lengths_and_replicas(rt: HostRuntime) {
             ],
         );
     }
-    for (replica, length, digits) in [
-        (0, u64::MAX, "000a 03 00 ffffffffffffffff"),
-        (u8::MAX, 0, "000a 03 ff 0000000000000000"),
+    for (replica, length, ack, have) in [
+        (
+            0,
+            u64::MAX,
+            "000a 03 00 ffffffffffffffff",
+            "000a 07 00 ffffffffffffffff",
+        ),
+        (
+            u8::MAX,
+            0,
+            "000a 03 ff 0000000000000000",
+            "000a 07 ff 0000000000000000",
+        ),
     ] {
-        are_spelled(&rt, &[(Frame::Ack { replica, length }, digits)]);
+        are_spelled(
+            &rt,
+            &[
+                (Frame::Ack { replica, length }, ack),
+                (Frame::Have { replica, length }, have),
+            ],
+        );
     }
 }
 

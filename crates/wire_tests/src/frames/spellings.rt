@@ -34,15 +34,23 @@ fn every_proper_beginning_is_short(rt: HostRuntime) {
 }
 
 #[test]
-fn an_ack_by_hand(rt: HostRuntime) {
-    let ack = Frame::Ack {
-        replica: 1,
-        length: 2,
-    };
-    are_spelled(&rt, &[(ack, "000a03010000000000000002")]);
+fn an_ack_and_a_have_by_hand(rt: HostRuntime) {
+    let (replica, length) = (1, 2);
+    are_spelled(
+        &rt,
+        &[
+            (Frame::Ack { replica, length }, "000a03010000000000000002"),
+            (Frame::Have { replica, length }, "000a07010000000000000002"),
+        ],
+    );
     for (digits, fault) in [
         ("000a030100000000000000", FrameFault::Short),
+        ("000a070100000000000000", FrameFault::Short),
         ("000b0301000000000000000200", FrameFault::BadLength),
+        ("000b0701000000000000000200", FrameFault::BadLength),
+        // With the same fields, the tags of no frame and above all.
+        ("000a00010000000000000002", FrameFault::UnknownTag),
+        ("000a08010000000000000002", FrameFault::UnknownTag),
         ("000a09010000000000000002", FrameFault::UnknownTag),
         ("", FrameFault::Short),
     ] {

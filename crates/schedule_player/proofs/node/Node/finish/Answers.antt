@@ -16,7 +16,7 @@ returns-in_default-take c bank r is =
     finishes_nothing bank r old new c.args.worker c.in-Some.place is c.in-Some.ensures.0
     (get_here old.hands.items c.in-Some.place c.index_mut.result.now c.in-Some.ensures.1 c.index_mut.ensures.value
     ∙ ap (λ x. Some x) (sym c.take.ensures.value ∙ c.in_default-take.is))
-    refl (record { beside = refl; inbound = refl; outbound = refl })
+    refl (record { beside = refl; inbound = refl; outbound = refl; states = refl })
     (ap (λ x. slice_set old.hands.items c.in-Some.place x) c.take.ensures.after)
 
 pub returns-in_default-finish : goal.returns-in_default-finish
@@ -30,7 +30,7 @@ returns-in_default-finish c bank r is =
     (record { number = c.run.ensures.job.0; behaviour = c.run.ensures.job.1; inputs = c.run.ensures.job.2 })
     (λ out. true≢false (sym (c.in_default-finish.ensures.accepted.1 out)))
     c.in_default-finish.ensures.outcome.1
-    (record { beside = c.in_default-finish.ensures.beside; inbound = refl; outbound = refl })
+    (record { beside = c.in_default-finish.ensures.beside; inbound = refl; outbound = refl; states = refl })
     (ap (λ x. slice_set old.hands.items c.in-Some.place x) c.take.ensures.after))
 
 pub returns : goal.returns
@@ -43,5 +43,5 @@ returns c bank r is =
     ∙ ap (λ x. Some x) (sym c.take.ensures.value ∙ c.in-Some-take.is))
     (record { number = c.run.ensures.job.0; behaviour = c.run.ensures.job.1; inputs = c.run.ensures.job.2 })
     c.in-Ok.ensures.outcome
-    (record { beside = c.in-Ok.ensures.beside; inbound = refl; outbound = refl })
+    (record { beside = c.in-Ok.ensures.beside; inbound = refl; outbound = refl; states = refl })
     (ap (λ x. slice_set old.hands.items c.in-Some.place x) c.take.ensures.after))

@@ -12,7 +12,7 @@ returns-in_default-take_at c bank r is =
     takes_nothing bank r c.args.self.now (record c.args.self.now { replica = c.take_at.new.self }) c.args.worker c.in-Some.place c.args.index is
     c.in-Some.ensures.0
     (none_here c.args.self.now.hands.items c.in-Some.place c.index.result.now c.in-Some.ensures.1 c.index.ensures c.if-is_some.ensures)
-    (record { beside = c.in_default-take_at.ensures.beside; inbound = refl; outbound = refl }) refl
+    (record { beside = c.in_default-take_at.ensures.beside; inbound = refl; outbound = refl; states = refl }) refl
     c.in_default-take_at.ensures.outcome.0 c.in_default-take_at.ensures.outcome.1
 
 pub returns : goal.returns
@@ -23,5 +23,5 @@ returns c bank r is =
     (takes_job bank r old new c.args.worker c.in-Some.place c.args.index c.in-Some-take_at.job is
     c.in-Some.ensures.0
     (none_here old.hands.items c.in-Some.place c.index.result.now c.in-Some.ensures.1 c.index.ensures c.if-is_some.ensures)
-    (record { beside = c.in-Some-take_at.ensures.beside; inbound = refl; outbound = refl }) refl
+    (record { beside = c.in-Some-take_at.ensures.beside; inbound = refl; outbound = refl; states = refl }) refl
     c.in-Some-take_at.ensures.outcome)

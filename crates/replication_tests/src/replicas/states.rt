@@ -1,0 +1,181 @@
+//! States: the checkpoint of one replica, adopted by another.
+use super::marks::{AFTER_A_DEPOSIT, AFTER_FIVE_CALLS};
+use super::*;
+use crate::checkpoints::{CHECKING, HEAD, SAVINGS, TOTAL};
+
+// The first 120 bytes of the checkpoint after five calls.
+const SHORT: [&str; 5] = [
+    HEAD,
+    SAVINGS,
+    CHECKING,
+    TOTAL,
+    "00 0000000000003a98 01 0000000000000000 01 0000000000000000 01 0000000000000000 01 00000000000000",
+];
+
+// The checkpoint of a bank without customers.
+const NOBODYS: [&str; 2] = [
+    "5342434b50543031 0000000000000000 00000000",
+    "0000000000000000",
+];
+
+// One entry is finished and stored, another two are held, and there is a cut.
+#[test]
+fn a_state_is_adopted(rt: HostRuntime) {
+    plays(
+        &rt,
+        &[
+            Step::AcceptUpTo(1, "deposit alice 1.00"),
+            Step::Run(1, Reply::Done),
+            Step::Mark(Ok(1)),
+            Step::Cut(Ok(1)),
+            Step::Hear(3, "deposit alice 3.00", Heard::Held(3)),
+            Step::Hear(7, "deposit alice 7.00", Heard::Held(7)),
+            Step::Adopt(&AFTER_FIVE_CALLS, Ok(Adopted::Adopted(5))),
+            Step::Ends(5, [0, 2_500, 0]),
+            Step::ReplyTo(1, Some(Reply::Shown(15_000))),
+            Step::ReplyTo(2, Some(Reply::Done)),
+            Step::ReplyTo(5, Some(Reply::Done)),
+            Step::ReplyTo(6, None),
+            Step::Stored(Some(&AFTER_A_DEPOSIT)),
+            Step::Hear(5, "deposit alice 5.00", Heard::Repeat(5)),
+            // Nothing is held.
+            Step::Advance(None),
+            Step::AcceptUpTo(6, "savings carol 4.00"),
+            Step::Advance(None),
+            Step::Run(6, Reply::Done),
+            Step::Adopt(&AFTER_FIVE_CALLS, Ok(Adopted::Behind(6))),
+            Step::Length(6),
+            // There is no cut.
+            Step::Cut(Ok(6)),
+            Step::Restart(Ok(1)),
+            Step::Ends(1, [5_100, 2_000, 0]),
+        ],
+    );
+}
+
+// All that was adopted is put by the next mark.
+#[test]
+fn a_state_that_was_adopted_is_marked(rt: HostRuntime) {
+    plays(
+        &rt,
+        &[
+            Step::Adopt(&AFTER_FIVE_CALLS, Ok(Adopted::Adopted(5))),
+            Step::Stored(None),
+            Step::Adopt(&AFTER_FIVE_CALLS, Ok(Adopted::Behind(5))),
+            Step::Mark(Ok(5)),
+            Step::Stored(Some(&AFTER_FIVE_CALLS)),
+            Step::Restart(Ok(5)),
+            Step::Ends(5, [0, 2_500, 0]),
+        ],
+    );
+}
+
+#[test]
+fn a_state_that_is_not_adopted_changes_nothing(rt: HostRuntime) {
+    plays(
+        &rt,
+        &[
+            Step::AcceptUpTo(1, "deposit alice 1.00"),
+            Step::Hear(3, "deposit alice 3.00", Heard::Held(3)),
+            Step::Take(1),
+            Step::Cut(Ok(1)),
+            Step::Adopt(
+                &SHORT,
+                Err(AdoptFault::BadCheckpoint(CheckpointFault::Short)),
+            ),
+            Step::Adopt(
+                &NOBODYS,
+                Err(AdoptFault::BadCheckpoint(CheckpointFault::WrongCustomers)),
+            ),
+            Step::Adopt(&[], Err(AdoptFault::BadCheckpoint(CheckpointFault::Short))),
+            Step::Adopt(&AFTER_A_DEPOSIT, Ok(Adopted::Behind(1))),
+            Step::Length(1),
+            Step::Cut(Err(CutFault::Pending(1))),
+            Step::Finish(Reply::Done),
+            Step::AcceptUpTo(2, "deposit alice 2.00"),
+            Step::Adopt(&AFTER_A_DEPOSIT, Ok(Adopted::Behind(2))),
+            Step::Advance(Some(Heard::Accepted(3))),
+            Step::Run(2, Reply::Done),
+            Step::Run(3, Reply::Done),
+            Step::Ends(3, [5_600, 2_000, 0]),
+        ],
+    );
+}
+
+#[test]
+fn a_hand_of_an_adopted_number_is_a_stranger(rt: HostRuntime) {
+    plays(
+        &rt,
+        &[
+            Step::AcceptUpTo(1, "deposit alice 1.00"),
+            Step::Take(1),
+            Step::Adopt(&AFTER_FIVE_CALLS, Ok(Adopted::Adopted(5))),
+            Step::ComeBack,
+            Step::Ends(5, [0, 2_500, 0]),
+        ],
+    );
+}
+
+// The hands are of numbers behind the state, from before a restart.
+#[test]
+fn a_hand_of_a_later_number_is_a_stranger(rt: HostRuntime) {
+    plays(
+        &rt,
+        &[
+            Step::AcceptUpTo(3, "balance nobody"),
+            Step::Run(1, Reply::NoCustomer),
+            Step::Take(2),
+            Step::Take(3),
+            Step::Restart(Ok(0)),
+            Step::Adopt(&AFTER_A_DEPOSIT, Ok(Adopted::Adopted(1))),
+            // The log doesn't have 2.
+            Step::ComeBack,
+            Step::AcceptUpTo(3, "deposit bob 1.00"),
+            // It has 3, which waits again.
+            Step::ComeBack,
+            Step::Run(2, Reply::Done),
+            Step::Run(3, Reply::Done),
+            Step::Ends(3, [5_100, 2_200, 0]),
+        ],
+    );
+}
+
+#[test]
+fn a_replica_has_no_state_of_no_entry(rt: HostRuntime) {
+    let none = Frame::Have {
+        replica: 1,
+        length: 0,
+    };
+    plays(
+        &rt,
+        &[
+            Step::Keeps(None),
+            Step::HaveFrame(none),
+            Step::Mark(Ok(0)),
+            Step::Keeps(None),
+            Step::HaveFrame(none),
+            Step::AcceptUpTo(1, "deposit alice 1.00"),
+            Step::Keeps(None),
+            Step::Run(1, Reply::Done),
+            Step::Mark(Ok(1)),
+            Step::AcceptUpTo(2, "deposit alice 1.00"),
+            Step::Keeps(Some((1, &AFTER_A_DEPOSIT))),
+            Step::Length(2),
+            Step::Stored(Some(&AFTER_A_DEPOSIT)),
+        ],
+    );
+}
+
+#[test]
+fn stored_bytes_that_are_no_state(rt: HostRuntime) {
+    for (bytes, fault) in [
+        (b"no checkpoint".as_slice(), CheckpointFault::BadMagic),
+        (b"SBCKPT01".as_slice(), CheckpointFault::Short),
+    ] {
+        plays_over(
+            &rt,
+            Some(bytes),
+            &[Step::KeepsNone(RestartFault::BadCheckpoint(fault))],
+        );
+    }
+}

@@ -1,0 +1,99 @@
+//! The checkpoint of one replica, taken by another in place of the log's entries.
+ghost use Rattle.std.specs.Prelude.{◌≡◌, ℕ, IfOk, IfErr, List, MatchResult, None, Option, length, option_map};
+ghost use Rattle.sb_checkpoint.specs.Checkpoint.{Spells};
+ghost use Rattle.sb_checkpoint.specs.Reading.{first_fault, IsRefusedBy};
+ghost use Rattle.sb_checkpoint.specs.Stores.{StoreDoes};
+ghost use Rattle.sb_frames.specs.declared.frame.Frame.TheVariants as frames;
+ghost use Rattle.sb_replica.specs.Restarting.{IsRestartFaultOf};
+ghost use Rattle.sb_replica.specs.States.{Adopts, IsAdoptFaultOf, IsStateOf, KeepsState, state_length};
+
+use crate::adopted::Adopted;
+use crate::fault::{AdoptFault, RestartFault};
+use crate::replica::Replica;
+use crate::restarting::log_on;
+use sb_checkpoint::{Checkpoint, CheckpointFault, CheckpointStore, read_checkpoint};
+use sb_frames::Frame;
+
+impl<S: CheckpointStore> Replica<S> {
+    /// The state that it has for another replica: the checkpoint that its store holds, with its length, or `None` where
+    /// none was put, or one of no entry. Nothing but the store changes.
+    ///
+    /// Fails where its store does, where what that holds is no checkpoint of this bank, and where memory is refused.
+    pub fn kept_state(&mut self) -> Result<Option<(u64, Vec<u8>)>, RestartFault>
+        ensures ok { IfOk result (λ state. KeepsState (StoreDoes S.model) self.old
+            (option_map (λ kept. (kept.0, kept.1.items)) state) self.new) }
+        ensures err { IfErr result (λ fault.
+            IsRestartFaultOf (StoreDoes S.model) self.old fault self.new) }
+    {
+        let Some(bytes) = self.store.get()? else {
+            return Ok(None);
+        };
+        let length = self.length_in(&bytes)?;
+        if length == 0 {
+            return Ok(None);
+        }
+        Ok(Some((length, bytes)))
+    }
+
+    /// That it has a state of this length for another replica, of length 0 where it has none. Nothing but the store
+    /// changes.
+    ///
+    /// Fails as [`Replica::kept_state`].
+    pub fn have_frame(&mut self) -> Result<Frame, RestartFault>
+        ensures ok { IfOk result (λ frame. (state : Option (ℕ × List ℕ))
+            × KeepsState (StoreDoes S.model) self.old state self.new
+            × (frame ≡ frames.Have self.old.id (state_length state))) }
+        ensures err { IfErr result (λ fault.
+            IsRestartFaultOf (StoreDoes S.model) self.old fault self.new) }
+    {
+        let length = match self.kept_state()? {
+            Some((length, _)) => length,
+            None => 0,
+        };
+        Ok(Frame::Have {
+            replica: self.id,
+            length,
+        })
+    }
+
+    /// Goes on from another replica's state, where it has more entries than the own log. What is unfinished here or
+    /// held, and a cut, is gone then. The store isn't touched, so that a restart before the next mark goes back to
+    /// where the store says.
+    ///
+    /// Fails where the bytes are no checkpoint of this bank, and where memory is refused; nothing changes then.
+    pub fn adopt(&mut self, bytes: &[u8]) -> Result<Adopted, AdoptFault>
+        ensures outcome { MatchResult result
+            (λ adopted. Adopts self.old bytes.now adopted self.new)
+            (λ fault. IsAdoptFaultOf (length self.old.names) bytes.now fault × (self.new ≡ self.old)) }
+    {
+        let checkpoint = self.checkpoint_in(bytes)?;
+        let own = self.length();
+        let length = checkpoint.replies().len() as u64;
+        if length <= own {
+            return Ok(Adopted::Behind(own));
+        }
+        let (columns, replies) = checkpoint.into_parts();
+        self.go_on_from(log_on(self.alloc, columns, replies)?);
+        Ok(Adopted::Adopted(length))
+    }
+
+    // How many entries the checkpoint of this bank has that these bytes are.
+    fn length_in(&self, bytes: &[u8]) -> Result<u64, CheckpointFault>
+        ensures length { IfOk result (λ size. IsStateOf (length self.now.names) size bytes.now) }
+        ensures fault { IfErr result (IsRefusedBy bytes.now (length self.now.names)) }
+    {
+        Ok(self.checkpoint_in(bytes)?.replies().len() as u64)
+    }
+
+    // The checkpoint of this bank that these bytes are.
+    pub(crate) fn checkpoint_in(&self, bytes: &[u8]) -> Result<Checkpoint, CheckpointFault>
+        ensures checkpoint { IfOk result (λ checkpoint. Spells checkpoint bytes.now) }
+        ensures customers { IfOk result (λ checkpoint.
+            length checkpoint.columns.savings ≡ length self.now.names) }
+        ensures fault { MatchResult result
+            (λ _. first_fault bytes.now (length self.now.names) ≡ None)
+            (IsRefusedBy bytes.now (length self.now.names)) }
+    {
+        read_checkpoint(self.alloc, bytes, self.opening.customers())
+    }
+}

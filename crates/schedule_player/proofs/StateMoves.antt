@@ -1,0 +1,192 @@
+-- What a replica has of the log goes to another one as a state.
+use Rattle.std.proofs.Common.{◌≡◌, ◌≢◌, inl, inr, Bool, true, false, ℕ, suc, ◌≤◌, Option, Some, None, List, [], ◌∷◌, ◌++◌, length, map, refl, sym, ap, subst, ◌∙◌, arith}
+use Rattle.std.specs.Prelude.{option_map, nat_le}
+use Rattle.std.proofs.lemmas.Bool.{lt-leb, le-leb}
+use Rattle.std.proofs.lemmas.List.{length-append, map-append}
+use Rattle.cown_board.specs.Board.{BoardOf, length_of}
+use Rattle.sb_rows.specs.Balances.{Balances}
+use Rattle.sb_calls.specs.Op.{resolved}
+use Rattle.sb_calls.specs.declared.op.Op.{Op}
+use Rattle.sb_checkpoint.proofs.Spelled.{read_back}
+use Rattle.sb_checkpoint.specs.MemoryStore.{MemoryStoreOf}
+use Rattle.sb_checkpoint.specs.Reading.{stated_length}
+use Rattle.sb_frames.specs.declared.frame.Frame.{Frame}
+use Rattle.sb_frames.specs.declared.frame.Frame.TheVariants as frame
+use Rattle.sb_replica.specs.Replica.{ReplicaOf}
+use Rattle.sb_replica.specs.Restarting.{IsLogOn}
+use Rattle.sb_replica.specs.States.{Gives, KeepsState, Adopts, state_length}
+use Rattle.sb_replica.specs.declared.adopted.Adopted.TheVariants as answer
+use Rattle.schedule_player.specs.Bank.{BankOf}
+use Rattle.schedule_player.specs.NodeAlong.{seen_node, IsToldBy, IsStateAlong, IsKeptAlong, HasState, IsNodeAt, Arrives}
+use Rattle.schedule_player.specs.Numbered.{numbered, Every}
+use Rattle.schedule_player.specs.ReplicaMoves.{NodeOf, begun_at, state_comes, adopted, tells, told_kept, given, length_in}
+use Rattle.schedule_player.specs.Seen.{kept_in}
+use Rattle.schedule_player.specs.World.{may_take_memory}
+use Rattle.schedule_player.specs.declared.node.Node.{Node}
+use Rattle.schedule_text.specs.declared.note.Note.TheVariants as note
+use Rattle.schedule_player.proofs.GivenStates.{numbered-map}
+use Rattle.schedule_player.proofs.Lists.{every_push, every_numbered}
+use Rattle.schedule_player.proofs.NodeMoves.{node_stays}
+use Rattle.schedule_player.proofs.Stages.{length-map, length_stages}
+use Rattle.schedule_player.proofs.Storing.{Does, begins_on, kept_of}
+use Rattle.schedule_player.proofs.Telling.{tells_frame}
+use Rattle.schedule_player.proofs.Working.{state_by, adopts_so}
+
+-- ---- what it keeps
+
+-- a look at the store changes nothing
+pub keeps_same : (old new : ReplicaOf MemoryStoreOf) (state : Option (ℕ × List ℕ)) → KeepsState Does old state new → new ≡ old
+keeps_same old new state keeps = let acts = keeps.got.as_told in keeps.stays ∙ ap (λ s. record old { store = s }) acts.1
+
+gives_length : (customers : ℕ) (held : Option (List ℕ)) (state : Option (ℕ × List ℕ)) → Gives customers held state → state_length state ≡ kept_in held
+gives_length customers held (Some (size, bytes)) gives =
+    let is = gives.1 in
+    let back = read_back is.checkpoint bytes is.spelled in
+    sym is.size_is ∙ sym back.count ∙ ap kept_in (sym gives.0)
+gives_length customers held None (inl none) = ap kept_in (sym none)
+gives_length customers held None (inr (bytes, here, is)) =
+    let back = read_back is.checkpoint bytes is.spelled in
+    sym is.size_is ∙ sym back.count ∙ ap kept_in (sym here)
+
+-- the length of the state is that of what is stored
+state_kept : (old new : ReplicaOf MemoryStoreOf) (state : Option (ℕ × List ℕ)) → KeepsState Does old state new
+    → state_length state ≡ kept_in old.store.slot
+state_kept old new state keeps =
+    let acts = keeps.got.as_told in
+    gives_length (length old.names) keeps.held state keeps.gives ∙ ap kept_in acts.0
+
+kept_in_log : (bank : BankOf) (r : ℕ) (node : Node) → IsNodeAt bank r node → kept_in node.replica.store.slot ≤ length bank.calls
+kept_in_log bank r node is =
+    let kept = kept_of bank.opening (length bank.names) node.replica.store.slot is.kept.checkpoint is.kept.stored in
+    let within = is.kept.along.within in
+    let calls = length-map (resolved bank.names) bank.calls in
+    omega (arith, kept, within, calls)
+
+-- it is told
+pub tells_kept : (bank : BankOf) (r : ℕ) (old : Node) (new : ReplicaOf MemoryStoreOf) (state : Option (ℕ × List ℕ)) (outbound : List Frame)
+    (told : Frame) (place : ℕ) → IsNodeAt bank r old → KeepsState Does old.replica state new
+    → told ≡ frame.Have old.replica.id (state_length state) → outbound ≡ old.outbound ++ told ∷ [] → place ≡ length outbound
+    → Arrives bank r (record old { replica = new; outbound = outbound }) (note.Sent place) (told_kept (seen_node old) r)
+tells_kept bank r old new state outbound told place is keeps t e p =
+    let size = state_kept old.replica new state keeps in
+    let fits : state_length state ≤ length bank.calls = let within = kept_in_log bank r old is in omega (arith, size, within) in
+    subst (λ x. Arrives bank r (record old { replica = x; outbound = outbound }) (note.Sent place) (told_kept (seen_node old) r))
+    (sym (keeps_same old.replica new state keeps))
+    (tells_frame bank r old outbound told place (told_kept (seen_node old) r) is e p
+    (subst (IsToldBy bank r) (sym t) (is.id, fits))
+    (ap (λ n. tells (seen_node old) (frame.Have r n)) (sym size)
+    ∙ ap (λ n. tells (seen_node old) (frame.Have n (state_length state))) (sym is.id) ∙ ap (tells (seen_node old)) (sym t)))
+
+-- and is what others get
+pub has_state : (bank : BankOf) (r : ℕ) (old : Node) (new : ReplicaOf MemoryStoreOf) (state : Option (ℕ × List ℕ)) → IsNodeAt bank r old
+    → KeepsState Does old.replica state new → HasState bank (seen_node old) (option_map (λ kept. kept.1) state)
+has_state bank r old new None is keeps = sym (state_kept old.replica new None keeps)
+has_state bank r old new (Some (size, bytes)) is keeps =
+    let acts = keeps.got.as_told in
+    let gives = keeps.gives in
+    let slot : old.replica.store.slot ≡ Some bytes = sym acts.0 ∙ gives.0 in
+    let some = gives.2 in
+    let length_is = state_kept old.replica new (Some (size, bytes)) keeps in (
+      subst (IsKeptAlong bank) slot is.kept,
+      ap kept_in (sym slot),
+      (λ none. omega (arith, some, length_is, none)),
+    )
+
+-- ---- a state is sent to it
+
+pub receives : (bank : BankOf) (r : ℕ) (old : Node) (states : List (List ℕ)) (bytes : List ℕ) (place : ℕ) → IsNodeAt bank r old
+    → IsStateAlong bank bytes → states ≡ old.states ++ bytes ∷ [] → place ≡ length states
+    → Arrives bank r (record old { states = states }) (note.Gave place) (given (seen_node old) (stated_length bytes))
+receives bank r old states bytes place is along e p =
+    let sizes : map stated_length states ≡ map stated_length old.states ++ stated_length bytes ∷ [] =
+    ap (map stated_length) e ∙ map-append stated_length old.states (bytes ∷ []) in
+    let count : place ≡ suc (length (map stated_length old.states)) =
+    let l = length-append old.states (bytes ∷ []) in
+    let m = length-map stated_length old.states in
+    let q = p ∙ ap length e ∙ l in omega (arith, q, m) in
+    record {
+      along = record {
+        customers = is.customers;
+        few = is.few;
+        id = is.id;
+        names = is.names;
+        opening = is.opening;
+        board = is.board;
+        held = is.held;
+        kept = is.kept;
+        hands = is.hands;
+        inbound = is.inbound;
+        outbound = is.outbound;
+        states = subst (Every (IsStateAlong bank)) (sym e) (every_push (IsStateAlong bank) old.states bytes is.states along);
+      };
+      as_moved = λ j. (record (seen_node old) { states = sym sizes j }, note.Gave (sym count j));
+    }
+
+-- ---- it goes on from a state
+
+state_seen : (old : Node) (place : ℕ) (bytes : List ℕ) → numbered old.states place ≡ Some bytes
+    → numbered (seen_node old).states place ≡ Some (stated_length bytes)
+state_seen old place bytes here = numbered-map stated_length old.states place ∙ ap (option_map stated_length) here
+
+-- what a state comes to, by whether the replica's log has as much
+state_does : (old : Node) (place : ℕ) (bytes : List ℕ) (behind : Bool) → numbered old.states place ≡ Some bytes
+    → nat_le (stated_length bytes) (length_in (seen_node old)) ≡ behind
+    → adopted (seen_node old) place ≡ state_by (seen_node old) (stated_length bytes) behind
+state_does old place bytes behind here is =
+    ap (state_comes (seen_node old)) (state_seen old place bytes here) ∙ ap (state_by (seen_node old) (stated_length bytes)) is
+
+-- a board on a state is of its length
+board_length : (opening : Balances) (customers : ℕ) (bytes : List ℕ) (board : BoardOf Op) → IsLogOn opening customers (Some bytes) board
+    → length_of board ≡ stated_length bytes
+board_length opening customers bytes board on =
+    let back = read_back on.checkpoint bytes on.is_stored.0 in
+    let count = back.count in
+    let e = ap length_of on.board_is in
+    omega (arith, e, count)
+
+pub goes_on : (bank : BankOf) (r : ℕ) (old : Node) (new : ReplicaOf MemoryStoreOf) (place : ℕ) (bytes : List ℕ) (size : ℕ) → IsNodeAt bank r old
+    → numbered old.states place ≡ Some bytes → Adopts old.replica bytes (answer.Adopted size) new
+    → Arrives bank r (record old { replica = new }) (note.Adopted size) (adopted (seen_node old) place)
+goes_on bank r old new place bytes size is here adopts =
+    let longer = adopts.0 in
+    let size_is = adopts.1 in
+    let on = adopts.2 in
+    let stays = adopts.3 in
+    let stated = board_length old.replica.opening (length old.replica.names) bytes new.board on in
+    let own = length_stages old.replica.board is.board.states in
+    begins_on bank r old new (Some bytes) size note.Adopted (adopted (seen_node old) place) is
+    (every_numbered (IsStateAlong bank) old.states place bytes is.states here) on (sym size_is)
+    (record { id = ap (λ x. x.id) stays; names = ap (λ x. x.names) stays; opening = ap (λ x. x.opening) stays })
+    (ap (λ x. x.held) stays) (ap (λ x. x.store.slot) stays)
+    (state_does old place bytes false here
+    (lt-leb (stated_length bytes) (length_in (seen_node old)) (omega (arith, longer, size_is, stated, own))))
+
+pub stays_ahead : (bank : BankOf) (r : ℕ) (old : Node) (new : ReplicaOf MemoryStoreOf) (place : ℕ) (bytes : List ℕ) (own : ℕ) → IsNodeAt bank r old
+    → numbered old.states place ≡ Some bytes → Adopts old.replica bytes (answer.Behind own) new
+    → Arrives bank r (record old { replica = new }) (note.Behind own) (adopted (seen_node old) place)
+stays_ahead bank r old new place bytes own is here adopts =
+    let own_is = adopts.0 in
+    let state = adopts.1 in
+    let same = adopts.2 in
+    let back = read_back state.1.checkpoint bytes state.1.spelled in
+    let count = back.count in
+    let size_is = state.1.size_is in
+    let fits = state.2 in
+    let log = length_stages old.replica.board is.board.states in
+    node_stays bank r old (record old { replica = new }) (adopted (seen_node old) place) (note.Behind own) is (ap (λ x. record old { replica = x }) same)
+    (state_does old place bytes true here
+    (le-leb (stated_length bytes) (length_in (seen_node old)) (omega (arith, own_is, count, size_is, fits, log)))
+    ∙ ap (λ n. (seen_node old, note.Behind n)) (log ∙ sym own_is))
+
+-- there is none
+pub no_state : (bank : BankOf) (r : ℕ) (old : Node) (place : ℕ) → IsNodeAt bank r old → numbered old.states place ≡ None
+    → Arrives bank r old note.Nothing (adopted (seen_node old) place)
+no_state bank r old place is none =
+    node_stays bank r old old (adopted (seen_node old) place) note.Nothing is refl
+    (ap (state_comes (seen_node old)) (numbered-map stated_length old.states place ∙ ap (option_map stated_length) none))
+
+-- memory may be wanted for one that is there
+pub adopts_wanting : (old : Node) (place : ℕ) (bytes : List ℕ) → numbered old.states place ≡ Some bytes
+    → may_take_memory (adopted (seen_node old) place).1 ≡ true
+adopts_wanting old place bytes here =
+    ap (λ state. may_take_memory (state_comes (seen_node old) state).1) (state_seen old place bytes here) ∙ adopts_so (seen_node old) (stated_length bytes)

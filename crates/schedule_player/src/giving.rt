@@ -1,0 +1,65 @@
+//! States that replicas get from others.
+ghost use Rattle.std.specs.Prelude.{◌≡◌, ◌<◌, Some, length, slice_get, IfOk, OnErr};
+ghost use Rattle.std.specs.Option.{option_map};
+ghost use Rattle.sb_checkpoint.specs.Reading.{stated_length};
+ghost use Rattle.schedule_player.specs.NodeAlong.{HasState, IsStateAlong};
+ghost use Rattle.schedule_player.specs.ReplicaMoves.{NodeOf, given};
+ghost use Rattle.schedule_player.specs.World.{IsDonorNoted, MayWantMemory, bank_of, given_from, moved_at};
+ghost use Rattle.schedule_text.specs.declared.event.Event.TheVariants as event;
+
+use crate::fault::StepFault;
+use crate::world::World;
+use schedule_text::Note;
+
+impl World {
+    /// The sequencer is asked from whom a replica gets a state.
+    pub(crate) fn donor(&self, replica: u32) -> Note
+        ensures { IsDonorNoted self.now.sequencer replica result }
+    {
+        // There are at most sixteen.
+        let Ok(id) = u8::try_from(replica) else {
+            return Note::Nothing;
+        };
+        match self.sequencer.donor(id) {
+            Some((donor, length)) => Note::Donor(donor as u32, length),
+            None => Note::Nothing,
+        }
+    }
+
+    // The bytes of the state that a replica has for others.
+    fn state_of(&mut self, donor: u32) -> Result<Option<Vec<u8>>, StepFault>
+        requires { donor < length self.old.nodes }
+        ensures same { self.new ≡ self.old }
+        ensures kept { (node : NodeOf) → slice_get self.old.nodes donor ≡ Some node
+            → IfOk result (λ state. HasState (bank_of self.old) node (option_map (λ bytes. bytes.items) state)) }
+    {
+        self.nodes[donor as usize].state()
+    }
+
+    // A state is sent to a replica.
+    fn receive(&mut self, replica: u32, bytes: Vec<u8>) -> Result<Note, StepFault>
+        requires replica { replica < length self.old.nodes }
+        requires state { IsStateAlong (bank_of self.old) bytes.items }
+        ensures moves { IfOk result (λ note.
+            moved_at self.old replica (λ node. given node (stated_length bytes.items)) ≡ (self.new, note)) }
+        ensures err { OnErr result (self.new ≡ self.old) }
+    {
+        self.nodes[replica as usize].receive(bytes)
+    }
+
+    /// The state that a replica keeps is sent to another.
+    pub(crate) fn give(&mut self, donor: u32, replica: u32) -> Result<Note, StepFault>
+        ensures moves { IfOk result (λ note.
+            given_from self.old replica (slice_get self.old.nodes donor) ≡ (self.new, note)) }
+        ensures err { OnErr result (self.new ≡ self.old) }
+        ensures wanted { OnErr result (MayWantMemory self.old (event.Give donor replica)) }
+    {
+        if donor as usize >= self.nodes.len() || replica as usize >= self.nodes.len() {
+            return Ok(Note::Nothing);
+        }
+        let Some(bytes) = self.state_of(donor)? else {
+            return Ok(Note::Nothing);
+        };
+        self.receive(replica, bytes)
+    }
+}
