@@ -57,10 +57,10 @@ slice_get-left (x ∷ xs) ys (suc place) l = slice_get-left xs ys place (omega (
 
 -- ---- what an answer changes, and how it is noted
 
-module _ (log : List (Key × Call)) (recorded : List ℕ) (kept : List (Option Reply)) (place number : ℕ) (reply : Reply)
+module _ (log : List (Key × Call)) (recorded checkpoints : List ℕ) (kept : List (Option Reply)) (place number : ℕ) (reply : Reply)
     (few : length kept ≤ length log) (within : place < length log) (is : number ≡ suc place) where
   abbrev keeping : List (Option Reply) → SequencerOf
-  keeping answers = record { log = log; recorded = recorded; answers = padded (length log) answers }
+  keeping answers = record { log = log; recorded = recorded; checkpoints = checkpoints; answers = padded (length log) answers }
 
   filled : length (padded (place + 1) kept) ≤ length log
   filled = elim (cases_lt place (length kept)) [
@@ -72,14 +72,14 @@ module _ (log : List (Key × Call)) (recorded : List ℕ) (kept : List (Option R
   again = padded-again (place + 1) (length log) kept few (omega (arith, within))
 
   unchanged : (new : List (Option Reply)) → new ≡ padded (place + 1) kept → keeping new ≡ keeping kept
-  unchanged new e = ap (λ answers. record { log = log; recorded = recorded; answers = answers }) (ap (padded (length log)) e ∙ again)
+  unchanged new e = ap (λ answers. record { log = log; recorded = recorded; checkpoints = checkpoints; answers = answers }) (ap (padded (length log)) e ∙ again)
 
   pub answered_state : (note : AnswerNote) (new : List (Option Reply)) → IsKept (padded (place + 1) kept) place reply note new
       → keeping new ≡ after_answer (keeping kept) number reply note
   answered_state Kept new h =
       let there : place < length (padded (place + 1) kept) = (filled_within place kept).0 in
       let before : place ≡ number - 1 = omega (arith, is) in
-      ap (λ answers. record { log = log; recorded = recorded; answers = answers })
+      ap (λ answers. record { log = log; recorded = recorded; checkpoints = checkpoints; answers = answers })
       (ap (padded (length log)) h.1 ∙ padded-set (length log) place (padded (place + 1) kept) (Some reply) there
       ∙ (λ j. slice_set (again j) (before j) (Some reply)))
   answered_state Repeat new h = unchanged new h.1
@@ -118,10 +118,11 @@ pub flatten-padded : (places : ℕ) (kept : List (Option Reply)) (place : ℕ)
 flatten-padded places kept place = flatten-append kept (places - length kept) place
 
 -- so the answer for a key is what is kept at the place that a map finds for it
-pub answer_at : (log : List (Key × Call)) (recorded : List ℕ) (kept : List (Option Reply)) (s : SequencerOf) (key : Key) (found : Option ℕ)
-    → record { log = log; recorded = recorded; answers = padded (length log) kept } ≡ s → found ≡ position (same_key key) (keys_of log)
+pub answer_at : (log : List (Key × Call)) (recorded checkpoints : List ℕ) (kept : List (Option Reply)) (s : SequencerOf) (key : Key) (found : Option ℕ)
+    → record { log = log; recorded = recorded; checkpoints = checkpoints; answers = padded (length log) kept } ≡ s
+    → found ≡ position (same_key key) (keys_of log)
     → answer_of s key ≡ option_and_then (λ place. option_flatten (slice_get kept place)) found
-answer_at log recorded kept s key found is e =
+answer_at log recorded checkpoints kept s key found is e =
     ap (λ sequencer. answer_of sequencer key) (sym is)
     ∙ ap (option_and_then (λ place. option_flatten (slice_get (padded (length log) kept) place))) (place_from_map log log key found refl e)
     ∙ there found

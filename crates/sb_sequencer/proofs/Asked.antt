@@ -20,41 +20,52 @@ grows old new ask (Ok (Repeat n)) e = omega (arith, ap length e)
 grows old new ask (Err fault) e = omega (arith, ap length e)
 
 -- so what was recorded and kept stays within it
-pub asked_rooms : (old new : List (Key × Call)) (recorded : List ℕ) (kept after : List (Option Reply)) (room more : ℕ) (ask : Key × Call)
-    (result : Result Numbered AskFault) → HasRooms old recorded kept room → IsAnswered old ask result → LogAfter old ask result new → after ≡ kept
-    → length new ≤ more → HasRooms new recorded after more
-asked_rooms old new recorded kept after room more ask result is answered e same enough =
+pub asked_rooms : (old new : List (Key × Call)) (recorded checkpoints : List ℕ) (kept after : List (Option Reply)) (room more : ℕ) (ask : Key × Call)
+    (result : Result Numbered AskFault) → HasRooms old recorded checkpoints kept room → IsAnswered old ask result → LogAfter old ask result new → after ≡ kept
+    → length new ≤ more → HasRooms new recorded checkpoints after more
+asked_rooms old new recorded checkpoints kept after room more ask result is answered e same enough =
     let longer : length old ≤ length new = grows old new ask result e in
     record {
       log = IsLog-answered old new ask result is.log answered e;
       recorded = λ k d l. omega (arith, is.recorded k d l, longer);
+      each = is.each;
+      checkpoints = λ k d l. omega (arith, is.checkpoints k d l, longer);
       kept = omega (arith, ap length same, is.kept, longer);
       room = enough;
     }
 
 -- and a new number has a place for its answer
-pub asked_state : (old new : List (Key × Call)) (recorded : List ℕ) (kept after : List (Option Reply)) (ask : Key × Call)
+pub asked_state : (old new : List (Key × Call)) (recorded checkpoints : List ℕ) (kept after : List (Option Reply)) (ask : Key × Call)
     (result : Result Numbered AskFault) → length kept ≤ length old → LogAfter old ask result new → after ≡ kept
     → let sequencer : List (Key × Call) → List (Option Reply) → SequencerOf
-    = λ log answers. record { log = log; recorded = recorded; answers = padded (length log) answers } in
+    = λ log answers. record { log = log; recorded = recorded; checkpoints = checkpoints; answers = padded (length log) answers } in
     sequencer new after ≡ after_ask (sequencer old kept) ask result
-asked_state old new recorded kept after ask (Ok (New n)) few e same =
+asked_state old new recorded checkpoints kept after ask (Ok (New n)) few e same =
     let answers : padded (length new) after ≡ padded (length old) kept ++ None ∷ [] =
     (λ j. padded (length (e j)) (same j)) ∙ ap (λ n. padded n kept) (length_push old ask) ∙ padded-push (length old) kept few in
-    λ j. record { log = e j; recorded = recorded; answers = answers j }
-asked_state old new recorded kept after ask (Ok (Repeat n)) few e same = λ j. record {
+    λ j. record { log = e j; recorded = recorded; checkpoints = checkpoints; answers = answers j }
+asked_state old new recorded checkpoints kept after ask (Ok (Repeat n)) few e same = λ j. record {
   log = e j;
   recorded = recorded;
+  checkpoints = checkpoints;
   answers = padded (length (e j))
       (same j);
 }
-asked_state old new recorded kept after ask (Err fault) few e same = λ j. record { log = e j; recorded = recorded; answers = padded (length (e j)) (same j) }
+asked_state old new recorded checkpoints kept after ask (Err fault) few e same = λ j. record {
+  log = e j;
+  recorded = recorded;
+  checkpoints = checkpoints;
+  answers = padded (length (e j)) (same j);
+}
 
 -- a sequencer with its rooms is one
-pub rooms_sequencer : (log : List (Key × Call)) (recorded : List ℕ) (kept : List (Option Reply)) (room : ℕ) → HasRooms log recorded kept room
-    → IsSequencer (record { log = log; recorded = recorded; answers = padded (length log) kept })
-rooms_sequencer log recorded kept room is = record {
+pub rooms_sequencer : (log : List (Key × Call)) (recorded checkpoints : List ℕ) (kept : List (Option Reply)) (room : ℕ)
+    → HasRooms log recorded checkpoints kept room
+    → IsSequencer (record { log = log; recorded = recorded; checkpoints = checkpoints; answers = padded (length log) kept })
+rooms_sequencer log recorded checkpoints kept room is = record {
   log = is.log;
   answers = length-padded (length log) kept is.kept;
   recorded = is.recorded;
+  each = is.each;
+  checkpoints = is.checkpoints;
 }

@@ -1,5 +1,6 @@
 pub mod Answering
 pub mod Asked
+pub mod Choosing
 pub mod Entries
 pub mod Firsts
 pub mod Keys

@@ -1,4 +1,5 @@
 pub mod Answer
+pub mod Donors
 pub mod Entries
 pub mod Fault
 pub mod Keeping

@@ -1,5 +1,5 @@
 -- What a sequencer hears of the replicas: how it is noted, and what it changes.
-use Rattle.std.specs.Prelude.{◌≡◌, ◌≢◌, ℕ, zero, suc, ◌-◌, nat_lt, nat_le, ◌&&◌, if◌then◌else◌, Option, Some, None, length, slice_get, slice_set}
+use Rattle.std.specs.Prelude.{◌≡◌, ◌≢◌, ℕ, zero, suc, ◌-◌, nat_lt, nat_le, Bool, ◌&&◌, if◌then◌else◌, Option, Some, None, length, slice_get, slice_set}
 use Rattle.std.specs.Option.{option_and_then, option_flatten}
 use Rattle.sb_calls.specs.declared.ask.Key.{Key}
 use Rattle.sb_calls.specs.declared.reply.Reply.{Reply}
@@ -7,15 +7,19 @@ use Rattle.sb_sequencer.specs.Numbering.{place_of_key}
 use Rattle.sb_sequencer.specs.Sequencer.{SequencerOf}
 use Rattle.sb_sequencer.specs.declared.note.AckNote.{AckNote}
 use Rattle.sb_sequencer.specs.declared.note.AckNote.TheVariants as acks
+use Rattle.sb_sequencer.specs.declared.note.HaveNote.{HaveNote}
+use Rattle.sb_sequencer.specs.declared.note.HaveNote.TheVariants as haves
 use Rattle.sb_sequencer.specs.declared.note.AnswerNote.{AnswerNote}
 use Rattle.sb_sequencer.specs.declared.note.AnswerNote.TheVariants as answers
 
+-- a length counts that is a known replica's, and not beyond the log
+abbrev pub counts : SequencerOf → ℕ → ℕ → Bool
+counts s replica size = nat_lt replica (length s.recorded) && nat_le size (length s.log)
+
 -- ---- how much of the log a replica has
 
--- a length of a known replica, and not beyond the log
 abbrev pub hears_ack : SequencerOf → ℕ → ℕ → AckNote
-hears_ack s replica size =
-    if nat_lt replica (length s.recorded) && nat_le size (length s.log) then acks.Recorded else acks.Odd
+hears_ack s replica size = if counts s replica size then acks.Recorded else acks.Odd
 
 -- what is recorded takes the place of what was
 abbrev pub recording : SequencerOf → ℕ → ℕ → AckNote → SequencerOf
@@ -24,6 +28,19 @@ recording s replica size acks.Odd = s
 
 abbrev pub after_ack : SequencerOf → ℕ → ℕ → SequencerOf
 after_ack s replica size = recording s replica size (hears_ack s replica size)
+
+-- ---- the length of the checkpoint that a replica keeps
+
+abbrev pub hears_have : SequencerOf → ℕ → ℕ → HaveNote
+hears_have s replica size = if counts s replica size then haves.Recorded else haves.Odd
+
+-- what is recorded takes the place of what was
+abbrev pub recording_have : SequencerOf → ℕ → ℕ → HaveNote → SequencerOf
+recording_have s replica size haves.Recorded = record s { checkpoints = slice_set s.checkpoints replica size }
+recording_have s replica size haves.Odd = s
+
+abbrev pub after_have : SequencerOf → ℕ → ℕ → SequencerOf
+after_have s replica size = recording_have s replica size (hears_have s replica size)
 
 -- ---- what a call was answered
 

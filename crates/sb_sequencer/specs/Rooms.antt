@@ -1,15 +1,18 @@
 -- What a sequencer has room for.
-use Rattle.std.specs.Prelude.{ℕ, ◌≤◌, Option, List, length}
+use Rattle.std.specs.Prelude.{◌≡◌, ℕ, ◌≤◌, Option, List, length}
 use Rattle.std.specs.List.{All}
 use Rattle.sb_calls.specs.declared.ask.Key.{Key}
 use Rattle.sb_calls.specs.declared.call.Call.{Call}
 use Rattle.sb_calls.specs.declared.reply.Reply.{Reply}
 use Rattle.sb_sequencer.specs.Numbering.{IsLog}
 
--- no replica is beyond the log; answers are kept for its calls alone, and there is room for one to each
-pub record HasRooms (entries : List (Key × Call)) (sizes : List ℕ) (answers : List (Option Reply))
-    (places : ℕ) : Type 0 where
+-- no replica is beyond the log, and none of as many checkpoints; answers are kept for its calls alone,
+-- and there is room for one to each
+pub record HasRooms (entries : List (Key × Call)) (sizes states : List ℕ)
+    (answers : List (Option Reply)) (places : ℕ) : Type 0 where
   pub log : IsLog entries
   pub recorded : All (λ size. size ≤ length entries) sizes
+  pub each : length states ≡ length sizes
+  pub checkpoints : All (λ size. size ≤ length entries) states
   pub kept : length answers ≤ length entries
   pub room : length entries ≤ places

@@ -9,21 +9,31 @@ use Rattle.sb_sequencer.specs.declared.answer.AskFault.{AskFault}
 use Rattle.sb_sequencer.specs.declared.answer.Numbered.{Numbered}
 use Rattle.sb_sequencer.specs.declared.answer.Numbered.TheVariants.{New, Repeat}
 
--- the log, the length last heard of each replica, and the answer kept for each number, if any
+-- the log, the lengths last heard of each replica and of its checkpoint, and the answer kept for each
+-- number, if any
 pub record SequencerOf : Type 0 where
   pub log : List (Key × Call)
   pub recorded : List ℕ
+  pub checkpoints : List ℕ
   pub answers : List (Option Reply)
 
 -- a sequencer for so many replicas with an empty log
 abbrev pub opened : ℕ → SequencerOf
-opened nodes = record { log = []; recorded = replicate nodes 0; answers = [] }
+opened nodes = record {
+  log = [];
+  recorded = replicate nodes 0;
+  checkpoints = replicate nodes 0;
+  answers = [];
+}
 
--- one place for an answer for each call; no replica was heard of beyond the log
+-- one place for an answer for each call, and a length of a checkpoint for each replica; no replica and
+-- no checkpoint was heard of beyond the log
 pub record IsSequencer (s : SequencerOf) : Type 0 where
   pub log : IsLog s.log
   pub answers : length s.answers ≡ length s.log
   pub recorded : All (λ size. size ≤ length s.log) s.recorded
+  pub each : length s.checkpoints ≡ length s.recorded
+  pub checkpoints : All (λ size. size ≤ length s.log) s.checkpoints
 
 -- only a new number changes it: the ask goes last, and nothing is kept for it yet
 abbrev pub after_ask : SequencerOf → Key × Call → Result Numbered AskFault → SequencerOf

@@ -3,6 +3,7 @@
 
 mod answer;
 mod asking;
+mod donors;
 mod kept;
 mod laws;
 mod note;
@@ -10,5 +11,5 @@ mod sequencer;
 
 pub use answer::{AskFault, Numbered};
 pub use laws::{limits, numbering};
-pub use note::{AckNote, AnswerNote};
+pub use note::{AckNote, AnswerNote, HaveNote};
 pub use sequencer::{REPLICAS, RESEND, Sequencer};

@@ -9,6 +9,15 @@ pub enum AckNote {
     Odd,
 }
 
+/// How it is noted that a replica keeps a checkpoint.
+#[derive(Clone, Copy, Debug, PartialEq, Eq)]
+pub enum HaveNote {
+    /// The length is that of the checkpoint that the replica keeps.
+    Recorded,
+    /// There is no such replica, or the log isn't so long. Nothing changed.
+    Odd,
+}
+
 /// How the answer to a call is noted.
 #[derive(Clone, Copy, Debug, PartialEq, Eq)]
 pub enum AnswerNote {

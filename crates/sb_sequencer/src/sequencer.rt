@@ -28,11 +28,12 @@ pub const REPLICAS: usize = 16;
 pub const RESEND: usize = 16;
 
 /// Numbers clients' requests into one log: each key once, in the order of first asks. It remembers how
-/// much of the log each replica has, and what each call was answered.
+/// much of the log each replica has, of how much each keeps a checkpoint, and what each call was answered.
 #[derive(Drop)]
 pub struct Sequencer {
     log: IndexMap<Key, Call>,
     recorded: ArrayVec<u64, REPLICAS>,
+    pub(crate) checkpoints: ArrayVec<u64, REPLICAS>,
     // There is room for an answer to each call, and it is filled as far as an answer was kept.
     kept: Vec<Option<Reply>>,
 }
@@ -47,10 +48,12 @@ impl Model for Sequencer {
     ghost view = { λ s. record {
       log = s.log.entries;
       recorded = s.recorded.items;
+      checkpoints = s.checkpoints.items;
       answers = padded (length s.log.entries) s.kept.items;
     } };
 
-    ghost invariant = { λ s. HasRooms s.log.entries s.recorded.items s.kept.items (vec_capacity s.kept) };
+    ghost invariant = { λ s. HasRooms s.log.entries s.recorded.items s.checkpoints.items s.kept.items
+        (vec_capacity s.kept) };
 }
 
 // So many lengths of 0.
@@ -74,6 +77,7 @@ impl Sequencer {
         Sequencer {
             log: IndexMap::new(alloc),
             recorded: zeros(nodes),
+            checkpoints: zeros(nodes),
             kept: Vec::new(alloc),
         }
     }
@@ -87,6 +91,7 @@ impl Sequencer {
         Ok(Sequencer {
             log: IndexMap::with_capacity(alloc, calls)?,
             recorded: zeros(nodes),
+            checkpoints: zeros(nodes),
             kept: Vec::with_capacity(alloc, calls)?,
         })
     }
@@ -180,7 +185,7 @@ impl Sequencer {
     }
 
     // How much of the log a replica has.
-    fn recorded_of(&self, replica: u8) -> Option<u64>
+    pub(crate) fn recorded_of(&self, replica: u8) -> Option<u64>
         ensures value { result ≡ slice_get self.now.recorded replica }
         ensures within { IfSome result (λ size. size ≤ length self.now.log) }
     {

@@ -2,10 +2,11 @@
 use crate::fixtures::{balance, entry};
 use crate::steps::is_so;
 use sb_calls::Reply;
-use sb_sequencer::{AckNote, AnswerNote, AskFault, Numbered, Sequencer};
+use sb_sequencer::{AckNote, AnswerNote, AskFault, HaveNote, Numbered, REPLICAS, Sequencer};
 use std::process::Abort;
 
 mod asks;
+mod donors;
 mod entries;
 mod notes;
 
@@ -27,13 +28,17 @@ enum Step {
     AnswerOf(u32, u32, Option<Reply>),
     // A replica has the log up to a length.
     Ack(u8, u64, AckNote),
+    // A replica keeps a checkpoint of a length.
+    Have(u8, u64, HaveNote),
+    // From whom a replica gets a state, and of which length.
+    Donor(u8, Option<(u8, u64)>),
     // A replica is sent so many entries of this call again, the first with this number.
     Resends(u8, u64, usize, &'static str),
 }
 
 // A sequencer for so many replicas.
 fn opened(rt: &(impl Abort + AllocGlobal), replicas: usize) -> Box<Sequencer> {
-    assert!(rt; replicas <= 8);
+    assert!(rt; replicas <= REPLICAS);
     Box::new(rt.alloc(), Sequencer::open(rt.alloc(), replicas)).expect(rt, "memory for a sequencer")
 }
 
@@ -103,6 +108,10 @@ fn plays_one(rt: &impl Abort, log: &mut Sequencer, place: usize, step: &Step) {
         Step::Ack(replica, length, note) => {
             is_so(rt, place, log.on_ack(replica, length) == note);
         }
+        Step::Have(replica, length, note) => {
+            is_so(rt, place, log.on_have(replica, length) == note);
+        }
+        Step::Donor(replica, donor) => is_so(rt, place, log.donor(replica) == donor),
         Step::Resends(replica, first, count, customer) => {
             resends(rt, log, replica, first, count, customer);
         }

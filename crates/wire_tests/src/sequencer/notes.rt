@@ -52,3 +52,38 @@ fn records_what_each_replica_has(rt: HostRuntime) {
         ],
     );
 }
+
+#[test]
+fn records_the_checkpoint_of_each_replica(rt: HostRuntime) {
+    plays(
+        &rt,
+        2,
+        &[
+            Step::AskMany(2, "alice"),
+            Step::Have(0, 3, HaveNote::Odd),
+            Step::Have(0, u64::MAX, HaveNote::Odd),
+            Step::Have(2, 0, HaveNote::Odd),
+            Step::Have(u8::MAX, 0, HaveNote::Odd),
+            Step::Have(0, 2, HaveNote::Recorded),
+            Step::Have(0, 1, HaveNote::Recorded),
+            Step::Have(1, 0, HaveNote::Recorded),
+        ],
+    );
+}
+
+#[test]
+fn records_as_many_as_sixteen_replicas(rt: HostRuntime) {
+    plays(
+        &rt,
+        16,
+        &[
+            Step::AskMany(1, "alice"),
+            Step::Ack(15, 1, AckNote::Recorded),
+            Step::Ack(16, 1, AckNote::Odd),
+            Step::Have(15, 1, HaveNote::Recorded),
+            Step::Have(16, 1, HaveNote::Odd),
+            Step::Resends(15, 2, 0, "alice"),
+            Step::Resends(14, 1, 1, "alice"),
+        ],
+    );
+}

@@ -17,14 +17,16 @@ returns-then-is_full-clause-numbering c asks = Numbers-from_step asks c.args.sel
 -- below the limit
 pub invariant_of-self : goal.invariant_of-self
 invariant_of-self c =
-    asked_rooms c.self.inside.log.entries c.ask_with_room.new.log.entries c.self.inside.recorded.items c.self.inside.kept.items
+    let s = c.self.inside in
+    asked_rooms s.log.entries c.ask_with_room.new.log.entries s.recorded.items s.checkpoints.items s.kept.items
     c.ask_with_room.new.kept.items _ _ _ _ c.self.invariant c.ask_with_room.ensures.answer c.ask_with_room.ensures.log
     c.ask_with_room.ensures.kept c.ask_with_room.ensures.room
 
 pub returns-clause-state : goal.returns-clause-state
 returns-clause-state c =
     let ask : Key × Call = (record { client = c.args.client; request = c.args.request }, c.args.call.now) in
-    asked_state c.self.inside.log.entries c.ask_with_room.new.log.entries c.self.inside.recorded.items c.self.inside.kept.items
+    let s = c.self.inside in
+    asked_state s.log.entries c.ask_with_room.new.log.entries s.recorded.items s.checkpoints.items s.kept.items
     c.ask_with_room.new.kept.items ask c.ask_with_room.result c.self.invariant.kept c.ask_with_room.ensures.log c.ask_with_room.ensures.kept
     ∙ ap (λ s. after_ask s ask c.ask_with_room.result) c.self.view_is
 
@@ -39,4 +41,5 @@ returns-clause-numbering c asks = Numbers-from_step asks c.args.self.now.log c.a
 
 pub returns-clause-valid : goal.returns-clause-valid
 returns-clause-valid c =
-    rooms_sequencer c.ask_with_room.new.log.entries c.self.inside.recorded.items c.ask_with_room.new.kept.items _ (invariant_of-self c)
+    let s = c.self.inside in
+    rooms_sequencer c.ask_with_room.new.log.entries s.recorded.items s.checkpoints.items c.ask_with_room.new.kept.items _ (invariant_of-self c)

@@ -1,0 +1,57 @@
+//! The checkpoints that replicas keep, and from whom one gets a state in place of entries.
+ghost use Rattle.std.specs.Prelude.{◌≡◌, Some, slice_get};
+ghost use Rattle.sb_sequencer.specs.Donors.{IsDonor};
+ghost use Rattle.sb_sequencer.specs.Notes.{after_have, hears_have};
+
+use crate::note::HaveNote;
+use crate::sequencer::Sequencer;
+
+impl Sequencer {
+    /// Notes that a replica keeps a checkpoint of this length. The last length that was heard counts,
+    /// also one below that before. It takes no memory.
+    pub fn on_have(&mut self, replica: u8, length: u64) -> HaveNote
+        ensures note { result ≡ hears_have self.old replica length }
+        ensures state { self.new ≡ after_have self.old replica length }
+    {
+        if length > self.length() {
+            return HaveNote::Odd;
+        }
+        match self.checkpoints.get_mut(replica as usize) {
+            Some(checkpoint) => {
+                *checkpoint = length;
+                HaveNote::Recorded
+            }
+            None => HaveNote::Odd,
+        }
+    }
+
+    // The donor for a replica that has so much of the log.
+    fn donor_above(&self, replica: u8, length: u64) -> Option<(u8, u64)>
+        requires { slice_get self.now.recorded replica ≡ Some length }
+        ensures { IsDonor self.now replica result }
+    {
+        let checkpoints = self.checkpoints.as_slice();
+        let mut donor = None;
+        let mut most = length;
+        for place in 0..checkpoints.len() {
+            let other = place as u8;
+            let size = checkpoints[place];
+            // Of several with the same length the first one stays.
+            if other != replica && size > most {
+                most = size;
+                donor = Some((other, size));
+            }
+        }
+        donor
+    }
+
+    /// The replica that another one gets a state from, and the state's length: of the other replicas
+    /// that keep a checkpoint of more of the log than this one has, the one with the most; of several
+    /// the first. `None` where there is none, or no such replica. It takes no memory.
+    pub fn donor(&self, replica: u8) -> Option<(u8, u64)>
+        ensures { IsDonor self.now replica result }
+    {
+        let length = self.recorded_of(replica)?;
+        self.donor_above(replica, length)
+    }
+}
