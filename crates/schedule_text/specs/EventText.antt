@@ -87,26 +87,34 @@ of_ask (client ∷ []) = Err WrongWords
 
 -- ---- a line
 
--- by its first word, of states that replicas get from others
+-- by its first word, of checkpoints, and of the states that replicas get from others
 abbrev pub state_event : List ℕ → List (List ℕ) → Result Event EventFault
 state_event verb rest =
-    if bytes_eq verb (codes "have") then of_one event.Have rest
+    if bytes_eq verb (codes "mark") then of_mark rest
+    else if bytes_eq verb (codes "restart") then of_one event.Restart rest
+    else if bytes_eq verb (codes "cut") then of_one event.Cut rest
     else if bytes_eq verb (codes "donor") then of_one event.Donor rest
     else if bytes_eq verb (codes "give") then of_two event.Give rest
     else if bytes_eq verb (codes "adopt") then of_two event.Adopt rest
     else Err UnknownEvent
 
--- by its first word, of what replicas do without the network
+-- of what replicas do without the network
 abbrev pub replica_event : List ℕ → List (List ℕ) → Result Event EventFault
 replica_event verb rest =
     if bytes_eq verb (codes "take") then of_three event.Take rest
     else if bytes_eq verb (codes "finish") then of_two event.Finish rest
-    else if bytes_eq verb (codes "mark") then of_mark rest
-    else if bytes_eq verb (codes "restart") then of_one event.Restart rest
-    else if bytes_eq verb (codes "cut") then of_one event.Cut rest
     else if bytes_eq verb (codes "next") then of_one event.Next rest
     else if bytes_eq verb (codes "audit") then of_two event.Audit rest
     else state_event verb rest
+
+-- of what replicas tell the sequencer
+abbrev pub report_event : List ℕ → List (List ℕ) → Result Event EventFault
+report_event verb rest =
+    if bytes_eq verb (codes "ack") then of_one event.Ack rest
+    else if bytes_eq verb (codes "answer") then of_two event.Answer rest
+    else if bytes_eq verb (codes "have") then of_one event.Have rest
+    else if bytes_eq verb (codes "from") then of_two event.From rest
+    else replica_event verb rest
 
 -- by its first word
 abbrev pub event_of_words : List (List ℕ) → Result Event EventFault
@@ -116,10 +124,7 @@ event_of_words (verb ∷ rest) =
     else if bytes_eq verb (codes "send") then of_two event.Send rest
     else if bytes_eq verb (codes "resend") then of_one event.Resend rest
     else if bytes_eq verb (codes "to") then of_two event.To rest
-    else if bytes_eq verb (codes "ack") then of_one event.Ack rest
-    else if bytes_eq verb (codes "answer") then of_two event.Answer rest
-    else if bytes_eq verb (codes "from") then of_two event.From rest
-    else replica_event verb rest
+    else report_event verb rest
 
 -- the event that a line says, or its first fault
 unfoldable pub event_of : List ℕ → Result Event EventFault

@@ -5,7 +5,7 @@ use sb_checkpoint::How;
 
 /// One event of a schedule. Replicas are counted from 0; workers, numbers and places in a list of frames or of states from 1.
 /// An event that names something that doesn't exist changes nothing.
-#[derive(Clone, Copy, Debug, PartialEq, Eq)]
+#[derive(Clone, Copy, PartialEq, Eq)]
 pub enum Event {
     /// A client asks the sequencer for a call.
     Ask {

@@ -48,6 +48,13 @@ fn event_of(mut words: Words) -> Result<Event, EventFault>
         let (replica, place) = two_numbers(words)?;
         return Ok(Event::To { replica, place });
     }
+    report_event(verb, words)
+}
+
+// The event with a first word, and the words after it, of what replicas tell the sequencer.
+fn report_event(verb: &[u8], words: Words) -> Result<Event, EventFault>
+    ensures { result ≡ spec.report_event verb.now words.entry }
+{
     if verb == b"ack".as_slice() {
         let replica = one_number(words)?;
         return Ok(Event::Ack { replica });
@@ -55,6 +62,10 @@ fn event_of(mut words: Words) -> Result<Event, EventFault>
     if verb == b"answer".as_slice() {
         let (replica, number) = two_numbers(words)?;
         return Ok(Event::Answer { replica, number });
+    }
+    if verb == b"have".as_slice() {
+        let replica = one_number(words)?;
+        return Ok(Event::Have { replica });
     }
     if verb == b"from".as_slice() {
         let (replica, place) = two_numbers(words)?;
@@ -79,17 +90,6 @@ fn replica_event(verb: &[u8], words: Words) -> Result<Event, EventFault>
         let (replica, worker) = two_numbers(words)?;
         return Ok(Event::Finish { replica, worker });
     }
-    if verb == b"mark".as_slice() {
-        return marked(words);
-    }
-    if verb == b"restart".as_slice() {
-        let replica = one_number(words)?;
-        return Ok(Event::Restart { replica });
-    }
-    if verb == b"cut".as_slice() {
-        let replica = one_number(words)?;
-        return Ok(Event::Cut { replica });
-    }
     if verb == b"next".as_slice() {
         let replica = one_number(words)?;
         return Ok(Event::Next { replica });
@@ -101,13 +101,20 @@ fn replica_event(verb: &[u8], words: Words) -> Result<Event, EventFault>
     state_event(verb, words)
 }
 
-// The event with a first word, and the words after it, of states that replicas get from others.
+// The event with a first word, and the words after it, of checkpoints and states.
 fn state_event(verb: &[u8], words: Words) -> Result<Event, EventFault>
     ensures { result ≡ spec.state_event verb.now words.entry }
 {
-    if verb == b"have".as_slice() {
+    if verb == b"mark".as_slice() {
+        return marked(words);
+    }
+    if verb == b"restart".as_slice() {
         let replica = one_number(words)?;
-        return Ok(Event::Have { replica });
+        return Ok(Event::Restart { replica });
+    }
+    if verb == b"cut".as_slice() {
+        let replica = one_number(words)?;
+        return Ok(Event::Cut { replica });
     }
     if verb == b"donor".as_slice() {
         let replica = one_number(words)?;

@@ -3,7 +3,7 @@
 use sb_calls::Reply;
 
 /// What came of one event.
-#[derive(Clone, Copy, Debug, PartialEq, Eq)]
+#[derive(Clone, Copy, PartialEq, Eq)]
 pub enum Note {
     /// The ask got this new number.
     New(u64),
@@ -72,7 +72,7 @@ pub enum Note {
 }
 
 /// What comparing two replicas gave: the first that holds.
-#[derive(Clone, Copy, Debug, PartialEq, Eq)]
+#[derive(Clone, Copy, PartialEq, Eq)]
 pub enum AuditNote {
     /// Something is unfinished at this replica.
     Busy(u32),
@@ -87,7 +87,7 @@ pub enum AuditNote {
 }
 
 /// One of a bank's two columns.
-#[derive(Clone, Copy, Debug, PartialEq, Eq)]
+#[derive(Clone, Copy, PartialEq, Eq)]
 pub enum Column {
     /// The savings.
     Savings,
