@@ -8,7 +8,7 @@ use Rattle.sb_calls.specs.declared.call.Call.{Call}
 use Rattle.sb_calls.specs.declared.reply.Reply.{Reply}
 use Rattle.sb_frames.specs.declared.frame.AskOutcome.TheVariants as ended
 use Rattle.sb_frames.specs.declared.frame.Frame.{Frame}
-use Rattle.sb_frames.specs.declared.frame.Frame.TheVariants.{Ask, Entry, Ack, Answer, Outcome, Flush}
+use Rattle.sb_frames.specs.declared.frame.Frame.TheVariants.{Ask, Entry, Ack, Answer, Outcome, Flush, Have}
 use Rattle.sb_sequencer.specs.Numbering.{first_asks}
 use Rattle.bank_server.specs.Output.{calls_of}
 use Rattle.bank_server.specs.Standing.{standing_of}
@@ -23,6 +23,7 @@ IsClients (Ack replica size) = ⊥
 IsClients (Answer number reply) = ⊥
 IsClients (Outcome client request outcome) = ⊥
 IsClients Flush = Unit {0}
+IsClients (Have replica size) = ⊥
 
 abbrev pub is_flush : Frame → Bool
 is_flush (Ask client request call) = false
@@ -31,6 +32,7 @@ is_flush (Ack replica size) = false
 is_flush (Answer number reply) = false
 is_flush (Outcome client request outcome) = false
 is_flush Flush = true
+is_flush (Have replica size) = false
 
 -- what a frame asks, if it is an ask
 abbrev pub ask_in : Frame → List (Key × Call)
@@ -40,6 +42,7 @@ ask_in (Ack replica size) = []
 ask_in (Answer number reply) = []
 ask_in (Outcome client request outcome) = []
 ask_in Flush = []
+ask_in (Have replica size) = []
 
 -- what is asked, in order
 abbrev pub asks_in : List Frame → List (Key × Call)

@@ -144,9 +144,11 @@ fn deal_with<W: Write, S: CheckpointStore, C: Crew>(
             number(key, call, &mut hearing.waiting, primary)
         }
         Frame::Flush => tell(hearing, writer, primary, crew),
-        Frame::Entry { .. } | Frame::Ack { .. } | Frame::Answer { .. } | Frame::Outcome { .. } => {
-            Err(SessionFault::Unexpected)
-        }
+        Frame::Entry { .. }
+        | Frame::Ack { .. }
+        | Frame::Answer { .. }
+        | Frame::Outcome { .. }
+        | Frame::Have { .. } => Err(SessionFault::Unexpected),
     }
 }
 

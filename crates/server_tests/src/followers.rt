@@ -70,7 +70,7 @@ fn expect_compared<R: Abort + Threads + Wait + Sync>(
     told: Told,
     wanted: Result<(), RunFault>,
 ) {
-    assert!(rt; nodes <= 8);
+    assert!(rt; nodes <= 16);
     let other = opened_at(rt, alloc, opening, MemoryStore::new(alloc));
     let ready = ReadyFollowers::open(alloc, other.node(), nodes, 0).expect(rt, "followers");
     let compared = with_followers(rt, alloc, ready, |followers| {
@@ -79,7 +79,7 @@ fn expect_compared<R: Abort + Threads + Wait + Sync>(
     expect(rt, compared == Ok(wanted), "how they come out");
 }
 
-// The same of a bank of one node, which has no followers, and of two and eight nodes.
+// The same of a bank of one node, which has no followers, and of two and sixteen nodes.
 fn expect_strayed<R: Abort + Threads + Wait + Sync>(
     rt: &R,
     alloc: Global,
@@ -87,7 +87,7 @@ fn expect_strayed<R: Abort + Threads + Wait + Sync>(
     told: Told,
 ) {
     expect_compared(rt, alloc, opening, 1, told, Ok(()));
-    for nodes in [2, 8] {
+    for nodes in [2, 16] {
         let wanted = Err(RunFault::Strayed(1));
         expect_compared(rt, alloc, opening, nodes, told, wanted);
     }
@@ -95,7 +95,7 @@ fn expect_strayed<R: Abort + Threads + Wait + Sync>(
 
 #[test]
 fn told_after_each_session(rt: HostRuntime) {
-    for nodes in [1, 2, 8] {
+    for nodes in [1, 2, 16] {
         expect_compared(&rt, rt.alloc(), OPENING, nodes, Told::All, Ok(()));
     }
 }

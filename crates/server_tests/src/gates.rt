@@ -151,7 +151,7 @@ fn written_by<G: Gate + Sync>(
     workers: usize,
     gate: &G,
 ) -> Vec<u8> {
-    assert!(rt; 1 <= nodes && nodes <= 8 && workers <= 16);
+    assert!(rt; 1 <= nodes && nodes <= 16 && workers <= 16);
     let mut reader = FOUR_CUSTOMERS;
     let mut written: Vec<u8> = Vec::new(alloc);
     let ended = run_text(rt, alloc, &mut reader, &mut written, nodes, workers, gate);

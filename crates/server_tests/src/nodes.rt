@@ -19,7 +19,7 @@ fn fault_of(
     nodes: usize,
     workers: usize,
 ) -> Option<RunFault> {
-    assert!(rt; nodes <= 8 && workers <= 16);
+    assert!(rt; nodes <= 16 && workers <= 16);
     let other = opened_at(rt, alloc, beside, MemoryStore::new(alloc));
     let followers = ReadyFollowers::open(alloc, other.node(), nodes, 2).expect(rt, "followers");
     let mut primary = opened(rt, alloc);
@@ -28,7 +28,7 @@ fn fault_of(
     carry_out_log(rt, alloc, primary, followers, workers, &OpenGate).err()
 }
 
-// It ends well with one node, which has no followers, and with two and eight so.
+// It ends well with one node, which has no followers, and with two and sixteen so.
 fn expect_fault(
     rt: &(impl Abort + Threads + Wait + Clock + Sync),
     alloc: Global,
@@ -38,7 +38,7 @@ fn expect_fault(
     for workers in [0, 2] {
         let alone = fault_of(rt, alloc, beside, 1, workers);
         expect(rt, alone == None, "one node");
-        for nodes in [2, 8] {
+        for nodes in [2, 16] {
             let fault = fault_of(rt, alloc, beside, nodes, workers);
             expect(rt, fault == wanted, "how it ends");
         }

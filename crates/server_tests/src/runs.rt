@@ -32,7 +32,7 @@ pub(crate) fn expect_output_by(
     nodes: usize,
     workers: usize,
 ) {
-    assert!(rt; 1 <= nodes && nodes <= 8 && workers <= 16);
+    assert!(rt; 1 <= nodes && nodes <= 16 && workers <= 16);
     let mut reader = input;
     let mut written: Vec<u8> = Vec::new(alloc);
     let ended = run_text(
@@ -47,7 +47,7 @@ pub(crate) fn expect_output_by(
     expect_written(rt, ended, &written, output, nodes, workers);
 }
 
-// Runs an input with one, two and eight nodes and with none, one, four and sixteen workers, and compares what is
+// Runs an input with one, two and sixteen nodes and with none, one, four and sixteen workers, and compares what is
 // written.
 fn expect_output(
     rt: &(impl Abort + Threads + Wait + Clock + Sync),
@@ -55,7 +55,7 @@ fn expect_output(
     input: &[u8],
     output: &[u8],
 ) {
-    for nodes in [1, 2, 8] {
+    for nodes in [1, 2, 16] {
         for workers in [0, 1, 4, 16] {
             expect_output_by(rt, alloc, input, output, nodes, workers);
         }

@@ -2,7 +2,7 @@
 use crate::bank::{expect, expect_bytes, joined, opened};
 use crate::devices::Bytewise;
 use crate::wire::{
-    BALANCE, DEPOSIT, DONE, ENTRY, FLUSH, MISMATCH, OTHER, SHOWN, expect_session, push_with,
+    BALANCE, DEPOSIT, DONE, ENTRY, FLUSH, HAVE, MISMATCH, OTHER, SHOWN, expect_session, push_with,
 };
 use bank_server::{Primary, SessionFault, serve_session};
 use cown_workers::{Crew, InlineCrew, OpenGate, with_crew};
@@ -116,36 +116,33 @@ fn asks_that_no_flush_follows(rt: HostRuntime) {
     expect_sessions(&rt, rt.alloc(), NO_FLUSH_FOLLOWS, 2);
 }
 
-const AN_ENTRY: &[Session] = &[
-    Session {
-        sent: &[BALANCE, FLUSH, DEPOSIT, ENTRY, FLUSH],
-        ends: Err(SessionFault::Unexpected),
-        told: &[SHOWN],
-    },
-    Session {
-        sent: &[DEPOSIT, FLUSH],
-        ends: Ok(()),
-        told: &[DONE],
-    },
-];
-
-const AN_OUTCOME: &[Session] = &[
-    Session {
-        sent: &[BALANCE, FLUSH, DEPOSIT, DONE, FLUSH],
-        ends: Err(SessionFault::Unexpected),
-        told: &[SHOWN],
-    },
-    Session {
-        sent: &[DEPOSIT, FLUSH],
-        ends: Ok(()),
-        told: &[DONE],
-    },
-];
+// A session that sends a frame that no client sends, after asks; and the next one, whose ask was numbered before.
+fn expect_unexpected(
+    rt: &(impl Abort + Threads + Wait + Clock + Sync),
+    alloc: Global,
+    frame: &[u8],
+) {
+    let sent = [BALANCE, FLUSH, DEPOSIT, frame, FLUSH];
+    let sessions = [
+        Session {
+            sent: &sent,
+            ends: Err(SessionFault::Unexpected),
+            told: &[SHOWN],
+        },
+        Session {
+            sent: &[DEPOSIT, FLUSH],
+            ends: Ok(()),
+            told: &[DONE],
+        },
+    ];
+    expect_sessions(rt, alloc, &sessions, 2);
+}
 
 #[test]
 fn frames_that_no_client_sends(rt: HostRuntime) {
-    expect_sessions(&rt, rt.alloc(), AN_ENTRY, 2);
-    expect_sessions(&rt, rt.alloc(), AN_OUTCOME, 2);
+    for frame in [ENTRY, DONE, HAVE] {
+        expect_unexpected(&rt, rt.alloc(), frame);
+    }
 }
 
 const NO_FRAME: &[Session] = &[

@@ -36,7 +36,7 @@ fn threads<R: Files + Alloc>(rt: &R) -> Option<u64> {
     rest.lines().next()?.trim().parse().ok()
 }
 
-// Runs a call by one worker with eight nodes. Node 0's own thread is there meanwhile, and one for each follower.
+// Runs a call by one worker with sixteen nodes. Node 0's own thread is there meanwhile, and one for each follower.
 fn expect_threads(
     rt: &(impl Abort + Threads + Wait + Clock + Sync),
     alloc: Global,
@@ -49,11 +49,11 @@ fn expect_threads(
         rt: host,
         threads: AtomicU64::new(0),
     };
-    let ended = run_text(rt, alloc, &mut reader, &mut written, 8, 1, &gate);
+    let ended = run_text(rt, alloc, &mut reader, &mut written, 16, 1, &gate);
     expect(rt, ended == Ok(()), "how it ends");
     expect(
         rt,
-        gate.threads.load(Ordering::SeqCst) >= 8,
+        gate.threads.load(Ordering::SeqCst) >= 16,
         "a thread for each node",
     );
 }

@@ -22,6 +22,9 @@ pub(crate) const FLUSH: &[u8] = b"\x00\x01\x06";
 /// The log's first entry, which no client sends.
 pub(crate) const ENTRY: &[u8] = b"\x00\x10\x02\x00\x00\x00\x00\x00\x00\x00\x01\x01\x05alice";
 
+/// That replica 1 keeps a checkpoint of length 2, which no client sends.
+pub(crate) const HAVE: &[u8] = b"\x00\x0a\x07\x01\x00\x00\x00\x00\x00\x00\x00\x02";
+
 /// The balance's outcome, 150.00.
 pub(crate) const SHOWN: &[u8] =
     b"\x00\x13\x05\x00\x00\x00\x07\x00\x00\x00\x01\x00\x00\x00\x00\x00\x00\x00\x00\x3a\x98";

@@ -47,7 +47,7 @@ const NODES: Count = Count {
     name: "nodes",
     first: 1,
     last: sb_sequencer::REPLICAS as i64,
-    shown: "1..8",
+    shown: "1..16",
     standard: Some("1"),
     help: "How many nodes carry the calls out, each in a thread; all must end alike",
 };

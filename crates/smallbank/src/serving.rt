@@ -27,7 +27,7 @@ use std::time::Clock;
 pub struct Plan {
     /// How many clients are served, one after the other.
     pub sessions: usize,
-    /// How many nodes carry the log out: 1 to 8.
+    /// How many nodes carry the log out: 1 to 16.
     pub nodes: usize,
     /// How many threads work for node 0: 0 to 16, and with 0 it works alone.
     pub workers: usize,

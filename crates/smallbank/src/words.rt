@@ -14,7 +14,7 @@ use std::alloc::{AllocError, Global};
 
 // What is told of words that clap takes and `named` doesn't. None are known.
 const UNREAD: &str =
-    "these take 1 to 8 nodes, 0 to 16 workers, 1 to 1000 sessions, 1 to 86400 seconds and a port, \
+    "these take 1 to 16 nodes, 0 to 16 workers, 1 to 1000 sessions, 1 to 86400 seconds and a port, \
     as plain numbers";
 
 const NO_TEXT: &str = "a word isn't UTF-8";
@@ -24,7 +24,7 @@ const NO_TEXT: &str = "a word isn't UTF-8";
 pub enum Words<'a> {
     /// Run an opening and calls from standard input.
     Run {
-        /// How many nodes carry the calls out: 1 to 8.
+        /// How many nodes carry the calls out: 1 to 16.
         nodes: usize,
         /// How many threads carry out node 0's calls: 0 to 16, and with 0 it does so itself.
         workers: usize,

@@ -99,7 +99,7 @@ fn two_sessions_and_one_at_fault(rt: HostRuntime) {
     let clients = [plain(ASKED), plain(GARBAGE), plain(DEPOSIT)];
     let printed = "listening 127.0.0.1:4000\nsession 1 ok\nsession 2 fault 1\nsession 3 ok\n\
         alice 100.00 50.00\nbob 0.00 25.00\ntotal 175.00\n";
-    for (nodes, workers) in [(1, 0), (1, 2), (3, 0), (8, 16)] {
+    for (nodes, workers) in [(1, 0), (1, 2), (3, 0), (16, 16)] {
         for saves in [false, true] {
             let plan = Plan {
                 sessions: 3,

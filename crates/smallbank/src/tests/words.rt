@@ -52,7 +52,7 @@ fn expect_error(rt: &impl Abort, alloc: Global, error: &Error, status: i32, part
 fn words_of_the_program(rt: HostRuntime) {
     let alloc = rt.alloc();
     let both = Words::Run {
-        nodes: 8,
+        nodes: 16,
         workers: 16,
     };
     let two = Words::Run {
@@ -61,8 +61,8 @@ fn words_of_the_program(rt: HostRuntime) {
     };
     expect(&rt, alloc, &[], USUAL);
     expect(&rt, alloc, &["run"], USUAL);
-    expect(&rt, alloc, &["run", "--nodes", "8", "--workers=16"], both);
-    expect(&rt, alloc, &["run", "--workers", "16", "--nodes=8"], both);
+    expect(&rt, alloc, &["run", "--nodes", "16", "--workers=16"], both);
+    expect(&rt, alloc, &["run", "--workers", "16", "--nodes=16"], both);
     expect(&rt, alloc, &["run", "--nodes", "2"], two);
     expect(&rt, alloc, &["play"], Words::Play);
 }
@@ -85,7 +85,7 @@ fn words_of_a_server(rt: HostRuntime) {
         port: 65_535,
         plan: Plan {
             sessions: 1_000,
-            nodes: 8,
+            nodes: 16,
             workers: 16,
             saves: true,
             patience: Some(86_400),
@@ -104,7 +104,7 @@ fn words_of_a_server(rt: HostRuntime) {
             "--workers",
             "16",
             "--nodes",
-            "8",
+            "16",
             "--patience",
             "86400",
             port[0],
@@ -120,7 +120,7 @@ fn words_of_a_server(rt: HostRuntime) {
             port[1],
             port[0],
             "--store=a folder",
-            "--nodes=8",
+            "--nodes=16",
             "--workers=16",
             "--patience=86400",
         ],
@@ -148,7 +148,10 @@ fn refused_words_of_a_server(rt: HostRuntime) {
             &["serve", "--sessions", "1001", "--port=1"],
             "1001 is not in 1..=1000",
         ),
-        (&["serve", "--nodes", "9", "--port=1"], "9 is not in 1..=8"),
+        (
+            &["serve", "--nodes", "17", "--port=1"],
+            "17 is not in 1..=16",
+        ),
         (
             &["serve", "--workers", "17", "--port=1"],
             "17 is not in 0..=16",
@@ -172,12 +175,12 @@ fn refused_words_of_a_server(rt: HostRuntime) {
 #[test]
 fn refused_words(rt: HostRuntime) {
     let cases: [(&[&str], &str); 9] = [
-        (&["run", "--nodes", "0"], "0 is not in 1..=8"),
-        (&["run", "--nodes", "9"], "9 is not in 1..=8"),
+        (&["run", "--nodes", "0"], "0 is not in 1..=16"),
+        (&["run", "--nodes", "17"], "17 is not in 1..=16"),
         (&["run", "--workers", "17"], "17 is not in 0..=16"),
-        (&["run", "--nodes", "two"], "<1..8>"),
+        (&["run", "--nodes", "two"], "<1..16>"),
         (&["run", "--workers=-0"], "<0..16>"),
-        (&["run", "--nodes"], "<1..8>"),
+        (&["run", "--nodes"], "<1..16>"),
         (&["run", "--nodes=2", "--nodes=3"], "--nodes"),
         (&["play", "again"], "again"),
         (&["server"], "server"),
