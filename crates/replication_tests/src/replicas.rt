@@ -62,7 +62,7 @@ enum Step {
     // Why it has no state to tell, and no length of one.
     KeepsNone(RestartFault),
     // What it says of the length of that.
-    HaveFrame(Frame),
+    HaveFrame(u64),
     // What it says of its length, and of its reply to a number.
     AckFrame(Frame),
     AnswerFrame(u64, Option<Frame>),
@@ -185,6 +185,11 @@ fn keeps(
     }
 }
 
+fn tells_have<S: CheckpointStore>(rt: &impl Abort, replica: &mut Replica<S>, length: u64) {
+    let frame = replica.have_frame().expect(rt, "no length is told");
+    assert!(rt; frame == Frame::Have { replica: 1, length });
+}
+
 fn keeps_none(rt: &impl Abort, replica: &mut Replica<MemoryStore>, fault: RestartFault) {
     assert!(rt; replica.kept_state().err() == Some(fault));
     assert!(rt; replica.have_frame().err() == Some(fault));
@@ -217,7 +222,7 @@ fn plays_one(rt: &(impl Abort + AllocGlobal), node: &mut Node, place: usize, ste
         }
         Step::Keeps(state) => keeps(rt, &mut node.replica, state),
         Step::KeepsNone(fault) => keeps_none(rt, &mut node.replica, fault),
-        Step::HaveFrame(frame) => is_so(rt, place, node.replica.have_frame() == Ok(frame)),
+        Step::HaveFrame(length) => tells_have(rt, &mut node.replica, length),
         Step::AckFrame(frame) => is_so(rt, place, node.replica.ack_frame() == frame),
         Step::AnswerFrame(number, frame) => {
             is_so(rt, place, node.replica.answer_frame(number) == frame);

@@ -6,5 +6,6 @@ pub mod HeardStreams
 pub mod HeldReplies
 pub mod IdleReplies
 pub mod MarkedReplies
+pub mod NoEntries
 pub mod RightHeads
 pub mod TakenEntries

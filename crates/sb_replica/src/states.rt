@@ -1,10 +1,10 @@
 //! The checkpoint of one replica, taken by another in place of the log's entries.
-ghost use Rattle.std.specs.Prelude.{◌≡◌, ℕ, IfOk, IfErr, List, MatchResult, None, Option, length, option_map};
+ghost use Rattle.std.specs.Prelude.{◌≡◌, ℕ, IfOk, IfErr, List, MatchResult, None, Option, Some, length, option_map};
 ghost use Rattle.sb_checkpoint.specs.Checkpoint.{Spells};
 ghost use Rattle.sb_checkpoint.specs.Reading.{first_fault, IsRefusedBy};
 ghost use Rattle.sb_checkpoint.specs.Stores.{StoreDoes};
 ghost use Rattle.sb_frames.specs.declared.frame.Frame.TheVariants as frames;
-ghost use Rattle.sb_replica.specs.Restarting.{IsRestartFaultOf};
+ghost use Rattle.sb_replica.specs.Restarting.{IsRefusalOf, IsRestartFaultOf};
 ghost use Rattle.sb_replica.specs.States.{Adopts, IsAdoptFaultOf, IsStateOf, KeepsState, state_length};
 
 use crate::adopted::Adopted;
@@ -61,6 +61,7 @@ impl<S: CheckpointStore> Replica<S> {
     /// where the store says.
     ///
     /// Fails where the bytes are no checkpoint of this bank, and where memory is refused; nothing changes then.
+    #[tactic(auto, using(crate::proofs::RightHeads::right_head))]
     pub fn adopt(&mut self, bytes: &[u8]) -> Result<Adopted, AdoptFault>
         ensures outcome { MatchResult result
             (λ adopted. Adopts self.old bytes.now adopted self.new)
@@ -78,9 +79,9 @@ impl<S: CheckpointStore> Replica<S> {
     }
 
     // How many entries the checkpoint of this bank has that these bytes are.
-    fn length_in(&self, bytes: &[u8]) -> Result<u64, CheckpointFault>
+    fn length_in(&self, bytes: &[u8]) -> Result<u64, RestartFault>
         ensures length { IfOk result (λ size. IsStateOf (length self.now.names) size bytes.now) }
-        ensures fault { IfErr result (IsRefusedBy bytes.now (length self.now.names)) }
+        ensures err { IfErr result (IsRefusalOf (length self.now.names) (Some bytes.now)) }
     {
         Ok(self.checkpoint_in(bytes)?.replies().len() as u64)
     }

@@ -10,6 +10,7 @@ pub mod EmptyHands
 pub mod FinalStates
 pub mod Finishing
 pub mod GivenStates
+pub mod GivenWorlds
 pub mod HeardFrames
 pub mod HeldEntries
 pub mod Keeping

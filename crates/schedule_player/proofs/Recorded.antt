@@ -242,8 +242,7 @@ zero_at (suc n) (suc k) size here = zero_at n k size here
 
 pub records_played : (schedule : ScheduleOf) (world : WorldOf) → IsPlayed schedule world → RecordsWereTold world
 records_played schedule world played =
-    all_keep RecordsWereTold records_node records_from records_given records_asked (opened_world schedule) schedule.events played.notes world played.plays
-    (
+    all_keep RecordsWereTold records_node records_from records_given records_asked (opened_world schedule) schedule.events played.notes world played.plays (
       (λ r node size there recorded. inl (zero_at schedule.nodes r size recorded)),
       (λ r node size there recorded. inl (zero_at schedule.nodes r size recorded)),
     )

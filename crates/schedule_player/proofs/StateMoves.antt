@@ -1,5 +1,5 @@
 -- What a replica has of the log goes to another one as a state.
-use Rattle.std.proofs.Common.{◌≡◌, ◌≢◌, inl, inr, Bool, true, false, ℕ, suc, ◌≤◌, Option, Some, None, List, [], ◌∷◌, ◌++◌, length, map, refl, sym, ap, subst, ◌∙◌, arith}
+use Rattle.std.proofs.Common.{◌≡◌, inl, inr, Bool, true, false, ℕ, suc, ◌≤◌, Option, Some, None, List, [], ◌∷◌, ◌++◌, length, map, refl, sym, ap, subst, ◌∙◌, arith}
 use Rattle.std.specs.Prelude.{option_map, nat_le}
 use Rattle.std.proofs.lemmas.Bool.{lt-leb, le-leb}
 use Rattle.std.proofs.lemmas.List.{length-append, map-append}
@@ -19,7 +19,7 @@ use Rattle.sb_replica.specs.declared.adopted.Adopted.TheVariants as answer
 use Rattle.schedule_player.specs.Bank.{BankOf}
 use Rattle.schedule_player.specs.NodeAlong.{seen_node, IsToldBy, IsStateAlong, IsKeptAlong, HasState, IsNodeAt, Arrives}
 use Rattle.schedule_player.specs.Numbered.{numbered, Every}
-use Rattle.schedule_player.specs.ReplicaMoves.{NodeOf, begun_at, state_comes, adopted, tells, told_kept, given, length_in}
+use Rattle.schedule_player.specs.ReplicaMoves.{state_comes, adopted, tells, told_kept, given, length_in}
 use Rattle.schedule_player.specs.Seen.{kept_in}
 use Rattle.schedule_player.specs.World.{may_take_memory}
 use Rattle.schedule_player.specs.declared.node.Node.{Node}

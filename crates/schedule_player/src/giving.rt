@@ -16,11 +16,12 @@ impl World {
     pub(crate) fn donor(&self, replica: u32) -> Note
         ensures { IsDonorNoted self.now.sequencer replica result }
     {
+        let sequencer = &self.sequencer;
         // There are at most sixteen.
         let Ok(id) = u8::try_from(replica) else {
             return Note::Nothing;
         };
-        match self.sequencer.donor(id) {
+        match sequencer.donor(id) {
             Some((donor, length)) => Note::Donor(donor as u32, length),
             None => Note::Nothing,
         }

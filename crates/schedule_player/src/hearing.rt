@@ -46,7 +46,10 @@ fn hear_frame(sequencer: &mut Sequencer, frame: &Frame) -> Note
 {
     match frame {
         Frame::Ack { replica, length } => ack_noted(*length, sequencer.on_ack(*replica, *length)),
-        Frame::Have { replica, length } => have_noted(*length, sequencer.on_have(*replica, *length)),
+        Frame::Have { replica, length } => have_noted(
+            *length,
+            sequencer.on_have(*replica, *length),
+        ),
         Frame::Answer { number, reply } => {
             answer_noted(*number, sequencer.on_answer(*number, reply.reply()))
         }

@@ -1,10 +1,10 @@
-//! The largest world: eight replicas of sixteen workers, each of which takes a job and finishes it.
+//! The largest world: sixteen replicas of sixteen workers, each of which takes a job and finishes it.
 use crate::worlds::{all_happen, stands_at, world_over};
 use sb_calls::{Reply, read_call};
 use schedule_player::{AuditNote, Event, Note, World};
 use std::process::Abort;
 
-const REPLICAS: u32 = 8;
+const REPLICAS: u32 = 16;
 
 const WORKERS: u32 = 16;
 
@@ -82,13 +82,13 @@ fn finishes_each(rt: &impl Abort, world: &mut World, replica: u32) {
 
 #[test]
 fn each_hand_of_the_largest_world(rt: HostRuntime) {
-    let mut world = world_over(&rt, rt.alloc(), OPENING, 8, 16);
+    let mut world = world_over(&rt, rt.alloc(), OPENING, 16, 16);
     asks_for_each(&rt, &mut world);
     for replica in 0..REPLICAS {
         takes_each(&rt, &mut world, replica);
         stands_at(&rt, &world, replica, 16, false);
     }
-    // All 128 hands are full.
+    // All 256 hands are full.
     for replica in 0..REPLICAS {
         finishes_each(&rt, &mut world, replica);
         stands_at(&rt, &world, replica, 16, true);
@@ -97,9 +97,9 @@ fn each_hand_of_the_largest_world(rt: HostRuntime) {
         &rt,
         &mut world,
         &[
-            ("audit 0 7", Note::Audit(AuditNote::Same(3_200, 0))),
+            ("audit 0 15", Note::Audit(AuditNote::Same(3_200, 0))),
             ("take 0 17 0", Note::Nothing),
-            ("take 8 1 0", Note::Nothing),
+            ("take 16 1 0", Note::Nothing),
         ],
     );
 }

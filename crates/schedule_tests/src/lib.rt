@@ -32,6 +32,8 @@ mod room;
 #[cfg(test)]
 mod schedules;
 #[cfg(test)]
+mod states;
+#[cfg(test)]
 mod stories;
 #[cfg(test)]
 mod texts;

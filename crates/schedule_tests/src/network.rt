@@ -98,7 +98,7 @@ fn shows_one_deposit(rt: &impl Abort, world: &World) {
 }
 
 // No replica, no frame, no number and no worker is named so, in any world of the tests.
-const NAMELESS: [&str; 28] = [
+const NAMELESS: [&str; 36] = [
     "send 9 1",
     "resend 9",
     "to 9 1",
@@ -110,6 +110,14 @@ const NAMELESS: [&str; 28] = [
     "mark 9 ok",
     "restart 9",
     "next 9",
+    "have 9",
+    "donor 9",
+    "give 9 0",
+    "give 0 9",
+    "give 0 1",
+    "adopt 9 1",
+    "adopt 0 0",
+    "adopt 0 1",
     "audit 9 0",
     "audit 0 9",
     "send 0 0",

@@ -21,7 +21,7 @@ pub(crate) fn world_over(
     nodes: u8,
     workers: u8,
 ) -> Box<World> {
-    assert!(rt; nodes <= 8 && 1 <= workers && workers <= 16);
+    assert!(rt; nodes <= 16 && 1 <= workers && workers <= 16);
     let opening = read_opening(alloc, opening.as_bytes()).expect(rt, "an opening");
     let Opening {
         directory,

@@ -89,11 +89,7 @@ fn a_device_that_fails_at_one_call(rt: HostRuntime) {
 #[test]
 fn a_device_that_fails_where_a_state_is_looked_for(rt: HostRuntime) {
     let mut replica = opened_over_faulty(&rt, 2, Version::Old);
-    let none = Frame::Have {
-        replica: 1,
-        length: 0,
-    };
-    assert!(rt; replica.have_frame() == Ok(none));
+    tells_have(&rt, &mut *replica, 0);
     assert!(rt; replica.kept_state().err() == Some(RestartFault::Device));
-    assert!(rt; replica.have_frame() == Ok(none));
+    tells_have(&rt, &mut *replica, 0);
 }

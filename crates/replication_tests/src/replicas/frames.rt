@@ -66,6 +66,8 @@ fn what_is_no_whole_frame_is_refused(rt: HostRuntime) {
             // A whole frame, and a byte after it.
             Step::HearBytes(&[0, 1, 6, 0], Err(long)),
             Step::HearBytes(&[0, 1, 6], Ok(Heard::Ignored)),
+            // How long another's checkpoint is.
+            Step::HearBytes(&[0, 10, 7, 1, 0, 0, 0, 0, 0, 0, 0, 2], Ok(Heard::Ignored)),
             Step::Length(0),
         ],
     );

@@ -63,10 +63,7 @@ fn a_mark_after_five_calls(rt: HostRuntime) {
             Step::Mark(Ok(5)),
             Step::Stored(Some(&AFTER_FIVE_CALLS)),
             Step::Keeps(Some((5, &AFTER_FIVE_CALLS))),
-            Step::HaveFrame(Frame::Have {
-                replica: 1,
-                length: 5,
-            }),
+            Step::HaveFrame(5),
         ],
     );
 }

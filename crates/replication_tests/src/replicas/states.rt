@@ -142,18 +142,14 @@ fn a_hand_of_a_later_number_is_a_stranger(rt: HostRuntime) {
 
 #[test]
 fn a_replica_has_no_state_of_no_entry(rt: HostRuntime) {
-    let none = Frame::Have {
-        replica: 1,
-        length: 0,
-    };
     plays(
         &rt,
         &[
             Step::Keeps(None),
-            Step::HaveFrame(none),
+            Step::HaveFrame(0),
             Step::Mark(Ok(0)),
             Step::Keeps(None),
-            Step::HaveFrame(none),
+            Step::HaveFrame(0),
             Step::AcceptUpTo(1, "deposit alice 1.00"),
             Step::Keeps(None),
             Step::Run(1, Reply::Done),

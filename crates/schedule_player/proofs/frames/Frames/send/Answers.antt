@@ -1,5 +1,7 @@
-use Rattle.std.proofs.Common.{◌∷◌, [], ◌++◌, ap, ◌∙◌, map}
-use Rattle.schedule_player.specs.Seen.{frame_in}
+use Rattle.std.proofs.Common.{◌∷◌, [], ◌++◌, sym, ap, subst, ◌∙◌, map}
+use Rattle.schedule_player.specs.Numbered.{Every}
+use Rattle.schedule_player.specs.Seen.{frame_in, IsSpelled}
+use Rattle.schedule_player.proofs.Lists.{every_push}
 use Rattle.schedule_player.proofs.SentFrames.{frame_sent}
 use Rattle.schedule_player.proofs.frames.Frames.send.Goals as goal
 
@@ -8,3 +10,9 @@ returns-clause-sent c =
     ap (map (λ bytes. frame_in bytes.items)) c.in_ok-push.ensures.items
     ∙ frame_sent (λ bytes. bytes.items) c.self.inside.sent.items c.encode.result c.args.frame.now c.encode.ensures
     ∙ ap (λ frames. frames ++ c.args.frame.now ∷ []) c.self.view_is
+
+pub invariant_of-self-2 : goal.invariant_of-self-2
+invariant_of-self-2 c =
+    subst (Every (λ bytes. IsSpelled bytes.items)) (sym c.in_ok-push.ensures.items)
+    (every_push (λ bytes. IsSpelled bytes.items) c.self.inside.sent.items c.encode.result c.self.invariant
+    (record { frame = c.args.frame.now; spelled = c.encode.ensures }))

@@ -1,0 +1,33 @@
+use Rattle.std.proofs.Common.{◌≡◌, subst}
+use Rattle.std.specs.Prelude.{slice_set, IfOk, OnErr}
+use Rattle.sb_checkpoint.specs.Reading.{stated_length}
+use Rattle.schedule_player.specs.ReplicaMoves.{given}
+use Rattle.schedule_player.specs.World.{moved_at}
+use Rattle.schedule_player.proofs.GivenWorlds.{received}
+use Rattle.schedule_player.proofs.Moving.{Stepped, world_of}
+use Rattle.schedule_player.proofs.world.World.receive.Goals as goal
+
+-- the replica moves, and so the world does
+stepped : (c : goal.After-self-1) → let w = c.self.inside in
+    Stepped w.directory w.opening w.sequencer w.nodes.items c.args.replica c.receive.new.self (λ node. given node (stated_length c.args.bytes.items))
+    c.receive.result
+stepped c =
+    let w = c.self.inside in
+    received w.directory w.opening w.sequencer w.nodes.items c.args.self.now c.args.replica c.index_mut.result.now c.receive.new.self c.args.bytes.items
+    c.receive.result c.self.view_is c.self.invariant c.requires.replica c.index_mut.ensures.value c.requires.state c.receive.ensures
+
+pub invariant_of-self : goal.invariant_of-self
+invariant_of-self c = (stepped c).is
+
+pub returns-clause-moves : goal.returns-clause-moves
+returns-clause-moves c =
+    let w = c.self.inside in
+    let new = world_of w.directory w.opening w.sequencer (slice_set w.nodes.items c.args.replica c.receive.new.self) in
+    subst (λ old. IfOk c.receive.result (λ n. moved_at old c.args.replica (λ node. given node (stated_length c.args.bytes.items)) ≡ (new, n)))
+    c.self.view_is (stepped c).moves
+
+pub returns-clause-err : goal.returns-clause-err
+returns-clause-err c =
+    let w = c.self.inside in
+    let new = world_of w.directory w.opening w.sequencer (slice_set w.nodes.items c.args.replica c.receive.new.self) in
+    subst (λ old. OnErr c.receive.result (new ≡ old)) c.self.view_is (stepped c).err

@@ -1,0 +1,11 @@
+use Rattle.schedule_player.proofs.Comparing.{looked_up}
+use Rattle.schedule_player.proofs.GivenWorlds.{state_here}
+use Rattle.schedule_player.proofs.world.World.state.Goals as goal
+
+pub returns : goal.returns
+returns c =
+    let w = c.self.inside in
+    let node = c.index.result.now in
+    let found = looked_up w.directory w.opening w.sequencer w.nodes.items c.args.self.now c.args.replica node c.self.view_is c.self.invariant
+    c.requires c.index.ensures in
+    state_here c.args.self.now c.args.replica node found c.args.place c.get.result c.get.ensures
