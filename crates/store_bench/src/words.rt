@@ -113,16 +113,16 @@ fn read_states(words: &[String]) -> Option<Measurement>
         return Some(Measurement::Open { count });
     }
     if asks(words, 5, "by-state") {
-        return Some(Measurement::ByState(absence(words)?));
+        return Some(Measurement::ByState(read_absence(words)?));
     }
     if asks(words, 5, "by-entries") {
-        return Some(Measurement::ByEntries(absence(words)?));
+        return Some(Measurement::ByEntries(read_absence(words)?));
     }
     None
 }
 
 // What a replica missed, by the three numbers behind the second word.
-fn absence(words: &[String]) -> Option<Absence>
+fn read_absence(words: &[String]) -> Option<Absence>
     ensures { IfSome result (λ absence. Misses absence words.now) }
 {
     let customers = few(words, 2)?;
