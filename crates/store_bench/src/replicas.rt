@@ -7,9 +7,9 @@ use crate::opening::open_bank;
 use cown_workers::{InlineCrew, drain};
 use lane_audit::bank_total;
 use sb_amount::Cents;
-use sb_calls::Call;
+use sb_calls::{Call, WireReply};
 use sb_checkpoint::MemoryStore;
-use sb_frames::{Frame, Stream, encode};
+use sb_frames::{AskOutcome, Frame, Stream, encode};
 use sb_replica::{Pause, Replica};
 use sb_rows::Directory;
 use std::alloc::Global;
@@ -77,6 +77,8 @@ pub(crate) fn hear_all(
 
 // It hears all whole frames of a stream. Where too much is unfinished, all is carried out.
 fn hear_message(replica: &mut Replica<MemoryStore>, stream: &mut Stream) -> Result<(), Fault> {
+    // The checker goes through what a frame is made of, and has to be told the types.
+    let _parts: Option<(Call, WireReply, AskOutcome)> = None;
     // A message has fewer entries than bytes.
     for _ in 0..MESSAGE {
         match replica.hear_stream(stream)? {
