@@ -1,6 +1,6 @@
 -- States that replicas of a world keep and were sent.
 use Rattle.std.proofs.Common.{◌≡◌, ◌≢◌, ℕ, ◌<◌, ◌≤◌, Option, Some, None, Result, List, Bor, length, get_or, sym, ap, subst, ◌∙◌, arith}
-use Rattle.std.specs.Prelude.{slice_get, option_map, option_and_then, MatchOption}
+use Rattle.std.specs.Prelude.{slice_get, option_map, option_and_then, IfSome, MatchOption}
 use Rattle.std.specs.List.{slice_index_or}
 use Rattle.std.specs.Option.{option_copied}
 use Rattle.std.proofs.lemmas.Bool.{ne_eqb}
@@ -23,7 +23,7 @@ use Rattle.schedule_player.specs.declared.node.Node.{Node}
 use Rattle.schedule_text.specs.declared.note.Note.{Note}
 use Rattle.schedule_player.proofs.Comparing.{LookedUp}
 use Rattle.schedule_player.proofs.GivenStates.{numbered-map, state_is}
-use Rattle.schedule_player.proofs.Lists.{every_numbered, get_here}
+use Rattle.schedule_player.proofs.Lists.{some_is, every_numbered, get_here}
 use Rattle.schedule_player.proofs.Moving.{world_of, Stepped, steps}
 use Rattle.schedule_player.proofs.Stages.{length-map}
 use Rattle.schedule_player.proofs.Working.{give_by}
@@ -93,3 +93,12 @@ state_here now r node found place answer e = by answer e
       state_is (bank_of now) bytes.now found.along.customers
           (every_numbered (IsStateAlong (bank_of now)) node.states place bytes.now found.along.states (sym here)),
     )
+
+-- the same of the bank that is the world's
+pub state_by_log : (now : WorldOf) (r place : ℕ) (bank : BankOf) (answer : Option (Bor (List ℕ))) → bank_of now ≡ bank
+    → MatchOption answer (state_at now r place ≡ None)
+    (λ bytes. (size : ℕ) × (state_at now r place ≡ Some size) × IsStateAt (bank_of now) size bytes.now)
+    → IfSome answer (λ bytes. (size : ℕ) → state_at now r place ≡ Some size → IsStateAt bank size bytes.now)
+state_by_log now r place bank None same value = tt
+state_by_log now r place bank (Some bytes) same value = λ size here.
+    subst (λ n. IsStateAt bank n bytes.now) (some_is (sym value.1 ∙ here)) (subst (λ b. IsStateAt b value.0 bytes.now) same value.2)

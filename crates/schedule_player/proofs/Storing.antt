@@ -300,8 +300,8 @@ kept_of opening customers None checkpoint is = ap (λ c. length c.replies) (sym 
 kept_of opening customers (Some bytes) checkpoint is = let back = read_back checkpoint bytes is.0 in back.count
 
 -- a new board on what is stored, or on a state, and no op is held: it begins at that length
-pub begins_on : (bank : BankOf) (r : ℕ) (old : Node) (new : ReplicaOf MemoryStoreOf) (slot : Option (List ℕ)) (size : ℕ) (noted : ℕ → Note) (moved : NodeOf × Note)
-    → IsNodeAt bank r old → IsKeptAlong bank slot → IsLogOn old.replica.opening (length old.replica.names) slot new.board → size ≡ length_of new.board
+pub begins_on : (bank : BankOf) (r : ℕ) (old : Node) (new : ReplicaOf MemoryStoreOf) (slot : Option (List ℕ)) (size : ℕ)
+    (noted : ℕ → Note) (moved : NodeOf × Note) → IsNodeAt bank r old → IsKeptAlong bank slot → IsLogOn old.replica.opening (length old.replica.names) slot new.board → size ≡ length_of new.board
     → KeepsBeside old.replica new → new.held ≡ empty_held → new.store.slot ≡ old.replica.store.slot
     → moved ≡ (begun_at (seen_node old) (kept_in slot), noted (kept_in slot)) → Arrives bank r (record old { replica = new }) (noted size) moved
 begins_on bank r old new slot size noted moved is along on size_is beside held store e =

@@ -43,7 +43,7 @@ pub opened_so : (names : List (List ℕ)) (opening : Balances) (nodes workers : 
     → IsWorld names opening s all
 opened_so names opening nodes workers all s same few some_worker few_workers is seen along =
     let size : length all ≡ nodes = sym (length-map seen_node all) ∙ ap length seen ∙ length-copies nodes (opened_node workers) in
-    let zeros : length (replicate nodes 0) ≡ nodes = length-replicate nodes 0 in
+    let zeros : length (replicate {A = ℕ} nodes 0) ≡ nodes = length-replicate {A = ℕ} nodes 0 in
     subst (λ x. IsWorld names opening x all) (sym is)
     (record {
       customers = same;

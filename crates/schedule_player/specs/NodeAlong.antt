@@ -44,8 +44,8 @@ pub record IsEntryOf (bank : BankOf) (sent : Frame) : Type 0 where
   pub frame_is : sent ≡ frame.Entry number call
   pub in_log : numbered bank.calls number ≡ Some call
 
--- what a replica may tell: a length up to the log's, of its log or of its checkpoint, under its own number, or the log's
--- reply to a number
+-- what a replica may tell: a length up to the log's, of its log or of its checkpoint, under its own number, or the
+-- log's reply to a number
 abbrev pub IsToldBy : BankOf → ℕ → Frame → Type 0
 IsToldBy bank r (frame.Ack replica size) = (replica ≡ r) × (size ≤ length bank.calls)
 IsToldBy bank r (frame.Have replica size) = (replica ≡ r) × (size ≤ length bank.calls)

@@ -12,8 +12,8 @@ use Rattle.schedule_player.specs.World.{WorldOf, bank_of}
 use Rattle.schedule_text.specs.ScheduleText.{ScheduleOf}
 
 -- each replica has at most as many entries as the log; each frame to it is an entry of the log; each frame from it
--- tells a length up to the log's, of its log or of its checkpoint, under its own number, or the log's reply to a number;
--- each state that was sent to it is at most as long as the log; each answer that is kept is the log's reply
+-- tells a length up to the log's, of its log or of its checkpoint, under its own number, or the log's reply to a
+-- number; each state that was sent to it is at most as long as the log; each answer that is kept is the log's reply
 pub record IsTrueToLog (world : WorldOf) : Type 0 where
   pub within : (r : ℕ) (node : NodeOf) → slice_get world.nodes r ≡ Some node
       → length_in node ≤ length world.sequencer.log

@@ -31,7 +31,8 @@ impl Node {
     pub fn state(&mut self) -> Result<Option<Vec<u8>>, StepFault>
         ensures same { self.new ≡ self.old }
         ensures kept { (bank : BankOf) (r : ℕ) → IsNodeAt bank r self.old
-            → IfOk result (λ state. HasState bank (seen_node self.old) (option_map (λ bytes. bytes.items) state)) }
+            → IfOk result (λ state. HasState bank (seen_node self.old)
+            (option_map (λ bytes. bytes.items) state)) }
     {
         match self.replica.kept_state() {
             Ok(Some((_, bytes))) => Ok(Some(bytes)),
@@ -44,7 +45,8 @@ impl Node {
     /// A state is sent to the replica.
     pub fn receive(&mut self, bytes: Vec<u8>) -> Result<Note, StepFault>
         ensures { (bank : BankOf) (r : ℕ) → IsNodeAt bank r self.old → IsStateAlong bank bytes.items
-            → Steps bank r self.old self.new result (given (seen_node self.old) (stated_length bytes.items)) }
+            → Steps bank r self.old self.new result
+            (given (seen_node self.old) (stated_length bytes.items)) }
     {
         let place = self.states.send(bytes)?;
         Ok(Note::Gave(place))

@@ -32,7 +32,8 @@ impl World {
         requires { donor < length self.old.nodes }
         ensures same { self.new ≡ self.old }
         ensures kept { (node : NodeOf) → slice_get self.old.nodes donor ≡ Some node
-            → IfOk result (λ state. HasState (bank_of self.old) node (option_map (λ bytes. bytes.items) state)) }
+            → IfOk result (λ state. HasState (bank_of self.old) node
+            (option_map (λ bytes. bytes.items) state)) }
     {
         self.nodes[donor as usize].state()
     }
@@ -42,7 +43,8 @@ impl World {
         requires replica { replica < length self.old.nodes }
         requires state { IsStateAlong (bank_of self.old) bytes.items }
         ensures moves { IfOk result (λ note.
-            moved_at self.old replica (λ node. given node (stated_length bytes.items)) ≡ (self.new, note)) }
+            moved_at self.old replica (λ node. given node (stated_length bytes.items))
+            ≡ (self.new, note)) }
         ensures err { OnErr result (self.new ≡ self.old) }
     {
         self.nodes[replica as usize].receive(bytes)

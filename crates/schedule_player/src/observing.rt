@@ -82,9 +82,13 @@ impl World {
     pub fn state(&self, replica: u32, place: u32) -> Option<&[u8]>
         requires { replica < length self.now.nodes }
         // They are the checkpoint of the bank after as many calls of the log as the machine says.
-        ensures { MatchOption result (state_at self.now replica place ≡ None) (λ bytes.
+        ensures value { MatchOption result (state_at self.now replica place ≡ None) (λ bytes.
             (size : ℕ) × (state_at self.now replica place ≡ Some size)
             × IsStateAt (bank_of self.now) size bytes.now) }
+        // After whatever schedule, they are that after as many of the first asks of its events.
+        ensures by_log { (schedule : ScheduleOf) → IsPlayed schedule self.now
+            → IfSome result (λ bytes. (size : ℕ) → state_at self.now replica place ≡ Some size
+            → IsStateAt (bank_after schedule) size bytes.now) }
     {
         self.nodes[replica as usize].states.get(place)
     }

@@ -15,7 +15,8 @@ use schedule_text::{Event, Note};
 use std::alloc::Global;
 use std::marker::Model;
 
-/// A sequencer, its replicas with their workers, and all frames that were ever sent between them.
+/// A sequencer, its replicas with their workers, all frames that were ever sent between them, and all states that were
+/// ever sent to a replica.
 #[derive(Drop)]
 pub struct World {
     pub(crate) alloc: Global,

@@ -2,7 +2,8 @@
 use crate::outputs::expect_played;
 use crate::worlds::{accepts, all_happen, asks, replies, sends, stands_at, world_of};
 use sb_calls::Reply;
-use sb_checkpoint::{read_checkpoint, write_checkpoint};
+use sb_checkpoint::{Checkpoint, read_checkpoint};
+use sb_rows::Columns;
 use schedule_player::{AuditNote, Note, World};
 use std::alloc::Global;
 use std::process::Abort;
@@ -149,24 +150,43 @@ fn a_store_without_a_checkpoint_has_no_state(rt: HostRuntime) {
             ("adopt 1 1", Note::Nothing),
         ],
     );
-    assert!(rt; world.replicas() == 2);
-    assert!(rt; world.state(1, 1).is_none());
+    is_none(&rt, &world, 1, 1);
+}
+
+// The checkpoint that the bytes of a state are.
+fn checkpoint_of(rt: &impl Abort, alloc: Global, bytes: &[u8]) -> Box<Checkpoint> {
+    let checkpoint = read_checkpoint(alloc, bytes, 3)
+        .ok()
+        .expect(rt, "a checkpoint");
+    Box::new(alloc, checkpoint).expect(rt, "memory")
+}
+
+// They are of these columns and replies.
+fn says(rt: &impl Abort, checkpoint: &Checkpoint, columns: &Columns, replies: &[Reply]) {
+    assert!(rt; checkpoint.columns().savings() == columns.savings());
+    assert!(rt; checkpoint.columns().checking() == columns.checking());
+    assert!(rt; checkpoint.replies() == replies);
 }
 
 // The state at a place of those that were sent to the second replica is the checkpoint of the first one's columns and
-// these replies, byte for byte.
+// these replies.
 fn is_checkpoint(rt: &impl Abort, alloc: Global, world: &World, place: u32, replies: &[Reply]) {
     assert!(rt; world.replicas() == 2);
     let columns = world.columns(0).expect(rt, "columns");
     let bytes = world.state(1, place).expect(rt, "a state");
-    let checkpoint = read_checkpoint(alloc, bytes, 3)
-        .ok()
-        .expect(rt, "a checkpoint");
-    assert!(rt; checkpoint.columns().savings() == columns.savings());
-    assert!(rt; checkpoint.columns().checking() == columns.checking());
-    assert!(rt; checkpoint.replies() == replies);
-    let again = write_checkpoint(alloc, checkpoint.columns(), checkpoint.replies());
-    assert!(rt; again.expect(rt, "memory").as_slice() == bytes);
+    says(rt, &checkpoint_of(rt, alloc, bytes), columns, replies);
+}
+
+// Two states, each by its replica and place, have the same bytes.
+fn are_alike(rt: &impl Abort, world: &World, one: (u32, u32), other: (u32, u32)) {
+    assert!(rt; one.0 < world.replicas() && other.0 < world.replicas());
+    assert!(rt; world.state(one.0, one.1) == world.state(other.0, other.1));
+}
+
+// There is no such state.
+fn is_none(rt: &impl Abort, world: &World, replica: u32, place: u32) {
+    assert!(rt; replica < world.replicas());
+    assert!(rt; world.state(replica, place).is_none());
 }
 
 #[test]
@@ -200,11 +220,11 @@ fn a_state_is_the_checkpoint_as_it_was_sent(rt: HostRuntime) {
         3,
         &[Reply::Done, Reply::Done, Reply::Done],
     );
-    assert!(rt; world.replicas() == 2);
-    assert!(rt; world.state(1, 1) == world.state(1, 2));
-    assert!(rt; world.state(1, 1) == world.state(0, 1));
-    assert!(rt; world.state(1, 0).is_none() && world.state(1, 4).is_none());
-    assert!(rt; world.state(0, 2).is_none());
+    are_alike(&rt, &world, (1, 1), (1, 2));
+    are_alike(&rt, &world, (1, 1), (0, 1));
+    for (replica, place) in [(1, 0), (1, 4), (0, 2)] {
+        is_none(&rt, &world, replica, place);
+    }
 }
 
 #[test]

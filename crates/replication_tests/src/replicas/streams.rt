@@ -10,11 +10,12 @@ struct Listener {
     stream: Stream,
 }
 
-fn new_listener(rt: &(impl Abort + AllocGlobal)) -> Listener {
-    Listener {
+fn new_listener(rt: &(impl Abort + AllocGlobal)) -> Box<Listener> {
+    let listener = Listener {
         node: opened_over(rt, None),
         stream: Stream::new(rt.alloc()),
-    }
+    };
+    Box::new(rt.alloc(), listener).expect(rt, "memory for a listener")
 }
 
 fn entry(rt: &impl Abort, number: u64, line: &str) -> Frame {
@@ -243,6 +244,12 @@ fn no_entry_is_taken_while_too_many_are_unfinished(rt: HostRuntime) {
     hears_so(&rt, &mut other, 3, &short);
 }
 
+// Nothing more is fed.
+fn fails_so(rt: &impl Abort, other: &mut Listener, fault: HearingFault) {
+    let told = other.node.replica.hear_stream(&mut other.stream);
+    assert!(rt; told == Err(fault));
+}
+
 #[test]
 fn what_came_before_a_bad_frame_is_heard(rt: HostRuntime) {
     let good = spelled(&rt, &entries(&rt, &[1, 2, 4, 3]));
@@ -260,6 +267,6 @@ fn what_came_before_a_bad_frame_is_heard(rt: HostRuntime) {
             length: 3,
         },
     );
-    assert!(rt; other.node.replica.hear_stream(&mut other.stream) == Err(failed));
+    fails_so(&rt, &mut other, failed);
     assert!(rt; other.node.replica.advance() == Ok(Some(Heard::Accepted(4))));
 }
