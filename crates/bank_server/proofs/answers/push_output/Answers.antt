@@ -21,7 +21,7 @@ returns g c calls one =
     c.unwrap-columns.ensures c.settled_columns.ensures.value in
     let bank = subst (λ (o : Option (Bor Balances)). IfSome o (λ lent. IsBalances lent.now)) c.unwrap-columns.ensures c.settled_columns.ensures.bank in
     let rows = one.rows columns bank after.1 in
-    c.in_ok-list_rows.ensures
-    ∙ ap (λ (d : List (List ℕ)). c.push_answers.new.out.items ++ unlines (row_lines d (rows_of d columns))) c.directory.ensures
-    ∙ (λ j. told j ++ unlines (row_lines names (rows.1 j)))
-    ∙ append_assoc c.args.out.now.items _ _
+    ◌∙◌ {A = List ℕ} c.in_ok-list_rows.ensures
+    (◌∙◌ {A = List ℕ} (ap (λ (d : List (List ℕ)). c.push_answers.new.out.items ++ unlines (row_lines d (rows_of d columns))) c.directory.ensures)
+    (◌∙◌ {A = List ℕ} (λ j. told j ++ unlines (row_lines names (rows.1 j)))
+    (append_assoc c.args.out.now.items _ _)))
