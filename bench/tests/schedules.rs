@@ -254,6 +254,129 @@ fn answers_and_acknowledgements() {
     );
 }
 
+const ONE_IS_KEPT: &str =
+    "ask 1 1 deposit alice 1.00 / send 0 1 / to 0 1 / take 0 1 0 / finish 0 1 / mark 0 ok";
+const ONE_WAS_MARKED: &str = "new 1 / sent 1 / accepted 1 / took 1 / finished 1 done / marked 1";
+
+// Plays these events over two replicas with a worker each, and compares the notes and where both are in the end.
+fn check_both(events: &str, notes: &str, states: [&str; 2]) {
+    let expected = format!("{notes} / {} / {}", states[0], states[1]);
+    assert_eq!(output("nodes 2 workers 1", events).join(" / "), expected);
+}
+
+const SECOND_AT_THE_OPENING: &str = "replica 1 length 0 idle / alice 100.00 50.00 / bob 0.00 20.00 / carol 10.00 0.00 / total 180.00";
+const SECOND_HAS_ONE_MORE: &str = "replica 1 length 1 idle / alice 100.00 51.00 / bob 0.00 20.00 / carol 10.00 0.00 / total 181.00";
+
+#[test]
+fn a_state_is_adopted_and_is_not_kept() {
+    check_both(
+        &format!(
+            "{ONE_IS_KEPT} / have 0 / from 0 1 / donor 1 / give 0 1 / adopt 1 1 / adopt 1 1 / audit 0 1 / restart 1"
+        ),
+        &format!(
+            "{ONE_WAS_MARKED} / sent 1 / has 1 / donor 0 1 / gave 1 / adopted 1 / behind 1 / same 181.00 0 / restarted 0"
+        ),
+        [ALICE_HAS_ONE_MORE, SECOND_AT_THE_OPENING],
+    );
+}
+
+#[test]
+fn a_state_of_no_more_changes_nothing() {
+    check_both(
+        &format!(
+            "{ONE_IS_KEPT} / ask 1 2 deposit bob 1.00 / send 1 1 / send 1 2 / to 1 2 / to 1 1 / take 1 1 0 / cut 1 \
+             / give 0 1 / adopt 1 1 / next 1 / finish 1 1 / mark 1 ok / cut 1 / to 1 1 / restart 1"
+        ),
+        &format!(
+            "{ONE_WAS_MARKED} / new 2 / sent 1 / sent 2 / held 2 / accepted 1 / took 1 / cut 1 \
+             / gave 1 / behind 1 / accepted 2 / finished 1 done / marked 1 / cut 2 / repeat 1 / restarted 1"
+        ),
+        [ALICE_HAS_ONE_MORE, SECOND_HAS_ONE_MORE],
+    );
+}
+
+#[test]
+fn an_adoption_lets_go_what_was_held_and_cut() {
+    check_both(
+        &format!(
+            "{ONE_IS_KEPT} / ask 1 2 deposit bob 1.00 / send 1 2 / to 1 1 / cut 1 / give 0 1 / adopt 1 1 / next 1 / mark 1 ok"
+        ),
+        &format!(
+            "{ONE_WAS_MARKED} / new 2 / sent 1 / held 2 / cut 0 / gave 1 / adopted 1 / nothing / marked 1"
+        ),
+        [ALICE_HAS_ONE_MORE, SECOND_HAS_ONE_MORE],
+    );
+}
+
+#[test]
+fn a_job_from_before_an_adoption_is_a_stranger() {
+    check_both(
+        &format!(
+            "{ONE_IS_KEPT} / ask 1 2 deposit bob 1.00 / send 0 2 / to 0 2 / take 0 1 0 / finish 0 1 / mark 0 ok \
+             / send 1 1 / to 1 1 / take 1 1 0 / give 0 1 / adopt 1 1 / finish 1 1 / answer 1 1"
+        ),
+        &format!(
+            "{ONE_WAS_MARKED} / new 2 / sent 2 / accepted 2 / took 2 / finished 2 done / marked 2 \
+             / sent 1 / accepted 1 / took 1 / gave 1 / adopted 2 / stranger 1 / sent 1"
+        ),
+        [
+            "replica 0 length 2 idle / alice 100.00 51.00 / bob 0.00 21.00 / carol 10.00 0.00 / total 182.00",
+            "replica 1 length 2 idle / alice 100.00 51.00 / bob 0.00 21.00 / carol 10.00 0.00 / total 182.00",
+        ],
+    );
+}
+
+#[test]
+fn states_that_are_not_there() {
+    check_both(
+        &format!(
+            "give 0 1 / mark 0 ok / give 0 1 / adopt 1 1 / {ONE_IS_KEPT} / give 0 0 / adopt 0 1 / give 0 2 / give 2 0 \
+             / give 0 1 / adopt 1 0 / adopt 1 2 / adopt 2 1 / have 2 / donor 2 / donor 1"
+        ),
+        &format!(
+            "nothing / marked 0 / nothing / nothing / {ONE_WAS_MARKED} / gave 1 / behind 1 / nothing / nothing \
+             / gave 1 / nothing / nothing / nothing / nothing / nothing / nothing"
+        ),
+        [ALICE_HAS_ONE_MORE, SECOND_AT_THE_OPENING],
+    );
+}
+
+#[test]
+fn a_donor_has_the_longest_checkpoint() {
+    let step = |number: u32, replica: u32, place: u32| {
+        format!(
+            "send {replica} {number} / to {replica} {place} / take {replica} 1 0 / finish {replica} 1"
+        )
+    };
+    let told = |replica: u32, place: u32| {
+        format!("mark {replica} ok / have {replica} / from {replica} {place}")
+    };
+    let asks = "ask 1 1 deposit alice 1.00 / ask 1 2 deposit bob 1.00";
+    let output = output(
+        "nodes 4 workers 1",
+        &[
+            asks.to_owned(),
+            step(1, 1, 1),
+            told(1, 1),
+            step(1, 2, 1),
+            told(2, 1),
+            "donor 0 / donor 1 / donor 2".to_owned(),
+            step(2, 2, 2),
+            told(2, 2),
+            "donor 0 / donor 1 / donor 2 / ack 1 / from 1 2 / donor 1 / from 2 1 / donor 1 / donor 3".to_owned(),
+        ]
+        .join(" / "),
+    );
+    assert_eq!(
+        output[16..19].join(" / "),
+        "donor 1 1 / donor 2 1 / donor 1 1"
+    );
+    assert_eq!(
+        output[26..35].join(" / "),
+        "donor 2 2 / donor 2 2 / donor 1 1 / sent 2 / recorded 1 / donor 2 2 / has 1 / nothing / donor 1 1"
+    );
+}
+
 #[test]
 fn the_first_fault_counts_and_nothing_is_written() {
     check_fault("", "line 1: bad head");
@@ -266,6 +389,12 @@ fn the_first_fault_counts_and_nothing_is_written() {
     check_fault(&after("mark 0 no"), "line 7: bad number");
     check_fault(&after("cut 0 1"), "line 7: wrong words");
     check_fault(&after("next 0 1"), "line 7: wrong words");
+    check_fault(&after("have"), "line 7: wrong words");
+    check_fault(&after("donor 0 1"), "line 7: wrong words");
+    check_fault(&after("give 0"), "line 7: wrong words");
+    check_fault(&after("adopt 0 1 1"), "line 7: wrong words");
+    check_fault(&after("give 0 01"), "line 7: bad number");
+    check_fault(&after("donors 0"), "line 7: unknown event");
     check_fault(&after("ask 1"), "line 7: wrong words");
     check_fault(&after("ask 01 1"), "line 7: bad number");
     check_fault(&after("ask 0 1"), "line 7: unknown verb");
@@ -280,6 +409,7 @@ fn the_stories_of_the_examples() {
         "lost_and_repeated",
         "a_job_outlives_its_replica",
         "marks_that_fail",
+        "a_replica_far_behind",
     ] {
         let text = |ending| fs::read_to_string(folder.join(format!("{story}.{ending}")));
         let schedule = text("schedule").expect("the story is there");

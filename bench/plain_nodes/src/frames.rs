@@ -10,6 +10,7 @@ const ACK: u8 = 3;
 const ANSWER: u8 = 4;
 const OUTCOME: u8 = 5;
 const FLUSH: u8 = 6;
+const HAVE: u8 = 7;
 
 const BODY: usize = 64;
 const NAME: usize = 20;
@@ -46,6 +47,7 @@ pub enum Frame<'a> {
     Answer { number: u64, reply: Reply },
     Outcome { key: Key, outcome: Outcome },
     Flush,
+    Have { replica: u8, length: u64 },
 }
 
 // ---- writing
@@ -87,6 +89,10 @@ pub fn push_frame(out: &mut Vec<u8>, frame: &Frame) {
             out.extend_from_slice(&reply);
         }
         Frame::Flush => out.push(FLUSH),
+        Frame::Have { replica, length } => {
+            out.extend_from_slice(&[HAVE, replica]);
+            out.extend_from_slice(&length.to_be_bytes());
+        }
     }
     let length = (out.len() - start - 2) as u16;
     out[start..start + 2].copy_from_slice(&length.to_be_bytes());
@@ -171,6 +177,10 @@ pub fn read_frame(bytes: &[u8]) -> Result<(Frame<'_>, &[u8]), FrameFault> {
             outcome: fields.outcome()?,
         },
         FLUSH => Frame::Flush,
+        HAVE => Frame::Have {
+            replica: fields.byte()?,
+            length: fields.long()?,
+        },
         _ => return Err(FrameFault::UnknownTag),
     };
     if fields.0.is_empty() {

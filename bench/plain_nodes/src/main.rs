@@ -15,7 +15,7 @@ fn size() -> Option<Size> {
     let mut words = env::args().skip(1);
     let nodes = words.next()?.parse().ok()?;
     let workers = words.next()?.parse().ok()?;
-    let is_known = (1..=8).contains(&nodes) && workers <= 16 && words.next().is_none();
+    let is_known = (1..=16).contains(&nodes) && workers <= 16 && words.next().is_none();
     is_known.then_some(Size { nodes, workers })
 }
 
@@ -30,7 +30,7 @@ fn run(size: Size) -> Result<(), Fault> {
 
 fn main() -> ExitCode {
     let Some(size) = size() else {
-        eprintln!("usage: plain_nodes 1..8 0..16 < INPUT");
+        eprintln!("usage: plain_nodes 1..16 0..16 < INPUT");
         return ExitCode::from(2);
     };
     match run(size) {

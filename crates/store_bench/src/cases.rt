@@ -28,6 +28,7 @@ pub(crate) fn tell_all<R: Threads + Wait + Clock + Sync>(
     session::tell(alloc, report)?;
     story::tell(alloc, story::TWO_HANDS, report)?;
     story::tell(alloc, story::CUT, report)?;
+    story::tell(alloc, story::STATE, report)?;
     checkpoint::tell(alloc, report)?;
     frames::tell(alloc, report)
 }

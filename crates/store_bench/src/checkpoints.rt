@@ -14,8 +14,8 @@ use sb_rows::{CUSTOMERS, Columns};
 use std::alloc::Global;
 use std::time::{Clock, Duration, Instant};
 
-// What each customer has, savings and checking.
-const BALANCES: &str = "1000.25 -200.75";
+/// What each customer has, savings and checking.
+pub(crate) const BALANCES: &str = "1000.25 -200.75";
 
 /// Writes a checkpoint of the greatest size this often. It comes to how many bytes it has, and their sum.
 pub fn write(clock: &impl Clock, alloc: Global, count: u32) -> Result<Measured, Fault>
@@ -63,8 +63,8 @@ pub fn read(clock: &impl Clock, alloc: Global, count: u32) -> Result<Measured, F
     read_often(clock, alloc, &bytes, count)
 }
 
-// The checkpoint that is read.
-fn written(alloc: Global) -> Result<Vec<u8>, Fault>
+/// The checkpoint that is read.
+pub(crate) fn written(alloc: Global) -> Result<Vec<u8>, Fault>
     ensures { IfOk result (λ bytes. SpellsFull bytes.items) }
 {
     let opening = open_bank(alloc, CUSTOMERS as u32, BALANCES)?;

@@ -4,6 +4,8 @@ use crate::cases::fault::CaseFault;
 use cown_board::SubmitFault;
 use cown_workers::{CrewFault, CrewGone};
 use sb_checkpoint::CheckpointFault;
+use sb_frames::StreamFault;
+use sb_replica::{AdoptFault, HearingFault, MarkFault, RestartFault};
 use std::alloc::AllocError;
 use std::io;
 use thiserror::Error;
@@ -32,6 +34,21 @@ pub enum Fault {
     /// A checkpoint isn't read.
     #[error("{0}")]
     Checkpoint(#[from] CheckpointFault),
+    /// A stream takes no bytes.
+    #[error("{0}")]
+    Stream(#[from] StreamFault),
+    /// A replica hears no entries.
+    #[error("{0}")]
+    Hearing(#[from] HearingFault),
+    /// It keeps no checkpoint.
+    #[error("{0}")]
+    Mark(#[from] MarkFault),
+    /// It doesn't go back.
+    #[error("{0}")]
+    Restart(#[from] RestartFault),
+    /// It doesn't adopt a state.
+    #[error("{0}")]
+    Adopt(#[from] AdoptFault),
     /// A case goes otherwise.
     #[error("{0}")]
     Case(#[from] CaseFault),

@@ -1,4 +1,4 @@
-//! `store_bench`: times how a crew drains a board, for `bench/nodes`, and what checkpoints take, for
+//! `store_bench`: times how a crew drains a board, for `bench/nodes`, and what checkpoints and states take, for
 //! `bench/replica`; goes through cases that are refused memory, for `bench/refusals`.
 #![tactic(auto)]
 
@@ -27,10 +27,13 @@ mod measured;
 mod measuring;
 mod opening;
 mod payees;
+mod replicas;
+mod states;
 mod words;
 
 const USAGE: &str = "usage: store_bench none STEPS CALLS | workers WORKERS STEPS CALLS
-     | wait WORKERS | one-customer CALLS | many-customers CALLS | write COUNT | read COUNT | cases";
+     | wait WORKERS | one-customer CALLS | many-customers CALLS | write COUNT | read COUNT
+     | adopt COUNT | open COUNT | by-state CUSTOMERS BEFORE ENTRIES | by-entries CUSTOMERS BEFORE ENTRIES | cases";
 
 fn main(rt: HostRuntime) -> ExitCode {
     let action = match action(&rt) {

@@ -1,6 +1,6 @@
 //! The program's words.
 ghost use Rattle.std.specs.Prelude.{◌≡◌, IfSome, IsTrue, Some, map, slice_get, string_bytes};
-ghost use Rattle.store_bench.specs.Actions.{Asks, Drains, Measures, Says, Spells};
+ghost use Rattle.store_bench.specs.Actions.{Asks, Drains, Measures, Misses, Says, Spells};
 
 use crate::payees::Payees;
 
@@ -22,6 +22,25 @@ pub enum Measurement {
     Write { count: u32 },
     /// It is read so often.
     Read { count: u32 },
+    /// A replica adopts a state of the greatest size so often.
+    Adopt { count: u32 },
+    /// A board is opened on the same so often.
+    Open { count: u32 },
+    /// A replica catches up by another one's state.
+    ByState(Absence),
+    /// It catches up by the log's entries.
+    ByEntries(Absence),
+}
+
+/// What a replica missed.
+#[derive(Clone, Copy)]
+pub struct Absence {
+    /// How many customers the bank has.
+    pub customers: u32,
+    /// How long its log was when it left.
+    pub before: u32,
+    /// How many entries came since.
+    pub entries: u32,
 }
 
 /// Which crew carries out which calls.
@@ -71,11 +90,49 @@ fn read_measurement(words: &[String]) -> Option<Measurement>
         let count = few(words, 2)?;
         return Some(Measurement::Read { count });
     }
+    if let Some(measurement) = read_states(words) {
+        return Some(measurement);
+    }
     let crewed = match held(words) {
         Some(crewed) => crewed,
         None => threads(words)?,
     };
     Some(Measurement::Drain(crewed))
+}
+
+// What is measured of states.
+fn read_states(words: &[String]) -> Option<Measurement>
+    ensures { IfSome result (λ measurement. Measures measurement words.now) }
+{
+    if asks(words, 3, "adopt") {
+        let count = few(words, 2)?;
+        return Some(Measurement::Adopt { count });
+    }
+    if asks(words, 3, "open") {
+        let count = few(words, 2)?;
+        return Some(Measurement::Open { count });
+    }
+    if asks(words, 5, "by-state") {
+        return Some(Measurement::ByState(read_absence(words)?));
+    }
+    if asks(words, 5, "by-entries") {
+        return Some(Measurement::ByEntries(read_absence(words)?));
+    }
+    None
+}
+
+// What a replica missed, by the three numbers behind the second word.
+fn read_absence(words: &[String]) -> Option<Absence>
+    ensures { IfSome result (λ absence. Misses absence words.now) }
+{
+    let customers = few(words, 2)?;
+    let before = few(words, 3)?;
+    let entries = few(words, 4)?;
+    Some(Absence {
+        customers,
+        before,
+        entries,
+    })
 }
 
 // What is carried out without threads.

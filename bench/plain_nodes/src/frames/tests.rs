@@ -13,7 +13,7 @@ fn bytes(text: &str) -> Vec<u8> {
         .collect()
 }
 
-fn vectors() -> [(Frame<'static>, &'static str); 8] {
+fn vectors() -> [(Frame<'static>, &'static str); 9] {
     let balance = Call::Balance(b"alice");
     let deposit = Call::Deposit(b"bob", 500);
     let shown = Outcome::Replied(Reply::Shown(15_000));
@@ -38,6 +38,10 @@ fn vectors() -> [(Frame<'static>, &'static str); 8] {
         number: 2,
         reply: Reply::Done,
     };
+    let have = Frame::Have {
+        replica: 1,
+        length: 2,
+    };
     [
         (
             ask(1, balance),
@@ -59,6 +63,7 @@ fn vectors() -> [(Frame<'static>, &'static str); 8] {
             "0013 05 00000007 00000002 00 01 0000000000000000",
         ),
         (Frame::Flush, "0001 06"),
+        (have, "000a 07 01 0000000000000002"),
     ]
 }
 
@@ -135,6 +140,7 @@ fn lengths() {
     // The length is judged before the body is there, the tag only then.
     check_fault("0002 09", Short);
     check_fault("0001 09", UnknownTag);
+    check_fault("0001 08", UnknownTag);
     check_fault("0001 00", UnknownTag);
     // One byte more, and one less.
     check_fault("000b 03 01 0000000000000002 00", BadLength);

@@ -92,9 +92,11 @@ fn faults() {
     let entry = [
         0, 0x10, 2, 0, 0, 0, 0, 0, 0, 0, 1, 1, 5, b'a', b'l', b'i', b'c', b'e',
     ];
+    let have = [0, 0xa, 7, 1, 0, 0, 0, 0, 0, 0, 0, 2];
     let half = &ask(1, "balance alice")[..17];
     for (bytes, fault) in [
         (&entry[..], SessionFault::Unexpected),
+        (&have, SessionFault::Unexpected),
         (half, SessionFault::Frame(FrameFault::Short)),
         (&[0], SessionFault::Frame(FrameFault::Short)),
         (&[0, 0], SessionFault::Frame(FrameFault::BadLength)),

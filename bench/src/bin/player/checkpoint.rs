@@ -1,6 +1,7 @@
 //! Checkpoints in bytes.
 
 use crate::bank::{LIMIT, Reply};
+use crate::board::Board;
 use crate::frame::{REPLY, reply_cells, reply_of};
 
 const MAGIC: &[u8; 8] = b"SBCKPT01";
@@ -13,6 +14,17 @@ pub struct Checkpoint {
     /// For each customer savings, then checking.
     pub balances: Vec<i64>,
     pub replies: Vec<Reply>,
+}
+
+impl Checkpoint {
+    pub fn length(&self) -> u64 {
+        self.replies.len() as u64
+    }
+
+    /// A board that goes on from here.
+    pub fn board(self) -> Board {
+        Board::open(self.balances, self.replies)
+    }
 }
 
 /// The bytes of these balances and replies.

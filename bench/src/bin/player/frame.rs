@@ -5,6 +5,7 @@ use crate::bank::{Call, LIMIT, Reply};
 const ENTRY: u8 = 2;
 const ACK: u8 = 3;
 const ANSWER: u8 = 4;
+const HAVE: u8 = 7;
 
 const PREFIX: usize = 2;
 const NAME_BYTES: usize = 20;
@@ -14,6 +15,7 @@ pub enum Frame<'a> {
     Entry { number: u64, call: Call<'a> },
     Ack { replica: u8, length: u64 },
     Answer { number: u64, reply: Reply },
+    Have { replica: u8, length: u64 },
 }
 
 impl Frame<'_> {
@@ -35,6 +37,10 @@ impl Frame<'_> {
                 out.push(ANSWER);
                 out.extend_from_slice(&number.to_be_bytes());
                 out.extend_from_slice(&reply_cells(reply));
+            }
+            Frame::Have { replica, length } => {
+                out.extend_from_slice(&[HAVE, replica]);
+                out.extend_from_slice(&length.to_be_bytes());
             }
         }
         let length = (out.len() - start - PREFIX) as u16;
@@ -60,6 +66,10 @@ impl Frame<'_> {
             ANSWER => Frame::Answer {
                 number: fields.number()?,
                 reply: reply_of(fields.cells()?)?,
+            },
+            HAVE => Frame::Have {
+                replica: fields.byte()?,
+                length: fields.number()?,
             },
             _ => return None,
         };

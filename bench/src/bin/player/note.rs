@@ -28,6 +28,11 @@ pub enum Note {
     Kept(u64),
     OddAnswer(u64),
     Unknown(u64),
+    Has(u64),
+    Donor(u64, u64),
+    Gave(u64),
+    Adopted(u64),
+    Behind(u64),
     Took(u64),
     HandFull,
     Finished(u64, Reply),
@@ -56,7 +61,7 @@ impl Note {
                 out.push(b' ');
                 push_reply(out, reply);
             }
-            Note::Apart(_, second) => {
+            Note::Apart(_, second) | Note::Donor(_, second) => {
                 out.push(b' ');
                 push_number(out, second);
             }
@@ -91,6 +96,11 @@ impl Note {
             | Note::Kept(number)
             | Note::OddAnswer(number)
             | Note::Unknown(number)
+            | Note::Has(number)
+            | Note::Donor(number, _)
+            | Note::Gave(number)
+            | Note::Adopted(number)
+            | Note::Behind(number)
             | Note::Took(number)
             | Note::Finished(number, _)
             | Note::Stranger(number)
@@ -123,6 +133,11 @@ impl Note {
             Note::Kept(_) => b"kept ",
             Note::OddAnswer(_) => b"odd ",
             Note::Unknown(_) => b"unknown ",
+            Note::Has(_) => b"has ",
+            Note::Donor(..) => b"donor ",
+            Note::Gave(_) => b"gave ",
+            Note::Adopted(_) => b"adopted ",
+            Note::Behind(_) => b"behind ",
             Note::Took(_) => b"took ",
             Note::HandFull => b"hand full",
             Note::Finished(..) => b"finished ",

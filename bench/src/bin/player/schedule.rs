@@ -4,7 +4,7 @@ use crate::bank::{Call, Directory};
 use crate::fault::{Fault, LineFault};
 use crate::words::{call, exactly, lines, money, name, number, numbers, words};
 
-const NODES: u32 = 8;
+const NODES: u32 = 16;
 const WORKERS: u32 = 16;
 const CUSTOMERS: usize = 65_536;
 
@@ -70,6 +70,20 @@ pub enum Event<'a> {
     Audit {
         first: u32,
         second: u32,
+    },
+    Have {
+        replica: u32,
+    },
+    Donor {
+        replica: u32,
+    },
+    Give {
+        donor: u32,
+        replica: u32,
+    },
+    Adopt {
+        replica: u32,
+        place: u32,
     },
 }
 
@@ -169,6 +183,10 @@ fn event(line: &[u8]) -> Result<Event<'_>, Fault> {
         b"cut" => numbers(words).map(|[replica]| Event::Cut { replica })?,
         b"next" => numbers(words).map(|[replica]| Event::Next { replica })?,
         b"audit" => numbers(words).map(|[first, second]| Event::Audit { first, second })?,
+        b"have" => numbers(words).map(|[replica]| Event::Have { replica })?,
+        b"donor" => numbers(words).map(|[replica]| Event::Donor { replica })?,
+        b"give" => numbers(words).map(|[donor, replica]| Event::Give { donor, replica })?,
+        b"adopt" => numbers(words).map(|[replica, place]| Event::Adopt { replica, place })?,
         _ => return Err(Fault::UnknownEvent),
     })
 }

@@ -2,6 +2,7 @@
 
 use crate::bank::{Call, Reply};
 use crate::note::Note;
+use std::cmp::Reverse;
 use std::collections::HashMap;
 
 const LOG_CALLS: usize = 1_000_000;
@@ -14,6 +15,8 @@ pub struct Sequencer<'a> {
     numbers: HashMap<Key, u64>,
     // For each replica the length that it last acknowledged.
     recorded: Vec<u64>,
+    // For each replica the length of the checkpoint that it last said to keep.
+    checkpoints: Vec<u64>,
     answers: Vec<Option<Reply>>,
 }
 
@@ -23,6 +26,7 @@ impl<'a> Sequencer<'a> {
             log: Vec::new(),
             numbers: HashMap::new(),
             recorded: vec![0; nodes as usize],
+            checkpoints: vec![0; nodes as usize],
             answers: Vec::new(),
         }
     }
@@ -68,6 +72,26 @@ impl<'a> Sequencer<'a> {
             }
             _ => Note::Odd,
         }
+    }
+
+    pub fn on_have(&mut self, replica: u8, length: u64) -> Note {
+        match self.checkpoints.get_mut(usize::from(replica)) {
+            Some(kept) if length <= self.log.len() as u64 => {
+                *kept = length;
+                Note::Has(length)
+            }
+            _ => Note::Odd,
+        }
+    }
+
+    /// Of the other replicas whose checkpoint is longer than what this one acknowledged, the first of those with the longest.
+    pub fn donor(&self, replica: u32) -> Option<Note> {
+        let recorded = *self.recorded.get(replica as usize)?;
+        let others = (0u64..).zip(&self.checkpoints);
+        let longer = others
+            .filter(|(donor, kept)| *donor != u64::from(replica) && **kept > recorded)
+            .max_by_key(|(donor, kept)| (**kept, Reverse(*donor)));
+        longer.map(|(donor, kept)| Note::Donor(donor, *kept))
     }
 
     pub fn on_answer(&mut self, number: u64, reply: Reply) -> Note {

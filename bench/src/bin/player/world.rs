@@ -16,6 +16,8 @@ struct Node {
     stored: Option<Vec<u8>>,
     to: Sent,
     from: Sent,
+    // The bytes of all checkpoints that were ever sent to it.
+    states: Vec<Vec<u8>>,
 }
 
 pub struct World<'a> {
@@ -33,6 +35,7 @@ impl<'a> World<'a> {
             stored: None,
             to: Sent::default(),
             from: Sent::default(),
+            states: Vec::new(),
         };
         World {
             directory: &schedule.directory,
@@ -67,6 +70,10 @@ impl<'a> World<'a> {
             Event::Cut { replica } => Some(self.node(replica)?.cut()),
             Event::Next { replica } => self.node(replica)?.next(),
             Event::Audit { first, second } => self.audit(first, second),
+            Event::Have { replica } => self.have(replica),
+            Event::Donor { replica } => self.sequencer.donor(replica),
+            Event::Give { donor, replica } => self.give(donor, replica),
+            Event::Adopt { replica, place } => self.adopt(replica, place),
         }
     }
 
@@ -124,20 +131,52 @@ impl<'a> World<'a> {
         match Frame::decode(node.from.get(place)?) {
             Some(Frame::Ack { replica, length }) => Some(self.sequencer.on_ack(replica, length)),
             Some(Frame::Answer { number, reply }) => Some(self.sequencer.on_answer(number, reply)),
-            _ => unreachable!("what a replica sends is an acknowledgement or an answer"),
+            Some(Frame::Have { replica, length }) => Some(self.sequencer.on_have(replica, length)),
+            _ => unreachable!("what a replica sends tells a length or a reply"),
         }
+    }
+
+    fn have(&mut self, replica: u32) -> Option<Note> {
+        let customers = self.directory.names.len();
+        let node = self.node(replica)?;
+        let kept = node.stored.as_ref();
+        let place = node.from.push(&Frame::Have {
+            replica: replica as u8,
+            length: kept.map_or(0, |bytes| checkpoint_of(bytes, customers).length()),
+        });
+        Some(Note::Sent(place))
+    }
+
+    // A checkpoint of no entry isn't given.
+    fn give(&mut self, donor: u32, replica: u32) -> Option<Note> {
+        let state = self.nodes.get(donor as usize)?.stored.clone()?;
+        let length = checkpoint_of(&state, self.directory.names.len()).length();
+        let states = &mut self.node(replica)?.states;
+        (length > 0).then(|| {
+            states.push(state);
+            Note::Gave(states.len() as u64)
+        })
+    }
+
+    fn adopt(&mut self, replica: u32, place: u32) -> Option<Note> {
+        let customers = self.directory.names.len();
+        let node = self.node(replica)?;
+        let state = checkpoint_of(
+            node.states.get((place as usize).checked_sub(1)?)?,
+            customers,
+        );
+        if state.length() <= node.board.length() {
+            return Some(Note::Behind(node.board.length()));
+        }
+        node.board = state.board();
+        Some(Note::Adopted(node.board.length()))
     }
 
     fn restart(&mut self, replica: u32) -> Option<Note> {
         let node = self.nodes.get_mut(replica as usize)?;
         node.board = match &node.stored {
             None => Board::open(self.opening.to_vec(), Vec::new()),
-            Some(bytes) => {
-                let Checkpoint { balances, replies } =
-                    checkpoint::read(bytes, self.directory.names.len())
-                        .expect("what is stored is a checkpoint of this bank");
-                Board::open(balances, replies)
-            }
+            Some(bytes) => checkpoint_of(bytes, self.directory.names.len()).board(),
         };
         Some(Note::Restarted(node.board.length()))
     }
@@ -205,6 +244,10 @@ impl<'a> World<'a> {
         push_money(out, balances.iter().sum());
         out.push(b'\n');
     }
+}
+
+fn checkpoint_of(bytes: &[u8], customers: usize) -> Checkpoint {
+    checkpoint::read(bytes, customers).expect("what is stored is a checkpoint of this bank")
 }
 
 // The first place where the columns differ, savings first.

@@ -40,6 +40,10 @@ pub enum Event {
     Cut(u32),
     Next(u32),
     Audit(u32, u32),
+    Have(u32),
+    Donor(u32),
+    Give(u32, u32),
+    Adopt(u32, u32),
 }
 
 /// Cents as a text has them.
@@ -100,6 +104,10 @@ impl fmt::Display for Event {
             Event::Cut(replica) => write!(f, "cut {replica}"),
             Event::Next(replica) => write!(f, "next {replica}"),
             Event::Audit(first, second) => write!(f, "audit {first} {second}"),
+            Event::Have(replica) => write!(f, "have {replica}"),
+            Event::Donor(replica) => write!(f, "donor {replica}"),
+            Event::Give(donor, replica) => write!(f, "give {donor} {replica}"),
+            Event::Adopt(replica, place) => write!(f, "adopt {replica} {place}"),
         }
     }
 }

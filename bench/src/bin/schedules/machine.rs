@@ -12,18 +12,27 @@ const HELD: u32 = 64;
 pub enum Note {
     Words(&'static str),
     Number(&'static str, u32),
+    Numbers(&'static str, u32, u32),
     Finished(u32),
-    Apart(u32, u32),
     Same(u32),
 }
 
 impl Note {
+    /// What stands before its numbers.
+    pub fn words(&self) -> &'static str {
+        match *self {
+            Note::Words(words) | Note::Number(words, _) | Note::Numbers(words, ..) => words,
+            Note::Finished(_) => "finished",
+            Note::Same(_) => "same",
+        }
+    }
+
     pub fn text(&self, ledger: &Ledger) -> String {
         match *self {
             Note::Words(words) => words.to_owned(),
             Note::Number(word, number) => format!("{word} {number}"),
+            Note::Numbers(word, first, second) => format!("{word} {first} {second}"),
             Note::Finished(number) => format!("finished {number} {}", ledger.reply(number)),
-            Note::Apart(first, second) => format!("apart {first} {second}"),
             Note::Same(length) => {
                 let total = crate::event::money(ledger.total(length));
                 format!("same {total} {}", ledger.overdrawn(length))
@@ -37,8 +46,10 @@ impl Note {
 pub enum Told {
     Ack(u32),
     Answer(u32),
+    Have(u32),
 }
 
+#[derive(Clone)]
 pub struct Node {
     pub length: u32,
     /// The numbers up to the length that aren't finished.
@@ -52,11 +63,16 @@ pub struct Node {
     pub cut: Option<u32>,
     /// The length that the sequencer heard of last.
     pub recorded: u32,
+    /// The length of its checkpoint that the sequencer heard of last.
+    pub checkpoint: u32,
     /// The numbers of all entries sent to it.
     pub to: Vec<u32>,
     pub from: Vec<Told>,
+    /// The lengths of all states that were sent to it.
+    pub states: Vec<u32>,
 }
 
+#[derive(Clone)]
 pub struct Machine {
     pub customers: usize,
     pub log: Vec<(Key, Call)>,
@@ -91,8 +107,10 @@ impl Machine {
             kept: 0,
             cut: None,
             recorded: 0,
+            checkpoint: 0,
             to: Vec::new(),
             from: Vec::new(),
+            states: Vec::new(),
         };
         Machine {
             customers,
@@ -149,6 +167,16 @@ impl Machine {
             Event::Cut(replica) => Some(self.node(replica)?.make_cut()),
             Event::Next(replica) => self.node(replica)?.next(),
             Event::Audit(first, second) => self.audit(first, second),
+            Event::Have(replica) => {
+                let node = self.node(replica)?;
+                Some(node.tell(Told::Have(node.kept)))
+            }
+            Event::Donor(replica) => {
+                let (donor, length) = self.donor(replica)?;
+                Some(Note::Numbers("donor", donor, length))
+            }
+            Event::Give(donor, replica) => self.give(donor, replica),
+            Event::Adopt(replica, place) => self.node(replica)?.adopt(place),
         }
     }
 
@@ -194,10 +222,37 @@ impl Machine {
                 node.recorded = length;
                 Note::Number("recorded", length)
             }
+            Told::Have(length) => {
+                node.checkpoint = length;
+                Note::Number("has", length)
+            }
             Told::Answer(number) => match self.answered.insert(number) {
                 true => Note::Number("kept", number),
                 false => Note::Number("repeat", number),
             },
+        })
+    }
+
+    /// The replica that another one gets a state from, and its length.
+    pub fn donor(&self, replica: u32) -> Option<(u32, u32)> {
+        let recorded = self.nodes.get(replica as usize)?.recorded;
+        let mut best = None;
+        let mut longest = recorded;
+        for (node, donor) in self.nodes.iter().zip(0..) {
+            if donor != replica && node.checkpoint > longest {
+                longest = node.checkpoint;
+                best = Some((donor, longest));
+            }
+        }
+        best
+    }
+
+    fn give(&mut self, donor: u32, replica: u32) -> Option<Note> {
+        let kept = self.nodes.get(donor as usize)?.kept;
+        let states = &mut self.node(replica)?.states;
+        (kept > 0).then(|| {
+            states.push(kept);
+            Note::Number("gave", states.len() as u32)
         })
     }
 
@@ -224,7 +279,7 @@ impl Machine {
         } else if !other.open.is_empty() {
             Note::Number("busy", second)
         } else if one.length != other.length {
-            Note::Apart(one.length, other.length)
+            Note::Numbers("apart", one.length, other.length)
         } else {
             Note::Same(one.length)
         })
@@ -282,8 +337,8 @@ impl Node {
         }
     }
 
-    // How many numbers a mark is of.
-    fn marked(&self) -> u32 {
+    /// How many numbers a mark is of.
+    pub fn marked(&self) -> u32 {
         self.cut.unwrap_or(self.length)
     }
 
@@ -319,12 +374,27 @@ impl Node {
         }
     }
 
+    fn adopt(&mut self, place: u32) -> Option<Note> {
+        let size = *self.states.get((place as usize).checked_sub(1)?)?;
+        Some(if size <= self.length {
+            Note::Number("behind", self.length)
+        } else {
+            self.begin_at(size);
+            Note::Number("adopted", size)
+        })
+    }
+
     fn restart(&mut self) -> Note {
-        self.length = self.kept;
+        self.begin_at(self.kept);
+        Note::Number("restarted", self.kept)
+    }
+
+    // All up to this length is finished, and nothing else is there.
+    fn begin_at(&mut self, size: u32) {
+        self.length = size;
         self.open.clear();
         self.out.clear();
         self.held.clear();
         self.cut = None;
-        Note::Number("restarted", self.kept)
     }
 }

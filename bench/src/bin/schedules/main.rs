@@ -2,8 +2,9 @@
 //!
 //! `schedules random SEED COUNT FOLDER` writes so many, `N.schedule` each, and beside it what the definitions say is
 //! written: `N.output` to standard output, or `N.fault` to standard error where a line is at fault.
-//! `schedules restarts SEED COUNT FOLDER` makes so many short ones without fault, and writes each with restarts, marks
-//! and cuts at every place, as `N.schedule` and `N.output` too.
+//! `schedules restarts SEED COUNT FOLDER` makes so many short ones without fault, and writes each with restarts, marks,
+//! cuts and adoptions at every place, as `N.schedule` and `N.output` too.
+//! Both print how often each event had each note, in those without fault.
 //! `schedules long EVENTS NODES` writes a long one without fault to standard output.
 
 mod event;
@@ -15,6 +16,7 @@ mod making;
 #[path = "../../random.rs"]
 mod random;
 mod restarts;
+mod tally;
 
 use event::{Event, money, name};
 use ledger::{Ledger, Rows};
@@ -25,10 +27,11 @@ use std::error::Error;
 use std::io::{self, BufWriter, Write};
 use std::path::Path;
 use std::{env, fs};
+use tally::Tally;
 
 const SEED: u64 = 5;
 
-const NODES: u32 = 8;
+const NODES: u32 = 16;
 const WORKERS: u32 = 16;
 const CUSTOMERS: u32 = 6;
 const EVENTS: u32 = 200;
@@ -68,11 +71,18 @@ struct Schedule {
     events: Vec<Event>,
 }
 
-/// The lines of a schedule, and its output by the definitions.
+impl Schedule {
+    fn machine(&self) -> Machine {
+        Machine::open(self.opening.len(), self.nodes, self.workers)
+    }
+}
+
+/// The lines of a schedule, its output by the definitions, and how often each note came.
 struct Made {
     lines: Vec<String>,
     customers: usize,
     output: String,
+    tally: Tally,
 }
 
 fn drawn(mut random: Random, limits: &Limits) -> Schedule {
@@ -117,13 +127,18 @@ fn played(schedule: &Schedule, events: &[Event]) -> Made {
     lines.push("begin".to_owned());
     lines.extend(events.iter().map(Event::to_string));
     let customers = opening.len();
-    let mut machine = Machine::open(customers, *nodes, *workers);
-    let notes: Vec<Note> = events.iter().map(|event| machine.step(*event)).collect();
+    let mut machine = schedule.machine();
+    let mut tally = Tally::default();
+    let notes: Vec<Note> = events
+        .iter()
+        .map(|event| tally.step(&mut machine, *event))
+        .collect();
     let ledger = Ledger::new(opening.clone(), machine.log.iter().map(|(_, call)| *call));
     Made {
         lines,
         customers,
         output: output(&machine, &ledger, &notes),
+        tally,
     }
 }
 
@@ -139,8 +154,8 @@ fn output(machine: &Machine, ledger: &Ledger, notes: &[Note]) -> String {
     notes.chain(states).collect()
 }
 
-// Writes a schedule and what is expected of it. A third has a fault.
-fn write_random(seed: u64, folder: &Path, number: u32) -> io::Result<()> {
+// Writes a schedule and what is expected of it. A third has a fault, and counts nothing.
+fn write_random(seed: u64, folder: &Path, number: u32, tally: &mut Tally) -> io::Result<()> {
     let mut random = Random::new(seed ^ u64::from(number) << 32);
     let write = |ending, text| fs::write(folder.join(format!("{number}.{ending}")), text);
     if number.is_multiple_of(TOO_MANY) {
@@ -155,28 +170,32 @@ fn write_random(seed: u64, folder: &Path, number: u32) -> io::Result<()> {
         write("schedule", text)?;
         return write("fault", fault);
     }
+    tally.add(made.tally);
     // A last line needs no line feed.
     let end = if random.percent(10) { "" } else { "\n" };
     write("schedule", made.lines.join("\n") + end)?;
     write("output", made.output)
 }
 
-// Writes so many schedules, each with a restart at every place, numbered on from 0.
-fn write_restarts(seed: u64, folder: &Path, count: u32) -> io::Result<()> {
+// Writes so many schedules, each with a restart and an adoption at every place, numbered on from 0.
+fn write_restarts(seed: u64, folder: &Path, count: u32) -> io::Result<Tally> {
+    let mut tally = Tally::default();
     let mut number = 0;
     for base in 0..count {
         let mut random = Random::new(seed ^ u64::from(base) << 32);
         let schedule = drawn(Random::new(seed ^ u64::from(base)), &SHORT);
         let replica = random.below(schedule.nodes);
-        for events in restarts::everywhere(&schedule.events, replica, &mut random) {
+        let machine = schedule.machine();
+        for events in restarts::everywhere(&schedule.events, machine, replica, &mut random) {
             let made = played(&schedule, &events);
             let write = |ending, text| fs::write(folder.join(format!("{number}.{ending}")), text);
             write("schedule", made.lines.join("\n") + "\n")?;
             write("output", made.output)?;
+            tally.add(made.tally);
             number += 1;
         }
     }
-    Ok(())
+    Ok(tally)
 }
 
 fn main() -> Result<(), Box<dyn Error>> {
@@ -184,13 +203,16 @@ fn main() -> Result<(), Box<dyn Error>> {
     match words.iter().map(String::as_str).collect::<Vec<_>>()[..] {
         ["random", seed, count, folder] => {
             fs::create_dir_all(folder)?;
+            let mut tally = Tally::default();
             for number in 0..count.parse()? {
-                write_random(seed.parse()?, Path::new(folder), number)?;
+                write_random(seed.parse()?, Path::new(folder), number, &mut tally)?;
             }
+            print!("{tally}");
         }
         ["restarts", seed, count, folder] => {
             fs::create_dir_all(folder)?;
-            write_restarts(seed.parse()?, Path::new(folder), count.parse()?)?;
+            let tally = write_restarts(seed.parse()?, Path::new(folder), count.parse()?)?;
+            print!("{tally}");
         }
         ["long", events, nodes] => {
             let mut out = BufWriter::new(io::stdout().lock());

@@ -4,11 +4,16 @@ use crate::event::{Call, Customer, Event, How, Key};
 use crate::machine::{Machine, Node};
 use crate::random::Random;
 
-const KINDS: usize = 14;
+const KINDS: usize = 18;
 
 // How often each kind of event comes: ask, send, resend, to, ack, answer, from, take, finish, mark, restart, cut,
-// next, audit.
-const USUAL: [u32; KINDS] = [14, 14, 5, 24, 4, 5, 8, 16, 16, 5, 3, 4, 8, 4];
+// next, audit, have, donor, give, adopt.
+const USUAL: [u32; KINDS] = [14, 14, 5, 24, 4, 5, 8, 16, 16, 5, 3, 4, 8, 4, 5, 3, 5, 6];
+
+// The same where replicas are idle often, and get states of one another.
+const CALM: [u32; KINDS] = [
+    5, 10, 3, 20, 3, 5, 14, 30, 30, 14, 2, 3, 6, 3, 10, 8, 10, 14,
+];
 
 const ASK: usize = 0;
 const TO: usize = 3;
@@ -27,10 +32,12 @@ pub struct Maker {
 
 impl Maker {
     pub fn new(mut random: Random) -> Self {
-        let mut shares = USUAL.map(|usual| usual * random.pick(&[0, 1, 1, 2, 2, 3]));
+        let usual = *random.pick(&[USUAL, USUAL, CALM]);
+        let mut shares = usual.map(|usual| usual * random.pick(&[0, 1, 1, 2, 2, 3]));
         // Without these two nothing is ever heard.
-        shares[ASK] = shares[ASK].max(USUAL[ASK]);
-        shares[TO] = shares[TO].max(USUAL[TO]);
+        for kind in [ASK, TO] {
+            shares[kind] = shares[kind].max(usual[kind]);
+        }
         Maker {
             shares,
             blind: *random.pick(&[0, 5, 20]),
@@ -51,7 +58,7 @@ impl Maker {
     pub fn event(&mut self, machine: &Machine) -> Event {
         let r = self.replica(machine);
         let node = machine.nodes.get(r as usize).unwrap_or(&machine.nodes[0]);
-        match self.fitting_kind(machine, node) {
+        match self.fitting_kind(machine, r, node) {
             ASK => self.ask(machine),
             1 => Event::Send(r, self.sent(machine, node)),
             2 => Event::Resend(r),
@@ -72,12 +79,16 @@ impl Maker {
             10 => Event::Restart(r),
             11 => Event::Cut(r),
             12 => Event::Next(r),
-            _ => Event::Audit(r, self.replica(machine)),
+            13 => Event::Audit(r, self.replica(machine)),
+            14 => Event::Have(r),
+            15 => Event::Donor(r),
+            16 => self.give(machine, r),
+            _ => self.adopt(machine, r),
         }
     }
 
     // A kind of event that does something, where some draws give one.
-    fn fitting_kind(&mut self, machine: &Machine, node: &Node) -> usize {
+    fn fitting_kind(&mut self, machine: &Machine, r: u32, node: &Node) -> usize {
         let mut kind = self.kind();
         for _ in 0..4 {
             let is_vain = match kind {
@@ -87,9 +98,13 @@ impl Maker {
                 6 => node.from.is_empty(),
                 7 => machine.ready(node).is_empty(),
                 8 => node.hands.iter().all(Option::is_none),
-                9 => !node.is_settled(),
+                9 => !node.is_settled() || node.marked() == 0,
                 11 => node.cut.is_some(),
                 12 => !node.holds_next(),
+                14 => node.kept == 0,
+                15 => machine.donor(r).is_none(),
+                16 => machine.nodes.iter().all(|donor| donor.kept == 0),
+                17 => machine.nodes.iter().all(|node| node.states.is_empty()),
                 _ => false,
             };
             if !is_vain || self.is_blind() {
@@ -150,6 +165,42 @@ impl Maker {
         match next {
             Some(index) if self.random.percent(70) => index as u32 + 1,
             _ => self.near(node.to.len() as u32),
+        }
+    }
+
+    // A state for a replica that has less, for this one where it can be, or any.
+    fn give(&mut self, machine: &Machine, replica: u32) -> Event {
+        let donors = machine.nodes.iter().zip(0..);
+        let more = donors.flat_map(|(donor, number)| {
+            let others = machine.nodes.iter().zip(0..);
+            let behind = others.filter(|(other, _)| other.length < donor.kept);
+            behind.map(move |(_, other)| (other, Event::Give(number, other)))
+        });
+        let any = Event::Give(self.replica(machine), replica);
+        self.one_at(replica, more.collect(), any)
+    }
+
+    // A state of more than its replica has, of this one where it can be, or any.
+    fn adopt(&mut self, machine: &Machine, replica: u32) -> Event {
+        let nodes = machine.nodes.iter().zip(0..);
+        let more = nodes.flat_map(|(node, number)| {
+            let states = node.states.iter().zip(1..);
+            let longer = states.filter(|(size, _)| **size > node.length);
+            longer.map(move |(_, place)| (number, Event::Adopt(number, place)))
+        });
+        let node = machine.nodes.get(replica as usize);
+        let any = self.near(node.map_or(0, |node| node.states.len() as u32));
+        self.one_at(replica, more.collect(), Event::Adopt(replica, any))
+    }
+
+    // Mostly one of those that do something, of those at this replica where there are some.
+    fn one_at(&mut self, replica: u32, mut fitting: Vec<(u32, Event)>, any: Event) -> Event {
+        if fitting.iter().any(|(at, _)| *at == replica) {
+            fitting.retain(|(at, _)| *at == replica);
+        }
+        match fitting.is_empty() || self.random.percent(30) {
+            true => any,
+            false => self.random.pick(&fitting).1,
         }
     }
 

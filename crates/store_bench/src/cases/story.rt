@@ -61,6 +61,28 @@ finish 0 1
 restart 0
 ";
 
+/// A replica tells of its checkpoint, and another one goes on from it.
+pub(crate) const STATE: &str = "nodes 2 workers 1
+alice 100.00 50.00
+bob 0.00 20.00
+carol 10.00 0.00
+begin
+ask 1 1 deposit alice 1.00
+send 0 1
+to 0 1
+take 0 1 0
+finish 0 1
+mark 0 ok
+have 0
+from 0 1
+donor 1
+give 0 1
+adopt 1 1
+adopt 1 1
+audit 0 1
+restart 1
+";
+
 /// Tells what happens in a schedule, and what the first replica has in the end.
 pub(crate) fn tell(alloc: Global, text: &str, report: &mut Report) -> Result<(), CaseFault> {
     let mut planned = plan(alloc, text, report)?;

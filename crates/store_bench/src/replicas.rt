@@ -1,0 +1,101 @@
+//! Replicas that are measured, and the entries that they hear.
+ghost use Rattle.std.specs.Prelude.{◌≡◌};
+
+use crate::fault::Fault;
+use crate::measured::Measured;
+use crate::opening::open_bank;
+use cown_workers::{InlineCrew, drain};
+use lane_audit::bank_total;
+use sb_amount::Cents;
+use sb_calls::{Call, WireReply};
+use sb_checkpoint::MemoryStore;
+use sb_frames::{AskOutcome, Frame, Stream, encode};
+use sb_replica::{Pause, Replica};
+use sb_rows::Directory;
+use std::alloc::Global;
+use std::time::Duration;
+
+// How many bytes come at once.
+const MESSAGE: usize = 64 * 1_024;
+// The next entry's customer is so many places behind the last one's.
+const APART: u64 = 7_919;
+
+/// A replica of so many customers with these balances, at the opening. Its store is empty.
+pub(crate) fn open_replica(
+    alloc: Global,
+    customers: u32,
+    balances: &str,
+) -> Result<Box<Replica<MemoryStore>>, Fault> {
+    let opening = open_bank(alloc, customers, balances)?;
+    let store = MemoryStore::new(alloc);
+    let replica = Replica::open(alloc, 0, opening.directory, opening.columns, store)?;
+    Ok(Box::new(alloc, replica)?)
+}
+
+/// The frames of so many entries behind a length of the log: cents for the customers in turn.
+pub(crate) fn entry_frames(
+    alloc: Global,
+    directory: &Directory,
+    before: u32,
+    entries: u32,
+) -> Result<Vec<u8>, Fault> {
+    let mut frames = Vec::new(alloc);
+    for entry in 0..entries {
+        let number = u64::from(before) + u64::from(entry) + 1;
+        push_entry(directory, number, &mut frames)?;
+    }
+    Ok(frames)
+}
+
+// The frame of the entry with this number.
+fn push_entry(directory: &Directory, number: u64, frames: &mut Vec<u8>) -> Result<(), Fault> {
+    let customers = directory.len() as u64;
+    let place = (number.wrapping_mul(APART))
+        .checked_rem(customers)
+        .ok_or(Fault::Bank)?;
+    let name = directory.name(place as u32).ok_or(Fault::Bank)?;
+    let cent = Cents::new(1).ok_or(Fault::Bank)?;
+    let call = Call::DepositChecking(name, cent);
+    frames.extend_from_slice(encode(&Frame::Entry { number, call }).as_slice())?;
+    Ok(())
+}
+
+/// A replica hears frames, and carries all entries out in place.
+pub(crate) fn hear_all(
+    alloc: Global,
+    replica: &mut Replica<MemoryStore>,
+    frames: &[u8],
+) -> Result<(), Fault> {
+    let mut stream = Stream::new(alloc);
+    for message in frames.chunks(MESSAGE) {
+        stream.feed(message)?;
+        hear_message(replica, &mut stream)?;
+    }
+    drain(replica, &mut InlineCrew)?;
+    Ok(())
+}
+
+// It hears all whole frames of a stream. Where too much is unfinished, all is carried out.
+fn hear_message(replica: &mut Replica<MemoryStore>, stream: &mut Stream) -> Result<(), Fault> {
+    // The checker goes through what a frame is made of, and has to be told the types.
+    let _parts: Option<(Call, WireReply, AskOutcome)> = None;
+    // A message has fewer entries than bytes.
+    for _ in 0..MESSAGE {
+        match replica.hear_stream(stream)? {
+            Pause::Short => return Ok(()),
+            Pause::Busy => drain(replica, &mut InlineCrew)?,
+            Pause::Other(_) => return Err(Fault::Unfinished),
+        }
+    }
+    Err(Fault::Unfinished)
+}
+
+/// Where a replica is in the end, and how long that took.
+pub(crate) fn measured(replica: &Replica<MemoryStore>, time: Duration) -> Result<Measured, Fault> {
+    let columns = replica.settled_columns().ok_or(Fault::Unfinished)?;
+    Ok(Measured {
+        length: replica.length(),
+        sum: bank_total(columns),
+        time,
+    })
+}
