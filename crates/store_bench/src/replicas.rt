@@ -78,7 +78,7 @@ pub(crate) fn hear_all(
 // It hears all whole frames of a stream. Where too much is unfinished, all is carried out.
 fn hear_message(replica: &mut Replica<MemoryStore>, stream: &mut Stream) -> Result<(), Fault> {
     // The checker goes through what a frame is made of, and has to be told the types.
-    let _parts: Option<(Call, WireReply, AskOutcome)> = None;
+    let _parts: Option<(Frame, Call, WireReply, AskOutcome)> = None;
     // A message has fewer entries than bytes.
     for _ in 0..MESSAGE {
         match replica.hear_stream(stream)? {
