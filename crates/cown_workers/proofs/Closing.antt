@@ -1,5 +1,5 @@
 -- A crew's bench, once it is closed.
-use Rattle.std.proofs.Common.{◌≡◌, ℕ, ◌+◌, ◌≤◌, Option, Some, None, List, [], ◌∷◌, ◌++◌, length, map, replicate, sym, ap, ◌∙◌, subst, arith}
+use Rattle.std.proofs.Common.{◌≡◌, ℕ, ◌+◌, ◌≤◌, Option, Some, None, List, [], ◌∷◌, ◌++◌, length, map, replicate, sym, ap, ◌∙◌, append_assoc, subst, arith}
 use Rattle.std.specs.Prelude.{◌==◌, IfSome, count_by}
 use Rattle.std.specs.List.{All}
 use Rattle.std.specs.Option.{option_to_list}
@@ -29,6 +29,16 @@ pub one_more_alike : {A B X : Type 0} (f : A → X) (g : B → X) (xs : List A) 
     → map f (xs ++ x ∷ []) ≡ map g (ys ++ y ∷ [])
 one_more_alike f g xs ys x y same here =
     map-append f xs (x ∷ []) ∙ ap (λ l. l ++ f x ∷ []) same ∙ ap (λ z. map g ys ++ z ∷ []) here ∙ sym (map-append g ys (y ∷ []))
+
+-- one more was taken off a list, and one more put behind another
+module _ {A : Type 0} where
+  pub one_more_taken : (before rest left : List A) (x : A) (all : List A) → left ≡ x ∷ rest → before ++ left ≡ all
+      → (before ++ x ∷ []) ++ rest ≡ all
+  one_more_taken before rest left x all first whole =
+      append_assoc before (x ∷ []) rest ∙ ap (λ l. before ++ l) (sym first) ∙ whole
+
+  pub one_more_put : (front more old new : List A) (x : A) → new ≡ old ++ x ∷ [] → old ≡ front ++ more → new ≡ front ++ (more ++ x ∷ [])
+  one_more_put front more old new x put whole = put ∙ ap (λ l. l ++ x ∷ []) whole ∙ append_assoc front more (x ∷ [])
 
 -- the owner's pass and the workers' are of the bench
 pub passes_here : (bench : BenchId) (hands : Option WorkerOf) (workers passes : List WorkerOf) → passes ≡ option_to_list hands ++ workers
