@@ -46,7 +46,7 @@ fn open_nodes(
 }
 
 impl World {
-    /// A bank at its opening, with an empty log: at most eight replicas, each with 1 to 16 workers and an empty store.
+    /// A bank at its opening, with an empty log: at most sixteen replicas, each with 1 to 16 workers and an empty store.
     ///
     /// Fails where memory is refused.
     pub fn open(
