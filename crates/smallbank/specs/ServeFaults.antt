@@ -26,6 +26,12 @@ IsPortFault port (Run fault) = IsDeviceFault fault
 IsPortFault port (PortTaken taken) = taken ≡ port
 IsPortFault port other = ⊥
 
+-- memory was refused, or the store takes nothing, where there is one
+abbrev pub IsStoreFault : Bool → ServeFault → Type 0
+IsStoreFault stores (Run fault) = fault ≡ OutOfMemory
+IsStoreFault stores Store = stores ≡ true
+IsStoreFault stores other = ⊥
+
 -- the crew is gone, a device failed, or memory was refused
 abbrev pub IsKeepRunFault : RunFault → Type 0
 IsKeepRunFault (Input line fault) = ⊥

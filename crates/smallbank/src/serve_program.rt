@@ -2,7 +2,7 @@
 ghost use Rattle.std.specs.Prelude.{◌≡◌, ◌≤◌, None, false, is_some, IfErr, IfOk};
 ghost use Rattle.bank_server.specs.Faults.{BlamesText};
 ghost use Rattle.smallbank.specs.Opening.{whole_opening_of};
-ghost use Rattle.smallbank.specs.ServeFaults.{IsProgramFault};
+ghost use Rattle.smallbank.specs.ServeFaults.{IsProgramFault, IsStoreFault};
 
 use crate::door::ListenerDoor;
 use crate::listening::listen;
@@ -11,7 +11,7 @@ use crate::serve_fault::ServeFault;
 use crate::serving::{Plan, serve};
 use bank_server::RunFault;
 use cown_bench::WORKERS;
-use sb_checkpoint::{CheckpointStore, FileStore, FileWithSpare, FolderFile, MemoryStore};
+use sb_checkpoint::{CheckpointStore, FileStore, FileWithSpare, FolderFile};
 use sb_rows::Opening;
 use sb_sequencer::REPLICAS;
 use sb_text::read_all;
@@ -46,13 +46,11 @@ where
     let input = read_all(alloc, &mut rt.stdin())?;
     let opening = boxed_opening(alloc, &input)?;
     drop(input);
-    match folder {
-        Some(folder) => {
-            let store = store_in(FolderFile::new(alloc, *rt, folder, CHECKPOINT)?)?;
-            serve_at(rt, threads, port, opening, store, plan)
-        }
-        None => serve_at(rt, threads, port, opening, MemoryStore::new(alloc), plan),
-    }
+    let store = store_of(rt, folder)?;
+    // Without a folder nothing is saved.
+    let mut plan = plan;
+    plan.saves = plan.saves && folder.is_some();
+    serve_at(rt, threads, port, opening, store, plan)
 }
 
 // A whole opening text, read as by `whole_opening`.
@@ -61,6 +59,21 @@ fn boxed_opening(alloc: Global, input: &[u8]) -> Result<Box<Opening>, RunFault>
 {
     let opening = whole_opening(alloc, input)?;
     Ok(Box::new(alloc, opening)?)
+}
+
+// A store in this folder, which can be written. Without a folder it is one that nothing is asked of, so that a bank is
+// served over one type of store.
+fn store_of(
+    rt: &HostRuntime,
+    folder: Option<&str>,
+) -> Result<FileStore<FolderFile<HostRuntime>>, ServeFault>
+    ensures fault { IfErr result (IsStoreFault (is_some folder.entry)) }
+{
+    let file = FolderFile::new(rt.alloc(), *rt, folder.unwrap_or("."), CHECKPOINT)?;
+    if folder.is_none() {
+        return Ok(FileStore::new(file));
+    }
+    store_in(file)
 }
 
 // A store in a file, which can be written.
