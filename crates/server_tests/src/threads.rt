@@ -36,7 +36,8 @@ fn threads<R: Files + Alloc>(rt: &R) -> Option<u64> {
     rest.lines().next()?.trim().parse().ok()
 }
 
-// Runs a call by one worker with sixteen nodes. Node 0's own thread is there meanwhile, and one for each follower.
+// Runs a call by one worker with sixteen nodes. Meanwhile node 0's own thread is there, the worker's, and one for each
+// follower.
 fn expect_threads(
     rt: &(impl Abort + Threads + Wait + Clock + Sync),
     alloc: Global,
@@ -53,8 +54,8 @@ fn expect_threads(
     expect(rt, ended == Ok(()), "how it ends");
     expect(
         rt,
-        gate.threads.load(Ordering::SeqCst) >= 16,
-        "a thread for each node",
+        gate.threads.load(Ordering::SeqCst) >= 17,
+        "a thread for each node and for the worker",
     );
 }
 

@@ -1,7 +1,7 @@
 //! States: the checkpoint of one replica, adopted by another.
 use super::marks::{AFTER_A_DEPOSIT, AFTER_FIVE_CALLS};
 use super::*;
-use crate::checkpoints::{CHECKING, HEAD, SAVINGS, TOTAL};
+use crate::checkpoints::{CHECKING, HEAD, REPLIES, SAVINGS, TOTAL};
 
 // The first 120 bytes of the checkpoint after five calls.
 const SHORT: [&str; 5] = [
@@ -10,6 +10,18 @@ const SHORT: [&str; 5] = [
     CHECKING,
     TOTAL,
     "00 0000000000003a98 01 0000000000000000 01 0000000000000000 01 0000000000000000 01 00000000000000",
+];
+
+// The checkpoint after five calls, a cent off.
+const A_CENT_OFF: [&str; 5] = [HEAD, SAVINGS, CHECKING, "00000000000009c5", REPLIES];
+
+// The same, but its first reply is none.
+const NO_REPLY: [&str; 5] = [
+    HEAD,
+    SAVINGS,
+    CHECKING,
+    TOTAL,
+    "08 0000000000000000 01 0000000000000000 01 0000000000000000 01 0000000000000000 01 0000000000000000",
 ];
 
 // The checkpoint of a bank without customers.
@@ -88,6 +100,14 @@ fn a_state_that_is_not_adopted_changes_nothing(rt: HostRuntime) {
                 Err(AdoptFault::BadCheckpoint(CheckpointFault::WrongCustomers)),
             ),
             Step::Adopt(&[], Err(AdoptFault::BadCheckpoint(CheckpointFault::Short))),
+            Step::Adopt(
+                &A_CENT_OFF,
+                Err(AdoptFault::BadCheckpoint(CheckpointFault::WrongTotal)),
+            ),
+            Step::Adopt(
+                &NO_REPLY,
+                Err(AdoptFault::BadCheckpoint(CheckpointFault::BadReply)),
+            ),
             Step::Adopt(&AFTER_A_DEPOSIT, Ok(Adopted::Behind(1))),
             Step::Length(1),
             Step::Cut(Err(CutFault::Pending(1))),
@@ -174,4 +194,10 @@ fn stored_bytes_that_are_no_state(rt: HostRuntime) {
             &[Step::KeepsNone(RestartFault::BadCheckpoint(fault))],
         );
     }
+    let fault = RestartFault::BadCheckpoint(CheckpointFault::WrongTotal);
+    plays_over(
+        &rt,
+        Some(&bytes(&rt, &A_CENT_OFF)),
+        &[Step::KeepsNone(fault)],
+    );
 }
