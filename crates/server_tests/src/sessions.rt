@@ -116,33 +116,50 @@ fn asks_that_no_flush_follows(rt: HostRuntime) {
     expect_sessions(&rt, rt.alloc(), NO_FLUSH_FOLLOWS, 2);
 }
 
-// A session that sends a frame that no client sends, after asks; and the next one, whose ask was numbered before.
-fn expect_unexpected(
-    rt: &(impl Abort + Threads + Wait + Clock + Sync),
-    alloc: Global,
-    frame: &[u8],
-) {
-    let sent = [BALANCE, FLUSH, DEPOSIT, frame, FLUSH];
-    let sessions = [
-        Session {
-            sent: &sent,
-            ends: Err(SessionFault::Unexpected),
-            told: &[SHOWN],
-        },
-        Session {
-            sent: &[DEPOSIT, FLUSH],
-            ends: Ok(()),
-            told: &[DONE],
-        },
-    ];
-    expect_sessions(rt, alloc, &sessions, 2);
-}
+const AN_ENTRY: &[Session] = &[
+    Session {
+        sent: &[BALANCE, FLUSH, DEPOSIT, ENTRY, FLUSH],
+        ends: Err(SessionFault::Unexpected),
+        told: &[SHOWN],
+    },
+    Session {
+        sent: &[DEPOSIT, FLUSH],
+        ends: Ok(()),
+        told: &[DONE],
+    },
+];
+
+const AN_OUTCOME: &[Session] = &[
+    Session {
+        sent: &[BALANCE, FLUSH, DEPOSIT, DONE, FLUSH],
+        ends: Err(SessionFault::Unexpected),
+        told: &[SHOWN],
+    },
+    Session {
+        sent: &[DEPOSIT, FLUSH],
+        ends: Ok(()),
+        told: &[DONE],
+    },
+];
+
+const A_CHECKPOINTS_LENGTH: &[Session] = &[
+    Session {
+        sent: &[BALANCE, FLUSH, DEPOSIT, HAVE, FLUSH],
+        ends: Err(SessionFault::Unexpected),
+        told: &[SHOWN],
+    },
+    Session {
+        sent: &[DEPOSIT, FLUSH],
+        ends: Ok(()),
+        told: &[DONE],
+    },
+];
 
 #[test]
 fn frames_that_no_client_sends(rt: HostRuntime) {
-    for frame in [ENTRY, DONE, HAVE] {
-        expect_unexpected(&rt, rt.alloc(), frame);
-    }
+    expect_sessions(&rt, rt.alloc(), AN_ENTRY, 2);
+    expect_sessions(&rt, rt.alloc(), AN_OUTCOME, 2);
+    expect_sessions(&rt, rt.alloc(), A_CHECKPOINTS_LENGTH, 2);
 }
 
 const NO_FRAME: &[Session] = &[
