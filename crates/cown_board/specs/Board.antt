@@ -55,6 +55,7 @@ module _ {B : Type 0} (touches : B → List ℕ) (effect : B → List ℤ → Re
     pub behaviour : slice_get board.log place ≡ Some done.behaviour
     pub inputs : done.inputs ≡ inputs_at board place done.behaviour
 
+  -- what is handed in is that of a behaviour that is out, on the inputs that it was handed out with
   abbrev pub IsOutHere : BoardOf B → DoneOf B → Type 0
   IsOutHere board done = (place : ℕ) × IsOutAt board done place
 

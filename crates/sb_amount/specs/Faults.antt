@@ -3,6 +3,7 @@ use Rattle.std.specs.Prelude.{ℕ}
 use Rattle.sb_amount.specs.declared.fault.MoneyFault.{MoneyFault}
 use Rattle.sb_amount.specs.declared.fault.MoneyFault.TheVariants.{Empty, NotDigit, BadDecimals, NotCanonical, TooLarge}
 
+-- the number of a fault of a money text
 abbrev pub money_fault_number : MoneyFault → ℕ
 money_fault_number Empty = 1
 money_fault_number NotDigit = 2

@@ -57,5 +57,6 @@ abbrev pub unless_fault : {A E : Type 0} → Option E → A → Result A E
 unless_fault None value = Ok value
 unless_fault (Some fault) value = Err fault
 
+-- the amount that a text says, or its first fault
 abbrev pub read_money : List ℕ → Result ℤ MoneyFault
 read_money text = unless_fault (money_fault text) (amount_of text)

@@ -20,6 +20,7 @@ abbrev pub key_text : Option Key → List ℕ
 key_text None = []
 key_text (Some key) = codes "ask " ++ (decimal key.client ++ (32 ∷ (decimal key.request ++ 32 ∷ [])))
 
+-- how a line that asks is spelled
 abbrev pub ask_line : Asked → List ℕ
 ask_line asked = key_text asked.key ++ call_line asked.call
 
@@ -28,6 +29,7 @@ abbrev pub IsKey : Option Key → Type 0
 IsKey None = Unit {0}
 IsKey (Some key) = (1 ≤ key.client) × (key.client < 2 ^ 32) × (key.request < 2 ^ 32)
 
+-- the key is one that a client may send, and the call is one that has a spelling
 abbrev pub IsAsked : Asked → Type 0
 IsAsked asked = IsKey asked.key × IsCall asked.call
 

@@ -17,6 +17,7 @@ cowns_of_two from to =
     else if nat_lt from to then savings_cown from ∷ checking_cown from ∷ checking_cown to ∷ []
     else checking_cown to ∷ savings_cown from ∷ checking_cown from ∷ []
 
+-- the cowns that an op declares, in rising order
 abbrev pub declared_cowns : Op → List ℕ
 declared_cowns (Balance place) = savings_cown place ∷ checking_cown place ∷ []
 declared_cowns (DepositChecking place amount) = checking_cown place ∷ []
@@ -85,6 +86,7 @@ effect_of_two from to held =
     else if nat_lt from to then of_three giver_first_effect held
     else of_three taker_first_effect held
 
+-- what an op replies, and what its cowns hold after it, where they held these values
 abbrev pub effect_of : Op → List ℤ → Reply × List ℤ
 effect_of (Balance place) held =
     of_two (λ savings checking. (replies.Shown (savings +ℤ checking), savings ∷ checking ∷ [])) held

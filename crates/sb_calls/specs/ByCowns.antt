@@ -45,6 +45,7 @@ pub record RunsAsCalls (directory : List (List ℕ)) (b : Balances) (calls : Lis
       × (held_of after ≡ held_after_first declared_cowns effect_of (held_of b) (map (resolved directory) calls) k)
       × (rows_of directory after ≡ rows_after_calls (rows_of directory b) calls k)
 
+-- whole logs, run over cowns, are the logs of the procedures on the rows
 abbrev pub LogsByCowns : Type 0
 LogsByCowns = (directory : List (List ℕ)) (b : Balances) (calls : List Call) → SameCustomers directory b
     → RunsAsCalls directory b calls

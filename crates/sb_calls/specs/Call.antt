@@ -14,6 +14,7 @@ use Rattle.sb_calls.specs.declared.text.fault.CallFault.TheVariants.{UnknownVerb
 
 -- ---- how it is spelled
 
+-- how a call is spelled
 abbrev pub call_line : Call → List ℕ
 call_line (Balance name) = codes "balance " ++ name
 call_line (DepositChecking name amount) = codes "deposit " ++ (name ++ (32 ∷ money amount))
@@ -57,6 +58,7 @@ of_two_names call [] = Err WrongWords
 of_two_names call (a ∷ []) = Err WrongWords
 of_two_names call (a ∷ b ∷ c ∷ more) = Err WrongWords
 
+-- the call that the words of a line spell, or their first fault
 abbrev pub call_of_words : List (List ℕ) → Result Call CallFault
 call_of_words [] = Err UnknownVerb
 call_of_words (verb ∷ rest) =

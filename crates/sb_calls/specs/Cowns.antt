@@ -4,9 +4,11 @@ use Rattle.std.specs.Prelude.{◌≡◌, ℕ, ◌<◌, ◌*◌, ◌+◌, ◌%◌
 use Rattle.sb_amount.specs.Limit.{IsWithinLimit}
 use Rattle.sb_rows.specs.Balances.{Balances}
 
+-- the cown of the savings balance of the customer at this place
 abbrev pub savings_cown : ℕ → ℕ
 savings_cown place = 2 * place
 
+-- the cown of the checking balance of the customer at this place
 abbrev pub checking_cown : ℕ → ℕ
 checking_cown place = 2 * place + 1
 
@@ -43,6 +45,7 @@ by_cown [] checking = []
 by_cown (s ∷ savings) [] = []
 by_cown (s ∷ savings) (c ∷ checking) = s ∷ c ∷ by_cown savings checking
 
+-- what all cowns hold where the bank has these balances
 unfoldable pub held_of : Balances → List ℤ
 held_of balances = by_cown balances.savings balances.checking
 

@@ -3,6 +3,7 @@ use Rattle.std.specs.Prelude.{ℕ}
 use Rattle.sb_calls.specs.declared.text.fault.CallFault.{CallFault}
 use Rattle.sb_calls.specs.declared.text.fault.CallFault.TheVariants.{UnknownVerb, WrongWords, BadName, BadMoney, BadNumber}
 
+-- the number of a line's fault
 abbrev pub call_fault_number : CallFault → ℕ
 call_fault_number UnknownVerb = 1
 call_fault_number WrongWords = 2

@@ -34,6 +34,7 @@ number_field w n = to_be_bytes w n
 abbrev pub amount_field : ℤ → List ℕ
 amount_field cents = number_field w64 (cast_unsigned w64 cents)
 
+-- a reply's code, by its kind
 abbrev pub reply_code : Reply → ℕ
 reply_code (Shown total) = 0
 reply_code Done = 1

@@ -4,6 +4,7 @@ use Rattle.sb_amount.specs.Money.{money}
 use Rattle.sb_calls.specs.declared.reply.Reply.{Reply}
 use Rattle.sb_calls.specs.declared.reply.Reply.TheVariants.{Shown, Done, Penalised, NoCustomer, SameCustomer, Negative, WouldOverdraw, OverLimit}
 
+-- a reply in words
 abbrev pub reply_text : Reply → List ℕ
 reply_text (Shown total) = codes "shown " ++ money total
 reply_text Done = codes "done"

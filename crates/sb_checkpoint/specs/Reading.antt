@@ -20,6 +20,7 @@ use Rattle.sb_checkpoint.specs.declared.fault.CheckpointFault.TheVariants.{BadMa
 abbrev pub amount_of : List ℕ → ℤ
 amount_of cells = cast_signed w64 (from_be_bytes w64 cells)
 
+-- how many replies the bytes say that they have
 unfoldable pub stated_length : List ℕ → ℕ
 stated_length bytes = from_be_bytes w64 (take 8 (drop 8 bytes))
 

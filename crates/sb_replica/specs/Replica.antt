@@ -23,6 +23,7 @@ pub record ReplicaOf (S : Type 0) : Type 0 where
 abbrev pub log_of : {S : Type 0} → ReplicaOf S → LogOf
 log_of replica = record { board = replica.board; held = replica.held }
 
+-- the replica with another log
 abbrev pub with_log : {S : Type 0} → ReplicaOf S → LogOf → ReplicaOf S
 with_log replica log = record replica { board = log.board; held = log.held }
 

@@ -51,5 +51,6 @@ abbrev pub after_held : LogOf → Option Op → LogOf
 after_held log None = log
 after_held log (Some op) = after_offer log op (next_offered log.board)
 
+-- the log once it took the next entry that it holds, if it holds that
 abbrev pub after_advance : LogOf → LogOf
 after_advance log = after_held log (next_held log)

@@ -10,9 +10,11 @@ pub record Customer : Type 0 where
   pub savings : ℤ
   pub checking : ℤ
 
+-- the names of customers, by place
 abbrev pub names_of : List Customer → List (List ℕ)
 names_of customers = map (λ c. c.name) customers
 
+-- the balances of customers, by place
 abbrev pub balances_of : List Customer → Balances
 balances_of customers = record { savings = map (λ c. c.savings) customers; checking = map (λ c. c.checking) customers }
 

@@ -5,6 +5,7 @@ use Rattle.sb_rows.specs.declared.fault.LineFault.TheVariants.{BadLine, BadName,
 use Rattle.sb_rows.specs.declared.fault.OpeningFault.{OpeningFault}
 use Rattle.sb_rows.specs.declared.fault.OpeningFault.TheVariants.{Line, OutOfMemory}
 
+-- the number of a fault of a line of an opening
 abbrev pub line_fault_number : LineFault → ℕ
 line_fault_number BadLine = 1
 line_fault_number BadName = 2
@@ -14,6 +15,7 @@ line_fault_number NegativeSavings = 5
 line_fault_number TooMany = 6
 line_fault_number NoBegin = 7
 
+-- the number of a fault of an opening: that of its line, or that of memory
 abbrev pub opening_fault_number : OpeningFault → ℕ
 opening_fault_number (Line line fault) = line_fault_number fault
 opening_fault_number OutOfMemory = 8

@@ -14,6 +14,7 @@ is_name_byte c = (nat_le 97 c && nat_le c 122) || (nat_le 48 c && nat_le c 57) |
 abbrev pub is_name : List ℕ → Bool
 is_name text = nat_le 1 (length text) && nat_le (length text) NAME_BYTES && list_all is_name_byte text
 
+-- the text is a name
 abbrev pub IsName : List ℕ → Type 0
 IsName text = IsTrue (is_name text)
 

@@ -18,6 +18,7 @@ counts s replica size = nat_lt replica (length s.recorded) && nat_le size (lengt
 
 -- ---- how much of the log a replica has
 
+-- how an acknowledgement is noted
 abbrev pub hears_ack : SequencerOf → ℕ → ℕ → AckNote
 hears_ack s replica size = if counts s replica size then acks.Recorded else acks.Odd
 
@@ -26,11 +27,13 @@ abbrev pub recording : SequencerOf → ℕ → ℕ → AckNote → SequencerOf
 recording s replica size acks.Recorded = record s { recorded = slice_set s.recorded replica size }
 recording s replica size acks.Odd = s
 
+-- the sequencer after an acknowledgement
 abbrev pub after_ack : SequencerOf → ℕ → ℕ → SequencerOf
 after_ack s replica size = recording s replica size (hears_ack s replica size)
 
 -- ---- the length of the checkpoint that a replica keeps
 
+-- how the length of a checkpoint is noted
 abbrev pub hears_have : SequencerOf → ℕ → ℕ → HaveNote
 hears_have s replica size = if counts s replica size then haves.Recorded else haves.Odd
 
@@ -39,6 +42,7 @@ abbrev pub recording_have : SequencerOf → ℕ → ℕ → HaveNote → Sequenc
 recording_have s replica size haves.Recorded = record s { checkpoints = slice_set s.checkpoints replica size }
 recording_have s replica size haves.Odd = s
 
+-- the sequencer after it heard how long a checkpoint is
 abbrev pub after_have : SequencerOf → ℕ → ℕ → SequencerOf
 after_have s replica size = recording_have s replica size (hears_have s replica size)
 

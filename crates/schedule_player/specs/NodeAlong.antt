@@ -25,6 +25,7 @@ use Rattle.schedule_text.specs.declared.note.Note.{Note}
 abbrev pub number_in : JobOf Op → ℕ
 number_in job = job.number
 
+-- a node as the machine sees it
 abbrev pub seen_node : Node → NodeOf
 seen_node node = record {
   stages = stages_of node.replica.board;

@@ -1,6 +1,7 @@
 -- Lists whose items are counted from 1.
 use Rattle.std.specs.Prelude.{◌≡◌, ℕ, zero, suc, Option, Some, None, List, [], ◌∷◌, slice_get, slice_set}
 
+-- the item with this number, counted from 1
 abbrev pub numbered : {A : Type 0} → List A → ℕ → Option A
 numbered items zero = None
 numbered items (suc k) = slice_get items k

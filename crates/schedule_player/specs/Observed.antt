@@ -14,6 +14,7 @@ abbrev pub idle_if : Option NodeOf → Bool
 idle_if (Some node) = undone_in node == 0
 idle_if None = false
 
+-- whether a replica has finished all that it accepted
 abbrev pub idle_at : WorldOf → ℕ → Bool
 idle_at world r = idle_if (slice_get world.nodes r)
 

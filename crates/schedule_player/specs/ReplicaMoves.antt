@@ -84,6 +84,7 @@ abbrev pub frame_comes : NodeOf → Option Frame → NodeOf × Note
 frame_comes node (Some (frame.Entry number call)) = entry_comes node number
 frame_comes node other = (node, note.Nothing)
 
+-- the frame at this place of those sent to it comes
 abbrev pub delivered_to : NodeOf → ℕ → NodeOf × Note
 delivered_to node place = frame_comes node (numbered node.inbound place)
 
@@ -178,6 +179,7 @@ marked node how = marked_to node how node.cut
 abbrev pub begun_at : NodeOf → ℕ → NodeOf
 begun_at node size = record node { stages = copies size IsDone; cut = None; held = none_held }
 
+-- it begins anew at the length that it keeps
 abbrev pub restarted : NodeOf → NodeOf × Note
 restarted node = (begun_at node node.kept, note.Restarted node.kept)
 
@@ -190,6 +192,7 @@ state_comes node (Some size) =
     else (begun_at node size, note.Adopted size)
 state_comes node None = (node, note.Nothing)
 
+-- the state at this place of those sent to it comes
 abbrev pub adopted : NodeOf → ℕ → NodeOf × Note
 adopted node place = state_comes node (numbered node.states place)
 
@@ -199,6 +202,7 @@ abbrev pub tells : NodeOf → Frame → NodeOf × Note
 tells node told =
     (record node { outbound = node.outbound ++ told ∷ [] }, note.Sent (suc (length node.outbound)))
 
+-- it tells how long its log is
 abbrev pub acknowledged : NodeOf → ℕ → NodeOf × Note
 acknowledged node replica = tells node (frame.Ack replica (length_in node))
 
@@ -218,16 +222,19 @@ reply_held bank number other = None
 abbrev pub reply_in_node : BankOf → NodeOf → ℕ → Option Reply
 reply_in_node bank node number = reply_held bank number (numbered node.stages number)
 
+-- it tells its reply to a number, where it holds one
 abbrev pub answered : BankOf → NodeOf → ℕ → NodeOf × Note
 answered bank node number = told_reply node number (reply_in_node bank node number)
 
 -- ---- an entry is sent to it, and a state
 
+-- a frame is sent to it, where there is one
 abbrev pub sent : NodeOf → Option Frame → NodeOf × Note
 sent node (Some entry) =
     (record node { inbound = node.inbound ++ entry ∷ [] }, note.Sent (suc (length node.inbound)))
 sent node None = (node, note.Nothing)
 
+-- frames are sent to it
 abbrev pub sent_all : NodeOf → List Frame → NodeOf × Note
 sent_all node entries = (record node { inbound = node.inbound ++ entries }, note.Resent (length entries))
 

@@ -27,6 +27,7 @@ WritesNothing (Input line fault) old new = Keeps old new
 WritesNothing Device old new = Unit {0}
 WritesNothing OutOfMemory old new = Unit {0}
 
+-- the number of a schedule's fault
 abbrev pub schedule_fault_number : ScheduleFault → ℕ
 schedule_fault_number (Input line fault) = 1
 schedule_fault_number Device = 2

@@ -30,6 +30,7 @@ abbrev pub workers_if : Option NodeOf → ℕ
 workers_if (Some node) = length node.hands
 workers_if None = 0
 
+-- how many workers a replica has
 abbrev pub workers_at : WorldOf → ℕ → ℕ
 workers_at world r = workers_if (slice_get world.nodes r)
 
@@ -37,6 +38,7 @@ abbrev pub undone_if : Option NodeOf → ℕ
 undone_if (Some node) = undone_in node
 undone_if None = 0
 
+-- how many entries a replica has accepted and not finished
 abbrev pub undone_at : WorldOf → ℕ → ℕ
 undone_at world r = undone_if (slice_get world.nodes r)
 

@@ -32,6 +32,7 @@ pub record WorldOf : Type 0 where
   pub sequencer : SequencerOf
   pub nodes : List NodeOf
 
+-- the bank with this log
 abbrev pub bank_with : List (List ℕ) → Balances → List (Key × Call) → BankOf
 bank_with names opening log = record { names = names; opening = opening; calls = map (λ entry. entry.1) log }
 

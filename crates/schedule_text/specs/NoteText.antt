@@ -21,6 +21,7 @@ audit_line (audit.Differ column place) = codes "differ " ++ (column_text column 
 audit_line (audit.OffBooks total expected) = codes "off books " ++ (money total ++ (32 ∷ money expected))
 audit_line (audit.Same total overdrawn) = codes "same " ++ (money total ++ (32 ∷ decimal overdrawn))
 
+-- how a note is spelled
 abbrev pub note_line : Note → List ℕ
 note_line (note.New number) = codes "new " ++ decimal number
 note_line (note.Repeat number) = codes "repeat " ++ decimal number

@@ -49,6 +49,7 @@ abbrev pub IsServingRunFault : ℕ → RunFault → Type 0
 IsServingRunFault nodes (Strayed node) = (1 ≤ node) × (node < nodes)
 IsServingRunFault nodes other = IsKeepRunFault other
 
+-- a served bank of so many nodes, with a store or without one, may end with this fault
 abbrev pub IsServingFault : ℕ → Bool → ServeFault → Type 0
 IsServingFault nodes saves (Run fault) = IsServingRunFault nodes fault
 IsServingFault nodes saves other = IsKeepFault saves other
