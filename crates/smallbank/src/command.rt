@@ -5,9 +5,9 @@ use std::alloc::{AllocError, Global};
 const RUN: &str = "Runs calls from standard input.
 
 Reads an opening, which is a line `NAME SAVINGS CHECKING` a customer and then the line `begin`, and
-after it a call a line: `balance N`, `deposit N V`, `savings N V`, `check N V`, `amalgamate N1 N2`.
-Writes a line for each call, the rows of all customers, and the total. What is written is the same
-whatever the nodes and workers.";
+after it a call a line: `balance N`, `deposit N V`, `savings N V`, `check N V`, `amalgamate N1 N2`,
+`pay N1 N2 V`. Writes a line for each call, the rows of all customers, and the total. What is written
+is the same whatever the nodes and workers.";
 
 const EXAMPLE: &str = "Example:
   printf 'alice 100.00 50.00\\nbegin\\ndeposit alice 1.00\\n' | smallbank run --nodes 2
