@@ -18,7 +18,7 @@ ASK = struct.Struct(">BII")  # tag, client, request
 OUTCOME = struct.Struct(">HBIIBBq")  # length, tag, client, request, status, code, total
 # A call is its kind, one byte, then its names N and its amount V.
 CALLS = {b"balance": (1, "N"), b"deposit": (2, "NV"), b"savings": (3, "NV"), b"amalgamate": (4, "NN"),
-         b"check": (5, "NV")}
+         b"check": (5, "NV"), b"pay": (6, "NNV")}
 # What an Outcome's status and code say. Its total is 0 but for `shown`.
 WORDS = {(0, 0): "shown", (0, 1): "done", (0, 2): "penalised", (0, 3): "no customer", (0, 4): "same customer",
          (0, 5): "negative", (0, 6): "would overdraw", (0, 7): "over limit", (1, 0): "mismatch", (2, 0): "log full"}

@@ -36,10 +36,10 @@ const OPENING_LINES: [&str; 28] = [
 ];
 
 // Lines that no call may have.
-const CALL_LINES: [&str; 38] = [
+const CALL_LINES: [&str; 45] = [
     "",
     " ",
-    "pay customer_0 1.00",
+    "paid customer_0 customer_1 1.00",
     "Balance customer_0",
     "balance",
     "balance ",
@@ -60,6 +60,13 @@ const CALL_LINES: [&str; 38] = [
     "amalgamate customer_0",
     "amalgamate customer_0 Customer_1",
     "amalgamate customer_0 customer_1 customer_2",
+    "pay customer_0 customer_1",
+    "pay customer_0 1.00",
+    "pay customer_0 customer_1 1.00 1.00",
+    "pay customer_0 Customer_1 1",
+    "pay customer_0  1.00",
+    "pay customer_0 customer_1 1",
+    "pay customer_0 customer_1 -0.00",
     "ask",
     "ask 1",
     "ask x",
@@ -72,7 +79,7 @@ const CALL_LINES: [&str; 38] = [
     "ask 1 99999999999999999999999 balance customer_0",
     "ask -1 1 balance customer_0",
     "ask 1  balance customer_0",
-    "ask 1 1 pay customer_0",
+    "ask 1 1 paid customer_0",
     "ask 1 1 balance customer_0 x",
     "ask 1 1 ask 1 1 balance customer_0",
 ];
@@ -94,6 +101,7 @@ fn small(seed: u64) -> Vec<u8> {
         asked: 50,
         repeated: 50,
         changed: 50,
+        mix: [25, 20, 20, 15, 5, 15],
         ..Workload::new(seed, customers, 20)
     }
     .write(&mut text)

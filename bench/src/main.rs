@@ -31,10 +31,10 @@ type Maker = fn(u64, u32, u32) -> Workload;
 
 // Which calls each row of the table has, how they are made, and its customers and lines.
 const ROWS: [(&str, Maker, u32, u32); 6] = [
-    ("of all kinds", Workload::new, 20_000, 1_000),
-    ("of all kinds", Workload::new, 20_000, 100_000),
-    ("of all kinds", Workload::new, 20_000, 900_000),
-    ("of all kinds", Workload::new, 65_536, 1_000),
+    ("of five kinds", Workload::new, 20_000, 1_000),
+    ("of five kinds", Workload::new, 20_000, 100_000),
+    ("of five kinds", Workload::new, 20_000, 900_000),
+    ("of five kinds", Workload::new, 65_536, 1_000),
     ("of one customer", Workload::one_customer, 20_000, 900_000),
     ("amalgamates", Workload::amalgamates, 1_000, 900_000),
 ];

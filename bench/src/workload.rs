@@ -12,8 +12,8 @@ pub struct Workload {
     pub customers: u32,
     /// Lines after the opening.
     pub lines: u32,
-    /// How often each call comes beside the others: balance, deposit, savings, check, amalgamate.
-    pub mix: [u32; 5],
+    /// How often each call comes beside the others: balance, deposit, savings, check, amalgamate, pay.
+    pub mix: [u32; 6],
     /// Of 100 lines, how many have a key.
     pub asked: u32,
     /// Of 100 lines with a key, how many repeat one.
@@ -33,13 +33,14 @@ struct Ask {
 }
 
 impl Workload {
-    /// Calls of all kinds, half of them of a few customers.
+    /// Calls of the five first kinds, half of them of a few customers. What is measured has no payments, so that it can be
+    /// compared with what was measured before there were any.
     pub fn new(seed: u64, customers: u32, lines: u32) -> Self {
         Workload {
             seed,
             customers,
             lines,
-            mix: [30, 25, 20, 20, 5],
+            mix: [30, 25, 20, 20, 5, 0],
             asked: 30,
             repeated: 10,
             changed: 10,
@@ -48,7 +49,7 @@ impl Workload {
         }
     }
 
-    /// Calls of all kinds, each of one customer.
+    /// The same kinds, each call of one customer.
     pub fn one_customer(seed: u64, customers: u32, lines: u32) -> Self {
         Workload {
             hot: 1,
@@ -60,7 +61,7 @@ impl Workload {
     /// Amalgamates alone, half of them of a few customers.
     pub fn amalgamates(seed: u64, customers: u32, lines: u32) -> Self {
         Workload {
-            mix: [0, 0, 0, 0, 1],
+            mix: [0, 0, 0, 0, 1, 0],
             ..Workload::new(seed, customers, lines)
         }
     }
@@ -140,7 +141,8 @@ impl Workload {
             Some(2) if random.percent(50) => format!("savings {customer} -{amount}"),
             Some(2) => format!("savings {customer} {amount}"),
             Some(3) => format!("check {customer} {amount}"),
-            _ => format!("amalgamate {customer} {}", self.customer(random)),
+            Some(4) => format!("amalgamate {customer} {}", self.customer(random)),
+            _ => format!("pay {customer} {} {amount}", self.customer(random)),
         }
     }
 }

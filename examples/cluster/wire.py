@@ -10,7 +10,7 @@ sys.path.insert(0, str(pathlib.Path(__file__).resolve().parents[1]))
 import client  # noqa: E402
 
 FLUSH = client.frame(bytes([client.TAG_FLUSH]))
-# A batch is at most so many Asks. The longest Ask has 54 bytes and an Outcome 21, so a batch and its outcomes fit into the
+# A batch is at most so many Asks. The longest Ask has 62 bytes and an Outcome 21, so a batch and its outcomes fit into the
 # 1.5 MB that etcd takes as a value.
 MOST_ASKS = 20_000
 LONGEST_BODY = 64
@@ -18,7 +18,7 @@ HEAD_OF_ASK = struct.Struct(">HBII")  # length, tag, client, request
 GOOD_OUTCOMES = {(client.OUTCOME.size - 2, client.TAG_OUTCOME, status, code) for status, code in client.WORDS}
 VERBS = {kind: (verb, fields) for verb, (kind, fields) in client.CALLS.items()}
 NAME = re.compile(rb"[a-z0-9_]{1,20}")
-MAGIC = b"SBCKPT01"
+MAGICS = {b"SBCKPT01": 1, b"SBCKPT02": 2}  # how many totals stand behind the balances: theirs, then that of the opening
 HEAD = struct.Struct(">8sQI")  # magic, how many replies, how many customers
 REPLY = struct.Struct(">Bq")  # code, total
 
@@ -139,7 +139,7 @@ def check_outcomes(outcomes: bytes, value: bytes) -> None:
 
 def checkpoint_length(checkpoint: bytes) -> int:
     """How many entries of the log a checkpoint is of. Bytes that begin as none are a ValueError."""
-    if len(checkpoint) < HEAD.size or not checkpoint.startswith(MAGIC):
+    if len(checkpoint) < HEAD.size or checkpoint[:8] not in MAGICS:
         raise ValueError("no checkpoint")
     return HEAD.unpack_from(checkpoint)[1]
 
@@ -147,9 +147,9 @@ def checkpoint_length(checkpoint: bytes) -> int:
 def read_checkpoint(checkpoint: bytes) -> Checkpoint:
     """What a checkpoint says. Bytes of another length than it states are a ValueError."""
     length, customers = checkpoint_length(checkpoint), HEAD.unpack_from(checkpoint)[2]
-    columns = struct.Struct(f">{customers}q{customers}qq")
+    columns = struct.Struct(f">{customers}q{customers}q{MAGICS[checkpoint[:8]]}q")
     if len(checkpoint) != HEAD.size + columns.size + length * REPLY.size:
         raise ValueError("no checkpoint: its length is wrong")
     cents = columns.unpack_from(checkpoint, HEAD.size)
     replies = tuple(REPLY.iter_unpack(checkpoint[HEAD.size + columns.size :]))
-    return Checkpoint(cents[:customers], cents[customers:-1], cents[-1], replies)
+    return Checkpoint(cents[:customers], cents[customers : 2 * customers], cents[2 * customers], replies)

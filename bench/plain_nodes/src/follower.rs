@@ -14,8 +14,8 @@ use std::thread::{Builder, Scope, ScopedJoinHandle};
 const MESSAGE: usize = 64 * 1024;
 // How many messages a follower may be behind.
 const MESSAGES: usize = 4;
-// The longest entry has two bytes of length and 52 of body.
-const FRAME: usize = 54;
+// The longest entry has two bytes of length and 60 of body.
+const FRAME: usize = 62;
 
 /// This follower couldn't be started, or isn't where node 0 is.
 pub struct Strayed(pub usize);

@@ -111,6 +111,7 @@ pub fn push_call(out: &mut Vec<u8>, call: &Call) {
         Call::Savings(name, amount) => (3, name, None, Some(amount)),
         Call::Amalgamate(from, to) => (4, from, Some(to), None),
         Call::Check(name, amount) => (5, name, None, Some(amount)),
+        Call::Pay(from, to, amount) => (6, from, Some(to), Some(amount)),
     };
     out.push(kind);
     push_name(out, name);
@@ -243,6 +244,7 @@ impl<'a> Fields<'a> {
             3 => Call::Savings(self.name()?, self.amount()?),
             4 => Call::Amalgamate(self.name()?, self.name()?),
             5 => Call::Check(self.name()?, self.amount()?),
+            6 => Call::Pay(self.name()?, self.name()?, self.amount()?),
             _ => return Err(FrameFault::UnknownTag),
         })
     }

@@ -19,6 +19,7 @@ pub enum Op {
     Savings(u32, i64),
     Check(u32, i64),
     Amalgamate(u32, u32),
+    Pay(u32, u32, i64),
     NoCustomer,
     SameCustomer,
 }
@@ -59,13 +60,10 @@ impl Op {
             Call::Deposit(name, amount) => place(name).map(|at| Op::Deposit(at, amount)),
             Call::Savings(name, amount) => place(name).map(|at| Op::Savings(at, amount)),
             Call::Check(name, amount) => place(name).map(|at| Op::Check(at, amount)),
-            Call::Amalgamate(from, to) => place(from).zip(place(to)).map(|(from, to)| {
-                if from == to {
-                    Op::SameCustomer
-                } else {
-                    Op::Amalgamate(from, to)
-                }
-            }),
+            Call::Amalgamate(from, to) => two_places(place(from), place(to), Op::Amalgamate),
+            Call::Pay(from, to, amount) => {
+                two_places(place(from), place(to), |from, to| Op::Pay(from, to, amount))
+            }
         };
         op.unwrap_or(Op::NoCustomer)
     }
@@ -76,6 +74,7 @@ impl Op {
             Op::Deposit(at, _) => Cowns::new([checking(at)]),
             Op::Savings(at, _) => Cowns::new([savings(at)]),
             Op::Amalgamate(from, to) => Cowns::new([savings(from), checking(from), checking(to)]),
+            Op::Pay(from, to, _) => Cowns::new([checking(from), checking(to)]),
             Op::NoCustomer | Op::SameCustomer => Cowns::new([]),
         }
     }
@@ -88,10 +87,22 @@ impl Op {
             Op::Savings(_, amount) => transact_savings(held, amount),
             Op::Check(_, amount) => write_check(held, amount),
             Op::Amalgamate(..) => amalgamate(held),
+            Op::Pay(_, _, amount) => pay(held, amount),
             Op::NoCustomer => (Reply::NoCustomer, held),
             Op::SameCustomer => (Reply::SameCustomer, held),
         }
     }
+}
+
+// The op of two customers, who must be two.
+fn two_places(from: Option<u32>, to: Option<u32>, op: impl FnOnce(u32, u32) -> Op) -> Option<Op> {
+    from.zip(to).map(|(from, to)| {
+        if from == to {
+            Op::SameCustomer
+        } else {
+            op(from, to)
+        }
+    })
 }
 
 fn deposit(held: Held, amount: i64) -> (Reply, Held) {
@@ -137,5 +148,18 @@ fn amalgamate(held: Held) -> (Reply, Held) {
         (Reply::OverLimit, held)
     } else {
         (Reply::Done, [0, 0, sum])
+    }
+}
+
+fn pay(held: Held, amount: i64) -> (Reply, Held) {
+    let [from, to, _] = held;
+    if amount < 0 {
+        (Reply::Negative, held)
+    } else if from < amount {
+        (Reply::WouldOverdraw, held)
+    } else if to + amount > LIMIT {
+        (Reply::OverLimit, held)
+    } else {
+        (Reply::Done, [from - amount, to + amount, 0])
     }
 }

@@ -10,7 +10,9 @@ const LIMIT: i64 = 1_000_000_000_000;
 const CUSTOMERS: usize = 65_536;
 const LOG_CALLS: usize = 1_000_000;
 
-const MAGIC: &[u8; 8] = b"SBCKPT01";
+// The first layout is only read. The second one has the opening total behind the total.
+const FIRST: &[u8; 8] = b"SBCKPT01";
+const SECOND: &[u8; 8] = b"SBCKPT02";
 const HEAD: usize = 20;
 const AMOUNT: usize = 8;
 const REPLY: usize = 9;
@@ -19,7 +21,10 @@ const REPLY: usize = 9;
 const SAVINGS: i64 = 100_025;
 const CHECKING: i64 = -20_075;
 
-#[derive(Clone, Copy)]
+// What the bank had at its opening.
+const OPENING_TOTAL: i64 = CUSTOMERS as i64 * (SAVINGS + CHECKING);
+
+#[derive(Clone, Copy, Debug, PartialEq, Eq)]
 enum Reply {
     Shown(i64),
     Done,
@@ -32,6 +37,7 @@ enum Reply {
 }
 
 /// What an idle replica has.
+#[derive(Debug, PartialEq, Eq)]
 struct Checkpoint {
     savings: Vec<i64>,
     checking: Vec<i64>,
@@ -39,7 +45,7 @@ struct Checkpoint {
 }
 
 /// Why bytes aren't taken as a checkpoint.
-#[derive(Debug, Clone, Copy)]
+#[derive(Debug, Clone, Copy, PartialEq, Eq)]
 enum Fault {
     BadMagic,
     Short,
@@ -47,6 +53,7 @@ enum Fault {
     OutOfRange,
     NegativeSavings,
     WrongTotal,
+    WrongOpening,
     BadReply,
     Long,
 }
@@ -60,6 +67,7 @@ impl fmt::Display for Fault {
             Fault::OutOfRange => "out of range",
             Fault::NegativeSavings => "negative savings",
             Fault::WrongTotal => "wrong total",
+            Fault::WrongOpening => "wrong opening",
             Fault::BadReply => "bad reply",
             Fault::Long => "long",
         })
@@ -85,18 +93,19 @@ fn total(checkpoint: &Checkpoint) -> i64 {
     checkpoint.savings.iter().sum::<i64>() + checkpoint.checking.iter().sum::<i64>()
 }
 
-fn write(checkpoint: &Checkpoint) -> Vec<u8> {
+fn write(checkpoint: &Checkpoint, opening_total: i64) -> Vec<u8> {
     let customers = checkpoint.savings.len();
     let replies = &checkpoint.replies;
-    let size = HEAD + AMOUNT * (2 * customers + 1) + REPLY * replies.len();
+    let size = HEAD + AMOUNT * (2 * customers + 2) + REPLY * replies.len();
     let mut bytes = Vec::with_capacity(size);
-    bytes.extend_from_slice(MAGIC);
+    bytes.extend_from_slice(SECOND);
     bytes.extend_from_slice(&(replies.len() as u64).to_be_bytes());
     bytes.extend_from_slice(&(customers as u32).to_be_bytes());
     for amount in checkpoint.savings.iter().chain(&checkpoint.checking) {
         bytes.extend_from_slice(&amount.to_be_bytes());
     }
     bytes.extend_from_slice(&total(checkpoint).to_be_bytes());
+    bytes.extend_from_slice(&opening_total.to_be_bytes());
     for reply in replies {
         let (code, total) = code_and_total(*reply);
         let mut cells = [code; REPLY];
@@ -149,16 +158,25 @@ fn is_past_limit(amounts: &[i64]) -> bool {
         .any(|amount| !(-LIMIT..=LIMIT).contains(amount))
 }
 
-fn read(bytes: &[u8], customers: usize) -> Result<Checkpoint, Fault> {
-    if !MAGIC.starts_with(&bytes[..bytes.len().min(MAGIC.len())]) {
-        return Err(Fault::BadMagic);
+// How many amounts stand behind the columns, where the magic is one of the two, or the beginning of one.
+fn totals(bytes: &[u8]) -> Option<usize> {
+    let magic = &bytes[..bytes.len().min(FIRST.len())];
+    if FIRST.starts_with(magic) {
+        Some(1)
+    } else {
+        SECOND.starts_with(magic).then_some(2)
     }
+}
+
+fn read(bytes: &[u8], customers: usize, opening_total: i64) -> Result<Checkpoint, Fault> {
+    let totals = totals(bytes).ok_or(Fault::BadMagic)?;
     let Some((head, body)) = bytes.split_at_checked(HEAD) else {
         return Err(Fault::Short);
     };
     let length = u64::from_be_bytes(head[8..16].try_into().unwrap());
     let stated = u32::from_be_bytes(head[16..].try_into().unwrap());
-    let size = AMOUNT as u128 * (2 * u128::from(stated) + 1) + REPLY as u128 * u128::from(length);
+    let amount_cells = 2 * u128::from(stated) + totals as u128;
+    let size = AMOUNT as u128 * amount_cells + REPLY as u128 * u128::from(length);
     if (body.len() as u128) < size {
         return Err(Fault::Short);
     }
@@ -167,7 +185,7 @@ fn read(bytes: &[u8], customers: usize) -> Result<Checkpoint, Fault> {
     }
     let (savings, body) = body.split_at(AMOUNT * customers);
     let (checking, body) = body.split_at(AMOUNT * customers);
-    let (stated_total, body) = body.split_at(AMOUNT);
+    let (stated_totals, body) = body.split_at(AMOUNT * totals);
     let (cells, rest) = body.split_at(REPLY * length as usize);
     let (savings, checking) = (amounts(savings), amounts(checking));
     if is_past_limit(&savings) || is_past_limit(&checking) {
@@ -181,8 +199,15 @@ fn read(bytes: &[u8], customers: usize) -> Result<Checkpoint, Fault> {
         checking,
         replies: Vec::new(),
     };
-    if i64::from_be_bytes(stated_total.try_into().unwrap()) != total(&checkpoint) {
+    let stated_totals = amounts(stated_totals);
+    if stated_totals[0] != total(&checkpoint) {
         return Err(Fault::WrongTotal);
+    }
+    if stated_totals
+        .get(1)
+        .is_some_and(|stated| *stated != opening_total)
+    {
+        return Err(Fault::WrongOpening);
     }
     let (cells, _) = cells.as_chunks::<REPLY>();
     let mut replies = Vec::with_capacity(cells.len());
@@ -228,25 +253,25 @@ fn measure_write(count: u32) -> (usize, i64, Duration) {
     let mut sum = 0;
     let start = Instant::now();
     for _ in 0..count {
-        let bytes = black_box(write(black_box(&checkpoint)));
+        let bytes = black_box(write(black_box(&checkpoint), OPENING_TOTAL));
         sum += bytes.last().map_or(0, |last| i64::from(*last));
     }
     let time = start.elapsed();
-    let bytes = write(&checkpoint);
+    let bytes = write(&checkpoint, OPENING_TOTAL);
     sum += bytes.iter().map(|byte| i64::from(*byte)).sum::<i64>();
     (bytes.len(), sum, time)
 }
 
 fn measure_read(count: u32) -> Result<(usize, i64, Duration), Fault> {
-    let bytes = write(&largest());
+    let bytes = write(&largest(), OPENING_TOTAL);
     let mut sum = 0;
     let start = Instant::now();
     for _ in 0..count {
-        let checkpoint = black_box(read(black_box(&bytes), CUSTOMERS)?);
+        let checkpoint = black_box(read(black_box(&bytes), CUSTOMERS, OPENING_TOTAL)?);
         sum += checkpoint.replies.last().map_or(0, shown);
     }
     let time = start.elapsed();
-    let checkpoint = read(&bytes, CUSTOMERS)?;
+    let checkpoint = read(&bytes, CUSTOMERS, OPENING_TOTAL)?;
     sum += total(&checkpoint) + checkpoint.replies.iter().map(shown).sum::<i64>();
     Ok((checkpoint.replies.len(), sum, time))
 }
@@ -277,3 +302,7 @@ fn main() -> ExitCode {
         }
     }
 }
+
+#[cfg(test)]
+#[path = "checkpoint/tests.rs"]
+mod tests;

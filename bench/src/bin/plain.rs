@@ -93,8 +93,29 @@ impl Bank<'_> {
                     Reply::Done
                 }
             }
+            Call::Pay(from, to, amount) => {
+                let (from, to) = (place(from)?, place(to)?);
+                self.pay(from, to, amount)
+            }
         };
         Some(reply)
+    }
+
+    #[inline]
+    fn pay(&mut self, from: usize, to: usize, amount: i64) -> Reply {
+        if from == to {
+            Reply::SameCustomer
+        } else if amount < 0 {
+            Reply::Negative
+        } else if self.checking[from] < amount {
+            Reply::WouldOverdraw
+        } else if self.checking[to] + amount > LIMIT {
+            Reply::OverLimit
+        } else {
+            self.checking[from] -= amount;
+            self.checking[to] += amount;
+            Reply::Done
+        }
     }
 }
 

@@ -49,6 +49,7 @@ pub enum Call<'a> {
     Savings(&'a [u8], i64),
     Check(&'a [u8], i64),
     Amalgamate(&'a [u8], &'a [u8]),
+    Pay(&'a [u8], &'a [u8], i64),
 }
 
 /// A word that is a name.
@@ -128,6 +129,10 @@ fn call<'a>(verb: &[u8], words: &mut impl Iterator<Item = &'a [u8]>) -> Result<C
         b"savings" => two().and_then(|(a, v)| Ok(Call::Savings(name(a)?, money(v)?))),
         b"check" => two().and_then(|(a, v)| Ok(Call::Check(name(a)?, money(v)?))),
         b"amalgamate" => two().and_then(|(a, b)| Ok(Call::Amalgamate(name(a)?, name(b)?))),
+        b"pay" => match (words.next(), words.next(), words.next(), words.next()) {
+            (Some(a), Some(b), Some(v), None) => Ok(Call::Pay(name(a)?, name(b)?, money(v)?)),
+            _ => Err(Fault::WrongWords),
+        },
         _ => Err(Fault::UnknownVerb),
     }
 }

@@ -13,7 +13,7 @@ fn bytes(text: &str) -> Vec<u8> {
         .collect()
 }
 
-fn vectors() -> [(Frame<'static>, &'static str); 9] {
+fn vectors() -> [(Frame<'static>, &'static str); 10] {
     let balance = Call::Balance(b"alice");
     let deposit = Call::Deposit(b"bob", 500);
     let shown = Outcome::Replied(Reply::Shown(15_000));
@@ -29,6 +29,10 @@ fn vectors() -> [(Frame<'static>, &'static str); 9] {
     let entry = Frame::Entry {
         number: 1,
         call: balance,
+    };
+    let payment = Frame::Entry {
+        number: 1,
+        call: Call::Pay(b"bob", b"alice", 2_000),
     };
     let ack = Frame::Ack {
         replica: 1,
@@ -52,6 +56,10 @@ fn vectors() -> [(Frame<'static>, &'static str); 9] {
             "0016 01 00000007 00000002 02 03 626f62 00000000000001f4",
         ),
         (entry, "0010 02 0000000000000001 01 05 616c696365"),
+        (
+            payment,
+            "001c 02 0000000000000001 06 03 626f62 05 616c696365 00000000000007d0",
+        ),
         (ack, "000a 03 01 0000000000000002"),
         (answer, "0012 04 0000000000000002 01 0000000000000000"),
         (
@@ -156,7 +164,7 @@ fn lengths() {
 #[test]
 fn calls() {
     check_fault("0010 01 00000007 00000001 00 05 616c696365", UnknownTag);
-    check_fault("0010 01 00000007 00000001 06 05 616c696365", UnknownTag);
+    check_fault("0010 01 00000007 00000001 07 05 616c696365", UnknownTag);
     check_fault("0009 01 00000007 00000001", BadLength);
     // A name's length counts before its bytes, and these before what follows.
     check_fault("000b 01 00000007 00000001 01 00", BadName);
@@ -166,6 +174,28 @@ fn calls() {
     check_fault("000c 01 00000007 00000001 02 01 41", BadName);
     check_fault("000c 01 00000007 00000001 02 01 61", BadLength);
     check_fault("000e 01 00000007 00000001 04 01 61 01 2d", BadName);
+    check_fault("000e 01 00000007 00000001 06 01 61 01 2d", BadName);
+    check_fault("000e 01 00000007 00000001 06 01 61 01 62", BadLength);
+    check_fault(
+        "0016 01 00000007 00000001 06 01 61 01 62 000000e8d4a51001",
+        BadAmount,
+    );
+    check_fault(
+        "0017 01 00000007 00000001 06 01 61 01 62 0000000000000001 00",
+        BadLength,
+    );
+}
+
+#[test]
+fn the_longest_body_has_60_bytes() {
+    let name = [b'z'; NAME];
+    let call = Call::Pay(&name, &name, -LIMIT);
+    let mut written = Vec::new();
+    let key = (u32::MAX, u32::MAX);
+    push_frame(&mut written, &Frame::Ask { key, call });
+    assert_eq!((written[1], written.len()), (60, 62));
+    let read = read_frame(&written);
+    assert_eq!(read, Ok((Frame::Ask { key, call }, &b""[..])));
 }
 
 #[test]

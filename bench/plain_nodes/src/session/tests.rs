@@ -138,3 +138,33 @@ fn more_asks_than_a_board_has_open() {
     assert_eq!((ended, written.len()), (Ok(()), 5_000 * OUTCOME_FRAME));
     assert_eq!(primary.node.board.balances()[1], 10_000);
 }
+
+#[test]
+fn payments() {
+    let bank = bank();
+    let calls = [
+        ("pay bob alice 20.00", 1),
+        ("pay alice bob 70.01", 6),
+        ("pay bob carol 0.01", 6),
+        ("pay zed zed 1.00", 3),
+        ("pay bob bob -1.00", 4),
+        ("pay alice bob -0.01", 5),
+        ("deposit carol 10000000000.00", 1),
+        ("pay alice carol 0.01", 7),
+        ("pay carol bob 10000000000.00", 1),
+    ];
+    let mut bytes = Vec::new();
+    for (request, (line, _)) in (1..).zip(calls) {
+        bytes.extend_from_slice(&ask(request, line));
+    }
+    bytes.extend_from_slice(FLUSH);
+    let mut primary = Primary::open(&bank);
+    let (ended, written) = serve(&mut primary, &bytes, 1_000);
+    // The code stands behind the length, the tag, the key and the status.
+    let codes: Vec<u8> = written.chunks(OUTCOME_FRAME).map(|told| told[12]).collect();
+    assert_eq!((ended, codes), (Ok(()), calls.map(|(_, code)| code).into()));
+    assert_eq!(
+        primary.node.board.balances(),
+        [10_000, 7_000, 0, 1_000_000_000_000, 1_000, 0]
+    );
+}

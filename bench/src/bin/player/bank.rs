@@ -13,6 +13,7 @@ pub enum Call<'a> {
     Savings(&'a [u8], i64),
     Check(&'a [u8], i64),
     Amalgamate(&'a [u8], &'a [u8]),
+    Pay(&'a [u8], &'a [u8], i64),
 }
 
 #[derive(Clone, Copy, PartialEq, Eq)]
@@ -72,6 +73,10 @@ impl<'a> Directory<'a> {
                 (from, to) if from == to => Op::SameCustomer,
                 (from, to) => Op::Amalgamate(from, to),
             },
+            Call::Pay(from, to, amount) => match (place(from)?, place(to)?) {
+                (from, to) if from == to => Op::SameCustomer,
+                (from, to) => Op::Pay(from, to, amount),
+            },
         })
     }
 }
@@ -84,6 +89,7 @@ pub enum Op {
     Savings(u32, i64),
     Check(u32, i64),
     Amalgamate(u32, u32),
+    Pay(u32, u32, i64),
     NoCustomer,
     SameCustomer,
 }
@@ -122,6 +128,7 @@ impl Op {
             Op::Deposit(at, _) => ([checking(at), 0, 0], 1),
             Op::Savings(at, _) => ([savings(at), 0, 0], 1),
             Op::Amalgamate(from, to) => ([savings(from), checking(from), checking(to)], 3),
+            Op::Pay(from, to, _) => ([checking(from), checking(to), 0], 2),
             Op::NoCustomer | Op::SameCustomer => ([0; TOUCHED], 0),
         };
         Touched { balances, count }
@@ -143,6 +150,7 @@ impl Op {
                 (Reply::OverLimit, held)
             }
             Op::Amalgamate(..) => (Reply::Done, [0, 0, first + second + third]),
+            Op::Pay(_, _, amount) => pay(amount, held),
             Op::NoCustomer => (Reply::NoCustomer, held),
             Op::SameCustomer => (Reply::SameCustomer, held),
         }
@@ -162,5 +170,18 @@ fn check(amount: i64, held: Values) -> (Reply, Values) {
         (Reply::Penalised, [savings, left, 0])
     } else {
         (Reply::Done, [savings, left, 0])
+    }
+}
+
+fn pay(amount: i64, held: Values) -> (Reply, Values) {
+    let [from, to, _] = held;
+    if amount < 0 {
+        (Reply::Negative, held)
+    } else if from < amount {
+        (Reply::WouldOverdraw, held)
+    } else if to + amount > LIMIT {
+        (Reply::OverLimit, held)
+    } else {
+        (Reply::Done, [from - amount, to + amount, 0])
     }
 }

@@ -4,7 +4,9 @@ use crate::bank::{LIMIT, Reply};
 use crate::board::Board;
 use crate::frame::{REPLY, reply_cells, reply_of};
 
-const MAGIC: &[u8; 8] = b"SBCKPT01";
+// The first layout is only read. The second one has the opening total behind the total.
+const FIRST: &[u8; 8] = b"SBCKPT01";
+const SECOND: &[u8; 8] = b"SBCKPT02";
 const HEAD: usize = 20;
 const AMOUNT: usize = 8;
 const LOG_CALLS: usize = 1_000_000;
@@ -27,15 +29,20 @@ impl Checkpoint {
     }
 }
 
-/// The bytes of these balances and replies.
-pub fn write(balances: &[i64], replies: impl ExactSizeIterator<Item = Reply>) -> Vec<u8> {
+/// The bytes of these balances and replies, of a bank that opened with so much.
+pub fn write(
+    balances: &[i64],
+    opening_total: i64,
+    replies: impl ExactSizeIterator<Item = Reply>,
+) -> Vec<u8> {
     let customers = balances.len() / 2;
-    let size = HEAD + AMOUNT * (balances.len() + 1) + REPLY * replies.len();
+    let size = HEAD + AMOUNT * (balances.len() + 2) + REPLY * replies.len();
     let mut bytes = Vec::with_capacity(size);
-    bytes.extend_from_slice(MAGIC);
+    bytes.extend_from_slice(SECOND);
     bytes.extend_from_slice(&(replies.len() as u64).to_be_bytes());
     bytes.extend_from_slice(&(customers as u32).to_be_bytes());
     push_columns(&mut bytes, balances);
+    bytes.extend_from_slice(&opening_total.to_be_bytes());
     for reply in replies {
         bytes.extend_from_slice(&reply_cells(reply));
     }
@@ -52,14 +59,14 @@ fn push_columns(bytes: &mut Vec<u8>, balances: &[i64]) {
     bytes.extend_from_slice(&balances.iter().sum::<i64>().to_be_bytes());
 }
 
-/// The checkpoint of so many customers that these bytes are.
-pub fn read(bytes: &[u8], customers: usize) -> Option<Checkpoint> {
+/// The checkpoint that these bytes are, of so many customers who had so much at the opening.
+pub fn read(bytes: &[u8], customers: usize, opening_total: i64) -> Option<Checkpoint> {
     let (head, body) = bytes.split_first_chunk::<HEAD>()?;
-    let (magic, head) = head.split_at(MAGIC.len());
+    let (magic, head) = head.split_first_chunk()?;
     let (length, stated) = head.split_first_chunk()?;
     let length = usize::try_from(u64::from_be_bytes(*length)).ok()?;
     let stated = u32::from_be_bytes(stated.try_into().ok()?);
-    if magic != MAGIC || stated as usize != customers || length > LOG_CALLS {
+    if stated as usize != customers || length > LOG_CALLS {
         return None;
     }
     let (columns, body) = body.split_at_checked(2 * AMOUNT * customers)?;
@@ -68,12 +75,25 @@ pub fn read(bytes: &[u8], customers: usize) -> Option<Checkpoint> {
     if i64::from_be_bytes(*total) != balances.iter().sum::<i64>() {
         return None;
     }
+    let cells = behind_totals(magic, cells, opening_total)?;
     let (cells, rest) = cells.as_chunks::<REPLY>();
     if cells.len() != length || !rest.is_empty() {
         return None;
     }
     let replies = cells.iter().map(reply_of).collect::<Option<_>>()?;
     Some(Checkpoint { balances, replies })
+}
+
+// What is behind the opening total, where the layout has one.
+fn behind_totals<'a>(magic: &[u8; 8], cells: &'a [u8], opening_total: i64) -> Option<&'a [u8]> {
+    match magic {
+        FIRST => Some(cells),
+        SECOND => {
+            let (stated, cells) = cells.split_first_chunk()?;
+            (i64::from_be_bytes(*stated) == opening_total).then_some(cells)
+        }
+        _ => None,
+    }
 }
 
 fn balances(columns: &[u8], customers: usize) -> Option<Vec<i64>> {

@@ -84,6 +84,7 @@ fn push_call(out: &mut Vec<u8>, call: Call) {
         Call::Savings(name, _) => (3, name),
         Call::Amalgamate(name, _) => (4, name),
         Call::Check(name, _) => (5, name),
+        Call::Pay(name, ..) => (6, name),
     };
     out.push(kind);
     push_name(out, name);
@@ -93,6 +94,10 @@ fn push_call(out: &mut Vec<u8>, call: Call) {
             out.extend_from_slice(&amount.to_be_bytes());
         }
         Call::Amalgamate(_, to) => push_name(out, to),
+        Call::Pay(_, to, amount) => {
+            push_name(out, to);
+            out.extend_from_slice(&amount.to_be_bytes());
+        }
     }
 }
 
@@ -182,6 +187,7 @@ impl<'a> Fields<'a> {
             3 => Call::Savings(self.name()?, self.amount()?),
             4 => Call::Amalgamate(self.name()?, self.name()?),
             5 => Call::Check(self.name()?, self.amount()?),
+            6 => Call::Pay(self.name()?, self.name()?, self.amount()?),
             _ => return None,
         })
     }

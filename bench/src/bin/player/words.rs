@@ -111,6 +111,10 @@ pub fn call<'a>(mut words: impl Iterator<Item = &'a [u8]>) -> Result<Call<'a>, F
             let [from, to] = exactly(words, Fault::WrongWords)?;
             Ok(Call::Amalgamate(name(from)?, name(to)?))
         }
+        b"pay" => {
+            let [from, to, amount] = exactly(words, Fault::WrongWords)?;
+            Ok(Call::Pay(name(from)?, name(to)?, money(amount)?))
+        }
         _ => Err(Fault::UnknownVerb),
     }
 }

@@ -23,6 +23,7 @@ struct Node {
 pub struct World<'a> {
     directory: &'a Directory<'a>,
     opening: &'a [i64],
+    opening_total: i64,
     sequencer: Sequencer<'a>,
     nodes: Vec<Node>,
 }
@@ -40,6 +41,7 @@ impl<'a> World<'a> {
         World {
             directory: &schedule.directory,
             opening: &schedule.opening,
+            opening_total: schedule.opening.iter().sum(),
             sequencer: Sequencer::open(schedule.nodes),
             nodes: (0..schedule.nodes).map(node).collect(),
         }
@@ -65,7 +67,7 @@ impl<'a> World<'a> {
                 index,
             } => self.node(replica)?.take(worker, index),
             Event::Finish { replica, worker } => self.node(replica)?.finish(worker),
-            Event::Mark { replica, how } => Some(self.node(replica)?.mark(how)),
+            Event::Mark { replica, how } => self.mark(replica, how),
             Event::Restart { replica } => self.restart(replica),
             Event::Cut { replica } => Some(self.node(replica)?.cut()),
             Event::Next { replica } => self.node(replica)?.next(),
@@ -136,13 +138,17 @@ impl<'a> World<'a> {
         }
     }
 
+    fn mark(&mut self, replica: u32, how: How) -> Option<Note> {
+        let opening_total = self.opening_total;
+        Some(self.node(replica)?.mark(how, opening_total))
+    }
+
     fn have(&mut self, replica: u32) -> Option<Note> {
-        let customers = self.directory.names.len();
-        let node = self.node(replica)?;
-        let kept = node.stored.as_ref();
-        let place = node.from.push(&Frame::Have {
+        let kept = self.nodes.get(replica as usize)?.stored.as_ref();
+        let length = kept.map_or(0, |bytes| self.checkpoint_of(bytes).length());
+        let place = self.node(replica)?.from.push(&Frame::Have {
             replica: replica as u8,
-            length: kept.map_or(0, |bytes| checkpoint_of(bytes, customers).length()),
+            length,
         });
         Some(Note::Sent(place))
     }
@@ -150,7 +156,7 @@ impl<'a> World<'a> {
     // A checkpoint of no entry isn't given.
     fn give(&mut self, donor: u32, replica: u32) -> Option<Note> {
         let state = self.nodes.get(donor as usize)?.stored.clone()?;
-        let length = checkpoint_of(&state, self.directory.names.len()).length();
+        let length = self.checkpoint_of(&state).length();
         let states = &mut self.node(replica)?.states;
         (length > 0).then(|| {
             states.push(state);
@@ -159,12 +165,10 @@ impl<'a> World<'a> {
     }
 
     fn adopt(&mut self, replica: u32, place: u32) -> Option<Note> {
-        let customers = self.directory.names.len();
+        let node = self.nodes.get(replica as usize)?;
+        let state = node.states.get((place as usize).checked_sub(1)?)?;
+        let state = self.checkpoint_of(state);
         let node = self.node(replica)?;
-        let state = checkpoint_of(
-            node.states.get((place as usize).checked_sub(1)?)?,
-            customers,
-        );
         if state.length() <= node.board.length() {
             return Some(Note::Behind(node.board.length()));
         }
@@ -173,12 +177,18 @@ impl<'a> World<'a> {
     }
 
     fn restart(&mut self, replica: u32) -> Option<Note> {
-        let node = self.nodes.get_mut(replica as usize)?;
-        node.board = match &node.stored {
+        let board = match &self.nodes.get(replica as usize)?.stored {
             None => Board::open(self.opening.to_vec(), Vec::new()),
-            Some(bytes) => checkpoint_of(bytes, self.directory.names.len()).board(),
+            Some(bytes) => self.checkpoint_of(bytes).board(),
         };
-        Some(Note::Restarted(node.board.length()))
+        let length = board.length();
+        self.node(replica)?.board = board;
+        Some(Note::Restarted(length))
+    }
+
+    fn checkpoint_of(&self, bytes: &[u8]) -> Checkpoint {
+        checkpoint::read(bytes, self.directory.names.len(), self.opening_total)
+            .expect("what is stored is a checkpoint of this bank")
     }
 
     fn audit(&self, first: u32, second: u32) -> Option<Note> {
@@ -203,7 +213,7 @@ impl<'a> World<'a> {
     fn books(&self, settled: Settled) -> Note {
         let calls = self.sequencer.log().iter().zip(settled.replies());
         let net: i64 = calls.map(|(call, reply)| call.net(reply)).sum();
-        let expected = self.opening.iter().sum::<i64>() + net;
+        let expected = self.opening_total + net;
         let total = settled.balances.iter().sum();
         if total != expected {
             return Note::OffBooks(total, expected);
@@ -244,10 +254,6 @@ impl<'a> World<'a> {
         push_money(out, balances.iter().sum());
         out.push(b'\n');
     }
-}
-
-fn checkpoint_of(bytes: &[u8], customers: usize) -> Checkpoint {
-    checkpoint::read(bytes, customers).expect("what is stored is a checkpoint of this bank")
 }
 
 // The first place where the columns differ, savings first.
@@ -307,12 +313,12 @@ impl Node {
         }
     }
 
-    fn mark(&mut self, how: How) -> Note {
+    fn mark(&mut self, how: How, opening_total: i64) -> Note {
         let Some(settled) = self.board.settled_cut() else {
             return Note::Busy;
         };
         let length = settled.length();
-        let bytes = checkpoint::write(settled.balances, settled.replies());
+        let bytes = checkpoint::write(settled.balances, opening_total, settled.replies());
         match how {
             How::Ok => {
                 self.stored = Some(bytes);

@@ -13,6 +13,7 @@ pub enum Call {
     Savings(Customer, i64),
     Check(Customer, i64),
     Amalgamate(Customer, Customer),
+    Pay(Customer, Customer, i64),
 }
 
 #[derive(Clone, Copy, PartialEq, Eq)]
@@ -73,6 +74,9 @@ impl fmt::Display for Call {
             }
             Call::Check(owner, amount) => write!(f, "check {} {}", name(owner), money(amount)),
             Call::Amalgamate(from, to) => write!(f, "amalgamate {} {}", name(from), name(to)),
+            Call::Pay(from, to, amount) => {
+                write!(f, "pay {} {} {}", name(from), name(to), money(amount))
+            }
         }
     }
 }

@@ -50,7 +50,7 @@ const OPENING_LINES: [Faulty; 22] = [
     ("x -10000000000.00 0.00", "negative savings"),
 ];
 
-const EVENT_LINES: [Faulty; 87] = [
+const EVENT_LINES: [Faulty; 92] = [
     ("", "unknown event"),
     (" ", "unknown event"),
     (" ack 0", "unknown event"),
@@ -134,10 +134,15 @@ const EVENT_LINES: [Faulty; 87] = [
     ("ask 1 1", "unknown verb"),
     ("ask 1 1 ", "unknown verb"),
     ("ask 0 1 ask 1 1 balance c0", "unknown verb"),
+    ("ask 1 1 paid c0 c1 1.00", "unknown verb"),
     ("ask 1 1 balance c0 c1", "wrong words"),
+    ("ask 1 1 pay c0 1.00", "wrong words"),
     ("ask 1 1 deposit C0 x", "bad name"),
     ("ask 1 1 amalgamate c0 ", "bad name"),
+    ("ask 1 1 pay c0 C1 1", "bad name"),
     ("ask 1 1 check c0 1.5", "bad money"),
+    ("ask 1 1 pay c0 c1 1", "bad money"),
+    ("ask 1 1 pay c0 c0 -0.00", "bad money"),
 ];
 
 /// A schedule's text with one fault in it, and what is said of it.

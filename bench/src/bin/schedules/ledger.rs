@@ -68,6 +68,9 @@ fn carry_out(call: Call, rows: &mut Rows) -> String {
         Call::Savings(n, amount) if is_known(n) => savings(&mut rows[n], amount),
         Call::Check(n, amount) if is_known(n) => check(&mut rows[n], amount),
         Call::Amalgamate(from, to) if is_known(from) && is_known(to) => amalgamate(rows, from, to),
+        Call::Pay(from, to, amount) if is_known(from) && is_known(to) => {
+            pay(rows, from, to, amount)
+        }
         _ => "no customer",
     };
     reply.to_owned()
@@ -119,4 +122,20 @@ fn amalgamate(rows: &mut Rows, from: Customer, to: Customer) -> &'static str {
     rows[from] = (0, 0);
     rows[to].1 = sum;
     "done"
+}
+
+fn pay(rows: &mut Rows, from: Customer, to: Customer, amount: i64) -> &'static str {
+    if from == to {
+        "same customer"
+    } else if amount < 0 {
+        "negative"
+    } else if amount > rows[from].1 {
+        "would overdraw"
+    } else if rows[to].1 + amount > LIMIT {
+        "over limit"
+    } else {
+        rows[from].1 -= amount;
+        rows[to].1 += amount;
+        "done"
+    }
 }

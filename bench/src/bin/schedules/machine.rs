@@ -89,8 +89,9 @@ fn touches(call: Call, customers: usize) -> Vec<(Customer, bool)> {
         Call::Balance(n) | Call::Check(n, _) => vec![(n, false), (n, true)],
         Call::Deposit(n, _) => vec![(n, true)],
         Call::Savings(n, _) => vec![(n, false)],
-        Call::Amalgamate(from, to) if from == to => vec![],
+        Call::Amalgamate(from, to) | Call::Pay(from, to, _) if from == to => vec![],
         Call::Amalgamate(from, to) => vec![(from, false), (from, true), (to, true)],
+        Call::Pay(from, to, _) => vec![(from, true), (to, true)],
     };
     let is_known = all.iter().all(|(customer, _)| *customer < customers);
     if is_known { all } else { vec![] }

@@ -216,7 +216,8 @@ fn main() -> Result<(), Box<dyn Error>> {
         }
         ["long", events, nodes] => {
             let mut out = BufWriter::new(io::stdout().lock());
-            let mut maker = Maker::new(Random::new(SEED));
+            // What is measured has no payments, as before there were any.
+            let mut maker = Maker::new(Random::new(SEED)).without_payments();
             long::write(&mut out, &mut maker, events.parse()?, nodes.parse()?)?;
             out.flush()?;
         }

@@ -28,6 +28,8 @@ pub struct Maker {
     blind: u32,
     // Most events are of the first replicas, so many.
     favoured: u32,
+    // How many kinds of calls there are.
+    calls: u32,
 }
 
 impl Maker {
@@ -42,8 +44,14 @@ impl Maker {
             shares,
             blind: *random.pick(&[0, 5, 20]),
             favoured: 1 + random.below(3),
+            calls: 6,
             random,
         }
+    }
+
+    /// Leaves payments out.
+    pub fn without_payments(self) -> Self {
+        Maker { calls: 5, ..self }
     }
 
     /// So many asks, each sent to the first replica.
@@ -248,13 +256,14 @@ impl Maker {
     pub fn call(&mut self, customers: usize) -> Call {
         let owner = self.customer(customers);
         let amount = self.amount();
-        match self.random.below(5) {
+        match self.random.below(self.calls) {
             0 => Call::Balance(owner),
             1 => Call::Deposit(owner, amount),
             2 if self.random.percent(40) => Call::Savings(owner, -amount),
             2 => Call::Savings(owner, amount),
             3 => Call::Check(owner, amount),
-            _ => Call::Amalgamate(owner, self.customer(customers)),
+            4 => Call::Amalgamate(owner, self.customer(customers)),
+            _ => Call::Pay(owner, self.customer(customers), amount),
         }
     }
 
