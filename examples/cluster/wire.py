@@ -1,4 +1,4 @@
-"""Batches of Ask frames, outcomes and checkpoints, as docs/FORMATS.md has them. A frame is as examples/client.py says."""
+"""Batches of Ask frames, outcomes and checkpoints, as docs/WIRE.md has them. A frame is as examples/client.py says."""
 import pathlib
 import re
 import struct
