@@ -29,7 +29,7 @@ fits_fresh owner offered taken drained parts pass none = record {
   picks = lists-nil taken;
 }
 
--- nothing moves but what the passes know
+-- only what the passes know moves
 same_content : (items : List WorkOf) (views now : List Known) (rule : Holds items views)
     → sum_by (λ (known : Known). known.parts) now ≡ all_parts
     → ((weight : PickOf → ℕ) → sum_by (weight_known weight) now ≡ sum_by (weight_known weight) views)
@@ -112,7 +112,7 @@ offers_one n pass v work capacity may none items views room rule here =
       refl,
     )
 
--- no more is there than was offered
+-- there is no more than was offered
 pub offered_all : (pass : ℕ) (v : Known) → v.offers ≡ true → Learns Holds pass v (HasOffered v)
 offered_all pass v may items views rule here =
     let mine = rule.each pass v here in
@@ -120,7 +120,7 @@ offered_all pass v may items views rule here =
     let parts : length rule.offered ≡ length (rule.taken ++ (rule.drained ++ items)) = ap length rule.order in
     omega (arith, known, parts, length-append rule.taken (rule.drained ++ items), length-append rule.drained items)
 
--- where nothing was taken out at the end, what is first goes to those that are taken
+-- if nothing was taken out at the end, the first goes to those that are taken
 first_taken : (taken drained items : List WorkOf) (work : WorkOf) → drained ≡ []
     → taken ++ (drained ++ work ∷ items) ≡ (taken ++ work ∷ []) ++ (drained ++ items)
 first_taken taken drained items work none =
@@ -169,7 +169,7 @@ picks_one pass v off some_part work items views rule here =
       (length rule.taken, refl),
     )
 
--- a worker's pass is cut from that of an owner that was told nothing
+-- a worker's pass is cut from that of an owner that took none in
 pub cuts_one : (pass parts : ℕ) (offered : List WorkOf) → 0 < parts
     → Forks Holds pass (owner_view parts offered [] []) (with_one_cut (owner_view parts offered [] [])) (worker_view [])
 cuts_one pass parts offered some_part items views rule here =
@@ -231,7 +231,7 @@ takes_in pass parts offered told other picked items views rule here apart there 
     })
     (λ i x _ old. rule.each i x old) j k at))
 
--- the moves, at a view that is known
+-- the moves, at a known view
 pub offers_as : (n pass : ℕ) (v : Known) (work : WorkOf) (parts : ℕ) (offered : List WorkOf) → n ≡ BENCH_CAPACITY
     → v ≡ owner_view parts offered [] []
     → Pushes Holds n pass v work (AddsOffer v work) × Learns Holds pass v (HasOffered v)

@@ -18,7 +18,7 @@ module _ {A : Type 0} where
       let same : 0 + length xs ≡ length xs = omega arith in
       push_from 0 xs y ∙ ap (λ (k : ℕ). enumerate_from 0 xs ++ (k, y) ∷ []) same
 
-  -- where places weigh nothing, it weighs as the list
+  -- if places weigh nothing, it weighs as much as the list
   pub sum_by-enumerate_from : (h : A → ℕ) (n : ℕ) (xs : List A) → sum_by (λ (pick : ℕ × A). h pick.1) (enumerate_from n xs) ≡ sum_by h xs
   sum_by-enumerate_from h n [] = refl
   sum_by-enumerate_from h n (x ∷ xs) =
@@ -57,7 +57,7 @@ module _ {A : Type 0} where
         let all : count n (x ∷ xs) ≡ 1 = omega (arith, parts, first, rest) in all)
         (cases_eq n place)
 
-    -- each place below the length stands there once, and no other
+    -- each place below the length occurs once, and no other
     pub count_by-enumerate_from : (xs : List A)
         → count_by (λ (pick : ℕ × A). pick.0 == place) (enumerate_from 0 xs) ≡ (if nat_lt place (length xs) then 1 else 0)
     count_by-enumerate_from xs =

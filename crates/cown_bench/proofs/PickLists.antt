@@ -41,7 +41,7 @@ module _ (taken : List WorkOf) where
         (AreOffered-longer taken (work ∷ []) picks are.right) (slice_get-last taken work);
   }
 
--- lists of picks, of which the first is the pass's own
+-- lists of picks; the first is the pass's own
 module _ (taken : List WorkOf) (own : List PickOf) (told : List (List PickOf)) (are : All (ArePicks taken) (own ∷ told)) where
   pub own_picks : ArePicks taken own
   own_picks = All-head (ArePicks taken) own told are

@@ -7,7 +7,7 @@ use Rattle.std.proofs.lemmas.List.Sums.{sum_by-cons, sum_by-set, get_or-le-sum_b
 use Rattle.crossbeam_queue.proofs.Lists.{at_set, at_snoc, set_else}
 
 module _ {A : Type 0} where
-  -- what is there stands below the length
+  -- what is there is below the length
   at_place : (l : List A) (i : ℕ) (a d : A) → get_elem? l i ≡ some a → (i < length l) × (get_or l i d ≡ a)
   at_place [] i a d here = absurd (some-ne-none a (sym here))
   at_place (x ∷ xs) zero a d here = (omega arith, some-injective x a here)
@@ -19,7 +19,7 @@ module _ {A : Type 0} where
       let place = at_place l i a a here in
       subst (λ (x : A). sum_by f (set l i b) + f x ≡ sum_by f l + f b) place.1 (sum_by-set f l i b a place.0)
 
-  -- each is 0 where the sum is
+  -- each is 0 if the sum is
   each_none : (p : A → ℕ) (l : List A) (i : ℕ) (a : A) → sum_by p l ≡ 0 → get_elem? l i ≡ some a → p a ≡ 0
   each_none p l i a none here =
       let place = at_place l i a a here in
@@ -27,7 +27,7 @@ module _ {A : Type 0} where
       let same : p (get_or l i a) ≡ p a = ap p place.1 in
       omega (arith, most, same, none)
 
-  -- where p is 0 at each, and f is 0 wherever p is, f is 0 in all
+  -- if p is 0 at each, and f is 0 wherever p is, f is 0 in all
   all_none : (p f : A → ℕ) (l : List A) → ((i : ℕ) (a : A) → get_elem? l i ≡ some a → p a ≡ 0 → f a ≡ 0) → sum_by p l ≡ 0 → sum_by f l ≡ 0
   all_none p f [] follows none = refl
   all_none p f (x ∷ xs) follows none =
@@ -36,7 +36,7 @@ module _ {A : Type 0} where
       let rest : sum_by f xs ≡ 0 = all_none p f xs (λ i a here. follows (suc i) a here) (omega (arith, parts, none)) in
       omega (arith, sum_by-cons f x xs, first, rest)
 
-  -- one that has all of p: the others have nothing of it
+  -- if one has all of p, the others have nothing of it
   module _ (p : A → ℕ) (l : List A) (i : ℕ) (a spent : A) (nothing : p spent ≡ 0) (here : get_elem? l i ≡ some a) (all : sum_by p l ≡ p a) where
     others_sum : sum_by p (set l i spent) ≡ 0
     others_sum = let change = sum_by-changed p l i a spent here in omega (arith, change, nothing, all)
@@ -44,7 +44,7 @@ module _ {A : Type 0} where
     pub others_none : (j : ℕ) (b : A) → j ≢ i → get_elem? l j ≡ some b → p b ≡ 0
     others_none j b apart there = each_none p (set l i spent) j b others_sum (set_else l i j spent apart ∙ there)
 
-    -- and of whatever nobody has without p
+    -- nor of whatever nobody has without p
     pub sole_sum : (f : A → ℕ) → f spent ≡ 0 → ((j : ℕ) (b : A) → get_elem? l j ≡ some b → p b ≡ 0 → f b ≡ 0) → sum_by f l ≡ f a
     sole_sum f none follows =
         let rest : sum_by f (set l i spent) ≡ 0 = all_none p f (set l i spent)
@@ -54,7 +54,7 @@ module _ {A : Type 0} where
         let change = sum_by-changed f l i a spent here in
         omega (arith, change, rest, none)
 
-  -- what is so of each, after a change of one
+  -- what holds of each, after a change of one
   pub each_set : (F : ℕ → A → Type 0) (l : List A) (i : ℕ) (b : A) → F i b → ((j : ℕ) (c : A) → j ≢ i → get_elem? l j ≡ some c → F j c)
       → (j : ℕ) (c : A) → get_elem? (set l i b) j ≡ some c → F j c
   each_set F l i b mine others j c there =

@@ -1,4 +1,4 @@
--- Taking out what nobody picked, by who knows all.
+-- A pass that knows all takes out what nobody picked.
 use Rattle.std.proofs.Common.{◌≡◌, ℕ, cond, List, [], ◌∷◌, ◌++◌, length, drop, refl, sym, ap, ◌∙◌, subst, append_assoc, length-append, arith}
 use Rattle.std.specs.Prelude.{◌==◌, All, sum_by}
 use Rattle.std.specs.List.{enumerate_from}
@@ -58,7 +58,7 @@ module _ (pass : ℕ) (offered : List WorkOf) (told : List (List PickOf)) (drain
         (omega (arith, rule.room, long), refl),
       )
 
-  -- what was told is all that was taken, and the rest is left
+  -- what the pass knows is all that was taken, and the rest is left
   pub knows_all : Learns Holds pass (owner_view all_parts offered told drained) (KnowsAll (owner_view all_parts offered told drained))
   knows_all items views rule here =
       let v = owner_view all_parts offered told drained in
@@ -86,7 +86,7 @@ module _ (pass : ℕ) (offered : List WorkOf) (told : List (List PickOf)) (drain
             omega (arith, picked, ap (sum_by weight) whole, sum_by-append weight taken left),
       )
 
--- both, at a view that is known
+-- both, at a known view
 pub takes_out_as : (pass : ℕ) (v : Known) (offered : List WorkOf) (told : List (List PickOf)) (drained : List WorkOf)
     → v ≡ owner_view all_parts offered told drained → Pops Holds pass v (AddsLeft v) × Learns Holds pass v (KnowsAll v)
 takes_out_as pass v offered told drained is =

@@ -3,11 +3,11 @@ use Rattle.std.specs.Prelude.{ℕ, List, map}
 use Rattle.atomic_table.specs.Seated.{TableId}
 use Rattle.cown_bench.specs.Picks.{WorkOf, PickOf}
 
--- which bench it is
+-- a bench's identity: which one it is
 abbrev pub BenchId : Type 0
 BenchId = TableId
 
--- the owner's pass: its bench, how many workers that has, and what was offered, in order
+-- the owner's pass: its bench, the number of that bench's workers, and what was offered, in order
 pub record OwnerOf : Type 0 where
   pub bench : BenchId
   pub workers : ℕ
@@ -18,6 +18,6 @@ pub record WorkerOf : Type 0 where
   pub bench : BenchId
   pub picked : List PickOf
 
--- what was picked with each of these passes
+-- what each of these passes picked
 abbrev pub picked_of : List WorkerOf → List (List PickOf)
 picked_of workers = map (λ (worker : WorkerOf). worker.picked) workers

@@ -9,11 +9,11 @@ use Rattle.cown_bench.specs.Views.{all_parts}
 use Rattle.cown_bench.specs.declared.bench.TheConstants.{BENCH_CAPACITY}
 use Rattle.cown_bench.specs.declared.known.Known.{Known}
 
--- all lists of picks that a pass knows: its own, and those that it was told of
+-- all lists of picks that a pass knows: its own, and those of the passes that it took in
 abbrev pub lists_of : Known → List (List PickOf)
 lists_of known = known.picked ∷ known.told
 
--- the weights of all picks that a pass knows, added up
+-- the sum of the weights of all picks that a pass knows
 abbrev pub weight_known : (PickOf → ℕ) → Known → ℕ
 weight_known weight known = sum_by (sum_by weight) (lists_of known)
 
@@ -22,16 +22,16 @@ pub record ArePicks (taken : List WorkOf) (picks : List PickOf) : Type 0 where
   pub rising : AreRising picks
   pub right : AreOffered taken picks
 
--- what the rule says of one pass, where this one is the owner's, and so much was offered, taken by workers, and
--- taken out at the end
+-- what the rule says of one pass, given the owner's pass and what was offered, taken by workers,
+-- and taken out at the end
 pub record Fits (owner : ℕ) (offered taken drained : List WorkOf) (pass : ℕ) (known : Known) : Type 0 where
-  -- who offers is the owner, and knows what was offered, and what was taken out
+  -- the pass that offers is the owner's, and knows what was offered and what was taken out
   pub sole : known.offers ≡ true → pass ≡ owner
   pub offers : known.offers ≡ true → known.offered ≡ offered
   pub drains : known.offers ≡ true → known.drained ≡ drained
-  -- nothing is taken out at the end while a worker has a part
+  -- nothing is taken out at the end while a worker has a part of the right
   pub works : known.offers ≡ false → 0 < known.parts → drained ≡ []
-  -- who has no part knows nothing
+  -- a pass without a part knows nothing
   pub idle : known.parts ≡ 0 → (known.picked ≡ []) × (known.told ≡ [])
   pub picks : All (ArePicks taken) (lists_of known)
 
@@ -40,23 +40,24 @@ pub record Holds (items : List WorkOf) (views : List Known) : Type 0 where
   pub offered : List WorkOf
   pub taken : List WorkOf
   pub drained : List WorkOf
-  -- what was offered was taken by workers, then taken out at the end, or is there still
+  -- what was offered was taken by workers, then taken out at the end, or is still there
   pub order : offered ≡ taken ++ (drained ++ items)
   pub room : length drained + length items ≤ BENCH_CAPACITY
   pub whole : sum_by (λ (known : Known). known.parts) views ≡ all_parts
-  -- whatever picks weigh, those that the passes know weigh as what was taken does with its places
+  -- for any weights, the picks that the passes know weigh as much as what was taken, with its
+  -- places
   pub weights : (weight : PickOf → ℕ) → sum_by (weight_known weight) views ≡ sum_by weight (enumerate_from 0 taken)
   pub each : (pass : ℕ) (known : Known) → get_elem? views pass ≡ some known → Fits owner offered taken drained pass known
 
--- one Work more was offered
+-- one more Work was offered
 abbrev pub AddsOffer : Known → WorkOf → Known → Type 0
 AddsOffer known work after = after ≡ record known { offered = known.offered ++ work ∷ [] }
 
--- one Work more was picked, at some place
+-- one more Work was picked, at some place
 abbrev pub AddsPick : Known → WorkOf → Known → Type 0
 AddsPick known work after = (place : ℕ) × (after ≡ record known { picked = known.picked ++ (place, work) ∷ [] })
 
--- one Work more was taken out at the end, and there is room for it
+-- one more Work was taken out at the end, and there is room for it
 abbrev pub AddsLeft : Known → WorkOf → Known → Type 0
 AddsLeft known work after =
     (length known.drained < BENCH_CAPACITY) × (after ≡ record known { drained = known.drained ++ work ∷ [] })
@@ -65,7 +66,7 @@ AddsLeft known work after =
 abbrev pub HasOffered : Known → List WorkOf → Type 0
 HasOffered known items = length items ≤ length known.offered
 
--- what was taken out and what is there is what nobody picked
+-- what was taken out and what is still there is what nobody picked
 abbrev pub KnowsAll : Known → List WorkOf → Type 0
 KnowsAll known items =
     IsPartedInto known.offered known.told (known.drained ++ items)

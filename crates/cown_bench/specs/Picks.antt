@@ -2,7 +2,8 @@
 use Rattle.std.specs.Prelude.{ℕ}
 use Rattle.cown_bench.specs.declared.work.Work.{Work}
 
--- `Stop`, or `Run` with a job as a board hands it out: its number, its behaviour and its inputs (`JobOf`)
+-- `Stop`, or `Run` with a job as a board hands it out: its number, its behaviour and its inputs
+-- (`JobOf`)
 abbrev pub WorkOf : Type 0
 WorkOf = Work
 

@@ -10,7 +10,8 @@ use Rattle.cown_bench.specs.declared.known.Known.{Known}
 abbrev pub all_parts : ℕ
 all_parts = WORKERS + 1
 
--- the owner's: its parts, what was offered, what the passes that it took in picked, and what was taken out
+-- the owner's: its parts, what was offered, what the passes that it took in had picked, and what
+-- was taken out
 abbrev pub owner_view : ℕ → List WorkOf → List (List PickOf) → List WorkOf → Known
 owner_view parts offered told drained =
     record { parts = parts; offers = true; offered = offered; picked = []; told = told; drained = drained }
@@ -19,24 +20,24 @@ owner_view parts offered told drained =
 abbrev pub worker_view : List PickOf → Known
 worker_view picked = record { parts = 1; offers = false; offered = []; picked = picked; told = []; drained = [] }
 
--- that of a pass that was taken in
+-- the view of a pass that was taken in
 abbrev pub spent_view : Known
 spent_view = record { parts = 0; offers = false; offered = []; picked = []; told = []; drained = [] }
 
--- the owner's once a worker's pass was cut from it
+-- the owner's view after a worker's pass was cut from it
 abbrev pub with_one_cut : Known → Known
 with_one_cut known = record known { parts = known.parts - 1 }
 
--- the owner's once it has taken a worker's pass in
+-- the owner's view after it took a worker's pass in
 abbrev pub with_taken_in : Known → Known → Known
 with_taken_in known other = record known { parts = known.parts + other.parts; told = known.told ++ other.picked ∷ [] }
 
--- what contracts see of the owner's pass
+-- the owner's pass as contracts see it
 abbrev pub owner_of : Pass WorkOf Known → OwnerOf
 owner_of pass =
     record { bench = pass.table_id; workers = all_parts - (view pass).parts; offered = (view pass).offered }
 
--- what contracts see of a worker's pass
+-- a worker's pass as contracts see it
 abbrev pub worker_of : Pass WorkOf Known → WorkerOf
 worker_of pass = record { bench = pass.table_id; picked = (view pass).picked }
 
@@ -54,7 +55,7 @@ pub record IsWorker (pass : Pass WorkOf Known) : Type 0 where
 pub record HoldsAll (capacity : ℕ) : Type 0 where
   pub queue : capacity ≡ BENCH_CAPACITY
 
--- nothing is left yet, and there is room for as much as a bench holds
+-- nothing is left over yet, and there is room for as much as a bench holds
 pub record HasRoom (left : List WorkOf) (room : ℕ) : Type 0 where
   pub empty : left ≡ []
   pub enough : BENCH_CAPACITY ≤ room

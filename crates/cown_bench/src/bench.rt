@@ -16,11 +16,12 @@ use std::sync::Wait;
 /// How many workers a bench may have.
 pub const WORKERS: usize = 16;
 
-/// How much may lie on a bench: all that a board may have unfinished, and a `Stop` for each worker.
+/// How many Works a bench holds: all that a board may have unfinished, and a `Stop` for each
+/// worker.
 pub const BENCH_CAPACITY: usize = OPEN_BEHAVIOURS + WORKERS;
 
-/// Where an owner lays out what its workers pick up, each Work once and in the order in which it was offered.
-/// It may be shared among threads.
+/// A bounded queue on which an owner lays out Works for its workers. They pick each Work once, in
+/// the order in which it was offered. Threads may share it.
 #[derive(Drop)]
 pub struct Bench {
     queue: Queue,
@@ -39,7 +40,8 @@ impl Model for Bench {
 }
 
 impl Bench {
-    /// A bench for this many workers, with its owner's pass and theirs. All room that it takes is made here.
+    /// Makes a bench for this many workers, with its owner's pass and theirs. It allocates all
+    /// memory that the bench ever needs.
     pub fn new(
         alloc: Global,
         workers: usize,
@@ -59,7 +61,7 @@ impl Bench {
         Ok((Bench { queue }, OwnerPass { pass, left }, passes))
     }
 
-    /// Lays out a Work. Where the bench is full it comes back.
+    /// Lays out a Work, or hands it back if the bench is full.
     pub fn offer<R: Wait>(&self, rt: &R, pass: &mut OwnerPass, work: Work) -> Result<(), Work>
         requires { pass.old.bench ≡ self.now }
         ensures ok { OnOk result (pass.new ≡
@@ -71,7 +73,7 @@ impl Bench {
         self.queue.push_as::<Offers, R>(rt, &mut pass.pass, work)
     }
 
-    /// Picks up the Work that lies there longest. `None` where nothing lies there.
+    /// Picks the Work that has lain there longest, or answers `None` if nothing lies there.
     pub fn pick<R: Wait>(&self, rt: &R, pass: &mut WorkerPass) -> Option<Work>
         requires { pass.old.bench ≡ self.now }
         ensures some { IfSome result (λ work. (place : ℕ) × (pass.new ≡
@@ -81,14 +83,15 @@ impl Bench {
         self.queue.pop_as::<Picks, R>(rt, &mut pass.pass)
     }
 
-    /// Closes the bench, and answers what nobody picked, in the order in which it was offered. All passes that
-    /// were made with the bench are given up, so nothing is offered or picked there any more. It allocates nothing.
+    /// Closes the bench, and answers what nobody picked, in the order in which it was offered. It
+    /// takes all passes that were made with the bench, so nobody can offer or pick there any more.
+    /// It allocates nothing.
     pub fn close<R: Wait>(&self, rt: &R, owner: OwnerPass, workers: Vec<WorkerPass>) -> Vec<Work>
         requires owner { owner.bench ≡ self.now }
         requires workers { All (λ worker. worker.bench ≡ self.now) workers.items }
         requires all { length workers.items ≡ owner.workers }
         ensures parted { IsPartedInto owner.offered (picked_of workers.items) result.items }
-        // So whatever is added up over all that was offered is the same over what was picked and what is left.
+        // So any sum over all that was offered is the same over what was picked and what is left.
         ensures weights { WeighAlike owner.offered (picked_of workers.items) result.items }
     {
         let (pass, left) = gather(&self.queue, owner, workers);

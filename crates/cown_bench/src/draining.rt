@@ -11,7 +11,7 @@ use crate::work::Work;
 use crossbeam_queue::Pass;
 use std::sync::Wait;
 
-// Takes out what lies there still, with a pass that knows all, into an empty list that has room for it.
+// Takes out what is still there, with a pass that knows all, into an empty list with room for it.
 pub(crate) fn drain<R: Wait>(
     rt: &R,
     queue: &Queue,

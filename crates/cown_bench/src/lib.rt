@@ -1,5 +1,5 @@
-//! A bench on which the owner of a board lays out jobs, and from which workers pick them up: each job once, in
-//! the order in which it was laid out.
+//! A bench: the owner of a board lays jobs out on it, and workers pick them, each job once, in the
+//! order in which it was laid out.
 #![tactic(auto)]
 
 mod bench;

@@ -4,8 +4,8 @@ use crate::work::Work;
 use crossbeam_queue::Pass;
 use std::marker::Model;
 
-/// Who has it may offer on one bench, and close it. It remembers nothing when it runs: what it offered is known to
-/// contracts alone.
+/// The right to offer on one bench, and to close it. It remembers nothing at run time: only
+/// contracts know what it offered.
 #[derive(Drop)]
 pub struct OwnerPass {
     pub(crate) pass: Pass<Work, Known>,
@@ -26,8 +26,8 @@ impl Model for OwnerPass {
     ghost invariant = { λ p. IsOwner p.pass × HasRoom p.left.items (vec_capacity p.left) };
 }
 
-/// Who has it may pick from one bench. It remembers nothing when it runs: what it picked is known to contracts
-/// alone.
+/// The right to pick from one bench. It remembers nothing at run time: only contracts know what it
+/// picked.
 #[derive(Drop)]
 pub struct WorkerPass {
     pub(crate) pass: Pass<Work, Known>,

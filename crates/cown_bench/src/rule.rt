@@ -17,7 +17,7 @@ impl Protocol<Work, Known> for PickedOrLeft {
     ghost first = { owner_view all_parts [] [] [] };
 }
 
-// One Work more is offered. At a queue that is full, no fewer were offered than it holds.
+// One more Work is offered. If the queue is full, at least as many were offered as it holds.
 pub(crate) struct Offers;
 
 impl Outcome<Work, Known> for Offers {
@@ -32,7 +32,7 @@ impl Lesson<Work, Known> for Offers {
     ghost fact = { λ known items. HasOffered known items };
 }
 
-// One Work more is picked.
+// One more Work is picked.
 pub(crate) struct Picks;
 
 impl Outcome<Work, Known> for Picks {
@@ -47,7 +47,8 @@ impl Lesson<Work, Known> for Picks {
     ghost fact = { λ known items. ⊤ };
 }
 
-// One Work more is taken out of what nobody picked. Who knows all knows what became of all that was offered.
+// One more Work is taken out of what nobody picked. A pass that knows all knows what became of all
+// that was offered.
 pub(crate) struct Drains;
 
 impl Outcome<Work, Known> for Drains {

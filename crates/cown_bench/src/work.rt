@@ -5,8 +5,8 @@ use sb_calls::Op;
 /// What is offered to workers, and picked by one of them.
 #[derive(Drop)]
 pub enum Work {
-    /// A job to carry out.
+    /// A job to execute.
     Run(Job<Op>),
-    /// Nothing more is to be picked by the worker that picks this.
+    /// The worker that picks this picks nothing more.
     Stop,
 }

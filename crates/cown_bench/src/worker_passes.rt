@@ -1,4 +1,4 @@
-//! The workers' passes, which are cut from the owner's and taken in again.
+//! The workers' passes: they are cut from the owner's pass and taken in again.
 ghost use Rattle.std.specs.Prelude.{◌≡◌, ◌-◌, ◌≤◌, [], All, length, vec_capacity};
 ghost use Rattle.crossbeam_queue.specs.Passes.{IsPassOf, view};
 ghost use Rattle.cown_bench.specs.BenchPasses.{picked_of};
@@ -11,7 +11,7 @@ use crate::rule::{OnePart, Queue};
 use crate::work::Work;
 use crossbeam_queue::Pass;
 
-// Puts this many workers' passes into a list that has room for them.
+// Puts this many workers' passes into a list with room for them.
 pub(crate) fn cut(
     queue: &Queue,
     owner: &mut Pass<Work, Known>,
@@ -35,7 +35,8 @@ pub(crate) fn cut(
     }
 }
 
-// Takes all workers' passes into the owner's, which knows all then. The owner's room for what is left comes with it.
+// Takes all workers' passes into the owner's, which then knows all. The owner's room for what is
+// left comes with it.
 pub(crate) fn gather(
     queue: &Queue,
     owner: OwnerPass,

@@ -1,5 +1,5 @@
-//! The column kernels for a program in Rust or C, as `bench/kernels.rs`. A `None` is told as the columns'
-//! length.
+//! The column kernels for a program in Rust or C, such as `bench/kernels.rs`. The columns' length
+//! stands for `None`.
 #![tactic(auto)]
 
 ghost use Rattle.std.specs.Prelude.{◌≡◌, ◌≤◌, length, All, unwrap_or};
@@ -8,7 +8,7 @@ ghost use Rattle.lane_audit.specs.Columns.{count_below, first_difference, first_
 
 use sb_rows::CUSTOMERS;
 
-/// The values of a column added up.
+/// The sum of a column's values.
 #[unsafe(no_mangle)]
 pub extern "C" fn kernel_sum(values: &[i64]) -> i64
     requires few { length values.now ≤ CUSTOMERS }
@@ -18,7 +18,7 @@ pub extern "C" fn kernel_sum(values: &[i64]) -> i64
     lane_audit::sum(values)
 }
 
-/// The least place at which two columns of one length differ, or their length where they are equal.
+/// The least place at which two columns of one length differ, or their length if they are equal.
 #[unsafe(no_mangle)]
 pub extern "C" fn kernel_first_difference(left: &[i64], right: &[i64]) -> usize
     requires { length left.now ≡ length right.now }
@@ -27,7 +27,8 @@ pub extern "C" fn kernel_first_difference(left: &[i64], right: &[i64]) -> usize
     lane_audit::first_difference(left, right).unwrap_or(left.len())
 }
 
-/// The least place whose value is below `low` or above `high`, or the column's length where none is.
+/// The least place whose value is below `low` or above `high`, or the column's length if there is
+/// none.
 #[unsafe(no_mangle)]
 pub extern "C" fn kernel_first_outside(values: &[i64], low: i64, high: i64) -> usize
     ensures { result ≡ unwrap_or (first_outside values.now low high) (length values.now) }

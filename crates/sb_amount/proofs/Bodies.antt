@@ -40,7 +40,7 @@ pub all_body_bytes-body : (whole : List ℕ) (tens ones : ℕ) → HasDigits who
 all_body_bytes-body whole tens ones h =
     all_body_bytes-digits whole (46 ∷ tens ∷ ones ∷ []) h.whole_digits (rw (h.tens_digit, h.ones_digit))
 
--- the whole part is what stands before the point
+-- the whole part is what comes before the point
 pub before_first-body : (whole : List ℕ) (tens ones : ℕ) → HasDigits whole tens ones → before_first is_point (body_of whole tens ones) ≡ whole
 before_first-body whole tens ones h = before_first-at is_point whole 46 (tens ∷ ones ∷ []) (NonePasses-digits whole h.whole_digits) refl
 
@@ -69,7 +69,7 @@ has_two_decimals-yes body long point one =
 pub has_two_decimals-points : (body : List ℕ) → count_by is_point body ≢ 1 → has_two_decimals body ≡ false
 has_two_decimals-points body other = and_left (count_by is_point body == 1) (length (after_first is_point body) == 2) (ne_eqb (count_by is_point body) 1 other)
 
--- where two bytes stand after the first point, it is the third byte from the end
+-- if two bytes follow the first point, it is the third byte from the end
 third_from_end : (body : List ℕ) → length (after_first is_point body) ≡ 2 → (3 ≤ length body) × (get_or body (length body - 3) 0 ≡ 46)
 third_from_end body two =
     let i = position_or_len is_point body in

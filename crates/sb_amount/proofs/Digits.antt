@@ -29,7 +29,7 @@ digit_from_range c low high = grind (arith, nat_tests)
 pub digit_value-digit : (c : ℕ) → 48 ≤ c → c ≤ 57 → digit_value c ≡ c - 48
 digit_value-digit c low high = grind (arith, nat_tests)
 
--- a digit is no point
+-- a digit isn't a point
 pub is_point-digit : (c : ℕ) → is_ascii_digit c ≡ true → is_point c ≡ false
 is_point-digit c h = let r : IsInRange 48 57 c = digit_range c h in grind (arith, nat_tests)
 
@@ -66,7 +66,7 @@ is_canonical-decimal n small =
       | inr above ↦ is_canonical-from_first (decimal n) (first_decimal n (omega (arith, above)) small)
     ]
 
--- a canonical list begins with 0 only where that is its one digit
+-- a canonical list begins with 0 only if that is its one digit
 one_from_zero : (ds : List ℕ) → is_canonical ds ≡ true → get_or ds 0 0 ≡ 48 → length ds ≡ 1
 one_from_zero [] h e = cc
 one_from_zero (d ∷ []) h e = refl

@@ -1,4 +1,4 @@
--- What a text is read as, test by test in the order of the faults.
+-- What a text is read as, test by test, in the order of the faults.
 use Rattle.std.proofs.Common.{◌≡◌, subst, IfOk, ℕ, ◌+◌, ◌<◌, ◌≤◌, min, nat_abs, ℤ, pos, neg_ℤ, Bool, true, false, not, ◌||◌, ◌==◌, nat_lt, if◌then◌else◌, Option, Some, None, Result, Ok, Err, SomeIff, inl, inr, List, length, codes, refl, sym, ap, ◌∙◌, arith}
 use Rattle.std.proofs.lemmas.Bool.{eq-eqb, ltb-true, ltb-false, cases_Bool}
 use Rattle.std.proofs.lemmas.Int.{ints}
@@ -41,7 +41,7 @@ pub record HasDecimals (text body : List ℕ) : Type 0 where
   pub bytes : list_all is_body_byte body ≡ true
   pub decimals : has_two_decimals body ≡ true
 
--- an amount that is spelled another way
+-- an amount that has another spelling
 pub read_money-not_canonical : (text body : List ℕ) → HasDecimals text body
     → (not (is_canonical (before_first is_point body)) || bytes_eq text (codes "-0.00")) ≡ true → read_money text ≡ Err NotCanonical
 unfolding money_fault
@@ -76,7 +76,7 @@ none_past : (o : Option ℤ) (x : ℤ) → SomeIff o (IsWithinLimit x) x → (Is
 none_past None x h past = refl
 none_past (Some y) x h past = absurd (past h.0)
 
--- the limit is tested on the size with its sign, where the size stops one above the limit
+-- the limit is tested on the size with its sign; the size stops one above the limit
 pub read_money-sized : (text body : List ℕ) → HasDecimals text body → (not (is_canonical (before_first is_point body)) || bytes_eq text (codes "-0.00")) ≡ false
     → (x : ℤ) (o : Option ℤ) → x ≡ (if is_negative text then neg_ℤ (pos (min (cents_of_digits body) (nat_abs LIMIT + 1)))
     else pos (min (cents_of_digits body) (nat_abs LIMIT + 1))) → SomeIff o (IsWithinLimit x) x → ok_or o TooLarge ≡ read_money text
@@ -102,11 +102,11 @@ read_money-sized text body h canonical x o signed limited =
 
 -- ---- the clauses on a result, from what it is
 
--- what is read is spelled so
+-- a text that is read spells the amount
 pub spelled_from_read : (text : List ℕ) (r : Result ℤ MoneyFault) → r ≡ read_money text → IfOk r (λ amount. text ≡ money amount)
 spelled_from_read text (Ok v) h = (money_from_read text v (sym h)).0
 spelled_from_read text (Err fault) h = tt
 
--- what is spelled so is read
+-- a text that spells an amount is read
 pub taken_from_read : (text : List ℕ) (r : Result ℤ MoneyFault) → r ≡ read_money text → (v : ℤ) → IsWithinLimit v → text ≡ money v → r ≡ Ok v
 taken_from_read text r h v within e = h ∙ ap read_money e ∙ read_money-money v within

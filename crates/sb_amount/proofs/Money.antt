@@ -26,7 +26,7 @@ unfolding money
 money-negative (pos n) h = absurd (omega (arith, ints))
 money-negative (negsuc n) h = refl
 
--- money text of a number that isn't
+-- money text of a number that isn't below 0
 pub money-unsigned : (v : ℤ) → pos 0 ≤ℤ v → money v ≡ unsigned_money (nat_abs v)
 unfolding money
 money-unsigned (pos n) h = refl
@@ -153,7 +153,8 @@ without_fault text none =
       small = small;
     }
 
--- such a text is the money text of the amount that it says, which is within the limit: first where there is a sign
+-- a text without a fault is the money text of its amount, which is within the limit: first if it
+-- has a sign
 minus_amount : (n : ℕ) (cs : List ℕ) → unsigned_money n ≡ cs → n ≤ 1000000000000 → bytes_eq (45 ∷ cs) (codes "-0.00") ≡ false
     → (45 ∷ cs ≡ money (neg_ℤ (pos n))) × IsWithinLimit (neg_ℤ (pos n))
 unfolding money
@@ -163,7 +164,7 @@ minus_amount zero cs e small differs =
     absurd (both_ways (bytes_eq (45 ∷ cs) (codes "-0.00")) differs ((bytes_eq-Decides (45 ∷ cs) (codes "-0.00")).1 same))
 minus_amount (suc m) cs e small differs = (ap (λ bs. 45 ∷ bs) (sym e), record { at_least = omega (arith, ints); at_most = omega (arith, ints) })
 
--- and where there is none
+-- and if it has none
 plain_amount : (n : ℕ) (text : List ℕ) → unsigned_money n ≡ text → n ≤ 1000000000000 → (text ≡ money (pos n)) × IsWithinLimit (pos n)
 unfolding money
 plain_amount n text e small = (sym e, record { at_least = omega (arith, ints); at_most = omega (arith, ints) })

@@ -1,4 +1,4 @@
--- Texts with a point: what stands before it and after it, and how many points there are.
+-- Texts with a point: the parts before and after it, and the number of points.
 use Rattle.std.proofs.Common.{◌≡◌, ◌⊎◌, inl, inr, ℕ, suc, ◌+◌, ◌<◌, Bool, true, false, cond, List, [], ◌∷◌, ◌++◌, length, get_or, take, drop, refl, sym, ap, ◌∙◌, arith}
 use Rattle.std.proofs.lemmas.List.Sums.{sum_by-cons, sum_by-append, sum_by-take-drop, sum_by-drop_more}
 use Rattle.std.proofs.lemmas.List.{drop_more, take-append-drop}
@@ -11,12 +11,12 @@ abbrev pub NonePasses : {X : Type 0} → (X → Bool) → List X → Type 0
 NonePasses p [] = Unit {0}
 NonePasses p (x ∷ xs) = (p x ≡ false) × NonePasses p xs
 
--- where none passes, the count is 0
+-- if none passes, the count is 0
 pub count_by-none : {X : Type 0} (p : X → Bool) (xs : List X) → NonePasses p xs → count_by p xs ≡ 0
 count_by-none p [] h = refl
 count_by-none p (x ∷ xs) h = sum_by-cons (λ x. cond (p x) 1 0) x xs ∙ rw (h.0, count_by-none p xs h.1)
 
--- where the count is 0, none passes
+-- if the count is 0, none passes
 pub NonePasses-from_count : {X : Type 0} (p : X → Bool) (xs : List X) → count_by p xs ≡ 0 → NonePasses p xs
 NonePasses-from_count p [] h = tt
 NonePasses-from_count p (x ∷ xs) h =
@@ -24,17 +24,17 @@ NonePasses-from_count p (x ∷ xs) h =
     let fails : p x ≡ false = false_from_ne_true (p x) (λ yes. omega (arith, apart, h, ap {B = ℕ} (λ b. cond b 1 0) yes)) in
     (fails, NonePasses-from_count p xs (omega (arith, apart, h)))
 
--- the first that passes stands after those that don't
+-- the first that passes comes after those that don't
 pub position_or_len-at : {X : Type 0} (p : X → Bool) (xs : List X) (y : X) (ys : List X) → NonePasses p xs → p y ≡ true
     → position_or_len p (xs ++ y ∷ ys) ≡ length xs
 position_or_len-at p [] y ys h e = rw e
 position_or_len-at p (x ∷ xs) y ys h e = rw (h.0, position_or_len-at p xs y ys h.1 e) (omega arith)
 
--- what stands before it
+-- what comes before it
 pub before_first-at : {X : Type 0} (p : X → Bool) (xs : List X) (y : X) (ys : List X) → NonePasses p xs → p y ≡ true → before_first p (xs ++ y ∷ ys) ≡ xs
 before_first-at p xs y ys h e = let place = position_or_len-at p xs y ys h e in rw place (grind (arith, common_steps))
 
--- what stands after it
+-- what comes after it
 past : {X : Type 0} (xs : List X) (y : X) (ys : List X) → drop (length xs + 1) (xs ++ y ∷ ys) ≡ ys
 past [] y ys = refl
 past (x ∷ xs) y ys = let more : length (x ∷ xs) + 1 ≡ suc (length xs + 1) = grind (arith, common_steps) in rw more (past xs y ys)
@@ -65,7 +65,7 @@ cut_at_first {X} p (x ∷ xs) =
       ]
     ] refl
 
--- ---- the same, from where the only one stands
+-- ---- the same, from the place of the only one
 
 -- the list is cut at i
 pub record IsCutAt {X : Type 0} (p : X → Bool) (xs : List X) (i : ℕ) : Type 0 where

@@ -9,7 +9,7 @@ two_digits n = (48 + n / 10) ∷ (48 + n % 10) ∷ []
 abbrev pub unsigned_money : ℕ → List ℕ
 unsigned_money n = decimal (n / 100) ++ (46 ∷ two_digits (n % 100))
 
--- the money text of v: `-` where v is below 0, the digits of its size
+-- the money text of v: `-` if v is below 0, then the digits of its size
 unfoldable pub money : ℤ → List ℕ
 money (pos n) = unsigned_money n
 money (negsuc n) = 45 ∷ unsigned_money (suc n)

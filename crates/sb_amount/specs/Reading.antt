@@ -25,7 +25,7 @@ without_sign (c ∷ cs) = if c == 45 then cs else c ∷ cs
 abbrev pub has_two_decimals : List ℕ → Bool
 has_two_decimals body = (count_by is_point body == 1) && (length (after_first is_point body) == 2)
 
--- one digit, or several of which the first isn't 0
+-- one digit, or several digits whose first isn't 0
 abbrev pub is_canonical : List ℕ → Bool
 is_canonical [] = false
 is_canonical (d ∷ []) = true
@@ -46,17 +46,17 @@ money_fault text =
     else if nat_lt (nat_abs LIMIT) (cents_of_digits body) then Some TooLarge
     else None
 
--- the amount that a text without a fault says
+-- the amount that a text without a fault spells
 unfoldable pub amount_of : List ℕ → ℤ
 amount_of text =
     let size = pos (cents_of_digits (without_sign text)) in
     if is_negative text then neg_ℤ size else size
 
--- the value, or the fault where there is one
+-- the fault if there is one, else the value
 abbrev pub unless_fault : {A E : Type 0} → Option E → A → Result A E
 unless_fault None value = Ok value
 unless_fault (Some fault) value = Err fault
 
--- the amount that a text says, or its first fault
+-- the amount that a text spells, or its first fault
 abbrev pub read_money : List ℕ → Result ℤ MoneyFault
 read_money text = unless_fault (money_fault text) (amount_of text)

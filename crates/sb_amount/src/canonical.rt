@@ -2,7 +2,7 @@
 ghost use Rattle.std.specs.Prelude.{◌≡◌};
 ghost use Rattle.sb_amount.specs.Reading.{is_canonical};
 
-/// Whether there is one byte, or several of which the first isn't `0`.
+/// Whether there is one byte, or several whose first isn't `0`.
 ///
 /// It doesn't test that they are digits.
 pub fn is_canonical(digits: &[u8]) -> bool

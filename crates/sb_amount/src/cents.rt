@@ -7,7 +7,7 @@ use std::marker::Model;
 /// The greatest size of an amount or a balance, in cents.
 pub const LIMIT: i64 = 1_000_000_000_000;
 
-/// An amount or a balance in whole cents, from `-LIMIT` to `LIMIT`; by default it is nothing.
+/// An amount or a balance in whole cents, from `-LIMIT` to `LIMIT`. The default is 0.
 #[derive(Clone, Copy, Debug, Default, PartialEq, Eq, Hash)]
 pub struct Cents {
     cents: i64,
@@ -27,7 +27,7 @@ impl Model for Cents {
 }
 
 impl Cents {
-    /// The amount of this many cents, or `None` where that is past the limit.
+    /// The amount of this many cents, or `None` if that is past the limit.
     pub fn new(cents: i64) -> Option<Cents>
         ensures { SomeIff result (IsWithinLimit cents) cents }
     {
@@ -38,7 +38,7 @@ impl Cents {
         }
     }
 
-    /// How many cents it is.
+    /// The number of cents.
     pub fn value(self) -> i64
         ensures value { result ≡ self }
         ensures within { IsWithinLimit self }
@@ -46,7 +46,7 @@ impl Cents {
         self.cents
     }
 
-    /// The sum of two amounts, or `None` where that is past the limit.
+    /// The sum of two amounts, or `None` if that is past the limit.
     pub fn plus(self, other: Cents) -> Option<Cents>
         ensures { SomeIff result (IsWithinLimit (self +ℤ other)) (self +ℤ other) }
     {

@@ -1,10 +1,10 @@
-//! Why a text is no money text.
+//! Why a text isn't money text.
 ghost use Rattle.std.specs.Prelude.{◌≡◌};
 ghost use Rattle.sb_amount.specs.Faults.{money_fault_number};
 
 use thiserror::Error;
 
-/// What is wrong with a text that is no money text: the first fault in this order.
+/// The first fault, in this order, of a text that isn't money text.
 #[derive(Clone, Copy, Debug, PartialEq, Eq, Error)]
 pub enum MoneyFault {
     /// Nothing follows the optional `-`.

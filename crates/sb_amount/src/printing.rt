@@ -14,7 +14,7 @@ pub fn print(amount: Cents) -> ArrayString<24>
     print_total(amount.value())
 }
 
-/// The money text of any number of cents, as of a bank's total.
+/// The money text of any number of cents, such as a bank's total.
 pub fn print_total(cents: i64) -> ArrayString<24>
     ensures { result.bytes ≡ money cents }
 {

@@ -15,11 +15,11 @@ impl Cents {
     ///
     /// Fails with the first fault of the text, in the order of [`MoneyFault`]'s variants.
     pub fn read(text: &[u8]) -> Result<Cents, MoneyFault>
-        // What is read is spelled so.
+        // A text that is read spells the amount.
         ensures spelled { IfOk result (λ amount. text.now ≡ money amount) }
-        // What is spelled so is read.
+        // A text that spells an amount is read.
         ensures taken { (v : ℤ) → IsWithinLimit v → text.now ≡ money v → result ≡ Ok v }
-        // Which fault it is.
+        // The fault.
         ensures exact { result ≡ read_money text.now }
     {
         let (is_negative, body) = split_sign(text);
@@ -51,8 +51,8 @@ fn split_sign(text: &[u8]) -> (bool, &[u8])
     }
 }
 
-// The number that the digits spell without the points, or `LIMIT + 1` where it is above the limit,
-// and how many points there are. `None` where a byte is neither a digit nor a point.
+// The number that the digits spell without the points, or `LIMIT + 1` if it is above the limit, and
+// the number of points. `None` if a byte is neither a digit nor a point.
 fn read_digits(body: &[u8]) -> Option<(i64, usize)>
     ensures { MatchOption result
         (list_all (λ c. is_ascii_digit c || is_point c) body.now ≡ false)
@@ -74,7 +74,7 @@ fn read_digits(body: &[u8]) -> Option<(i64, usize)>
     Some((size, points))
 }
 
-// The part before the point, where there is exactly one point with exactly two bytes after it.
+// The part before the point, if there is exactly one point with exactly two bytes after it.
 fn whole_part(body: &[u8], points: usize) -> Option<&[u8]>
     requires { points ≡ count_by is_point body.now }
     ensures { MatchOption result

@@ -1,19 +1,20 @@
-//! What no clause says: amounts worked by hand, texts of faults, amounts as a plain program prints them.
+//! What no clause says: amounts worked by hand, texts of faults, and amounts as a plain program
+//! prints them.
 use super::*;
 use std::alloc::Global;
 use std::process::Abort;
 
-// A case comes out as it has to.
+// Checks one case.
 fn expect(rt: &impl Abort, holds: bool, case: &str) {
     assert!(rt; holds, "{case}");
 }
 
-// A case is shown in these words.
+// Checks the words of one case.
 fn expect_words(rt: &impl Abort, found: &str, words: &str) {
     assert!(rt; found == words, "{words}");
 }
 
-// A text is read as so many cents.
+// Checks that a text is read as this many cents.
 fn expect_read(rt: &impl Abort, text: &str, number: i64) {
     let amount = Cents::read(text.as_bytes()).expect(rt, "an amount");
     expect(rt, amount.value() == number, text);
@@ -35,7 +36,7 @@ fn amounts_that_are_read(rt: HostRuntime) {
     }
 }
 
-// A text is no amount, with this fault.
+// Checks that a text has this fault.
 fn expect_fault(rt: &impl Abort, text: &str, fault: MoneyFault) {
     let found = Cents::read(text.as_bytes()).err();
     expect(rt, found == Some(fault), text);
@@ -110,7 +111,7 @@ fn digits_that_are_canonical(rt: HostRuntime) {
     }
 }
 
-// So many cents are printed so.
+// Checks the text of this many cents.
 fn expect_printed(rt: &impl Abort, number: i64, text: &str) {
     let amount = Cents::new(number).expect(rt, "an amount within the limit");
     expect_words(rt, print(amount).as_str(), text);
@@ -133,7 +134,7 @@ fn amounts_that_are_printed(rt: HostRuntime) {
     expect_words(&rt, print_total(i64::MAX).as_str(), "92233720368547758.07");
 }
 
-// The sum of two amounts, or `None` where there is none.
+// Checks the sum of two amounts, or that there is none.
 fn sum_of(rt: &impl Abort, a: i64, b: i64) -> Option<i64> {
     let first = Cents::new(a).expect(rt, "an amount within the limit");
     let second = Cents::new(b).expect(rt, "an amount within the limit");
@@ -158,7 +159,7 @@ fn sums_up_to_the_limit(rt: HostRuntime) {
     expect(&rt, sum_of(&rt, LIMIT, -LIMIT) == Some(0), "both limits");
 }
 
-// A fault has this number, and is shown so.
+// Checks a fault's number and its text.
 fn expect_shown(rt: &impl Abort, alloc: Global, fault: MoneyFault, number: u8, words: &str) {
     let shown = fault.to_string(alloc).expect(rt, "memory for a text");
     expect(rt, fault.number() == number, words);
@@ -187,7 +188,7 @@ fn plain_money(rt: &impl Abort, alloc: Global, number: i32) -> String {
     format!(in alloc; "{sign}{}.{:02}", size / 100, size % 100).expect(rt, "memory for a text")
 }
 
-// An amount is printed as plain money, and read again.
+// Checks that an amount is printed as plain money, and read back.
 fn expect_plain(rt: &impl Abort, alloc: Global, number: i32) {
     let plain = plain_money(rt, alloc, number);
     expect_words(rt, print_total(i64::from(number)).as_str(), plain.as_str());

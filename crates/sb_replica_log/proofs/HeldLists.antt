@@ -20,7 +20,7 @@ module _ {A : Type 0} (items : List A) (size : ℕ) (many : length items ≡ 64)
   turn : (more : ℕ) → more < 64 → ComesRound (length items) (suc size % 64) more ((suc size + more) % 64)
   turn more lt = subst (λ (n : ℕ). ComesRound n (suc size % 64) more ((suc size + more) % 64)) (sym many) (comes_round (suc size) more lt)
 
-  -- the log is longer by one, and the place of its last number is written anew
+  -- the log is longer by one, and the place of its last number is overwritten
   pub held-next : (item : A) → in_order_after (suc size) (slice_set items (suc size % 64) item) ≡ drop 1 (in_order_after size items) ++ item ∷ []
   held-next item =
       let next : suc size + 1 ≡ suc (suc size) = omega arith in

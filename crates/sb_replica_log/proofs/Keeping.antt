@@ -12,7 +12,7 @@ use Rattle.cown_board.specs.Board.{BoardOf, length_of}
 use Rattle.sb_replica_log.specs.Log.{LogOf, IsLog, none_held}
 use Rattle.sb_replica_log.specs.Offers.{taken, held_for}
 
--- an empty place that is put last holds nothing
+-- an empty place appended at the end holds nothing
 held_before : {A : Type 0} (held : List (Option A)) (place : ℕ) (op : A)
     → slice_get (held ++ None ∷ []) place ≡ Some (Some op) → slice_get held place ≡ Some (Some op)
 held_before [] zero op e = absurd cc
@@ -33,7 +33,7 @@ held_nowhere size place op e =
     let missing = get_or-replicate size place none none within in
     cc
 
--- what is held after one more: it, or what was
+-- after one more op is held: that op, or what was held before
 held_with : {A : Type 0} (held : List (Option A)) (written place : ℕ) (new op : A) → slice_get (slice_set held written (Some new)) place ≡ Some (Some op)
     → ((place ≡ written) × (op ≡ new)) ⊎ (slice_get held place ≡ Some (Some op))
 held_with held written place new op e = elim (cases_eq place written) [

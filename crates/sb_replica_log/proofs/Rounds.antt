@@ -10,14 +10,14 @@ pub length-round : {A : Type 0} (start : ℕ) (items : List A) → length (round
 length-round start items =
     omega (arith, length-append (drop start items) (take start items), length-drop start items, length-take start items)
 
--- a list of one thing alone stays
+-- a list of one element repeated stays as it is
 pub round-replicate : {A : Type 0} (start size : ℕ) (item : A) → start ≤ size → round_from start (replicate size item) ≡ replicate size item
 round-replicate start size item within =
     ap (λ left. left ++ take start (replicate size item)) (drop-replicate start size item)
     ∙ ap (λ right. replicate (size - start) item ++ right) (take-replicate start size item within)
     ∙ replicate-append-replicate (size - start) start item ∙ ap (λ n. replicate n item) (omega (arith, within))
 
--- the place that comes so many after a start, counted round
+-- the place that comes this many after a start, counted round
 pub record ComesRound (size start more place : ℕ) : Type 0 where
   pub start_in : start < size
   pub more_in : more < size
@@ -37,7 +37,7 @@ comes_round first more within = record {
 }
 
 module _ {A : Type 0} (items : List A) (start more place : ℕ) (round : ComesRound (length items) start more place) where
-  -- what is written there stands so many after the start
+  -- what is written there comes this many after the start
   pub round-set : (item : A) → round_from start (slice_set items place item) ≡ slice_set (round_from start items) more item
   round-set item =
       let size : length (drop start items) ≡ length items - start = length-drop start items in
@@ -64,7 +64,7 @@ slice_get-drop items zero = refl
 slice_get-drop [] (suc start) = refl
 slice_get-drop (item ∷ items) (suc start) = slice_get-drop items start
 
--- what stands at the start is the first
+-- the element at the start is the first
 pub round-first : {A : Type 0} (items : List A) (start : ℕ) → start < length items → slice_get (round_from start items) 0 ≡ slice_get items start
 round-first items start lt =
     slice_get-first (drop start items) (take start items) (omega (arith, length-drop start items, lt)) ∙ slice_get-drop items start
@@ -74,7 +74,7 @@ drop-one zero items = refl
 drop-one (suc start) [] = refl
 drop-one (suc start) (item ∷ items) = drop-one start items
 
--- from the next place on, where the first is written anew: it is the last then
+-- from the next place on, after the first was overwritten: it is then the last
 pub round-next : {A : Type 0} (items : List A) (start next : ℕ) (item : A) → ComesRound (length items) start 1 next
     → round_from next (slice_set items start item) ≡ drop 1 (round_from start items) ++ item ∷ []
 round-next items start next item round =

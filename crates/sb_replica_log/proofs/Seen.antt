@@ -10,7 +10,7 @@ use Rattle.sb_replica_log.specs.Log.{LogOf, IsLog, none_held}
 use Rattle.sb_replica_log.specs.Offers.{accepted, taken, held_for}
 use Rattle.sb_replica_log.specs.Places.{in_order_after}
 
--- of a board, and the ops by the places of their numbers
+-- the view of a board, and of the ops by the places of their numbers
 abbrev pub seen : BoardOf Op → List (Option Op) → LogOf
 seen board items = record { board = board; held = in_order_after (length_of board) items }
 

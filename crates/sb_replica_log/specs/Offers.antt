@@ -1,4 +1,4 @@
--- An entry offered to a replica log: what it is answered, and what it leaves.
+-- An entry offered to a replica log: the answer, and the log after it.
 use Rattle.std.specs.Prelude.{ℕ, suc, ◌+◌, ◌-◌, nat_le, nat_lt, ◌==◌, ◌||◌, if◌then◌else◌, Option, Some, None, option_map, [], ◌∷◌, ◌++◌, drop, slice_set}
 use Rattle.sb_calls.specs.declared.call.TheConstants.{LOG_CALLS}
 use Rattle.sb_calls.specs.declared.op.Op.{Op}
@@ -10,11 +10,12 @@ use Rattle.sb_replica_log.specs.declared.offered.Offered.{Offered}
 use Rattle.sb_replica_log.specs.declared.offered.Offered.TheVariants.{Next, Repeat, Gap, Held, Busy}
 use Rattle.sb_replica_log.specs.declared.replica_log.TheConstants.{HELD_ENTRIES}
 
--- what the next entry is answered: it is taken, unless too much is unfinished
+-- the answer to the next entry: it is taken, unless too much is unfinished
 abbrev pub next_offered : BoardOf Op → Offered
 next_offered board = if open_of board == OPEN_BEHAVIOURS then Busy (length_of board) else Next
 
--- the first case that holds: it is there already, it is too far ahead, one before it is missing, or it is the next
+-- the answer to an entry, the first case that holds: it is there already, it is too far ahead, one
+-- before it is missing, or it is the next
 abbrev pub offered : BoardOf Op → ℕ → Offered
 offered board number =
     if nat_le number (length_of board) then Repeat
@@ -22,19 +23,19 @@ offered board number =
     else if nat_lt (suc (length_of board)) number then Held number
     else next_offered board
 
--- the entry goes last in the log, and waits
+-- the entry is appended to the log, and waits
 abbrev pub accepted : BoardOf Op → Op → BoardOf Op
 accepted board op = record board { log = board.log ++ op ∷ []; states = board.states ++ Waiting ∷ [] }
 
--- the board accepts it, and each place of what is held is that of one number more
+-- the board accepts it, and each place of what is held moves up by one number
 abbrev pub taken : LogOf → Op → LogOf
 taken log op = record { board = accepted log.board op; held = drop 1 log.held ++ None ∷ [] }
 
--- what was held for the number before is replaced
+-- the op replaces what was held for its number
 abbrev pub held_for : LogOf → ℕ → Op → LogOf
 held_for log number op = record log { held = slice_set log.held (number - length_of log.board - 1) (Some op) }
 
--- only the next entry, and one that is held, change anything
+-- the log after an offer: only the next entry, and one that is held, change anything
 abbrev pub after_offer : LogOf → Op → Offered → LogOf
 after_offer log op Next = taken log op
 after_offer log op Repeat = log
@@ -42,15 +43,15 @@ after_offer log op (Gap size) = log
 after_offer log op (Held number) = held_for log number op
 after_offer log op (Busy size) = log
 
--- what the op that is held for the next number is answered, if there is one
+-- the answer to the op that is held for the next number, if there is one
 abbrev pub advanced : LogOf → Option Offered
 advanced log = option_map (λ op. next_offered log.board) (next_held log)
 
--- and what it leaves
+-- the log after that op was offered
 abbrev pub after_held : LogOf → Option Op → LogOf
 after_held log None = log
 after_held log (Some op) = after_offer log op (next_offered log.board)
 
--- the log once it took the next entry that it holds, if it holds that
+-- the log after it took the entry that it holds for the next number, if any
 abbrev pub after_advance : LogOf → LogOf
 after_advance log = after_held log (next_held log)

@@ -1,4 +1,4 @@
-//! What a replica log is limited to.
+//! The limit of a replica log.
 ghost use Rattle.std.specs.Prelude.{◌≡◌};
 
 use crate::replica_log::HELD_ENTRIES;

@@ -1,4 +1,4 @@
-//! A board that takes the entries of one log, in order, however they come.
+//! A board that takes the entries of one log in order, in whatever order they arrive.
 #![tactic(auto)]
 
 mod laws;

@@ -17,15 +17,15 @@ use sb_rows::Columns;
 use std::alloc::AllocError;
 use std::marker::Model;
 
-/// How many numbers after a log's length an entry is held for.
+/// An entry is held for this many numbers after a log's length.
 pub const HELD_ENTRIES: usize = 64;
 
-/// A board whose log is a beginning of one numbered log: an entry that comes again changes nothing, and one
-/// that comes a little early is held until its turn.
+/// A board whose log is a beginning of one numbered log. A repeated entry changes nothing, and an
+/// entry that comes a little early is held until its turn.
 #[derive(Drop)]
 pub struct ReplicaLog {
     board: Board<Op>,
-    // The op for each of the next numbers that came already, at the place of its number, counted round.
+    // The ops that came early, each at the place of its number, counted round.
     held: [Option<Op>; HELD_ENTRIES],
 }
 
@@ -41,7 +41,7 @@ impl Model for ReplicaLog {
     ghost invariant = { λ l. IsLog (record { board = l.board; held = in_order_after (length_of l.board) l.held }) };
 }
 
-// For the prover alone: here the array gets its clause.
+// For the prover alone: the array gets its clause here.
 #[inline(always)]
 fn nothing_held() -> [Option<Op>; HELD_ENTRIES]
     ensures { result ≡ replicate HELD_ENTRIES None }
@@ -49,7 +49,7 @@ fn nothing_held() -> [Option<Op>; HELD_ENTRIES]
     [None; HELD_ENTRIES]
 }
 
-// Where the op for a number is held.
+// The place at which the op for a number is held.
 #[inline(always)]
 fn place_of(number: u64) -> usize
     ensures { result ≡ number % HELD_ENTRIES }
@@ -58,7 +58,7 @@ fn place_of(number: u64) -> usize
 }
 
 impl ReplicaLog {
-    /// The log that this board has so far. No entry is held.
+    /// The replica log that this board has so far. It holds no entry.
     pub fn open(board: Board<Op>) -> ReplicaLog
         ensures { result ≡ record { board = board; held = none_held } }
     {
@@ -68,10 +68,10 @@ impl ReplicaLog {
         }
     }
 
-    /// Offers the entry with this number. It is taken where it is the next one, held where it comes a little
-    /// early, and else nothing changes.
+    /// Offers the entry with this number. The log takes it if it is the next one and holds it if it
+    /// comes a little early. Otherwise nothing changes.
     ///
-    /// Fails where memory is refused for an entry that would be taken; nothing changes then.
+    /// Fails if memory is refused for an entry that would be taken; then nothing changes.
     #[inline]
     pub fn offer_entry(&mut self, number: u64, op: Op) -> Result<Offered, AllocError>
         requires { IsOpWithin (length self.old.board.opening.savings) op }
@@ -80,7 +80,7 @@ impl ReplicaLog {
         ensures state { MatchResult result
             (λ answer. self.new ≡ after_offer self.old op answer)
             (λ refused. self.new ≡ self.old) }
-        // After any calls on its board, with this one too, the board is true to its log.
+        // After any calls on its board, this one too, the board is true to its log.
         ensures played { IfOk result (λ answer. answer ≡ Offered.Next →
             StaysTrueToLog declared_cowns effect_of self.old.board
             (Submitted op (Ok (suc (length_of self.old.board)))) self.new.board) }
@@ -99,16 +99,16 @@ impl ReplicaLog {
         self.take_next(op)
     }
 
-    /// Takes the op that is held for the next number, where there is one, as if it were offered now.
+    /// Takes the op that is held for the next number, if there is one, as if it were offered now.
     ///
-    /// Fails where memory is refused for an op that would be taken; nothing changes then.
+    /// Fails if memory is refused for an op that would be taken; then nothing changes.
     pub fn advance(&mut self) -> Result<Option<Offered>, AllocError>
         ensures answer { IfOk result (λ answer. answer ≡ advanced self.old) }
         ensures err { OnErr result (advanced self.old ≡ Some Offered.Next) }
         ensures state { MatchResult result
             (λ answer. self.new ≡ after_advance self.old)
             (λ refused. self.new ≡ self.old) }
-        // After any calls on its board, with this one too, the board is true to its log.
+        // After any calls on its board, this one too, the board is true to its log.
         ensures played { IfOk result (λ answer. answer ≡ Some Offered.Next → IfSome (next_held self.old)
             (λ op. StaysTrueToLog declared_cowns effect_of self.old.board
             (Submitted op (Ok (suc (length_of self.old.board)))) self.new.board)) }
@@ -130,7 +130,8 @@ impl ReplicaLog {
         self.held[place_of(next)]
     }
 
-    // Takes the op of the next number, and drops what was held for it, unless as many as may be are unfinished.
+    // Takes the op of the next number, and drops what was held for it, unless the limit of
+    // unfinished entries is reached.
     #[inline(always)]
     fn take_next(&mut self, op: Op) -> Result<Offered, AllocError>
         requires within { IsOpWithin (length self.old.board.opening.savings) op }
@@ -158,7 +159,7 @@ impl ReplicaLog {
         }
     }
 
-    /// Makes room for this many entries more, as [`Board::reserve`].
+    /// Makes room for this many more entries, as [`Board::reserve`] does.
     pub fn reserve(&mut self, additional: usize) -> Result<(), AllocError>
         ensures { self.new ≡ self.old }
     {
@@ -185,7 +186,7 @@ impl ReplicaLog {
         self.board.length()
     }
 
-    /// The reply to a number, as [`Board::reply`].
+    /// The reply to a number, as [`Board::reply`] gives it.
     #[inline]
     pub fn reply(&self, number: u64) -> Option<Reply>
         ensures value { result ≡ reply_in self.now.board number }
@@ -196,7 +197,8 @@ impl ReplicaLog {
         self.board.reply(number)
     }
 
-    /// The columns after all entries, or `None` while one is unfinished. Fails where memory is refused.
+    /// The columns after all entries, or `None` while one is unfinished. Fails if memory is
+    /// refused.
     pub fn columns(&self) -> Result<Option<Columns>, AllocError>
         ensures value { IfOk result (λ columns. MatchOption columns (open_of self.now.board ≢ 0)
             (λ all. (open_of self.now.board ≡ 0) × IsAfterAll declared_cowns effect_of self.now.board all)) }
@@ -206,7 +208,7 @@ impl ReplicaLog {
         self.board.columns()
     }
 
-    /// Makes a cut at the log's length, and answers that, as [`Board::cut`].
+    /// Makes a cut at the log's length, and answers that length, as [`Board::cut`] does.
     pub fn cut(&mut self) -> Result<u64, CutFault>
         ensures number { IfOk result (λ number. number ≡ length_of self.old.board) }
         ensures ok { OnOk result ((self.old.board.cut ≡ None) ×
@@ -216,16 +218,16 @@ impl ReplicaLog {
         ensures err { OnErr result (self.new ≡ self.old) }
         ensures pending { (number : ℕ) →
             IsErrOf result (CutFault.Pending number) ↔ (self.old.board.cut ≡ Some number) }
-        // After any calls on its board, with this one too, the board is true to its log.
+        // After any calls on its board, this one too, the board is true to its log.
         ensures played { StaysTrueToLog declared_cowns effect_of self.old.board (CutMade result) self.new.board }
     {
         self.board.cut()
     }
 
-    /// Drops the cut, where there is one.
+    /// Drops the cut, if there is one.
     pub fn drop_cut(&mut self)
         ensures state { self.new ≡ record self.old { board = record self.old.board { cut = None } } }
-        // After any calls on its board, with this one too, the board is true to its log.
+        // After any calls on its board, this one too, the board is true to its log.
         ensures played { StaysTrueToLog declared_cowns effect_of self.old.board CutDropped self.new.board }
     {
         self.board.drop_cut();

@@ -23,7 +23,7 @@ customer name savings checking = record { name = name; savings = savings; checki
 none_is_some : {A : Type 0} {x : A} → None ≡ Some x → ⊥
 none_is_some e = cc
 
--- the customers from place i on begin with the one there
+-- the customers from place i on begin with the one at i
 pub customers_step : (names : List (List ℕ)) (savings checking : List ℤ) (i : ℕ) (name : List ℕ) (s c : ℤ)
     → slice_get names i ≡ Some name → slice_get savings i ≡ Some s → slice_get checking i ≡ Some c
     → drop i (customers_of names (record { savings = savings; checking = checking }))

@@ -6,13 +6,13 @@ use std::alloc::{AllocError, Global};
 use std::io::{ErrorKind, Read};
 use thiserror::Error;
 
-/// How many reads an input may take; one more counts as a failed read.
+/// How many reads an input may take. One more counts as a failed read.
 pub const READS: u32 = 1_000_000_000;
 
-// How many bytes are asked of a reader at once.
+// How many bytes one read asks for.
 const CHUNK: usize = 65_536;
 
-/// Why an input isn't read.
+/// Why an input can't be read.
 #[derive(Clone, Copy, Debug, PartialEq, Eq, Error)]
 pub enum ReadFault {
     /// A read failed, or the input takes more than [`READS`] reads.
@@ -33,7 +33,7 @@ impl From<AllocError> for ReadFault {
 
 /// Reads all that a reader gives.
 ///
-/// A read that was interrupted is made again, and counts as one.
+/// An interrupted read is repeated, and counts as one.
 pub fn read_all<R: Read>(alloc: Global, reader: &mut R) -> Result<Vec<u8>, ReadFault>
     ensures { IfOk result (λ input. IfSome (R.remaining reader.old) (λ bytes. input.items ≡ bytes)) }
 {

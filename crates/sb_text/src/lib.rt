@@ -1,4 +1,5 @@
-//! What the programs share of their texts: reading a whole input, listing rows, writing a whole output.
+//! What the programs share of their texts: reading a whole input, listing rows, writing a whole
+//! output.
 #![tactic(auto)]
 
 mod input;

@@ -12,7 +12,8 @@ use sb_amount::{Cents, print, print_total};
 use sb_rows::{Columns, Directory, Name};
 use std::alloc::AllocError;
 
-/// Writes a line `NAME SAVINGS CHECKING` a customer, in opening order, and the line `total TOTAL`.
+/// Writes a line `NAME SAVINGS CHECKING` for each customer, in opening order, and the line `total
+/// TOTAL`.
 pub fn list_rows(
     directory: &Directory,
     columns: &Columns,
@@ -27,7 +28,7 @@ pub fn list_rows(
     Ok(())
 }
 
-// Writes a line a customer.
+// Writes a line for each customer.
 fn list_customers(
     directory: &Directory,
     columns: &Columns,

@@ -1,4 +1,4 @@
--- What lines of events say, one line at a time.
+-- The meaning of lines of events, one line at a time.
 use Rattle.std.proofs.Common.{◌≡◌, ℕ, ◌+◌, Result, Ok, Err, List, [], ◌∷◌, ◌++◌, length, refl, ap, subst, ◌∙◌}
 use Rattle.sb_rows.specs.Opening.{◌>>=◌, at_line}
 use Rattle.schedule_text.specs.EventText.{event_of}
@@ -17,7 +17,7 @@ pub events_from-line : (first : ℕ) (before : List Event) (line : List ℕ) (ls
 unfolding events_from
 events_from-line first before line ls event e = ap (λ r. at_line (first + length before) r >>= λ a. events_from first (before ++ a ∷ []) ls) e
 
--- a line at fault stops what would follow it
+-- a line at fault ends the reading
 stopped : (number : ℕ) (read : Result Event EventFault) (rest : Event → Result (List Event) (ℕ × EventFault)) (found : ℕ × ScheduleLineFault)
     → in_events (at_line number read) ≡ Err found → in_events (at_line number read >>= rest) ≡ Err found
 stopped number (Ok event) rest found h = absurd cc
@@ -37,7 +37,7 @@ events_from-fault first number before line ls all (Line n f) e at h =
     (subst (λ (k : ℕ). in_events (at_line k (event_of line)) ≡ Err (n, f)) at h)
 events_from-fault first number before line ls all OutOfMemory e at h = tt
 
--- with no line left those before are all
+-- with no line left, the events before are all
 pub events_from-end : (first : ℕ) (before : List Event) → events_from first before [] ≡ Ok before
 unfolding events_from
 events_from-end first before = refl

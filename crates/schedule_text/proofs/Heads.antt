@@ -9,7 +9,7 @@ not_four a b c [] h = refl
 not_four a b c (d ∷ []) h = absurd (h d refl)
 not_four a b c (d ∷ e ∷ more) h = refl
 
--- the same, where they are known one by one
+-- the same, if they are known one by one
 pub no_head : (a b c : List ℕ) (all second third rest : List (List ℕ)) → all ≡ a ∷ second → second ≡ b ∷ third → third ≡ c ∷ rest
     → ((word : List ℕ) → rest ≢ word ∷ []) → head_of_words all ≡ None
 no_head a b c all second third rest first next last h =

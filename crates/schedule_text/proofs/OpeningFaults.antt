@@ -1,4 +1,4 @@
--- The line at fault of an opening is at most the one after its text's last.
+-- The line at fault of an opening is at most the one after its text's last line.
 use Rattle.std.proofs.Common.{◌≡◌, ℕ, suc, ◌+◌, ◌≤◌, ◌==◌, Bool, true, false, if◌then◌else◌, Result, Ok, Err, List, [], ◌∷◌, ◌++◌, length, codes, bytes_eq, ap, arith, length-append}
 use Rattle.std.specs.List.{slice_split}
 use Rattle.std.proofs.lemmas.List.Splits.{length-slice_split}
@@ -34,7 +34,7 @@ next_line before ls begins customer =
     if begins then Ok before
     else (at_line (length before + 1) customer >>= λ c. customers_from (before ++ c ∷ []) ls)
 
--- faults that are one are at one line
+-- equal faults are at the same line
 same_line : (n number : ℕ) (f fault : LineFault) → ◌≡◌ {A = Result (List Customer) (ℕ × LineFault)} (Err (n, f)) (Err (number, fault)) → n ≡ number
 same_line n number f fault e =
     let same : ◌≡◌ {A = ℕ × LineFault} (n, f) (number, fault) = cc in
@@ -57,7 +57,7 @@ stops_within (line ∷ ls) before number fault e =
     one_line before ls number fault (bytes_eq line (codes "begin")) (customer_of before (words line))
     (λ c later. stops_within ls (before ++ c ∷ []) number fault later) e
 
--- an opening at fault is so in its customers
+-- an opening at fault has the fault in its customers
 in_customers : (text : List ℕ) (read : Result (List Customer) (ℕ × LineFault)) (number : ℕ) (fault : LineFault)
     → read >>= with_consumed text ≡ Err (number, fault) → read ≡ Err (number, fault)
 in_customers text (Ok customers) number fault e = absurd cc

@@ -1,4 +1,4 @@
--- What a line of a schedule's events says.
+-- The meaning of a line of a schedule's events.
 use Rattle.std.specs.Prelude.{ℕ, if◌then◌else◌, Option, Some, None, Result, Ok, Err, List, [], ◌∷◌, codes}
 use Rattle.std.specs.Str.{bytes_eq}
 use Rattle.sb_rows.specs.Text.{words}
@@ -28,20 +28,20 @@ abbrev pub with_three : (ℕ → ℕ → ℕ → Event) → Option ℕ → Optio
 with_three made (Some a) b c = with_two (made a) b c
 with_three made None b c = Err BadNumber
 
--- the words after that of an event that takes one number
+-- the event that the words after its name say, if it takes one number
 abbrev pub of_one : (ℕ → Event) → List (List ℕ) → Result Event EventFault
 of_one made (a ∷ []) = with_one made (read_number a)
 of_one made [] = Err WrongWords
 of_one made (a ∷ b ∷ more) = Err WrongWords
 
--- two numbers
+-- the same for two numbers
 abbrev pub of_two : (ℕ → ℕ → Event) → List (List ℕ) → Result Event EventFault
 of_two made (a ∷ b ∷ []) = with_two made (read_number a) (read_number b)
 of_two made [] = Err WrongWords
 of_two made (a ∷ []) = Err WrongWords
 of_two made (a ∷ b ∷ c ∷ more) = Err WrongWords
 
--- three numbers
+-- the same for three numbers
 abbrev pub of_three : (ℕ → ℕ → ℕ → Event) → List (List ℕ) → Result Event EventFault
 of_three made (a ∷ b ∷ c ∷ []) = with_three made (read_number a) (read_number b) (read_number c)
 of_three made [] = Err WrongWords
@@ -87,7 +87,7 @@ of_ask (client ∷ []) = Err WrongWords
 
 -- ---- a line
 
--- by its first word, of checkpoints, and of the states that replicas get from others
+-- an event by its first word: those of checkpoints, and of states that replicas get from others
 abbrev pub state_event : List ℕ → List (List ℕ) → Result Event EventFault
 state_event verb rest =
     if bytes_eq verb (codes "mark") then of_mark rest
@@ -98,7 +98,7 @@ state_event verb rest =
     else if bytes_eq verb (codes "adopt") then of_two event.Adopt rest
     else Err UnknownEvent
 
--- of what replicas do without the network
+-- an event by its first word: those that replicas do without the network
 abbrev pub replica_event : List ℕ → List (List ℕ) → Result Event EventFault
 replica_event verb rest =
     if bytes_eq verb (codes "take") then of_three event.Take rest
@@ -107,7 +107,7 @@ replica_event verb rest =
     else if bytes_eq verb (codes "audit") then of_two event.Audit rest
     else state_event verb rest
 
--- of what replicas tell the sequencer
+-- an event by its first word: those that replicas send to the sequencer
 abbrev pub report_event : List ℕ → List (List ℕ) → Result Event EventFault
 report_event verb rest =
     if bytes_eq verb (codes "ack") then of_one event.Ack rest
@@ -116,7 +116,7 @@ report_event verb rest =
     else if bytes_eq verb (codes "from") then of_two event.From rest
     else replica_event verb rest
 
--- by its first word
+-- an event by its first word: all
 abbrev pub event_of_words : List (List ℕ) → Result Event EventFault
 event_of_words [] = Err UnknownEvent
 event_of_words (verb ∷ rest) =

@@ -3,7 +3,7 @@ use Rattle.std.specs.Prelude.{ℕ, ◌≤◌}
 use Rattle.cown_bench.specs.declared.bench.TheConstants.{WORKERS}
 use Rattle.sb_sequencer.specs.declared.sequencer.TheConstants.{REPLICAS}
 
--- a replica or more, with a worker or more each, as many as a bank may have
+-- from one replica, with at least one worker each, up to as many of both as a bank may have
 pub record IsHead (nodes workers : ℕ) : Type 0 where
   pub some_node : 1 ≤ nodes
   pub few_nodes : nodes ≤ REPLICAS

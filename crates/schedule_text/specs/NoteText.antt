@@ -13,7 +13,7 @@ abbrev pub column_text : Column → List ℕ
 column_text Savings = codes "savings"
 column_text Checking = codes "checking"
 
--- what comparing two replicas gave; totals are money
+-- the result of comparing two replicas; totals are money
 abbrev pub audit_line : AuditNote → List ℕ
 audit_line (audit.Busy replica) = codes "busy " ++ decimal replica
 audit_line (audit.Apart first second) = codes "apart " ++ (decimal first ++ (32 ∷ decimal second))

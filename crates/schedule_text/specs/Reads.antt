@@ -1,4 +1,4 @@
--- What the reader of a schedule answers, against what the text says.
+-- The answer of a schedule's reader, against what the text says.
 use Rattle.std.specs.Prelude.{◌≡◌, ℕ, Result, Ok, Err}
 use Rattle.schedule_text.specs.ScheduleText.{ScheduleOf}
 use Rattle.schedule_text.specs.declared.fault.ScheduleLineFault.{ScheduleLineFault}
@@ -15,13 +15,13 @@ schedule_seen schedule = record {
   events = schedule.events.items;
 }
 
--- the schedule as the text says it, or the first fault; memory may run out
+-- the schedule that the text says, or its first fault; memory may be refused instead
 abbrev pub Reads : Result Schedule TextFault → Result ScheduleOf (ℕ × ScheduleLineFault) → Type 0
 Reads (Ok schedule) read = read ≡ Ok (schedule_seen schedule)
 Reads (Err (Line line fault)) read = read ≡ Err (line, fault)
 Reads (Err OutOfMemory) read = Unit {0}
 
--- the first line at fault of a part; memory may run out
+-- the first line at fault of a part; memory may be refused instead
 abbrev pub Blames : {A : Type 0} → TextFault → Result A (ℕ × ScheduleLineFault) → Type 0
 Blames (Line line fault) read = read ≡ Err (line, fault)
 Blames OutOfMemory read = Unit {0}

@@ -1,4 +1,4 @@
--- What the text of a schedule says.
+-- The meaning of the text of a schedule.
 use Rattle.std.specs.Prelude.{ℕ, ◌+◌, nat_le, ◌&&◌, if◌then◌else◌, Option, Some, None, Result, Ok, Err, List, [], ◌∷◌, ◌++◌, length, drop, codes}
 use Rattle.std.specs.Str.{bytes_eq}
 use Rattle.sb_rows.specs.Balances.{Balances}
@@ -22,7 +22,7 @@ pub record ScheduleOf : Type 0 where
   pub balances : Balances
   pub events : List Event
 
--- ---- the head: `nodes N workers W`, with N from 1 to as many replicas as a bank may have, and W to as many workers
+-- ---- the head: `nodes N workers W`, each from 1 to as many as a bank may have
 
 abbrev pub head_with : Option ℕ → Option ℕ → Option (ℕ × ℕ)
 head_with (Some nodes) (Some workers) =
@@ -44,7 +44,7 @@ head_of_words (a ∷ b ∷ c ∷ d ∷ e ∷ more) = None
 unfoldable pub head_of : List ℕ → Option (ℕ × ℕ)
 head_of line = head_of_words (words line)
 
--- the head of a text of these lines, which is the first one
+-- the head of a text with these lines: the first one
 abbrev pub head_or_fault : Option (ℕ × ℕ) → Result (ℕ × ℕ) (ℕ × ScheduleLineFault)
 head_or_fault (Some head) = Ok head
 head_or_fault None = Err (1, faults.BadHead)
@@ -55,7 +55,7 @@ head_of_lines (line ∷ ls) = head_or_fault (head_of line)
 
 -- ---- the whole text
 
--- a line of the opening at fault; the opening begins at the second line of the text
+-- a line of the opening at fault; the opening begins at the text's second line
 abbrev pub below_head : {A : Type 0} → Result A (ℕ × LineFault) → Result A (ℕ × ScheduleLineFault)
 below_head (Ok x) = Ok x
 below_head (Err e) = Err (e.0 + 1, faults.Opening e.1)
@@ -65,7 +65,8 @@ abbrev pub in_events : {A : Type 0} → Result A (ℕ × EventFault) → Result 
 in_events (Ok x) = Ok x
 in_events (Err e) = Err (e.0, faults.Event e.1)
 
--- what these lines say, after the events before, or the first line at fault; the first line of all has this number
+-- the events before and those that these lines say, or the first line at fault; the first of these
+-- lines has this number
 unfoldable pub events_from : ℕ → List Event → List (List ℕ) → Result (List Event) (ℕ × EventFault)
 events_from first before [] = Ok before
 events_from first before (line ∷ ls) =

@@ -3,122 +3,123 @@
 use sb_calls::Call;
 use sb_checkpoint::How;
 
-/// One event of a schedule. Replicas are counted from 0; workers, numbers and places in a list of frames or of states from 1.
-/// An event that names something that doesn't exist changes nothing.
+/// One event of a schedule. Replicas are counted from 0; workers, entry numbers, and places in a
+/// list of frames or of states from 1. An event that names something that doesn't exist changes
+/// nothing.
 #[derive(Clone, Copy, PartialEq, Eq)]
 pub enum Event {
     /// A client asks the sequencer for a call.
     Ask {
         /// The client's number.
         client: u32,
-        /// The client's number of the request.
+        /// The client's number for the request.
         request: u32,
         /// What is asked.
         call: Call,
     },
     /// The entry with a number is sent to a replica.
     Send {
-        /// To whom.
+        /// The replica that gets it.
         replica: u32,
         /// The number of the entry.
         number: u32,
     },
-    /// The entries after the length that a replica was last heard of are sent to it, at most 16.
+    /// The entries after the last length heard of a replica are sent to it, at most 16.
     Resend {
-        /// To whom.
+        /// The replica that gets it.
         replica: u32,
     },
-    /// A frame that was sent to a replica comes there; it may come again.
+    /// A frame that was sent to a replica is delivered there. It may be delivered again.
     To {
-        /// Where.
+        /// The replica that gets it.
         replica: u32,
-        /// Which of the frames that were ever sent to it.
+        /// The frame's place among those ever sent to it.
         place: u32,
     },
     /// A replica sends how long its log is.
     Ack {
-        /// Who.
+        /// The replica.
         replica: u32,
     },
     /// A replica sends its reply to a number, if it holds one.
     Answer {
-        /// Who.
+        /// The replica.
         replica: u32,
         /// The number of the entry.
         number: u32,
     },
-    /// A frame that a replica sent comes to the sequencer; it may come again.
+    /// A frame that a replica sent is delivered to the sequencer. It may be delivered again.
     From {
-        /// Whose.
+        /// The replica that sent it.
         replica: u32,
-        /// Which of the frames that it ever sent.
+        /// The frame's place among those that it ever sent.
         place: u32,
     },
     /// A worker takes a behaviour that is ready.
     Take {
-        /// At which replica.
+        /// The replica.
         replica: u32,
-        /// Which worker.
+        /// The worker.
         worker: u32,
-        /// How many ready behaviours before it are left.
+        /// How many ready behaviours before it are passed over.
         index: u32,
     },
-    /// A worker carries out what it has in hand and gives it back.
+    /// A worker executes its job and gives it back.
     Finish {
-        /// At which replica.
+        /// The replica.
         replica: u32,
-        /// Which worker.
+        /// The worker.
         worker: u32,
     },
     /// A replica puts a checkpoint.
     Mark {
-        /// Who.
+        /// The replica.
         replica: u32,
         /// How the put ends.
         how: How,
     },
     /// A replica goes back to its checkpoint.
     Restart {
-        /// Who.
+        /// The replica.
         replica: u32,
     },
     /// A replica begins a cut: a copy of its rows that settles while later numbers run.
     Cut {
-        /// Who.
+        /// The replica.
         replica: u32,
     },
     /// A replica takes the entry that it holds for its next number.
     Next {
-        /// Who.
+        /// The replica.
         replica: u32,
     },
-    /// A replica tells the length of the checkpoint that it keeps.
+    /// A replica sends the length of the checkpoint that it keeps.
     Have {
-        /// Who.
+        /// The replica.
         replica: u32,
     },
-    /// The sequencer is asked from whom a replica gets a state.
+    /// The sequencer says which replica another one gets a state from.
     Donor {
-        /// Who gets one.
+        /// The replica that gets one.
         replica: u32,
     },
     /// The state that a replica keeps is sent to another.
     Give {
-        /// Whose state.
+        /// The replica whose state it is.
         donor: u32,
-        /// To whom.
+        /// The replica that gets it.
         replica: u32,
     },
-    /// A state that was sent to a replica is adopted there; it may be again.
+    /// A state that was sent to a replica is adopted there. It may be adopted again.
     Adopt {
-        /// Where.
+        /// The replica that gets it.
         replica: u32,
-        /// Which of the states that were ever sent to it.
+        /// The state's place among those ever sent to it.
         place: u32,
     },
     /// Two replicas are compared.
     Audit {
-        /// One.
+        /// One of them.
         first: u32,
         /// The other.
         second: u32,

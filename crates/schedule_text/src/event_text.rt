@@ -15,8 +15,8 @@ use sb_checkpoint::How;
 use sb_rows::{Words, next_line};
 use std::alloc::Global;
 
-// How many bytes an event's line takes, as a rule. Room is made by that; where lines are shorter,
-// the list grows.
+// The usual length of an event's line, in bytes. Room is made by that. If lines are shorter, the
+// list grows.
 const USUAL_LINE: usize = 16;
 
 /// The event that a line says.
@@ -51,7 +51,8 @@ fn event_of(mut words: Words) -> Result<Event, EventFault>
     report_event(verb, words)
 }
 
-// The event with a first word, and the words after it, of what replicas tell the sequencer.
+// The event of this first word and the words after it, of those that replicas send to the
+// sequencer.
 fn report_event(verb: &[u8], words: Words) -> Result<Event, EventFault>
     ensures { result ≡ spec.report_event verb.now words.entry }
 {
@@ -74,7 +75,8 @@ fn report_event(verb: &[u8], words: Words) -> Result<Event, EventFault>
     replica_event(verb, words)
 }
 
-// The event with a first word, and the words after it, of what replicas do without the network.
+// The event of this first word and the words after it, of those that replicas do without the
+// network.
 fn replica_event(verb: &[u8], words: Words) -> Result<Event, EventFault>
     ensures { result ≡ spec.replica_event verb.now words.entry }
 {
@@ -101,7 +103,7 @@ fn replica_event(verb: &[u8], words: Words) -> Result<Event, EventFault>
     state_event(verb, words)
 }
 
-// The event with a first word, and the words after it, of checkpoints and states.
+// The event of this first word and the words after it, of those of checkpoints and states.
 fn state_event(verb: &[u8], words: Words) -> Result<Event, EventFault>
     ensures { result ≡ spec.state_event verb.now words.entry }
 {
@@ -156,7 +158,7 @@ fn marked(mut words: Words) -> Result<Event, EventFault>
     Ok(Event::Mark { replica, how })
 }
 
-// How a put ends that a word says.
+// How a put ends, as a word says it.
 fn how_of(word: &[u8]) -> Option<How>
     ensures { result ≡ spec.how_of word.now }
 {
@@ -172,7 +174,7 @@ fn how_of(word: &[u8]) -> Option<How>
     None
 }
 
-// Reads an event a line; the first line has this number.
+// Reads an event from each line. The first line has this number.
 pub(crate) fn read_events(
     alloc: Global,
     text: &[u8],
@@ -183,7 +185,7 @@ pub(crate) fn read_events(
         (λ events. events_from first_line [] (lines text.now) ≡ Ok events.items)
         (λ fault. Blames fault (in_events (events_from first_line [] (lines text.now)))) }
 {
-    // The checker goes through what an event is made of, and has to be told the types.
+    // The checker goes through an event's parts, and needs the types stated.
     let _parts: Option<(Call, How)> = None;
     let mut events = Vec::with_capacity(alloc, text.len() / USUAL_LINE)?;
     let mut left = text;

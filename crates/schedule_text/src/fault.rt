@@ -1,4 +1,4 @@
-//! Why a text is no schedule.
+//! Why a text isn't a schedule.
 ghost use Rattle.std.specs.Prelude.{◌≡◌};
 ghost use Rattle.schedule_text.specs.declared.fault.EventFault.TheVariants as event;
 ghost use Rattle.schedule_text.specs.declared.fault.TextFault.TheVariants.{OutOfMemory};
@@ -8,16 +8,17 @@ use sb_rows::{LineFault, WrongWords};
 use std::alloc::{AllocError, AllocFailed};
 use thiserror::Error;
 
-/// What is wrong with a line that is no event: the first fault in this order.
+/// The first fault, in this order, of a line that isn't an event.
 #[derive(Clone, Copy, Debug, PartialEq, Eq, Error)]
 pub enum EventFault {
-    /// The first word is no event's.
+    /// The first word isn't an event's.
     #[error("unknown event")]
     UnknownEvent,
-    /// The event takes another number of words; of an ask, the words before its call.
+    /// The event takes another number of words; for an ask, before its call.
     #[error("wrong words")]
     WrongWords,
-    /// A word in a number's place is no such number, or a word in the place of how a put ends is none of the three.
+    /// A word in a number's place isn't such a number, or the word for how a put ends is none of
+    /// the three.
     #[error("bad number")]
     BadNumber,
     /// The call of an ask is at fault.
@@ -44,18 +45,18 @@ impl From<CallFault> for EventFault {
 /// What is wrong with a line of a schedule.
 #[derive(Clone, Copy, Debug, PartialEq, Eq, Error)]
 pub enum ScheduleLineFault {
-    /// The first line is no head.
+    /// The first line isn't a head.
     #[error("bad head")]
     BadHead,
     /// The line belongs to the opening.
     #[error(transparent)]
     Opening(LineFault),
-    /// The line is an event's.
+    /// The line is that of an event.
     #[error(transparent)]
     Event(EventFault),
 }
 
-/// Why a text is no schedule.
+/// Why a text isn't a schedule.
 #[derive(Clone, Copy, Debug, PartialEq, Eq, Error)]
 pub enum TextFault {
     /// The first line at fault, numbered from 1, and its fault.

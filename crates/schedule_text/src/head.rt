@@ -11,19 +11,20 @@ use sb_calls::read_number;
 use sb_rows::{Words, next_line};
 use sb_sequencer::REPLICAS;
 
-// How many replicas there may be.
+// The greatest number of replicas.
 const MOST_NODES: u8 = REPLICAS as u8;
 
-// How many workers each may have.
+// The greatest number of workers of each.
 const MOST_WORKERS: u8 = WORKERS as u8;
 
-// A text whose first line is no head, or that has no line.
+// The fault of a text whose first line isn't a head, or that has no line.
 const BAD_HEAD: TextFault = TextFault::Line {
     line: 1,
     fault: ScheduleLineFault::BadHead,
 };
 
-// How many replicas a text begins with, how many workers of each, and what follows that line.
+// The numbers of replicas, and of workers of each, in a text's first line, and what follows that
+// line.
 #[tactic(auto, unfolding(crate::specs::ScheduleText::head_of))]
 pub(crate) fn read_head(text: &[u8]) -> Result<(u8, u8, &[u8]), TextFault>
     ensures exact { MatchResult result
@@ -37,7 +38,7 @@ pub(crate) fn read_head(text: &[u8]) -> Result<(u8, u8, &[u8]), TextFault>
     Ok((nodes, workers, rest))
 }
 
-// The replicas and the workers of each that a line says.
+// The numbers of replicas, and of workers of each, that a line says.
 fn head_of(line: &[u8]) -> Option<(u8, u8)>
     ensures exact { MatchOption result
         (head_of_words (words line.now) ≡ None)

@@ -1,8 +1,8 @@
-//! What is noted of an event.
+//! The notes on events.
 
 use sb_calls::Reply;
 
-/// What came of one event.
+/// The result of one event.
 #[derive(Clone, Copy, PartialEq, Eq)]
 pub enum Note {
     /// The ask got this new number.
@@ -15,15 +15,16 @@ pub enum Note {
     LogFull,
     /// A frame was sent, at this place of its list.
     Sent(u64),
-    /// So many entries were sent.
+    /// This many entries were sent.
     Resent(u64),
-    /// The entry with this number is the last of the replica's log now.
+    /// The entry with this number is now the last of the replica's log.
     Accepted(u64),
     /// The entry with this number came too early, and the replica holds it.
     Held(u64),
     /// The replica's log, of this length, lacks too many entries before it.
     Gap(u64),
-    /// It is the next entry for the log, of this length, but as many as may be are unfinished.
+    /// It is the next entry for the log, of this length, but the limit of unfinished entries is
+    /// reached.
     Busy(u64),
     /// The sequencer recorded that a replica has the log up to this length.
     Recorded(u64),
@@ -49,7 +50,7 @@ pub enum Note {
     Unfinished,
     /// The put failed.
     StoreFault,
-    /// The replica is at this length again.
+    /// The replica went back to this length.
     Restarted(u64),
     /// A cut of this length was made.
     Cut(u64),
@@ -57,21 +58,21 @@ pub enum Note {
     Pending(u64),
     /// The sequencer recorded that a replica keeps a checkpoint of this length.
     Has(u64),
-    /// This replica keeps a checkpoint of this length, from which another gets its state.
+    /// This replica keeps a checkpoint of this length; another one should get its state from there.
     Donor(u32, u64),
     /// A state was sent, at this place of its list.
     Gave(u64),
-    /// The replica is at this length, by a state.
+    /// The replica went to this length by a state.
     Adopted(u64),
-    /// The state has no more than the replica's log, of this length.
+    /// The state has no more entries than the replica's log, of this length.
     Behind(u64),
-    /// What comparing two replicas gave.
+    /// The result of comparing two replicas.
     Audit(AuditNote),
     /// The event names something that doesn't exist, or finds nothing to do.
     Nothing,
 }
 
-/// What comparing two replicas gave: the first that holds.
+/// The result of comparing two replicas: the first that holds.
 #[derive(Clone, Copy, PartialEq, Eq)]
 pub enum AuditNote {
     /// Something is unfinished at this replica.
@@ -82,7 +83,8 @@ pub enum AuditNote {
     Differ(Column, usize),
     /// The bank's total isn't what the opening and the log's net changes make it. It never comes.
     OffBooks(i64, i64),
-    /// They are the same: the bank's total in cents, and how many customers have a checking balance below 0.
+    /// They are the same: the bank's total in cents, and how many customers have a checking balance
+    /// below 0.
     Same(i64, usize),
 }
 

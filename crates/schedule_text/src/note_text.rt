@@ -1,4 +1,4 @@
-//! Notes as text, a line each.
+//! Notes as text, one line each.
 ghost use Rattle.std.specs.Prelude.{◌≡◌, ◌∷◌, [], ◌++◌, map, codes, decimal, OnOk};
 ghost use Rattle.sb_amount.specs.Money.{money};
 ghost use Rattle.sb_calls.specs.Reply.{reply_text};
@@ -62,7 +62,7 @@ fn push_note(note: Note, out: &mut Vec<u8>) -> Result<(), AllocError>
     }
 }
 
-// Writes what comparing two replicas gave.
+// Writes the result of comparing two replicas.
 fn push_audit(found: AuditNote, out: &mut Vec<u8>) -> Result<(), AllocError>
     ensures { OnOk result (out.new.items ≡ out.old.items ++ audit_line found) }
 {
@@ -95,7 +95,7 @@ fn column_word(column: Column) -> &'static [u8]
     }
 }
 
-// Writes the number of what is finished, and the reply.
+// Writes the number of a finished entry, and the reply.
 fn push_finished(number: u64, reply: Reply, out: &mut Vec<u8>) -> Result<(), AllocError>
     ensures { OnOk result (out.new.items
         ≡ out.old.items ++ (codes "finished " ++ (decimal number ++ (32 ∷ reply_text reply)))) }

@@ -38,7 +38,7 @@ pub(crate) fn three_numbers(mut words: Words) -> Result<(u32, u32, u32), EventFa
     Ok((number_of(first)?, number_of(second)?, number_of(third)?))
 }
 
-// The number that a word is.
+// The number that a word spells.
 #[inline]
 pub(crate) fn number_of(word: &[u8]) -> Result<u32, EventFault>
     ensures { MatchResult result

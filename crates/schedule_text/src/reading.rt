@@ -1,4 +1,4 @@
-//! The text of a whole schedule: a head, an opening, then an event a line.
+//! The text of a whole schedule: a head, an opening, then one event on each line.
 ghost use Rattle.std.specs.Prelude.{◌≡◌, ◌≤◌, Ok, length, IfOk, MatchResult};
 ghost use Rattle.sb_rows.specs.Opening.{opening_of};
 ghost use Rattle.schedule_text.specs.Reads.{Blames, Reads};
@@ -11,7 +11,7 @@ use crate::schedule::Schedule;
 use sb_rows::{Opening, OpeningFault, read_opening};
 use std::alloc::Global;
 
-/// Reads a whole schedule: the line `nodes N workers W`, an opening, then an event a line.
+/// Reads a whole schedule: the line `nodes N workers W`, an opening, then one event on each line.
 ///
 /// Fails with the first line at fault and its first fault.
 pub fn read_schedule(alloc: Global, text: &[u8]) -> Result<Schedule, TextFault>

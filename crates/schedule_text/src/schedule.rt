@@ -1,11 +1,11 @@
-//! What the text of a schedule says.
+//! The meaning of the text of a schedule.
 ghost use Rattle.sb_rows.specs.Rows.{SameCustomers};
 ghost use Rattle.schedule_text.specs.Head.{IsHead};
 
 use crate::event::Event;
 use sb_rows::{Columns, Directory};
 
-/// What the text of a schedule says.
+/// The meaning of the text of a schedule.
 #[derive(Drop)]
 pub struct Schedule {
     /// How many replicas there are, from 1 to 16.

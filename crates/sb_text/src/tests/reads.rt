@@ -6,7 +6,8 @@ use std::io;
 use std::io::{ErrorKind, Read};
 use std::process::Abort;
 
-// Gives a text in pieces of up to three bytes, each after an interrupted read, and fails, or ends, after it.
+// Gives a text in pieces of up to three bytes, each after an interrupted read, and fails, or ends,
+// after it.
 #[derive(Drop)]
 struct Pieces<'a> {
     left: &'a [u8],
@@ -33,7 +34,7 @@ impl Read for Pieces<'_> {
 
 const TEXT: &[u8] = b"a 1.00 2.00\nbegin\n";
 
-// What is read of so many bytes that come in pieces.
+// What is read of this many bytes that come in pieces.
 fn read_of(alloc: Global, length: usize, fails: bool) -> Result<Vec<u8>, ReadFault> {
     let mut reader = Pieces {
         left: &TEXT[..length.min(TEXT.len())],
@@ -59,7 +60,7 @@ fn a_read_that_fails(rt: HostRuntime) {
     }
 }
 
-// Gives nothing: so many reads are interrupted, and the next one ends the input.
+// Gives nothing: this many reads are interrupted, and the next one ends the input.
 #[derive(Drop)]
 struct Interrupted {
     reads: u32,
@@ -91,7 +92,7 @@ fn one_read_more_than_an_input_may_take(rt: HostRuntime) {
     expect(&rt, fault == Some(ReadFault::Device), "one read more");
 }
 
-// So many bytes that differ from those about them.
+// This many bytes, each different from its neighbours.
 fn bytes(rt: &impl Abort, alloc: Global, count: u32) -> Vec<u8> {
     let mut text = Vec::new(alloc);
     for number in 0..count {
@@ -109,7 +110,7 @@ fn an_input_of_many_chunks(rt: HostRuntime) {
     expect_bytes(&rt, &input, &text, "many chunks");
 }
 
-// A fault is shown so.
+// Checks a fault's text.
 fn expect_shown(rt: &impl Abort, alloc: Global, fault: ReadFault, words: &str) {
     let shown = fault.to_string(alloc).expect(rt, "memory for a text");
     expect_bytes(rt, shown.as_bytes(), words.as_bytes(), words);

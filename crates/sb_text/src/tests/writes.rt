@@ -6,7 +6,7 @@ use std::io;
 use std::io::{ErrorKind, Write};
 use std::process::Abort;
 
-// Takes so many bytes, one a write, and then fails.
+// Takes this many bytes, one in each write, and then fails.
 #[derive(Drop)]
 struct Narrow {
     taken: Vec<u8>,
@@ -36,7 +36,8 @@ impl Write for Narrow {
 
 const TEXT: &[u8] = b"total 3.00\n";
 
-// A writer with so much room takes as much of the text, and is flushed where it takes all.
+// Checks that a writer with this much room takes that much of the text, and is flushed if it takes
+// all.
 fn expect_written(rt: &impl Abort, alloc: Global, room: usize) {
     let mut writer = Narrow {
         taken: Vec::new(alloc),

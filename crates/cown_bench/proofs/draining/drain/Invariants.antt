@@ -1,4 +1,4 @@
--- So much is taken out so far.
+-- What is taken out so far.
 use Rattle.std.proofs.Common.{◌≡◌, ◌-◌, ◌≤◌, vec_capacity, vec_len}
 use Rattle.crossbeam_queue.specs.Passes.{IsPassOf, view}
 use Rattle.cown_bench.specs.Views.{all_parts, owner_view}

@@ -1,4 +1,4 @@
--- So many passes are cut so far.
+-- How many passes are cut so far.
 use Rattle.std.proofs.Common.{◌≡◌, ◌-◌, ◌≤◌, [], length, vec_capacity}
 use Rattle.std.specs.Prelude.{All}
 use Rattle.crossbeam_queue.specs.Passes.{IsPassOf, view}

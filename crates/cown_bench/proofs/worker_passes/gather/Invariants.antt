@@ -1,4 +1,4 @@
--- Those so far are taken in.
+-- The passes so far are taken in.
 use Rattle.std.proofs.Common.{◌≡◌, ◌+◌, ◌-◌, ◌++◌, [], length}
 use Rattle.std.specs.Vec.Iter.{into_iter_items}
 use Rattle.crossbeam_queue.specs.Passes.{IsPassOf, view}

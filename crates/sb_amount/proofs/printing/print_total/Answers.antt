@@ -6,7 +6,7 @@ use Rattle.sb_amount.proofs.Money.{money-negative, money-unsigned}
 use Rattle.sb_amount.proofs.printing.print_total.Goals as goal
 use Rattle.sb_amount.proofs.printing.print_total.Goals.{then-cents-lt0, else-cents-lt0}
 
--- what stands before the digits, and the three pieces that are pushed behind it
+-- what comes before the digits, and the three pieces pushed behind it
 pushed : (front whole pointed ended : List ℕ) (n : ℕ) → whole ≡ front ++ decimal (n / 100) → pointed ≡ whole ++ 46 ∷ []
     → ended ≡ pointed ++ two_digits (n % 100) → ended ≡ front ++ unsigned_money n
 pushed front whole pointed ended n a b c =

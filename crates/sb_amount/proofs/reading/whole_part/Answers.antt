@@ -1,4 +1,4 @@
--- Where there is one point, the decimals are right just where it is the third byte from the end.
+-- If there is one point, the decimals are right exactly if it is the third byte from the end.
 use Rattle.std.proofs.Common.{rules, sym, ◌∙◌}
 use Rattle.sb_amount.proofs.Bodies.{has_two_decimals-yes, has_two_decimals-points, has_two_decimals-short, has_two_decimals-other}
 use Rattle.sb_amount.proofs.reading.whole_part.Goals as goal

@@ -4,7 +4,7 @@ use Rattle.sb_rows.specs.Opening.{customer_line}
 use Rattle.sb_rows.specs.Text.{unlines}
 use Rattle.sb_text.proofs.listing.list_customers.Given as goal
 
--- what is written and what is left to write are all
+-- what is written and what is left to write make up all
 abbrev pub invariant-loop-place : goal.invariant-loop-place
 invariant-loop-place l =
     l.out.items ++ unlines (map customer_line (drop l.place (customers_of l.directory l.columns)))

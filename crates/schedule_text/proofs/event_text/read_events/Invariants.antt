@@ -3,7 +3,7 @@ use Rattle.sb_rows.specs.Text.{lines}
 use Rattle.schedule_text.specs.ScheduleText.{events_from}
 use Rattle.schedule_text.proofs.event_text.read_events.Given as goal
 
--- with the events of what is left those so far are all
+-- the events so far and those of what is left make up all
 abbrev pub invariant-loop-line : goal.invariant-loop-line
 invariant-loop-line l = record {
   all : events_from l.first_line l.events.items (lines l.left) ≡ events_from l.first_line [] (lines l.text);

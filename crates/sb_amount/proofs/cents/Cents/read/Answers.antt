@@ -1,4 +1,4 @@
--- Each return is what the text is read as, and the two laws follow from that.
+-- Each return is what the text is read as; the two laws follow from that.
 use Rattle.std.proofs.Common.{rules, arith, ◌≡◌, length, sym, ◌∙◌, ap, true, false, not, codes, ℕ, pos, neg_ℤ, ◌+◌, ◌<◌, ◌^◌, ◌-ℤ◌, min, nat_abs, if◌then◌else◌, to_z, of_z, w64}
 use Rattle.std.proofs.lemmas.Int.{ints}
 use Rattle.std.proofs.lemmas.Bool.{or_left, or_right, or_from}
