@@ -1,5 +1,5 @@
-//! The product's column kernels beside plain Rust loops, over columns of 65,536 values: the answers must be
-//! the same, and one table tells what a call of each takes.
+//! Compares the product's column kernels with plain Rust loops, over columns of 65,536 values. The
+//! answers must be the same, and one table shows what a call of each takes.
 
 use std::hint::black_box;
 use std::time::{Duration, Instant};
@@ -23,8 +23,8 @@ mod product {
         fn kernel_count_below(values: *const i64, length: usize, low: i64) -> usize;
     }
 
-    // Safety, here and below: the pointer and the length are a slice's. The columns have as many values,
-    // and as large ones, as `kernel_sum` allows.
+    // Safety, here and below: the pointer and the length are a slice's. The number of values and
+    // their sizes are within what `kernel_sum` allows.
     pub fn sum(values: &[i64]) -> i64 {
         unsafe { kernel_sum(values.as_ptr(), values.len()) }
     }
@@ -116,7 +116,7 @@ fn compare<T: PartialEq + std::fmt::Debug>(
     );
 }
 
-// Each place of a short column once, so that blocks and rest are met.
+// Each place of a short column once, so that both blocks and the rest are tested.
 fn compare_answers() {
     for length in 0..40 {
         let zeros = vec![0; length];

@@ -1,4 +1,4 @@
-//! Small inputs, most of them at fault: each fault of the formats, one or some in an input.
+//! Small inputs, most of them at fault: each fault of the formats, one or several in an input.
 
 use crate::random::Random;
 use crate::workload::Workload;
@@ -109,7 +109,7 @@ fn small(seed: u64) -> Vec<u8> {
     text
 }
 
-// With one or two lines put in that are at fault, and at times without `begin` and what follows.
+// Inserts one or two lines at fault, and at times drops `begin` and what follows.
 fn with_faults(random: &mut Random, text: &[u8]) -> Vec<u8> {
     let mut lines: Vec<&[u8]> = text.split_inclusive(|byte| *byte == b'\n').collect();
     let begin = lines
@@ -133,7 +133,7 @@ fn with_faults(random: &mut Random, text: &[u8]) -> Vec<u8> {
     lines.concat()
 }
 
-// With some bytes changed, or the end cut off.
+// Changes some bytes, or cuts the end off.
 fn with_other_bytes(random: &mut Random, mut text: Vec<u8>) -> Vec<u8> {
     for _ in 0..random.below(4) {
         let place = random.below(text.len() as u32) as usize;
@@ -146,7 +146,7 @@ fn with_other_bytes(random: &mut Random, mut text: Vec<u8>) -> Vec<u8> {
     text
 }
 
-// With a customer more than a bank takes, or just as many.
+// Gives it one customer more than a bank takes, or just as many as it takes.
 fn too_long(random: &mut Random, seed: u64) -> Vec<u8> {
     if !seed.is_multiple_of(80) {
         return small(seed);

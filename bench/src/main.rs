@@ -1,9 +1,9 @@
-//! Runs the product and the plain program on the same inputs: both must write the same bytes, and one
-//! table tells the time and the memory of each.
+//! Runs the product and the plain program on the same inputs. Both must write the same bytes, and
+//! one table shows the time and the memory of each.
 //!
-//! `beside PRODUCT PLAIN FOLDER`; inputs and outputs are kept in the folder.
-//! `beside workload SEED CUSTOMERS LINES` writes a workload to standard output, `beside row NUMBER` that of
-//! a row of the table, counted from 0, `beside faulty SEED` a small input.
+//! `beside PRODUCT PLAIN FOLDER`; inputs and outputs are kept in the folder. `beside workload SEED
+//! CUSTOMERS LINES` writes a workload to standard output, `beside row NUMBER` that of a row of the
+//! table, counted from 0, `beside faulty SEED` a small input.
 
 mod faulty;
 mod measure;
@@ -29,7 +29,7 @@ const FAULTY_INPUTS: u64 = 500;
 /// Makes a workload from a seed and its numbers of customers and lines.
 type Maker = fn(u64, u32, u32) -> Workload;
 
-// Which calls each row of the table has, how they are made, and its customers and lines.
+// For each row of the table its calls, how they are made, and its numbers of customers and lines.
 const ROWS: [(&str, Maker, u32, u32); 6] = [
     ("of five kinds", Workload::new, 20_000, 1_000),
     ("of five kinds", Workload::new, 20_000, 100_000),
@@ -41,7 +41,7 @@ const ROWS: [(&str, Maker, u32, u32); 6] = [
 
 type Answer<T> = Result<T, Box<dyn Error>>;
 
-/// Where the programs are, and where their inputs and outputs go.
+/// The places of the programs, and of their inputs and outputs.
 struct Bench {
     product: PathBuf,
     plain: PathBuf,
@@ -49,7 +49,7 @@ struct Bench {
 }
 
 impl Bench {
-    /// Compares all that both do on small inputs, most of them at fault, and tells how often each fault came.
+    /// Compares both on small inputs, most of them at fault, and prints how often each fault came.
     fn compare_small(&self) -> Answer<()> {
         let mut faults: BTreeMap<String, u32> = BTreeMap::new();
         let path = self.folder.join("small.txt");
@@ -114,7 +114,7 @@ fn output(program: &Path, input: &Path) -> io::Result<Output> {
         .output()
 }
 
-// By pieces: what this process holds in memory would count as the measured program's.
+// In pieces: what this process holds in memory would count as the measured program's.
 fn same_bytes(first: &Path, second: &Path) -> io::Result<bool> {
     let mut first = BufReader::new(File::open(first)?);
     let mut second = BufReader::new(File::open(second)?);

@@ -26,7 +26,8 @@ impl Measure {
     }
 }
 
-// `struct rusage` of Linux on x86-64: two times of two words each, then the peak of resident memory in KiB.
+// `struct rusage` of Linux on x86-64: two times of two words each, then the peak of resident memory
+// in KiB.
 #[repr(C)]
 #[derive(Default)]
 struct Usage {

@@ -17,12 +17,12 @@ impl Random {
         mixed ^ (mixed >> 31)
     }
 
-    /// A number below a bound, which isn't 0.
+    /// A number below a bound; the bound isn't 0.
     pub fn below(&mut self, bound: u32) -> u32 {
         (((self.next() >> 32) * u64::from(bound)) >> 32) as u32
     }
 
-    /// Whether something happens that does so often of 100 times.
+    /// Whether something happens that happens this often in 100 times.
     pub fn percent(&mut self, often: u32) -> bool {
         self.below(100) < often
     }

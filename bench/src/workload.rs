@@ -3,7 +3,7 @@
 use crate::random::Random;
 use std::io::{self, Write};
 
-// How many asks a repeat may lie behind the first one.
+// How many asks after the first one a repeat may come.
 const RECENT: usize = 1024;
 
 pub struct Workload {
@@ -12,7 +12,7 @@ pub struct Workload {
     pub customers: u32,
     /// Lines after the opening.
     pub lines: u32,
-    /// How often each call comes beside the others: balance, deposit, savings, check, amalgamate, pay.
+    /// The weights of the calls: balance, deposit, savings, check, amalgamate, pay.
     pub mix: [u32; 6],
     /// Of 100 lines, how many have a key.
     pub asked: u32,
@@ -22,7 +22,7 @@ pub struct Workload {
     pub changed: u32,
     /// How many customers are hot.
     pub hot: u32,
-    /// Of 100 calls, how many are of hot customers. The others are of any.
+    /// Of 100 calls, how many name hot customers. The others name any.
     pub hot_calls: u32,
 }
 
@@ -33,8 +33,8 @@ struct Ask {
 }
 
 impl Workload {
-    /// Calls of the five first kinds, half of them of a few customers. What is measured has no payments, so that it can be
-    /// compared with what was measured before there were any.
+    /// Calls of the first five kinds, half of them of a few customers. The measured workload has no
+    /// payments, so that it compares with measurements from before there were any.
     pub fn new(seed: u64, customers: u32, lines: u32) -> Self {
         Workload {
             seed,
@@ -117,7 +117,7 @@ impl Workload {
         } else {
             self.customers
         };
-        // One call of some hundreds names nobody.
+        // One call in some hundreds names nobody in the bank.
         let customer = if random.below(500) == 0 {
             self.customers
         } else {
@@ -147,7 +147,7 @@ impl Workload {
     }
 }
 
-// Some cents, which are more than none.
+// Some cents, at least one.
 fn money(cents: u32) -> String {
     let cents = cents + 1;
     format!("{}.{:02}", cents / 100, cents % 100)

@@ -1,4 +1,4 @@
-//! Payments, worked out by hand, as the plain program and the plain player carry them out.
+//! Payments, worked out by hand, as the plain program and the plain player execute them.
 
 use std::io::Write;
 use std::process::{Command, Stdio};
@@ -22,7 +22,8 @@ fn ended(program: &str, input: &str) -> (Option<i32>, String, String) {
     (ended.status.code(), text(ended.stdout), text(ended.stderr))
 }
 
-/// Runs these calls with the plain program, and plays them by a replica: the replies and the rows, of both the same.
+/// Runs these calls with the plain program, and plays them on a replica. Both must have the same
+/// replies and rows.
 fn check(opening: &str, calls: &[(&str, &str)], rows: &str) {
     let mut lines = opening.to_owned();
     let mut events = format!("nodes 1 workers 1\n{opening}");
@@ -109,7 +110,8 @@ fn lines_at_fault() {
     }
 }
 
-/// A payment waits for what comes before it at each of the two checking balances, and at no savings.
+/// A payment waits for what comes before it at each of the two checking balances, and at no
+/// savings.
 #[test]
 fn a_payment_waits_at_two_balances() {
     let schedule = format!(

@@ -1,4 +1,4 @@
-//! What the plain player answers to small schedules, worked out by hand.
+//! Small schedules, worked out by hand, and what the plain player answers.
 
 use std::fs;
 use std::io::Write;
@@ -32,7 +32,7 @@ fn lines_of(events: &str) -> String {
         .collect()
 }
 
-/// All that is written for these events, parted by ` / `, over the three customers.
+/// All that is written for these events over the three customers, separated by ` / `.
 fn output(head: &str, events: &str) -> Vec<String> {
     let (status, output, error) = played(&format!("{head}\n{OPENING}{}", lines_of(events)));
     assert_eq!((status, error.as_str()), (Some(0), ""));
@@ -258,7 +258,8 @@ const ONE_IS_KEPT: &str =
     "ask 1 1 deposit alice 1.00 / send 0 1 / to 0 1 / take 0 1 0 / finish 0 1 / mark 0 ok";
 const ONE_WAS_MARKED: &str = "new 1 / sent 1 / accepted 1 / took 1 / finished 1 done / marked 1";
 
-// Plays these events over two replicas with a worker each, and compares the notes and where both are in the end.
+// Plays these events over two replicas with a worker each, and compares the notes and the final
+// state of both.
 fn check_both(events: &str, notes: &str, states: [&str; 2]) {
     let expected = format!("{notes} / {} / {}", states[0], states[1]);
     assert_eq!(output("nodes 2 workers 1", events).join(" / "), expected);

@@ -11,7 +11,7 @@ pub const OPEN_OPS: usize = 1_024;
 // The slot of nobody.
 const NOBODY: u32 = u32::MAX;
 
-/// As many ops are unfinished as may be.
+/// The limit of unfinished ops is reached.
 pub struct Busy;
 
 /// An op that has its cowns alone until it is finished, with what they hold.
@@ -45,18 +45,18 @@ struct Slot {
     op: Op,
     // Its place in the log.
     place: u32,
-    // At how many of its cowns others are before it.
+    // At how many of its cowns other ops are before it.
     behind: u8,
-    // For each of its cowns who is next there.
+    // For each of its cowns the op that is next there.
     next: [u32; OP_COWNS],
 }
 
-/// A log of ops, of which those are handed out whose cowns are free. At each cown there is a queue of
-/// unfinished ops, linked from each to the next.
+/// A log of ops; it hands out those whose cowns are free. Each cown has a queue of unfinished ops,
+/// linked from each to the next.
 pub struct Board {
     // By cown: the savings of customer i, then the checking balance.
     balances: Vec<i64>,
-    // By cown: who is last in its queue.
+    // By cown: the last op in its queue.
     last: Vec<u32>,
     slots: Vec<Slot>,
     free: Vec<u32>,
@@ -88,7 +88,7 @@ impl Board {
         self.replies.reserve(additional);
     }
 
-    /// Puts an op last in the log.
+    /// Appends an op to the log.
     pub fn submit(&mut self, op: Op) -> Result<(), Busy> {
         let slot = self.free.pop().ok_or(Busy)?;
         let mut behind = 0;
@@ -133,7 +133,7 @@ impl Board {
         Some(Job { slot, op, held })
     }
 
-    /// Takes back what an op did that was handed out.
+    /// Takes back the result of an op that was handed out.
     pub fn finish(&mut self, done: Done) {
         let slot = self.slots[done.slot as usize];
         let cowns = slot.op.cowns();
@@ -174,7 +174,7 @@ impl Board {
         &self.balances
     }
 
-    /// Whether both had the same log, as far as replies and balances tell.
+    /// Whether both have the same replies and balances.
     pub fn agrees_with(&self, other: &Board) -> bool {
         self.is_idle()
             && other.is_idle()

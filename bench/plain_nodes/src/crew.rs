@@ -1,4 +1,4 @@
-//! Who carries jobs out.
+//! Crews that execute jobs.
 
 use crate::board::{Board, Done, Job};
 use crossbeam_channel::{Receiver, Sender, bounded};
@@ -6,10 +6,10 @@ use crossbeam_queue::ArrayQueue;
 use std::thread::{self, Builder, Scope};
 use std::time::Duration;
 
-// How many jobs lie in the queue, or done in the channel, at most: all that may be unfinished, and a stop
-// a worker.
+// The most jobs in the queue, or done in the channel: all that may be unfinished, and a stop for
+// each worker.
 const CAPACITY: usize = 1_040;
-// How often a worker that finds nothing only lets others run, before it sleeps.
+// How often a worker that finds nothing yields before it sleeps.
 const YIELDS: u32 = 64;
 const SHORTEST: Duration = Duration::from_micros(1);
 const LONGEST: Duration = Duration::from_micros(100);
@@ -18,14 +18,14 @@ const LONGEST: Duration = Duration::from_micros(100);
 pub struct CrewGone;
 
 pub trait Crew {
-    /// Gives it a job. What is done at once comes back.
+    /// Gives it a job. A job that is done at once comes back.
     fn give(&mut self, job: Job) -> Option<Done>;
 
     /// Waits for a job to be done.
     fn next(&mut self) -> Result<Done, CrewGone>;
 }
 
-/// Has the crew carry out all that is unfinished.
+/// Has the crew execute all that is unfinished.
 pub fn drain(board: &mut Board, crew: &mut impl Crew) -> Result<(), CrewGone> {
     loop {
         while let Some(job) = board.take() {
@@ -40,7 +40,7 @@ pub fn drain(board: &mut Board, crew: &mut impl Crew) -> Result<(), CrewGone> {
     }
 }
 
-/// Carries each job out where it is given.
+/// Executes each job in place.
 pub struct InPlace;
 
 impl Crew for InPlace {
@@ -58,7 +58,7 @@ pub enum Work {
     Stop,
 }
 
-/// Where jobs lie until a worker takes them.
+/// A queue in which jobs lie until a worker takes them.
 pub struct Bench {
     queue: ArrayQueue<Work>,
 }

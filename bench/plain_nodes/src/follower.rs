@@ -1,4 +1,4 @@
-//! Nodes in threads of their own, which are fed with frames.
+//! Nodes in threads of their own, fed with frames.
 
 use crate::crew::{CrewGone, InPlace};
 use crate::frames::{Frame, FrameFault, push_frame, read_frame};
@@ -10,7 +10,7 @@ use std::mem;
 use std::sync::Arc;
 use std::thread::{Builder, Scope, ScopedJoinHandle};
 
-// How long a message is at least, if it isn't the last.
+// The least length of a message that isn't the last.
 const MESSAGE: usize = 64 * 1024;
 // How many messages a follower may be behind.
 const MESSAGES: usize = 4;

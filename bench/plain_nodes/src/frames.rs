@@ -19,7 +19,7 @@ const REPLY: usize = 9;
 /// How many bytes an outcome has.
 pub const OUTCOME_FRAME: usize = 2 + 1 + 4 + 4 + 1 + REPLY;
 
-/// Why bytes begin with no frame. The numbers are those of the formats.
+/// Why bytes begin no frame. The numbers are those of the formats.
 #[derive(Clone, Copy, Debug, PartialEq, Eq)]
 pub enum FrameFault {
     Short = 1,
@@ -31,7 +31,7 @@ pub enum FrameFault {
     BadStatus,
 }
 
-/// What became of an ask.
+/// The outcome of an ask.
 #[derive(Clone, Copy, Debug, PartialEq, Eq)]
 pub enum Outcome {
     Replied(Reply),
@@ -52,7 +52,7 @@ pub enum Frame<'a> {
 
 // ---- writing
 
-/// Puts a frame behind others.
+/// Appends a frame to others.
 #[inline]
 pub fn push_frame(out: &mut Vec<u8>, frame: &Frame) {
     let start = out.len();
@@ -103,7 +103,7 @@ fn push_key(out: &mut Vec<u8>, (client, request): Key) {
     out.extend_from_slice(&request.to_be_bytes());
 }
 
-/// Puts the bytes of a call behind others. Each call has one spelling.
+/// Appends the bytes of a call to others. Each call has one spelling.
 pub fn push_call(out: &mut Vec<u8>, call: &Call) {
     let (kind, name, other, amount) = match *call {
         Call::Balance(name) => (1, name, None, None),
@@ -146,7 +146,7 @@ fn reply_bytes(reply: Reply) -> [u8; REPLY] {
 
 // ---- reading
 
-/// The first frame of these bytes, and what is behind it.
+/// The first frame of these bytes, and what follows it.
 #[inline]
 pub fn read_frame(bytes: &[u8]) -> Result<(Frame<'_>, &[u8]), FrameFault> {
     let (length, rest) = bytes.split_first_chunk().ok_or(FrameFault::Short)?;

@@ -1,5 +1,5 @@
-//! A bank on nodes and workers, and its sessions, in plain Rust: nothing proved, std and crossbeam, written
-//! for speed.
+//! A bank on nodes and workers, and its sessions, in plain Rust: nothing proved, std and crossbeam,
+//! written for speed.
 
 pub mod board;
 pub mod crew;

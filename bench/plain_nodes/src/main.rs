@@ -1,9 +1,9 @@
 //! What `smallbank run --nodes N --workers W` does, in plain Rust.
 //!
-//! `plain_nodes NODES WORKERS < INPUT`. Node 0 is this thread: it hands jobs to worker threads over a bounded
-//! queue and takes back what they did over a channel, or carries them out itself where there are none. The
-//! other nodes are threads, each with a bank of its own, fed with frames. At the end each must agree with
-//! node 0.
+//! `plain_nodes NODES WORKERS < INPUT`. Node 0 is this thread. It hands jobs to worker threads over
+//! a bounded queue and takes the results back over a channel; without workers it executes the jobs
+//! itself. The other nodes are threads, each with a bank of its own, fed with frames. At the end
+//! each must agree with node 0.
 
 use plain_nodes::Size;
 use plain_nodes::running::{Fault, output_of};

@@ -1,4 +1,4 @@
-//! A bank that carries a log out.
+//! A bank that executes a log.
 
 use crate::board::{Board, Busy};
 use crate::crew::{Crew, CrewGone, drain};
@@ -20,7 +20,7 @@ impl<'a> Node<'a> {
         }
     }
 
-    /// Submits the next call of the log. Where the board is busy it is drained first.
+    /// Submits the next call of the log. A busy board is drained first.
     pub fn hear(&mut self, call: &Call, crew: &mut impl Crew) -> Result<(), CrewGone> {
         let op = Op::resolve(&self.places, call);
         while let Err(Busy) = self.board.submit(op) {

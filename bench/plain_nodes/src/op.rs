@@ -1,4 +1,4 @@
-//! Calls with places for names, and what they do to what their cowns hold.
+//! Calls in which places stand for names, and their effect on what their cowns hold.
 
 use crate::shared::input::Call;
 use crate::shared::output::Reply;
@@ -8,10 +8,10 @@ use std::collections::HashMap;
 /// How many cowns an op declares at most.
 pub const OP_COWNS: usize = 3;
 
-/// What the cowns of an op hold, in their order; 0 where it has fewer.
+/// What the cowns of an op hold, in their order, filled up with 0.
 pub type Held = [i64; OP_COWNS];
 
-/// A call of customers by their places.
+/// A call that names customers by their places.
 #[derive(Clone, Copy)]
 pub enum Op {
     Balance(u32),
@@ -52,7 +52,7 @@ fn checking(customer: u32) -> u32 {
 }
 
 impl Op {
-    /// Looks the names of a call up.
+    /// Looks up the names of a call.
     pub fn resolve(places: &HashMap<&[u8], usize>, call: &Call) -> Op {
         let place = |name: &[u8]| places.get(name).map(|place| *place as u32);
         let op = match *call {
@@ -94,7 +94,7 @@ impl Op {
     }
 }
 
-// The op of two customers, who must be two.
+// The op of two customers, who must differ.
 fn two_places(from: Option<u32>, to: Option<u32>, op: impl FnOnce(u32, u32) -> Op) -> Option<Op> {
     from.zip(to).map(|(from, to)| {
         if from == to {

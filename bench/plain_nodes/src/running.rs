@@ -66,7 +66,7 @@ impl From<io::Error> for Fault {
     }
 }
 
-/// What a run of this input writes.
+/// The output of a run of this input.
 pub fn output_of(input: &[u8], size: Size) -> Result<Vec<u8>, Fault> {
     let mut lines = lines(input).zip(1..);
     let bank = Bank::read(&mut lines)?;
@@ -97,7 +97,7 @@ pub fn push_state(output: &mut Vec<u8>, bank: &Bank, board: &Board) {
     push_rows(output, rows.map(|(name, held)| (*name, held[0], held[1])));
 }
 
-// Carries the log out on node 0, while the others get it too.
+// Executes the log on node 0, while the others get it too.
 fn carry_out(
     log: &Log,
     node: &mut Node,

@@ -1,4 +1,4 @@
-//! Who numbers what clients ask for.
+//! The sequencer: it numbers requests.
 
 use crate::frames::push_call;
 use crate::shared::LOG_CALLS;
@@ -22,13 +22,13 @@ pub enum Asked {
 #[derive(Default)]
 pub struct Sequencer {
     numbers: HashMap<Key, u32>,
-    // All calls as frames have them, one behind the other, and where each ends.
+    // The bytes of all calls as frames have them, one after the other, and the end of each.
     calls: Vec<u8>,
     ends: Vec<usize>,
 }
 
 impl Sequencer {
-    /// Numbers a request, or looks up how it is numbered.
+    /// Numbers a request, or looks up its number.
     pub fn ask(&mut self, key: Key, call: &Call) -> Asked {
         let end = self.calls.len();
         let length = self.ends.len() as u32;
@@ -54,7 +54,7 @@ impl Sequencer {
     }
 }
 
-// Where the call of a number is.
+// The place of the call with a number.
 fn spelling(ends: &[usize], number: u32) -> Range<usize> {
     let place = number as usize - 1;
     let start = if place == 0 { 0 } else { ends[place - 1] };

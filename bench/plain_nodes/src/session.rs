@@ -1,4 +1,4 @@
-//! Sessions: what a client asks in frames, and what it is told.
+//! Sessions: what a client asks in frames, and its answers.
 
 use crate::board::Board;
 use crate::crew::{Crew, CrewGone};
@@ -11,7 +11,7 @@ use std::io::{ErrorKind, Read, Write};
 
 /// How many bytes a read asks for.
 const READ: usize = 64 * 1024;
-/// The longest beginning of a frame: two bytes of length, 64 of body, but for one.
+/// The longest incomplete frame: two bytes of length and 64 of body, less one.
 const BEGINNING: usize = 65;
 
 /// Why a session ends before its bytes do.
@@ -42,7 +42,7 @@ impl From<CrewGone> for SessionFault {
     }
 }
 
-/// The log, and node 0, which carries it out.
+/// The log, and node 0, which executes it.
 pub struct Primary<'a> {
     sequencer: Sequencer,
     pub node: Node<'a>,
@@ -56,7 +56,7 @@ impl<'a> Primary<'a> {
         }
     }
 
-    // Numbers an ask, and submits it where it is new.
+    // Numbers an ask, and submits it if it is new.
     fn ask(&mut self, key: Key, call: &Call, crew: &mut impl Crew) -> Result<Asked, CrewGone> {
         let asked = self.sequencer.ask(key, call);
         if let Asked::New(_) = asked {
@@ -65,13 +65,13 @@ impl<'a> Primary<'a> {
         Ok(asked)
     }
 
-    /// Has all asks carried out that were numbered.
+    /// Has all numbered asks executed.
     pub fn settle(&mut self, crew: &mut impl Crew) -> Result<(), CrewGone> {
         self.node.settle(crew)
     }
 }
 
-// What became of an ask, once node 0 is settled.
+// The outcome of an ask, once node 0 is settled.
 fn outcome(asked: Asked, board: &Board) -> Option<Outcome> {
     match asked {
         Asked::New(number) | Asked::Repeat(number) => board.reply(number).map(Outcome::Replied),
@@ -80,8 +80,8 @@ fn outcome(asked: Asked, board: &Board) -> Option<Outcome> {
     }
 }
 
-/// Serves a client until its bytes end. At each flush it is told the outcomes of its asks since the last
-/// one, by one write. After a fault what was numbered stays.
+/// Serves a client until its bytes end. At each flush it sends the outcomes of the asks since the
+/// last one, in one write. After a fault what was numbered stays.
 pub fn serve_session(
     reader: &mut impl Read,
     writer: &mut impl Write,

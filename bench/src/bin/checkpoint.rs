@@ -1,5 +1,5 @@
-//! What `store_bench write` and `store_bench read` do, in plain Rust: nothing proved, std alone, written for
-//! speed. The format, the checks and the printed line are the same.
+//! What `store_bench write` and `store_bench read` do, in plain Rust: nothing proved, std alone,
+//! written for speed. The format, the checks and the printed line are the same.
 
 use std::fmt;
 use std::hint::black_box;
@@ -10,7 +10,7 @@ const LIMIT: i64 = 1_000_000_000_000;
 const CUSTOMERS: usize = 65_536;
 const LOG_CALLS: usize = 1_000_000;
 
-// The first layout is only read. The second one has the opening total behind the total.
+// The first layout is only read. The second one has the opening total after the total.
 const FIRST: &[u8; 8] = b"SBCKPT01";
 const SECOND: &[u8; 8] = b"SBCKPT02";
 const HEAD: usize = 20;
@@ -36,7 +36,7 @@ enum Reply {
     OverLimit,
 }
 
-/// What an idle replica has.
+/// The balances and replies of an idle replica.
 #[derive(Debug, PartialEq, Eq)]
 struct Checkpoint {
     savings: Vec<i64>,
@@ -44,7 +44,7 @@ struct Checkpoint {
     replies: Vec<Reply>,
 }
 
-/// Why bytes aren't taken as a checkpoint.
+/// Why bytes aren't a checkpoint.
 #[derive(Debug, Clone, Copy, PartialEq, Eq)]
 enum Fault {
     BadMagic,
@@ -158,7 +158,7 @@ fn is_past_limit(amounts: &[i64]) -> bool {
         .any(|amount| !(-LIMIT..=LIMIT).contains(amount))
 }
 
-// How many amounts stand behind the columns, where the magic is one of the two, or the beginning of one.
+// How many amounts follow the columns, if the magic is one of the two, or the beginning of one.
 fn totals(bytes: &[u8]) -> Option<usize> {
     let magic = &bytes[..bytes.len().min(FIRST.len())];
     if FIRST.starts_with(magic) {

@@ -1,7 +1,7 @@
 //! What `smallbank run` does, in plain Rust: nothing proved, std alone, written for speed.
 //!
 //! One buffer for the input, a hash map from names to places, columns of cents, one buffer for the
-//! output. Calls are carried out while they are read; the output is dropped where a line is at fault.
+//! output. Calls are executed as they are read. If a line is at fault, the output is dropped.
 
 #[path = "../shared/mod.rs"]
 mod shared;
@@ -29,7 +29,7 @@ impl Bank<'_> {
         self.try_carry_out(call).unwrap_or(Reply::NoCustomer)
     }
 
-    // `None` where a customer isn't in the bank.
+    // `None` if a customer isn't in the bank.
     #[inline]
     fn try_carry_out(&mut self, call: &Call) -> Option<Reply> {
         let place = |name: &[u8]| self.places.get(name).copied();

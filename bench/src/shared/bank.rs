@@ -1,4 +1,4 @@
-//! A bank as its opening text tells it.
+//! A bank as its opening text says it.
 
 use super::input::{Fault, LineFault, money, name, words};
 use std::collections::HashMap;

@@ -41,7 +41,7 @@ pub struct LineFault {
     pub fault: Fault,
 }
 
-/// What is asked for: names, and an amount where the call has one.
+/// A call: names, and an amount if the call has one.
 #[derive(Clone, Copy, Debug, PartialEq, Eq)]
 pub enum Call<'a> {
     Balance(&'a [u8]),

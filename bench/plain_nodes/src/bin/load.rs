@@ -1,9 +1,9 @@
-//! Asks a server that listens on this machine, and tells how many nanoseconds it took.
+//! Asks a server that listens on this machine, and prints how many nanoseconds it took.
 //!
-//! `load --port P --asks N --flush F --customers C [--seed S] [--outcomes FILE]`. The asks are those of the
-//! workload of this seed; lines without a key are asked by client 0 with their running number. After each F
-//! of them comes a flush, in the same write, and their outcomes are read before the next write. The file
-//! gets all outcomes as they came.
+//! `load --port P --asks N --flush F --customers C [--seed S] [--outcomes FILE]`. The asks are
+//! those of the workload of this seed. Client 0 asks the lines without a key, with their running
+//! number. After each F of them comes a flush, in the same write. Their outcomes are read before
+//! the next write. The file gets all outcomes as they came.
 
 use plain_nodes::frames::{Frame, OUTCOME_FRAME, push_frame, read_frame};
 use plain_nodes::shared::input::{Key, asking, lines};
@@ -21,7 +21,7 @@ const SEED: u64 = 20;
 
 type Answer<T> = Result<T, Box<dyn Error>>;
 
-/// What is sent, of which each batch ends with a flush.
+/// What is sent; each batch ends with a flush.
 struct Load {
     frames: Vec<u8>,
     batches: Vec<Range<usize>>,
@@ -32,7 +32,7 @@ impl Load {
     fn new(workload: &Workload, flush: usize) -> Answer<Load> {
         let mut text = Vec::new();
         workload.write(&mut text)?;
-        // Behind the customers and the line `begin`.
+        // After the customers and the line `begin`.
         let asks: Vec<&[u8]> = lines(&text).skip(workload.customers as usize + 1).collect();
         let mut load = Load {
             frames: Vec::new(),
@@ -97,7 +97,7 @@ struct Words {
 }
 
 impl Words {
-    // `None` where they are wrong.
+    // `None` if they are wrong.
     fn read(mut words: impl Iterator<Item = String>) -> Option<Words> {
         let (mut port, mut asks, mut flush, mut customers) = (None, None, None, None);
         let (mut seed, mut outcomes) = (SEED, None);

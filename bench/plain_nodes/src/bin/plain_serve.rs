@@ -1,7 +1,7 @@
 //! What `smallbank serve --port P --sessions K --workers W` does, in plain Rust.
 //!
-//! `plain_serve --port P [--sessions K] [--workers W] < OPENING`. It serves clients one after the other.
-//! This thread is the dispatcher; workers, where there are any, are threads.
+//! `plain_serve --port P [--sessions K] [--workers W] < OPENING`. It serves clients one after the
+//! other. This thread is the dispatcher; workers, if there are any, are threads.
 
 use plain_nodes::crew::{Bench, Crew, InPlace, Threads};
 use plain_nodes::running::{Fault, push_state};
@@ -14,7 +14,7 @@ use std::net::{Ipv4Addr, Shutdown, TcpListener, TcpStream};
 use std::process::ExitCode;
 use std::thread;
 
-// How many bytes of a client at fault are passed over, so that it gets to read what it was told.
+// How many bytes of a client at fault are skipped, so that it can read what it was sent.
 const PASSED_OVER: u64 = 1024 * 1024;
 
 struct Words {
@@ -24,7 +24,7 @@ struct Words {
 }
 
 impl Words {
-    // `None` where they are wrong.
+    // `None` if they are wrong.
     fn read(mut words: impl Iterator<Item = String>) -> Option<Words> {
         let (mut port, mut sessions, mut workers) = (None, 1, 0);
         while let Some(word) = words.next() {
@@ -48,7 +48,7 @@ impl Words {
     }
 }
 
-// An opening with nothing behind it.
+// An opening with nothing after it.
 fn opening(text: &[u8]) -> Result<Bank<'_>, LineFault> {
     let mut lines = lines(text).zip(1..);
     let bank = Bank::read(&mut lines)?;
@@ -123,8 +123,8 @@ fn serve_client(
     served
 }
 
-// Tells the client that nothing more comes, and passes over what it still sends: if it were unread, what the
-// client was told could get lost on the way.
+// Ends the sending side, and skips what the client still sends: if that stayed unread, what the
+// client was sent could get lost on the way.
 fn hang_up(stream: &TcpStream) {
     let _ = stream.shutdown(Shutdown::Write);
     let _ = io::copy(&mut stream.take(PASSED_OVER), &mut io::sink());

@@ -1,8 +1,8 @@
-//! How long a file's bytes take to be put into another one: `put FROM FOLDER`.
+//! How long it takes to put a file's bytes into another file: `put FROM FOLDER`.
 //!
-//! It prints two numbers of nanoseconds: what it takes to write and sync them, and what it takes to put them in the
-//! place of a file so that a crash leaves the old or the new bytes: written to a spare, synced, renamed, and the folder
-//! synced.
+//! It prints two times in nanoseconds. The first is for writing and syncing the bytes. The second
+//! is for replacing a file so that a crash leaves the old or the new bytes: write to a spare, sync,
+//! rename, and sync the folder.
 
 use std::env;
 use std::fs::{self, File};

@@ -3,7 +3,7 @@
 use super::FrameFault::*;
 use super::*;
 
-/// The bytes of a hexadecimal text, whose spaces only part it.
+/// The bytes of a hexadecimal text. Its spaces are only separators.
 fn bytes(text: &str) -> Vec<u8> {
     let digits: Vec<u8> = text.bytes().filter(|byte| *byte != b' ').collect();
     let value = |digit: u8| (digit as char).to_digit(16).expect("a digit") as u8;
@@ -145,7 +145,7 @@ fn lengths() {
     check_fault("0000", BadLength);
     check_fault("0041", BadLength);
     check_fault("0040", Short);
-    // The length is judged before the body is there, the tag only then.
+    // The length is judged before the body is there, the tag only afterwards.
     check_fault("0002 09", Short);
     check_fault("0001 09", UnknownTag);
     check_fault("0001 08", UnknownTag);
@@ -166,7 +166,7 @@ fn calls() {
     check_fault("0010 01 00000007 00000001 00 05 616c696365", UnknownTag);
     check_fault("0010 01 00000007 00000001 07 05 616c696365", UnknownTag);
     check_fault("0009 01 00000007 00000001", BadLength);
-    // A name's length counts before its bytes, and these before what follows.
+    // A name's length is judged before its bytes, and these before what follows.
     check_fault("000b 01 00000007 00000001 01 00", BadName);
     check_fault("000b 01 00000007 00000001 01 15", BadName);
     check_fault("000b 01 00000007 00000001 01 14", BadLength);

@@ -35,7 +35,7 @@ const DONE: [u8; OUTCOME_FRAME] = [
     0, 0x13, 5, 0, 0, 0, 7, 0, 0, 0, 2, 0, 1, 0, 0, 0, 0, 0, 0, 0, 0,
 ];
 
-/// Hands out at most so many bytes at a time.
+/// Hands out at most this many bytes at a time.
 struct Pieces<'a> {
     bytes: &'a [u8],
     most: usize,
@@ -104,7 +104,7 @@ fn faults() {
     ] {
         let mut primary = Primary::open(&bank);
         assert_eq!(serve(&mut primary, bytes, 1), (Err(fault), Vec::new()));
-        // What is before the fault is told and kept, and what waits is kept.
+        // What came before the fault is answered and kept, and what waits is kept.
         let rest = [&asked_again(), &ask(3, "deposit bob 1.00"), bytes].concat();
         let told = [SHOWN, DONE, SHOWN].concat();
         assert_eq!(serve(&mut primary, &rest, 1_000), (Err(fault), told));
@@ -160,7 +160,7 @@ fn payments() {
     bytes.extend_from_slice(FLUSH);
     let mut primary = Primary::open(&bank);
     let (ended, written) = serve(&mut primary, &bytes, 1_000);
-    // The code stands behind the length, the tag, the key and the status.
+    // The code follows the length, the tag, the key and the status.
     let codes: Vec<u8> = written.chunks(OUTCOME_FRAME).map(|told| told[12]).collect();
     assert_eq!((ended, codes), (Ok(()), calls.map(|(_, code)| code).into()));
     assert_eq!(

@@ -26,7 +26,7 @@ fn vector() -> (Checkpoint, Vec<u8>, Vec<u8>) {
     (checkpoint, first, second)
 }
 
-/// The fault of these bytes, of a bank that opened with so much.
+/// The fault of these bytes, for a bank that opened with this total.
 fn fault(bytes: &[u8], cents: i64) -> Option<Fault> {
     read(bytes, 3, cents).err()
 }
@@ -73,7 +73,7 @@ fn the_first_fault_counts() {
     for (place, others, expected) in before {
         let changed = with(&second, place, others);
         assert_eq!(fault(&changed, CENTS), Some(expected));
-        // Another opening total is told later.
+        // Another opening total is found later.
         assert_eq!(fault(&changed, CENTS + 1), Some(expected));
     }
     // A reply, the length, a byte more.

@@ -5,7 +5,7 @@ use std::collections::HashMap;
 pub const LIMIT: i64 = 1_000_000_000_000;
 const PENALTY: i64 = 100;
 
-/// A call, with names as a text or a frame has them.
+/// A call with names, as a text or a frame has it.
 #[derive(Clone, Copy, PartialEq, Eq)]
 pub enum Call<'a> {
     Balance(&'a [u8]),
@@ -57,7 +57,7 @@ impl<'a> Directory<'a> {
         self.names.push(name);
     }
 
-    /// The call with places in place of names.
+    /// The call with places instead of names.
     pub fn resolve(&self, call: &Call) -> Op {
         self.try_resolve(call).unwrap_or(Op::NoCustomer)
     }

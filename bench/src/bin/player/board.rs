@@ -1,28 +1,29 @@
-//! The board of a replica: its log of ops, of which those are handed out whose balances are free.
+//! The board of a replica: its log of ops. It hands out those whose balances are free.
 //!
-//! Each balance knows the last unfinished op that touches it, and each unfinished op who comes next at each of
-//! its balances and at how many it isn't first. What was submitted before a cut writes into the cut's balances too.
+//! Each balance knows the last unfinished op that touches it. Each unfinished op knows the next op
+//! at each of its balances, and at how many of them it isn't first. Ops submitted before a cut
+//! write into the cut's balances too.
 
 use crate::bank::{Op, Reply, TOUCHED, Touched, Values};
 use std::collections::{BTreeMap, VecDeque};
 
 const OPEN: usize = 1_024;
 const LOG_OPS: u64 = 1_000_000;
-// How far after its length an entry is held back.
+// An entry is held back up to this far after the length.
 const HELD: u64 = 64;
 
 // A place in the table of unfinished ops, or nobody.
 type Slot = u16;
 const NOBODY: Slot = Slot::MAX;
 
-/// What a worker carries out: an op, and what its balances held when it was taken.
+/// What a worker executes: an op, and what its balances held when it was taken.
 pub struct Job {
     pub number: u64,
     op: Op,
     held: Values,
 }
 
-/// A job that was carried out.
+/// A job that was executed.
 pub struct Done {
     job: Job,
     reply: Reply,
@@ -40,7 +41,7 @@ impl Job {
     }
 }
 
-/// What became of an entry.
+/// The answer to an entry.
 pub enum Offered {
     Next,
     Repeat,
@@ -58,15 +59,15 @@ enum State {
 struct Unfinished {
     op: Op,
     touched: Touched,
-    // Who comes next at each of its balances.
+    // The next op at each of its balances.
     next: [Slot; TOUCHED],
-    // At how many of its balances another one comes before it.
+    // At how many of its balances another op comes before it.
     waits_for: u8,
     number: u64,
     is_out: bool,
 }
 
-// The balances of a beginning of the log, which later ops leave alone.
+// The balances after a beginning of the log, which later ops leave alone.
 struct Cut {
     length: u64,
     balances: Vec<i64>,
@@ -74,7 +75,7 @@ struct Cut {
     unfinished: usize,
 }
 
-/// What a finished beginning of the log came to.
+/// The balances and replies after a finished beginning of the log.
 #[derive(Clone, Copy)]
 pub struct Settled<'a> {
     pub balances: &'a [i64],
@@ -91,7 +92,7 @@ pub struct Board {
     // Rising numbers.
     ready: VecDeque<u64>,
     cut: Option<Cut>,
-    // What came before its turn, by number.
+    // The entries that came before their turn, by number.
     held: BTreeMap<u64, Op>,
 }
 
@@ -134,7 +135,7 @@ impl Board {
         }
     }
 
-    /// What the whole log came to, where all of it is finished.
+    /// The balances and replies after the whole log, if all of it is finished.
     pub fn settled(&self) -> Option<Settled<'_>> {
         (self.unfinished_count() == 0).then_some(Settled {
             balances: &self.balances,
@@ -142,7 +143,8 @@ impl Board {
         })
     }
 
-    /// What the log up to the cut came to, or without a cut the whole, where all of that is finished.
+    /// The balances and replies after the log up to the cut, or after the whole log without a cut,
+    /// if all of that is finished.
     pub fn settled_cut(&self) -> Option<Settled<'_>> {
         let Some(cut) = &self.cut else {
             return self.settled();
@@ -153,7 +155,8 @@ impl Board {
         })
     }
 
-    /// Cuts the log off at its length, and answers that. Where there is a cut already its length is the error.
+    /// Makes a cut at the log's length, and answers that length. If there is a cut already, its
+    /// length is the error.
     pub fn cut(&mut self) -> Result<u64, u64> {
         if let Some(pending) = &self.cut {
             return Err(pending.length);
@@ -175,7 +178,7 @@ impl Board {
         self.unfinished.len() - self.free.len()
     }
 
-    /// Takes an entry where it is the next one, and holds it where it comes a little early.
+    /// Takes an entry if it is the next one, and holds it if it comes a little early.
     pub fn offer(&mut self, number: u64, op: Op) -> Offered {
         let length = self.length();
         if number <= length {
@@ -229,7 +232,7 @@ impl Board {
         }
     }
 
-    /// Hands out the ready op that has so many ready ones before it.
+    /// Hands out the ready op that has this many ready ones before it.
     pub fn take_at(&mut self, before: usize) -> Option<Job> {
         let number = self.ready.remove(before)?;
         let slot = self.slot(number)?;
@@ -243,7 +246,8 @@ impl Board {
         })
     }
 
-    /// Takes back what was done where that number is out with an equal op over equal values, and answers the reply.
+    /// Takes a result back if its number is out with an equal op over equal values, and answers the
+    /// reply.
     pub fn finish(&mut self, done: Done) -> Option<Reply> {
         let Done { job, reply, left } = done;
         let slot = self.slot(job.number)?;

@@ -4,14 +4,14 @@ use crate::bank::{LIMIT, Reply};
 use crate::board::Board;
 use crate::frame::{REPLY, reply_cells, reply_of};
 
-// The first layout is only read. The second one has the opening total behind the total.
+// The first layout is only read. The second one has the opening total after the total.
 const FIRST: &[u8; 8] = b"SBCKPT01";
 const SECOND: &[u8; 8] = b"SBCKPT02";
 const HEAD: usize = 20;
 const AMOUNT: usize = 8;
 const LOG_CALLS: usize = 1_000_000;
 
-/// What a replica had up to a length.
+/// The balances and replies of a replica up to a length.
 pub struct Checkpoint {
     /// For each customer savings, then checking.
     pub balances: Vec<i64>,
@@ -29,7 +29,7 @@ impl Checkpoint {
     }
 }
 
-/// The bytes of these balances and replies, of a bank that opened with so much.
+/// The bytes of these balances and replies, for a bank that opened with this total.
 pub fn write(
     balances: &[i64],
     opening_total: i64,
@@ -59,7 +59,7 @@ fn push_columns(bytes: &mut Vec<u8>, balances: &[i64]) {
     bytes.extend_from_slice(&balances.iter().sum::<i64>().to_be_bytes());
 }
 
-/// The checkpoint that these bytes are, of so many customers who had so much at the opening.
+/// The checkpoint that these bytes spell, for this many customers and this opening total.
 pub fn read(bytes: &[u8], customers: usize, opening_total: i64) -> Option<Checkpoint> {
     let (head, body) = bytes.split_first_chunk::<HEAD>()?;
     let (magic, head) = head.split_first_chunk()?;
@@ -84,7 +84,7 @@ pub fn read(bytes: &[u8], customers: usize, opening_total: i64) -> Option<Checkp
     Some(Checkpoint { balances, replies })
 }
 
-// What is behind the opening total, where the layout has one.
+// What follows the opening total, if the layout has one.
 fn behind_totals<'a>(magic: &[u8; 8], cells: &'a [u8], opening_total: i64) -> Option<&'a [u8]> {
     match magic {
         FIRST => Some(cells),

@@ -19,7 +19,7 @@ pub enum Fault {
 }
 
 impl Fault {
-    /// This fault, of a line.
+    /// This fault, at a line.
     pub fn at(self, line: usize) -> LineFault {
         LineFault { line, fault: self }
     }

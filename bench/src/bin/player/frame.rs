@@ -19,7 +19,7 @@ pub enum Frame<'a> {
 }
 
 impl Frame<'_> {
-    /// Puts the frame's bytes last.
+    /// Appends the frame's bytes.
     pub fn encode(&self, out: &mut Vec<u8>) {
         let start = out.len();
         out.extend_from_slice(&[0; PREFIX]);
@@ -47,7 +47,7 @@ impl Frame<'_> {
         out[start..start + PREFIX].copy_from_slice(&length.to_be_bytes());
     }
 
-    /// The frame that all of these bytes are.
+    /// The frame that all of these bytes spell.
     pub fn decode(bytes: &[u8]) -> Option<Frame<'_>> {
         let (prefix, body) = bytes.split_first_chunk::<PREFIX>()?;
         if usize::from(u16::from_be_bytes(*prefix)) != body.len() {
@@ -126,7 +126,7 @@ pub fn reply_cells(reply: Reply) -> [u8; REPLY] {
     cells
 }
 
-/// The reply that these bytes are.
+/// The reply that these bytes spell.
 pub fn reply_of(cells: &[u8; REPLY]) -> Option<Reply> {
     let [code, total @ ..] = *cells;
     let total = i64::from_be_bytes(total);

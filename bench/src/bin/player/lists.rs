@@ -11,7 +11,7 @@ pub struct Sent {
 }
 
 impl Sent {
-    /// Puts a frame last, and answers its place, from 1.
+    /// Appends a frame, and answers its place, counted from 1.
     pub fn push(&mut self, frame: &Frame) -> u64 {
         frame.encode(&mut self.bytes);
         self.ends.push(self.bytes.len());

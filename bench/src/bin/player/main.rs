@@ -1,7 +1,8 @@
 //! What `smallbank play` does, in plain Rust: nothing proved, std alone, written for speed.
 //!
-//! The whole schedule is read and checked, then played over real replicas: frames, jobs and checkpoints are what
-//! they are in the product, frames and checkpoints in bytes. The output is made whole and written once.
+//! The whole schedule is read and checked, then played over real replicas. Frames, jobs and
+//! checkpoints are as in the product; frames and checkpoints are bytes. The output is made whole
+//! and written once.
 
 mod bank;
 mod board;

@@ -1,4 +1,4 @@
-//! What an event is answered with.
+//! The notes on events.
 
 use crate::bank::Reply;
 use crate::printing::{push_money, push_number, push_reply};
@@ -9,7 +9,7 @@ pub enum Column {
     Checking,
 }
 
-/// What came of one event.
+/// The result of one event.
 #[derive(Clone, Copy)]
 pub enum Note {
     Nothing,
@@ -50,7 +50,7 @@ pub enum Note {
 }
 
 impl Note {
-    /// Puts the note's line last.
+    /// Appends the note's line.
     pub fn print(self, out: &mut Vec<u8>) {
         out.extend_from_slice(self.words());
         if let Some(number) = self.number() {
@@ -80,7 +80,7 @@ impl Note {
         out.push(b'\n');
     }
 
-    // The number that stands first, if one does.
+    // The number that comes first, if there is one.
     fn number(self) -> Option<u64> {
         match self {
             Note::New(number)
@@ -114,7 +114,7 @@ impl Note {
         }
     }
 
-    // What stands before its numbers.
+    // The words before its numbers.
     fn words(self) -> &'static [u8] {
         match self {
             Note::Nothing => b"nothing",

@@ -8,7 +8,7 @@ const NODES: u32 = 16;
 const WORKERS: u32 = 16;
 const CUSTOMERS: usize = 65_536;
 
-/// How a put of a mark ends: it works, or fails leaving the old or the new bytes.
+/// How a mark's put ends: it works, or it fails and leaves the old or the new bytes.
 #[derive(Clone, Copy)]
 pub enum How {
     Ok,
@@ -138,7 +138,7 @@ impl<'a> Schedule<'a> {
             }
             self.read_customer(text).map_err(|fault| fault.at(line))?;
         }
-        // The head stands before the customers.
+        // The head comes before the customers.
         Err(Fault::NoBegin.at(self.directory.names.len() + 2))
     }
 

@@ -15,7 +15,7 @@ pub struct Sequencer<'a> {
     numbers: HashMap<Key, u64>,
     // For each replica the length that it last acknowledged.
     recorded: Vec<u64>,
-    // For each replica the length of the checkpoint that it last said to keep.
+    // For each replica the length of the checkpoint that it last reported.
     checkpoints: Vec<u64>,
     answers: Vec<Option<Reply>>,
 }
@@ -57,7 +57,7 @@ impl<'a> Sequencer<'a> {
         self.log.get((number as usize).checked_sub(1)?).copied()
     }
 
-    /// The entries after what a replica acknowledged, as many as go at once.
+    /// The entries after what a replica acknowledged, as many as are sent at once.
     pub fn unheard(&self, replica: u32) -> Option<impl Iterator<Item = (u64, Call<'a>)>> {
         let recorded = *self.recorded.get(replica as usize)?;
         let calls = self.log[recorded as usize..].iter().copied();
@@ -84,7 +84,8 @@ impl<'a> Sequencer<'a> {
         }
     }
 
-    /// Of the other replicas whose checkpoint is longer than what this one acknowledged, the first of those with the longest.
+    /// Of the other replicas whose checkpoint is longer than what this one acknowledged, the first
+    /// of those with the longest.
     pub fn donor(&self, replica: u32) -> Option<Note> {
         let recorded = *self.recorded.get(replica as usize)?;
         let others = (0u64..).zip(&self.checkpoints);

@@ -14,7 +14,7 @@ pub fn words(line: &[u8]) -> impl Iterator<Item = &[u8]> {
     line.split(|byte| *byte == b' ')
 }
 
-/// The words, where they are so many, or else the fault.
+/// The words if there are this many, or else the fault.
 pub fn exactly<'a, const N: usize>(
     mut words: impl Iterator<Item = &'a [u8]>,
     fault: Fault,
@@ -80,7 +80,7 @@ pub fn number(word: &[u8]) -> Result<u32, Fault> {
     u32::try_from(value).map_err(|_| Fault::BadNumber)
 }
 
-/// The words as numbers, where they are so many.
+/// The words as numbers, if there are this many.
 pub fn numbers<'a, const N: usize>(
     words: impl Iterator<Item = &'a [u8]>,
 ) -> Result<[u32; N], Fault> {

@@ -51,7 +51,7 @@ impl<'a> World<'a> {
         self.try_step(event).unwrap_or(Note::Nothing)
     }
 
-    // `None` where there is nothing to do, or no such replica, worker, place or number.
+    // `None` if there is nothing to do, or no such replica, worker, place or number.
     fn try_step(&mut self, event: &Event<'a>) -> Option<Note> {
         match *event {
             Event::Ask { key, call } => Some(self.sequencer.ask(key, call)),
@@ -223,7 +223,7 @@ impl<'a> World<'a> {
         Note::Same(total, overdrawn)
     }
 
-    /// Puts the final state of each replica last.
+    /// Appends the final state of each replica.
     pub fn print(&self, out: &mut Vec<u8>) {
         for (node, replica) in self.nodes.iter().zip(0..) {
             out.extend_from_slice(b"replica ");

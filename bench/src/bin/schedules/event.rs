@@ -2,7 +2,7 @@
 
 use std::fmt;
 
-/// A place in the opening, or the number of customers for a name that isn't in the bank.
+/// A place in the opening. The number of customers stands for a name that isn't in the bank.
 pub type Customer = usize;
 
 /// A call. Amounts are in cents.

@@ -145,7 +145,7 @@ const EVENT_LINES: [Faulty; 92] = [
     ("ask 1 1 pay c0 c0 -0.00", "bad money"),
 ];
 
-/// A schedule's text with one fault in it, and what is said of it.
+/// A schedule's text with one fault in it, and the expected error text.
 pub fn spoil(random: &mut Random, mut lines: Vec<String>, customers: usize) -> (String, String) {
     let (index, fault) = match random.below(12) {
         0 => {

@@ -32,12 +32,12 @@ impl Ledger {
         &self.replies[number as usize - 1]
     }
 
-    /// The total after so many numbers.
+    /// The total after this many numbers.
     pub fn total(&self, length: u32) -> i64 {
         self.rows(length).iter().map(|row| row.0 + row.1).sum()
     }
 
-    /// How many have less than nothing in checking then.
+    /// How many then have less than 0 in checking.
     pub fn overdrawn(&self, length: u32) -> usize {
         self.rows(length).iter().filter(|row| row.1 < 0).count()
     }
@@ -57,7 +57,7 @@ impl Ledger {
     }
 }
 
-// Does a call, and answers the reply. What is refused changes nothing.
+// Executes a call, and answers the reply. A refused call changes nothing.
 fn carry_out(call: Call, rows: &mut Rows) -> String {
     let is_known = |customer: Customer| customer < rows.len();
     let reply = match call {

@@ -1,4 +1,4 @@
-//! One long schedule without fault: replicas that keep up, lose some, and now and then are restarted.
+//! One long schedule without fault. Replicas keep up, lose some frames, and restart now and then.
 
 use crate::event::{Event, How, money, name};
 use crate::machine::{Machine, Node};
@@ -10,10 +10,10 @@ const WORKERS: u32 = 4;
 
 // How far a replica runs ahead of its workers.
 const OPEN: usize = 24;
-// How often something seldom comes in the whole.
+// How many rare events there are in all.
 const TURNS: u32 = 40;
 
-/// Writes a schedule of so many events.
+/// Writes a schedule of this many events.
 pub fn write(out: &mut impl Write, maker: &mut Maker, events: u32, nodes: u32) -> io::Result<()> {
     writeln!(out, "nodes {nodes} workers {WORKERS}")?;
     write_opening(out, maker)?;
@@ -41,8 +41,8 @@ fn write_opening(out: &mut impl Write, maker: &mut Maker) -> io::Result<()> {
     writeln!(out, "begin")
 }
 
-/// What comes seldom, the next one last: restarts and cuts at any time, marks of a cut once it has settled, and
-/// other marks, with audits, of a replica that is idle first.
+/// The rare events, the next one last: restarts and cuts at any time, marks of a cut once it has
+/// settled, and other marks, with audits, of a replica that becomes idle first.
 #[derive(Default)]
 struct Seldom {
     planned: Vec<Event>,
@@ -69,7 +69,7 @@ impl Seldom {
         if let Event::Mark(replica, _) = planned {
             let node = &machine.nodes[replica as usize];
             if !node.is_settled() {
-                // One with a cut goes on as ever.
+                // A replica with a cut goes on as ever.
                 return node.cut.is_none().then(|| working(node, replica));
             }
         }
@@ -103,7 +103,7 @@ fn next(maker: &mut Maker, machine: &Machine, number: u32) -> Event {
     }
 }
 
-// The workers of a replica are at work, or where there is none for them it hears of more.
+// The workers of a replica work, or it hears of more if there is no work for them.
 fn running(maker: &mut Maker, machine: &Machine, replica: u32) -> Event {
     let node = &machine.nodes[replica as usize];
     let hand = maker.random.below(WORKERS);
@@ -117,7 +117,7 @@ fn running(maker: &mut Maker, machine: &Machine, replica: u32) -> Event {
     Event::Take(replica, hand + 1, maker.random.below(ready.min(4)))
 }
 
-// A replica hears its next entry, or it is sent, or an old or a far one is heard.
+// A replica hears its next entry, or that entry is sent, or the replica hears an old or a far one.
 fn hearing(maker: &mut Maker, machine: &Machine, replica: u32) -> Event {
     let node = &machine.nodes[replica as usize];
     if !node.to.is_empty() && maker.random.percent(8) {

@@ -1,4 +1,4 @@
-//! What a schedule does, told by numbers alone: no rows, queues, jobs or bytes.
+//! What a schedule does, in numbers alone: no rows, queues, jobs or bytes.
 
 use crate::event::{Call, Customer, Event, How, Key};
 use crate::ledger::Ledger;
@@ -8,7 +8,7 @@ const OPEN: usize = 1_024;
 const RESENT: u32 = 16;
 const HELD: u32 = 64;
 
-/// What an event is answered with. Replies and sums are the ledger's.
+/// The note on an event. Replies and sums are the ledger's.
 pub enum Note {
     Words(&'static str),
     Number(&'static str, u32),
@@ -18,7 +18,7 @@ pub enum Note {
 }
 
 impl Note {
-    /// What stands before its numbers.
+    /// The words before its numbers.
     pub fn words(&self) -> &'static str {
         match *self {
             Note::Words(words) | Note::Number(words, _) | Note::Numbers(words, ..) => words,
@@ -55,15 +55,15 @@ pub struct Node {
     /// The numbers up to the length that aren't finished.
     pub open: BTreeSet<u32>,
     pub out: BTreeSet<u32>,
-    /// The numbers after the length that came already.
+    /// The numbers after the length that already came.
     pub held: BTreeSet<u32>,
     pub hands: Vec<Option<u32>>,
     /// The length of the stored checkpoint, 0 for none.
     pub kept: u32,
     pub cut: Option<u32>,
-    /// The length that the sequencer heard of last.
+    /// The last length that the sequencer heard of.
     pub recorded: u32,
-    /// The length of its checkpoint that the sequencer heard of last.
+    /// The last length of its checkpoint that the sequencer heard of.
     pub checkpoint: u32,
     /// The numbers of all entries sent to it.
     pub to: Vec<u32>,
@@ -126,7 +126,8 @@ impl Machine {
         self.log.len() as u32
     }
 
-    /// The ready numbers of a node: open and not out, with no smaller open number that touches the same.
+    /// The ready numbers of a node: open and not out, with no smaller open number that touches the
+    /// same balance.
     pub fn ready(&self, node: &Node) -> Vec<u32> {
         let mut taken = HashSet::new();
         let mut ready = Vec::new();
@@ -338,12 +339,12 @@ impl Node {
         }
     }
 
-    /// How many numbers a mark is of.
+    /// How many numbers a mark covers.
     pub fn marked(&self) -> u32 {
         self.cut.unwrap_or(self.length)
     }
 
-    /// Whether a mark finds nothing open.
+    /// Whether nothing that a mark covers is open.
     pub fn is_settled(&self) -> bool {
         self.open.range(..=self.marked()).next().is_none()
     }
@@ -390,7 +391,7 @@ impl Node {
         Note::Number("restarted", self.kept)
     }
 
-    // All up to this length is finished, and nothing else is there.
+    // Goes to this length: all up to there is finished, and nothing else is there.
     fn begin_at(&mut self, size: u32) {
         self.length = size;
         self.open.clear();

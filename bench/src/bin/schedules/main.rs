@@ -1,10 +1,10 @@
 //! Makes schedules.
 //!
-//! `schedules random SEED COUNT FOLDER` writes so many, `N.schedule` each, and beside it what the definitions say is
-//! written: `N.output` to standard output, or `N.fault` to standard error where a line is at fault.
-//! `schedules restarts SEED COUNT FOLDER` makes so many short ones without fault, and writes each with restarts, marks,
-//! cuts and adoptions at every place, as `N.schedule` and `N.output` too.
-//! Both print how often each event had each note, in those without fault.
+//! `schedules random SEED COUNT FOLDER` writes this many, as `N.schedule`. Beside each it writes
+//! what the definitions expect: `N.output` for standard output or, if a line is at fault, `N.fault`
+//! for standard error. `schedules restarts SEED COUNT FOLDER` makes this many short ones without
+//! fault. It writes each with restarts, marks, cuts and adoptions at every place, as `N.schedule`
+//! and `N.output` too. Both print how often each event had each note, in those without fault.
 //! `schedules long EVENTS NODES` writes a long one without fault to standard output.
 
 mod event;
@@ -38,7 +38,7 @@ const EVENTS: u32 = 200;
 // More entries than a replica holds back.
 const AHEAD: u32 = 80;
 
-// Of so many schedules one has too many customers.
+// One of this many schedules has too many customers.
 const TOO_MANY: u32 = 5_000;
 
 /// How large a schedule may be.
@@ -63,7 +63,7 @@ const SHORT: Limits = Limits {
     ahead: 0,
 };
 
-/// What a schedule says.
+/// The parts of a schedule.
 struct Schedule {
     nodes: u32,
     workers: u32,
@@ -177,7 +177,7 @@ fn write_random(seed: u64, folder: &Path, number: u32, tally: &mut Tally) -> io:
     write("output", made.output)
 }
 
-// Writes so many schedules, each with a restart and an adoption at every place, numbered on from 0.
+// Writes this many schedules, each with a restart and an adoption at every place, numbered from 0.
 fn write_restarts(seed: u64, folder: &Path, count: u32) -> io::Result<Tally> {
     let mut tally = Tally::default();
     let mut number = 0;
@@ -216,7 +216,8 @@ fn main() -> Result<(), Box<dyn Error>> {
         }
         ["long", events, nodes] => {
             let mut out = BufWriter::new(io::stdout().lock());
-            // What is measured has no payments, as before there were any.
+            // The measured schedule has no payments, so it compares with those from before there
+            // were any.
             let mut maker = Maker::new(Random::new(SEED)).without_payments();
             long::write(&mut out, &mut maker, events.parse()?, nodes.parse()?)?;
             out.flush()?;

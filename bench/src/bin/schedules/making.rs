@@ -1,4 +1,4 @@
-//! Random events: most of them do something where the machine stands.
+//! Random events; most of them do something in the machine's present state.
 
 use crate::event::{Call, Customer, Event, How, Key};
 use crate::machine::{Machine, Node};
@@ -6,11 +6,11 @@ use crate::random::Random;
 
 const KINDS: usize = 18;
 
-// How often each kind of event comes: ask, send, resend, to, ack, answer, from, take, finish, mark, restart, cut,
-// next, audit, have, donor, give, adopt.
+// How often each kind of event comes: ask, send, resend, to, ack, answer, from, take, finish, mark,
+// restart, cut, next, audit, have, donor, give, adopt.
 const USUAL: [u32; KINDS] = [14, 14, 5, 24, 4, 5, 8, 16, 16, 5, 3, 4, 8, 4, 5, 3, 5, 6];
 
-// The same where replicas are idle often, and get states of one another.
+// The same for replicas that are often idle and get states from one another.
 const CALM: [u32; KINDS] = [
     5, 10, 3, 20, 3, 5, 14, 30, 30, 14, 2, 3, 6, 3, 10, 8, 10, 14,
 ];
@@ -20,13 +20,13 @@ const TO: usize = 3;
 
 const AMOUNTS: [i64; 8] = [0, 1, 100, 1_000, 12_345, 999_999, 1_000_000_000_000, -1];
 
-/// What makes the events of one schedule.
+/// The maker of one schedule's events.
 pub struct Maker {
     pub random: Random,
     shares: [u32; KINDS],
-    // Of 100 choices, how many are made without a look at the machine.
+    // Of 100 choices, how many are made without looking at the machine.
     blind: u32,
-    // Most events are of the first replicas, so many.
+    // Most events are of this many first replicas.
     favoured: u32,
     // How many kinds of calls there are.
     calls: u32,
@@ -54,7 +54,7 @@ impl Maker {
         Maker { calls: 5, ..self }
     }
 
-    /// So many asks, each sent to the first replica.
+    /// This many asks, each sent to the first replica.
     pub fn burst(&mut self, customers: usize, count: u32) -> Vec<Event> {
         let both = |number| {
             let call = self.call(customers);
@@ -95,7 +95,7 @@ impl Maker {
         }
     }
 
-    // A kind of event that does something, where some draws give one.
+    // A kind of event that does something, if some draws give one.
     fn fitting_kind(&mut self, machine: &Machine, r: u32, node: &Node) -> usize {
         let mut kind = self.kind();
         for _ in 0..4 {
@@ -148,7 +148,7 @@ impl Maker {
         }
     }
 
-    // A number from 1 to a last one, or now and then one beside these.
+    // A number from 1 to a last one, or now and then one outside this range.
     fn near(&mut self, last: u32) -> u32 {
         match last == 0 || self.is_blind() {
             true => *self.random.pick(&[0, last, last + 1, u32::MAX]),
@@ -164,7 +164,7 @@ impl Maker {
         }
     }
 
-    // The place of the next entry, where it was sent, or any.
+    // The place of the next entry, if it was sent, or any.
     fn place_to(&mut self, node: &Node) -> u32 {
         let next = node
             .to
@@ -176,7 +176,7 @@ impl Maker {
         }
     }
 
-    // A state for a replica that has less, for this one where it can be, or any.
+    // A state for a replica that has less, for this one if possible, or any.
     fn give(&mut self, machine: &Machine, replica: u32) -> Event {
         let donors = machine.nodes.iter().zip(0..);
         let more = donors.flat_map(|(donor, number)| {
@@ -188,7 +188,7 @@ impl Maker {
         self.one_at(replica, more.collect(), any)
     }
 
-    // A state of more than its replica has, of this one where it can be, or any.
+    // A state of more than its replica has, of this one if possible, or any.
     fn adopt(&mut self, machine: &Machine, replica: u32) -> Event {
         let nodes = machine.nodes.iter().zip(0..);
         let more = nodes.flat_map(|(node, number)| {
@@ -201,7 +201,7 @@ impl Maker {
         self.one_at(replica, more.collect(), Event::Adopt(replica, any))
     }
 
-    // Mostly one of those that do something, of those at this replica where there are some.
+    // Mostly one of those that do something, at this replica if there are any.
     fn one_at(&mut self, replica: u32, mut fitting: Vec<(u32, Event)>, any: Event) -> Event {
         if fitting.iter().any(|(at, _)| *at == replica) {
             fitting.retain(|(at, _)| *at == replica);

@@ -4,14 +4,14 @@ use crate::event::{Event, How};
 use crate::machine::Machine;
 use crate::random::Random;
 
-// The events with others put in before those at a place.
+// The events with others inserted before a place.
 fn with(events: &[Event], place: usize, more: &[Event]) -> Vec<Event> {
     [&events[..place], more, &events[place..]].concat()
 }
 
-/// The events with a restart of a replica at each place: alone, after a mark that ends in each way, and after a cut
-/// there with a mark at some later place. And with states that go from each to all at each place, also after a restart.
-/// The machine is at its opening.
+/// The events with a restart of a replica at each place: alone, after a mark that ends in each way,
+/// and after a cut there with a mark at some later place. Also with states that go from each
+/// replica to all at each place, and that after a restart too. The machine is at its opening.
 pub fn everywhere(
     events: &[Event],
     mut machine: Machine,
@@ -39,7 +39,7 @@ pub fn everywhere(
     all
 }
 
-// After the events that come first every replica becomes idle and marks, and all adopt its state.
+// After the first events every replica becomes idle and marks, and all adopt its state.
 fn adoptions(machine: &Machine, first: &[Event]) -> Vec<Event> {
     let mut machine = machine.clone();
     let mut all = Vec::new();
@@ -64,7 +64,7 @@ fn play(events: &[Event], machine: &mut Machine, all: &mut Vec<Event>) {
     all.extend(events);
 }
 
-// Its workers finish what they hold, and one of them all that is left.
+// Its workers finish what they hold, and one of them finishes all that is left.
 fn settle(replica: u32, machine: &mut Machine, all: &mut Vec<Event>) {
     let workers = machine.nodes[replica as usize].hands.len() as u32;
     for worker in 1..=workers {

@@ -5,7 +5,7 @@ use crate::machine::{Machine, Node, Note};
 use std::collections::BTreeMap;
 use std::fmt;
 
-/// How often each event had each note, and in the midst of what a state was adopted.
+/// How often each event had each note, and what was going on when a state was adopted.
 #[derive(Default)]
 pub struct Tally {
     times: BTreeMap<(String, String), u32>,
@@ -39,7 +39,7 @@ impl Tally {
     }
 }
 
-// What a replica has to let go where it adopts a state.
+// What a replica has to let go of when it adopts a state.
 fn lost_at(machine: &Machine, event: Event) -> Vec<&'static str> {
     let Event::Adopt(replica, _) = event else {
         return Vec::new();
