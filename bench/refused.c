@@ -1,11 +1,12 @@
 /* Refuses one allocation of the program that it is loaded into, and counts the blocks that aren't given back.
  *
- * It is loaded by LD_PRELOAD, and reads its orders from the environment: REFUSED is the number of the allocation that is refused, counted from 1
- * (0: none), and REFUSED_TO the descriptor of a file of a page, in which it counts: how many allocations were wanted, how many were refused, and how
- * many blocks are held. So a program that is killed has told all. A `realloc` is an allocation; a block that it moves is the same block.
+ * LD_PRELOAD loads it. It reads its orders from the environment: REFUSED is the number of the allocation to refuse, counted
+ * from 1 (0: none). REFUSED_TO is the descriptor of a file of one page, in which it counts how many allocations were wanted, how
+ * many were refused, and how many blocks are held. So the counts survive a program that is killed. A `realloc` is an
+ * allocation; a block that it moves is the same block.
  *
- * A program that has allocation functions of its own, as one that `rt try` makes has, calls them past any library. Each of these functions is
- * a jump there, and is made to jump here. Threads aren't reckoned with.
+ * A program with allocation functions of its own, as `rt try` makes it, calls them past any library. Each of these functions is
+ * a jump in that program, and is made to jump here. It doesn't support threads.
  */
 #define _GNU_SOURCE
 #include <dlfcn.h>
@@ -77,7 +78,7 @@ static void counting_free(void *block) {
     real_free(block);
 }
 
-/* What the program calls where it has no such functions of its own. */
+/* What the program calls if it has no such functions of its own. */
 void *malloc(size_t size) { return refusing_malloc(size); }
 void *calloc(size_t count, size_t size) { return refusing_calloc(count, size); }
 void *realloc(void *block, size_t size) { return refusing_realloc(block, size); }
@@ -103,7 +104,7 @@ static unsigned char *page_near(unsigned char *place) {
     _exit(125);
 }
 
-/* Makes a function of the program, which is a jump, jump elsewhere. It answers where it jumped to. */
+/* Redirects a function of the program, which is a jump. Answers the place that it jumped to before. */
 static void *redirect(unsigned char *function, void *elsewhere) {
     int32_t distance;
     if (*function != 0xe9) _exit(125);
