@@ -10,7 +10,7 @@ use Rattle.std.proofs.lemmas.Bool.Decides.{Decides-and, Decides-eqb, Decides-int
 use Rattle.sb_amount.specs.Limit.{IsWithinLimit}
 use Rattle.sb_amount.specs.declared.cents.TheConstants.{LIMIT}
 use Rattle.sb_calls.specs.Behaviour.{cowns_of_two, checkings_of_two, declared_cowns, deposit_effect, savings_effect, check_effect, takes_too_much, giver_first_effect, taker_first_effect, payment, payer_first_effect, paid_first_effect, of_one, of_two, of_three, effect_of_two, payment_effect, effect_of}
-use Rattle.sb_calls.specs.Bounds.{at_least, grown_by, fallen_by, more_not_negative, not_negative_above, next_above, taker_above, giver_above, later_first, left_above, odd}
+use Rattle.sb_calls.specs.Bounds.{at_least, grown_by, fallen_by, more_not_negative, not_negative_above, next_above, taker_above, giver_above, other_first, left_above, odd}
 use Rattle.sb_calls.specs.Cowns.{savings_cown, checking_cown, IsRising, IsHeld, AreHeld}
 use Rattle.sb_calls.specs.Procedures.{check_cost}
 use Rattle.sb_calls.specs.contracts.op.OpPartialEq.TheImpl as same
@@ -124,7 +124,7 @@ checkings_rise from to = by (from == to) (nat_lt from to) refl refl
         else checking_cown to ∷ checking_cown from ∷ [])
     by true before e l = tt
     by false true e l = (taker_above from to l, tt)
-    by false false e l = (taker_above to from (later_first from to e l), tt)
+    by false false e l = (taker_above to from (other_first from to e l), tt)
 
 pub declared_rise : (op : Op) → IsRising (declared_cowns op)
 declared_rise (Balance place) = (next_above (savings_cown place), tt)
@@ -213,19 +213,23 @@ savings_held place v ge le =
           λ even. at_least (pos 0) v ge;
     }
 
+-- checking that grows may be held, where it isn't over the limit
+received_held : (place : ℕ) (amount checking : ℤ) → IsHeld (checking_cown place) checking
+    → int_lt amount (pos 0) ≡ false → int_lt LIMIT (checking +ℤ amount) ≡ false
+    → IsHeld (checking_cown place) (checking +ℤ amount)
+received_held place amount checking h ge le =
+    checking_held place (checking +ℤ amount)
+    (record {
+      at_least = grown_by (neg_ℤ LIMIT) checking amount ge h.within.at_least;
+      at_most = at_least (checking +ℤ amount) LIMIT le;
+    })
+
 deposit_keeps : (place : ℕ) (amount checking : ℤ) → IsHeld (checking_cown place) checking
     → AreHeld (checking_cown place ∷ []) (deposit_effect amount checking).1
 deposit_keeps place amount checking h =
     either_keeps (checking_cown place ∷ []) (int_lt amount (pos 0)) _ _ (h, tt) (λ ge.
-    either_keeps (checking_cown place ∷ []) (int_lt LIMIT (checking +ℤ amount)) _ _ (h, tt) (λ le. (
-      checking_held place (checking +ℤ amount)
-          (record {
-            at_least = grown_by (neg_ℤ LIMIT) checking amount ge h.within.at_least;
-            at_most =
-                at_least (checking +ℤ amount) LIMIT le;
-          }),
-      tt,
-    )))
+    either_keeps (checking_cown place ∷ []) (int_lt LIMIT (checking +ℤ amount)) _ _ (h, tt) (λ le.
+    (received_held place amount checking h ge le, tt)))
 
 savings_keeps : (place : ℕ) (amount savings : ℤ) → IsHeld (savings_cown place) savings
     → AreHeld (savings_cown place ∷ []) (savings_effect amount savings).1
@@ -319,27 +323,30 @@ two_keep from to inputs = by (from == to) (nat_lt from to)
         of_three_keeps (checking_cown to) (savings_cown from) (checking_cown from) taker_first_effect
         (taker_first_keeps from to) inputs held
 
--- what is left of checking may be held, where no more than all of it is taken
-left_held : (place : ℕ) (amount checking : ℤ) → IsHeld (checking_cown place) checking → int_lt amount (pos 0) ≡ false
-    → int_lt checking amount ≡ false
-    → IsHeld (checking_cown place) (checking -ℤ amount)
-left_held place amount checking h ge enough =
-    checking_held place (checking -ℤ amount)
-    (record {
-      at_least = left_above checking amount enough;
-      at_most = fallen_by LIMIT checking amount ge h.within.at_most;
-    })
-
--- what is received may be held, where it isn't over the limit
-received_held : (place : ℕ) (amount received : ℤ) → IsHeld (checking_cown place) received
-    → int_lt amount (pos 0) ≡ false → int_lt LIMIT (received +ℤ amount) ≡ false
-    → IsHeld (checking_cown place) (received +ℤ amount)
-received_held place amount received h ge le =
-    checking_held place (received +ℤ amount)
-    (record {
-      at_least = grown_by (neg_ℤ LIMIT) received amount ge h.within.at_least;
-      at_most = at_least (received +ℤ amount) LIMIT le;
-    })
+-- a fact of a payment, where it is one of each of its four outcomes
+pub of_payment : (P : Reply × ℤ × ℤ → Type 0) (amount checking received : ℤ)
+    → (int_lt amount (pos 0) ≡ true → P (replies.Negative, checking, received))
+    → (int_lt amount (pos 0) ≡ false → int_lt checking amount ≡ true → P (replies.WouldOverdraw, checking, received))
+    → (int_lt amount (pos 0) ≡ false → int_lt checking amount ≡ false → int_lt LIMIT (received +ℤ amount) ≡ true
+    → P (replies.OverLimit, checking, received))
+    → (int_lt amount (pos 0) ≡ false → int_lt checking amount ≡ false → int_lt LIMIT (received +ℤ amount) ≡ false
+    → P (replies.Done, checking -ℤ amount, received +ℤ amount))
+    → P (payment amount checking received)
+of_payment P amount checking received =
+    by (int_lt amount (pos 0)) (int_lt checking amount) (int_lt LIMIT (received +ℤ amount))
+  where
+    by : (negative short over : Bool) → (negative ≡ true → P (replies.Negative, checking, received))
+        → (negative ≡ false → short ≡ true → P (replies.WouldOverdraw, checking, received))
+        → (negative ≡ false → short ≡ false → over ≡ true → P (replies.OverLimit, checking, received))
+        → (negative ≡ false → short ≡ false → over ≡ false → P (replies.Done, checking -ℤ amount, received +ℤ amount))
+        → P (if negative then (replies.Negative, checking, received)
+        else if short then (replies.WouldOverdraw, checking, received)
+        else if over then (replies.OverLimit, checking, received)
+        else (replies.Done, checking -ℤ amount, received +ℤ amount))
+    by true short over below poor past done = below refl
+    by false true over below poor past done = poor refl refl
+    by false false true below poor past done = past refl refl refl
+    by false false false below poor past done = done refl refl refl
 
 -- a payment leaves what the two may hold
 payment_keeps : (from to : ℕ) (amount checking received : ℤ) → IsHeld (checking_cown from) checking
@@ -347,24 +354,15 @@ payment_keeps : (from to : ℕ) (amount checking received : ℤ) → IsHeld (che
     → IsHeld (checking_cown from) (payment amount checking received).1
     × IsHeld (checking_cown to) (payment amount checking received).2
 payment_keeps from to amount checking received c r =
-    by (int_lt amount (pos 0)) (int_lt checking amount) (int_lt LIMIT (received +ℤ amount)) refl refl refl
-  where
-    after : (negative short over : Bool) → Reply × ℤ × ℤ
-    after negative short over =
-        if negative then (replies.Negative, checking, received)
-        else if short then (replies.WouldOverdraw, checking, received)
-        else if over then (replies.OverLimit, checking, received)
-        else (replies.Done, checking -ℤ amount, received +ℤ amount)
-
-    by : (negative short over : Bool) → int_lt amount (pos 0) ≡ negative → int_lt checking amount ≡ short
-        → int_lt LIMIT (received +ℤ amount) ≡ over
-        → IsHeld (checking_cown from) (after negative short over).1
-        × IsHeld (checking_cown to) (after negative short over).2
-    by true short over ge enough le = (c, r)
-    by false true over ge enough le = (c, r)
-    by false false true ge enough le = (c, r)
-    by false false false ge enough le =
-        (left_held from amount checking c ge enough, received_held to amount received r ge le)
+    of_payment (λ after. IsHeld (checking_cown from) after.1 × IsHeld (checking_cown to) after.2) amount checking
+    received (λ below. (c, r)) (λ ge poor. (c, r)) (λ ge enough past. (c, r)) (λ ge enough le. (
+      checking_held from (checking -ℤ amount)
+          (record {
+            at_least = left_above checking amount _ ge enough;
+            at_most = fallen_by LIMIT checking amount ge c.within.at_most;
+          }),
+      received_held to amount received r ge le,
+    ))
 
 payment_keep : (from to : ℕ) (amount : ℤ) (inputs : List ℤ) → AreHeld (checkings_of_two from to) inputs
     → AreHeld (checkings_of_two from to) (payment_effect from to amount inputs).1
