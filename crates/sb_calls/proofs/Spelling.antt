@@ -91,8 +91,7 @@ spells_two_names_and_amount verb call spelled (from ∷ to ∷ text ∷ []) made
     let both = and_parts (is_name from) (is_name to) passed.0 in
     let amount = amount_made (call from to) (read_money text) made passed.1 in
     let money_is = money_from_read text amount.0 amount.1 in
-    let is = spelled from to amount.0 both.0 both.1 money_is.1 in
-    (
+    let is = spelled from to amount.0 both.0 both.1 money_is.1 in (
       subst IsCall (sym amount.2) is.0,
       ap (λ (word : List ℕ). verb ++ (32 ∷ (from ++ (32 ∷ (to ++ (32 ∷ word)))))) money_is.0 ∙ is.1 ∙ ap call_line (sym amount.2),
     )

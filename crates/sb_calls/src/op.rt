@@ -68,6 +68,7 @@ fn two_places(directory: &Directory, from: &Name, to: &Name) -> Result<TwoPlaces
     ensures refusal { IfErr result (λ refusal. (op : ℕ × ℕ → AnyOp)
         → at_two_places op (place_of directory.now from.now) (place_of directory.now to.now)
         ≡ refusal) }
+    ensures refusal_within { IfErr result (IsOpWithin (length directory.now)) }
 {
     let from = directory.place(from).ok_or(Op::NoCustomer)?;
     let to = directory.place(to).ok_or(Op::NoCustomer)?;
