@@ -30,11 +30,7 @@ pub(crate) fn read_call(fields: &mut Fields) -> Result<Call, FrameFault>
         TRANSACT_SAVINGS => Ok(Call::TransactSavings(fields.name()?, fields.amount()?)),
         AMALGAMATE => Ok(Call::Amalgamate(fields.name()?, fields.name()?)),
         WRITE_CHECK => Ok(Call::WriteCheck(fields.name()?, fields.amount()?)),
-        SEND_PAYMENT => Ok(Call::SendPayment(
-            fields.name()?,
-            fields.name()?,
-            fields.amount()?,
-        )),
+        SEND_PAYMENT => Ok(Call::SendPayment(fields.name()?, fields.name()?, fields.amount()?)),
         _ => Err(FrameFault::UnknownTag),
     }
 }
