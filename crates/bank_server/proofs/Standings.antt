@@ -1,11 +1,11 @@
 -- How asks stand in a log.
-use Rattle.std.proofs.Common.{◌≡◌, ℕ, ◌+◌, ◌<◌, ◌≤◌, Bool, true, false, ◌||◌, cond, if◌then◌else◌, nat_lt, Option, Some, None, is_some, List, [], ◌∷◌, ◌++◌, length, map, take, get_or, slice_get, refl, sym, ap, subst, ◌∙◌, arith, lt-ltb, append_assoc, inl, inr, Ok, Err}
+use Rattle.std.proofs.Common.{◌≡◌, ℕ, ◌+◌, ◌<◌, ◌≤◌, Bool, true, false, ◌&&◌, ◌||◌, cond, if◌then◌else◌, nat_lt, Option, Some, None, is_some, List, [], ◌∷◌, ◌++◌, length, map, take, get_or, slice_get, refl, sym, ap, subst, ◌∙◌, arith, lt-ltb, append_assoc, inl, inr, Ok, Err}
 use Rattle.std.specs.Prelude.{◌≢◌, slice_index_or}
 use Rattle.std.specs.Ordering.{int_eq}
 use Rattle.std.specs.Str.{bytes_eq}
 use Rattle.std.specs.Cmp.Lexicographic.{bytes_decides}
 use Rattle.std.specs.List.{All, AllByRecursion, position_or_len}
-use Rattle.std.proofs.lemmas.Bool.{and_parts, and_from, cond-true, false_from_ne_true, cases_lt}
+use Rattle.std.proofs.lemmas.Bool.{and_parts, and_from, cond-true, false_from_ne_true, cases_lt, true≢false}
 use Rattle.std.proofs.lemmas.Bool.Decides.{Decides-int_eq}
 use Rattle.std.proofs.lemmas.List.{get_or_append_left, length_push, take_all, length-take-le}
 use Rattle.std.proofs.lemmas.List.Elements.{All-map}
@@ -16,7 +16,7 @@ use Rattle.std.proofs.lemmas.Option.{slice_get-get_or}
 use Rattle.std.proofs.Math.Seq.{get_or-append_seam}
 use Rattle.sb_calls.specs.declared.ask.Key.{Key}
 use Rattle.sb_calls.specs.declared.call.Call.{Call}
-use Rattle.sb_calls.specs.declared.call.Call.TheVariants.{Balance, DepositChecking, TransactSavings, Amalgamate, WriteCheck}
+use Rattle.sb_calls.specs.declared.call.Call.TheVariants.{Balance, DepositChecking, TransactSavings, Amalgamate, WriteCheck, SendPayment}
 use Rattle.sb_sequencer.proofs.Firsts.{has_key-firsts_after}
 use Rattle.sb_sequencer.proofs.Keys.{same_key_same, same_key_itself, absent_from_place, has_key-place}
 use Rattle.sb_sequencer.proofs.Logs.{first_asks-push, log_with-known, log_with-full, log_with-new}
@@ -39,39 +39,30 @@ same_call_itself (DepositChecking x v) = and_from (bytes_eq x x) (int_eq v v) ((
 same_call_itself (TransactSavings x v) = and_from (bytes_eq x x) (int_eq v v) ((bytes_decides x x).1 refl) ((Decides-int_eq v v).1 refl)
 same_call_itself (Amalgamate x u) = and_from (bytes_eq x x) (bytes_eq u u) ((bytes_decides x x).1 refl) ((bytes_decides u u).1 refl)
 same_call_itself (WriteCheck x v) = and_from (bytes_eq x x) (int_eq v v) ((bytes_decides x x).1 refl) ((Decides-int_eq v v).1 refl)
+same_call_itself (SendPayment x u v) =
+    and_from (bytes_eq x x && bytes_eq u u) (int_eq v v)
+    (and_from (bytes_eq x x) (bytes_eq u u) ((bytes_decides x x).1 refl) ((bytes_decides u u).1 refl)) ((Decides-int_eq v v).1 refl)
 
 -- calls that the test finds the same are one
 pub same_call_same : (a b : Call) → same_call a b ≡ true → a ≡ b
 unfolding same_call
 same_call_same (Balance x) (Balance x') e = ap Balance ((bytes_decides x x').0 e)
-same_call_same (Balance x) (DepositChecking x' v') e = absurd cc
-same_call_same (Balance x) (TransactSavings x' v') e = absurd cc
-same_call_same (Balance x) (Amalgamate x' u') e = absurd cc
-same_call_same (Balance x) (WriteCheck x' v') e = absurd cc
-same_call_same (DepositChecking x v) (Balance x') e = absurd cc
 same_call_same (DepositChecking x v) (DepositChecking x' v') e = let p = and_parts (bytes_eq x x') (int_eq v v') e in let f : x ≡ x' =
     (bytes_decides x x').0 p.0 in let g : v ≡ v' = (Decides-int_eq v v').0 p.1 in λ j. DepositChecking (f j) (g j)
-same_call_same (DepositChecking x v) (TransactSavings x' v') e = absurd cc
-same_call_same (DepositChecking x v) (Amalgamate x' u') e = absurd cc
-same_call_same (DepositChecking x v) (WriteCheck x' v') e = absurd cc
-same_call_same (TransactSavings x v) (Balance x') e = absurd cc
-same_call_same (TransactSavings x v) (DepositChecking x' v') e = absurd cc
 same_call_same (TransactSavings x v) (TransactSavings x' v') e = let p = and_parts (bytes_eq x x') (int_eq v v') e in let f : x ≡ x' =
     (bytes_decides x x').0 p.0 in let g : v ≡ v' = (Decides-int_eq v v').0 p.1 in λ j. TransactSavings (f j) (g j)
-same_call_same (TransactSavings x v) (Amalgamate x' u') e = absurd cc
-same_call_same (TransactSavings x v) (WriteCheck x' v') e = absurd cc
-same_call_same (Amalgamate x u) (Balance x') e = absurd cc
-same_call_same (Amalgamate x u) (DepositChecking x' v') e = absurd cc
-same_call_same (Amalgamate x u) (TransactSavings x' v') e = absurd cc
 same_call_same (Amalgamate x u) (Amalgamate x' u') e = let p = and_parts (bytes_eq x x') (bytes_eq u u') e in let f : x ≡ x' = (bytes_decides x x').0 p.0 in
     let g : u ≡ u' = (bytes_decides u u').0 p.1 in λ j. Amalgamate (f j) (g j)
-same_call_same (Amalgamate x u) (WriteCheck x' v') e = absurd cc
-same_call_same (WriteCheck x v) (Balance x') e = absurd cc
-same_call_same (WriteCheck x v) (DepositChecking x' v') e = absurd cc
-same_call_same (WriteCheck x v) (TransactSavings x' v') e = absurd cc
-same_call_same (WriteCheck x v) (Amalgamate x' u') e = absurd cc
 same_call_same (WriteCheck x v) (WriteCheck x' v') e = let p = and_parts (bytes_eq x x') (int_eq v v') e in let f : x ≡ x' = (bytes_decides x x').0 p.0 in
     let g : v ≡ v' = (Decides-int_eq v v').0 p.1 in λ j. WriteCheck (f j) (g j)
+same_call_same (SendPayment x u v) (SendPayment x' u' v') e =
+    let p = and_parts (bytes_eq x x' && bytes_eq u u') (int_eq v v') e in
+    let q = and_parts (bytes_eq x x') (bytes_eq u u') p.0 in
+    let f : x ≡ x' = (bytes_decides x x').0 q.0 in
+    let g : u ≡ u' = (bytes_decides u u').0 q.1 in
+    let h : v ≡ v' = (Decides-int_eq v v').0 p.1 in
+    λ j. SendPayment (f j) (g j) (h j)
+same_call_same a b e = absurd (true≢false (sym e))
 
 -- the standing at an entry with the same call, and at one with another
 standing_same : (n : ℕ) (ask : Key × Call) → numbered_standing n ask.1 (Some ask) ≡ Number n

@@ -5,7 +5,7 @@ use Rattle.std.specs.Str.{bytes_eq}
 use Rattle.sb_calls.specs.Reply.{reply_text}
 use Rattle.sb_calls.specs.declared.ask.Key.{Key}
 use Rattle.sb_calls.specs.declared.call.Call.{Call}
-use Rattle.sb_calls.specs.declared.call.Call.TheVariants.{Balance, DepositChecking, TransactSavings, Amalgamate, WriteCheck}
+use Rattle.sb_calls.specs.declared.call.Call.TheVariants.{Balance, DepositChecking, TransactSavings, Amalgamate, WriteCheck, SendPayment}
 use Rattle.sb_calls.specs.declared.reply.Reply.{Reply}
 use Rattle.sb_sequencer.specs.Numbering.{place_of_key}
 use Rattle.bank_server.specs.declared.asking.Standing.{Standing}
@@ -18,6 +18,7 @@ same_call (DepositChecking a v) (DepositChecking b w) = bytes_eq a b && int_eq v
 same_call (TransactSavings a v) (TransactSavings b w) = bytes_eq a b && int_eq v w
 same_call (Amalgamate a c) (Amalgamate b d) = bytes_eq a b && bytes_eq c d
 same_call (WriteCheck a v) (WriteCheck b w) = bytes_eq a b && int_eq v w
+same_call (SendPayment a c v) (SendPayment b d w) = bytes_eq a b && bytes_eq c d && int_eq v w
 same_call a b = false
 
 -- what a call comes to whose key has number n with this entry

@@ -4,7 +4,7 @@ use Rattle.std.proofs.lemmas.Int.{ints, to_z-of_z}
 use Rattle.sb_amount.specs.Limit.{IsWithinLimit}
 use Rattle.sb_calls.specs.Net.{net_if_done, net_if_paid, net_of, net_sum}
 use Rattle.sb_calls.specs.declared.call.Call.{Call}
-use Rattle.sb_calls.specs.declared.call.Call.TheVariants.{Balance, DepositChecking, TransactSavings, Amalgamate, WriteCheck}
+use Rattle.sb_calls.specs.declared.call.Call.TheVariants.{Balance, DepositChecking, TransactSavings, Amalgamate, WriteCheck, SendPayment}
 use Rattle.sb_calls.specs.declared.reply.Reply.{Reply}
 use Rattle.sb_calls.specs.declared.reply.Reply.TheVariants.{Shown, Done, Penalised, NoCustomer, SameCustomer, Negative, WouldOverdraw, OverLimit}
 use Rattle.sb_rows.specs.Balances.{Balances, IsBalances}
@@ -71,6 +71,7 @@ net_within (DepositChecking name amount) reply h = done_within amount reply h
 net_within (TransactSavings name amount) reply h = done_within amount reply h
 net_within (Amalgamate from to) reply h = nothing
 net_within (WriteCheck name amount) reply h = paid_within amount reply h
+net_within (SendPayment from to amount) reply h = nothing
 
 -- one more call
 net_sum-suc : (calls : List Call) (replies : List Reply) (i : ℕ) (d : Call) (e : Reply) → i < length calls → i < length replies

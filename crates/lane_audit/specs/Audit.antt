@@ -2,7 +2,7 @@
 use Rattle.std.specs.Prelude.{◌≡◌, ℕ, ◌*◌, ℤ, pos, neg_ℤ, ◌+ℤ◌, ◌≤ℤ◌}
 use Rattle.sb_amount.specs.Limit.{IsWithinLimit}
 use Rattle.sb_calls.specs.declared.call.Call.{Call}
-use Rattle.sb_calls.specs.declared.call.Call.TheVariants.{Balance, DepositChecking, TransactSavings, Amalgamate, WriteCheck}
+use Rattle.sb_calls.specs.declared.call.Call.TheVariants.{Balance, DepositChecking, TransactSavings, Amalgamate, WriteCheck, SendPayment}
 use Rattle.sb_rows.specs.Balances.{Balances, IsBalances}
 use Rattle.lane_audit.specs.Columns.{total}
 
@@ -23,3 +23,4 @@ HasAmountWithin (DepositChecking name amount) = IsWithinLimit amount
 HasAmountWithin (TransactSavings name amount) = IsWithinLimit amount
 HasAmountWithin (Amalgamate from to) = Unit {0}
 HasAmountWithin (WriteCheck name amount) = IsWithinLimit amount
+HasAmountWithin (SendPayment from to amount) = IsWithinLimit amount

@@ -67,7 +67,8 @@ fn amount_within(call: &Call)
     match call {
         Call::DepositChecking(_, amount)
         | Call::TransactSavings(_, amount)
-        | Call::WriteCheck(_, amount) => {
+        | Call::WriteCheck(_, amount)
+        | Call::SendPayment(_, _, amount) => {
             let _cents = amount.value();
         }
         Call::Balance(_) | Call::Amalgamate(_, _) => {}

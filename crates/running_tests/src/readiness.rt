@@ -93,6 +93,31 @@ fn one_comes_to_the_front_of_two_cowns_at_once(rt: HostRuntime) {
     );
 }
 
+// A payment declares two checking balances: savings wait for none, and the next payment for what it shares.
+#[test]
+fn payments_wait_for_checking_alone(rt: HostRuntime) {
+    let mut bank = Bank::open(&rt, rt.alloc());
+    bank.plays(
+        &rt,
+        &[
+            Step::Submit(1, "pay alice bob 10.00"),
+            Step::Submit(2, "savings alice 1.00"),
+            Step::Submit(3, "pay bob carol 30.00"),
+            Step::Submit(4, "deposit carol 1.00"),
+            Step::Take(1, 2),
+            Step::TakeNone(1),
+            Step::Take(0, 1),
+            Step::TakeNone(0),
+            Step::Finish(1, Reply::Done),
+            Step::TakeNone(1),
+            Step::Run(3, Reply::Done),
+            Step::Finish(2, Reply::Done),
+            Step::Run(4, Reply::Done),
+        ],
+    );
+    bank.ends_with(&rt, [10_100, 0, 1_000], [4_000, 0, 3_100]);
+}
+
 #[test]
 fn ops_without_cowns_are_ready_at_once(rt: HostRuntime) {
     let mut bank = Bank::open(&rt, rt.alloc());

@@ -5,13 +5,13 @@ use Rattle.sb_rows.specs.Rows.{SameCustomers}
 use Rattle.sb_calls.proofs.EffectPerforms.{effect_performs}
 use Rattle.sb_calls.proofs.HeldLaws.{AllHeld-balances, AreHeld-read, below_among, length-write}
 use Rattle.sb_calls.proofs.Holding.{held_of-injective, length-held_of}
-use Rattle.sb_calls.specs.Behaviour.{cowns_of_two, declared_cowns, effect_of}
+use Rattle.sb_calls.specs.Behaviour.{cowns_of_two, checkings_of_two, declared_cowns, effect_of}
 use Rattle.sb_calls.specs.Cowns.{savings_cown, checking_cown, AreBelow, AreHeld, held_of, read_cowns, write_cowns}
 use Rattle.sb_calls.specs.FollowsProcedure.{FollowsProcedure}
 use Rattle.sb_calls.specs.Op.{resolved, IsOpWithin}
 use Rattle.sb_calls.specs.declared.call.Call.{Call}
 use Rattle.sb_calls.specs.declared.op.Op.{Op}
-use Rattle.sb_calls.specs.declared.op.Op.TheVariants.{Balance, DepositChecking, TransactSavings, Amalgamate, WriteCheck, NoCustomer, SameCustomer}
+use Rattle.sb_calls.specs.declared.op.Op.TheVariants.{Balance, DepositChecking, TransactSavings, Amalgamate, WriteCheck, SendPayment, NoCustomer, SameCustomer}
 
 -- ---- what its cowns are, and hold
 
@@ -25,6 +25,15 @@ two_below from to n lt_from lt_to = by (from == to) (nat_lt from to)
     by false true = (omega (arith, lt_from), (omega (arith, lt_from), (omega (arith, lt_to), tt)))
     by false false = (omega (arith, lt_to), (omega (arith, lt_from), (omega (arith, lt_from), tt)))
 
+checkings_below : (from to n : ℕ) → from < n → to < n → AreBelow (2 * n) (checkings_of_two from to)
+checkings_below from to n lt_from lt_to = by (from == to) (nat_lt from to)
+  where
+    by : (one before : Bool)
+        → AreBelow (2 * n) (cond one [] (cond before (checking_cown from ∷ checking_cown to ∷ []) (checking_cown to ∷ checking_cown from ∷ [])))
+    by true before = tt
+    by false true = (omega (arith, lt_from), (omega (arith, lt_to), tt))
+    by false false = (omega (arith, lt_to), (omega (arith, lt_from), tt))
+
 -- an op at places of customers declares cowns of theirs
 op_below : (n : ℕ) (op : Op) → IsOpWithin n op → AreBelow (2 * n) (declared_cowns op)
 op_below n (Balance place) lt = (omega (arith, lt), (omega (arith, lt), tt))
@@ -32,6 +41,7 @@ op_below n (DepositChecking place amount) lt = (omega (arith, lt), tt)
 op_below n (TransactSavings place amount) lt = (omega (arith, lt), tt)
 op_below n (Amalgamate places) lt = two_below places.0 places.1 n lt.0 lt.1
 op_below n (WriteCheck place amount) lt = (omega (arith, lt), (omega (arith, lt), tt))
+op_below n (SendPayment places amount) lt = checkings_below places.0 places.1 n lt.0 lt.1
 op_below n NoCustomer lt = tt
 op_below n SameCustomer lt = tt
 

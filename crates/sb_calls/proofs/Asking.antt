@@ -20,7 +20,7 @@ use Rattle.sb_calls.specs.Call.{IsCall, call_line, call_of, call_of_words}
 use Rattle.sb_calls.specs.declared.ask.Asked.{Asked}
 use Rattle.sb_calls.specs.declared.ask.Key.{Key}
 use Rattle.sb_calls.specs.declared.call.Call.{Call}
-use Rattle.sb_calls.specs.declared.call.Call.TheVariants.{Balance, DepositChecking, TransactSavings, Amalgamate, WriteCheck}
+use Rattle.sb_calls.specs.declared.call.Call.TheVariants.{Balance, DepositChecking, TransactSavings, Amalgamate, WriteCheck, SendPayment}
 use Rattle.sb_calls.specs.declared.text.fault.CallFault.{CallFault}
 
 -- ---- numbers
@@ -149,6 +149,7 @@ call_without_key (DepositChecking name amount) = refl
 call_without_key (TransactSavings name amount) = refl
 call_without_key (Amalgamate from to) = refl
 call_without_key (WriteCheck name amount) = refl
+call_without_key (SendPayment from to amount) = refl
 
 -- the words of a line with a key
 words-key : (key : Key) (rest : List ℕ) → IsKey (Some key)

@@ -20,7 +20,7 @@ use Rattle.sb_calls.specs.OneByOne.{is_among, share_cown}
 use Rattle.sb_calls.specs.Op.{resolved}
 use Rattle.sb_calls.specs.Touches.{BalancePlace, Savings, Checking, both_of, has_name, touched}
 use Rattle.sb_calls.specs.declared.call.Call.{Call}
-use Rattle.sb_calls.specs.declared.call.Call.TheVariants.{Balance, DepositChecking, TransactSavings, Amalgamate, WriteCheck}
+use Rattle.sb_calls.specs.declared.call.Call.TheVariants.{Balance, DepositChecking, TransactSavings, Amalgamate, WriteCheck, SendPayment}
 
 -- ---- the members of a list of cowns
 
@@ -65,6 +65,12 @@ touched_are_named rows (Amalgamate from to) =
     let names = and_parts (has_name rows from) (has_name rows to) (and_parts both differ there).0 in
     (names.0, (names.0, (names.1, tt))))
 touched_are_named rows (WriteCheck name amount) = named_where rows (has_name rows name) (both_of name) (λ there. (there, (there, tt)))
+touched_are_named rows (SendPayment from to amount) =
+    let both = has_name rows from && has_name rows to in
+    let differ = not (bytes_eq from to) in
+    named_where rows (both && differ) (Checking from ∷ Checking to ∷ []) (λ there.
+    let names = and_parts (has_name rows from) (has_name rows to) (and_parts both differ there).0 in
+    (names.0, (names.1, tt)))
 
 -- a name in the rows has a place
 place_of_row : (directory : List (List ℕ)) (b : Balances) (name : List ℕ) → SameCustomers directory b → has_name (rows_of directory b) name ≡ true

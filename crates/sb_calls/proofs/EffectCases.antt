@@ -7,7 +7,7 @@ use Rattle.sb_amount.specs.Limit.{IsWithinLimit}
 use Rattle.sb_amount.specs.declared.cents.TheConstants.{LIMIT}
 use Rattle.sb_calls.proofs.Amalgamation.{past_limit_either, within_limit}
 use Rattle.sb_calls.proofs.Procedures.{past_limit_downwards}
-use Rattle.sb_calls.specs.Behaviour.{cowns_of_two, check_effect, giver_first_effect, taker_first_effect, of_three, effect_of_two}
+use Rattle.sb_calls.specs.Behaviour.{cowns_of_two, checkings_of_two, check_effect, giver_first_effect, taker_first_effect, payer_first_effect, paid_first_effect, of_two, of_three, effect_of_two, payment_effect}
 use Rattle.sb_calls.specs.Cowns.{savings_cown, checking_cown, AreHeld}
 use Rattle.sb_calls.specs.Procedures.{check_cost}
 use Rattle.sb_calls.specs.declared.reply.Reply.{Reply}
@@ -102,3 +102,32 @@ amalgamates_taker_first from to inputs x y z lt held first second third =
     let in_order = rw (cowns_taker_first from to lt) at held in
     effect_taker_first from to inputs lt
     ∙ on_three (checking_cown to) (savings_cown from) (checking_cown from) taker_first_effect inputs x y z in_order first second third
+
+-- ---- payments
+
+-- where the one that pays stands first, and where the other does
+pub cowns_payer_first : (from to : ℕ) → from < to → checkings_of_two from to ≡ checking_cown from ∷ checking_cown to ∷ []
+cowns_payer_first from to lt =
+    let different : (from == to) ≡ false = grind (arith, nat_tests) in
+    let before : nat_lt from to ≡ true = grind (arith, nat_tests) in
+    rw (different, before) refl
+
+pub cowns_paid_first : (from to : ℕ) → to < from → checkings_of_two from to ≡ checking_cown to ∷ checking_cown from ∷ []
+cowns_paid_first from to lt =
+    let different : (from == to) ≡ false = grind (arith, nat_tests) in
+    let after : nat_lt from to ≡ false = grind (arith, nat_tests) in
+    rw (different, after) refl
+
+pub effect_payer_first : (from to : ℕ) (amount : ℤ) (inputs : List ℤ) → from < to
+    → payment_effect from to amount inputs ≡ of_two (payer_first_effect amount) inputs
+effect_payer_first from to amount inputs lt =
+    let different : (from == to) ≡ false = grind (arith, nat_tests) in
+    let before : nat_lt from to ≡ true = grind (arith, nat_tests) in
+    rw (different, before) refl
+
+pub effect_paid_first : (from to : ℕ) (amount : ℤ) (inputs : List ℤ) → to < from
+    → payment_effect from to amount inputs ≡ of_two (paid_first_effect amount) inputs
+effect_paid_first from to amount inputs lt =
+    let different : (from == to) ≡ false = grind (arith, nat_tests) in
+    let after : nat_lt from to ≡ false = grind (arith, nat_tests) in
+    rw (different, after) refl

@@ -12,20 +12,22 @@ use Rattle.sb_rows.specs.Balances.{Balances}
 use Rattle.sb_rows.specs.Directory.{place_of}
 use Rattle.sb_rows.specs.Rows.{with_row, SameCustomers}
 use Rattle.sb_calls.proofs.Amalgamation.{within_limit, performs_amalgamate_over_limit, performs_amalgamate}
-use Rattle.sb_calls.proofs.EffectCases.{cost_bounds, cowns_giver_first, cowns_taker_first, effect_giver_first, effect_taker_first}
+use Rattle.sb_calls.proofs.EffectCases.{cost_bounds, cowns_giver_first, cowns_taker_first, effect_giver_first, effect_taker_first, cowns_payer_first, cowns_paid_first, effect_payer_first, effect_paid_first}
 use Rattle.sb_calls.proofs.Holding.{held_savings, held_checking, held_of-with_savings, held_of-with_checking, write-read}
 use Rattle.sb_calls.proofs.Ops.{comes_from}
+use Rattle.sb_calls.proofs.Payments.{paid, performs_payment_negative, performs_payment_overdraft, performs_payment_over_limit, performs_payment}
 use Rattle.sb_calls.proofs.Places.{HasRow, HasRow-unread, with_savings, with_checking, checking_within}
 use Rattle.sb_calls.proofs.Procedures.{performs_balance, performs_negative, performs_over_limit, performs_deposit, performs_overdraft, performs_savings_over_limit, performs_savings, performs_check_negative, performs_check_over_limit, performs_check}
 use Rattle.sb_calls.proofs.Refusals.{performs_no_customer, performs_same_customer}
-use Rattle.sb_calls.specs.Behaviour.{cowns_of_two, declared_cowns, deposit_effect, savings_effect, check_effect, takes_too_much, giver_first_effect, taker_first_effect, effect_of_two, effect_of}
+use Rattle.sb_calls.specs.Behaviour.{cowns_of_two, checkings_of_two, declared_cowns, deposit_effect, savings_effect, check_effect, takes_too_much, giver_first_effect, taker_first_effect, payment, payer_first_effect, paid_first_effect, effect_of_two, payment_effect, effect_of}
+use Rattle.sb_calls.specs.BehaviourLaws.{of_payment}
 use Rattle.sb_calls.specs.ByCowns.{PerformsByCowns}
 use Rattle.sb_calls.specs.Cowns.{savings_cown, checking_cown, held_of, read_cowns, write_cowns}
 use Rattle.sb_calls.specs.Op.{resolved}
 use Rattle.sb_calls.specs.FollowsProcedure.{FollowsProcedure}
 use Rattle.sb_calls.specs.Procedures.{check_cost}
 use Rattle.sb_calls.specs.declared.call.Call.{Call}
-use Rattle.sb_calls.specs.declared.call.Call.TheVariants.{Balance, DepositChecking, TransactSavings, Amalgamate, WriteCheck}
+use Rattle.sb_calls.specs.declared.call.Call.TheVariants.{Balance, DepositChecking, TransactSavings, Amalgamate, WriteCheck, SendPayment}
 use Rattle.sb_calls.specs.declared.op.Op.{Op}
 use Rattle.sb_calls.specs.declared.op.Op.TheVariants as ops
 use Rattle.sb_calls.specs.declared.reply.Reply.{Reply}
@@ -236,6 +238,84 @@ module _ {directory : List (List ℕ)} {b : Balances} {from to : List ℕ} {p q 
           at_cowns (checking_cown q ∷ savings_cown p ∷ checking_cown p ∷ []) (c_to ∷ s ∷ c ∷ []) (cowns_taker_first p q lt) taker_first
           (rw (effect_taker_first p q (c_to ∷ s ∷ c ∷ []) lt) taker_first_effects)
 
+-- ---- payments
+
+-- the one that pays is written first, and then the one that is paid
+written_payer_first : (b : Balances) (p q : ℕ) (left received : ℤ)
+    → held_of (paid b p q left received) ≡ slice_set (slice_set (held_of b) (checking_cown p) left) (checking_cown q) received
+written_payer_first b p q left received =
+    held_of-with_checking (with_checking b p left) q received
+    ∙ ap (λ (held : List ℤ). slice_set held (checking_cown q) received) (held_of-with_checking b p left)
+
+-- or the other way round: they are other cowns
+written_paid_first : (b : Balances) (p q : ℕ) (left received : ℤ) → p ≢ q
+    → held_of (paid b p q left received) ≡ slice_set (slice_set (held_of b) (checking_cown q) received) (checking_cown p) left
+written_paid_first b p q left received differs =
+    let apart : checking_cown p ≢ checking_cown q = omega (arith, differs) in
+    written_payer_first b p q left received ∙ set_comm (held_of b) (checking_cown p) (checking_cown q) left received apart
+
+module _ {directory : List (List ℕ)} {b : Balances} {from to : List ℕ} {p q : ℕ} {s c s_to c_to : ℤ} (payer : HasRow directory b from p s c)
+    (taker : HasRow directory b to q s_to c_to) (differs : p ≢ q) (amount : ℤ) where
+  pub payer_first : c ∷ c_to ∷ [] ≡ read_cowns (held_of b) (checking_cown p ∷ checking_cown q ∷ [])
+  payer_first = rw (checking_is payer, checking_is taker) refl
+
+  pub paid_first : c_to ∷ c ∷ [] ≡ read_cowns (held_of b) (checking_cown q ∷ checking_cown p ∷ [])
+  paid_first = rw (checking_is payer, checking_is taker) refl
+
+  pub payer_first_effects : Effects directory (SendPayment from to amount) b (checking_cown p ∷ checking_cown q ∷ []) (payer_first_effect amount c c_to)
+  payer_first_effects =
+      let call = SendPayment from to amount in
+      let cowns = checking_cown p ∷ checking_cown q ∷ [] in
+      of_payment (λ after. Effects directory call b cowns (after.0, after.1 ∷ after.2 ∷ [])) amount c c_to
+      (λ below. effect_leaves directory call b cowns replies.Negative (c ∷ c_to ∷ []) (performs_payment_negative payer taker differs amount below) payer_first)
+      (λ ge poor. effect_leaves directory call b cowns replies.WouldOverdraw (c ∷ c_to ∷ [])
+      (performs_payment_overdraft payer taker differs amount ge poor) payer_first)
+      (λ ge enough past. effect_leaves directory call b cowns replies.OverLimit (c ∷ c_to ∷ [])
+      (performs_payment_over_limit payer taker differs amount ge enough past) payer_first)
+      (λ ge enough le. record {
+        new = paid b p q (c -ℤ amount) (c_to +ℤ amount);
+        written = written_payer_first b p q (c -ℤ amount) (c_to +ℤ amount);
+        performs = performs_payment payer taker differs amount ge enough le;
+      })
+
+  pub paid_first_effects : Effects directory (SendPayment from to amount) b (checking_cown q ∷ checking_cown p ∷ []) (paid_first_effect amount c_to c)
+  paid_first_effects =
+      let call = SendPayment from to amount in
+      let cowns = checking_cown q ∷ checking_cown p ∷ [] in
+      of_payment (λ after. Effects directory call b cowns (after.0, after.2 ∷ after.1 ∷ [])) amount c c_to
+      (λ below. effect_leaves directory call b cowns replies.Negative (c_to ∷ c ∷ []) (performs_payment_negative payer taker differs amount below) paid_first)
+      (λ ge poor. effect_leaves directory call b cowns replies.WouldOverdraw (c_to ∷ c ∷ [])
+      (performs_payment_overdraft payer taker differs amount ge poor) paid_first)
+      (λ ge enough past. effect_leaves directory call b cowns replies.OverLimit (c_to ∷ c ∷ [])
+      (performs_payment_over_limit payer taker differs amount ge enough past) paid_first)
+      (λ ge enough le. record {
+        new = paid b p q (c -ℤ amount) (c_to +ℤ amount);
+        written = written_paid_first b p q (c -ℤ amount) (c_to +ℤ amount) differs;
+        performs = performs_payment payer taker differs amount ge enough le;
+      })
+
+  -- a payment on these cowns and what they hold
+  pays_at : (cowns : List ℕ) (values : List ℤ) → checkings_of_two p q ≡ cowns → values ≡ read_cowns (held_of b) cowns
+      → Effects directory (SendPayment from to amount) b cowns (payment_effect p q amount values)
+      → Effects directory (SendPayment from to amount) b (checkings_of_two p q) (payment_effect p q amount (read_cowns (held_of b) (checkings_of_two p q)))
+  pays_at cowns values is e effects =
+      subst (λ (l : List ℕ). Effects directory (SendPayment from to amount) b l (payment_effect p q amount (read_cowns (held_of b) l))) (sym is)
+      (subst (λ (held : List ℤ). Effects directory (SendPayment from to amount) b cowns (payment_effect p q amount held)) e effects)
+
+  -- whoever is first
+  pub payment_effects : Effects directory (SendPayment from to amount) b (checkings_of_two p q)
+      (payment_effect p q amount (read_cowns (held_of b) (checkings_of_two p q)))
+  payment_effects = by (cases_lt p q)
+    where
+      by : (p < q) ⊎ (q ≤ p)
+          → Effects directory (SendPayment from to amount) b (checkings_of_two p q) (payment_effect p q amount (read_cowns (held_of b) (checkings_of_two p q)))
+      by (inl lt) = pays_at (checking_cown p ∷ checking_cown q ∷ []) (c ∷ c_to ∷ []) (cowns_payer_first p q lt) payer_first
+          (rw (effect_payer_first p q amount (c ∷ c_to ∷ []) lt) payer_first_effects)
+      by (inr le) =
+          let lt : q < p = omega (arith, differs) in
+          pays_at (checking_cown q ∷ checking_cown p ∷ []) (c_to ∷ c ∷ []) (cowns_paid_first p q lt) paid_first
+          (rw (effect_paid_first p q amount (c_to ∷ c ∷ []) lt) paid_first_effects)
+
 -- ---- any op
 
 -- a customer whose name has a place has a row
@@ -272,6 +352,9 @@ effect_performs directory b call (ops.WriteCheck place amount) same e =
     let made = comes_from directory call (ops.WriteCheck place amount) e in
     let row = row_at directory b made.0 place same made.2 in
     rw (made.1) (on_values directory b (WriteCheck made.0 amount) (ops.WriteCheck place amount) _ (both row) (check_effects row amount))
+effect_performs directory b call (ops.SendPayment places amount) same e =
+    let made = comes_from directory call (ops.SendPayment places amount) e in
+    rw (made.2) (payment_effects (row_at directory b made.0 places.0 same made.3) (row_at directory b made.1 places.1 same made.4) made.5 amount)
 effect_performs directory b call ops.NoCustomer same e =
     effect_leaves directory call b [] replies.NoCustomer [] (performs_no_customer directory call b same e) refl
 effect_performs directory b call ops.SameCustomer same e =

@@ -13,6 +13,7 @@ pub mod Members
 pub mod Nets
 pub mod OneByOneRuns
 pub mod Ops
+pub mod Payments
 pub mod Places
 pub mod Procedures
 pub mod ReadingCowns

@@ -13,7 +13,7 @@ use Rattle.sb_calls.proofs.Totals.{get-insert_name, other_name}
 use Rattle.sb_calls.specs.Procedures.{Outcome, with_balances, check_cost, procedure}
 use Rattle.sb_calls.specs.Touches.{BalancePlace, Savings, Checking, balance_at, has_name, both_of, touched, HaveSameNames, AgreeOn, Locality}
 use Rattle.sb_calls.specs.declared.call.Call.{Call}
-use Rattle.sb_calls.specs.declared.call.Call.TheVariants.{Balance, DepositChecking, TransactSavings, Amalgamate, WriteCheck}
+use Rattle.sb_calls.specs.declared.call.Call.TheVariants.{Balance, DepositChecking, TransactSavings, Amalgamate, WriteCheck, SendPayment}
 use Rattle.sb_calls.specs.declared.reply.Reply.{Reply}
 use Rattle.sb_calls.specs.declared.reply.Reply.TheVariants as replies
 
@@ -263,44 +263,53 @@ moved_local a b from to s c s_to c_to s_to_b sum differs agree is_from is_to =
     (λ place other is. taker_left from to place other is (s_to, sum) (s_to, c_to) refl) in
     record { reply = refl; balances = second.balances; others = λ place other. second.others place other ∙ first.others place other }
 
--- an amalgamation by what the two names have, and whether they are one
-abbrev amalgamated : List ℕ → List ℕ → Rows → Bool → Option (ℤ × ℤ) → Option (ℤ × ℤ) → Outcome
-amalgamated from to rows one on_from on_to = with_balances rows (λ savings checking. with_balances rows (λ savings_to checking_to.
-    if one then record { rows = rows; reply = replies.SameCustomer }
-    else if int_lt LIMIT ((checking_to +ℤ savings) +ℤ checking) || int_lt ((checking_to +ℤ savings) +ℤ checking)
+-- what an amalgamation of two customers that are not one makes of their balances
+abbrev amalgamated : List ℕ → List ℕ → Rows → ℤ → ℤ → ℤ → ℤ → Outcome
+amalgamated from to rows savings checking savings_to checking_to =
+    if int_lt LIMIT ((checking_to +ℤ savings) +ℤ checking) || int_lt ((checking_to +ℤ savings) +ℤ checking)
     (neg_ℤ LIMIT) then record { rows = rows; reply = replies.OverLimit }
-    else record { rows = moved from to rows savings_to ((checking_to +ℤ savings) +ℤ checking); reply = replies.Done }) on_to) on_from
+    else record { rows = moved from to rows savings_to ((checking_to +ℤ savings) +ℤ checking); reply = replies.Done }
 
--- where both names have rows and are not one
-both_there : (a b : Rows) (from to : List ℕ) (s c s_b c_b s_to c_to s_to_b c_to_b : ℤ) → bytes_eq from to ≡ false → AgreeOn (three_of from to) a b
+-- on rows that agree
+amalgamated_local : (a b : Rows) (from to : List ℕ) (s c s_b c_b s_to c_to s_to_b c_to_b : ℤ) → bytes_eq from to ≡ false → AgreeOn (three_of from to) a b
     → get a from ≡ Some (s, c) → get b from ≡ Some (s_b, c_b) → get a to ≡ Some (s_to, c_to) → get b to ≡ Some (s_to_b, c_to_b)
-    → AreLocal (three_of from to) a b (amalgamated from to a false (Some (s, c)) (Some (s_to, c_to)))
-    (amalgamated from to b false (Some (s_b, c_b)) (Some (s_to_b, c_to_b)))
-both_there a b from to s c s_b c_b s_to c_to s_to_b c_to_b differs alike a_from b_from a_to b_to =
+    → AreLocal (three_of from to) a b (amalgamated from to a s c s_to c_to) (amalgamated from to b s_b c_b s_to_b c_to_b)
+amalgamated_local a b from to s c s_b c_b s_to c_to s_to_b c_to_b differs alike a_from b_from a_to b_to =
     let same_s = same_savings a b from s c s_b c_b a_from b_from (alike (Savings from) (Contains-from_one (three_of from to) (Savings from) (inl refl))) in
     let same_c = same_checking a b from s c s_b c_b a_from b_from
     (alike (Checking from) (Contains-from_one (three_of from to) (Checking from) (inr (inl refl)))) in
     let same_to = same_checking a b to s_to c_to s_to_b c_to_b a_to b_to
     (alike (Checking to) (Contains-from_one (three_of from to) (Checking to) (inr (inr (inl refl))))) in
     let sum = (c_to +ℤ s) +ℤ c in
-    let on_a = amalgamated from to a false (Some (s, c)) (Some (s_to, c_to)) in
-    subst (λ (v : ℤ). AreLocal (three_of from to) a b on_a (amalgamated from to b false (Some (v, c_b)) (Some (s_to_b, c_to_b)))) same_s
-    (subst (λ (k : ℤ). AreLocal (three_of from to) a b on_a (amalgamated from to b false (Some (s, k)) (Some (s_to_b, c_to_b)))) same_c
-    (subst (λ (k : ℤ). AreLocal (three_of from to) a b on_a (amalgamated from to b false (Some (s, c)) (Some (s_to_b, k)))) same_to
+    let on_a = amalgamated from to a s c s_to c_to in
+    subst (λ (v : ℤ). AreLocal (three_of from to) a b on_a (amalgamated from to b v c_b s_to_b c_to_b)) same_s
+    (subst (λ (k : ℤ). AreLocal (three_of from to) a b on_a (amalgamated from to b s k s_to_b c_to_b)) same_c
+    (subst (λ (k : ℤ). AreLocal (three_of from to) a b on_a (amalgamated from to b s c s_to_b k)) same_to
     (either_local (int_lt LIMIT sum || int_lt sum (neg_ℤ LIMIT)) _ _ _ _ (left_local replies.OverLimit alike) (λ fits.
     moved_local a b from to s c s_to c_to s_to_b sum differs alike a_from a_to))))
 
-amalgamate_local : (a b : Rows) (from to : List ℕ) → HaveSameNames a b → AgreeOn (touched a (Amalgamate from to)) a b
-    → AreLocal (touched a (Amalgamate from to)) a b (procedure (Amalgamate from to) a) (procedure (Amalgamate from to) b)
-amalgamate_local a b from to names agree =
+-- a call of two customers, by what their names have, and whether they are one
+abbrev of_two : (Rows → ℤ → ℤ → ℤ → ℤ → Outcome) → Rows → Bool → Option (ℤ × ℤ) → Option (ℤ × ℤ) → Outcome
+of_two outcome rows one on_from on_to = with_balances rows (λ savings checking. with_balances rows (λ savings_to checking_to.
+    if one then record { rows = rows; reply = replies.SameCustomer } else outcome rows savings checking savings_to checking_to) on_to) on_from
+
+-- where both names have rows and are not one, it is as local as what it makes of their balances
+local_two : (a b : Rows) (from to : List ℕ) (outcome : Rows → ℤ → ℤ → ℤ → ℤ → Outcome) (places : List BalancePlace) → HaveSameNames a b
+    → AgreeOn (if has_name a from && has_name a to && not (bytes_eq from to) then places else []) a b
+    → ((s c s_b c_b s_to c_to s_to_b c_to_b : ℤ) → bytes_eq from to ≡ false → AgreeOn places a b → get a from ≡ Some (s, c) → get b from ≡ Some (s_b, c_b)
+    → get a to ≡ Some (s_to, c_to) → get b to ≡ Some (s_to_b, c_to_b)
+    → AreLocal places a b (outcome a s c s_to c_to) (outcome b s_b c_b s_to_b c_to_b))
+    → AreLocal (if has_name a from && has_name a to && not (bytes_eq from to) then places else []) a b
+    (of_two outcome a (bytes_eq from to) (get a from) (get a to)) (of_two outcome b (bytes_eq from to) (get b from) (get b to))
+local_two a b from to outcome places names agree there =
     by (bytes_eq from to) (get a from) (get b from) (get a to) (get b to) refl refl refl refl refl (names from) (names to) agree
   where
     by : (one : Bool) (a_from b_from a_to b_to : Option (ℤ × ℤ)) → bytes_eq from to ≡ one → get a from ≡ a_from → get b from ≡ b_from → get a to ≡ a_to
         → get b to ≡ b_to
         → is_some a_from ≡ is_some b_from → is_some a_to ≡ is_some b_to
-        → AgreeOn (if is_some a_from && is_some a_to && not one then three_of from to else []) a b
-        → AreLocal (if is_some a_from && is_some a_to && not one then three_of from to else []) a b (amalgamated from to a one a_from a_to)
-        (amalgamated from to b one b_from b_to)
+        → AgreeOn (if is_some a_from && is_some a_to && not one then places else []) a b
+        → AreLocal (if is_some a_from && is_some a_to && not one then places else []) a b (of_two outcome a one a_from a_to)
+        (of_two outcome b one b_from b_to)
     by one None (Some w) a_to b_to e ea eb fa fb same_from same_to alike = absurd cc
     by one (Some v) None a_to b_to e ea eb fa fb same_from same_to alike = absurd cc
     by one None None a_to b_to e ea eb fa fb same_from same_to alike = left_local replies.NoCustomer alike
@@ -309,7 +318,82 @@ amalgamate_local a b from to names agree =
     by one (Some v) (Some w) None None e ea eb fa fb same_from same_to alike = left_local replies.NoCustomer alike
     by true (Some v) (Some w) (Some x) (Some y) e ea eb fa fb same_from same_to alike = left_local replies.SameCustomer alike
     by false (Some v) (Some w) (Some x) (Some y) e ea eb fa fb same_from same_to alike =
-        both_there a b from to v.0 v.1 w.0 w.1 x.0 x.1 y.0 y.1 e alike ea eb fa fb
+        there v.0 v.1 w.0 w.1 x.0 x.1 y.0 y.1 e alike ea eb fa fb
+
+amalgamate_local : (a b : Rows) (from to : List ℕ) → HaveSameNames a b → AgreeOn (touched a (Amalgamate from to)) a b
+    → AreLocal (touched a (Amalgamate from to)) a b (procedure (Amalgamate from to) a) (procedure (Amalgamate from to) b)
+amalgamate_local a b from to names agree =
+    local_two a b from to (amalgamated from to) (three_of from to) names agree (amalgamated_local a b from to)
+
+-- ---- payments
+
+-- a payment touches the checking of both
+abbrev checkings_of : List ℕ → List ℕ → List BalancePlace
+checkings_of from to = Checking from ∷ Checking to ∷ []
+
+checking_touched : (from to : List ℕ) (place : BalancePlace) → IsOneOf (checkings_of from to) place → (v w : ℤ × ℤ) → v.1 ≡ w.1
+    → value_of place v ≡ value_of place w
+checking_touched from to (Savings q) (inl e) v w same = absurd cc
+checking_touched from to (Savings q) (inr (inl e)) v w same = absurd cc
+checking_touched from to (Savings q) (inr (inr none)) v w same = absurd none
+checking_touched from to (Checking q) one v w same = same
+
+-- and leaves their savings
+savings_of_both_left : (from to name : List ℕ) (place : BalancePlace) → IsOneOf (checkings_of from to) (Checking name)
+    → ¬ IsOneOf (checkings_of from to) place → name_of place ≡ name → (v w : ℤ × ℤ) → v.0 ≡ w.0
+    → value_of place v ≡ value_of place w
+savings_of_both_left from to name (Savings q) one other is v w same = same
+savings_of_both_left from to name (Checking q) one other is v w same =
+    absurd (other (subst (λ (n : List ℕ). IsOneOf (checkings_of from to) (Checking n)) (sym is) one))
+
+-- two rows written, one after the other
+abbrev paid_over : List ℕ → List ℕ → Rows → ℤ → ℤ → ℤ → ℤ → Rows
+paid_over from to rows savings left savings_to sum = insert (insert rows from (savings, left)) to (savings_to, sum)
+
+paid_over_local : (a b : Rows) (from to : List ℕ) (s c s_b s_to c_to s_to_b left sum : ℤ) → bytes_eq from to ≡ false → AgreeOn (checkings_of from to) a b
+    → get a from ≡ Some (s, c) → get a to ≡ Some (s_to, c_to)
+    → AreLocal (checkings_of from to) a b (record { rows = paid_over from to a s left s_to sum; reply = replies.Done })
+    (record { rows = paid_over from to b s_b left s_to_b sum; reply = replies.Done })
+paid_over_local a b from to s c s_b s_to c_to s_to_b left sum differs agree is_from is_to =
+    let first = written_local {places = checkings_of from to} {a = a} {b = b} from (s, c) (s, left) (s_b, left) replies.Done agree is_from
+    (λ place one is. checking_touched from to place one (s, left) (s_b, left) refl)
+    (λ place other is. savings_of_both_left from to from place (inl refl) other is (s, left) (s, c) refl) in
+    let kept : get (insert a from (s, left)) to ≡ Some (s_to, c_to) =
+    get-insert_name a from (s, left) to ∙ ap (λ t. cond t (Some (s, left)) (get a to)) (other_name from to differs) ∙ is_to in
+    let second = written_local {places = checkings_of from to} {a = insert a from (s, left)} {b = insert b from (s_b, left)} to (s_to, c_to) (s_to, sum)
+    (s_to_b, sum) replies.Done first.balances kept
+    (λ place one is. checking_touched from to place one (s_to, sum) (s_to_b, sum) refl)
+    (λ place other is. savings_of_both_left from to to place (inr (inl refl)) other is (s_to, sum) (s_to, c_to) refl) in
+    record { reply = refl; balances = second.balances; others = λ place other. second.others place other ∙ first.others place other }
+
+-- what a payment between two customers that are not one makes of their balances
+abbrev sent : List ℕ → List ℕ → ℤ → Rows → ℤ → ℤ → ℤ → ℤ → Outcome
+sent from to amount rows savings checking savings_to checking_to =
+    if int_lt amount (pos 0) then record { rows = rows; reply = replies.Negative }
+    else if int_lt checking amount then record { rows = rows; reply = replies.WouldOverdraw }
+    else if int_lt LIMIT (checking_to +ℤ amount) then record { rows = rows; reply = replies.OverLimit }
+    else record { rows = paid_over from to rows savings (checking -ℤ amount) savings_to (checking_to +ℤ amount); reply = replies.Done }
+
+-- on rows that agree
+sent_local : (a b : Rows) (from to : List ℕ) (amount s c s_b c_b s_to c_to s_to_b c_to_b : ℤ) → bytes_eq from to ≡ false → AgreeOn (checkings_of from to) a b
+    → get a from ≡ Some (s, c) → get b from ≡ Some (s_b, c_b) → get a to ≡ Some (s_to, c_to) → get b to ≡ Some (s_to_b, c_to_b)
+    → AreLocal (checkings_of from to) a b (sent from to amount a s c s_to c_to) (sent from to amount b s_b c_b s_to_b c_to_b)
+sent_local a b from to amount s c s_b c_b s_to c_to s_to_b c_to_b differs alike a_from b_from a_to b_to =
+    let same_c = same_checking a b from s c s_b c_b a_from b_from (alike (Checking from) (Contains-from_one (checkings_of from to) (Checking from) (inl refl))) in
+    let same_to = same_checking a b to s_to c_to s_to_b c_to_b a_to b_to
+    (alike (Checking to) (Contains-from_one (checkings_of from to) (Checking to) (inr (inl refl)))) in
+    let on_a = sent from to amount a s c s_to c_to in
+    subst (λ (k : ℤ). AreLocal (checkings_of from to) a b on_a (sent from to amount b s_b k s_to_b c_to_b)) same_c
+    (subst (λ (k : ℤ). AreLocal (checkings_of from to) a b on_a (sent from to amount b s_b c s_to_b k)) same_to
+    (either_local (int_lt amount (pos 0)) _ _ _ _ (left_local replies.Negative alike) (λ ge.
+    either_local (int_lt c amount) _ _ _ _ (left_local replies.WouldOverdraw alike) (λ enough.
+    either_local (int_lt LIMIT (c_to +ℤ amount)) _ _ _ _ (left_local replies.OverLimit alike) (λ le.
+    paid_over_local a b from to s c s_b s_to c_to s_to_b (c -ℤ amount) (c_to +ℤ amount) differs alike a_from a_to)))))
+
+payment_local : (a b : Rows) (from to : List ℕ) (amount : ℤ) → HaveSameNames a b → AgreeOn (touched a (SendPayment from to amount)) a b
+    → AreLocal (touched a (SendPayment from to amount)) a b (procedure (SendPayment from to amount) a) (procedure (SendPayment from to amount) b)
+payment_local a b from to amount names agree =
+    local_two a b from to (sent from to amount) (checkings_of from to) names agree (sent_local a b from to amount)
 
 -- ---- any call
 
@@ -320,6 +404,7 @@ procedure_local (DepositChecking name amount) a b names agree = deposit_local a 
 procedure_local (TransactSavings name amount) a b names agree = savings_local a b name names amount agree
 procedure_local (Amalgamate from to) a b names agree = amalgamate_local a b from to names agree
 procedure_local (WriteCheck name amount) a b names agree = check_local a b name names amount agree
+procedure_local (SendPayment from to amount) a b names agree = payment_local a b from to amount names agree
 
 pub local : Locality
 local call a b names agree = let both = procedure_local call a b names agree in record { reply = both.reply; balances = both.balances; others = both.others }

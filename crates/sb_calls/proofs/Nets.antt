@@ -11,7 +11,7 @@ use Rattle.sb_calls.proofs.Totals.{get-insert_name, other_name, total_of-insert,
 use Rattle.sb_calls.specs.Net.{HasNames, TotalByNet, net_if_done, net_if_paid, net_of}
 use Rattle.sb_calls.specs.Procedures.{Outcome, with_balances, check_cost, procedure}
 use Rattle.sb_calls.specs.declared.call.Call.{Call}
-use Rattle.sb_calls.specs.declared.call.Call.TheVariants.{Balance, DepositChecking, TransactSavings, Amalgamate, WriteCheck}
+use Rattle.sb_calls.specs.declared.call.Call.TheVariants.{Balance, DepositChecking, TransactSavings, Amalgamate, WriteCheck, SendPayment}
 use Rattle.sb_calls.specs.declared.reply.Reply.{Reply}
 use Rattle.sb_calls.specs.declared.reply.Reply.TheVariants.{Shown, Done, Penalised, NoCustomer, SameCustomer, Negative, WouldOverdraw, OverLimit}
 
@@ -59,19 +59,19 @@ paid_worth : (s c amount : ℤ) (overdrawn : Bool)
 paid_worth s c amount true = omega (arith, ints)
 paid_worth s c amount false = omega (arith, ints)
 
--- what an amalgamation leaves: two rows are replaced, and nothing is added
-amalgamated : (directory : List (List ℕ)) (rows : Rows) (from to : List ℕ) (s c s_to c_to : ℤ) → HasNames directory rows → get rows from ≡ Some (s, c)
-    → get rows to ≡ Some (s_to, c_to) → bytes_eq from to ≡ false
-    → AddsNet directory rows (λ reply. pos 0) (record { rows = insert (insert rows from (pos 0, pos 0)) to (s_to, (c_to +ℤ s) +ℤ c); reply = Done })
-amalgamated directory rows from to s c s_to c_to h is_from is_to differs =
-    let emptied = HasNames-insert from h is_from (pos 0, pos 0) in
-    let kept : get (insert rows from (pos 0, pos 0)) to ≡ Some (s_to, c_to) =
-    get-insert_name rows from (pos 0, pos 0) to ∙ ap (λ t. cond t (Some (pos 0, pos 0)) (get rows to)) (other_name from to differs) ∙ is_to in
-    let first = total_of-insert from h is_from (pos 0) (pos 0) in
-    let second = total_of-insert to emptied kept s_to ((c_to +ℤ s) +ℤ c) in
+-- two rows are replaced, and what one gives the other gets, so nothing is added
+two_replaced : (directory : List (List ℕ)) (rows : Rows) (from to : List ℕ) (s c s_to c_to s_new c_new received : ℤ) → HasNames directory rows
+    → get rows from ≡ Some (s, c) → get rows to ≡ Some (s_to, c_to) → bytes_eq from to ≡ false → (s_new +ℤ c_new) +ℤ received ≡ (s +ℤ c) +ℤ c_to
+    → AddsNet directory rows (λ reply. pos 0) (record { rows = insert (insert rows from (s_new, c_new)) to (s_to, received); reply = Done })
+two_replaced directory rows from to s c s_to c_to s_new c_new received h is_from is_to differs same =
+    let given = HasNames-insert from h is_from (s_new, c_new) in
+    let kept : get (insert rows from (s_new, c_new)) to ≡ Some (s_to, c_to) =
+    get-insert_name rows from (s_new, c_new) to ∙ ap (λ t. cond t (Some (s_new, c_new)) (get rows to)) (other_name from to differs) ∙ is_to in
+    let first = total_of-insert from h is_from s_new c_new in
+    let second = total_of-insert to given kept s_to received in
     record {
-      names = HasNames-insert to emptied kept (s_to, (c_to +ℤ s) +ℤ c);
-      total = rw (second, first) (omega (arith, ints));
+      names = HasNames-insert to given kept (s_to, received);
+      total = rw (second, first) (omega (arith, ints, same));
     }
 
 -- each procedure adds the net change of its call
@@ -96,13 +96,21 @@ procedure_adds directory (Amalgamate from to) rows h =
     with_balances_adds net h from _ refl (λ s c is_from. with_balances_adds net h to _ refl (λ s_to c_to is_to.
     either_adds net h (bytes_eq from to) _ _ (left_as_is net h SameCustomer refl) (λ differs.
     either_adds net h (int_lt LIMIT ((c_to +ℤ s) +ℤ c) || int_lt ((c_to +ℤ s) +ℤ c) (neg_ℤ LIMIT)) _ _ (left_as_is net h OverLimit refl) (λ fits.
-    amalgamated directory rows from to s c s_to c_to h is_from is_to differs))))
+    two_replaced directory rows from to s c s_to c_to (pos 0) (pos 0) ((c_to +ℤ s) +ℤ c) h is_from is_to differs (omega (arith, ints))))))
 procedure_adds directory (WriteCheck name amount) rows h =
     let net = net_if_paid amount in
     with_balances_adds net h name _ refl (λ s c is.
     either_adds net h (int_lt amount (pos 0)) _ _ (left_as_is net h Negative refl) (λ ge.
     either_adds net h (int_lt (c -ℤ check_cost s c amount) (neg_ℤ LIMIT)) _ _ (left_as_is net h OverLimit refl) (λ le.
     replaced net h name s c s (c -ℤ check_cost s c amount) (cond (int_lt (s +ℤ c) amount) Penalised Done) is (paid_worth s c amount (int_lt (s +ℤ c) amount)))))
+procedure_adds directory (SendPayment from to amount) rows h =
+    let net = net_of (SendPayment from to amount) in
+    with_balances_adds net h from _ refl (λ s c is_from. with_balances_adds net h to _ refl (λ s_to c_to is_to.
+    either_adds net h (bytes_eq from to) _ _ (left_as_is net h SameCustomer refl) (λ differs.
+    either_adds net h (int_lt amount (pos 0)) _ _ (left_as_is net h Negative refl) (λ ge.
+    either_adds net h (int_lt c amount) _ _ (left_as_is net h WouldOverdraw refl) (λ enough.
+    either_adds net h (int_lt LIMIT (c_to +ℤ amount)) _ _ (left_as_is net h OverLimit refl) (λ fits.
+    two_replaced directory rows from to s c s_to c_to s (c -ℤ amount) (c_to +ℤ amount) h is_from is_to differs (omega (arith, ints))))))))
 
 -- the total after the first calls of a log
 pub total_after : TotalByNet

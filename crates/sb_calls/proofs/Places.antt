@@ -82,6 +82,17 @@ HasRow-other directory b name place other s c s_new c_new h differs same = recor
   checking = other_set b.checking place other c_new c differs h.checking;
 }
 
+-- and so it does where checking alone is written
+pub HasRow-other_checking : (directory : List (List ℕ)) (b : Balances) (name : List ℕ) (place other : ℕ) (s c c_new : ℤ) → HasRow directory b name other s c
+    → other ≢ place → SameCustomers directory (with_checking b place c_new)
+    → HasRow directory (with_checking b place c_new) name other s c
+HasRow-other_checking directory b name place other s c c_new h differs same = record {
+  same = same;
+  found = h.found;
+  savings = h.savings;
+  checking = other_set b.checking place other c_new c differs h.checking;
+}
+
 module _ {directory : List (List ℕ)} {b : Balances} {name : List ℕ} {place : ℕ} {s c : ℤ} (h : HasRow directory b name place s c) where
   -- the row of the name
   pub row_is : get (rows_of directory b) name ≡ Some (s, c)

@@ -5,14 +5,14 @@ use Rattle.std.proofs.lemmas.Bool.{cases_lt}
 use Rattle.std.proofs.lemmas.Int.{ints}
 use Rattle.std.proofs.lemmas.List.{get_or_past}
 use Rattle.sb_amount.specs.declared.cents.TheConstants.{LIMIT}
-use Rattle.sb_calls.specs.Behaviour.{declared_cowns, effect_of, of_one, of_two, of_three, deposit_effect, savings_effect, check_effect, takes_too_much, giver_first_effect, taker_first_effect, effect_of_two}
-use Rattle.sb_calls.specs.BehaviourLaws.{effect_keeps, nothing_held}
+use Rattle.sb_calls.specs.Behaviour.{declared_cowns, effect_of, of_one, of_two, of_three, deposit_effect, savings_effect, check_effect, takes_too_much, giver_first_effect, taker_first_effect, payment, payer_first_effect, paid_first_effect, effect_of_two, payment_effect}
+use Rattle.sb_calls.specs.BehaviourLaws.{effect_keeps, nothing_held, of_payment}
 use Rattle.sb_calls.specs.Cowns.{AllHeld, AreHeld, IsHeld, read_cowns, write_cowns, savings_cown, checking_cown}
 use Rattle.sb_calls.specs.OneByOne.{held_after, held_after_first, held_after_one, inputs_of, reply_of, reply_by_log}
 use Rattle.sb_calls.specs.Procedures.{check_cost}
 use Rattle.sb_calls.specs.Replies.{IsReply, IsTotal}
 use Rattle.sb_calls.specs.declared.op.Op.{Op}
-use Rattle.sb_calls.specs.declared.op.Op.TheVariants.{Balance, DepositChecking, TransactSavings, Amalgamate, WriteCheck, NoCustomer, SameCustomer}
+use Rattle.sb_calls.specs.declared.op.Op.TheVariants.{Balance, DepositChecking, TransactSavings, Amalgamate, WriteCheck, SendPayment, NoCustomer, SameCustomer}
 use Rattle.sb_calls.specs.declared.reply.Reply.{Reply}
 use Rattle.sb_calls.specs.declared.reply.Reply.TheVariants as replies
 use Rattle.sb_calls.proofs.HeldLaws.{AllHeld-write}
@@ -95,6 +95,19 @@ amalgamation_replies from to inputs = by (from == to) (nat_lt from to)
     by false true = three_replies giver_first_effect giver_first_replies inputs
     by false false = three_replies taker_first_effect taker_first_replies inputs
 
+payment_replies : (amount c r : ℤ) → IsReply (payment amount c r).0
+payment_replies amount c r =
+    of_payment (λ after. IsReply after.0) amount c r (λ below. tt) (λ ge poor. tt) (λ ge enough past. tt) (λ ge enough le. tt)
+
+paying_replies : (from to : ℕ) (amount : ℤ) (inputs : List ℤ) → IsReply (payment_effect from to amount inputs).0
+paying_replies from to amount inputs = by (from == to) (nat_lt from to)
+  where
+    by : (one before : Bool) → Fits (if one then (replies.SameCustomer, inputs)
+        else if before then of_two (payer_first_effect amount) inputs else of_two (paid_first_effect amount) inputs)
+    by true before = tt
+    by false true = two_replies (payer_first_effect amount) (λ c r. payment_replies amount c r) inputs
+    by false false = two_replies (paid_first_effect amount) (λ r c. payment_replies amount c r) inputs
+
 -- two balances added up
 shown_fits : (place : ℕ) (inputs : List ℤ) → AreHeld (savings_cown place ∷ checking_cown place ∷ []) inputs
     → IsReply (effect_of (Balance place) inputs).0
@@ -117,6 +130,7 @@ reply_fits (TransactSavings place amount) inputs held =
 reply_fits (Amalgamate places) inputs held = amalgamation_replies places.0 places.1 inputs
 reply_fits (WriteCheck place amount) inputs held =
     two_replies (check_effect amount) (check_replies amount) inputs
+reply_fits (SendPayment places amount) inputs held = paying_replies places.0 places.1 amount inputs
 reply_fits NoCustomer inputs held = tt
 reply_fits SameCustomer inputs held = tt
 

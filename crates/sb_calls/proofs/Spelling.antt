@@ -15,9 +15,9 @@ use Rattle.sb_amount.specs.Reading.{read_money}
 use Rattle.sb_amount.specs.declared.fault.MoneyFault.{MoneyFault}
 use Rattle.sb_rows.specs.Name.{is_name, is_name_byte, IsName}
 use Rattle.sb_rows.specs.Text.{is_space, words}
-use Rattle.sb_calls.specs.Call.{IsCall, call_line, call_of, call_of_words, of_name, of_name_and_amount, of_two_names, with_amount}
+use Rattle.sb_calls.specs.Call.{IsCall, call_line, call_of, call_of_words, of_name, of_name_and_amount, of_two_names, of_two_names_and_amount, with_amount}
 use Rattle.sb_calls.specs.declared.call.Call.{Call}
-use Rattle.sb_calls.specs.declared.call.Call.TheVariants.{Balance, DepositChecking, TransactSavings, Amalgamate, WriteCheck}
+use Rattle.sb_calls.specs.declared.call.Call.TheVariants.{Balance, DepositChecking, TransactSavings, Amalgamate, WriteCheck, SendPayment}
 use Rattle.sb_calls.specs.declared.text.fault.CallFault.{CallFault}
 use Rattle.sb_calls.specs.declared.text.fault.CallFault.TheVariants.{UnknownVerb, BadName}
 
@@ -78,11 +78,33 @@ spells_two_names verb call spelled (from ∷ to ∷ []) made e =
     rw is (spelled from to both.0 both.1)
 spells_two_names verb call spelled (a ∷ b ∷ c ∷ more) made e = absurd cc
 
+-- a verb that takes two names and an amount, likewise
+spells_two_names_and_amount : (verb : List ℕ) (call : List ℕ → List ℕ → ℤ → Call)
+    → ((from to : List ℕ) (amount : ℤ) → IsName from → IsName to → IsWithinLimit amount
+    → IsCall (call from to amount) × (verb ++ (32 ∷ (from ++ (32 ∷ (to ++ (32 ∷ money amount))))) ≡ call_line (call from to amount)))
+    → (rest : List (List ℕ)) (made : Call) → of_two_names_and_amount call rest ≡ Ok made → IsCall made × (join_with_byte 32 (verb ∷ rest) ≡ call_line made)
+spells_two_names_and_amount verb call spelled [] made e = absurd cc
+spells_two_names_and_amount verb call spelled (a ∷ []) made e = absurd cc
+spells_two_names_and_amount verb call spelled (a ∷ b ∷ []) made e = absurd cc
+spells_two_names_and_amount verb call spelled (from ∷ to ∷ text ∷ []) made e =
+    let passed = tested (is_name from && is_name to) (with_amount (call from to) (read_money text)) made e in
+    let both = and_parts (is_name from) (is_name to) passed.0 in
+    let amount = amount_made (call from to) (read_money text) made passed.1 in
+    let money_is = money_from_read text amount.0 amount.1 in
+    let is = spelled from to amount.0 both.0 both.1 money_is.1 in (
+      subst IsCall (sym amount.2) is.0,
+      ap (λ (word : List ℕ). verb ++ (32 ∷ (from ++ (32 ∷ (to ++ (32 ∷ word)))))) money_is.0 ∙ is.1 ∙ ap call_line (sym amount.2),
+    )
+spells_two_names_and_amount verb call spelled (a ∷ b ∷ c ∷ d ∷ more) made e = absurd cc
+
 -- ---- the verbs, from the last
 
 -- what words are read as, if the verb is this one or one after it
+abbrev if_pay : List ℕ → List (List ℕ) → Result Call CallFault
+if_pay verb rest = cond (bytes_eq verb (codes "pay")) (of_two_names_and_amount SendPayment rest) (Err UnknownVerb)
+
 abbrev if_amalgamate : List ℕ → List (List ℕ) → Result Call CallFault
-if_amalgamate verb rest = cond (bytes_eq verb (codes "amalgamate")) (of_two_names Amalgamate rest) (Err UnknownVerb)
+if_amalgamate verb rest = cond (bytes_eq verb (codes "amalgamate")) (of_two_names Amalgamate rest) (if_pay verb rest)
 
 abbrev if_check : List ℕ → List (List ℕ) → Result Call CallFault
 if_check verb rest = cond (bytes_eq verb (codes "check")) (of_name_and_amount WriteCheck rest) (if_amalgamate verb rest)
@@ -106,11 +128,19 @@ spells_either verb word rest first others made e here there =
     ]
 
 -- the words of a call of the last verb, joined by spaces, spell it
+pay_spells : (verb : List ℕ) (rest : List (List ℕ)) (made : Call) → if_pay verb rest ≡ Ok made
+    → IsCall made × (join_with_byte 32 (verb ∷ rest) ≡ call_line made)
+pay_spells verb rest made e =
+    spells_either verb (codes "pay") rest (of_two_names_and_amount SendPayment rest) (Err UnknownVerb) made e
+    (spells_two_names_and_amount (codes "pay") SendPayment (λ from to amount payer taker within. ((payer, taker, within), refl)) rest made)
+    (λ unknown. absurd cc)
+
+-- the words of a call of the verbs from `amalgamate` on, joined by spaces, spell it
 amalgamate_spells : (verb : List ℕ) (rest : List (List ℕ)) (made : Call) → if_amalgamate verb rest ≡ Ok made
     → IsCall made × (join_with_byte 32 (verb ∷ rest) ≡ call_line made)
 amalgamate_spells verb rest made e =
-    spells_either verb (codes "amalgamate") rest (of_two_names Amalgamate rest) (Err UnknownVerb) made e
-    (spells_two_names (codes "amalgamate") Amalgamate (λ from to giver taker. ((giver, taker), refl)) rest made) (λ unknown. absurd cc)
+    spells_either verb (codes "amalgamate") rest (of_two_names Amalgamate rest) (if_pay verb rest) made e
+    (spells_two_names (codes "amalgamate") Amalgamate (λ from to giver taker. ((giver, taker), refl)) rest made) (pay_spells verb rest made)
 
 -- the words of a call of the verbs from `check` on, joined by spaces, spell it
 check_spells : (verb : List ℕ) (rest : List (List ℕ)) (made : Call) → if_check verb rest ≡ Ok made
@@ -185,6 +215,13 @@ words-two_names : (from to : List ℕ) → IsName from → IsName to → slice_s
 words-two_names from to giver taker =
     slice_split_at is_space from 32 to (name_clear from giver) refl ∙ ap (λ ws. from ∷ ws) (slice_split_none is_space to (name_clear to taker))
 
+-- the words of two names and an amount
+words-two_names_and_amount : (from to : List ℕ) (amount : ℤ) → IsName from → IsName to → IsWithinLimit amount
+    → slice_split is_space (from ++ 32 ∷ (to ++ 32 ∷ money amount)) ≡ from ∷ to ∷ money amount ∷ []
+words-two_names_and_amount from to amount payer taker within =
+    slice_split_at is_space from 32 (to ++ 32 ∷ money amount) (name_clear from payer) refl
+    ∙ ap (λ ws. from ∷ ws) (words-name_and_amount to amount taker within)
+
 -- the spelling of a call is read as that call
 pub spelled_is_read : (call : Call) → IsCall call → call_of (call_line call) ≡ Ok call
 unfolding call_of words
@@ -203,3 +240,6 @@ spelled_is_read (Amalgamate from to) h =
 spelled_is_read (WriteCheck name amount) h =
     let two = words-name_and_amount name amount h.0 h.1 in
     rw (two, h.0, read_money-money amount h.1) refl
+spelled_is_read (SendPayment from to amount) h =
+    let three = words-two_names_and_amount from to amount h.0 h.1 h.2 in
+    rw (three, h.0, h.1, read_money-money amount h.2) refl

@@ -10,11 +10,11 @@ use Rattle.sb_rows.specs.Balances.{Balances}
 use Rattle.sb_rows.specs.Directory.{place_of}
 use Rattle.sb_rows.specs.Rows.{rows_of, SameCustomers}
 use Rattle.sb_calls.proofs.Amalgamation.{different_names}
-use Rattle.sb_calls.proofs.EffectCases.{cowns_giver_first, cowns_taker_first}
+use Rattle.sb_calls.proofs.EffectCases.{cowns_giver_first, cowns_taker_first, cowns_payer_first, cowns_paid_first}
 use Rattle.sb_calls.proofs.Members.{IsOneOf, one_from_Contains, Contains-from_one}
-use Rattle.sb_calls.proofs.Ops.{HasMissingName, comes_from}
+use Rattle.sb_calls.proofs.Ops.{HasMissingName, IsOfTwo, comes_from}
 use Rattle.sb_calls.proofs.Places.{HasRow-unread, row_is}
-use Rattle.sb_calls.specs.Behaviour.{cowns_of_two, declared_cowns}
+use Rattle.sb_calls.specs.Behaviour.{cowns_of_two, checkings_of_two, declared_cowns}
 use Rattle.sb_calls.specs.ByCowns.{cown_of, DeclaresTouched}
 use Rattle.sb_calls.specs.Cowns.{savings_cown, checking_cown}
 use Rattle.sb_calls.specs.Op.{resolved}
@@ -22,7 +22,7 @@ use Rattle.sb_calls.specs.Touches.{BalancePlace, Savings, Checking, has_name, to
 use Rattle.sb_calls.specs.declared.call.Call.{Call}
 use Rattle.sb_calls.specs.declared.call.Call.TheVariants as calls
 use Rattle.sb_calls.specs.declared.op.Op.{Op}
-use Rattle.sb_calls.specs.declared.op.Op.TheVariants.{Balance, DepositChecking, TransactSavings, Amalgamate, WriteCheck, NoCustomer, SameCustomer}
+use Rattle.sb_calls.specs.declared.op.Op.TheVariants.{Balance, DepositChecking, TransactSavings, Amalgamate, WriteCheck, SendPayment, NoCustomer, SameCustomer}
 
 -- ---- the cowns of balances
 
@@ -87,6 +87,15 @@ turned a b c place = (to, from)
     from (inr (inr (inl e))) = inr (inl e)
     from (inr (inr (inr none))) = absurd none
 
+-- and so has one of two
+swapped : (a b : BalancePlace) → HaveSame (a ∷ b ∷ []) (b ∷ a ∷ [])
+swapped a b place = (to a b, to b a)
+  where
+    to : (x y : BalancePlace) → IsOneOf (x ∷ y ∷ []) place → IsOneOf (y ∷ x ∷ []) place
+    to x y (inl e) = inr (inl e)
+    to x y (inr (inl e)) = inl e
+    to x y (inr (inr none)) = absurd none
+
 -- ---- names
 
 -- a name at a place is in the rows
@@ -127,6 +136,9 @@ nothing_touched directory b (calls.Amalgamate from to) same (inl missing) = rw (
 nothing_touched directory b (calls.Amalgamate from to) same (inr missing) =
     rw (has_name-absent directory b to same missing, none_of_three (has_name (rows_of directory b) from) (not (bytes_eq from to))) refl
 nothing_touched directory b (calls.WriteCheck name amount) same missing = rw (has_name-absent directory b name same missing) refl
+nothing_touched directory b (calls.SendPayment from to amount) same (inl missing) = rw (has_name-absent directory b from same missing) refl
+nothing_touched directory b (calls.SendPayment from to amount) same (inr missing) =
+    rw (has_name-absent directory b to same missing, none_of_three (has_name (rows_of directory b) from) (not (bytes_eq from to))) refl
 
 -- two names at different places
 two_touched : (directory : List (List ℕ)) (b : Balances) (from to : List ℕ) (p q : ℕ) → SameCustomers directory b → place_of directory from ≡ Some p
@@ -159,15 +171,46 @@ two_declared directory b from to p q same found_from found_to differs = by (case
         (rw there (turned (Savings from) (Checking from) (Checking to)))
         (checking_at directory to q found_to, (savings_at directory from p found_from, (checking_at directory from p found_from, tt))))
 
+-- a payment between two names at different places
+checkings_touched : (directory : List (List ℕ)) (b : Balances) (from to : List ℕ) (amount : ℤ) (p q : ℕ) → SameCustomers directory b
+    → place_of directory from ≡ Some p → place_of directory to ≡ Some q → p ≢ q
+    → touched (rows_of directory b) (calls.SendPayment from to amount) ≡ Checking from ∷ Checking to ∷ []
+checkings_touched directory b from to amount p q same found_from found_to differs =
+    rw (
+      has_name-at directory b from p same found_from,
+      has_name-at directory b to q same found_to,
+      different_names directory from to p q found_from found_to differs,
+    ) refl
+
+-- so their checking cowns are declared, whoever is first
+checkings_declared : (directory : List (List ℕ)) (b : Balances) (from to : List ℕ) (amount : ℤ) (p q : ℕ) → SameCustomers directory b
+    → place_of directory from ≡ Some p → place_of directory to ≡ Some q → p ≢ q
+    → DeclaresTouched directory b (calls.SendPayment from to amount) (checkings_of_two p q)
+checkings_declared directory b from to amount p q same found_from found_to differs = by (cases_lt p q)
+  where
+    there : touched (rows_of directory b) (calls.SendPayment from to amount) ≡ Checking from ∷ Checking to ∷ []
+    there = checkings_touched directory b from to amount p q same found_from found_to differs
+
+    by : (p < q) ⊎ (q ≤ p) → DeclaresTouched directory b (calls.SendPayment from to amount) (checkings_of_two p q)
+    by (inl lt) = rw (cowns_payer_first p q lt)
+        (declares_in_order directory b (calls.SendPayment from to amount) (Checking from ∷ Checking to ∷ [])
+        (checking_cown p ∷ checking_cown q ∷ []) there
+        (checking_at directory from p found_from, (checking_at directory to q found_to, tt)))
+    by (inr le) = rw (cowns_paid_first p q (omega (arith, differs)))
+        (declares directory b (calls.SendPayment from to amount) (Checking to ∷ Checking from ∷ []) (checking_cown q ∷ checking_cown p ∷ [])
+        (rw there (swapped (Checking from) (Checking to)))
+        (checking_at directory to q found_to, (checking_at directory from p found_from, tt)))
+
 -- a name with itself
-one_untouched : (directory : List (List ℕ)) (b : Balances) (from to : List ℕ) (place : ℕ) → SameCustomers directory b → place_of directory from ≡ Some place
-    → place_of directory to ≡ Some place
-    → touched (rows_of directory b) (calls.Amalgamate from to) ≡ []
-one_untouched directory b from to place same found_from found_to =
+one_untouched : (directory : List (List ℕ)) (b : Balances) (call : Call) (from to : List ℕ) (place : ℕ) → SameCustomers directory b → IsOfTwo from to call
+    → place_of directory from ≡ Some place → place_of directory to ≡ Some place → touched (rows_of directory b) call ≡ []
+one_untouched directory b call from to place same of_two found_from found_to =
     let one : ◌≡◌ {A = Option (List ℕ)} (Some from) (Some to) = sym (place_of_found directory from place found_from)
     ∙ place_of_found directory to place found_to in
     let equal : bytes_eq from to ≡ true = (bytes_eq-Decides from to).1 cc in
-    rw (has_name-at directory b from place same found_from, has_name-at directory b to place same found_to, equal) refl
+    let there = has_name-at directory b from place same found_from in
+    let there_too = has_name-at directory b to place same found_to in
+    elim of_two [ inl is ↦ rw (is, there, there_too, equal) refl | inr paid ↦ rw (paid.1, there, there_too, equal) refl ]
 
 -- the cowns of an op are those of what its call touches
 pub declares_touched : (directory : List (List ℕ)) (b : Balances) (call : Call) (op : Op) → SameCustomers directory b → op ≡ resolved directory call
@@ -199,8 +242,11 @@ declares_touched directory b call (WriteCheck place amount) same e =
     rw (has_name-at directory b made.0 place same made.2) refl in
     rw (made.1) (declares_in_order directory b (calls.WriteCheck made.0 amount) (Savings made.0 ∷ Checking made.0 ∷ [])
     (declared_cowns (WriteCheck place amount)) there (savings_at directory made.0 place made.2, (checking_at directory made.0 place made.2, tt)))
+declares_touched directory b call (SendPayment places amount) same e =
+    let made = comes_from directory call (SendPayment places amount) e in
+    rw (made.2) (checkings_declared directory b made.0 made.1 amount places.0 places.1 same made.3 made.4 made.5)
 declares_touched directory b call NoCustomer same e =
     declares_in_order directory b call [] [] (nothing_touched directory b call same (comes_from directory call NoCustomer e)) tt
 declares_touched directory b call SameCustomer same e =
     let made = comes_from directory call SameCustomer e in
-    rw (made.3) (declares_in_order directory b (calls.Amalgamate made.0 made.1) [] [] (one_untouched directory b made.0 made.1 made.2 same made.4 made.5) tt)
+    declares_in_order directory b call [] [] (one_untouched directory b call made.0 made.1 made.2 same made.3 made.4 made.5) tt

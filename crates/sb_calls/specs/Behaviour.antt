@@ -4,7 +4,7 @@ use Rattle.sb_amount.specs.declared.cents.TheConstants.{LIMIT}
 use Rattle.sb_calls.specs.Cowns.{savings_cown, checking_cown}
 use Rattle.sb_calls.specs.Procedures.{check_cost}
 use Rattle.sb_calls.specs.declared.op.Op.{Op}
-use Rattle.sb_calls.specs.declared.op.Op.TheVariants.{Balance, DepositChecking, TransactSavings, Amalgamate, WriteCheck, NoCustomer, SameCustomer}
+use Rattle.sb_calls.specs.declared.op.Op.TheVariants.{Balance, DepositChecking, TransactSavings, Amalgamate, WriteCheck, SendPayment, NoCustomer, SameCustomer}
 use Rattle.sb_calls.specs.declared.reply.Reply.{Reply}
 use Rattle.sb_calls.specs.declared.reply.Reply.TheVariants as replies
 
@@ -17,6 +17,13 @@ cowns_of_two from to =
     else if nat_lt from to then savings_cown from ∷ checking_cown from ∷ checking_cown to ∷ []
     else checking_cown to ∷ savings_cown from ∷ checking_cown from ∷ []
 
+-- the checking of both; none where they are one
+abbrev pub checkings_of_two : ℕ → ℕ → List ℕ
+checkings_of_two from to =
+    if from == to then []
+    else if nat_lt from to then checking_cown from ∷ checking_cown to ∷ []
+    else checking_cown to ∷ checking_cown from ∷ []
+
 -- the cowns that an op declares, in rising order
 abbrev pub declared_cowns : Op → List ℕ
 declared_cowns (Balance place) = savings_cown place ∷ checking_cown place ∷ []
@@ -24,6 +31,7 @@ declared_cowns (DepositChecking place amount) = checking_cown place ∷ []
 declared_cowns (TransactSavings place amount) = savings_cown place ∷ []
 declared_cowns (Amalgamate places) = cowns_of_two places.0 places.1
 declared_cowns (WriteCheck place amount) = savings_cown place ∷ checking_cown place ∷ []
+declared_cowns (SendPayment places amount) = checkings_of_two places.0 places.1
 declared_cowns NoCustomer = []
 declared_cowns SameCustomer = []
 
@@ -67,6 +75,23 @@ taker_first_effect received savings checking =
     if takes_too_much ((received +ℤ savings) +ℤ checking) then (replies.OverLimit, received ∷ savings ∷ checking ∷ [])
     else (replies.Done, ((received +ℤ savings) +ℤ checking) ∷ pos 0 ∷ pos 0 ∷ [])
 
+-- the reply to a payment, and the balances after it of the one that pays and of the one that is paid
+abbrev pub payment : ℤ → ℤ → ℤ → Reply × ℤ × ℤ
+payment amount checking received =
+    if int_lt amount (pos 0) then (replies.Negative, checking, received)
+    else if int_lt checking amount then (replies.WouldOverdraw, checking, received)
+    else if int_lt LIMIT (received +ℤ amount) then (replies.OverLimit, checking, received)
+    else (replies.Done, checking -ℤ amount, received +ℤ amount)
+
+-- the values in the order of the cowns: that of the one that pays first, or of the one that is paid
+abbrev pub payer_first_effect : ℤ → ℤ → ℤ → Reply × List ℤ
+payer_first_effect amount checking received =
+    let after = payment amount checking received in (after.0, after.1 ∷ after.2 ∷ [])
+
+abbrev pub paid_first_effect : ℤ → ℤ → ℤ → Reply × List ℤ
+paid_first_effect amount received checking =
+    let after = payment amount checking received in (after.0, after.2 ∷ after.1 ∷ [])
+
 -- an effect on one, two or three values; on another number of values there is none
 abbrev pub of_one : (ℤ → Reply × List ℤ) → List ℤ → Reply × List ℤ
 of_one effect (v ∷ []) = effect v
@@ -86,6 +111,12 @@ effect_of_two from to held =
     else if nat_lt from to then of_three giver_first_effect held
     else of_three taker_first_effect held
 
+abbrev pub payment_effect : ℕ → ℕ → ℤ → List ℤ → Reply × List ℤ
+payment_effect from to amount held =
+    if from == to then (replies.SameCustomer, held)
+    else if nat_lt from to then of_two (payer_first_effect amount) held
+    else of_two (paid_first_effect amount) held
+
 -- what an op replies, and what its cowns hold after it, where they held these values
 abbrev pub effect_of : Op → List ℤ → Reply × List ℤ
 effect_of (Balance place) held =
@@ -94,5 +125,6 @@ effect_of (DepositChecking place amount) held = of_one (deposit_effect amount) h
 effect_of (TransactSavings place amount) held = of_one (savings_effect amount) held
 effect_of (Amalgamate places) held = effect_of_two places.0 places.1 held
 effect_of (WriteCheck place amount) held = of_two (check_effect amount) held
+effect_of (SendPayment places amount) held = payment_effect places.0 places.1 amount held
 effect_of NoCustomer held = (replies.NoCustomer, held)
 effect_of SameCustomer held = (replies.SameCustomer, held)

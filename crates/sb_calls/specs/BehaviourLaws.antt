@@ -9,13 +9,13 @@ use Rattle.std.proofs.lemmas.Bool.{both_ways, or_parts}
 use Rattle.std.proofs.lemmas.Bool.Decides.{Decides-and, Decides-eqb, Decides-int_eq, Decides-like}
 use Rattle.sb_amount.specs.Limit.{IsWithinLimit}
 use Rattle.sb_amount.specs.declared.cents.TheConstants.{LIMIT}
-use Rattle.sb_calls.specs.Behaviour.{cowns_of_two, declared_cowns, deposit_effect, savings_effect, check_effect, takes_too_much, giver_first_effect, taker_first_effect, of_one, of_two, of_three, effect_of_two, effect_of}
-use Rattle.sb_calls.specs.Bounds.{at_least, grown_by, fallen_by, more_not_negative, not_negative_above, next_above, taker_above, giver_above, odd}
+use Rattle.sb_calls.specs.Behaviour.{cowns_of_two, checkings_of_two, declared_cowns, deposit_effect, savings_effect, check_effect, takes_too_much, giver_first_effect, taker_first_effect, payment, payer_first_effect, paid_first_effect, of_one, of_two, of_three, effect_of_two, payment_effect, effect_of}
+use Rattle.sb_calls.specs.Bounds.{at_least, grown_by, fallen_by, more_not_negative, not_negative_above, next_above, taker_above, giver_above, other_first, left_above, odd}
 use Rattle.sb_calls.specs.Cowns.{savings_cown, checking_cown, IsRising, IsHeld, AreHeld}
 use Rattle.sb_calls.specs.Procedures.{check_cost}
 use Rattle.sb_calls.specs.contracts.op.OpPartialEq.TheImpl as same
 use Rattle.sb_calls.specs.declared.op.Op.{Op}
-use Rattle.sb_calls.specs.declared.op.Op.TheVariants.{Balance, DepositChecking, TransactSavings, Amalgamate, WriteCheck, NoCustomer, SameCustomer}
+use Rattle.sb_calls.specs.declared.op.Op.TheVariants.{Balance, DepositChecking, TransactSavings, Amalgamate, WriteCheck, SendPayment, NoCustomer, SameCustomer}
 use Rattle.sb_calls.specs.declared.reply.Reply.{Reply}
 use Rattle.sb_calls.specs.declared.reply.Reply.TheVariants as replies
 
@@ -36,8 +36,9 @@ kind_of (DepositChecking place amount) = 1
 kind_of (TransactSavings place amount) = 2
 kind_of (Amalgamate places) = 3
 kind_of (WriteCheck place amount) = 4
-kind_of NoCustomer = 5
-kind_of SameCustomer = 6
+kind_of (SendPayment places amount) = 5
+kind_of NoCustomer = 6
+kind_of SameCustomer = 7
 
 abbrev place_in : Op → ℕ
 place_in (Balance place) = place
@@ -45,6 +46,7 @@ place_in (DepositChecking place amount) = place
 place_in (TransactSavings place amount) = place
 place_in (Amalgamate places) = 0
 place_in (WriteCheck place amount) = place
+place_in (SendPayment places amount) = 0
 place_in NoCustomer = 0
 place_in SameCustomer = 0
 
@@ -54,6 +56,7 @@ places_in (DepositChecking place amount) = (0, 0)
 places_in (TransactSavings place amount) = (0, 0)
 places_in (Amalgamate places) = places
 places_in (WriteCheck place amount) = (0, 0)
+places_in (SendPayment places amount) = places
 places_in NoCustomer = (0, 0)
 places_in SameCustomer = (0, 0)
 
@@ -63,6 +66,7 @@ amount_in (DepositChecking place amount) = amount
 amount_in (TransactSavings place amount) = amount
 amount_in (Amalgamate places) = pos 0
 amount_in (WriteCheck place amount) = amount
+amount_in (SendPayment places amount) = amount
 amount_in NoCustomer = pos 0
 amount_in SameCustomer = pos 0
 
@@ -88,6 +92,12 @@ same_op (Amalgamate p) (Amalgamate q) =
     Decides-like {P = (p.0 ≡ q.0) × (p.1 ≡ q.1)} {Q = Amalgamate p ≡ Amalgamate q} ((p.0 == q.0) && (p.1 == q.1))
     (λ e. ap Amalgamate (ap (λ x. (x, p.1)) e.0 ∙ ap (λ y. (q.0, y)) e.1))
     (λ e. (ap (λ op. (places_in op).0) e, ap (λ op. (places_in op).1) e)) (two_places p q)
+same_op (SendPayment p a) (SendPayment q b) =
+    Decides-like {P = ((p.0 ≡ q.0) × (p.1 ≡ q.1)) × (a ≡ b)} {Q = SendPayment p a ≡ SendPayment q b}
+    (((p.0 == q.0) && (p.1 == q.1)) && int_eq a b)
+    (λ e. ap (λ x. SendPayment (x, p.1) a) e.0.0 ∙ ap (λ y. SendPayment (q.0, y) a) e.0.1 ∙ ap (SendPayment q) e.1)
+    (λ e. ((ap (λ op. (places_in op).0) e, ap (λ op. (places_in op).1) e), ap amount_in e))
+    (Decides-and ((p.0 == q.0) && (p.1 == q.1)) (int_eq a b) (two_places p q) (Decides-int_eq a b))
 same_op NoCustomer NoCustomer = ((λ e. refl), (λ e. refl))
 same_op SameCustomer SameCustomer = ((λ e. refl), (λ e. refl))
 same_op a b = ((λ e. absurd (both_ways false refl e)), (λ e. sym (ap (λ op. kind_of a == kind_of op) e)))
@@ -105,12 +115,24 @@ two_rise from to = by (from == to) (nat_lt from to) refl refl
     by false true e l = (next_above (savings_cown from), (taker_above from to l, tt))
     by false false e l = (giver_above from to e l, (next_above (savings_cown from), tt))
 
+-- and so do their checking cowns
+checkings_rise : (from to : ℕ) → IsRising (checkings_of_two from to)
+checkings_rise from to = by (from == to) (nat_lt from to) refl refl
+  where
+    by : (one before : Bool) → (from == to) ≡ one → nat_lt from to ≡ before
+        → IsRising (if one then [] else if before then checking_cown from ∷ checking_cown to ∷ []
+        else checking_cown to ∷ checking_cown from ∷ [])
+    by true before e l = tt
+    by false true e l = (taker_above from to l, tt)
+    by false false e l = (taker_above to from (other_first from to e l), tt)
+
 pub declared_rise : (op : Op) → IsRising (declared_cowns op)
 declared_rise (Balance place) = (next_above (savings_cown place), tt)
 declared_rise (DepositChecking place amount) = tt
 declared_rise (TransactSavings place amount) = tt
 declared_rise (Amalgamate places) = two_rise places.0 places.1
 declared_rise (WriteCheck place amount) = (next_above (savings_cown place), tt)
+declared_rise (SendPayment places amount) = checkings_rise places.0 places.1
 declared_rise NoCustomer = tt
 declared_rise SameCustomer = tt
 
@@ -125,12 +147,24 @@ few_of_two from to = by (from == to) (nat_lt from to)
     by false true = lit≤ tt
     by false false = lit≤ tt
 
+-- and two checking cowns, or none
+few_checkings : (from to : ℕ) → length (checkings_of_two from to) ≤ 3
+few_checkings from to = by (from == to) (nat_lt from to)
+  where
+    by : (one before : Bool)
+        → length (if one then [] else if before then checking_cown from ∷ checking_cown to ∷ []
+        else checking_cown to ∷ checking_cown from ∷ []) ≤ 3
+    by true before = lit≤ tt
+    by false true = lit≤ tt
+    by false false = lit≤ tt
+
 pub few_declared : (op : Op) → length (declared_cowns op) ≤ 3
 few_declared (Balance place) = lit≤ tt
 few_declared (DepositChecking place amount) = lit≤ tt
 few_declared (TransactSavings place amount) = lit≤ tt
 few_declared (Amalgamate places) = few_of_two places.0 places.1
 few_declared (WriteCheck place amount) = lit≤ tt
+few_declared (SendPayment places amount) = few_checkings places.0 places.1
 few_declared NoCustomer = lit≤ tt
 few_declared SameCustomer = lit≤ tt
 
@@ -179,19 +213,23 @@ savings_held place v ge le =
           λ even. at_least (pos 0) v ge;
     }
 
+-- checking that grows may be held, where it isn't over the limit
+received_held : (place : ℕ) (amount checking : ℤ) → IsHeld (checking_cown place) checking
+    → int_lt amount (pos 0) ≡ false → int_lt LIMIT (checking +ℤ amount) ≡ false
+    → IsHeld (checking_cown place) (checking +ℤ amount)
+received_held place amount checking h ge le =
+    checking_held place (checking +ℤ amount)
+    (record {
+      at_least = grown_by (neg_ℤ LIMIT) checking amount ge h.within.at_least;
+      at_most = at_least (checking +ℤ amount) LIMIT le;
+    })
+
 deposit_keeps : (place : ℕ) (amount checking : ℤ) → IsHeld (checking_cown place) checking
     → AreHeld (checking_cown place ∷ []) (deposit_effect amount checking).1
 deposit_keeps place amount checking h =
     either_keeps (checking_cown place ∷ []) (int_lt amount (pos 0)) _ _ (h, tt) (λ ge.
-    either_keeps (checking_cown place ∷ []) (int_lt LIMIT (checking +ℤ amount)) _ _ (h, tt) (λ le. (
-      checking_held place (checking +ℤ amount)
-          (record {
-            at_least = grown_by (neg_ℤ LIMIT) checking amount ge h.within.at_least;
-            at_most =
-                at_least (checking +ℤ amount) LIMIT le;
-          }),
-      tt,
-    )))
+    either_keeps (checking_cown place ∷ []) (int_lt LIMIT (checking +ℤ amount)) _ _ (h, tt) (λ le.
+    (received_held place amount checking h ge le, tt)))
 
 savings_keeps : (place : ℕ) (amount savings : ℤ) → IsHeld (savings_cown place) savings
     → AreHeld (savings_cown place ∷ []) (savings_effect amount savings).1
@@ -285,6 +323,66 @@ two_keep from to inputs = by (from == to) (nat_lt from to)
         of_three_keeps (checking_cown to) (savings_cown from) (checking_cown from) taker_first_effect
         (taker_first_keeps from to) inputs held
 
+-- a fact of a payment, where it is one of each of its four outcomes
+pub of_payment : (P : Reply × ℤ × ℤ → Type 0) (amount checking received : ℤ)
+    → (int_lt amount (pos 0) ≡ true → P (replies.Negative, checking, received))
+    → (int_lt amount (pos 0) ≡ false → int_lt checking amount ≡ true → P (replies.WouldOverdraw, checking, received))
+    → (int_lt amount (pos 0) ≡ false → int_lt checking amount ≡ false → int_lt LIMIT (received +ℤ amount) ≡ true
+    → P (replies.OverLimit, checking, received))
+    → (int_lt amount (pos 0) ≡ false → int_lt checking amount ≡ false → int_lt LIMIT (received +ℤ amount) ≡ false
+    → P (replies.Done, checking -ℤ amount, received +ℤ amount))
+    → P (payment amount checking received)
+of_payment P amount checking received =
+    by (int_lt amount (pos 0)) (int_lt checking amount) (int_lt LIMIT (received +ℤ amount))
+  where
+    by : (negative short over : Bool) → (negative ≡ true → P (replies.Negative, checking, received))
+        → (negative ≡ false → short ≡ true → P (replies.WouldOverdraw, checking, received))
+        → (negative ≡ false → short ≡ false → over ≡ true → P (replies.OverLimit, checking, received))
+        → (negative ≡ false → short ≡ false → over ≡ false → P (replies.Done, checking -ℤ amount, received +ℤ amount))
+        → P (if negative then (replies.Negative, checking, received)
+        else if short then (replies.WouldOverdraw, checking, received)
+        else if over then (replies.OverLimit, checking, received)
+        else (replies.Done, checking -ℤ amount, received +ℤ amount))
+    by true short over below poor past done = below refl
+    by false true over below poor past done = poor refl refl
+    by false false true below poor past done = past refl refl refl
+    by false false false below poor past done = done refl refl refl
+
+-- a payment leaves what the two may hold
+payment_keeps : (from to : ℕ) (amount checking received : ℤ) → IsHeld (checking_cown from) checking
+    → IsHeld (checking_cown to) received
+    → IsHeld (checking_cown from) (payment amount checking received).1
+    × IsHeld (checking_cown to) (payment amount checking received).2
+payment_keeps from to amount checking received c r =
+    of_payment (λ after. IsHeld (checking_cown from) after.1 × IsHeld (checking_cown to) after.2) amount checking
+    received (λ below. (c, r)) (λ ge poor. (c, r)) (λ ge enough past. (c, r)) (λ ge enough le. (
+      checking_held from (checking -ℤ amount)
+          (record {
+            at_least = left_above checking amount _ ge enough;
+            at_most = fallen_by LIMIT checking amount ge c.within.at_most;
+          }),
+      received_held to amount received r ge le,
+    ))
+
+payment_keep : (from to : ℕ) (amount : ℤ) (inputs : List ℤ) → AreHeld (checkings_of_two from to) inputs
+    → AreHeld (checkings_of_two from to) (payment_effect from to amount inputs).1
+payment_keep from to amount inputs = by (from == to) (nat_lt from to)
+  where
+    by : (one before : Bool)
+        → AreHeld (if one then [] else if before then checking_cown from ∷ checking_cown to ∷ []
+        else checking_cown to ∷ checking_cown from ∷ []) inputs
+        → AreHeld (if one then [] else if before then checking_cown from ∷ checking_cown to ∷ []
+        else checking_cown to ∷ checking_cown from ∷ [])
+        (if one then (replies.SameCustomer, inputs) else if before then of_two (payer_first_effect amount) inputs
+        else of_two (paid_first_effect amount) inputs).1
+    by true before held = held
+    by false true held =
+        of_two_keeps (checking_cown from) (checking_cown to) (payer_first_effect amount)
+        (λ v w c r. let kept = payment_keeps from to amount v w c r in (kept.0, (kept.1, tt))) inputs held
+    by false false held =
+        of_two_keeps (checking_cown to) (checking_cown from) (paid_first_effect amount)
+        (λ v w r c. let kept = payment_keeps from to amount w v c r in (kept.1, (kept.0, tt))) inputs held
+
 pub effect_keeps : (op : Op) (inputs : List ℤ) → AreHeld (declared_cowns op) inputs
     → AreHeld (declared_cowns op) (effect_of op inputs).1
 effect_keeps (Balance place) inputs held =
@@ -296,5 +394,6 @@ effect_keeps (TransactSavings place amount) inputs held =
 effect_keeps (Amalgamate places) inputs held = two_keep places.0 places.1 inputs held
 effect_keeps (WriteCheck place amount) inputs held =
     of_two_keeps (savings_cown place) (checking_cown place) (check_effect amount) (check_keeps place amount) inputs held
+effect_keeps (SendPayment places amount) inputs held = payment_keep places.0 places.1 amount inputs held
 effect_keeps NoCustomer inputs held = held
 effect_keeps SameCustomer inputs held = held

@@ -1,13 +1,13 @@
 -- Sums, differences and cowns against a bound.
 -- The laws of an impl stand on specs/ alone, so this is shown step by step.
-use Rattle.std.specs.Prelude.{◌≡◌, ◌≢◌, ℕ, zero, suc, ◌<◌, ◌+◌, ◌%◌, ◌==◌, nat_lt, ℤ, pos, negsuc, neg_ℤ, ◌+ℤ◌, ◌-ℤ◌, ◌≤ℤ◌, int_lt, Bool, true, false, not, T, ◌⊎◌, refl}
+use Rattle.std.specs.Prelude.{◌≡◌, ◌≢◌, ℕ, zero, suc, ◌<◌, ◌≤◌, ◌+◌, ◌-◌, ◌%◌, ◌==◌, nat_lt, ℤ, pos, negsuc, neg_ℤ, ◌+ℤ◌, ◌-ℤ◌, ◌≤ℤ◌, int_lt, Bool, true, false, not, T, ◌⊎◌, refl}
 use Rattle.std.specs.Int.Signed.{le_z_yes, lt_z_no}
 use Rattle.std.proofs.Common.{ap, sym, subst, ◌∙◌, inl, inr}
 use Rattle.std.proofs.Math.Dec.{leb→le, le→leb, lit≤}
-use Rattle.std.proofs.Math.IntN.{suc_ℤ, pred_ℤ, +ℤ_idr, +ℤ-suc_ℤ, +ℤ-pred_ℤ, neg_ℤ-suc_ℤ}
-use Rattle.std.proofs.Math.Nat.{le_of_lt, le_trans, le-suc, not-suc-le-zero, mul_comm, mul-lt-mul_of_pos_left, add-lt-add_iff_right}
+use Rattle.std.proofs.Math.IntN.{suc_ℤ, pred_ℤ, +ℤ_idr, +ℤ-suc_ℤ, +ℤ-pred_ℤ, +ℤ-neg_ℤ_cancel, neg_ℤ-suc_ℤ}
+use Rattle.std.proofs.Math.Nat.{le_of_lt, le_trans, le-suc, not-suc-le-zero, sub-add_cancel, mul_comm, mul-lt-mul_of_pos_left, add-lt-add_iff_right}
 use Rattle.std.proofs.Math.Numerals.{lt-add-one}
-use Rattle.std.proofs.lemmas.Bool.{both_ways, cases_order, eq-eqb, false_from_ne_true, lt-ltb, ltb-true}
+use Rattle.std.proofs.lemmas.Bool.{both_ways, cases_order, eq-eqb, false_from_ne_true, lt-ltb, ltb-false, ltb-true}
 use Rattle.std.proofs.lemmas.Nat.{mul-add-lt, mod-mul-add}
 use Rattle.sb_calls.specs.Cowns.{savings_cown, checking_cown}
 
@@ -64,6 +64,17 @@ pub not_negative_above : (v : ℤ) (n : ℕ) → int_lt v (pos 0) ≡ false → 
 not_negative_above (pos m) n ge = le_z_yes tt
 not_negative_above (negsuc m) n ge = absurd (both_ways true ge refl)
 
+-- what is left where no more than all is taken
+left_of : (m n : ℕ) → n ≤ m → pos m -ℤ pos n ≡ pos (m - n)
+left_of m n le = ap (λ (k : ℕ). pos k -ℤ pos n) (sym (sub-add_cancel le)) ∙ +ℤ-neg_ℤ_cancel (pos (m - n)) (pos n)
+
+-- is above what is negative too
+pub left_above : (v amount : ℤ) (n : ℕ) → int_lt amount (pos 0) ≡ false → int_lt v amount ≡ false → negsuc n ≤ℤ (v -ℤ amount)
+left_above (pos m) (pos k) n ge enough =
+    subst (λ (x : ℤ). negsuc n ≤ℤ x) (sym (left_of m k (ltb-false m k enough))) (le_z_yes tt)
+left_above (negsuc m) (pos k) n ge enough = absurd (both_ways true enough refl)
+left_above v (negsuc k) n ge enough = absurd (both_ways true ge refl)
+
 -- ---- cowns
 
 -- the cown after savings is above it
@@ -74,15 +85,20 @@ next_above n = lt-add-one n
 pub taker_above : (from to : ℕ) → nat_lt from to ≡ true → checking_cown from < checking_cown to
 taker_above from to before = (add-lt-add_iff_right 1).1 (mul-lt-mul_of_pos_left (ltb-true from to before) (lit≤ tt))
 
--- and its savings too
-pub giver_above : (from to : ℕ) → (from == to) ≡ false → nat_lt from to ≡ false → checking_cown to < savings_cown from
-giver_above from to different after = by (cases_order from to)
+-- of two customers that are not one the other is first
+pub other_first : (from to : ℕ) → (from == to) ≡ false → nat_lt from to ≡ false → nat_lt to from ≡ true
+other_first from to different after = by (cases_order from to)
   where
-    by : (from ≡ to) ⊎ ((from < to) ⊎ (to < from)) → checking_cown to < savings_cown from
+    by : (from ≡ to) ⊎ ((from < to) ⊎ (to < from)) → nat_lt to from ≡ true
     by (inl e) = absurd (both_ways (from == to) different (eq-eqb from to e))
     by (inr (inl lt)) = absurd (both_ways (nat_lt from to) after (lt-ltb from to lt))
-    by (inr (inr lt)) =
-        subst (λ (x : ℕ). x + 1 < savings_cown from) (mul_comm to 2) (mul-add-lt to 2 1 from lt (lit≤ tt))
+    by (inr (inr lt)) = lt-ltb to from lt
+
+-- and its savings too
+pub giver_above : (from to : ℕ) → (from == to) ≡ false → nat_lt from to ≡ false → checking_cown to < savings_cown from
+giver_above from to different after =
+    subst (λ (x : ℕ). x + 1 < savings_cown from) (mul_comm to 2)
+    (mul-add-lt to 2 1 from (ltb-true to from (other_first from to different after)) (lit≤ tt))
 
 -- a checking cown is odd
 pub odd : (place : ℕ) → checking_cown place % 2 ≢ 0

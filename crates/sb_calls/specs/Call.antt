@@ -8,7 +8,7 @@ use Rattle.sb_amount.specs.declared.fault.MoneyFault.{MoneyFault}
 use Rattle.sb_rows.specs.Name.{is_name, IsName}
 use Rattle.sb_rows.specs.Text.{words}
 use Rattle.sb_calls.specs.declared.call.Call.{Call}
-use Rattle.sb_calls.specs.declared.call.Call.TheVariants.{Balance, DepositChecking, TransactSavings, Amalgamate, WriteCheck}
+use Rattle.sb_calls.specs.declared.call.Call.TheVariants.{Balance, DepositChecking, TransactSavings, Amalgamate, WriteCheck, SendPayment}
 use Rattle.sb_calls.specs.declared.text.fault.CallFault.{CallFault}
 use Rattle.sb_calls.specs.declared.text.fault.CallFault.TheVariants.{UnknownVerb, WrongWords, BadName, BadMoney}
 
@@ -21,6 +21,7 @@ call_line (DepositChecking name amount) = codes "deposit " ++ (name ++ (32 ∷ m
 call_line (TransactSavings name amount) = codes "savings " ++ (name ++ (32 ∷ money amount))
 call_line (Amalgamate from to) = codes "amalgamate " ++ (from ++ (32 ∷ to))
 call_line (WriteCheck name amount) = codes "check " ++ (name ++ (32 ∷ money amount))
+call_line (SendPayment from to amount) = codes "pay " ++ (from ++ (32 ∷ (to ++ (32 ∷ money amount))))
 
 -- its names are valid, its amount is within the limit
 abbrev pub IsCall : Call → Type 0
@@ -29,6 +30,7 @@ IsCall (DepositChecking name amount) = IsName name × IsWithinLimit amount
 IsCall (TransactSavings name amount) = IsName name × IsWithinLimit amount
 IsCall (Amalgamate from to) = IsName from × IsName to
 IsCall (WriteCheck name amount) = IsName name × IsWithinLimit amount
+IsCall (SendPayment from to amount) = IsName from × IsName to × IsWithinLimit amount
 
 -- ---- what it is read as
 
@@ -58,6 +60,15 @@ of_two_names call [] = Err WrongWords
 of_two_names call (a ∷ []) = Err WrongWords
 of_two_names call (a ∷ b ∷ c ∷ more) = Err WrongWords
 
+-- the words after a verb that takes two names and an amount
+abbrev pub of_two_names_and_amount : (List ℕ → List ℕ → ℤ → Call) → List (List ℕ) → Result Call CallFault
+of_two_names_and_amount call (from ∷ to ∷ amount ∷ []) =
+    if is_name from && is_name to then with_amount (call from to) (read_money amount) else Err BadName
+of_two_names_and_amount call [] = Err WrongWords
+of_two_names_and_amount call (a ∷ []) = Err WrongWords
+of_two_names_and_amount call (a ∷ b ∷ []) = Err WrongWords
+of_two_names_and_amount call (a ∷ b ∷ c ∷ d ∷ more) = Err WrongWords
+
 -- the call that the words of a line spell, or their first fault
 abbrev pub call_of_words : List (List ℕ) → Result Call CallFault
 call_of_words [] = Err UnknownVerb
@@ -67,6 +78,7 @@ call_of_words (verb ∷ rest) =
     else if bytes_eq verb (codes "savings") then of_name_and_amount TransactSavings rest
     else if bytes_eq verb (codes "check") then of_name_and_amount WriteCheck rest
     else if bytes_eq verb (codes "amalgamate") then of_two_names Amalgamate rest
+    else if bytes_eq verb (codes "pay") then of_two_names_and_amount SendPayment rest
     else Err UnknownVerb
 
 -- the call that a line spells, or its first fault

@@ -6,7 +6,7 @@ use Rattle.sb_rows.specs.Listing.{listed, total_of}
 use Rattle.sb_rows.specs.Rows.{Rows}
 use Rattle.sb_calls.specs.Log.{rows_after_calls, replies_to}
 use Rattle.sb_calls.specs.declared.call.Call.{Call}
-use Rattle.sb_calls.specs.declared.call.Call.TheVariants.{Balance, DepositChecking, TransactSavings, Amalgamate, WriteCheck}
+use Rattle.sb_calls.specs.declared.call.Call.TheVariants.{Balance, DepositChecking, TransactSavings, Amalgamate, WriteCheck, SendPayment}
 use Rattle.sb_calls.specs.declared.reply.Reply.{Reply}
 use Rattle.sb_calls.specs.declared.reply.Reply.TheVariants.{Shown, Done, Penalised, NoCustomer, SameCustomer, Negative, WouldOverdraw, OverLimit}
 
@@ -39,6 +39,7 @@ net_of (DepositChecking name amount) reply = net_if_done amount reply
 net_of (TransactSavings name amount) reply = net_if_done amount reply
 net_of (Amalgamate from to) reply = pos 0
 net_of (WriteCheck name amount) reply = net_if_paid amount reply
+net_of (SendPayment from to amount) reply = pos 0
 
 -- the net changes of calls with these replies, added up
 abbrev pub net_sum : List Call → List Reply → ℤ

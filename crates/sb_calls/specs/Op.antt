@@ -4,7 +4,7 @@ use Rattle.sb_rows.specs.Directory.{place_of}
 use Rattle.sb_calls.specs.declared.call.Call.{Call}
 use Rattle.sb_calls.specs.declared.call.Call.TheVariants as calls
 use Rattle.sb_calls.specs.declared.op.Op.{Op}
-use Rattle.sb_calls.specs.declared.op.Op.TheVariants.{Balance, DepositChecking, TransactSavings, Amalgamate, WriteCheck, NoCustomer, SameCustomer}
+use Rattle.sb_calls.specs.declared.op.Op.TheVariants.{Balance, DepositChecking, TransactSavings, Amalgamate, WriteCheck, SendPayment, NoCustomer, SameCustomer}
 
 -- the op at a place, if there is one
 abbrev pub at_place : (ℕ → Op) → Option ℕ → Op
@@ -12,10 +12,10 @@ at_place op None = NoCustomer
 at_place op (Some place) = op place
 
 -- the op at two places: NoCustomer where one is missing, SameCustomer where they are one
-abbrev pub at_two_places : Option ℕ → Option ℕ → Op
-at_two_places None to = NoCustomer
-at_two_places (Some from) None = NoCustomer
-at_two_places (Some from) (Some to) = if from == to then SameCustomer else Amalgamate (from, to)
+abbrev pub at_two_places : (ℕ × ℕ → Op) → Option ℕ → Option ℕ → Op
+at_two_places op None to = NoCustomer
+at_two_places op (Some from) None = NoCustomer
+at_two_places op (Some from) (Some to) = if from == to then SameCustomer else op (from, to)
 
 -- the op of a call, where these are the names by place
 abbrev pub resolved : List (List ℕ) → Call → Op
@@ -24,9 +24,12 @@ resolved directory (calls.DepositChecking name amount) =
     at_place (λ place. DepositChecking place amount) (place_of directory name)
 resolved directory (calls.TransactSavings name amount) =
     at_place (λ place. TransactSavings place amount) (place_of directory name)
-resolved directory (calls.Amalgamate from to) = at_two_places (place_of directory from) (place_of directory to)
+resolved directory (calls.Amalgamate from to) =
+    at_two_places Amalgamate (place_of directory from) (place_of directory to)
 resolved directory (calls.WriteCheck name amount) =
     at_place (λ place. WriteCheck place amount) (place_of directory name)
+resolved directory (calls.SendPayment from to amount) =
+    at_two_places (λ places. SendPayment places amount) (place_of directory from) (place_of directory to)
 
 -- its places are below the number of customers
 abbrev pub IsOpWithin : ℕ → Op → Type 0
@@ -35,5 +38,6 @@ IsOpWithin customers (DepositChecking place amount) = place < customers
 IsOpWithin customers (TransactSavings place amount) = place < customers
 IsOpWithin customers (Amalgamate places) = (places.0 < customers) × (places.1 < customers)
 IsOpWithin customers (WriteCheck place amount) = place < customers
+IsOpWithin customers (SendPayment places amount) = (places.0 < customers) × (places.1 < customers)
 IsOpWithin customers NoCustomer = Unit {0}
 IsOpWithin customers SameCustomer = Unit {0}

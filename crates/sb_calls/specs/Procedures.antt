@@ -7,7 +7,7 @@ use Rattle.std.specs.Str.{bytes_eq}
 use Rattle.sb_amount.specs.declared.cents.TheConstants.{LIMIT}
 use Rattle.sb_rows.specs.Rows.{Rows}
 use Rattle.sb_calls.specs.declared.call.Call.{Call}
-use Rattle.sb_calls.specs.declared.call.Call.TheVariants.{Balance, DepositChecking, TransactSavings, Amalgamate, WriteCheck}
+use Rattle.sb_calls.specs.declared.call.Call.TheVariants.{Balance, DepositChecking, TransactSavings, Amalgamate, WriteCheck, SendPayment}
 use Rattle.sb_calls.specs.declared.reply.Reply.{Reply}
 use Rattle.sb_calls.specs.declared.reply.Reply.TheVariants.{Shown, Done, Penalised, NoCustomer, SameCustomer, Negative, WouldOverdraw, OverLimit}
 
@@ -68,6 +68,18 @@ write_check name amount rows = with_balances rows (λ savings checking.
       reply = if int_lt (savings +ℤ checking) amount then Penalised else Done;
     }) (get rows name)
 
+-- the amount goes from the checking of the first customer to that of the second
+abbrev pub send_payment : List ℕ → List ℕ → ℤ → Rows → Outcome
+send_payment from to amount rows = with_balances rows (λ savings checking. with_balances rows (λ savings_to checking_to.
+    if bytes_eq from to then record { rows = rows; reply = SameCustomer }
+    else if int_lt amount (pos 0) then record { rows = rows; reply = Negative }
+    else if int_lt checking amount then record { rows = rows; reply = WouldOverdraw }
+    else if int_lt LIMIT (checking_to +ℤ amount) then record { rows = rows; reply = OverLimit }
+    else record {
+      rows = insert (insert rows from (savings, checking -ℤ amount)) to (savings_to, checking_to +ℤ amount);
+      reply = Done;
+    }) (get rows to)) (get rows from)
+
 -- the procedure that a call names
 abbrev pub procedure : Call → Rows → Outcome
 procedure (Balance name) rows = balance name rows
@@ -75,3 +87,4 @@ procedure (DepositChecking name amount) rows = deposit_checking name amount rows
 procedure (TransactSavings name amount) rows = transact_savings name amount rows
 procedure (Amalgamate from to) rows = amalgamate from to rows
 procedure (WriteCheck name amount) rows = write_check name amount rows
+procedure (SendPayment from to amount) rows = send_payment from to amount rows

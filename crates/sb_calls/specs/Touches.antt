@@ -6,7 +6,7 @@ use Rattle.std.specs.Str.{bytes_eq}
 use Rattle.sb_rows.specs.Rows.{Rows}
 use Rattle.sb_calls.specs.Procedures.{procedure}
 use Rattle.sb_calls.specs.declared.call.Call.{Call}
-use Rattle.sb_calls.specs.declared.call.Call.TheVariants.{Balance, DepositChecking, TransactSavings, Amalgamate, WriteCheck}
+use Rattle.sb_calls.specs.declared.call.Call.TheVariants.{Balance, DepositChecking, TransactSavings, Amalgamate, WriteCheck, SendPayment}
 
 -- one of the two balances of a customer
 pub data BalancePlace : Type 0 where
@@ -34,6 +34,9 @@ touched rows (Amalgamate from to) =
     if has_name rows from && has_name rows to && not (bytes_eq from to)
     then Savings from ∷ Checking from ∷ Checking to ∷ [] else []
 touched rows (WriteCheck name amount) = if has_name rows name then both_of name else []
+touched rows (SendPayment from to amount) =
+    if has_name rows from && has_name rows to && not (bytes_eq from to)
+    then Checking from ∷ Checking to ∷ [] else []
 
 abbrev pub HaveSameNames : Rows → Rows → Type 0
 HaveSameNames a b = (name : List ℕ) → has_name a name ≡ has_name b name

@@ -6,7 +6,7 @@ use sb_rows::Name;
 /// How many calls a log takes.
 pub const LOG_CALLS: usize = 1_000_000;
 
-/// A call of one of the bank's procedures (SmallBank, ICDE 2008), on customers by name.
+/// A call of one of the bank's procedures (SmallBank, ICDE 2008, and payments), on customers by name.
 #[derive(Clone, Copy, Debug, PartialEq, Eq)]
 pub enum Call {
     /// Shows a customer's savings and checking balances added up.
@@ -20,4 +20,7 @@ pub enum Call {
     /// Takes an amount, which may not be negative, from a customer's checking balance, and a
     /// penalty of 100 cents more where savings and checking together are below the amount.
     WriteCheck(Name, Cents),
+    /// Moves an amount, which may not be negative, from the first customer's checking balance to
+    /// the second one's. The first may not fall below 0 by it.
+    SendPayment(Name, Name, Cents),
 }

@@ -16,7 +16,7 @@ pub fn net(call: &Call, reply: Reply) -> i64
             net_if_done(*amount, reply)
         }
         Call::WriteCheck(_, amount) => net_if_paid(*amount, reply),
-        Call::Balance(_) | Call::Amalgamate(_, _) => 0,
+        Call::Balance(_) | Call::Amalgamate(_, _) | Call::SendPayment(_, _, _) => 0,
     }
 }
 

@@ -1,6 +1,6 @@
 //! A call with its customers' places in place of their names.
-ghost use Rattle.std.specs.Prelude.{◌≡◌, length, IfSome};
-ghost use Rattle.std.specs.Option.{unwrap_or};
+ghost use Rattle.std.specs.Prelude.{◌≡◌, ◌<◌, ℕ, length, IfOk, IfErr};
+ghost use Rattle.sb_calls.specs.declared.op.Op.{Op as AnyOp};
 ghost use Rattle.sb_rows.specs.Directory.{place_of};
 ghost use Rattle.sb_calls.specs.Op.{resolved, at_two_places, IsOpWithin};
 
@@ -22,6 +22,8 @@ pub enum Op {
     Amalgamate(TwoPlaces),
     /// [`Call::WriteCheck`] of the customer at this place.
     WriteCheck(u32, Cents),
+    /// [`Call::SendPayment`] of the customers at these places.
+    SendPayment(TwoPlaces, Cents),
     /// A call with a name that isn't in the bank.
     NoCustomer,
     /// A call of two customers that are one.
@@ -44,21 +46,31 @@ pub fn resolve(directory: &Directory, call: &Call) -> Op
         Call::WriteCheck(name, amount) => directory
             .place(name)
             .map(|place| Op::WriteCheck(place, *amount)),
-        Call::Amalgamate(from, to) => amalgamation(directory, from, to),
+        Call::Amalgamate(from, to) => match two_places(directory, from, to) {
+            Ok(places) => Some(Op::Amalgamate(places)),
+            Err(refusal) => Some(refusal),
+        },
+        Call::SendPayment(from, to, amount) => match two_places(directory, from, to) {
+            Ok(places) => Some(Op::SendPayment(places, *amount)),
+            Err(refusal) => Some(refusal),
+        },
     };
     op.unwrap_or(Op::NoCustomer)
 }
 
-// The op of an amalgamation, or `None` where the directory hasn't got one of the names.
-fn amalgamation(directory: &Directory, from: &Name, to: &Name) -> Option<Op>
-    ensures value { unwrap_or result Op.NoCustomer
-        ≡ at_two_places (place_of directory.now from.now) (place_of directory.now to.now) }
-    ensures within { IfSome result (IsOpWithin (length directory.now)) }
+// The places of two customers, or the op that there is without them, whatever call they are for.
+fn two_places(directory: &Directory, from: &Name, to: &Name) -> Result<TwoPlaces, Op>
+    ensures places { IfOk result (λ places. (op : ℕ × ℕ → AnyOp)
+        → at_two_places op (place_of directory.now from.now) (place_of directory.now to.now)
+        ≡ op places) }
+    ensures within { IfOk result (λ places.
+        (places.0 < length directory.now) × (places.1 < length directory.now)) }
+    ensures refusal { IfErr result (λ refusal. (op : ℕ × ℕ → AnyOp)
+        → at_two_places op (place_of directory.now from.now) (place_of directory.now to.now)
+        ≡ refusal) }
+    ensures refusal_within { IfErr result (IsOpWithin (length directory.now)) }
 {
-    let from = directory.place(from)?;
-    let to = directory.place(to)?;
-    match TwoPlaces::new(from, to) {
-        Some(places) => Some(Op::Amalgamate(places)),
-        None => Some(Op::SameCustomer),
-    }
+    let from = directory.place(from).ok_or(Op::NoCustomer)?;
+    let to = directory.place(to).ok_or(Op::NoCustomer)?;
+    TwoPlaces::new(from, to).ok_or(Op::SameCustomer)
 }

@@ -5,7 +5,7 @@ use Rattle.std.proofs.lemmas.List.{length-append}
 use Rattle.sb_calls.specs.Call.{IsCall}
 use Rattle.sb_calls.specs.Replies.{number_field, amount_field, reply_code, shown_total, reply_field}
 use Rattle.sb_calls.specs.declared.call.Call.{Call}
-use Rattle.sb_calls.specs.declared.call.Call.TheVariants.{Balance, DepositChecking, TransactSavings, Amalgamate, WriteCheck}
+use Rattle.sb_calls.specs.declared.call.Call.TheVariants.{Balance, DepositChecking, TransactSavings, Amalgamate, WriteCheck, SendPayment}
 use Rattle.sb_calls.specs.declared.reply.Reply.{Reply}
 use Rattle.sb_rows.specs.Name.{IsName}
 use Rattle.sb_frames.specs.Fields.{name_field, call_field, outcome_field}
@@ -31,15 +31,24 @@ name_and_amount_size kind name cents v =
     let sizes = name_sizes name v in
     omega (arith, length-append (name_field name) (amount_field cents), number_size64 (cast_unsigned w64 cents))
 
-call_size : (call : Call) → IsCall call → length (call_field call) ≤ 43
+call_size : (call : Call) → IsCall call → length (call_field call) ≤ 51
 call_size (Balance name) v = let sizes = name_sizes name v in omega arith
-call_size (DepositChecking name cents) v = name_and_amount_size 2 name cents v.0
-call_size (TransactSavings name cents) v = name_and_amount_size 3 name cents v.0
+call_size (DepositChecking name cents) v = omega (arith, name_and_amount_size 2 name cents v.0)
+call_size (TransactSavings name cents) v = omega (arith, name_and_amount_size 3 name cents v.0)
 call_size (Amalgamate from to) v =
     let giver = name_sizes from v.0 in
     let taker = name_sizes to v.1 in
     omega (arith, length-append (name_field from) (name_field to))
-call_size (WriteCheck name cents) v = name_and_amount_size 5 name cents v.0
+call_size (WriteCheck name cents) v = omega (arith, name_and_amount_size 5 name cents v.0)
+call_size (SendPayment from to cents) v =
+    let giver = name_sizes from v.0 in
+    let taker = name_sizes to v.1 in
+    omega (
+      arith,
+      length-append (name_field from) (name_field to ++ amount_field cents),
+      length-append (name_field to) (amount_field cents),
+      number_size64 (cast_unsigned w64 cents),
+    )
 
 coded_size : (code : ℕ) (cents : ℤ) → length (code ∷ amount_field cents) ≡ 9
 coded_size code cents = omega (arith, number_size64 (cast_unsigned w64 cents))
@@ -55,7 +64,7 @@ outcome_size LogFull = omega (arith, coded_size 0 (pos 0))
 -- a body has a tag, and isn't too long
 pub body_size : (frame : Frame) → IsFrame frame → (1 ≤ length (body frame)) × (length (body frame) ≤ MAX_BODY)
 body_size (Ask client request call) v =
-    let size : length (number_field w32 client ++ (number_field w32 request ++ call_field call)) ≤ 51 =
+    let size : length (number_field w32 client ++ (number_field w32 request ++ call_field call)) ≤ 59 =
     omega (
       arith,
       length-append (number_field w32 client) (number_field w32 request ++ call_field call),
@@ -66,7 +75,7 @@ body_size (Ask client request call) v =
     ) in
     (omega arith, omega arith)
 body_size (Entry number call) v =
-    let size : length (number_field w64 number ++ call_field call) ≤ 51 =
+    let size : length (number_field w64 number ++ call_field call) ≤ 59 =
     omega (arith, length-append (number_field w64 number) (call_field call), number_size64 number, call_size call v.1) in
     (omega arith, omega arith)
 body_size (Ack replica size) v = (omega arith, omega (arith, number_size64 size))

@@ -1,7 +1,7 @@
 -- Calls read from the left.
 use Rattle.std.specs.Prelude.{ℕ, ℤ, ◌==◌, if◌then◌else◌, Result, Ok, Err, List}
 use Rattle.sb_calls.specs.declared.call.Call.{Call}
-use Rattle.sb_calls.specs.declared.call.Call.TheVariants.{Balance, DepositChecking, TransactSavings, Amalgamate, WriteCheck}
+use Rattle.sb_calls.specs.declared.call.Call.TheVariants.{Balance, DepositChecking, TransactSavings, Amalgamate, WriteCheck, SendPayment}
 use Rattle.sb_frames.specs.Reading.{◌>>=◌, byte_at, amount_at, name_at}
 use Rattle.sb_frames.specs.declared.fault.FrameFault.{FrameFault}
 use Rattle.sb_frames.specs.declared.fault.FrameFault.TheVariants.{UnknownTag}
@@ -23,6 +23,13 @@ two_names_at call bytes = do
   to ← name_at from.1
   Ok (call from.0 to.0, to.1)
 
+abbrev pub two_names_and_amount_at : (List ℕ → List ℕ → ℤ → Call) → List ℕ → Result (Call × List ℕ) FrameFault
+two_names_and_amount_at call bytes = do
+  from ← name_at bytes
+  to ← name_at from.1
+  amount ← amount_at to.1
+  Ok (call from.0 to.0 amount.0, amount.1)
+
 -- what stands behind a kind
 abbrev pub of_kind : ℕ → List ℕ → Result (Call × List ℕ) FrameFault
 of_kind kind bytes =
@@ -31,6 +38,7 @@ of_kind kind bytes =
     else if kind == 3 then name_and_amount_at TransactSavings bytes
     else if kind == 4 then two_names_at Amalgamate bytes
     else if kind == 5 then name_and_amount_at WriteCheck bytes
+    else if kind == 6 then two_names_and_amount_at SendPayment bytes
     else Err UnknownTag
 
 -- a call: its kind, its names, and its amount where it has one

@@ -2,7 +2,7 @@
 use Rattle.std.specs.Prelude.{ℕ, pos, List, ◌∷◌, ◌++◌, length}
 use Rattle.sb_calls.specs.Replies.{amount_field, reply_field}
 use Rattle.sb_calls.specs.declared.call.Call.{Call}
-use Rattle.sb_calls.specs.declared.call.Call.TheVariants.{Balance, DepositChecking, TransactSavings, Amalgamate, WriteCheck}
+use Rattle.sb_calls.specs.declared.call.Call.TheVariants.{Balance, DepositChecking, TransactSavings, Amalgamate, WriteCheck, SendPayment}
 use Rattle.sb_frames.specs.declared.frame.AskOutcome.{AskOutcome}
 use Rattle.sb_frames.specs.declared.frame.AskOutcome.TheVariants.{Replied, Mismatch, LogFull}
 
@@ -17,6 +17,7 @@ call_field (DepositChecking name amount) = 2 ∷ (name_field name ++ amount_fiel
 call_field (TransactSavings name amount) = 3 ∷ (name_field name ++ amount_field amount)
 call_field (Amalgamate from to) = 4 ∷ (name_field from ++ name_field to)
 call_field (WriteCheck name amount) = 5 ∷ (name_field name ++ amount_field amount)
+call_field (SendPayment from to amount) = 6 ∷ (name_field from ++ (name_field to ++ amount_field amount))
 
 -- the nine zeros in place of a reply
 abbrev pub no_reply_field : List ℕ

@@ -17,6 +17,8 @@ pub(crate) const AMALGAMATE: u8 = 4;
 
 pub(crate) const WRITE_CHECK: u8 = 5;
 
+pub(crate) const SEND_PAYMENT: u8 = 6;
+
 #[inline]
 #[tactic(auto, unfolding(crate::specs::Calls::call_at))]
 pub(crate) fn read_call(fields: &mut Fields) -> Result<Call, FrameFault>
@@ -28,6 +30,7 @@ pub(crate) fn read_call(fields: &mut Fields) -> Result<Call, FrameFault>
         TRANSACT_SAVINGS => Ok(Call::TransactSavings(fields.name()?, fields.amount()?)),
         AMALGAMATE => Ok(Call::Amalgamate(fields.name()?, fields.name()?)),
         WRITE_CHECK => Ok(Call::WriteCheck(fields.name()?, fields.amount()?)),
+        SEND_PAYMENT => Ok(Call::SendPayment(fields.name()?, fields.name()?, fields.amount()?)),
         _ => Err(FrameFault::UnknownTag),
     }
 }

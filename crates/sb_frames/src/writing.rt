@@ -8,7 +8,9 @@ ghost use Rattle.sb_rows.specs.Name.{IsName};
 ghost use Rattle.sb_frames.specs.Fields.{name_field, call_field, no_reply_field, outcome_field};
 ghost use Rattle.sb_frames.specs.Grammar.{IsOutcome};
 
-use crate::call::{AMALGAMATE, BALANCE, DEPOSIT_CHECKING, TRANSACT_SAVINGS, WRITE_CHECK};
+use crate::call::{
+    AMALGAMATE, BALANCE, DEPOSIT_CHECKING, SEND_PAYMENT, TRANSACT_SAVINGS, WRITE_CHECK,
+};
 use crate::frame::{AskOutcome, MAX_BODY};
 use crate::outcome::{LOG_FULL, MISMATCH, REPLIED};
 use arrayvec::ArrayVec;
@@ -20,7 +22,7 @@ use sb_rows::{NAME_BYTES, Name};
 pub(crate) type Body = ArrayVec<u8, MAX_BODY>;
 
 // How many bytes each field takes at most: a name with its length, cents, a call of a name and an amount
-// with its kind, any call (two names are the most), a reply with its code, an outcome with its status, and
+// with its kind, any call (two names and an amount are the most), a reply with its code, an outcome with its status, and
 // a replica's number and a length behind their tag.
 const NAME_FIELD: usize = 1 + NAME_BYTES;
 
@@ -28,7 +30,7 @@ const AMOUNT_FIELD: usize = 8;
 
 const NAME_AND_AMOUNT: usize = 1 + NAME_FIELD + AMOUNT_FIELD;
 
-const CALL_FIELD: usize = 1 + 2 * NAME_FIELD;
+const CALL_FIELD: usize = 1 + 2 * NAME_FIELD + AMOUNT_FIELD;
 
 const REPLY_FIELD: usize = 1 + AMOUNT_FIELD;
 
@@ -114,6 +116,12 @@ pub(crate) fn put_call(body: &mut Body, call: &Call)
             put_name(body, to);
         }
         Call::WriteCheck(name, amount) => put_name_and_amount(body, WRITE_CHECK, name, *amount),
+        Call::SendPayment(from, to, amount) => {
+            put(body, &[SEND_PAYMENT]);
+            put_name(body, from);
+            put_name(body, to);
+            put_cents(body, amount.value());
+        }
     }
 }
 

@@ -63,7 +63,7 @@ pub(crate) fn entry(number: u64, call: &Call) -> Frame {
 }
 
 // Frames with their spellings, by hand.
-pub(crate) fn vectors(rt: &impl Abort) -> [(Frame, &'static str); 9] {
+pub(crate) fn vectors(rt: &impl Abort) -> [(Frame, &'static str); 10] {
     let alice = name(rt, "alice");
     let bob = name(rt, "bob");
     let amount = cents(rt, 500);
@@ -92,6 +92,13 @@ pub(crate) fn vectors(rt: &impl Abort) -> [(Frame, &'static str); 9] {
                 call: Call::Balance(alice),
             },
             "0010 02 0000000000000001 01 05 616c696365",
+        ),
+        (
+            Frame::Entry {
+                number: 1,
+                call: Call::SendPayment(bob, alice, cents(rt, 2_000)),
+            },
+            "001c 02 0000000000000001 06 03 626f62 05 616c696365 00000000000007d0",
         ),
         (
             Frame::Ack {

@@ -1,5 +1,5 @@
 //! Calls carried out in a row.
-use super::bank::{Bank, answer, opened};
+use super::bank::{Bank, answer, opened, opened_with};
 use crate::fixtures::expect;
 use crate::rows::columns::expect_columns;
 use sb_amount::LIMIT;
@@ -79,10 +79,18 @@ fn a_refusal_changes_nothing(rt: HostRuntime) {
         ("amalgamate zed zed", Reply::NoCustomer),
         ("amalgamate alice zed", Reply::NoCustomer),
         ("amalgamate zed alice", Reply::NoCustomer),
+        ("pay zed zed -1.00", Reply::NoCustomer),
+        ("pay alice zed 1.00", Reply::NoCustomer),
+        ("pay zed alice 1.00", Reply::NoCustomer),
         ("amalgamate bob bob", Reply::SameCustomer),
+        ("pay bob bob -1.00", Reply::SameCustomer),
         ("deposit bob -0.01", Reply::Negative),
         ("check alice -0.01", Reply::Negative),
+        ("pay carol bob -0.01", Reply::Negative),
         ("savings carol -10.01", Reply::WouldOverdraw),
+        ("pay carol bob 0.01", Reply::WouldOverdraw),
+        // Neither may alice pay so much, nor may bob have it.
+        ("pay alice bob 9999999980.01", Reply::WouldOverdraw),
     ];
     let case = Case {
         calls,
@@ -133,4 +141,38 @@ fn an_amalgamation_stays_above_the_lower_limit(rt: HostRuntime) {
         checking: [5000, 0, -LIMIT],
     };
     expect_case(&rt, rt.alloc(), case);
+}
+
+#[test]
+fn payments_go_from_checking_to_checking(rt: HostRuntime) {
+    let calls = &[
+        ("pay bob alice 20.00", Reply::Done),
+        ("pay alice bob 70.01", Reply::WouldOverdraw),
+        ("pay bob carol 0.01", Reply::WouldOverdraw),
+        ("pay zed zed 1.00", Reply::NoCustomer),
+        ("pay bob bob -1.00", Reply::SameCustomer),
+        ("pay alice bob -0.01", Reply::Negative),
+    ];
+    let case = Case {
+        calls,
+        savings: [10000, 0, 1000],
+        checking: [7000, 0, 0],
+    };
+    expect_case(&rt, rt.alloc(), case);
+}
+
+#[test]
+fn a_payment_stays_within_the_limit(rt: HostRuntime) {
+    let opening = "a 0.00 0.01\nb 0.00 10000000000.00\nbegin\n";
+    let mut bank = opened_with(&rt, rt.alloc(), opening);
+    for (line, wanted) in [
+        ("pay a b 0.01", Reply::OverLimit),
+        ("pay a b 0.00", Reply::Done),
+        ("pay b a 0.01", Reply::Done),
+        ("pay a b 0.01", Reply::Done),
+        ("pay a b 0.02", Reply::WouldOverdraw),
+    ] {
+        expect_reply(&rt, &mut bank, line, wanted);
+    }
+    expect_columns(&rt, &bank.columns, &[0, 0], &[1, LIMIT]);
 }

@@ -14,7 +14,12 @@ pub(super) struct Bank {
 
 /// The bank as it opens.
 pub(super) fn opened(rt: &impl Abort, alloc: Global) -> Box<Bank> {
-    let opening = read_opening(alloc, OPENING.as_bytes()).expect(rt, "an opening");
+    opened_with(rt, alloc, OPENING)
+}
+
+/// A bank that opens with this text.
+pub(super) fn opened_with(rt: &impl Abort, alloc: Global, text: &str) -> Box<Bank> {
+    let opening = read_opening(alloc, text.as_bytes()).expect(rt, "an opening");
     let bank = Bank {
         directory: opening.directory,
         columns: opening.columns,

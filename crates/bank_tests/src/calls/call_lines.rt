@@ -21,6 +21,8 @@ fn lines_that_are_read(rt: HostRuntime) {
     let check = Call::WriteCheck(bob, cents(&rt, 2001));
     expect_call(&rt, "check bob 20.01", check);
     expect_call(&rt, "amalgamate alice bob", Call::Amalgamate(alice, bob));
+    let payment = Call::SendPayment(bob, alice, cents(&rt, 2000));
+    expect_call(&rt, "pay bob alice 20.00", payment);
 }
 
 // What the words of a line behind its first one spell.
@@ -58,6 +60,8 @@ const FAULTS: &[(&str, CallFault)] = &[
     ("balances alice", CallFault::UnknownVerb),
     (" balance alice", CallFault::UnknownVerb),
     ("checks", CallFault::UnknownVerb),
+    ("payment alice bob 1.00", CallFault::UnknownVerb),
+    ("pa", CallFault::UnknownVerb),
     ("check", CallFault::WrongWords),
     ("balance", CallFault::WrongWords),
     ("balance alice bob", CallFault::WrongWords),
@@ -67,16 +71,26 @@ const FAULTS: &[(&str, CallFault)] = &[
     ("savings alice", CallFault::WrongWords),
     ("amalgamate alice", CallFault::WrongWords),
     ("amalgamate alice bob carol", CallFault::WrongWords),
+    ("pay", CallFault::WrongWords),
+    ("pay alice", CallFault::WrongWords),
+    ("pay alice bob", CallFault::WrongWords),
+    ("pay Alice bob 1 2", CallFault::WrongWords),
+    ("pay alice bob 1.00 ", CallFault::WrongWords),
     ("balance ", CallFault::BadName),
     ("deposit Alice 1.00", CallFault::BadName),
     ("deposit Alice x", CallFault::BadName),
     ("savings Alice x", CallFault::BadName),
     ("amalgamate alice Bob", CallFault::BadName),
     ("amalgamate Alice bob", CallFault::BadName),
+    ("pay Alice bob x", CallFault::BadName),
+    ("pay alice Bob x", CallFault::BadName),
+    ("pay alice 1.00 bob", CallFault::BadName),
     ("deposit alice 1", CallFault::BadMoney),
     ("deposit alice 10000000000.01", CallFault::BadMoney),
     ("savings alice -0.00", CallFault::BadMoney),
     ("check alice x", CallFault::BadMoney),
+    ("pay alice bob 1", CallFault::BadMoney),
+    ("pay alice bob carol", CallFault::BadMoney),
 ];
 
 // A line is no call, with this fault.

@@ -70,6 +70,21 @@ fn those_of_two_customers_rise(rt: HostRuntime) {
     expect_two(&rt, LAST, 1, &[3, 131_070, 131_071]);
 }
 
+// A payment declares these cowns.
+fn expect_payment(rt: &impl Abort, payer: u32, taker: u32, wanted: &[usize]) {
+    let places = TwoPlaces::new(payer, taker).expect(rt, "two places");
+    let payment = Op::SendPayment(places, cents(rt, 500));
+    expect_cowns(rt, payment, wanted, "pay");
+}
+
+#[test]
+fn those_of_a_payment_rise(rt: HostRuntime) {
+    expect_payment(&rt, 0, 1, &[1, 3]);
+    expect_payment(&rt, 1, 0, &[1, 3]);
+    expect_payment(&rt, 0, LAST, &[1, 131_071]);
+    expect_payment(&rt, LAST, 1, &[3, 131_071]);
+}
+
 #[test]
 fn none_where_there_is_no_op(rt: HostRuntime) {
     expect_cowns(&rt, Op::NoCustomer, &[], "no customer");

@@ -120,6 +120,37 @@ fn amalgamations(rt: HostRuntime) {
     expect_second_gives(&rt, [-LIMIT, 0, -1], Reply::OverLimit, [-LIMIT, 0, -1]);
 }
 
+// The first of two customers pays: its checking stands before the other's.
+fn expect_first_pays(rt: &impl Abort, amount: i64, held: [i64; 2], reply: Reply, left: [i64; 2]) {
+    let places = TwoPlaces::new(2, 5).expect(rt, "two places");
+    let payment = Op::SendPayment(places, cents(rt, amount));
+    let inputs = [cents(rt, held[0]), cents(rt, held[1])];
+    expect_effect(rt, payment, &inputs, reply, &left);
+}
+
+// The second pays: the other's checking stands first.
+fn expect_second_pays(rt: &impl Abort, amount: i64, held: [i64; 2], reply: Reply, left: [i64; 2]) {
+    let places = TwoPlaces::new(5, 2).expect(rt, "two places");
+    let payment = Op::SendPayment(places, cents(rt, amount));
+    let inputs = [cents(rt, held[0]), cents(rt, held[1])];
+    expect_effect(rt, payment, &inputs, reply, &left);
+}
+
+#[test]
+fn payments(rt: HostRuntime) {
+    expect_first_pays(&rt, 500, [2_000, 100], Reply::Done, [1_500, 600]);
+    expect_first_pays(&rt, 2_000, [2_000, -100], Reply::Done, [0, 1_900]);
+    expect_first_pays(&rt, 2_001, [2_000, 0], Reply::WouldOverdraw, [2_000, 0]);
+    expect_first_pays(&rt, 0, [-1, 0], Reply::WouldOverdraw, [-1, 0]);
+    expect_first_pays(&rt, -1, [-2, 0], Reply::Negative, [-2, 0]);
+    expect_first_pays(&rt, 1, [1, LIMIT], Reply::OverLimit, [1, LIMIT]);
+    expect_first_pays(&rt, 1, [1, LIMIT - 1], Reply::Done, [0, LIMIT]);
+    expect_second_pays(&rt, 500, [100, 2_000], Reply::Done, [600, 1_500]);
+    expect_second_pays(&rt, 2_001, [0, 2_000], Reply::WouldOverdraw, [0, 2_000]);
+    expect_second_pays(&rt, -1, [0, 2_000], Reply::Negative, [0, 2_000]);
+    expect_second_pays(&rt, 1, [LIMIT, 1], Reply::OverLimit, [LIMIT, 1]);
+}
+
 #[test]
 fn refusals_without_cowns(rt: HostRuntime) {
     expect_effect(&rt, Op::NoCustomer, &[], Reply::NoCustomer, &[]);
@@ -133,6 +164,11 @@ fn compare_alike<B: Behaviour>(first: B, second: B) -> bool {
 
 fn check_of(rt: &impl Abort, number: i64) -> Op {
     Op::WriteCheck(3, cents(rt, number))
+}
+
+fn payment_of(rt: &impl Abort, from: u32, to: u32, number: i64) -> Op {
+    let places = TwoPlaces::new(from, to).expect(rt, "two places");
+    Op::SendPayment(places, cents(rt, number))
 }
 
 #[test]
@@ -152,4 +188,14 @@ fn ops_that_compare_alike_are_one(rt: HostRuntime) {
         !compare_alike(Op::Balance(3), Op::NoCustomer),
         "another op",
     );
+    for (from, to, amount, alike) in [
+        (2, 5, 1, true),
+        (2, 5, 2, false),
+        (5, 2, 1, false),
+        (2, 4, 1, false),
+    ] {
+        let other = payment_of(&rt, from, to, amount);
+        let one = payment_of(&rt, 2, 5, 1);
+        expect(&rt, compare_alike(one, other) == alike, "payments");
+    }
 }

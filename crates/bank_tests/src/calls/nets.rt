@@ -30,6 +30,8 @@ fn each_call(rt: HostRuntime) {
     let change = Call::TransactSavings(alice, cents(&rt, -1000));
     expect_net(&rt, change, -1000, 0, "savings");
     expect_net(&rt, Call::Amalgamate(alice, bob), 0, 0, "amalgamate");
+    let payment = Call::SendPayment(alice, bob, cents(&rt, 500));
+    expect_net(&rt, payment, 0, 0, "pay");
     let check = Call::WriteCheck(alice, cents(&rt, 2001));
     expect_net(&rt, check, -2001, -2101, "check");
 }

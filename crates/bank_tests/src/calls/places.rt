@@ -54,3 +54,21 @@ fn calls_of_two_names(rt: HostRuntime) {
     expect_two(&rt, &bank, "alice", "zed", Op::NoCustomer);
     expect_two(&rt, &bank, "zed", "alice", Op::NoCustomer);
 }
+
+// A payment between these names is looked up so.
+fn expect_payment(rt: &impl Abort, bank: &Bank, from: &str, to: &str, op: Op) {
+    let call = Call::SendPayment(name(rt, from), name(rt, to), cents(rt, 500));
+    expect_op(rt, bank, call, op, from);
+}
+
+#[test]
+fn payments_between_two_names(rt: HostRuntime) {
+    let bank = opened(&rt, rt.alloc());
+    let places = TwoPlaces::new(0, 2).expect(&rt, "two places");
+    let op = Op::SendPayment(places, cents(&rt, 500));
+    expect_payment(&rt, &bank, "alice", "carol", op);
+    expect_payment(&rt, &bank, "bob", "bob", Op::SameCustomer);
+    expect_payment(&rt, &bank, "zed", "zed", Op::NoCustomer);
+    expect_payment(&rt, &bank, "alice", "zed", Op::NoCustomer);
+    expect_payment(&rt, &bank, "zed", "alice", Op::NoCustomer);
+}

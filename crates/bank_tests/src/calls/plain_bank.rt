@@ -42,6 +42,7 @@ fn plain_reply(bank: &mut [Customer], call: &Call) -> Reply {
         Call::TransactSavings(name, amount) => plain_savings(bank, name, amount.value()),
         Call::Amalgamate(from, to) => plain_amalgamation(bank, from, to),
         Call::WriteCheck(name, amount) => plain_check(bank, name, amount.value()),
+        Call::SendPayment(from, to, amount) => plain_payment(bank, from, to, amount.value()),
     }
 }
 
@@ -118,6 +119,32 @@ fn plain_check(bank: &mut [Customer], name: &Name, amount: i64) -> Reply {
     reply
 }
 
+fn plain_payment(bank: &mut [Customer], from: &Name, to: &Name, amount: i64) -> Reply {
+    let Some(mut payer) = find(bank, from) else {
+        return Reply::NoCustomer;
+    };
+    let Some(mut taker) = find(bank, to) else {
+        return Reply::NoCustomer;
+    };
+    if payer.name == taker.name {
+        return Reply::SameCustomer;
+    }
+    if amount < 0 {
+        return Reply::Negative;
+    }
+    payer.checking = payer.checking.saturating_sub(amount);
+    taker.checking = taker.checking.saturating_add(amount);
+    if payer.checking < 0 {
+        return Reply::WouldOverdraw;
+    }
+    if taker.checking > LIMIT {
+        return Reply::OverLimit;
+    }
+    put(bank, payer);
+    put(bank, taker);
+    Reply::Done
+}
+
 const OPENED: [Customer; 3] = [
     Customer {
         name: "alice",
@@ -151,11 +178,12 @@ fn numbered_name(rt: &impl Abort, number: u8) -> Name {
 fn numbered_call(rt: &impl Abort, number: u8) -> Call {
     let first = numbered_name(rt, number);
     let amount = cents(rt, (i64::from(number) - 60) * 4_000_000_003);
-    match number % 7 {
+    match number % 9 {
         0 => Call::Balance(first),
         1 | 2 => Call::DepositChecking(first, amount),
         3 | 4 => Call::TransactSavings(first, amount),
         5 => Call::Amalgamate(first, numbered_name(rt, number / 4)),
+        6 | 7 => Call::SendPayment(first, numbered_name(rt, number / 4), amount),
         _ => Call::WriteCheck(first, amount),
     }
 }

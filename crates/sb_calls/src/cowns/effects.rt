@@ -1,7 +1,7 @@
 //! What each procedure does to the values of its cowns.
-ghost use Rattle.std.specs.Prelude.{◌≡◌, ℤ, pos, SomeIff, ◌+ℤ◌, ◌≤ℤ◌, int_lt, if◌then◌else◌, [], ◌∷◌};
+ghost use Rattle.std.specs.Prelude.{◌≡◌, ℤ, pos, SomeIff, ◌+ℤ◌, ◌-ℤ◌, ◌≤ℤ◌, int_lt, if◌then◌else◌, [], ◌∷◌};
 ghost use Rattle.sb_amount.specs.Limit.{IsWithinLimit};
-ghost use Rattle.sb_calls.specs.Behaviour.{deposit_effect, savings_effect, check_effect, giver_first_effect, taker_first_effect};
+ghost use Rattle.sb_calls.specs.Behaviour.{deposit_effect, savings_effect, check_effect, giver_first_effect, taker_first_effect, payment, payer_first_effect, paid_first_effect};
 ghost use Rattle.sb_calls.specs.Procedures.{check_cost};
 ghost use Rattle.sb_calls.specs.declared.reply.Reply.TheVariants as replies;
 
@@ -155,4 +155,49 @@ pub(crate) fn amalgamate_taker_first(received: Cents, savings: Cents, checking: 
         Some(sum) => leaving_three(Reply::Done, sum, nothing(), nothing()),
         None => leaving_three(Reply::OverLimit, received, savings, checking),
     }
+}
+
+// What a payment replies, and the balances after it of the one that pays and of the one that is paid.
+fn payment(amount: Cents, checking: Cents, received: Cents) -> (Reply, Cents, Cents)
+    ensures reply { result.0 ≡ (payment amount checking received).0 }
+    ensures checking { result.1 ≡ (payment amount checking received).1 }
+    ensures received { result.2 ≡ (payment amount checking received).2 }
+{
+    if amount.value() < 0 {
+        return (Reply::Negative, checking, received);
+    }
+    if checking.value() < amount.value() {
+        return (Reply::WouldOverdraw, checking, received);
+    }
+    match received.plus(amount) {
+        Some(sum) => (Reply::Done, what_is_left(checking, amount), sum),
+        None => (Reply::OverLimit, checking, received),
+    }
+}
+
+// What is left of a balance where no more than all of it is taken.
+fn what_is_left(balance: Cents, amount: Cents) -> Cents
+    requires taken { pos 0 ≤ℤ amount }
+    requires enough { amount ≤ℤ balance }
+    ensures { result ≡ balance -ℤ amount }
+{
+    Cents::new(balance.value() - amount.value()).unwrap()
+}
+
+// Pays from one checking balance to another, where the one that pays stands first.
+pub(crate) fn pay_payer_first(amount: Cents, checking: Cents, received: Cents) -> Effect
+    ensures reply { result.0 ≡ (payer_first_effect amount checking received).0 }
+    ensures outputs { result.1.items ≡ (payer_first_effect amount checking received).1 }
+{
+    let (reply, checking, received) = payment(amount, checking, received);
+    leaving_two(reply, checking, received)
+}
+
+// Pays from one checking balance to another, where the one that is paid stands first.
+pub(crate) fn pay_paid_first(amount: Cents, received: Cents, checking: Cents) -> Effect
+    ensures reply { result.0 ≡ (paid_first_effect amount received checking).0 }
+    ensures outputs { result.1.items ≡ (paid_first_effect amount received checking).1 }
+{
+    let (reply, checking, received) = payment(amount, checking, received);
+    leaving_two(reply, received, checking)
 }

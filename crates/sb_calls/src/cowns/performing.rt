@@ -3,7 +3,7 @@ ghost use Rattle.std.specs.Prelude.{◌≡◌, ℕ, List};
 ghost use Rattle.sb_rows.specs.Balances.{Balances};
 ghost use Rattle.sb_rows.specs.Rows.{SameCustomers};
 ghost use Rattle.sb_calls.specs.declared.call.Call.{Call};
-ghost use Rattle.sb_calls.specs.Behaviour.{declared_cowns, effect_of, cowns_of_two, effect_of_two};
+ghost use Rattle.sb_calls.specs.Behaviour.{declared_cowns, effect_of, cowns_of_two, checkings_of_two, effect_of_two, payment_effect};
 ghost use Rattle.sb_calls.specs.ByCowns.{DeclaresTouched, PerformsByCowns};
 ghost use Rattle.sb_calls.specs.Cowns.{AreHeld, held_of, read_cowns};
 ghost use Rattle.sb_calls.specs.Op.{resolved};
@@ -12,7 +12,7 @@ use super::behaviour::{BEHAVIOUR_COWNS, Behaviour, Performs};
 use super::cown::Cown;
 use super::effects::{
     Effect, amalgamate_giver_first, amalgamate_taker_first, change_savings, deposit, pay_check,
-    show,
+    pay_paid_first, pay_payer_first, show,
 };
 use crate::op::Op;
 use crate::reply::Reply;
@@ -44,6 +44,7 @@ fn declared_by(op: Op) -> ArrayVec<Cown, BEHAVIOUR_COWNS>
         Op::DepositChecking(place, _) => cowns.push(Cown::checking(place)),
         Op::TransactSavings(place, _) => cowns.push(Cown::savings(place)),
         Op::Amalgamate(places) => return cowns_of_places(places),
+        Op::SendPayment(places, _) => return checkings_of_places(places),
         Op::NoCustomer | Op::SameCustomer => {}
     }
     cowns
@@ -63,6 +64,23 @@ fn cowns_of_places(places: TwoPlaces) -> ArrayVec<Cown, BEHAVIOUR_COWNS>
     } else {
         cowns.push(Cown::checking(to));
         cowns.push(Cown::savings(from));
+        cowns.push(Cown::checking(from));
+    }
+    cowns
+}
+
+// The checking balances of both customers.
+fn checkings_of_places(places: TwoPlaces) -> ArrayVec<Cown, BEHAVIOUR_COWNS>
+    ensures { result.items ≡ checkings_of_two places.0 places.1 }
+{
+    let from = places.from();
+    let to = places.to();
+    let mut cowns = ArrayVec::new();
+    if from < to {
+        cowns.push(Cown::checking(from));
+        cowns.push(Cown::checking(to));
+    } else {
+        cowns.push(Cown::checking(to));
         cowns.push(Cown::checking(from));
     }
     cowns
@@ -97,6 +115,7 @@ fn effect_on(op: Op, inputs: &[Cents]) -> Effect
         Op::TransactSavings(_, amount) => change_savings(amount, inputs[0]),
         Op::Amalgamate(places) => amalgamate(places, inputs),
         Op::WriteCheck(_, amount) => pay_check(amount, inputs[0], inputs[1]),
+        Op::SendPayment(places, amount) => send_payment(places, amount, inputs),
         Op::NoCustomer => (Reply::NoCustomer, ArrayVec::new()),
         Op::SameCustomer => (Reply::SameCustomer, ArrayVec::new()),
     }
@@ -115,6 +134,21 @@ fn amalgamate(places: TwoPlaces, inputs: &[Cents]) -> Effect
         amalgamate_giver_first(first, second, third)
     } else {
         amalgamate_taker_first(first, second, third)
+    }
+}
+
+// Moves an amount from one checking balance to another, by the order of their cowns.
+fn send_payment(places: TwoPlaces, amount: Cents, inputs: &[Cents]) -> Effect
+    requires { AreHeld (checkings_of_two places.0 places.1) inputs.now }
+    ensures reply { result.0 ≡ (payment_effect places.0 places.1 amount inputs.now).0 }
+    ensures outputs { result.1.items ≡ (payment_effect places.0 places.1 amount inputs.now).1 }
+{
+    let first = inputs[0];
+    let second = inputs[1];
+    if places.from() < places.to() {
+        pay_payer_first(amount, first, second)
+    } else {
+        pay_paid_first(amount, first, second)
     }
 }
 

@@ -1,10 +1,11 @@
-//! The text of a call: `balance N`, `deposit N V`, `savings N V`, `check N V` or `amalgamate N N2`.
+//! The text of a call: `balance N`, `deposit N V`, `savings N V`, `check N V`, `amalgamate N N2`
+//! or `pay N N2 V`.
 ghost use Rattle.std.specs.Prelude.{◌≡◌, ℕ, ℤ, List, ◌∷◌, Ok, IfOk, if◌then◌else◌};
 ghost use Rattle.std.specs.Result.{result_map_both};
 ghost use Rattle.sb_amount.specs.Reading.{read_money};
 ghost use Rattle.sb_rows.specs.Name.{is_name};
 ghost use Rattle.sb_calls.specs.declared.call.Call.{Call as AnyCall};
-ghost use Rattle.sb_calls.specs.Call.{IsCall, call_line, call_of, call_of_words, of_name, of_name_and_amount, of_two_names, with_amount};
+ghost use Rattle.sb_calls.specs.Call.{IsCall, call_line, call_of, call_of_words, of_name, of_name_and_amount, of_two_names, of_two_names_and_amount, with_amount};
 
 use super::fault::CallFault;
 use crate::call::Call;
@@ -58,6 +59,10 @@ pub(crate) fn call_with(verb: &[u8], words: Words) -> Result<Call, CallFault>
         let (from, to) = two_names(words)?;
         return Ok(Call::Amalgamate(from, to));
     }
+    if verb == b"pay".as_slice() {
+        let (from, to, amount) = two_names_and_amount(words)?;
+        return Ok(Call::SendPayment(from, to, amount));
+    }
     Err(CallFault::UnknownVerb)
 }
 
@@ -91,6 +96,17 @@ fn two_names(mut words: Words) -> Result<(Name, Name), CallFault>
 {
     let (from, to) = (words.word()?, words.last()?);
     Ok((name_of(from)?, name_of(to)?))
+}
+
+// The two names and the amount that are left, whatever call they are for.
+#[inline]
+fn two_names_and_amount(mut words: Words) -> Result<(Name, Name, Cents), CallFault>
+    ensures { (call : List ℕ → List ℕ → ℤ → AnyCall)
+        → result_map_both (λ all. call all.0 all.1 all.2) (λ fault. fault) result
+        ≡ of_two_names_and_amount call words.entry }
+{
+    let (from, to, amount) = (words.word()?, words.word()?, words.last()?);
+    Ok((name_of(from)?, name_of(to)?, amount_of(amount)?))
 }
 
 // The name that a word is.

@@ -81,22 +81,31 @@ fn numbers_lengths_and_replicas(rt: HostRuntime) {
     }
 }
 
+// Two names of twenty bytes, and for the longest an amount: bodies of 52 bytes, and of 60.
 #[test]
 fn the_longest_frames(rt: HostRuntime) {
     let longest = name(&rt, "abcdefghijklmnopqrst");
-    let call = Call::Amalgamate(longest, longest);
+    let amalgamation = Call::Amalgamate(longest, longest);
+    let payment = Call::SendPayment(longest, longest, cents(&rt, -1));
     are_spelled(
         &rt,
         &[
             (
-                ask(1, 2, &call),
-                "0034 01 00000001 00000002 04 \
+                entry(3, &amalgamation),
+                "0034 02 0000000000000003 04 \
                  14 6162636465666768696a6b6c6d6e6f7071727374 14 6162636465666768696a6b6c6d6e6f7071727374",
             ),
             (
-                entry(3, &call),
-                "0034 02 0000000000000003 04 \
-                 14 6162636465666768696a6b6c6d6e6f7071727374 14 6162636465666768696a6b6c6d6e6f7071727374",
+                ask(1, 2, &payment),
+                "003c 01 00000001 00000002 06 \
+                 14 6162636465666768696a6b6c6d6e6f7071727374 14 6162636465666768696a6b6c6d6e6f7071727374 \
+                 ffffffffffffffff",
+            ),
+            (
+                entry(3, &payment),
+                "003c 02 0000000000000003 06 \
+                 14 6162636465666768696a6b6c6d6e6f7071727374 14 6162636465666768696a6b6c6d6e6f7071727374 \
+                 ffffffffffffffff",
             ),
         ],
     );
@@ -149,6 +158,8 @@ fn amounts_past_the_limit(rt: HostRuntime) {
             "02 0000000000000001 03 03 626f62 ffffff172b5aefff",
             "01 00000001 00000002 05 03 626f62 7fffffffffffffff",
             "01 00000001 00000002 05 03 626f62 8000000000000000",
+            "02 0000000000000001 06 01 61 01 62 000000e8d4a51001",
+            "02 0000000000000001 06 01 61 01 62 ffffff172b5aefff",
         ],
     );
 }

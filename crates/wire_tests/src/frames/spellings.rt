@@ -81,6 +81,10 @@ fn every_call_both_ways(rt: HostRuntime) {
             Call::WriteCheck(bob, cents(&rt, 256)),
             "02 0000000000000009 05 03 626f62 0000000000000100",
         ),
+        (
+            Call::SendPayment(bob, alice, cents(&rt, 257)),
+            "02 0000000000000009 06 03 626f62 05 616c696365 0000000000000101",
+        ),
     ] {
         have_bodies(&rt, &[(Frame::Entry { number: 9, call }, body)]);
     }
