@@ -62,11 +62,11 @@ abbrev pub AddsLeft : Known → WorkOf → Known → Type 0
 AddsLeft known work after =
     (length known.drained < BENCH_CAPACITY) × (after ≡ record known { drained = known.drained ++ work ∷ [] })
 
--- at least what is there was offered
+-- at least as many Works were offered as are still there
 abbrev pub HasOffered : Known → List WorkOf → Type 0
 HasOffered known items = length items ≤ length known.offered
 
--- what was taken out and what is still there is what nobody picked
+-- the pass knows all: what was taken out and what is still there is what nobody picked
 abbrev pub KnowsAll : Known → List WorkOf → Type 0
 KnowsAll known items =
     IsPartedInto known.offered known.told (known.drained ++ items)

@@ -10,13 +10,13 @@ use Rattle.cown_bench.specs.declared.known.Known.{Known}
 abbrev pub all_parts : ℕ
 all_parts = WORKERS + 1
 
--- the owner's: its parts, what was offered, what the passes that it took in had picked, and what
--- was taken out
+-- the owner's view: its parts, what was offered, what the passes that it took in had picked, and
+-- what was taken out
 abbrev pub owner_view : ℕ → List WorkOf → List (List PickOf) → List WorkOf → Known
 owner_view parts offered told drained =
     record { parts = parts; offers = true; offered = offered; picked = []; told = told; drained = drained }
 
--- a worker's: what was picked
+-- a worker's view: what it picked
 abbrev pub worker_view : List PickOf → Known
 worker_view picked = record { parts = 1; offers = false; offered = []; picked = picked; told = []; drained = [] }
 

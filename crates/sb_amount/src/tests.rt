@@ -134,7 +134,7 @@ fn amounts_that_are_printed(rt: HostRuntime) {
     expect_words(&rt, print_total(i64::MAX).as_str(), "92233720368547758.07");
 }
 
-// Checks the sum of two amounts, or that there is none.
+// The sum of two amounts, or `None` if there is none.
 fn sum_of(rt: &impl Abort, a: i64, b: i64) -> Option<i64> {
     let first = Cents::new(a).expect(rt, "an amount within the limit");
     let second = Cents::new(b).expect(rt, "an amount within the limit");
