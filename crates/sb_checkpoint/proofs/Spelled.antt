@@ -1,5 +1,5 @@
 -- A spelling is read as what it spells, and has no fault.
-use Rattle.std.proofs.Common.{◌≡◌, ℕ, ◌+◌, ◌*◌, ℤ, ◌+ℤ◌, Bool, true, false, not, cond, eqb, ltb, ◌||◌, Option, Some, None, List, [], ◌∷◌, ◌++◌, length, take, drop, map, refl, sym, subst, ap, ap₂, ◌∙◌, arith}
+use Rattle.std.proofs.Common.{◌≡◌, ℕ, ◌+◌, ◌*◌, ℤ, ◌+ℤ◌, Bool, true, false, not, cond, eqb, ltb, ◌||◌, Option, Some, None, List, [], ◌∷◌, ◌++◌, length, take, drop, get_or, map, refl, sym, subst, ap, ap₂, ◌∙◌, arith}
 use Rattle.std.specs.Prelude.{FitsSigned, nat_eq}
 use Rattle.std.specs.Int.{w32, w64, from_be_bytes}
 use Rattle.std.specs.List.{flat_map, list_any, starts_with}
@@ -114,8 +114,8 @@ made_of savings checking replies = record { columns = record { savings = savings
 
 one_layout : (k l : Layout) → magic k ≡ magic l → k ≡ l
 one_layout First First e = refl
-one_layout First Second e = absurd cc
-one_layout Second First e = absurd cc
+one_layout First Second e = absurd (omega (arith, ap (λ (xs : List ℕ). get_or xs 7 0) e))
+one_layout Second First e = absurd (omega (arith, ap (λ (xs : List ℕ). get_or xs 7 0) e))
 one_layout Second Second e = refl
 
 same_read : (layout : Layout) (a b : CheckpointOf) (bytes : List ℕ) → IsRead layout bytes a → IsRead layout bytes b → a ≡ b

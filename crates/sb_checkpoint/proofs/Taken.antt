@@ -158,7 +158,8 @@ the_opening_field First bytes opening_total room are e = refl
 the_opening_field Second bytes opening_total room are e =
     let cells = part bytes (28 + 16 * stated_customers bytes) 8 (omega arith) are in
     let test = passed (not (int_eq (stated_opening bytes) opening_total)) WrongOpening None e in
-    sym (amount_spelled (take 8 (drop (28 + 16 * stated_customers bytes) bytes)) cells.0 cells.1) ∙ ap amount_field ((Decides-int_eq _ _).0 (holds _ test.0))
+    let same : stated_opening bytes ≡ opening_total = (Decides-int_eq _ _).0 (holds (int_eq (stated_opening bytes) opening_total) test.0) in
+    sym (amount_spelled (take 8 (drop (28 + 16 * stated_customers bytes) bytes)) cells.0 cells.1) ∙ ap amount_field same
 
 amounts_field : (bytes : List ℕ) (at : ℕ) (amounts : List ℤ) → at + 8 * stated_customers bytes ≤ length bytes → AreBytes bytes
     → amounts ≡ amounts_at (stated_customers bytes) (drop at bytes)

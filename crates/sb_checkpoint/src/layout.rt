@@ -42,7 +42,7 @@ impl Layout {
     pub(crate) fn of(bytes: &[u8]) -> Option<Layout>
         ensures { option_map layout_of result ≡ spec.stated_layout bytes.now }
     {
-        let front = &bytes[..bytes.len().min(MAGIC_FIRST.len())];
+        let front = &bytes[..MAGIC_FIRST.len().min(bytes.len())];
         if MAGIC_FIRST.starts_with(front) {
             Some(Layout::First)
         } else if MAGIC_SECOND.starts_with(front) {
