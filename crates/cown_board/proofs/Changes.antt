@@ -20,10 +20,10 @@ use Rattle.cown_board.proofs.Submitting.{keeps_submitted}
 use Rattle.cown_board.proofs.Taking.{keeps_taken}
 use Rattle.cown_board.specs.Due.{AreDue, is_due, times}
 use Rattle.cown_board.specs.Fronts.{is_held}
-use Rattle.cown_board.specs.Invariant.{BoardInside, IsBoard, QueuesAre, open_at, touches_at, waiting_at}
+use Rattle.cown_board.specs.Invariant.{BoardInside, IsBoard, QueuesAre, touches_at}
 use Rattle.cown_board.specs.Noted.{AreNoted}
 use Rattle.cown_board.specs.Readiness.{conflict_at, touched_by}
-use Rattle.cown_board.specs.State.{is_open}
+use Rattle.cown_board.specs.State.{is_open, open_at, waiting_at}
 use Rattle.cown_board.specs.declared.board.TheConstants.{OPEN_BEHAVIOURS}
 use Rattle.cown_board.specs.declared.cut.Cut.{Cut}
 use Rattle.cown_board.specs.declared.state.State.{State}

@@ -20,11 +20,11 @@ use Rattle.cown_board.proofs.States.{state_here}
 use Rattle.cown_board.proofs.TakenJob.{seen, inputs_held, declared_below}
 use Rattle.cown_board.specs.Board.{IsOutAt, IsOutHere, Finishes, AreCut}
 use Rattle.cown_board.specs.Due.{AreDue, times}
-use Rattle.cown_board.specs.Invariant.{BoardInside, IsBoard, IsCut, waiting_at}
+use Rattle.cown_board.specs.Invariant.{BoardInside, IsBoard, IsCut}
 use Rattle.cown_board.specs.Job.{DoneOf}
 use Rattle.cown_board.specs.Noted.{AreNoted}
 use Rattle.cown_board.specs.Readiness.{touched_by}
-use Rattle.cown_board.specs.State.{is_open}
+use Rattle.cown_board.specs.State.{is_open, waiting_at}
 use Rattle.cown_board.specs.declared.cut.Cut.{Cut}
 use Rattle.cown_board.specs.declared.state.State.TheVariants.{Out, Finished}
 

@@ -5,8 +5,7 @@ use Rattle.std.proofs.lemmas.Bool.{cases_eq, cases_lt, true≢false}
 use Rattle.std.proofs.lemmas.Option.{slice_get_past, slice_get_within}
 use Rattle.sb_calls.specs.declared.reply.Reply.{Reply}
 use Rattle.cown_board.proofs.PlacesLaws.{slice_get-left, slice_get-right}
-use Rattle.cown_board.specs.Invariant.{open_at, waiting_at}
-use Rattle.cown_board.specs.State.{is_waiting, is_open, state_is}
+use Rattle.cown_board.specs.State.{is_waiting, is_open, state_is, open_at, waiting_at}
 use Rattle.cown_board.specs.declared.state.State.{State}
 use Rattle.cown_board.specs.declared.state.State.TheVariants.{Waiting, Out, Finished}
 

@@ -17,9 +17,9 @@ use Rattle.cown_board.proofs.States.{waiting_is_open}
 use Rattle.cown_board.specs.Board.{BoardOf, Takes}
 use Rattle.cown_board.specs.Due.{is_due}
 use Rattle.cown_board.specs.Fronts.{behind_at, behind_of}
-use Rattle.cown_board.specs.Invariant.{BoardInside, IsBoard, open_at, waiting_at}
+use Rattle.cown_board.specs.Invariant.{BoardInside, IsBoard}
 use Rattle.cown_board.specs.Readiness.{touched_by, conflict_at, is_clear_at, is_ready_at, ready_places}
-use Rattle.cown_board.specs.State.{is_waiting, state_is}
+use Rattle.cown_board.specs.State.{is_waiting, state_is, open_at, waiting_at}
 use Rattle.cown_board.specs.declared.state.State.{State}
 use Rattle.cown_board.specs.declared.state.State.TheVariants.{Waiting, Out, Finished}
 
