@@ -31,6 +31,16 @@ waits_open (Some (Finished reply)) h = absurd (true≢false (sym h))
 pub waiting_is_open : (states : List State) (k : ℕ) → waiting_at states k ≡ true → open_at states k ≡ true
 waiting_is_open states k h = waits_open (slice_get states k) h
 
+-- a state that waits
+is_that : (o : Option State) → state_is is_waiting o ≡ true → o ≡ Some Waiting
+is_that None h = absurd (true≢false (sym h))
+is_that (Some Waiting) h = refl
+is_that (Some Out) h = absurd (true≢false (sym h))
+is_that (Some (Finished reply)) h = absurd (true≢false (sym h))
+
+pub state_waits : (states : List State) (k : ℕ) → waiting_at states k ≡ true → slice_get states k ≡ Some Waiting
+state_waits states k waits = is_that (slice_get states k) waits
+
 -- what is so of no state is so at no place past the end
 pub state_past : (test : State → Bool) (states : List State) (k : ℕ) → length states ≤ k → state_is test (slice_get states k) ≡ false
 state_past test states k past = ap (state_is test) (slice_get_past states k past)

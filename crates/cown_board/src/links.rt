@@ -153,7 +153,7 @@ impl Links {
         }
         // The first may be out already.
         if !states[first].waits() {
-            self.ready.take(0);
+            self.ready.remove(0);
         }
         self.linked = true;
     }

@@ -114,7 +114,7 @@ impl ReadyList {
     }
 
     // Takes a ready place out. Where all are run in place it is the first.
-    fn remove(&mut self, index: usize)
+    pub(crate) fn remove(&mut self, index: usize)
         requires { index < length self.old.ready.items }
         ensures behind { self.new.behind ≡ self.old.behind }
         ensures ready { self.new.ready.items ≡ remove self.old.ready.items index }
