@@ -1,5 +1,5 @@
 -- What comes back and is accepted.
-use Rattle.std.proofs.Common.{◌≡◌, ◌≢◌, inl, inr, ℕ, suc, ◌+◌, ◌-◌, ◌<◌, ◌≤◌, ℤ, Bool, true, false, Option, Some, List, length, get_or, take, refl, sym, ap, subst, ◌∙◌, arith}
+use Rattle.std.proofs.Common.{◌≡◌, ◌≢◌, inl, inr, ℕ, suc, ◌+◌, ◌-◌, ◌<◌, ◌≤◌, ℤ, true, false, Option, Some, List, length, get_or, take, refl, sym, ap, subst, ◌∙◌, arith}
 use Rattle.std.specs.Prelude.{IfSome, count_by, slice_get, slice_set, option_map}
 use Rattle.std.specs.VecDeque.{deque_capacity}
 use Rattle.std.proofs.lemmas.Bool.{cases_Bool, false≢true}
@@ -26,7 +26,7 @@ use Rattle.cown_board.specs.Job.{DoneOf}
 use Rattle.cown_board.specs.Links.{ComesForward}
 use Rattle.cown_board.specs.Noted.{AreNoted}
 use Rattle.cown_board.specs.Readiness.{touched_by}
-use Rattle.cown_board.specs.State.{is_open, waiting_at}
+use Rattle.cown_board.specs.State.{is_open}
 use Rattle.cown_board.specs.declared.cut.Cut.{Cut}
 use Rattle.cown_board.specs.declared.links.Links.{Links}
 use Rattle.cown_board.specs.declared.state.State.TheVariants.{Out, Finished}

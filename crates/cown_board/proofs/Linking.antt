@@ -1,8 +1,8 @@
 -- All that is unfinished is linked, one after the other, as if all of it waited.
-use Rattle.std.proofs.Common.{◌≡◌, ◌≢◌, inl, inr, ℕ, zero, suc, ◌+◌, ◌-◌, ◌<◌, ◌≤◌, ℤ, true, false, ◌&&◌, Option, Some, List, [], ◌∷◌, ◌++◌, length, length-append, get_or, replicate, take, refl, sym, ap, ◌∙◌, subst, arith}
+use Rattle.std.proofs.Common.{◌≡◌, ◌≢◌, inl, inr, ℕ, zero, suc, ◌+◌, ◌-◌, ◌<◌, ◌≤◌, ℤ, true, false, ◌&&◌, Some, List, [], ◌∷◌, ◌++◌, length, length-append, get_or, replicate, take, refl, sym, ap, ◌∙◌, subst, arith}
 use Rattle.std.specs.Prelude.{◌==◌, if◌then◌else◌, count_by, slice_get, slice_set, remove}
 use Rattle.std.proofs.lemmas.Bool.{cases_eq, cases_lt, and_left, true≢false}
-use Rattle.std.proofs.lemmas.List.{get_or-replicate, length-replicate, length-set, length-take-le, append_assoc, replicate_more, take_all, take_more}
+use Rattle.std.proofs.lemmas.List.{get_or-replicate, length-replicate, length-take-le, append_assoc, replicate_more, take_all, take_more}
 use Rattle.std.proofs.lemmas.Option.{get_or_from_slice_get, slice_get-get_or, slice_get_within}
 use Rattle.sb_calls.specs.Cowns.{AreBelow}
 use Rattle.sb_calls.specs.OneByOne.{is_among}
@@ -15,14 +15,12 @@ use Rattle.cown_board.proofs.Inputs.{touched_within}
 use Rattle.cown_board.proofs.Listed.{due_are_ready}
 use Rattle.cown_board.proofs.PlacesLaws.{places-agree, places-none, none_below_from, slice_get-left, slice_get-right}
 use Rattle.cown_board.proofs.Queued.{queues_submitted}
-use Rattle.cown_board.proofs.States.{state_here, state_past, state-set_other, state-set_same, state_waits, waiting_is_open}
+use Rattle.cown_board.proofs.States.{state_here, state_past, state-set_other, state-set_same, waiting_is_open}
 use Rattle.cown_board.proofs.Unlinked.{closed_waits_not, first_ready}
 use Rattle.cown_board.specs.Due.{is_due}
 use Rattle.cown_board.specs.Fronts.{is_held}
 use Rattle.cown_board.specs.Invariant.{AllLinked, AreCowns, CountsAre, QueuesAre, is_queued, touches_at}
-use Rattle.cown_board.specs.Links.{NoneLinked, Stands}
-use Rattle.cown_board.specs.Places.{places}
-use Rattle.cown_board.specs.Readiness.{ready_places, touched_by}
+use Rattle.cown_board.specs.Readiness.{touched_by}
 use Rattle.cown_board.specs.State.{is_open, is_waiting, open_at, state_is, waiting_at}
 use Rattle.cown_board.specs.declared.links.Links.{Links}
 use Rattle.cown_board.specs.declared.state.State.{State}

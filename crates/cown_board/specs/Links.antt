@@ -3,7 +3,7 @@ use Rattle.std.specs.Prelude.{◌≡◌, ℕ, ◌+◌, ◌-◌, ◌*◌, ◌<◌
 use Rattle.cown_queue.specs.Queues.{Appends}
 use Rattle.cown_board.specs.Due.{AreDue, times}
 use Rattle.cown_board.specs.Fronts.{is_held}
-use Rattle.cown_board.specs.State.{is_waiting, is_open, waiting_at, open_at}
+use Rattle.cown_board.specs.State.{waiting_at, open_at}
 use Rattle.cown_board.specs.declared.links.Links.{Links}
 use Rattle.cown_board.specs.declared.ready_list.ReadyList.{ReadyList}
 use Rattle.cown_board.specs.declared.state.State.{State}

@@ -1,4 +1,4 @@
-use Rattle.std.proofs.Common.{rules, ◌≤◌, ◌≡◌, ◌+◌, ◌*◌, true, false, vec_capacity, Err, ◌++◌, ◌∷◌, [], List, ℕ, length, ap, sym, ◌∙◌, subst, arith}
+use Rattle.std.proofs.Common.{rules, ◌≤◌, ◌≡◌, ◌+◌, ◌*◌, true, false, vec_capacity, Err, ◌++◌, ◌∷◌, [], List, length, ap, sym, ◌∙◌, subst, arith}
 use Rattle.std.specs.VecDeque.{deque_capacity}
 use Rattle.sb_calls.specs.Cowns.{AreBelow, held_of}
 use Rattle.cown_board.specs.Board.{BoardOf}

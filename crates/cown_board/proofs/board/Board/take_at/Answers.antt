@@ -1,6 +1,6 @@
 use Rattle.std.proofs.Common.{◌≡◌, ◌≤◌, Some, length, refl, sym, ap, ◌∙◌, subst, arith}
 use Rattle.std.specs.Prelude.{slice_get, slice_set}
-use Rattle.std.proofs.lemmas.Option.{slice_get_read, slice_get_within}
+use Rattle.std.proofs.lemmas.Option.{slice_get_read}
 use Rattle.sb_calls.specs.Cowns.{AreBelow, held_of, read_cowns}
 use Rattle.cown_board.proofs.Changes.{IsBoard-linked, one_each}
 use Rattle.cown_board.proofs.TakenJob.{ready_within, number_below, takes_from, taken_inputs_held, board_taken, declared_in_held}

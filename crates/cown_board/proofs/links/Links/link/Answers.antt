@@ -1,14 +1,11 @@
-use Rattle.std.proofs.Common.{◌≡◌, ◌+◌, ◌-◌, ◌*◌, ◌<◌, ◌≤◌, [], false, true, Some, List, ℕ, length, replicate, refl, sym, ap, ◌∙◌, subst, arith}
+use Rattle.std.proofs.Common.{◌≡◌, ◌-◌, ◌<◌, ◌≤◌, true, Some, length, refl, sym, ap, ◌∙◌, subst, arith}
 use Rattle.std.specs.Prelude.{count_by, slice_get}
 use Rattle.std.specs.VecDeque.{deque_len, deque_capacity}
-use Rattle.std.proofs.lemmas.Bool.{both_ways, not_from_true}
 use Rattle.std.proofs.lemmas.Option.{slice_get_read, slice_get_within}
 use Rattle.sb_calls.specs.Cowns.{AreBelow}
-use Rattle.cown_queue.specs.Queues.{Appends, held_in}
-use Rattle.cown_board.proofs.CownLists.{below_from}
+use Rattle.cown_queue.specs.Queues.{Appends}
 use Rattle.cown_board.proofs.Linking.{all_but_first, all_wait, counts_at_first, counts_next, declared_below, first_listed, held_none, queues_at_first, queues_next}
 use Rattle.cown_board.specs.Fronts.{is_held}
-use Rattle.cown_board.specs.Invariant.{QueuesAre, CountsAre}
 use Rattle.cown_board.specs.State.{is_waiting, state_is, waiting_at}
 use Rattle.cown_board.proofs.links.Links.link.Goals as goal
 use Rattle.cown_board.proofs.links.Links.link.Goals.{then-not-waits, else-not-waits}

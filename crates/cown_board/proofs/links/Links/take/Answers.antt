@@ -1,7 +1,6 @@
-use Rattle.std.proofs.Common.{◌≡◌, ◌-◌, ◌+◌, ◌<◌, ◌≤◌, Some, length, true, refl, sym, ap, ◌∙◌, subst, arith}
+use Rattle.std.proofs.Common.{◌≡◌, ◌-◌, ◌<◌, Some, length, true, refl, sym, ap, ◌∙◌, subst, arith}
 use Rattle.std.specs.Prelude.{slice_get}
 use Rattle.std.proofs.lemmas.Option.{slice_get_read}
-use Rattle.std.specs.VecDeque.{deque_capacity}
 use Rattle.cown_board.proofs.Listed.{taken}
 use Rattle.cown_board.proofs.Unlinked.{first_ready, links_first, none_ready}
 use Rattle.cown_board.specs.Readiness.{ready_places}
