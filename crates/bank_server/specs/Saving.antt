@@ -3,12 +3,12 @@ use Rattle.std.specs.Prelude.{◌≡◌, ◌≢◌, ◌⊎◌, ℕ, Option, Some
 use Rattle.sb_rows.specs.Balances.{Balances}
 use Rattle.sb_calls.specs.Behaviour.{declared_cowns, effect_of}
 use Rattle.cown_board.specs.Board.{IsAfterAll, open_of}
-use Rattle.sb_checkpoint.specs.Checkpoint.{Spells}
+use Rattle.sb_checkpoint.specs.Checkpoint.{Second, Spells}
 use Rattle.sb_checkpoint.specs.Stores.{StoreStep, Got, NotGot}
 use Rattle.sb_checkpoint.specs.declared.store.StoreFault.{StoreFault}
 use Rattle.sb_checkpoint.specs.declared.store.StoreFault.TheVariants as store
 use Rattle.sb_replica.specs.Marking.{IsMarkFaultOf, Puts}
-use Rattle.sb_replica.specs.Replica.{ReplicaOf, replies_held}
+use Rattle.sb_replica.specs.Replica.{ReplicaOf, origin_of, replies_held}
 use Rattle.sb_replica.specs.declared.fault.MarkFault.{MarkFault}
 use Rattle.sb_replica.specs.declared.fault.MarkFault.TheVariants as mark
 use Rattle.bank_server.specs.declared.save_fault.SaveFault.{SaveFault}
@@ -59,11 +59,13 @@ module _ {S : Type 0} (does : S → StoreStep → S → Type 0) where
       ⊎ PutsThen old (λ bytes read. read ≡ NotGot store.OutOfMemory) new
   IsSaveFaultOf old Busy new = IsMarkFaultOf does old mark.Busy new
 
--- the replica was idle, and its store holds the spelling of the balances after its whole log and of all its replies
+-- the replica was idle, and its store holds the spelling of the balances after its whole log, of the opening total and of
+-- all its replies, in the second layout
 pub record HoldsCheckpoint {S : Type 0} (slot : S → Option (List ℕ)) (old new : ReplicaOf S) : Type 0 where
   pub idle : open_of old.board ≡ 0
   pub columns : Balances
   pub after : IsAfterAll declared_cowns effect_of old.board columns
   pub bytes : List ℕ
-  pub spelled : Spells (record { columns = columns; replies = replies_held old.board }) bytes
+  pub spelled : Spells Second (origin_of old).opening_total
+      (record { columns = columns; replies = replies_held old.board }) bytes
   pub holds : slot new.store ≡ Some bytes

@@ -7,8 +7,8 @@ use Rattle.sb_calls.specs.declared.reply.Reply.{Reply}
 use Rattle.cown_board.proofs.Counts.{all_finished}
 use Rattle.cown_board.proofs.Inputs.{touched_within}
 use Rattle.cown_board.proofs.LogLaws.{length-after}
-use Rattle.cown_board.specs.Invariant.{Keeps, open_at}
-use Rattle.cown_board.specs.State.{is_open}
+use Rattle.cown_board.specs.Invariant.{Keeps}
+use Rattle.cown_board.specs.State.{is_open, open_at}
 use Rattle.cown_board.specs.declared.state.State.{State}
 
 module _ {B : Type 0} (touches : B → List ℕ) (effect : B → List ℤ → Reply × List ℤ) where

@@ -17,10 +17,10 @@ use Rattle.cown_board.proofs.PlacesLaws.{one, chosen, places-agree, places-remov
 use Rattle.cown_board.proofs.States.{state-append, state-last, state-set_same, state-set_other, state_here, waiting-finished, waiting_within}
 use Rattle.cown_board.specs.Due.{AreDue, is_due, times}
 use Rattle.cown_board.specs.Fronts.{behind_at, behind_of, is_first, is_held}
-use Rattle.cown_board.specs.Invariant.{CountsAre, QueuesAre, is_queued, open_at, touches_at, waiting_at}
+use Rattle.cown_board.specs.Invariant.{CountsAre, QueuesAre, is_queued, touches_at}
 use Rattle.cown_board.specs.Places.{places}
 use Rattle.cown_board.specs.Readiness.{conflict_at, touched_by}
-use Rattle.cown_board.specs.State.{is_open, is_waiting}
+use Rattle.cown_board.specs.State.{is_open, is_waiting, open_at, waiting_at}
 use Rattle.cown_board.specs.declared.state.State.{State}
 use Rattle.cown_board.specs.declared.state.State.TheVariants.{Waiting, Out, Finished}
 

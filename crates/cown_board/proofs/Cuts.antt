@@ -9,10 +9,10 @@ use Rattle.sb_calls.specs.declared.reply.Reply.{Reply}
 use Rattle.cown_board.proofs.Counts.{count-set, count_some}
 use Rattle.cown_board.proofs.Finishing.{keeps_finished}
 use Rattle.cown_board.proofs.Taking.{keeps_taken}
-use Rattle.cown_board.specs.Invariant.{IsCut, open_at}
+use Rattle.cown_board.specs.Invariant.{IsCut}
 use Rattle.cown_board.specs.Noted.{IsNoted, AreNoted}
 use Rattle.cown_board.specs.Readiness.{touched_by, conflict_at}
-use Rattle.cown_board.specs.State.{is_open, state_is}
+use Rattle.cown_board.specs.State.{is_open, state_is, open_at}
 use Rattle.cown_board.specs.declared.cut.Cut.{Cut}
 use Rattle.cown_board.specs.declared.state.State.{State}
 use Rattle.cown_board.specs.declared.state.State.TheVariants.{Waiting, Out, Finished}

@@ -1,7 +1,8 @@
 -- What comes back and is accepted.
-use Rattle.std.proofs.Common.{◌≡◌, ◌≢◌, ℕ, suc, ◌+◌, ◌-◌, ◌<◌, ◌≤◌, ℤ, Bool, true, false, Option, Some, List, length, get_or, take, refl, sym, ap, subst, ◌∙◌, arith}
-use Rattle.std.specs.Prelude.{All, IfSome, count_by, slice_get, slice_set, option_map}
-use Rattle.std.proofs.lemmas.Bool.{false≢true}
+use Rattle.std.proofs.Common.{◌≡◌, ◌≢◌, inl, inr, ℕ, suc, ◌+◌, ◌-◌, ◌<◌, ◌≤◌, ℤ, true, false, Option, Some, List, length, get_or, take, refl, sym, ap, subst, ◌∙◌, arith}
+use Rattle.std.specs.Prelude.{IfSome, count_by, slice_get, slice_set, option_map}
+use Rattle.std.specs.VecDeque.{deque_capacity}
+use Rattle.std.proofs.lemmas.Bool.{cases_Bool, false≢true}
 use Rattle.std.proofs.lemmas.Option.{slice_get_within, IfSome_then}
 use Rattle.sb_rows.specs.Balances.{Balances}
 use Rattle.sb_calls.specs.Cowns.{AreBelow, AreHeld, IsRising, held_of, read_cowns, write_cowns}
@@ -9,7 +10,7 @@ use Rattle.sb_calls.specs.OneByOne.{is_among, inputs_of, held_after, held_after_
 use Rattle.sb_calls.specs.declared.reply.Reply.{Reply}
 use Rattle.cown_queue.specs.Queues.{IsInFront, Releases, fronts_of}
 use Rattle.cown_board.proofs.AllFinished.{keeps_all}
-use Rattle.cown_board.proofs.Changes.{IsBoard-finished, few_ready, fronts_all_wait, fronts_were_behind}
+use Rattle.cown_board.proofs.Changes.{IsBoard-finished, few_ready, fronts_were_behind, links_finished, none_listed}
 use Rattle.cown_board.proofs.Counts.{count_some}
 use Rattle.cown_board.proofs.Cuts.{noted_number, some_of_cut}
 use Rattle.cown_board.proofs.Finishing.{clear_of_out}
@@ -19,13 +20,15 @@ use Rattle.cown_board.proofs.Queued.{fronts_from_clear, in_front_from}
 use Rattle.cown_board.proofs.States.{state_here}
 use Rattle.cown_board.proofs.TakenJob.{seen, inputs_held, declared_below}
 use Rattle.cown_board.specs.Board.{IsOutAt, IsOutHere, Finishes, AreCut}
-use Rattle.cown_board.specs.Due.{AreDue, times}
-use Rattle.cown_board.specs.Invariant.{BoardInside, IsBoard, IsCut, waiting_at}
+use Rattle.cown_board.specs.Due.{times}
+use Rattle.cown_board.specs.Invariant.{BoardInside, IsBoard, IsCut}
 use Rattle.cown_board.specs.Job.{DoneOf}
+use Rattle.cown_board.specs.Links.{ComesForward}
 use Rattle.cown_board.specs.Noted.{AreNoted}
 use Rattle.cown_board.specs.Readiness.{touched_by}
 use Rattle.cown_board.specs.State.{is_open}
 use Rattle.cown_board.specs.declared.cut.Cut.{Cut}
+use Rattle.cown_board.specs.declared.links.Links.{Links}
 use Rattle.cown_board.specs.declared.state.State.TheVariants.{Out, Finished}
 
 module _ {B : Type 0} (touches : B → List ℕ) (effect : B → List ℤ → Reply × List ℤ)
@@ -72,11 +75,13 @@ module _ {B : Type 0} (touches : B → List ℕ) (effect : B → List ℤ → Re
       not (subst (λ j. IsOutInside j done) same found.2)
 
   module _ (k : ℕ) (done : DoneOf B) (numbered : done.number ≡ suc (inside.base + k)) (tested : IsOutInside k done) where
-    pub released_in_front : IsInFront k (touches done.behaviour) inside.lists
-    released_in_front =
+    pub released_in_front : inside.links.linked ≡ true → IsInFront k (touches done.behaviour) inside.links.queues.lists
+    released_in_front linked =
         let cowns = length (held_of inside.opening) in
-        in_front_from touches effect inside.log inside.states inside.lists cowns board.queues k done.behaviour tested.1 (touches done.behaviour)
-        (fronts_from_clear touches effect inside.log inside.states inside.lists cowns board.queues k done.behaviour tested.1
+        let lists = inside.links.queues.lists in
+        let queues = (board.links.linked linked).queues in
+        in_front_from touches effect inside.log inside.states lists cowns queues k done.behaviour tested.1 (touches done.behaviour)
+        (fronts_from_clear touches effect inside.log inside.states lists cowns queues k done.behaviour tested.1
         (state_here is_open inside.states k Out tested.0)
         (clear_of_out touches effect board.keeps k done.behaviour tested.1 tested.0) (touches done.behaviour)
         (λ cown among. (among, board.keeps.in_range k cown (ap (λ o. is_among cown (touched_by touches o)) tested.1 ∙ among))))
@@ -96,34 +101,29 @@ module _ {B : Type 0} (touches : B → List ℕ) (effect : B → List ℤ → Re
 
     pub board_finished : ((b : B) (inputs : List ℤ) → AreHeld (touches b) inputs → AreHeld (touches b) (effect b inputs).1)
         → ((b : B) → IsRising (touches b))
-        → (reply : Reply) (outputs : List ℤ) (after : Balances) (new : List (List ℕ)) (behind ready : List ℕ) (room : ℕ)
+        → (reply : Reply) (outputs : List ℤ) (after : Balances) (new : Links)
         → reply ≡ (effect done.behaviour done.inputs).0
         → outputs ≡ (effect done.behaviour done.inputs).1
-        → held_of after ≡ write_cowns (held_of inside.now) (touches done.behaviour) outputs → Releases (touches done.behaviour) inside.lists new
-        → length behind ≡ length inside.behind
-        → ((j : ℕ) → get_or behind j 0 + times j (fronts_of new (touches done.behaviour)) ≡ get_or inside.behind j 0)
-        → ((waits : ℕ → Bool) (bound : ℕ) → All (λ place. (place < bound) × (waits place ≡ true)) (fronts_of new (touches done.behaviour))
-        → AreDue waits inside.behind bound inside.ready → AreDue waits behind bound ready)
-        → inside.room ≤ room
+        → held_of after ≡ write_cowns (held_of inside.now) (touches done.behaviour) outputs
+        → new.linked ≡ inside.links.linked → (inside.links.linked ≡ false → new ≡ inside.links)
+        → (inside.links.linked ≡ true → Releases (touches done.behaviour) inside.links.queues.lists new.queues.lists)
+        → (inside.links.linked ≡ true → ComesForward (fronts_of new.queues.lists (touches done.behaviour)) inside.links.ready new.ready)
+        → deque_capacity inside.links.ready.ready ≤ deque_capacity new.ready.ready
         → (cut : Option Cut) → AreNoted done.number (touches done.behaviour) outputs inside.cut cut
         → IsBoard touches effect (record inside {
           now = after;
           states = slice_set inside.states k (Finished reply);
-          lists = new;
-          behind = behind;
-          ready = ready;
-          room = room;
+          links = new;
           unfinished = inside.unfinished - 1;
           cut = cut;
         })
-    board_finished keeps rising reply outputs after new behind ready room replied left written released same fewer due wide cut noted =
-        IsBoard-finished touches effect board k done.behaviour new tested.1 tested.0 rising released reply outputs after behind ready room
+    board_finished keeps rising reply outputs after new replied left written same stay released forward wide cut noted =
+        IsBoard-finished touches effect board k done.behaviour tested.1 tested.0 rising reply outputs after new
         (length-AreHeld (touches done.behaviour) outputs (outputs_held keeps outputs left))
         (replied ∙ ap (λ i. (effect done.behaviour i).0) inputs_are)
-        (left ∙ ap (λ i. (effect done.behaviour i).1) inputs_are) written same fewer
-        (due (waiting_at inside.states) (length inside.log)
-        (fronts_all_wait touches effect board k done.behaviour new tested.1 tested.0 rising released reply) board.counts.listed)
-        wide cut (subst (λ n. AreNoted n (touches done.behaviour) outputs inside.cut cut) numbered noted)
+        (left ∙ ap (λ i. (effect done.behaviour i).1) inputs_are) written
+        (links_finished touches effect board k done.behaviour tested.1 tested.0 rising reply new same stay released forward wide)
+        cut (subst (λ n. AreNoted n (touches done.behaviour) outputs inside.cut cut) numbered noted)
 
     -- its cowns are those of a cut's columns, and of a cut that has it one at least is unfinished
     pub cowns_of_cut : IfSome inside.cut (λ cut. AreBelow (length (held_of cut.columns)) (touches done.behaviour))
@@ -135,16 +135,19 @@ module _ {B : Type 0} (touches : B → List ℕ) (effect : B → List ℤ → Re
         (omega (arith, numbered, le)))
 
     -- what comes to the front was behind there, and there is room for it
-    pub fronts_behind : ((b : B) → IsRising (touches b)) → Reply → (new : List (List ℕ)) (fronts : List ℕ) → Releases (touches done.behaviour) inside.lists new
-        → fronts ≡ fronts_of new (touches done.behaviour) → (j : ℕ) → times j fronts ≤ get_or inside.behind j 0
-    fronts_behind rising reply new fronts released are j =
-        rw are (fronts_were_behind touches effect board k done.behaviour new tested.1 tested.0 rising released reply j)
+    pub fronts_behind : ((b : B) → IsRising (touches b)) → Reply → inside.links.linked ≡ true → (new : List (List ℕ))
+        → Releases (touches done.behaviour) inside.links.queues.lists new
+        → (j : ℕ) → times j (fronts_of new (touches done.behaviour)) ≤ get_or inside.links.ready.behind.items j 0
+    fronts_behind rising reply linked new released =
+        fronts_were_behind touches effect board k done.behaviour tested.1 tested.0 rising linked new released reply
 
-    pub room_for_fronts : length inside.ready + 3 ≤ inside.room
+    pub room_for_fronts : length inside.links.ready.ready.items + 3 ≤ deque_capacity inside.links.ready.ready
     room_for_fronts =
-        let few = few_ready touches effect board in
-        let wide = board.room (omega (arith, some_unfinished)) in
-        omega (arith, few, wide)
+        let wide = board.links.room (omega (arith, some_unfinished)) in
+        elim (cases_Bool inside.links.linked) [
+          | inl is ↦ (let few = few_ready touches effect board is in omega (arith, few, wide))
+          | inr isnt ↦ (let none = none_listed touches effect board isnt in omega (arith, none, wide))
+        ]
 
     pub finishes_from : (reply : Reply) → reply ≡ (effect done.behaviour done.inputs).0
         → (number : ℕ) (cowns : List ℕ) (values : List ℤ) (cut : Option Cut) → AreNoted number cowns values inside.cut cut

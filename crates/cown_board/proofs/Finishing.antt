@@ -11,9 +11,9 @@ use Rattle.sb_calls.proofs.HeldLaws.{length-write, get-write_other, get-write_sa
 use Rattle.cown_board.proofs.Inputs.{touched_within, conflict_from}
 use Rattle.cown_board.proofs.LogLaws.{injective, after_one_more, after_untouched, length-after}
 use Rattle.cown_board.proofs.States.{state-set_same, state-set_other, state_here, slice_get-set_same, slice_get-set_other, waiting_is_open}
-use Rattle.cown_board.specs.Invariant.{Keeps, IsSettled, open_at, waiting_at, touches_at}
+use Rattle.cown_board.specs.Invariant.{Keeps, IsSettled, touches_at}
 use Rattle.cown_board.specs.Readiness.{touched_by, conflict_at}
-use Rattle.cown_board.specs.State.{is_waiting, is_open, finished_reply}
+use Rattle.cown_board.specs.State.{is_waiting, is_open, finished_reply, open_at, waiting_at}
 use Rattle.cown_board.specs.declared.state.State.{State}
 use Rattle.cown_board.specs.declared.state.State.TheVariants.{Out, Finished}
 

@@ -8,7 +8,8 @@ use Rattle.sb_calls.specs.OneByOne.{is_among, inputs_of, held_after_first}
 use Rattle.sb_calls.specs.declared.reply.Reply.{Reply}
 use Rattle.sb_calls.proofs.HeldLaws.{share_from, read-agree}
 use Rattle.cown_board.proofs.States.{waiting_is_open}
-use Rattle.cown_board.specs.Invariant.{Keeps, IsSettled, open_at, touches_at}
+use Rattle.cown_board.specs.Invariant.{Keeps, IsSettled, touches_at}
+use Rattle.cown_board.specs.State.{open_at}
 use Rattle.cown_board.specs.Readiness.{touched_by, conflict_at}
 use Rattle.cown_board.specs.declared.state.State.{State}
 

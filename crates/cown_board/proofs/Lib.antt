@@ -9,6 +9,8 @@ mod FinishedJob
 mod Finishing
 mod FrontLaws
 mod Inputs
+mod Linking
+mod Listed
 mod LogLaws
 mod MadeCalls
 mod Opening
@@ -22,3 +24,4 @@ mod Stepping
 mod Submitting
 mod TakenJob
 pub mod Taking
+mod Unlinked

@@ -1,7 +1,6 @@
 -- A board as it is opened.
-use Rattle.std.proofs.Common.{◌≡◌, ℕ, ◌*◌, ◌≤◌, ℤ, pos, None, List, [], length, get_or, replicate, refl, sym, ap, ◌∙◌, arith}
+use Rattle.std.proofs.Common.{◌≡◌, ℕ, ◌*◌, ◌≤◌, ℤ, pos, false, None, List, [], length, get_or, replicate, refl, sym, ap, ◌∙◌, arith}
 use Rattle.std.proofs.lemmas.Bool.{true≢false}
-use Rattle.std.proofs.lemmas.List.{get_or-replicate, length-replicate}
 use Rattle.sb_rows.specs.Balances.{Balances, IsBalances}
 use Rattle.sb_calls.proofs.Holding.{length-held_of}
 use Rattle.sb_calls.proofs.HeldLaws.{AllHeld-balances}
@@ -10,13 +9,14 @@ use Rattle.sb_calls.specs.declared.call.TheConstants.{LOG_CALLS}
 use Rattle.sb_calls.specs.declared.reply.Reply.{Reply}
 use Rattle.sb_calls.specs.OneByOne.{held_after_first}
 use Rattle.cown_board.proofs.LogLaws.{no_some}
-use Rattle.cown_queue.specs.Queues.{list_of}
 use Rattle.cown_board.specs.Invariant.{IsBoard}
+use Rattle.cown_board.specs.declared.links.Links.{Links}
 
 module _ {B : Type 0} (touches : B → List ℕ) (effect : B → List ℤ → Reply × List ℤ) where
   -- nothing is submitted, and the cowns hold what the columns say
-  pub IsBoard-opened : (opening now : Balances) (base : ℕ) (earlier : List Reply) (lists : List (List ℕ)) (room : ℕ) → IsBalances opening → now ≡ opening
-      → length earlier ≡ base → base ≤ LOG_CALLS → lists ≡ replicate (2 * length opening.savings) []
+  pub IsBoard-opened : (opening now : Balances) (base : ℕ) (earlier : List Reply) (links : Links) → IsBalances opening → now ≡ opening
+      → length earlier ≡ base → base ≤ LOG_CALLS → links.linked ≡ false → links.queues.lists ≡ replicate (2 * length opening.savings) []
+      → links.ready.behind.items ≡ [] → links.ready.ready.items ≡ []
       → IsBoard touches effect (record {
         opening = opening;
         now = now;
@@ -24,14 +24,11 @@ module _ {B : Type 0} (touches : B → List ℕ) (effect : B → List ℤ → Re
         earlier = earlier;
         log = [];
         states = [];
-        lists = lists;
-        behind = [];
-        ready = [];
-        room = room;
+        links = links;
         unfinished = 0;
         cut = None;
       })
-  IsBoard-opened opening now base earlier lists room valid same based few empty =
+  IsBoard-opened opening now base earlier links valid same based few isnt empty behind ready =
       let two = length-held_of opening valid.same in
       record {
         based = based;
@@ -47,12 +44,23 @@ module _ {B : Type 0} (touches : B → List ℕ) (effect : B → List ℤ → Re
               ∙ sym (ap (λ n. get_or (held_after_first touches effect (held_of opening) [] n) cown (pos 0)) none);
           replies = λ k reply finished. absurd (no_some finished);
         };
-        queues = record {
-          one_each = ap length empty ∙ length-replicate (2 * length opening.savings) [] ∙ sym two;
-          each = λ cown lt. ap (λ lists. list_of lists cown) empty ∙ get_or-replicate (2 * length opening.savings) cown [] [] (omega (arith, lt, two));
+        links = record {
+          linked = λ is. absurd (true≢false (sym is ∙ isnt));
+          unlinked = λ _. (
+            omega arith,
+            record {
+              before = λ k lt. absurd (omega (arith, lt));
+              here = λ lt. absurd (omega (arith, lt));
+              after = λ k lt within. absurd (omega (arith, within));
+              lists = empty ∙ ap (λ n. replicate n []) (sym two);
+              behind = behind;
+              ready = ready;
+              places = omega arith;
+              counts = omega arith;
+            },
+          );
+          room = λ some. absurd (omega (arith, some));
         };
-        counts = record { beside = refl; counted = λ k waits. absurd (true≢false (sym waits)); listed = refl };
-        room = λ some. absurd (omega (arith, some));
         unfinished = refl;
         few_open = omega arith;
         few_numbers = omega (arith, based, few);

@@ -15,10 +15,9 @@ use Rattle.cown_board.proofs.Submitting.{not_waiting}
 use Rattle.cown_board.proofs.Taking.{not_out}
 use Rattle.cown_board.proofs.Finishing.{same_reply}
 use Rattle.cown_board.specs.Board.{BoardOf, length_of}
-use Rattle.cown_board.specs.Invariant.{open_at, waiting_at}
 use Rattle.cown_board.specs.Played.{BoardCall, Submitted, TakenAt, Returned, CutMade, CutDropped, Makes, Plays, StaysTrueToLog, BoardLaw, opened_with, put_by, put_by_all}
 use Rattle.cown_board.specs.Readiness.{conflict_at, is_clear_at, is_ready_at}
-use Rattle.cown_board.specs.State.{is_open, is_waiting, state_is}
+use Rattle.cown_board.specs.State.{is_open, is_waiting, state_is, open_at, waiting_at}
 use Rattle.cown_board.specs.declared.board.SubmitFault.TheVariants.{Busy, LogFull, OutOfMemory}
 use Rattle.cown_board.specs.declared.cut.CutFault.TheVariants.{Pending, OutOfMemory as NoMemory}
 use Rattle.cown_board.specs.declared.state.State.{State}

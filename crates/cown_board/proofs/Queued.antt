@@ -13,10 +13,10 @@ use Rattle.cown_board.proofs.PlacesLaws.{chosen, places-agree, places-remove, pl
 use Rattle.cown_board.proofs.States.{state-append, state-last, state-set_same, state-set_other}
 use Rattle.cown_board.proofs.Taking.{open-taken}
 use Rattle.cown_board.specs.Fronts.{AreFronts}
-use Rattle.cown_board.specs.Invariant.{QueuesAre, is_queued, open_at, touches_at}
+use Rattle.cown_board.specs.Invariant.{QueuesAre, is_queued, touches_at}
 use Rattle.cown_board.specs.Places.{places}
 use Rattle.cown_board.specs.Readiness.{touched_by, conflict_at}
-use Rattle.cown_board.specs.State.{is_open}
+use Rattle.cown_board.specs.State.{is_open, open_at}
 use Rattle.cown_board.specs.declared.state.State.{State}
 use Rattle.cown_board.specs.declared.state.State.TheVariants.{Waiting, Out, Finished}
 

@@ -5,8 +5,7 @@ use Rattle.std.proofs.lemmas.Bool.{cases_eq, cases_lt, true≢false}
 use Rattle.std.proofs.lemmas.Option.{slice_get_past, slice_get_within}
 use Rattle.sb_calls.specs.declared.reply.Reply.{Reply}
 use Rattle.cown_board.proofs.PlacesLaws.{slice_get-left, slice_get-right}
-use Rattle.cown_board.specs.Invariant.{open_at, waiting_at}
-use Rattle.cown_board.specs.State.{is_waiting, is_open, state_is}
+use Rattle.cown_board.specs.State.{is_waiting, is_open, state_is, open_at, waiting_at}
 use Rattle.cown_board.specs.declared.state.State.{State}
 use Rattle.cown_board.specs.declared.state.State.TheVariants.{Waiting, Out, Finished}
 
@@ -31,6 +30,16 @@ waits_open (Some (Finished reply)) h = absurd (true≢false (sym h))
 
 pub waiting_is_open : (states : List State) (k : ℕ) → waiting_at states k ≡ true → open_at states k ≡ true
 waiting_is_open states k h = waits_open (slice_get states k) h
+
+-- a state that waits
+is_that : (o : Option State) → state_is is_waiting o ≡ true → o ≡ Some Waiting
+is_that None h = absurd (true≢false (sym h))
+is_that (Some Waiting) h = refl
+is_that (Some Out) h = absurd (true≢false (sym h))
+is_that (Some (Finished reply)) h = absurd (true≢false (sym h))
+
+pub state_waits : (states : List State) (k : ℕ) → waiting_at states k ≡ true → slice_get states k ≡ Some Waiting
+state_waits states k waits = is_that (slice_get states k) waits
 
 -- what is so of no state is so at no place past the end
 pub state_past : (test : State → Bool) (states : List State) (k : ℕ) → length states ≤ k → state_is test (slice_get states k) ≡ false

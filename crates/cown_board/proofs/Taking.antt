@@ -7,9 +7,9 @@ use Rattle.std.proofs.lemmas.Option.{slice_get_within}
 use Rattle.sb_calls.specs.declared.reply.Reply.{Reply}
 use Rattle.cown_board.proofs.LogLaws.{injective}
 use Rattle.cown_board.proofs.States.{state-set_same, state-set_other, state_here, slice_get-set_same, slice_get-set_other}
-use Rattle.cown_board.specs.Invariant.{Keeps, open_at}
+use Rattle.cown_board.specs.Invariant.{Keeps}
 use Rattle.cown_board.specs.Readiness.{conflict_at}
-use Rattle.cown_board.specs.State.{is_waiting, is_open}
+use Rattle.cown_board.specs.State.{is_waiting, is_open, open_at}
 use Rattle.cown_board.specs.declared.state.State.{State}
 use Rattle.cown_board.specs.declared.state.State.TheVariants.{Waiting, Out, Finished}
 

@@ -1,5 +1,6 @@
 -- What a board keeps, whatever is submitted, taken and finished.
 use Rattle.std.specs.Prelude.{◌≡◌, ℕ, ◌<◌, ◌≤◌, ◌+◌, ◌-◌, ℤ, pos, Bool, true, false, ◌&&◌, Option, Some, IfSome, List, length, get_or, take, slice_get, option_map, count_by}
+use Rattle.std.specs.VecDeque.{deque_capacity}
 use Rattle.sb_rows.specs.Balances.{Balances}
 use Rattle.sb_calls.specs.Cowns.{AllHeld, held_of}
 use Rattle.sb_calls.specs.OneByOne.{is_among, held_after_first, reply_of}
@@ -8,23 +9,18 @@ use Rattle.sb_calls.specs.declared.call.TheConstants.{LOG_CALLS}
 use Rattle.cown_queue.specs.Queues.{list_of}
 use Rattle.cown_board.specs.Due.{AreDue}
 use Rattle.cown_board.specs.Fronts.{behind_of}
+use Rattle.cown_board.specs.Links.{NoneLinked}
 use Rattle.cown_board.specs.Places.{places}
 use Rattle.cown_board.specs.Readiness.{touched_by, conflict_at}
-use Rattle.cown_board.specs.State.{is_waiting, is_open, state_is}
+use Rattle.cown_board.specs.State.{is_open, open_at, waiting_at}
 use Rattle.cown_board.specs.declared.board.TheConstants.{OPEN_BEHAVIOURS}
 use Rattle.cown_board.specs.declared.cut.Cut.{Cut}
+use Rattle.cown_board.specs.declared.links.Links.{Links}
 use Rattle.cown_board.specs.declared.state.State.{State}
 use Rattle.cown_board.specs.declared.state.State.TheVariants.{Finished}
 
-abbrev pub open_at : List State → ℕ → Bool
-open_at states k = state_is is_open (slice_get states k)
-
-abbrev pub waiting_at : List State → ℕ → Bool
-waiting_at states k = state_is is_waiting (slice_get states k)
-
 -- what a board has inside: what its callers see, the columns as they are now, how many numbers there were
--- before it, the queue of each cown, at how many of its cowns each isn't in front, the places of the ready ones,
--- how many of these their list has room for, how many are unfinished, and the cut
+-- before it, who waits for whom, how many are unfinished, and the cut
 pub record BoardInside (B : Type 0) : Type 0 where
   pub opening : Balances
   pub now : Balances
@@ -32,10 +28,7 @@ pub record BoardInside (B : Type 0) : Type 0 where
   pub earlier : List Reply
   pub log : List B
   pub states : List State
-  pub lists : List (List ℕ)
-  pub behind : List ℕ
-  pub ready : List ℕ
-  pub room : ℕ
+  pub links : Links
   pub unfinished : ℕ
   pub cut : Option Cut
 
@@ -81,6 +74,23 @@ module _ {B : Type 0} (touches : B → List ℕ) (effect : B → List ℤ → Re
     pub counted : (k : ℕ) → waiting_at states k ≡ true → get_or behind k 0 ≡ behind_of touches log lists k
     pub listed : AreDue (waiting_at states) behind (length log) ready
 
+  -- what the behaviours of a log declare are cowns
+  abbrev pub AreCowns : ℕ → List B → Type 0
+  AreCowns cowns log = (k cown : ℕ) → touches_at log cown k ≡ true → cown < cowns
+
+  -- all that is unfinished is linked
+  pub record AllLinked (log : List B) (states : List State) (cowns : ℕ) (links : Links) : Type 0 where
+    pub queues : QueuesAre log states links.queues.lists cowns
+    pub counts : CountsAre log states links.queues.lists links.ready.behind.items links.ready.ready.items
+
+  -- so many are unfinished, the last ones of the log where nothing is linked
+  pub record AreLinks (log : List B) (states : List State) (unfinished cowns : ℕ) (links : Links) : Type 0 where
+    pub linked : links.linked ≡ true → AllLinked log states cowns links
+    pub unlinked : links.linked ≡ false
+        → (unfinished ≤ length log) × NoneLinked (length log) states (length log - unfinished) cowns links
+    -- a finish lets up to three more be ready
+    pub room : 0 < unfinished → unfinished + 3 ≤ deque_capacity links.ready.ready
+
   -- a cut keeps what the board would, had it taken no more than the numbers of the cut
   pub record IsCut (opening : List ℤ) (base : ℕ) (log : List B) (states : List State) (cut : Cut) : Type 0 where
     pub after : base ≤ cut.number
@@ -92,10 +102,7 @@ module _ {B : Type 0} (touches : B → List ℕ) (effect : B → List ℤ → Re
   pub record IsBoard (inside : BoardInside B) : Type 0 where
     pub based : length inside.earlier ≡ inside.base
     pub keeps : Keeps (held_of inside.opening) inside.log inside.states (held_of inside.now)
-    pub queues : QueuesAre inside.log inside.states inside.lists (length (held_of inside.opening))
-    pub counts : CountsAre inside.log inside.states inside.lists inside.behind inside.ready
-    -- a finish lets up to three more be ready
-    pub room : 0 < inside.unfinished → inside.unfinished + 3 ≤ inside.room
+    pub links : AreLinks inside.log inside.states inside.unfinished (length (held_of inside.opening)) inside.links
     pub unfinished : inside.unfinished ≡ count_by is_open inside.states
     pub few_open : inside.unfinished ≤ OPEN_BEHAVIOURS
     pub few_numbers : length inside.earlier + length inside.log ≤ LOG_CALLS

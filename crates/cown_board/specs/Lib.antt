@@ -4,6 +4,7 @@ pub mod Faults
 pub mod Fronts
 pub mod Invariant
 pub mod Job
+pub mod Links
 pub mod Noted
 pub mod Places
 pub mod Played

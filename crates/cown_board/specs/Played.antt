@@ -6,7 +6,7 @@ use Rattle.sb_calls.specs.OneByOne.{reply_by_log}
 use Rattle.sb_calls.specs.declared.call.TheConstants.{LOG_CALLS}
 use Rattle.sb_calls.specs.declared.reply.Reply.{Reply}
 use Rattle.cown_board.specs.Board.{BoardOf, length_of, open_of, Takes, Finishes, IsOutHere}
-use Rattle.cown_board.specs.Invariant.{open_at}
+use Rattle.cown_board.specs.State.{open_at}
 use Rattle.cown_board.specs.Job.{JobOf, DoneOf}
 use Rattle.cown_board.specs.Readiness.{is_ready_at, ready_places}
 use Rattle.cown_board.specs.declared.board.SubmitFault.{SubmitFault}

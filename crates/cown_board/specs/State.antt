@@ -1,5 +1,5 @@
 -- Where a behaviour that was submitted is.
-use Rattle.std.specs.Prelude.{Bool, true, false, Option, Some, None}
+use Rattle.std.specs.Prelude.{ℕ, Bool, true, false, Option, Some, None, List, slice_get}
 use Rattle.cown_board.specs.declared.state.State.{State}
 use Rattle.cown_board.specs.declared.state.State.TheVariants.{Waiting, Out, Finished}
 use Rattle.sb_calls.specs.declared.reply.Reply.{Reply}
@@ -29,3 +29,10 @@ finished_reply (Finished reply) = Some reply
 abbrev pub state_is : (State → Bool) → Option State → Bool
 state_is test None = false
 state_is test (Some state) = test state
+
+-- whether the behaviour at a place of a log isn't finished, and whether it waits
+abbrev pub open_at : List State → ℕ → Bool
+open_at states k = state_is is_open (slice_get states k)
+
+abbrev pub waiting_at : List State → ℕ → Bool
+waiting_at states k = state_is is_waiting (slice_get states k)

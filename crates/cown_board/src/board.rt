@@ -1,8 +1,7 @@
 //! The board.
 ghost use Rattle.std.specs.Prelude.{◌≡◌, ◌≢◌, ◌↔◌, ◌<◌, ◌≤◌, ◌+◌, ◌-◌, ◌++◌, [], ◌∷◌, suc, length, slice_get, option_map, ℕ, IsTrue, IfOk, IfSome, OnOk, OnErr, IsErrOf, IsOk, Some, None, Ok, Err, MatchOption, MatchResult, vec_len, vec_capacity};
-ghost use Rattle.std.specs.VecDeque.{deque_capacity};
 ghost use Rattle.sb_rows.specs.Balances.{IsBalances};
-ghost use Rattle.sb_calls.specs.Cowns.{AreBelow, IsRising, held_of};
+ghost use Rattle.sb_calls.specs.Cowns.{AreBelow, held_of};
 ghost use Rattle.sb_calls.specs.OneByOne.{reply_by_log};
 ghost use Rattle.cown_board.specs.Board.{BoardOf, length_of, open_of, reply_in, Takes, Finishes, IsOutHere, IsAfterAll, AreCut};
 ghost use Rattle.cown_board.specs.Faults.{submit_fault_number};
@@ -11,12 +10,10 @@ ghost use Rattle.cown_board.specs.Readiness.{ready_places};
 
 use crate::accepting::{is_out_at, place_of};
 use crate::cut::{Cut, CutFault, note_finished};
-use crate::fronts::count_held;
 use crate::job::{Done, Job};
-use crate::ready_list::ReadyList;
+use crate::links::Links;
 use crate::state::State;
-use cown_queue::Queues;
-use sb_calls::{Behaviour, Cown, LOG_CALLS, Reply, read_cowns, write_cowns};
+use sb_calls::{Behaviour, LOG_CALLS, Reply, read_cowns, write_cowns};
 use sb_rows::{CUSTOMERS, Columns};
 use std::alloc::{AllocError, Global};
 use std::marker::Model;
@@ -64,9 +61,7 @@ pub struct Board<B: Behaviour> {
     earlier: Vec<Reply>,
     log: Vec<B>,
     states: Vec<State>,
-    // For each cown the places in the log of the unfinished behaviours that declare it.
-    queues: Queues,
-    ready: ReadyList,
+    links: Links,
     unfinished: usize,
     // What a checkpoint is made of, while later numbers run.
     cut: Option<Cut>,
@@ -74,7 +69,6 @@ pub struct Board<B: Behaviour> {
 
 impl<B: Behaviour> Model for Board<B> {
     ghost use Rattle.std.specs.Prelude.{◌≡◌, length, option_map};
-    ghost use Rattle.std.specs.VecDeque.{deque_capacity};
     ghost use Rattle.cown_board.specs.Board.{BoardOf};
     ghost use Rattle.cown_board.specs.Invariant.{IsBoard};
 
@@ -95,10 +89,7 @@ impl<B: Behaviour> Model for Board<B> {
       earlier = b.earlier.items;
       log = b.log.items;
       states = b.states.items;
-      lists = b.queues.lists;
-      behind = b.ready.behind.items;
-      ready = b.ready.ready.items;
-      room = deque_capacity b.ready.ready;
+      links = b.links;
       unfinished = b.unfinished;
       cut = b.cut;
     }) };
@@ -118,7 +109,7 @@ impl<B: Behaviour> Board<B> {
             record { opening = columns; earlier = replies.items; log = []; states = []; cut = None }) }
     {
         let opening = columns.copy()?;
-        let queues = Queues::open(alloc, 2 * columns.customers())?;
+        let links = Links::open(alloc, 2 * columns.customers())?;
         Ok(Board {
             opening,
             columns,
@@ -126,8 +117,7 @@ impl<B: Behaviour> Board<B> {
             earlier: replies,
             log: Vec::new(alloc),
             states: Vec::new(alloc),
-            queues,
-            ready: ReadyList::new(alloc),
+            links,
             unfinished: 0,
             cut: None,
         })
@@ -140,7 +130,7 @@ impl<B: Behaviour> Board<B> {
     {
         self.log.reserve(additional)?;
         self.states.reserve(additional)?;
-        self.ready.behind.reserve(additional)
+        self.links.reserve(self.log.len().saturating_add(additional))
     }
 
     /// The greatest number so far.
@@ -202,25 +192,20 @@ impl<B: Behaviour> Board<B> {
             return Err(SubmitFault::LogFull);
         }
         let cowns = behaviour.cowns();
+        let place = self.log.len() as u64;
         let unfinished = self.unfinished + 1;
-        if make_room(
-            &mut self.queues,
-            cowns.as_slice(),
-            &mut self.log,
-            &mut self.states,
-            &mut self.ready,
-            unfinished,
-        )
-        .is_err()
+        if make_room(&mut self.log, &mut self.states).is_err() {
+            return Err(SubmitFault::OutOfMemory);
+        }
+        if self
+            .links
+            .submit(place, cowns.as_slice(), unfinished)
+            .is_err()
         {
             return Err(SubmitFault::OutOfMemory);
         }
-        let place = self.log.len() as u64;
-        let behind = count_held(&self.queues, cowns.as_slice());
-        self.queues.append(place, cowns.as_slice());
         self.log.push_reserved(behaviour);
         self.states.push_reserved(State::Waiting);
-        self.ready.push(place, behind);
         self.unfinished = unfinished;
         Ok(self.base + place + 1)
     }
@@ -238,8 +223,9 @@ impl<B: Behaviour> Board<B> {
             (StaysTrueToLog B.touches B.effect self.old (TakenAt index None) self.new)
             (λ job. StaysTrueToLog B.touches B.effect self.old (TakenAt index (Some job)) self.new) }
     {
-        let place = self.ready.get(index)?;
-        self.ready.remove(index);
+        let place = self
+            .links
+            .take(&self.log, &self.states, self.unfinished, index)?;
         let behaviour = self.log[place as usize];
         self.states[place as usize] = State::Out;
         let inputs = read_cowns(&self.columns, behaviour.cowns().as_slice());
@@ -268,8 +254,7 @@ impl<B: Behaviour> Board<B> {
         }
         let cowns = self.log[place as usize].cowns();
         let (reply, outputs) = done.into_effect();
-        let fronts = self.queues.release(place, cowns.as_slice());
-        self.ready.come_forward(fronts.as_slice());
+        self.links.finish(place, cowns.as_slice());
         write_cowns(&mut self.columns, cowns.as_slice(), outputs.as_slice());
         note_finished(&mut self.cut, number, cowns.as_slice(), outputs.as_slice());
         self.states[place as usize] = State::Finished(reply);
@@ -391,35 +376,14 @@ impl<B: Behaviour> Board<B> {
     }
 }
 
-// Makes room for one behaviour more, where so many will be unfinished with it. Where memory is refused nothing
-// is lost.
+// Makes room for one behaviour more. Where memory is refused nothing is lost.
 #[inline(always)]
-fn make_room<B: Behaviour>(
-    queues: &mut Queues,
-    cowns: &[Cown],
-    log: &mut Vec<B>,
-    states: &mut Vec<State>,
-    ready: &mut ReadyList,
-    unfinished: usize,
-) -> Result<(), AllocError>
-    requires few { length cowns.now ≤ 3 }
-    requires rising { IsRising cowns.now }
-    requires cowns { AreBelow (length queues.old.lists) cowns.now }
-    requires unfinished { unfinished ≤ 1024 }
-    ensures lists { queues.new.lists ≡ queues.old.lists }
-    ensures reserved { OnOk result (queues.new.reserved ≡ cowns.now) }
+fn make_room<B: Behaviour>(log: &mut Vec<B>, states: &mut Vec<State>) -> Result<(), AllocError>
     ensures log { (log.new.items ≡ log.old.items) × (vec_len log.new ≡ vec_len log.old) }
     ensures log_room { OnOk result (vec_len log.new < vec_capacity log.new) }
     ensures states { (states.new.items ≡ states.old.items) × (vec_len states.new ≡ vec_len states.old) }
     ensures states_room { OnOk result (vec_len states.new < vec_capacity states.new) }
-    ensures behind { ready.new.behind.items ≡ ready.old.behind.items }
-    ensures behind_room { OnOk result (vec_len ready.new.behind < vec_capacity ready.new.behind) }
-    ensures ready { ready.new.ready.items ≡ ready.old.ready.items }
-    ensures room { deque_capacity ready.old.ready ≤ deque_capacity ready.new.ready }
-    ensures ready_room { OnOk result (unfinished + 3 ≤ deque_capacity ready.new.ready) }
 {
     log.reserve(1)?;
-    states.reserve(1)?;
-    ready.reserve(unfinished)?;
-    queues.reserve(cowns)
+    states.reserve(1)
 }

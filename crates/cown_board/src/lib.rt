@@ -7,6 +7,7 @@ mod cut;
 mod fronts;
 mod job;
 mod laws;
+mod links;
 mod ready_list;
 mod runs;
 mod state;

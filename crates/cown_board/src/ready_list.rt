@@ -29,21 +29,47 @@ impl ReadyList {
         }
     }
 
-    // Makes room for one behaviour more, where this many will be unfinished with it, and for those that come to
-    // the front of their cowns when one of them is finished. Where memory is refused nothing is lost.
-    pub(crate) fn reserve(&mut self, unfinished: usize) -> Result<(), AllocError>
+    // Makes room for the counts of a log of this length. Where memory is refused nothing is lost.
+    pub(crate) fn reserve_counts(&mut self, numbers: usize) -> Result<(), AllocError>
+        ensures behind { (self.new.behind.items ≡ self.old.behind.items) ×
+            (vec_len self.new.behind ≡ vec_len self.old.behind) }
+        ensures ready { self.new.ready ≡ self.old.ready }
+        ensures counts { vec_capacity self.old.behind ≤ vec_capacity self.new.behind }
+        ensures behind_room { OnOk result (numbers ≤ vec_capacity self.new.behind) }
+    {
+        let counts = self.behind.len();
+        self.behind.reserve(numbers.saturating_sub(counts))
+    }
+
+    // Makes room for a log of this length, of which this many are unfinished, and for those that come to the
+    // front of their cowns when one of them is finished. Where memory is refused nothing is lost.
+    pub(crate) fn reserve(&mut self, numbers: usize, unfinished: usize) -> Result<(), AllocError>
         requires { unfinished ≤ 1024 }
         ensures behind { (self.new.behind.items ≡ self.old.behind.items) ×
             (vec_len self.new.behind ≡ vec_len self.old.behind) }
         ensures ready { (self.new.ready.items ≡ self.old.ready.items) ×
             (deque_len self.new.ready ≡ deque_len self.old.ready) }
+        ensures counts { vec_capacity self.old.behind ≤ vec_capacity self.new.behind }
         ensures room { deque_capacity self.old.ready ≤ deque_capacity self.new.ready }
-        ensures behind_room { OnOk result (vec_len self.new.behind < vec_capacity self.new.behind) }
+        ensures behind_room { OnOk result (numbers ≤ vec_capacity self.new.behind) }
         ensures ready_room { OnOk result (unfinished + 3 ≤ deque_capacity self.new.ready) }
     {
-        self.behind.reserve(1)?;
+        self.reserve_counts(numbers)?;
         let wanted = unfinished + BEHAVIOUR_COWNS;
         self.ready.reserve(wanted.saturating_sub(self.ready.len()))
+    }
+
+    // A count of 0 for each of this many behaviours, of a log that has no counts yet.
+    pub(crate) fn skip(&mut self, finished: usize)
+        requires none { self.old.behind.items ≡ [] }
+        requires room { finished ≤ vec_capacity self.old.behind }
+        ensures behind { length self.new.behind.items ≡ finished }
+        ensures counts { vec_capacity self.new.behind ≡ vec_capacity self.old.behind }
+        ensures ready { self.new.ready ≡ self.old.ready }
+    {
+        for _ in 0..finished {
+            self.behind.push_reserved(0);
+        }
     }
 
     // One behaviour more, at this place of the log, which isn't in front at so many of its cowns.
@@ -54,6 +80,8 @@ impl ReadyList {
         ensures behind { self.new.behind.items ≡ self.old.behind.items ++ behind ∷ [] }
         ensures ready { self.new.ready.items ≡
             (if behind == 0 then self.old.ready.items ++ place ∷ [] else self.old.ready.items) }
+        ensures len { deque_len self.new.ready ≤ deque_len self.old.ready + 1 }
+        ensures counts { vec_capacity self.new.behind ≡ vec_capacity self.old.behind }
         ensures room { deque_capacity self.new.ready ≡ deque_capacity self.old.ready }
     {
         self.behind.push_reserved(behind);
@@ -62,8 +90,22 @@ impl ReadyList {
         }
     }
 
+    // Takes the ready place out that has this many ready ones before it.
+    pub(crate) fn take(&mut self, index: usize) -> Option<u64>
+        ensures outcome { MatchOption result
+            ((length self.old.ready.items ≤ index) × (self.new.ready.items ≡ self.old.ready.items))
+            (λ place. (slice_get self.old.ready.items index ≡ Some place) ×
+            (self.new.ready.items ≡ remove self.old.ready.items index)) }
+        ensures behind { self.new.behind ≡ self.old.behind }
+        ensures room { deque_capacity self.new.ready ≡ deque_capacity self.old.ready }
+    {
+        let place = self.get(index)?;
+        self.remove(index);
+        Some(place)
+    }
+
     // The ready place that has this many ready ones before it.
-    pub(crate) fn get(&self, index: usize) -> Option<u64>
+    fn get(&self, index: usize) -> Option<u64>
         ensures { MatchOption result
             (length self.now.ready.items ≤ index)
             (λ place. slice_get self.now.ready.items index ≡ Some place) }

@@ -1,6 +1,6 @@
 //! Where a behaviour is.
 ghost use Rattle.std.specs.Prelude.{◌≡◌};
-ghost use Rattle.cown_board.specs.State.{finished_reply};
+ghost use Rattle.cown_board.specs.State.{is_waiting, finished_reply};
 
 use sb_calls::Reply;
 
@@ -16,6 +16,13 @@ pub enum State {
 }
 
 impl State {
+    // Whether it wasn't handed out yet.
+    pub(crate) fn waits(self) -> bool
+        ensures { result ≡ is_waiting self }
+    {
+        matches!(self, State::Waiting)
+    }
+
     // The reply, where it is finished.
     pub(crate) fn reply(self) -> Option<Reply>
         ensures { result ≡ finished_reply self }

@@ -77,6 +77,19 @@ impl Queues {
         Ok(())
     }
 
+    /// Sees to it that there are places for this many numbers more than all lists hold together. Where memory
+    /// is refused, or a place would no longer fit a `u32`, nothing changes.
+    ///
+    /// It allocates only where the tickets outgrow the memory that they have.
+    pub fn reserve_places(&mut self, count: usize) -> Result<(), AllocError>
+        ensures ok { OnOk result (self.new ≡ record self.old {
+          places = max self.old.places (held_in self.old.lists + count);
+        }) }
+        ensures err { OnErr result (self.new ≡ self.old) }
+    {
+        self.tickets.grow(count)
+    }
+
     /// Puts a number last at the cowns for which room was made. It takes no memory, and no cown has room
     /// made any more.
     pub fn append(&mut self, number: u64, cowns: &[Cown])
@@ -87,7 +100,24 @@ impl Queues {
         ensures reserved { self.new.reserved ≡ [] }
         ensures places { self.new.places ≡ self.old.places }
     {
+        prove!(cowns.len() <= self.places());
+        self.put(number, cowns);
+    }
+
+    /// Puts a number last at cowns for which there are places. It takes no memory, and no cown has room made
+    /// any more.
+    pub fn put(&mut self, number: u64, cowns: &[Cown])
+        requires places { held_in self.old.lists + length cowns.now ≤ self.old.places }
+        requires rising { IsRising cowns.now }
+        requires cowns { AreBelow (length self.old.lists) cowns.now }
+        ensures lists { Appends number cowns.now self.old.lists self.new.lists }
+        ensures held { held_in self.new.lists ≡ held_in self.old.lists + length cowns.now }
+        ensures reserved { self.new.reserved ≡ [] }
+        ensures places { self.new.places ≡ self.old.places }
+    {
+        prove!(cowns.len() <= self.tickets.places());
         push_each(&mut self.tickets, number, cowns);
+        prove!(cowns.len() <= self.tickets.places());
         self.reserved.clear();
     }
 
@@ -132,6 +162,7 @@ fn push_each(tickets: &mut Tickets, number: u64, cowns: &[Cown])
     requires cowns { AreBelow (length tickets.old.lists) cowns.now }
     requires free { length cowns.now ≤ tickets.old.free }
     ensures lists { Appends number cowns.now tickets.old.lists tickets.new.lists }
+    ensures free { tickets.new.free + length cowns.now ≡ tickets.old.free }
     ensures places { tickets.new.places ≡ tickets.old.places }
 {
     for cown in cowns {

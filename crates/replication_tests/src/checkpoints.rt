@@ -9,9 +9,12 @@ mod flips;
 pub(crate) mod limits;
 mod spellings;
 
-// Three customers and five replies, by hand: the fields up to the balances, the savings, the
-// checking balances, their total, and the replies.
-pub(crate) const HEAD: &str = "5342434b50543031 0000000000000005 00000003";
+// Three customers and five replies, by hand: the fields up to the balances in the first layout, and in
+// the second, the savings, the checking balances, their total, the opening total that the second layout
+// has, and the replies.
+pub(crate) const FIRST_HEAD: &str = "5342434b50543031 0000000000000005 00000003";
+
+pub(crate) const SECOND_HEAD: &str = "5342434b50543032 0000000000000005 00000003";
 
 pub(crate) const SAVINGS: &str = "0000000000000000 0000000000000000 0000000000000000";
 
@@ -19,8 +22,19 @@ pub(crate) const CHECKING: &str = "0000000000000000 00000000000009c4 00000000000
 
 pub(crate) const TOTAL: &str = "00000000000009c4";
 
+pub(crate) const OPENING: &str = "0000000000004650";
+
 pub(crate) const REPLIES: &str =
     "00 0000000000003a98 01 0000000000000000 01 0000000000000000 01 0000000000000000 01 0000000000000000";
+
+pub(crate) const FIRST: [&str; 6] = [FIRST_HEAD, SAVINGS, CHECKING, TOTAL, "", REPLIES];
+
+pub(crate) const SECOND: [&str; 6] = [SECOND_HEAD, SAVINGS, CHECKING, TOTAL, OPENING, REPLIES];
+
+// What a bank opened with: how many customers, and their total.
+type Origin = (usize, i64);
+
+const THREE: Origin = (3, 18_000);
 
 // The bytes of some fields, each in hexadecimal digits; spaces aside.
 pub(crate) fn bytes(rt: &(impl Abort + AllocGlobal), fields: &[&str]) -> Vec<u8> {
@@ -35,42 +49,60 @@ pub(crate) fn bytes(rt: &(impl Abort + AllocGlobal), fields: &[&str]) -> Vec<u8>
     hex::decode(rt.alloc(), bare).expect(rt, "hexadecimal digits")
 }
 
+// What the bytes are refused with, if they are.
+fn fault_of(
+    rt: &(impl Abort + AllocGlobal),
+    bytes: &[u8],
+    origin: Origin,
+) -> Option<CheckpointFault> {
+    let (customers, opening_total) = origin;
+    assert!(rt; customers <= CUSTOMERS);
+    let answer = read_checkpoint(rt.alloc(), bytes, customers, opening_total);
+    answer.err()
+}
+
 // The bytes are refused with this fault.
 fn is_refused(
     rt: &(impl Abort + AllocGlobal),
     bytes: &[u8],
-    customers: usize,
+    origin: Origin,
     fault: CheckpointFault,
 ) {
-    assert!(rt; customers <= CUSTOMERS);
-    let answer = read_checkpoint(rt.alloc(), bytes, customers);
-    assert!(rt; answer.err() == Some(fault), "{fault:?}");
+    assert!(rt; fault_of(rt, bytes, origin) == Some(fault), "{fault:?}");
 }
 
-fn says(
-    rt: &impl Abort,
-    checkpoint: &Checkpoint,
-    savings: &[i64],
-    checking: &[i64],
-    replies: &[Reply],
-) {
-    assert!(rt; checkpoint.columns().savings() == savings);
-    assert!(rt; checkpoint.columns().checking() == checking);
-    assert!(rt; checkpoint.replies() == replies);
+// What a checkpoint is of.
+#[derive(Clone, Copy)]
+struct Told<'a> {
+    savings: &'a [i64],
+    checking: &'a [i64],
+    replies: &'a [Reply],
 }
 
-// The bytes are read as a checkpoint of these balances and replies, and written again as they were.
+fn says(rt: &impl Abort, checkpoint: &Checkpoint, told: Told<'_>) {
+    assert!(rt; checkpoint.columns().savings() == told.savings);
+    assert!(rt; checkpoint.columns().checking() == told.checking);
+    assert!(rt; checkpoint.replies() == told.replies);
+}
+
+// The bytes are read as this checkpoint of a bank with this opening total, and it is written as these.
 fn are_read(
     rt: &(impl Abort + AllocGlobal),
     bytes: &[u8],
-    savings: &[i64],
-    checking: &[i64],
-    replies: &[Reply],
+    opening_total: i64,
+    told: Told<'_>,
+    written: &[u8],
 ) {
-    let customers = savings.len();
+    let customers = told.savings.len();
     assert!(rt; customers <= CUSTOMERS);
-    let checkpoint = read_checkpoint(rt.alloc(), bytes, customers).expect(rt, "a checkpoint");
-    says(rt, &checkpoint, savings, checking, replies);
-    let again = write_checkpoint(rt.alloc(), checkpoint.columns(), checkpoint.replies());
-    assert!(rt; again.expect(rt, "memory for bytes").as_slice() == bytes);
+    let read = read_checkpoint(rt.alloc(), bytes, customers, opening_total);
+    let checkpoint = read.expect(rt, "a checkpoint");
+    says(rt, &checkpoint, told);
+    let again = write_checkpoint(
+        rt.alloc(),
+        checkpoint.columns(),
+        opening_total,
+        checkpoint.replies(),
+    );
+    assert!(rt; again.expect(rt, "memory for bytes").as_slice() == written);
 }

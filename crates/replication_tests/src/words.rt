@@ -23,6 +23,7 @@ fn numbers_and_words_of_a_checkpoints_faults(rt: HostRuntime) {
         (CheckpointFault::BadReply, 7, "bad reply"),
         (CheckpointFault::Long, 8, "long"),
         (CheckpointFault::OutOfMemory, 9, "out of memory"),
+        (CheckpointFault::WrongOpening, 10, "wrong opening"),
     ] {
         assert!(rt; fault.number() == number, "{words}");
         says(&rt, fault, words);

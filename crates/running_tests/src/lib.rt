@@ -16,6 +16,8 @@ mod gates;
 #[cfg(test)]
 mod limits;
 #[cfg(test)]
+mod linking;
+#[cfg(test)]
 mod looks;
 #[cfg(test)]
 mod offers;

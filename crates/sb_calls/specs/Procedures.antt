@@ -1,5 +1,5 @@
 -- What each procedure does to the rows, and what it replies (SmallBank, ICDE 2008).
--- The exact effects are this project's.
+-- The exact effects are this project's, and so is the payment.
 -- The cases stand in their order: the first that holds counts. A refusal leaves the rows.
 use Rattle.std.specs.Prelude.{ℕ, ℤ, pos, neg_ℤ, ◌+ℤ◌, ◌-ℤ◌, int_lt, ◌||◌, if◌then◌else◌, Option, Some, None, List}
 use Rattle.std.specs.FinMap.{get, insert}

@@ -6,7 +6,8 @@ use sb_rows::Name;
 /// How many calls a log takes.
 pub const LOG_CALLS: usize = 1_000_000;
 
-/// A call of one of the bank's procedures (SmallBank, ICDE 2008, and payments), on customers by name.
+/// A call of one of the bank's procedures, on customers by name: the five of SmallBank (ICDE 2008),
+/// and a payment of this project's own.
 #[derive(Clone, Copy, Debug, PartialEq, Eq)]
 pub enum Call {
     /// Shows a customer's savings and checking balances added up.

@@ -15,7 +15,7 @@ pub enum Reply {
     SameCustomer,
     /// Refused: the amount is below 0.
     Negative,
-    /// Refused: the savings would fall below 0.
+    /// Refused: the savings, or the checking balance of the customer that pays, would fall below 0.
     WouldOverdraw,
     /// Refused: the balance would pass the limit.
     OverLimit,

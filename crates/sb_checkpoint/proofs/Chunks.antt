@@ -3,7 +3,8 @@ use Rattle.std.proofs.Common.{◌≡◌, ℕ, zero, suc, ◌+◌, ◌-◌, ◌*�
 use Rattle.std.proofs.Math.Nat.{mul-div_cancel, mul_comm}
 use Rattle.std.proofs.lemmas.List.{drop-take, take-take, length-drop, length-map, length-take-le}
 use Rattle.std.specs.Simd.{first_chunks}
-use Rattle.sb_checkpoint.specs.Reading.{amount_of, amounts_at, stated_reply, stated_customers, stated_length, stated_replies}
+use Rattle.sb_checkpoint.specs.Checkpoint.{Layout}
+use Rattle.sb_checkpoint.specs.Reading.{amount_of, amounts_at, empty_size, stated_reply, stated_customers, stated_length, stated_replies}
 
 -- the first chunks stand in the front
 first_chunks-take : {X : Type 0} (n k m : ℕ) (xs : List X) → m ≡ k * n → first_chunks n k (take m xs) ≡ first_chunks n k xs
@@ -35,8 +36,8 @@ chunks_behind n from count bytes some room =
     let whole : from + n * count - from ≡ count * n = omega (arith, mul_comm n count) in
     chunks_of_front n count (from + n * count - from) (drop from bytes) some whole (omega (arith, length-drop from bytes))
 
-pub reply_chunks : (bytes : List ℕ) (customers count : ℕ) → customers ≡ stated_customers bytes → count ≡ stated_length bytes
-    → map stated_reply (first_chunks 9 count (drop (28 + 16 * customers) bytes)) ≡ stated_replies bytes
-reply_chunks bytes customers count same_customers same_count =
-    ap (λ n. map stated_reply (first_chunks 9 n (drop (28 + 16 * customers) bytes))) same_count
-    ∙ ap (λ n. map stated_reply (first_chunks 9 (stated_length bytes) (drop (28 + 16 * n) bytes))) same_customers
+pub reply_chunks : (layout : Layout) (bytes : List ℕ) (customers count : ℕ) → customers ≡ stated_customers bytes → count ≡ stated_length bytes
+    → map stated_reply (first_chunks 9 count (drop (empty_size layout + 16 * customers) bytes)) ≡ stated_replies layout bytes
+reply_chunks layout bytes customers count same_customers same_count =
+    ap (λ n. map stated_reply (first_chunks 9 n (drop (empty_size layout + 16 * customers) bytes))) same_count
+    ∙ ap (λ n. map stated_reply (first_chunks 9 (stated_length bytes) (drop (empty_size layout + 16 * n) bytes))) same_customers

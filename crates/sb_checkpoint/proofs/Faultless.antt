@@ -1,12 +1,12 @@
 -- Bytes without a fault spell the checkpoint that their fields state.
-use Rattle.std.proofs.Common.{◌≡◌, ℕ, ◌≤◌, false, Option, Some, None, List, [], ◌∷◌, map, refl, ap, ◌∙◌, ◌||◌}
-use Rattle.std.specs.Option.{option_or}
+use Rattle.std.proofs.Common.{◌≡◌, ℕ, ◌≤◌, false, Option, Some, None, List, [], ◌∷◌, map, refl, sym, ap, ◌∙◌, ◌||◌}
+use Rattle.std.specs.Option.{option_or, option_and_then}
 use Rattle.std.specs.List.{list_any}
 use Rattle.sb_rows.specs.Balances.{IsBalances}
 use Rattle.sb_rows.specs.declared.columns.TheConstants.{CUSTOMERS}
 use Rattle.sb_calls.specs.declared.reply.Reply.{Reply}
-use Rattle.sb_checkpoint.specs.Checkpoint.{CheckpointOf}
-use Rattle.sb_checkpoint.specs.Reading.{TakenIsSpelled, balances_fault, first_fault, head_fault, is_negative, is_no_reply, is_past_limit, replies_fault, stated_checking, stated_customers, stated_replies, stated_savings}
+use Rattle.sb_checkpoint.specs.Checkpoint.{CheckpointOf, Layout}
+use Rattle.sb_checkpoint.specs.Reading.{TakenIsSpelled, balances_fault, fault_behind_head, first_fault, head_fault, is_negative, is_no_reply, is_past_limit, laid_out_fault, opening_fault, replies_fault, stated_checking, stated_customers, stated_layout, stated_replies, stated_savings}
 use Rattle.sb_checkpoint.specs.declared.fault.CheckpointFault.{CheckpointFault}
 use Rattle.sb_checkpoint.specs.declared.fault.CheckpointFault.TheVariants.{OutOfRange, NegativeSavings, BadReply}
 use Rattle.sb_checkpoint.proofs.Balances.{are_balances}
@@ -41,21 +41,38 @@ stated_balances bytes customers few same e =
     are_balances savings checking customers (length-amounts (stated_customers bytes) _ ∙ same) (length-amounts (stated_customers bytes) _ ∙ same) few
     fit.0 fit.1 second.0
 
-none_missing : (bytes : List ℕ) → replies_fault bytes ≡ None → list_any is_no_reply (stated_replies bytes) ≡ false
+none_missing : (layout : Layout) (bytes : List ℕ) → replies_fault layout bytes ≡ None → list_any is_no_reply (stated_replies layout bytes) ≡ false
 unfolding replies_fault
-none_missing bytes e = (passed (list_any is_no_reply (stated_replies bytes)) BadReply _ e).0
+none_missing layout bytes e = (passed (list_any is_no_reply (stated_replies layout bytes)) BadReply _ e).0
+
+-- what has no fault in its head has a layout
+has_layout : (bytes : List ℕ) (customers : ℕ) → head_fault bytes customers ≡ None → (layout : Layout) × (stated_layout bytes ≡ Some layout)
+unfolding head_fault
+has_layout bytes customers e = which (stated_layout bytes) refl e
+  where
+    which : (found : Option Layout) → stated_layout bytes ≡ found → laid_out_fault found bytes customers ≡ None
+        → (layout : Layout) × (stated_layout bytes ≡ Some layout)
+    which None is e = absurd cc
+    which (Some layout) is e = (layout, is)
 
 pub taken_is_spelled : TakenIsSpelled
 unfolding first_fault
-taken_is_spelled bytes customers are few e =
+taken_is_spelled bytes origin are few fits e =
+    let customers = origin.customers in
     let head = neither_found (head_fault bytes customers) _ e in
-    let balances = neither_found (balances_fault bytes) (replies_fault bytes) head.1 in
-    let replies = are_replies (stated_replies bytes) (none_missing bytes balances.1) in
-    let same = (head_is bytes customers head.0).same in
+    let layout = has_layout bytes customers head.0 in
+    let later = sym (ap (option_and_then (fault_behind_head bytes origin.opening_total)) layout.1) ∙ head.1 in
+    let balances = neither_found (balances_fault bytes) _ later in
+    let opening = neither_found (opening_fault layout.0 bytes origin.opening_total) (replies_fault layout.0 bytes) balances.1 in
+    let replies = are_replies (stated_replies layout.0 bytes) (none_missing layout.0 bytes opening.1) in
+    let same = (head_is bytes customers layout.0 layout.1 head.0).same in
     let made : CheckpointOf = record { columns = record { savings = stated_savings bytes; checking = stated_checking bytes }; replies = replies.0 } in (
       made,
-      taken bytes customers made are (stated_balances bytes customers few same balances.0)
-          (record { savings = refl; checking = refl; replies = replies.1 })
-          head.0 balances.0 balances.1,
+      (
+        layout.0,
+        taken bytes customers origin.opening_total layout.0 made are (stated_balances bytes customers few same balances.0)
+            (record { savings = refl; checking = refl; replies = replies.1 })
+            layout.1 head.0 balances.0 opening.0 opening.1,
+      ),
       length-amounts (stated_customers bytes) _ ∙ same,
     )

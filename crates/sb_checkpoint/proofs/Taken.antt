@@ -16,10 +16,10 @@ use Rattle.sb_calls.specs.Replies.{IsReply, number_field, amount_field}
 use Rattle.sb_calls.specs.declared.call.TheConstants.{LOG_CALLS}
 use Rattle.sb_calls.specs.declared.reply.Reply.{Reply}
 use Rattle.lane_audit.specs.Columns.{total}
-use Rattle.sb_checkpoint.specs.Checkpoint.{CheckpointOf, Spells, magic, spelling}
-use Rattle.sb_checkpoint.specs.Reading.{amounts_at, balances_fault, head_fault, is_negative, is_no_reply, is_past_limit, replies_fault, stated_reply, stated_checking, stated_customers, stated_length, stated_replies, stated_savings, stated_size, stated_total}
+use Rattle.sb_checkpoint.specs.Checkpoint.{CheckpointOf, Layout, First, Second, Spells, magic, opening_field, spelling}
+use Rattle.sb_checkpoint.specs.Reading.{amounts_at, balances_fault, empty_size, head_fault, is_negative, is_no_reply, is_past_limit, laid_out_fault, opening_fault, replies_fault, stated_layout, stated_opening, stated_reply, stated_checking, stated_customers, stated_length, stated_replies, stated_savings, stated_size, stated_total}
 use Rattle.sb_checkpoint.specs.declared.fault.CheckpointFault.{CheckpointFault}
-use Rattle.sb_checkpoint.specs.declared.fault.CheckpointFault.TheVariants.{BadMagic, Short, WrongCustomers, OutOfRange, NegativeSavings, WrongTotal, BadReply, Long}
+use Rattle.sb_checkpoint.specs.declared.fault.CheckpointFault.TheVariants.{BadMagic, Short, WrongCustomers, OutOfRange, NegativeSavings, WrongTotal, WrongOpening, BadReply, Long}
 use Rattle.sb_checkpoint.proofs.Chunks.{length-amounts, length-first_chunks}
 use Rattle.sb_checkpoint.proofs.Lists.{amounts_spelled, replies_spelled}
 use Rattle.sb_checkpoint.proofs.Numbers.{AreBytes, amount_spelled, number32_spelled, number64_spelled}
@@ -42,28 +42,46 @@ holds false e = absurd cc
 
 -- ---- what the tests say
 
-pub record HeadIs (bytes : List ℕ) (customers : ℕ) : Type 0 where
-  pub begins : take 8 bytes ≡ magic
+pub record HeadIs (layout : Layout) (bytes : List ℕ) (customers : ℕ) : Type 0 where
+  pub begins : take 8 bytes ≡ magic layout
   pub long : 20 ≤ length bytes
-  pub room : stated_size bytes ≤ length bytes
+  pub room : stated_size layout bytes ≤ length bytes
   pub same : stated_customers bytes ≡ customers
 
-pub head_is : (bytes : List ℕ) (customers : ℕ) → head_fault bytes customers ≡ None → HeadIs bytes customers
-unfolding head_fault
-head_is bytes customers e =
-    let first = passed (not (starts_with nat_eq magic (take 8 bytes))) BadMagic _ e in
-    let second = passed (ltb (length bytes) 20 || ltb (length bytes) (stated_size bytes)) Short _ first.1 in
+begins_as : Layout → List ℕ → Bool
+begins_as layout bytes = starts_with nat_eq (magic layout) (take 8 bytes)
+
+begun : (bytes : List ℕ) (layout : Layout) → stated_layout bytes ≡ Some layout → begins_as layout bytes ≡ true
+unfolding stated_layout begins_as
+begun bytes layout e = which (begins_as First bytes) (begins_as Second bytes) refl refl e
+  where
+    which : (first second : Bool) → begins_as First bytes ≡ first → begins_as Second bytes ≡ second
+        → cond first (Some First) (cond second (Some Second) None) ≡ Some layout → begins_as layout bytes ≡ true
+    which true second is is_second e = let same : First ≡ layout = cc in rw (← same) is
+    which false true is is_second e = let same : Second ≡ layout = cc in rw (← same) is_second
+    which false false is is_second e = absurd cc
+
+pub head_is : (bytes : List ℕ) (customers : ℕ) (layout : Layout) → stated_layout bytes ≡ Some layout → head_fault bytes customers ≡ None
+    → HeadIs layout bytes customers
+unfolding head_fault begins_as
+head_is bytes customers layout laid_out e =
+    let behind : laid_out_fault (Some layout) bytes customers ≡ None = sym (ap (λ l. laid_out_fault l bytes customers) laid_out) ∙ e in
+    let second = passed (ltb (length bytes) 20 || ltb (length bytes) (stated_size layout bytes)) Short _ behind in
     let third = passed (not (eqb (stated_customers bytes) customers)) WrongCustomers None second.1 in
-    let sizes = either (ltb (length bytes) 20) (ltb (length bytes) (stated_size bytes)) second.0 in
+    let sizes = either (ltb (length bytes) 20) (ltb (length bytes) (stated_size layout bytes)) second.0 in
     let long : 20 ≤ length bytes = ltb-false (length bytes) 20 sizes.0 in
     let cells : length (take 8 bytes) ≡ 8 = length-take-le 8 bytes (omega arith) in
-    let front = (bytes_eq-Decides (take 8 bytes) (take (length (take 8 bytes)) magic)).0 (holds _ first.0) in
+    let front = (bytes_eq-Decides (take 8 bytes) (take (length (take 8 bytes)) (magic layout))).0 (begun bytes layout laid_out) in
     record {
-      begins = front ∙ ap (λ n. take n magic) cells;
+      begins = front ∙ ap (λ n. take n (magic layout)) cells ∙ whole layout;
       long = long;
-      room = ltb-false (length bytes) (stated_size bytes) sizes.1;
+      room = ltb-false (length bytes) (stated_size layout bytes) sizes.1;
       same = eqb-true _ _ (holds _ third.0);
     }
+  where
+    whole : (layout : Layout) → take 8 (magic layout) ≡ magic layout
+    whole First = refl
+    whole Second = refl
 
 total_is : (bytes : List ℕ) → balances_fault bytes ≡ None → stated_total bytes ≡ total (stated_savings bytes) +ℤ total (stated_checking bytes)
 unfolding balances_fault
@@ -75,12 +93,12 @@ total_is bytes e =
     let third = passed (not (int_eq (stated_total bytes) (total savings +ℤ total checking))) WrongTotal None second.1 in
     (Decides-int_eq _ _).0 (holds _ third.0)
 
-ends : (bytes : List ℕ) → replies_fault bytes ≡ None → (stated_length bytes ≤ LOG_CALLS) × (length bytes ≤ stated_size bytes)
+ends : (layout : Layout) (bytes : List ℕ) → replies_fault layout bytes ≡ None → (stated_length bytes ≤ LOG_CALLS) × (length bytes ≤ stated_size layout bytes)
 unfolding replies_fault
-ends bytes e =
-    let first = passed (list_any is_no_reply (stated_replies bytes)) BadReply _ e in
-    let second = passed (ltb LOG_CALLS (stated_length bytes) || ltb (stated_size bytes) (length bytes)) Long None first.1 in
-    let sizes = either (ltb LOG_CALLS (stated_length bytes)) (ltb (stated_size bytes) (length bytes)) second.0 in
+ends layout bytes e =
+    let first = passed (list_any is_no_reply (stated_replies layout bytes)) BadReply _ e in
+    let second = passed (ltb LOG_CALLS (stated_length bytes) || ltb (stated_size layout bytes) (length bytes)) Long None first.1 in
+    let sizes = either (ltb LOG_CALLS (stated_length bytes)) (ltb (stated_size layout bytes) (length bytes)) second.0 in
     (ltb-false _ _ sizes.0, ltb-false _ _ sizes.1)
 
 -- ---- field by field
@@ -92,10 +110,10 @@ goes_on bytes at n next front field is before here =
     ap (λ m. take m bytes) is ∙ take-add at n bytes ∙ ap₂ (λ (a b : List ℕ). a ++ b) before here
 
 -- what is read of bytes
-pub record IsRead (bytes : List ℕ) (made : CheckpointOf) : Type 0 where
+pub record IsRead (layout : Layout) (bytes : List ℕ) (made : CheckpointOf) : Type 0 where
   pub savings : made.columns.savings ≡ stated_savings bytes
   pub checking : made.columns.checking ≡ stated_checking bytes
-  pub replies : map (λ r. Some r) made.replies ≡ stated_replies bytes
+  pub replies : map (λ r. Some r) made.replies ≡ stated_replies layout bytes
 
 -- the bytes from a place on that a field takes
 part : (bytes : List ℕ) (at n : ℕ) → at + n ≤ length bytes → AreBytes bytes → (length (take n (drop at bytes)) ≡ n) × AreBytes (take n (drop at bytes))
@@ -123,6 +141,26 @@ total_field bytes room are =
     let cells = part bytes (20 + 16 * stated_customers bytes) 8 (omega arith) are in
     sym (amount_spelled (take 8 (drop (20 + 16 * stated_customers bytes) bytes)) cells.0 cells.1)
 
+-- how many bytes the opening total has
+abbrev pub opening_size : Layout → ℕ
+opening_size First = 0
+opening_size Second = 8
+
+pub with_opening : (layout : Layout) → empty_size layout ≡ 28 + opening_size layout
+with_opening First = refl
+with_opening Second = refl
+
+the_opening_field : (layout : Layout) (bytes : List ℕ) (opening_total : ℤ) → empty_size layout + 16 * stated_customers bytes ≤ length bytes → AreBytes bytes
+    → opening_fault layout bytes opening_total ≡ None
+    → take (opening_size layout) (drop (28 + 16 * stated_customers bytes) bytes) ≡ opening_field layout opening_total
+unfolding stated_opening
+the_opening_field First bytes opening_total room are e = refl
+the_opening_field Second bytes opening_total room are e =
+    let cells = part bytes (28 + 16 * stated_customers bytes) 8 (omega arith) are in
+    let test = passed (not (int_eq (stated_opening bytes) opening_total)) WrongOpening None e in
+    let same : stated_opening bytes ≡ opening_total = (Decides-int_eq _ _).0 (holds (int_eq (stated_opening bytes) opening_total) test.0) in
+    sym (amount_spelled (take 8 (drop (28 + 16 * stated_customers bytes) bytes)) cells.0 cells.1) ∙ ap amount_field same
+
 amounts_field : (bytes : List ℕ) (at : ℕ) (amounts : List ℤ) → at + 8 * stated_customers bytes ≤ length bytes → AreBytes bytes
     → amounts ≡ amounts_at (stated_customers bytes) (drop at bytes)
     → take (stated_customers bytes * 8) (drop at bytes) ≡ flat_map amount_field amounts
@@ -133,25 +171,30 @@ amounts_field bytes at amounts room are read =
 
 -- ---- all of them
 
-count_is : (bytes : List ℕ) (replies : List Reply) → map (λ r. Some r) replies ≡ stated_replies bytes → length replies ≡ stated_length bytes
-count_is bytes replies read =
-    let chunks = first_chunks 9 (stated_length bytes) (drop (28 + 16 * stated_customers bytes) bytes) in
-    sym (length-map replies (λ (r : Reply). Some r)) ∙ ap length read ∙ length-map chunks stated_reply ∙ length-first_chunks 9 (stated_length bytes) _
+module _ (layout : Layout) (bytes : List ℕ) (made : CheckpointOf) (read : IsRead layout bytes made) where
+  count_is : length made.replies ≡ stated_length bytes
+  count_is =
+      let chunks = first_chunks 9 (stated_length bytes) (drop (empty_size layout + 16 * stated_customers bytes) bytes) in
+      sym (length-map made.replies (λ (r : Reply). Some r)) ∙ ap length read.replies ∙ length-map chunks stated_reply
+      ∙ length-first_chunks 9 (stated_length bytes) _
 
-module _ (bytes : List ℕ) (customers : ℕ) (made : CheckpointOf) (are : AreBytes bytes) (head : HeadIs bytes customers) (read : IsRead bytes made) where
-  head_spelled : take 20 bytes ≡ magic ++ number_field w64 (length made.replies) ++ number_field w32 (length made.columns.savings)
+module _ (bytes : List ℕ) (customers : ℕ) (layout : Layout) (made : CheckpointOf) (are : AreBytes bytes) (head : HeadIs layout bytes customers)
+    (read : IsRead layout bytes made) where
+  head_spelled : take 20 bytes ≡ magic layout ++ number_field w64 (length made.replies) ++ number_field w32 (length made.columns.savings)
   head_spelled =
-      let count = length_field bytes head.long are ∙ ap (number_field w64) (sym (count_is bytes made.replies read.replies)) in
+      let count = length_field bytes head.long are ∙ ap (number_field w64) (sym (count_is layout bytes made read)) in
       let sized = ap length read.savings ∙ length-amounts (stated_customers bytes) (drop 20 bytes) in
       let many = customers_field bytes head.long are ∙ ap (number_field w32) (sym sized) in
       goes_on bytes 16 4 20 _ _ (omega arith) (goes_on bytes 8 8 16 _ _ (omega arith) head.begins count) many
 
-  taken_spelled : (stated_length bytes ≤ LOG_CALLS) × (length bytes ≤ stated_size bytes)
-      → stated_total bytes ≡ total (stated_savings bytes) +ℤ total (stated_checking bytes)
-      → All IsReply made.replies × (bytes ≡ spelling made)
+  taken_spelled : (opening_total : ℤ) → (stated_length bytes ≤ LOG_CALLS) × (length bytes ≤ stated_size layout bytes)
+      → stated_total bytes ≡ total (stated_savings bytes) +ℤ total (stated_checking bytes) → opening_fault layout bytes opening_total ≡ None
+      → All IsReply made.replies × (bytes ≡ spelling layout opening_total made)
   unfolding spelling
-  taken_spelled end whole =
+  taken_spelled opening_total end whole same =
       let c = stated_customers bytes in
+      let e = empty_size layout in
+      let sized = with_opening layout in
       let room = head.room in
       let savings = goes_on bytes 20 (c * 8) (20 + 8 * c) _ _ (omega arith) head_spelled
       (amounts_field bytes 20 made.columns.savings (omega arith) are read.savings) in
@@ -160,19 +203,23 @@ module _ (bytes : List ℕ) (customers : ℕ) (made : CheckpointOf) (are : AreBy
       let sums = ap₂ (λ a b. total a +ℤ total b) (sym read.savings) (sym read.checking) in
       let amounts = goes_on bytes (20 + 16 * c) 8 (28 + 16 * c) _ _ (omega arith) checking
       (total_field bytes (omega arith) are ∙ ap amount_field (whole ∙ sums)) in
-      let rest = drop (28 + 16 * c) bytes in
-      let replies = replies_spelled made.replies (stated_length bytes) rest read.replies (omega (arith, length-drop (28 + 16 * c) bytes))
-      (All-drop (λ byte. byte < 256) (28 + 16 * c) bytes are) in
-      let all = goes_on bytes (28 + 16 * c) (stated_length bytes * 9) (stated_size bytes) _ _ (omega arith) amounts (sym replies.1) in
-      (replies.0, sym (take_all (stated_size bytes) bytes end.1) ∙ all)
+      let opening = goes_on bytes (28 + 16 * c) (opening_size layout) (e + 16 * c) _ _ (omega arith) amounts
+      (the_opening_field layout bytes opening_total (omega arith) are same) in
+      let rest = drop (e + 16 * c) bytes in
+      let replies = replies_spelled made.replies (stated_length bytes) rest read.replies (omega (arith, length-drop (e + 16 * c) bytes))
+      (All-drop (λ byte. byte < 256) (e + 16 * c) bytes are) in
+      let all = goes_on bytes (e + 16 * c) (stated_length bytes * 9) (stated_size layout bytes) _ _ (omega arith) opening (sym replies.1) in
+      (replies.0, sym (take_all (stated_size layout bytes) bytes end.1) ∙ all)
 
 -- where no fault is found
-pub taken : (bytes : List ℕ) (customers : ℕ) (made : CheckpointOf) → AreBytes bytes → IsBalances made.columns → IsRead bytes made
-    → head_fault bytes customers ≡ None → balances_fault bytes ≡ None → replies_fault bytes ≡ None → Spells made bytes
-taken bytes customers made are balances read head amounts replies =
-    let end = ends bytes replies in
-    let spelled = taken_spelled bytes customers made are (head_is bytes customers head) read end (total_is bytes amounts) in
+pub taken : (bytes : List ℕ) (customers : ℕ) (opening_total : ℤ) (layout : Layout) (made : CheckpointOf) → AreBytes bytes → IsBalances made.columns
+    → IsRead layout bytes made → stated_layout bytes ≡ Some layout → head_fault bytes customers ≡ None → balances_fault bytes ≡ None
+    → opening_fault layout bytes opening_total ≡ None → replies_fault layout bytes ≡ None → Spells layout opening_total made bytes
+taken bytes customers opening_total layout made are balances read laid_out head amounts same replies =
+    let end = ends layout bytes replies in
+    let is = head_is bytes customers layout laid_out head in
+    let spelled = taken_spelled bytes customers layout made are is read opening_total end (total_is bytes amounts) same in
     record {
-      valid = record { balances = balances; few = omega (arith, count_is bytes made.replies read.replies, end.0); replies = spelled.0 };
+      valid = record { balances = balances; few = omega (arith, count_is layout bytes made read, end.0); replies = spelled.0 };
       spelled = spelled.1;
     }

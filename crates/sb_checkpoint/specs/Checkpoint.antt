@@ -1,5 +1,5 @@
 -- What a checkpoint is, and how it is spelled.
-use Rattle.std.specs.Prelude.{◌≡◌, ℕ, ◌≤◌, ◌+ℤ◌, List, [], ◌∷◌, ◌++◌, length}
+use Rattle.std.specs.Prelude.{◌≡◌, ℕ, ◌≤◌, ℤ, ◌+ℤ◌, List, [], ◌∷◌, ◌++◌, length}
 use Rattle.std.specs.Int.{w32, w64}
 use Rattle.std.specs.List.{All, flat_map}
 use Rattle.sb_rows.specs.Balances.{Balances, IsBalances}
@@ -19,24 +19,46 @@ pub record IsCheckpoint (checkpoint : CheckpointOf) : Type 0 where
   pub few : length checkpoint.replies ≤ LOG_CALLS
   pub replies : All IsReply checkpoint.replies
 
--- `SBCKPT01`
-abbrev pub magic : List ℕ
-magic = 83 ∷ 66 ∷ 67 ∷ 75 ∷ 80 ∷ 84 ∷ 48 ∷ 49 ∷ []
+-- what a checkpoint is told apart by: how many customers its bank has, and what they had together at the opening
+pub record Origin : Type 0 where
+  pub customers : ℕ
+  pub opening_total : ℤ
 
--- the magic, the length, how many customers, all savings, all checking balances, their total, and the replies
-unfoldable pub spelling : CheckpointOf → List ℕ
-spelling checkpoint =
+-- how checkpoints are laid out: the first way is only read, the second keeps the opening total too
+pub data Layout : Type 0 where
+  First : Layout
+  Second : Layout
+
+-- `SBCKPT01` and `SBCKPT02`
+abbrev pub magic : Layout → List ℕ
+magic First = 83 ∷ 66 ∷ 67 ∷ 75 ∷ 80 ∷ 84 ∷ 48 ∷ 49 ∷ []
+magic Second = 83 ∷ 66 ∷ 67 ∷ 75 ∷ 80 ∷ 84 ∷ 48 ∷ 50 ∷ []
+
+-- the opening total, in the second layout
+abbrev pub opening_field : Layout → ℤ → List ℕ
+opening_field First opening_total = []
+opening_field Second opening_total = amount_field opening_total
+
+-- the magic, the length, how many customers, all savings, all checking balances, their total, the opening total where
+-- the layout has it, and the replies
+unfoldable pub spelling : Layout → ℤ → CheckpointOf → List ℕ
+spelling layout opening_total checkpoint =
     let columns = checkpoint.columns in
-    magic ++ number_field w64 (length checkpoint.replies) ++ number_field w32 (length columns.savings)
+    magic layout ++ number_field w64 (length checkpoint.replies) ++ number_field w32 (length columns.savings)
     ++ flat_map amount_field columns.savings ++ flat_map amount_field columns.checking
-    ++ amount_field (total columns.savings +ℤ total columns.checking)
+    ++ amount_field (total columns.savings +ℤ total columns.checking) ++ opening_field layout opening_total
     ++ flat_map reply_field checkpoint.replies
 
--- the bytes are the one spelling of a checkpoint
-pub record Spells (checkpoint : CheckpointOf) (bytes : List ℕ) : Type 0 where
+-- the bytes are the spelling of a checkpoint in a layout, of a bank with this opening total
+pub record Spells (layout : Layout) (opening_total : ℤ) (checkpoint : CheckpointOf) (bytes : List ℕ) : Type 0 where
   pub valid : IsCheckpoint checkpoint
-  pub spelled : bytes ≡ spelling checkpoint
+  pub spelled : bytes ≡ spelling layout opening_total checkpoint
 
--- bytes are of one checkpoint
+-- in one of the two layouts
+abbrev pub IsSpelled : ℤ → CheckpointOf → List ℕ → Type 0
+IsSpelled opening_total checkpoint bytes = (layout : Layout) × Spells layout opening_total checkpoint bytes
+
+-- bytes are of one checkpoint, in one layout
 abbrev pub OneCheckpoint : Type 0
-OneCheckpoint = (a b : CheckpointOf) (bytes : List ℕ) → Spells a bytes → Spells b bytes → a ≡ b
+OneCheckpoint = (k l : Layout) (t u : ℤ) (a b : CheckpointOf) (bytes : List ℕ) → Spells k t a bytes → Spells l u b bytes
+    → (k ≡ l) × (a ≡ b)

@@ -1,7 +1,7 @@
 -- The numbers of the faults of checkpoints.
 use Rattle.std.specs.Prelude.{ℕ}
 use Rattle.sb_checkpoint.specs.declared.fault.CheckpointFault.{CheckpointFault}
-use Rattle.sb_checkpoint.specs.declared.fault.CheckpointFault.TheVariants.{BadMagic, Short, WrongCustomers, OutOfRange, NegativeSavings, WrongTotal, BadReply, Long, OutOfMemory}
+use Rattle.sb_checkpoint.specs.declared.fault.CheckpointFault.TheVariants.{BadMagic, Short, WrongCustomers, OutOfRange, NegativeSavings, WrongTotal, BadReply, Long, OutOfMemory, WrongOpening}
 
 -- the number of a fault of a checkpoint
 abbrev pub checkpoint_fault_number : CheckpointFault → ℕ
@@ -14,3 +14,4 @@ checkpoint_fault_number WrongTotal = 6
 checkpoint_fault_number BadReply = 7
 checkpoint_fault_number Long = 8
 checkpoint_fault_number OutOfMemory = 9
+checkpoint_fault_number WrongOpening = 10

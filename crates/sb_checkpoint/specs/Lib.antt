@@ -4,6 +4,7 @@ pub mod Faults
 pub mod FaultyStore
 pub mod FileStore
 pub mod FolderFile
+pub mod Layouts
 pub mod MemoryStore
 pub mod Reading
 pub mod StoreFaults

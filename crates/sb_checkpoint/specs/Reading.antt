@@ -1,5 +1,5 @@
 -- What is wrong with bytes that are read as a checkpoint: the first fault that holds.
-use Rattle.std.specs.Prelude.{◌≡◌, ℕ, ◌+◌, ◌*◌, ℤ, pos, neg_ℤ, ◌+ℤ◌, ◌<◌, ◌≤◌, int_lt, nat_lt, nat_eq, ◌==◌, Bool, true, false, ◌||◌, not, if◌then◌else◌, Option, Some, None, List, length, take, drop, get_or, map}
+use Rattle.std.specs.Prelude.{FitsSigned, ◌≡◌, ℕ, ◌+◌, ◌*◌, ℤ, pos, neg_ℤ, ◌+ℤ◌, ◌<◌, ◌≤◌, int_lt, nat_lt, nat_eq, ◌==◌, Bool, true, false, ◌||◌, not, if◌then◌else◌, Option, Some, None, List, length, take, drop, get_or, map, option_and_then}
 use Rattle.std.specs.Int.{w32, w64, from_be_bytes, cast_signed}
 use Rattle.std.specs.List.{All, list_any, starts_with}
 use Rattle.std.specs.Option.{option_or}
@@ -11,11 +11,18 @@ use Rattle.sb_calls.specs.Replies.{coded}
 use Rattle.sb_calls.specs.declared.call.TheConstants.{LOG_CALLS}
 use Rattle.sb_calls.specs.declared.reply.Reply.{Reply}
 use Rattle.lane_audit.specs.Columns.{total, is_outside}
-use Rattle.sb_checkpoint.specs.Checkpoint.{CheckpointOf, Spells, magic}
+use Rattle.sb_checkpoint.specs.Checkpoint.{CheckpointOf, IsSpelled, Layout, First, Second, Origin, Spells, magic}
 use Rattle.sb_checkpoint.specs.declared.fault.CheckpointFault.{CheckpointFault}
-use Rattle.sb_checkpoint.specs.declared.fault.CheckpointFault.TheVariants.{BadMagic, Short, WrongCustomers, OutOfRange, NegativeSavings, WrongTotal, BadReply, Long, OutOfMemory}
+use Rattle.sb_checkpoint.specs.declared.fault.CheckpointFault.TheVariants.{BadMagic, Short, WrongCustomers, OutOfRange, NegativeSavings, WrongTotal, WrongOpening, BadReply, Long, OutOfMemory}
 
 -- ---- the fields, where they stand
+
+-- the layout whose magic the first eight bytes are, or as many as there are begin; the first, where both are begun
+unfoldable pub stated_layout : List ℕ → Option Layout
+stated_layout bytes =
+    if starts_with nat_eq (magic First) (take 8 bytes) then Some First
+    else if starts_with nat_eq (magic Second) (take 8 bytes) then Some Second
+    else None
 
 abbrev pub amount_of : List ℕ → ℤ
 amount_of cells = cast_signed w64 (from_be_bytes w64 cells)
@@ -41,17 +48,26 @@ stated_checking bytes = amounts_at (stated_customers bytes) (drop (20 + 8 * stat
 unfoldable pub stated_total : List ℕ → ℤ
 stated_total bytes = amount_of (take 8 (drop (20 + 16 * stated_customers bytes) bytes))
 
+-- behind the total, in the second layout
+unfoldable pub stated_opening : List ℕ → ℤ
+stated_opening bytes = amount_of (take 8 (drop (28 + 16 * stated_customers bytes) bytes))
+
+-- how many bytes a checkpoint of nobody and nothing has
+abbrev pub empty_size : Layout → ℕ
+empty_size First = 28
+empty_size Second = 36
+
+abbrev pub stated_size : Layout → List ℕ → ℕ
+stated_size layout bytes = empty_size layout + 16 * stated_customers bytes + 9 * stated_length bytes
+
 -- a code, and a total
 unfoldable pub stated_reply : List ℕ → Option Reply
 stated_reply cells = coded (get_or cells 0 0) (amount_of (drop 1 cells))
 
 -- each of the replies, where it is one
-abbrev pub stated_replies : List ℕ → List (Option Reply)
-stated_replies bytes =
-    map stated_reply (first_chunks 9 (stated_length bytes) (drop (28 + 16 * stated_customers bytes) bytes))
-
-abbrev pub stated_size : List ℕ → ℕ
-stated_size bytes = 28 + 16 * stated_customers bytes + 9 * stated_length bytes
+abbrev pub stated_replies : Layout → List ℕ → List (Option Reply)
+stated_replies layout bytes = map stated_reply
+    (first_chunks 9 (stated_length bytes) (drop (empty_size layout + 16 * stated_customers bytes) bytes))
 
 -- ---- the faults
 
@@ -65,13 +81,16 @@ is_past_limit = is_outside (neg_ℤ LIMIT) LIMIT
 abbrev pub is_negative : ℤ → Bool
 is_negative amount = int_lt amount (pos 0)
 
--- it begins otherwise, ends early, or is of another bank
-unfoldable pub head_fault : List ℕ → ℕ → Option CheckpointFault
-head_fault bytes customers =
-    if not (starts_with nat_eq magic (take 8 bytes)) then Some BadMagic
-    else if nat_lt (length bytes) 20 || nat_lt (length bytes) (stated_size bytes) then Some Short
+-- they begin otherwise, end early, or are of another bank
+abbrev pub laid_out_fault : Option Layout → List ℕ → ℕ → Option CheckpointFault
+laid_out_fault None bytes customers = Some BadMagic
+laid_out_fault (Some layout) bytes customers =
+    if nat_lt (length bytes) 20 || nat_lt (length bytes) (stated_size layout bytes) then Some Short
     else if not (stated_customers bytes == customers) then Some WrongCustomers
     else None
+
+unfoldable pub head_fault : List ℕ → ℕ → Option CheckpointFault
+head_fault bytes customers = laid_out_fault (stated_layout bytes) bytes customers
 
 -- the balances aren't a bank's, or aren't as much in all as is stated
 unfoldable pub balances_fault : List ℕ → Option CheckpointFault
@@ -83,17 +102,28 @@ balances_fault bytes =
     else if not (int_eq (stated_total bytes) (total savings +ℤ total checking)) then Some WrongTotal
     else None
 
+-- the opening total, where the layout has it, isn't the bank's
+abbrev pub opening_fault : Layout → List ℕ → ℤ → Option CheckpointFault
+opening_fault First bytes opening_total = None
+opening_fault Second bytes opening_total =
+    if not (int_eq (stated_opening bytes) opening_total) then Some WrongOpening else None
+
 -- what stands in a reply's place is none, or there is too much
-unfoldable pub replies_fault : List ℕ → Option CheckpointFault
-replies_fault bytes =
-    if list_any is_no_reply (stated_replies bytes) then Some BadReply
-    else if nat_lt LOG_CALLS (stated_length bytes) || nat_lt (stated_size bytes) (length bytes) then Some Long
+unfoldable pub replies_fault : Layout → List ℕ → Option CheckpointFault
+replies_fault layout bytes =
+    if list_any is_no_reply (stated_replies layout bytes) then Some BadReply
+    else if nat_lt LOG_CALLS (stated_length bytes) || nat_lt (stated_size layout bytes) (length bytes) then Some Long
     else None
 
+-- behind a right head
+abbrev pub fault_behind_head : List ℕ → ℤ → Layout → Option CheckpointFault
+fault_behind_head bytes opening_total layout = option_or (balances_fault bytes)
+    (option_or (opening_fault layout bytes opening_total) (replies_fault layout bytes))
+
 -- the first fault that holds, if any
-unfoldable pub first_fault : List ℕ → ℕ → Option CheckpointFault
-first_fault bytes customers =
-    option_or (head_fault bytes customers) (option_or (balances_fault bytes) (replies_fault bytes))
+unfoldable pub first_fault : List ℕ → Origin → Option CheckpointFault
+first_fault bytes origin = option_or (head_fault bytes origin.customers)
+    (option_and_then (fault_behind_head bytes origin.opening_total) (stated_layout bytes))
 
 -- a fault that was found, or want of memory in its place
 abbrev pub IsFaultOf : Option CheckpointFault → CheckpointFault → Type 0
@@ -101,17 +131,20 @@ IsFaultOf found OutOfMemory = Unit {0}
 IsFaultOf found fault = found ≡ Some fault
 
 -- why bytes are refused: by the first fault, or, behind a right head, for want of memory
-abbrev pub IsRefusedBy : List ℕ → ℕ → CheckpointFault → Type 0
-IsRefusedBy bytes customers OutOfMemory = head_fault bytes customers ≡ None
-IsRefusedBy bytes customers fault = first_fault bytes customers ≡ Some fault
+abbrev pub IsRefusedBy : List ℕ → Origin → CheckpointFault → Type 0
+IsRefusedBy bytes origin OutOfMemory = head_fault bytes origin.customers ≡ None
+IsRefusedBy bytes origin fault = first_fault bytes origin ≡ Some fault
 
--- bytes that spell a checkpoint have no fault
+-- bytes that spell a checkpoint, in either layout, of a bank whose opening total an i64 holds, have no fault
 abbrev pub SpelledIsTaken : Type 0
-SpelledIsTaken = (checkpoint : CheckpointOf) (bytes : List ℕ) → Spells checkpoint bytes
-    → first_fault bytes (length checkpoint.columns.savings) ≡ None
+SpelledIsTaken = (layout : Layout) (opening_total : ℤ) (checkpoint : CheckpointOf) (bytes : List ℕ)
+    → FitsSigned w64 opening_total → Spells layout opening_total checkpoint bytes
+    → first_fault bytes (record { customers = length checkpoint.columns.savings; opening_total = opening_total }) ≡ None
 
--- bytes without a fault, read for a bank of so many customers, spell a checkpoint of as many
+-- bytes without a fault, read for a bank of so many customers with an opening total that an i64 holds, spell a
+-- checkpoint of as many in one of the layouts
 abbrev pub TakenIsSpelled : Type 0
-TakenIsSpelled = (bytes : List ℕ) (customers : ℕ) → All (λ byte. byte < 256) bytes → customers ≤ CUSTOMERS
-    → first_fault bytes customers ≡ None
-    → (checkpoint : CheckpointOf) × Spells checkpoint bytes × (length checkpoint.columns.savings ≡ customers)
+TakenIsSpelled = (bytes : List ℕ) (origin : Origin) → All (λ byte. byte < 256) bytes → origin.customers ≤ CUSTOMERS
+    → FitsSigned w64 origin.opening_total → first_fault bytes origin ≡ None
+    → (checkpoint : CheckpointOf) × IsSpelled origin.opening_total checkpoint bytes
+    × (length checkpoint.columns.savings ≡ origin.customers)

@@ -28,6 +28,9 @@ pub enum CheckpointFault {
     /// The total isn't that of its balances.
     #[error("wrong total")]
     WrongTotal,
+    /// It is of a bank with another opening total.
+    #[error("wrong opening")]
+    WrongOpening,
     /// A reply's code is above 7, its total is past the range of two balances, or there is a total
     /// where none is shown.
     #[error("bad reply")]
@@ -49,7 +52,7 @@ impl From<AllocError> for CheckpointFault {
 }
 
 impl CheckpointFault {
-    /// The number of the fault, from 1 to 9 in the order of the variants.
+    /// The number of the fault: that of `WrongOpening` is 10, the others have 1 to 9 in the order of the variants.
     pub fn number(&self) -> u8
         ensures { result ≡ checkpoint_fault_number self.now }
     {
@@ -63,6 +66,7 @@ impl CheckpointFault {
             CheckpointFault::BadReply => 7,
             CheckpointFault::Long => 8,
             CheckpointFault::OutOfMemory => 9,
+            CheckpointFault::WrongOpening => 10,
         }
     }
 }

@@ -1,12 +1,15 @@
 //! The fields of a checkpoint, read where they stand.
 ghost use Rattle.std.specs.Prelude.{◌≡◌, if◌then◌else◌, ◌+◌, ◌*◌, ◌≤◌, IfOk, IfErr, Some, None, length, map, drop};
 ghost use Rattle.std.specs.List.{list_any};
+ghost use Rattle.sb_checkpoint.specs.Layouts.{layout_of};
 ghost use Rattle.sb_checkpoint.specs.Reading as spec;
 ghost use Rattle.sb_checkpoint.specs.Reading.{IsFaultOf, amount_of, amounts_at, is_no_reply, stated_reply, stated_replies, stated_size};
 ghost use Rattle.sb_checkpoint.specs.declared.fault.CheckpointFault.TheVariants.{BadReply};
 
 use crate::fault::CheckpointFault;
-use crate::layout::{AMOUNT, BALANCES, CUSTOMERS_AT, EMPTY, HEAD, LENGTH_AT, REPLY};
+use crate::layout::{
+    AMOUNT, BALANCES, CUSTOMERS_AT, EMPTY_FIRST, EMPTY_SECOND, HEAD, LENGTH_AT, Layout, REPLY,
+};
 use sb_calls::{Reply, WireReply};
 use sb_rows::CUSTOMERS;
 use std::alloc::{AllocError, Global};
@@ -37,10 +40,24 @@ pub(crate) fn stated_customers(bytes: &[u8]) -> u32
 pub(crate) fn stated_total(bytes: &[u8], customers: usize) -> i64
     requires customers { customers ≡ spec.stated_customers bytes.now }
     requires few { customers ≤ CUSTOMERS }
-    requires room { EMPTY + BALANCES * customers ≤ length bytes.now }
+    requires room { EMPTY_FIRST + BALANCES * customers ≤ length bytes.now }
     ensures { result ≡ spec.stated_total bytes.now }
 {
     let cells = &bytes[HEAD + BALANCES * customers..];
+    i64::from_be_bytes([
+        cells[0], cells[1], cells[2], cells[3], cells[4], cells[5], cells[6], cells[7],
+    ])
+}
+
+// The opening total, in the second layout.
+#[tactic(auto, unfolding(crate::specs::Reading::stated_opening))]
+pub(crate) fn stated_opening(bytes: &[u8], customers: usize) -> i64
+    requires customers { customers ≡ spec.stated_customers bytes.now }
+    requires few { customers ≤ CUSTOMERS }
+    requires room { EMPTY_SECOND + BALANCES * customers ≤ length bytes.now }
+    ensures { result ≡ spec.stated_opening bytes.now }
+{
+    let cells = &bytes[EMPTY_FIRST + BALANCES * customers..];
     i64::from_be_bytes([
         cells[0], cells[1], cells[2], cells[3], cells[4], cells[5], cells[6], cells[7],
     ])
@@ -75,13 +92,18 @@ fn amounts_of(alloc: Global, cells: &[[u8; AMOUNT]]) -> Result<Vec<i64>, AllocEr
 // ---- replies
 
 // The bytes of each reply.
-pub(crate) fn reply_cells(bytes: &[u8], customers: usize, count: usize) -> &[[u8; REPLY]]
+pub(crate) fn reply_cells(
+    bytes: &[u8],
+    layout: Layout,
+    customers: usize,
+    count: usize,
+) -> &[[u8; REPLY]]
     requires customers { customers ≡ spec.stated_customers bytes.now }
     requires count { count ≡ spec.stated_length bytes.now }
-    requires room { stated_size bytes.now ≤ length bytes.now }
-    ensures { map stated_reply result.now ≡ stated_replies bytes.now }
+    requires room { stated_size (layout_of layout) bytes.now ≤ length bytes.now }
+    ensures { map stated_reply result.now ≡ stated_replies (layout_of layout) bytes.now }
 {
-    let from = EMPTY + BALANCES * customers;
+    let from = layout.empty_size() + BALANCES * customers;
     let (cells, _) = bytes[from..from + REPLY * count].as_chunks::<REPLY>();
     cells
 }

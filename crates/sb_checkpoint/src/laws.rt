@@ -2,17 +2,18 @@
 ghost use Rattle.sb_checkpoint.specs.Checkpoint.{OneCheckpoint};
 ghost use Rattle.sb_checkpoint.specs.Reading.{SpelledIsTaken, TakenIsSpelled};
 
-/// Bytes spell at most one checkpoint.
+/// Bytes spell at most one checkpoint, in one layout.
 pub fn one_checkpoint()
     ensures { OneCheckpoint }
 {}
 
-/// Bytes that spell a checkpoint are read without a fault.
+/// Bytes that spell a checkpoint in either layout are read without a fault.
 pub fn spelled_is_taken()
     ensures { SpelledIsTaken }
 {}
 
-/// Bytes that are read without a fault spell a checkpoint, of as many customers as they are read for.
+/// Bytes that are read without a fault spell a checkpoint in one of the layouts, of as many customers as they are read
+/// for.
 pub fn taken_is_spelled()
     ensures { TakenIsSpelled }
 {}

@@ -2,45 +2,49 @@
 ghost use Rattle.std.specs.Prelude.{◌≡◌, ◌+◌, ◌*◌, ◌≤◌, IfOk, OnOk, MatchResult, None, Some, length, map};
 ghost use Rattle.std.specs.List.{list_any};
 ghost use Rattle.sb_rows.specs.Balances.{IsBalances};
-ghost use Rattle.sb_checkpoint.specs.Checkpoint.{Spells};
+ghost use Rattle.sb_checkpoint.specs.Checkpoint.{IsSpelled, Origin};
+ghost use Rattle.sb_checkpoint.specs.Layouts.{layout_of};
 ghost use Rattle.sb_checkpoint.specs.Reading as spec;
 ghost use Rattle.sb_checkpoint.specs.Reading.{stated_checking, stated_replies, stated_savings, stated_size};
-ghost use Rattle.sb_checkpoint.specs.Reading.{balances_fault, first_fault, head_fault, is_negative, replies_fault};
+ghost use Rattle.sb_checkpoint.specs.Reading.{balances_fault, first_fault, head_fault, is_negative, opening_fault, replies_fault};
 ghost use Rattle.sb_checkpoint.specs.Reading.{IsFaultOf, IsRefusedBy};
 
 use crate::checkpoint::Checkpoint;
 use crate::fault::CheckpointFault;
 use crate::fields::{
-    read_amounts, replies_of, reply_cells, stated_customers, stated_length, stated_total,
+    read_amounts, replies_of, reply_cells, stated_customers, stated_length, stated_opening,
+    stated_total,
 };
-use crate::layout::{AMOUNT, BALANCES, EMPTY, HEAD, MAGIC, REPLY};
+use crate::layout::{AMOUNT, BALANCES, EMPTY_FIRST, HEAD, Layout, REPLY};
 use lane_audit::{bank_total, count_below, first_outside};
 use sb_amount::LIMIT;
 use sb_calls::{LOG_CALLS, Reply};
 use sb_rows::{CUSTOMERS, Columns};
 use std::alloc::Global;
 
-// How many replies are stated, where the bytes begin as a checkpoint of this many customers and
-// don't end early.
-#[tactic(auto, unfolding(crate::specs::Reading::head_fault, crate::specs::Reading::first_fault))]
-fn read_head(bytes: &[u8], customers: usize) -> Result<usize, CheckpointFault>
+// The layout and how many replies are stated, where the bytes begin as a checkpoint of this many
+// customers and don't end early.
+#[tactic(auto, unfolding(crate::specs::Reading::head_fault))]
+fn read_head(bytes: &[u8], customers: usize) -> Result<(Layout, usize), CheckpointFault>
     requires { customers ≤ CUSTOMERS }
-    ensures length { IfOk result (λ n. n ≡ spec.stated_length bytes.now) }
+    ensures layout { IfOk result (λ head. spec.stated_layout bytes.now ≡ Some (layout_of head.0)) }
+    ensures length { IfOk result (λ head. head.1 ≡ spec.stated_length bytes.now) }
     ensures customers { OnOk result (spec.stated_customers bytes.now ≡ customers) }
-    ensures room { OnOk result (stated_size bytes.now ≤ length bytes.now) }
+    ensures room { IfOk result (λ head. stated_size (layout_of head.0) bytes.now ≤ length bytes.now) }
     ensures fault { MatchResult result
-        (λ _. head_fault bytes.now customers ≡ None) (IsRefusedBy bytes.now customers) }
+        (λ _. head_fault bytes.now customers ≡ None)
+        (λ fault. head_fault bytes.now customers ≡ Some fault) }
 {
-    if !MAGIC.starts_with(&bytes[..bytes.len().min(MAGIC.len())]) {
+    let Some(layout) = Layout::of(bytes) else {
         return Err(CheckpointFault::BadMagic);
-    }
+    };
     if bytes.len() < HEAD {
         return Err(CheckpointFault::Short);
     }
     let length = stated_length(bytes);
     let stated = stated_customers(bytes);
     // Wide enough for any stated numbers.
-    let size = EMPTY as u128
+    let size = layout.empty_size() as u128
         + BALANCES as u128 * u128::from(stated)
         + REPLY as u128 * u128::from(length);
     if (bytes.len() as u128) < size {
@@ -49,7 +53,7 @@ fn read_head(bytes: &[u8], customers: usize) -> Result<usize, CheckpointFault>
     if stated as usize != customers {
         return Err(CheckpointFault::WrongCustomers);
     }
-    Ok(length as usize)
+    Ok((layout, length as usize))
 }
 
 // Whether a balance is past the limit.
@@ -70,7 +74,7 @@ fn has_negative(amounts: &[i64]) -> bool
 fn read_columns(alloc: Global, bytes: &[u8], customers: usize) -> Result<Columns, CheckpointFault>
     requires customers { customers ≡ spec.stated_customers bytes.now }
     requires few { customers ≤ CUSTOMERS }
-    requires room { EMPTY + BALANCES * customers ≤ length bytes.now }
+    requires room { EMPTY_FIRST + BALANCES * customers ≤ length bytes.now }
     ensures savings { IfOk result (λ columns. columns.savings ≡ stated_savings bytes.now) }
     ensures checking { IfOk result (λ columns. columns.checking ≡ stated_checking bytes.now) }
     ensures valid { IfOk result IsBalances }
@@ -92,31 +96,54 @@ fn read_columns(alloc: Global, bytes: &[u8], customers: usize) -> Result<Columns
     Ok(columns)
 }
 
-// The replies behind the total, where nothing stands behind them.
+// The opening total, where the layout has it, is the bank's.
+fn check_opening(
+    bytes: &[u8],
+    layout: Layout,
+    customers: usize,
+    opening_total: i64,
+) -> Result<(), CheckpointFault>
+    requires customers { customers ≡ spec.stated_customers bytes.now }
+    requires few { customers ≤ CUSTOMERS }
+    requires room { stated_size (layout_of layout) bytes.now ≤ length bytes.now }
+    ensures { MatchResult result
+        (λ _. opening_fault (layout_of layout) bytes.now opening_total ≡ None)
+        (IsFaultOf (opening_fault (layout_of layout) bytes.now opening_total)) }
+{
+    if layout == Layout::Second && stated_opening(bytes, customers) != opening_total {
+        return Err(CheckpointFault::WrongOpening);
+    }
+    Ok(())
+}
+
+// The replies, where nothing stands behind them.
 #[tactic(auto, unfolding(crate::specs::Reading::replies_fault))]
 fn read_replies(
     alloc: Global,
     bytes: &[u8],
+    layout: Layout,
     customers: usize,
     count: usize,
 ) -> Result<Vec<Reply>, CheckpointFault>
     requires customers { customers ≡ spec.stated_customers bytes.now }
     requires count { count ≡ spec.stated_length bytes.now }
-    requires room { stated_size bytes.now ≤ length bytes.now }
+    requires room { stated_size (layout_of layout) bytes.now ≤ length bytes.now }
     ensures replies { IfOk result
-        (λ replies. map (λ r. Some r) replies.items ≡ stated_replies bytes.now) }
+        (λ replies. map (λ r. Some r) replies.items ≡ stated_replies (layout_of layout) bytes.now) }
     ensures fault { MatchResult result
-        (λ _. replies_fault bytes.now ≡ None) (IsFaultOf (replies_fault bytes.now)) }
+        (λ _. replies_fault (layout_of layout) bytes.now ≡ None)
+        (IsFaultOf (replies_fault (layout_of layout) bytes.now)) }
 {
-    let replies = replies_of(alloc, reply_cells(bytes, customers, count))?;
-    let size = EMPTY + BALANCES * customers + REPLY * count;
+    let replies = replies_of(alloc, reply_cells(bytes, layout, customers, count))?;
+    let size = layout.empty_size() + BALANCES * customers + REPLY * count;
     if count > LOG_CALLS || size < bytes.len() {
         return Err(CheckpointFault::Long);
     }
     Ok(replies)
 }
 
-/// Reads a checkpoint of a bank with this many customers.
+/// Reads a checkpoint of a bank with this many customers and this opening total, in either layout. The first layout has
+/// no opening total, so it is taken with any.
 ///
 /// It is refused by the first fault in the order of [`CheckpointFault`]. Memory is taken only once
 /// the bytes begin as such a checkpoint and aren't short.
@@ -124,15 +151,19 @@ pub fn read_checkpoint(
     alloc: Global,
     bytes: &[u8],
     customers: usize,
+    opening_total: i64,
 ) -> Result<Checkpoint, CheckpointFault>
     requires { customers ≤ CUSTOMERS }
-    ensures checkpoint { IfOk result (λ checkpoint. Spells checkpoint bytes.now) }
+    ensures checkpoint { IfOk result
+        (λ checkpoint. IsSpelled opening_total checkpoint bytes.now) }
     ensures customers { IfOk result (λ checkpoint. length checkpoint.columns.savings ≡ customers) }
-    ensures fault { MatchResult result
-        (λ _. first_fault bytes.now customers ≡ None) (IsRefusedBy bytes.now customers) }
+    ensures fault { let origin : Origin = record { customers = customers; opening_total = opening_total } in
+        MatchResult result
+        (λ _. first_fault bytes.now origin ≡ None) (IsRefusedBy bytes.now origin) }
 {
-    let count = read_head(bytes, customers)?;
+    let (layout, count) = read_head(bytes, customers)?;
     let columns = read_columns(alloc, bytes, customers)?;
-    let replies = read_replies(alloc, bytes, customers, count)?;
+    check_opening(bytes, layout, customers, opening_total)?;
+    let replies = read_replies(alloc, bytes, layout, customers, count)?;
     Ok(Checkpoint::of(columns, replies))
 }

@@ -3,9 +3,9 @@ ghost use Rattle.std.specs.Prelude.{◌≡◌, ◌≤◌, ◌<◌, ◌-◌, ◌+
 ghost use Rattle.std.specs.List.{All, flat_map};
 ghost use Rattle.sb_calls.specs.Replies.{IsReply, reply_field};
 ghost use Rattle.sb_calls.specs.declared.reply.Reply.{Reply as AnyReply};
-ghost use Rattle.sb_checkpoint.specs.Checkpoint.{Spells};
+ghost use Rattle.sb_checkpoint.specs.Checkpoint.{Spells, Second};
 
-use crate::layout::{BALANCES, EMPTY, MAGIC, REPLY};
+use crate::layout::{BALANCES, EMPTY_SECOND, MAGIC_SECOND, REPLY};
 use crate::putting::{put, put_amount, put_amounts, put_customers, put_length, put_reply};
 use lane_audit::bank_total;
 use sb_calls::{LOG_CALLS, Reply};
@@ -13,18 +13,20 @@ use sb_rows::Columns;
 use std::alloc::{AllocError, Global};
 use std::marker::Model;
 
-/// The bytes of a checkpoint, in one allocation of its exact size.
+/// The bytes of a checkpoint in the second layout, of a bank with this opening total, in one allocation of their exact
+/// size.
 pub fn write_checkpoint(
     alloc: Global,
     columns: &Columns,
+    opening_total: i64,
     replies: &[Reply],
 ) -> Result<Vec<u8>, AllocError>
     requires few { length replies.now ≤ LOG_CALLS }
     requires replies { All IsReply replies.now }
-    ensures { IfOk result (λ bytes.
-        Spells (record { columns = columns.now; replies = replies.now }) bytes.items) }
+    ensures { IfOk result (λ bytes. Spells Second opening_total
+        (record { columns = columns.now; replies = replies.now }) bytes.items) }
 {
-    let mut draft = Draft::begin(alloc, columns, replies.len())?;
+    let mut draft = Draft::begin(alloc, columns, opening_total, replies.len())?;
     for reply in replies {
         draft.push(*reply);
     }
@@ -52,23 +54,31 @@ impl Model for Draft {
 }
 
 impl Draft {
-    /// The checkpoint of these balances and of so many replies, which are all missing. All memory is taken here.
-    pub fn begin(alloc: Global, columns: &Columns, replies: usize) -> Result<Draft, AllocError>
+    /// The checkpoint of these balances and of so many replies, which are all missing, in the second layout, of a bank
+    /// with this opening total. All memory is taken here.
+    pub fn begin(
+        alloc: Global,
+        columns: &Columns,
+        opening_total: i64,
+        replies: usize,
+    ) -> Result<Draft, AllocError>
         requires few { replies ≤ LOG_CALLS }
         ensures missing { IfOk result (λ draft. draft.missing ≡ replies) }
         // Behind it all of them make a checkpoint.
         ensures begins { IfOk result (λ draft. (all : List AnyReply) → length all ≡ replies → All IsReply all
-            → Spells (record { columns = columns.now; replies = all }) (draft.bytes ++ flat_map reply_field all)) }
+            → Spells Second opening_total (record { columns = columns.now; replies = all })
+            (draft.bytes ++ flat_map reply_field all)) }
     {
         let customers = columns.customers();
-        let size = EMPTY + BALANCES * customers + REPLY * replies;
+        let size = EMPTY_SECOND + BALANCES * customers + REPLY * replies;
         let mut bytes = Vec::with_capacity(alloc, size)?;
-        put(&mut bytes, &MAGIC);
+        put(&mut bytes, &MAGIC_SECOND);
         put_length(&mut bytes, replies as u64);
         put_customers(&mut bytes, customers as u32);
         put_amounts(&mut bytes, columns.savings());
         put_amounts(&mut bytes, columns.checking());
         put_amount(&mut bytes, bank_total(columns));
+        put_amount(&mut bytes, opening_total);
         Ok(Draft {
             bytes,
             missing: replies,

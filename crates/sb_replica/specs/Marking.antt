@@ -4,11 +4,11 @@ use Rattle.sb_rows.specs.Balances.{Balances}
 use Rattle.sb_calls.specs.Behaviour.{declared_cowns, effect_of}
 use Rattle.sb_calls.specs.declared.op.Op.{Op}
 use Rattle.cown_board.specs.Board.{BoardOf, open_of, IsAfterAll}
-use Rattle.sb_checkpoint.specs.Checkpoint.{Spells}
+use Rattle.sb_checkpoint.specs.Checkpoint.{Second, Spells}
 use Rattle.sb_checkpoint.specs.Stores.{StoreStep, Put}
 use Rattle.sb_checkpoint.specs.declared.store.StoreFault.{StoreFault}
 use Rattle.sb_checkpoint.specs.declared.store.StoreFault.TheVariants.{Device, OutOfMemory}
-use Rattle.sb_replica.specs.Replica.{ReplicaOf, replies_held}
+use Rattle.sb_replica.specs.Replica.{ReplicaOf, origin_of, replies_held}
 use Rattle.sb_replica.specs.declared.fault.MarkFault.{MarkFault}
 use Rattle.sb_replica.specs.declared.fault.MarkFault.TheVariants as mark
 
@@ -29,13 +29,15 @@ after_put (Ok done) board = record board { cut = None }
 after_put (Err fault) board = board
 
 module _ {S : Type 0} (does : S → StoreStep → S → Type 0) where
-  -- the balances after all that is marked and all its replies were spelled, and put with this answer
+  -- the balances after all that is marked and all its replies were spelled, in the second layout with the opening
+  -- total, and put with this answer
   pub record Puts (old : ReplicaOf S) (answer : Result (Unit {0}) StoreFault) (new : ReplicaOf S) : Type 0 where
     pub idle : open_of (up_to_cut old.board) ≡ 0
     pub columns : Balances
     pub after : IsAfterAll declared_cowns effect_of (up_to_cut old.board) columns
     pub bytes : List ℕ
-    pub spelled : Spells (record { columns = columns; replies = replies_held (up_to_cut old.board) }) bytes
+    pub spelled : Spells Second (origin_of old).opening_total
+        (record { columns = columns; replies = replies_held (up_to_cut old.board) }) bytes
     pub put : does old.store (Put bytes answer) new.store
     pub stays : new ≡ record old { board = after_put answer old.board; store = new.store }
 

@@ -1,12 +1,14 @@
 -- A replica as its callers see it.
-use Rattle.std.specs.Prelude.{◌≡◌, ℕ, Option, List, length, ◌++◌}
+use Rattle.std.specs.Prelude.{◌≡◌, ℕ, ◌+ℤ◌, Option, List, length, ◌++◌}
 use Rattle.std.specs.List.{All, filter_map}
 use Rattle.sb_rows.specs.Balances.{Balances}
 use Rattle.sb_calls.specs.Replies.{IsReply}
 use Rattle.sb_calls.specs.declared.op.Op.{Op}
 use Rattle.sb_calls.specs.declared.reply.Reply.{Reply}
+use Rattle.lane_audit.specs.Columns.{total}
 use Rattle.cown_board.specs.Board.{BoardOf}
 use Rattle.cown_board.specs.State.{finished_reply}
+use Rattle.sb_checkpoint.specs.Checkpoint.{Origin}
 use Rattle.sb_replica_log.specs.Log.{LogOf}
 
 -- its number, the customers' names by place, the balances at the opening, its board, the ops that are held for the
@@ -18,6 +20,13 @@ pub record ReplicaOf (S : Type 0) : Type 0 where
   pub board : BoardOf Op
   pub held : List (Option Op)
   pub store : S
+
+-- what its checkpoints are told apart by: its number of customers, and what they had together at the opening
+abbrev pub origin_of : {S : Type 0} → ReplicaOf S → Origin
+origin_of replica = record {
+  customers = length replica.names;
+  opening_total = total replica.opening.savings +ℤ total replica.opening.checking;
+}
 
 -- its log: the board, and what is held
 abbrev pub log_of : {S : Type 0} → ReplicaOf S → LogOf

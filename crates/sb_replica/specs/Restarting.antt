@@ -4,7 +4,7 @@ use Rattle.sb_rows.specs.Balances.{Balances}
 use Rattle.sb_calls.specs.declared.op.Op.{Op}
 use Rattle.cown_board.specs.Board.{BoardOf, length_of}
 use Rattle.cown_board.specs.Played.{opened_with}
-use Rattle.sb_checkpoint.specs.Checkpoint.{CheckpointOf, Spells}
+use Rattle.sb_checkpoint.specs.Checkpoint.{CheckpointOf, IsSpelled, Origin}
 use Rattle.sb_checkpoint.specs.Reading.{first_fault, head_fault}
 use Rattle.sb_checkpoint.specs.Stores.{StoreStep, Got, NotGot}
 use Rattle.sb_checkpoint.specs.declared.fault.CheckpointFault.{CheckpointFault}
@@ -12,21 +12,21 @@ use Rattle.sb_checkpoint.specs.declared.fault.CheckpointFault.TheVariants as che
 use Rattle.sb_checkpoint.specs.declared.store.StoreFault.{StoreFault}
 use Rattle.sb_checkpoint.specs.declared.store.StoreFault.TheVariants as store
 use Rattle.sb_replica_log.specs.Log.{none_held}
-use Rattle.sb_replica.specs.Replica.{ReplicaOf}
+use Rattle.sb_replica.specs.Replica.{ReplicaOf, origin_of}
 use Rattle.sb_replica.specs.declared.fault.RestartFault.{RestartFault}
 use Rattle.sb_replica.specs.declared.fault.RestartFault.TheVariants as restart
 
--- what the store holds is this checkpoint of a bank of so many customers; where it holds nothing, it is the opening,
--- without replies
-abbrev pub IsStoredAs : Balances → ℕ → Option (List ℕ) → CheckpointOf → Type 0
-IsStoredAs opening customers None checkpoint = checkpoint ≡ record { columns = opening; replies = [] }
-IsStoredAs opening customers (Some bytes) checkpoint =
-    Spells checkpoint bytes × (length checkpoint.columns.savings ≡ customers)
+-- what the store holds is this checkpoint of a bank of this origin, in either layout; where it holds nothing, it is the
+-- opening, without replies
+abbrev pub IsStoredAs : Balances → Origin → Option (List ℕ) → CheckpointOf → Type 0
+IsStoredAs opening origin None checkpoint = checkpoint ≡ record { columns = opening; replies = [] }
+IsStoredAs opening origin (Some bytes) checkpoint = IsSpelled origin.opening_total checkpoint bytes
+    × (length checkpoint.columns.savings ≡ origin.customers)
 
 -- a board that was opened on what the store holds
-pub record IsLogOn (opening : Balances) (customers : ℕ) (held : Option (List ℕ)) (board : BoardOf Op) : Type 0 where
+pub record IsLogOn (opening : Balances) (origin : Origin) (held : Option (List ℕ)) (board : BoardOf Op) : Type 0 where
   pub checkpoint : CheckpointOf
-  pub is_stored : IsStoredAs opening customers held checkpoint
+  pub is_stored : IsStoredAs opening origin held checkpoint
   pub board_is : board ≡ opened_with checkpoint.columns checkpoint.replies
 
 -- what a restart is answered where its store or what it holds is at fault
@@ -45,19 +45,19 @@ BeginsWell customers (Some bytes) = head_fault bytes customers ≡ None
 
 -- why what the store holds can't be gone back to: it is no checkpoint of this bank, or memory was refused, which only
 -- what begins well wants
-abbrev pub IsRefusalOf : ℕ → Option (List ℕ) → RestartFault → Type 0
-IsRefusalOf customers held restart.Device = ⊥
-IsRefusalOf customers held (restart.BadCheckpoint fault) =
+abbrev pub IsRefusalOf : Origin → Option (List ℕ) → RestartFault → Type 0
+IsRefusalOf origin held restart.Device = ⊥
+IsRefusalOf origin held (restart.BadCheckpoint fault) =
     (bytes : List ℕ) × (held ≡ Some bytes) × (fault ≢ checkpoint.OutOfMemory)
-    × (first_fault bytes customers ≡ Some fault)
-IsRefusalOf customers held restart.OutOfMemory = BeginsWell customers held
+    × (first_fault bytes origin ≡ Some fault)
+IsRefusalOf origin held restart.OutOfMemory = BeginsWell origin.customers held
 
 module _ {S : Type 0} (does : S → StoreStep → S → Type 0) where
   -- a new board on what the store holds, and no op is held
   pub record Restarts (old : ReplicaOf S) (size : ℕ) (new : ReplicaOf S) : Type 0 where
     pub held : Option (List ℕ)
     pub got : does old.store (Got held) new.store
-    pub board : IsLogOn old.opening (length old.names) held new.board
+    pub board : IsLogOn old.opening (origin_of old) held new.board
     pub length_is : size ≡ length_of new.board
     pub stays : new ≡ record old { board = new.board; held = none_held; store = new.store }
 
@@ -65,4 +65,4 @@ module _ {S : Type 0} (does : S → StoreStep → S → Type 0) where
   abbrev pub IsRestartFaultOf : ReplicaOf S → RestartFault → ReplicaOf S → Type 0
   IsRestartFaultOf old fault new = (new ≡ record old { store = new.store })
       × (((failed : StoreFault) × does old.store (NotGot failed) new.store × (fault ≡ of_store_fault failed))
-      ⊎ ((held : Option (List ℕ)) × does old.store (Got held) new.store × IsRefusalOf (length old.names) held fault))
+      ⊎ ((held : Option (List ℕ)) × does old.store (Got held) new.store × IsRefusalOf (origin_of old) held fault))

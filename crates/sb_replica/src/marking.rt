@@ -5,11 +5,11 @@ ghost use Rattle.sb_calls.specs.Replies.{IsReply};
 ghost use Rattle.sb_calls.specs.Behaviour.{declared_cowns, effect_of};
 ghost use Rattle.cown_board.specs.Board.{length_of, open_of, IsAfterAll};
 ghost use Rattle.cown_board.specs.Played.{CutDropped, CutMade, StaysTrueToLog};
-ghost use Rattle.sb_checkpoint.specs.Checkpoint.{Spells};
+ghost use Rattle.sb_checkpoint.specs.Checkpoint.{Second, Spells};
 ghost use Rattle.sb_checkpoint.specs.Stores.{StoreDoes};
 ghost use Rattle.sb_checkpoint.specs.declared.store.StoreFault.{StoreFault as AnyFault};
 ghost use Rattle.sb_replica.specs.Marking.{IsMarkFaultOf, Puts, PutsBytes, up_to_cut};
-ghost use Rattle.sb_replica.specs.Replica.{replies_held};
+ghost use Rattle.sb_replica.specs.Replica.{origin_of, replies_held};
 
 use crate::fault::MarkFault;
 use crate::replica::Replica;
@@ -112,17 +112,18 @@ impl<S: CheckpointStore> Replica<S> {
         }
     }
 
-    // The checkpoint of these columns and of the replies to all numbers that are marked, where none is unfinished. Each
-    // reply is spelled as it's read: a list of them would be longer than the checkpoint, and pass through memory twice.
+    // The checkpoint of these columns and of the replies to all numbers that are marked, where none is unfinished, with
+    // the opening total. Each reply is spelled as it's read: a list of them would be longer than the checkpoint, and pass
+    // through memory twice.
     fn spelled(&self, columns: &Columns) -> Result<Vec<u8>, AllocError>
         requires { open_of (up_to_cut self.now.board) ≡ 0 }
-        ensures { IfOk result (λ bytes. Spells (record {
+        ensures { IfOk result (λ bytes. Spells Second (origin_of self.now).opening_total (record {
           columns = columns.now;
           replies = replies_held (up_to_cut self.now.board);
         }) bytes.items) }
     {
         let length = self.marked_length();
-        let mut draft = Draft::begin(self.alloc, columns, length as usize)?;
+        let mut draft = Draft::begin(self.alloc, columns, self.opening_total(), length as usize)?;
         for place in 0..length {
             let Some(reply) = self.reply(place + 1) else {
                 unreachable!();

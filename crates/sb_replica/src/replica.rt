@@ -12,9 +12,10 @@ ghost use Rattle.sb_checkpoint.specs.Stores.{Compares, StoreDoes, Got, NotGot};
 ghost use Rattle.sb_frames.specs.declared.frame.Frame.TheVariants as frames;
 ghost use Rattle.sb_replica_log.specs.Log.{none_held};
 ghost use Rattle.sb_replica_log.specs.Offers.{offered, after_offer};
-ghost use Rattle.sb_replica.specs.Replica.{log_of, with_log};
+ghost use Rattle.sb_replica.specs.Replica.{log_of, origin_of, with_log};
 
 use cown_board::{Board, Runs};
+use lane_audit::bank_total;
 use sb_calls::{LOG_CALLS, Op, Reply, WireReply};
 use sb_checkpoint::{CheckpointStore, How, MemoryStore, StoreFault};
 use sb_frames::Frame;
@@ -125,6 +126,13 @@ impl<S: CheckpointStore> Replica<S> {
         ensures { result.now ≡ self.now.names }
     {
         &self.directory
+    }
+
+    // What its customers had together at the opening.
+    pub(crate) fn opening_total(&self) -> i64
+        ensures { result ≡ (origin_of self.now).opening_total }
+    {
+        bank_total(&self.opening)
     }
 
     /// The number of the last entry that was accepted.

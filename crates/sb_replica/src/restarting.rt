@@ -5,7 +5,7 @@ ghost use Rattle.sb_calls.specs.Replies.{IsReply};
 ghost use Rattle.cown_board.specs.Played.{opened_with};
 ghost use Rattle.sb_replica_log.specs.Log.{none_held};
 ghost use Rattle.sb_checkpoint.specs.Stores.{StoreDoes};
-ghost use Rattle.sb_replica.specs.Replica.{with_log};
+ghost use Rattle.sb_replica.specs.Replica.{origin_of, with_log};
 ghost use Rattle.sb_replica.specs.Restarting.{BeginsWell, Restarts, IsRestartFaultOf, IsStoredAs, IsLogOn, IsRefusalOf};
 
 use crate::fault::RestartFault;
@@ -62,13 +62,13 @@ impl<S: CheckpointStore> Replica<S> {
 
     // The log of a board on what the store holds.
     fn held_log(&self, held: Option<Vec<u8>>) -> Result<ReplicaLog, RestartFault>
-        ensures log { IfOk result (λ log. IsLogOn self.now.opening (length self.now.names)
+        ensures log { IfOk result (λ log. IsLogOn self.now.opening (origin_of self.now)
             (option_map (λ bytes. bytes.items) held) log.board) }
         ensures none { IfOk result (λ log. log.held ≡ none_held) }
         ensures customers { IfOk result (λ log. length log.board.opening.savings ≡ length self.now.names) }
         ensures replies { IfOk result (λ log. All IsReply log.board.earlier) }
         ensures err { IfErr result
-            (IsRefusalOf (length self.now.names) (option_map (λ bytes. bytes.items) held)) }
+            (IsRefusalOf (origin_of self.now) (option_map (λ bytes. bytes.items) held)) }
     {
         let (columns, replies) = self.held_parts(held)?;
         Ok(log_on(self.alloc, columns, replies)?)
@@ -77,7 +77,7 @@ impl<S: CheckpointStore> Replica<S> {
     // The balances and the replies that the store holds, or those of the opening where it holds nothing.
     #[tactic(auto, using(crate::proofs::RightHeads::right_head))]
     fn held_parts(&self, held: Option<Vec<u8>>) -> Result<(Columns, Vec<Reply>), RestartFault>
-        ensures held { IfOk result (λ parts. IsStoredAs self.now.opening (length self.now.names)
+        ensures held { IfOk result (λ parts. IsStoredAs self.now.opening (origin_of self.now)
             (option_map (λ bytes. bytes.items) held)
             (record { columns = parts.0; replies = parts.1.items })) }
         ensures customers { IfOk result (λ parts. length parts.0.savings ≡ length self.now.names) }
@@ -86,7 +86,7 @@ impl<S: CheckpointStore> Replica<S> {
         ensures begins { OnOk result
             (BeginsWell (length self.now.names) (option_map (λ bytes. bytes.items) held)) }
         ensures err { IfErr result
-            (IsRefusalOf (length self.now.names) (option_map (λ bytes. bytes.items) held)) }
+            (IsRefusalOf (origin_of self.now) (option_map (λ bytes. bytes.items) held)) }
     {
         match held {
             Some(bytes) => {

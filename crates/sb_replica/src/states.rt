@@ -1,9 +1,10 @@
 //! The checkpoint of one replica, taken by another in place of the log's entries.
 ghost use Rattle.std.specs.Prelude.{◌≡◌, ℕ, IfOk, IfErr, List, MatchResult, None, Option, Some, length, option_map};
-ghost use Rattle.sb_checkpoint.specs.Checkpoint.{Spells};
+ghost use Rattle.sb_checkpoint.specs.Checkpoint.{IsSpelled};
 ghost use Rattle.sb_checkpoint.specs.Reading.{first_fault, IsRefusedBy};
 ghost use Rattle.sb_checkpoint.specs.Stores.{StoreDoes};
 ghost use Rattle.sb_frames.specs.declared.frame.Frame.TheVariants as frames;
+ghost use Rattle.sb_replica.specs.Replica.{origin_of};
 ghost use Rattle.sb_replica.specs.Restarting.{IsRefusalOf, IsRestartFaultOf};
 ghost use Rattle.sb_replica.specs.States.{Adopts, IsAdoptFaultOf, IsStateOf, KeepsState, state_length};
 
@@ -65,7 +66,7 @@ impl<S: CheckpointStore> Replica<S> {
     pub fn adopt(&mut self, bytes: &[u8]) -> Result<Adopted, AdoptFault>
         ensures outcome { MatchResult result
             (λ adopted. Adopts self.old bytes.now adopted self.new)
-            (λ fault. IsAdoptFaultOf (length self.old.names) bytes.now fault × (self.new ≡ self.old)) }
+            (λ fault. IsAdoptFaultOf (origin_of self.old) bytes.now fault × (self.new ≡ self.old)) }
     {
         let checkpoint = self.checkpoint_in(bytes)?;
         let own = self.length();
@@ -80,21 +81,27 @@ impl<S: CheckpointStore> Replica<S> {
 
     // How many entries the checkpoint of this bank has that these bytes are.
     fn length_in(&self, bytes: &[u8]) -> Result<u64, RestartFault>
-        ensures length { IfOk result (λ size. IsStateOf (length self.now.names) size bytes.now) }
-        ensures err { IfErr result (IsRefusalOf (length self.now.names) (Some bytes.now)) }
+        ensures length { IfOk result (λ size. IsStateOf (origin_of self.now) size bytes.now) }
+        ensures err { IfErr result (IsRefusalOf (origin_of self.now) (Some bytes.now)) }
     {
         Ok(self.checkpoint_in(bytes)?.replies().len() as u64)
     }
 
     // The checkpoint of this bank that these bytes are.
     pub(crate) fn checkpoint_in(&self, bytes: &[u8]) -> Result<Checkpoint, CheckpointFault>
-        ensures checkpoint { IfOk result (λ checkpoint. Spells checkpoint bytes.now) }
+        ensures checkpoint { IfOk result (λ checkpoint.
+            IsSpelled (origin_of self.now).opening_total checkpoint bytes.now) }
         ensures customers { IfOk result (λ checkpoint.
             length checkpoint.columns.savings ≡ length self.now.names) }
         ensures fault { MatchResult result
-            (λ _. first_fault bytes.now (length self.now.names) ≡ None)
-            (IsRefusedBy bytes.now (length self.now.names)) }
+            (λ _. first_fault bytes.now (origin_of self.now) ≡ None)
+            (IsRefusedBy bytes.now (origin_of self.now)) }
     {
-        read_checkpoint(self.alloc, bytes, self.opening.customers())
+        read_checkpoint(
+            self.alloc,
+            bytes,
+            self.opening.customers(),
+            self.opening_total(),
+        )
     }
 }

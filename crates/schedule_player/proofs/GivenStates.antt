@@ -6,8 +6,9 @@ use Rattle.sb_rows.specs.Rows.{SameCustomers}
 use Rattle.sb_calls.proofs.OneByOneRuns.{log_by_cowns}
 use Rattle.sb_calls.specs.Op.{resolved}
 use Rattle.sb_checkpoint.proofs.Spelled.{read_back}
+use Rattle.sb_checkpoint.specs.Checkpoint.{Second}
 use Rattle.sb_checkpoint.specs.Reading.{stated_length}
-use Rattle.schedule_player.specs.Bank.{BankOf}
+use Rattle.schedule_player.specs.Bank.{BankOf, opening_total}
 use Rattle.schedule_player.specs.Books.{IsRowsAt, IsStateAt}
 use Rattle.schedule_player.specs.NodeAlong.{IsStateAlong}
 use Rattle.schedule_player.specs.Numbered.{numbered, Every}
@@ -22,7 +23,7 @@ numbered-map f xs (suc k) = slice_get-map f xs k
 
 -- a state states the length of its checkpoint
 pub state_length : (bank : BankOf) (bytes : List ℕ) → (is : IsStateAlong bank bytes) → stated_length bytes ≡ length is.checkpoint.replies
-state_length bank bytes is = let back = read_back is.checkpoint bytes is.stored.0 in back.count
+state_length bank bytes is = let back = read_back Second (opening_total bank) is.checkpoint bytes is.stored.0 in back.count
 
 -- which is at most the log's
 pub state_within : (bank : BankOf) (bytes : List ℕ) → IsStateAlong bank bytes → stated_length bytes ≤ length bank.calls

@@ -8,11 +8,12 @@ use Rattle.sb_rows.specs.Balances.{Balances}
 use Rattle.sb_calls.specs.Op.{resolved}
 use Rattle.sb_calls.specs.declared.op.Op.{Op}
 use Rattle.sb_checkpoint.proofs.Spelled.{read_back}
+use Rattle.sb_checkpoint.specs.Checkpoint.{Origin}
 use Rattle.sb_checkpoint.specs.MemoryStore.{MemoryStoreOf}
 use Rattle.sb_checkpoint.specs.Reading.{stated_length}
 use Rattle.sb_frames.specs.declared.frame.Frame.{Frame}
 use Rattle.sb_frames.specs.declared.frame.Frame.TheVariants as frame
-use Rattle.sb_replica.specs.Replica.{ReplicaOf}
+use Rattle.sb_replica.specs.Replica.{ReplicaOf, origin_of}
 use Rattle.sb_replica.specs.Restarting.{IsLogOn}
 use Rattle.sb_replica.specs.States.{Gives, KeepsState, Adopts, state_length}
 use Rattle.sb_replica.specs.declared.adopted.Adopted.TheVariants as answer
@@ -38,14 +39,14 @@ use Rattle.schedule_player.proofs.Working.{state_by, adopts_so}
 pub keeps_same : (old new : ReplicaOf MemoryStoreOf) (state : Option (ℕ × List ℕ)) → KeepsState Does old state new → new ≡ old
 keeps_same old new state keeps = let acts = keeps.got.as_told in keeps.stays ∙ ap (λ s. record old { store = s }) acts.1
 
-gives_length : (customers : ℕ) (held : Option (List ℕ)) (state : Option (ℕ × List ℕ)) → Gives customers held state → state_length state ≡ kept_in held
-gives_length customers held (Some (size, bytes)) gives =
+gives_length : (origin : Origin) (held : Option (List ℕ)) (state : Option (ℕ × List ℕ)) → Gives origin held state → state_length state ≡ kept_in held
+gives_length origin held (Some (size, bytes)) gives =
     let is = gives.1 in
-    let back = read_back is.checkpoint bytes is.spelled in
+    let back = read_back is.spelled.0 origin.opening_total is.checkpoint bytes is.spelled.1 in
     sym is.size_is ∙ sym back.count ∙ ap kept_in (sym gives.0)
-gives_length customers held None (inl none) = ap kept_in (sym none)
-gives_length customers held None (inr (bytes, here, is)) =
-    let back = read_back is.checkpoint bytes is.spelled in
+gives_length origin held None (inl none) = ap kept_in (sym none)
+gives_length origin held None (inr (bytes, here, is)) =
+    let back = read_back is.spelled.0 origin.opening_total is.checkpoint bytes is.spelled.1 in
     sym is.size_is ∙ sym back.count ∙ ap kept_in (sym here)
 
 -- the length of the state is that of what is stored
@@ -53,11 +54,11 @@ state_kept : (old new : ReplicaOf MemoryStoreOf) (state : Option (ℕ × List �
     → state_length state ≡ kept_in old.store.slot
 state_kept old new state keeps =
     let acts = keeps.got.as_told in
-    gives_length (length old.names) keeps.held state keeps.gives ∙ ap kept_in acts.0
+    gives_length (origin_of old) keeps.held state keeps.gives ∙ ap kept_in acts.0
 
 kept_in_log : (bank : BankOf) (r : ℕ) (node : Node) → IsNodeAt bank r node → kept_in node.replica.store.slot ≤ length bank.calls
 kept_in_log bank r node is =
-    let kept = kept_of bank.opening (length bank.names) node.replica.store.slot is.kept.checkpoint is.kept.stored in
+    let kept = kept_of bank node.replica.store.slot is.kept.checkpoint is.kept.stored in
     let within = is.kept.along.within in
     let calls = length-map (resolved bank.names) bank.calls in
     omega (arith, kept, within, calls)
@@ -136,10 +137,10 @@ state_does old place bytes behind here is =
     ap (state_comes (seen_node old)) (state_seen old place bytes here) ∙ ap (state_by (seen_node old) (stated_length bytes)) is
 
 -- a board on a state is of its length
-board_length : (opening : Balances) (customers : ℕ) (bytes : List ℕ) (board : BoardOf Op) → IsLogOn opening customers (Some bytes) board
+board_length : (opening : Balances) (origin : Origin) (bytes : List ℕ) (board : BoardOf Op) → IsLogOn opening origin (Some bytes) board
     → length_of board ≡ stated_length bytes
-board_length opening customers bytes board on =
-    let back = read_back on.checkpoint bytes on.is_stored.0 in
+board_length opening origin bytes board on =
+    let back = read_back on.is_stored.0.0 origin.opening_total on.checkpoint bytes on.is_stored.0.1 in
     let count = back.count in
     let e = ap length_of on.board_is in
     omega (arith, e, count)
@@ -152,7 +153,7 @@ goes_on bank r old new place bytes size is here adopts =
     let size_is = adopts.1 in
     let on = adopts.2 in
     let stays = adopts.3 in
-    let stated = board_length old.replica.opening (length old.replica.names) bytes new.board on in
+    let stated = board_length old.replica.opening (origin_of old.replica) bytes new.board on in
     let own = length_stages old.replica.board is.board.states in
     begins_on bank r old new (Some bytes) size note.Adopted (adopted (seen_node old) place) is
     (every_numbered (IsStateAlong bank) old.states place bytes is.states here) on (sym size_is)
@@ -168,7 +169,7 @@ stays_ahead bank r old new place bytes own is here adopts =
     let own_is = adopts.0 in
     let state = adopts.1 in
     let same = adopts.2 in
-    let back = read_back state.1.checkpoint bytes state.1.spelled in
+    let back = read_back state.1.spelled.0 (origin_of old.replica).opening_total state.1.checkpoint bytes state.1.spelled.1 in
     let count = back.count in
     let size_is = state.1.size_is in
     let fits = state.2 in

@@ -1,5 +1,5 @@
 -- A replica puts its checkpoint, and goes back to it.
-use Rattle.std.proofs.Common.{◌≡◌, ◌⊎◌, inl, inr, true, ℕ, ℤ, Option, Some, None, Result, Ok, Err, List, [], ◌∷◌, length, map, refl, sym, ap, subst, ◌∙◌, arith}
+use Rattle.std.proofs.Common.{◌≡◌, ◌⊎◌, inl, inr, true, ℕ, ℤ, ◌+ℤ◌, Option, Some, None, Result, Ok, Err, List, [], ◌∷◌, length, map, refl, sym, ap, subst, ◌∙◌, arith}
 use Rattle.std.specs.Prelude.{◌≢◌, is_some, if◌then◌else◌}
 use Rattle.std.proofs.lemmas.Bool.{eq-eqb, ne_eqb}
 use Rattle.cown_board.proofs.PlacesLaws.{append_nothing}
@@ -11,8 +11,10 @@ use Rattle.sb_calls.specs.Behaviour.{declared_cowns, effect_of}
 use Rattle.sb_calls.specs.Cowns.{held_of, by_cown}
 use Rattle.sb_calls.specs.declared.op.Op.{Op}
 use Rattle.sb_calls.proofs.OneByOneRuns.{log_by_cowns}
+use Rattle.lane_audit.specs.Columns.{total}
+use Rattle.sb_checkpoint.proofs.Balances.{total_fits}
 use Rattle.sb_checkpoint.proofs.Spelled.{read_back, one_checkpoint, spelled_is_taken}
-use Rattle.sb_checkpoint.specs.Checkpoint.{CheckpointOf}
+use Rattle.sb_checkpoint.specs.Checkpoint.{CheckpointOf, Origin, Second, Spells}
 use Rattle.sb_checkpoint.specs.MemoryStore.{MemoryStoreOf, MemoryActs, memory_model}
 use Rattle.sb_checkpoint.specs.Reading.{stated_length, first_fault}
 use Rattle.sb_checkpoint.specs.Stores.{StoreStep, StoreDoes, Put, Got, NotGot}
@@ -21,7 +23,7 @@ use Rattle.sb_checkpoint.specs.declared.memory_store.How.{How}
 use Rattle.sb_checkpoint.specs.declared.store.StoreFault.{StoreFault}
 use Rattle.sb_checkpoint.specs.declared.store.StoreFault.TheVariants as store
 use Rattle.sb_replica.specs.Marking.{Puts, IsMarkFaultOf, up_to_cut}
-use Rattle.sb_replica.specs.Replica.{ReplicaOf, replies_held}
+use Rattle.sb_replica.specs.Replica.{ReplicaOf, origin_of, replies_held}
 use Rattle.sb_replica.specs.Restarting.{IsStoredAs, IsLogOn, Restarts, IsRestartFaultOf, IsRefusalOf, of_store_fault}
 use Rattle.sb_replica.specs.declared.fault.MarkFault.TheVariants as fault
 use Rattle.sb_replica.specs.declared.fault.RestartFault.{RestartFault}
@@ -29,8 +31,8 @@ use Rattle.sb_replica.specs.declared.fault.RestartFault.TheVariants as restart
 use Rattle.sb_replica.proofs.IdleReplies.{length_held}
 use Rattle.sb_replica_log.specs.Log.{none_held as empty_held}
 use Rattle.schedule_player.specs.Along.{IsBoardAlong, AreHeldAlong}
-use Rattle.schedule_player.specs.Bank.{BankOf}
-use Rattle.schedule_player.specs.NodeAlong.{seen_node, IsKeptAlong, IsNodeAt, IsAsBefore, Arrives}
+use Rattle.schedule_player.specs.Bank.{BankOf, opening_total}
+use Rattle.schedule_player.specs.NodeAlong.{seen_node, IsKeptAs, IsKeptAlong, IsNodeAt, IsAsBefore, Arrives}
 use Rattle.schedule_player.specs.Numbered.{copies}
 use Rattle.schedule_player.specs.ReplicaMoves.{NodeOf, cut_after, cut_off, put_ends, marked, begun_at, restarted}
 use Rattle.schedule_player.specs.Seen.{stages_of, kept_in, ops_of}
@@ -164,9 +166,12 @@ kept_now bank r old end answer new is puts =
     let along = marked_along (held_of bank.opening) (ops_of bank) old.replica.board is.board in
     let valid = puts.spelled.valid in
     let customers = after_columns bank part puts.columns is.customers along valid.balances.same puts.after in
+    let checkpoint : CheckpointOf = record { columns = puts.columns; replies = replies_held part } in
+    let spelled : Spells Second (opening_total bank) checkpoint puts.bytes =
+    subst (λ (o : Balances). Spells Second (total o.savings +ℤ total o.checking) checkpoint puts.bytes) is.opening puts.spelled in
     record {
-      checkpoint = record { columns = puts.columns; replies = replies_held part };
-      stored = (puts.spelled, customers.places);
+      checkpoint = checkpoint;
+      stored = (spelled, customers.places);
       along = checkpoint_along (held_of bank.opening) (ops_of bank) part puts.columns along puts.idle puts.after;
     }
 
@@ -175,7 +180,7 @@ kept_length : (bank : BankOf) (r : ℕ) (old : Node) (end : How) (answer : Resul
 kept_length bank r old end answer new is puts =
     let part = up_to_cut old.replica.board in
     let along = marked_along (held_of bank.opening) (ops_of bank) old.replica.board is.board in
-    let back = read_back (record { columns = puts.columns; replies = replies_held part }) puts.bytes puts.spelled in
+    let back = read_back Second _ (record { columns = puts.columns; replies = replies_held part }) puts.bytes puts.spelled in
     back.count ∙ length_held part puts.idle along.states
 
 idle_marks : (bank : BankOf) (r : ℕ) (old : Node) (end : How) → IsNodeAt bank r old → open_of (up_to_cut old.replica.board) ≡ 0
@@ -289,30 +294,30 @@ mark_refused bank r old end new is refused = (by refused.1, wants_marked bank r 
 
 -- ---- going back
 
-one_kept : (opening : Balances) (customers : ℕ) (slot : Option (List ℕ)) (a b : CheckpointOf) → IsStoredAs opening customers slot a
-    → IsStoredAs opening customers slot b → a ≡ b
-one_kept opening customers None a b is_a is_b = is_a ∙ sym is_b
-one_kept opening customers (Some bytes) a b is_a is_b = one_checkpoint a b bytes is_a.0 is_b.0
+one_kept : (bank : BankOf) (origin : Origin) (slot : Option (List ℕ)) (a b : CheckpointOf) → IsKeptAs bank slot a
+    → IsStoredAs bank.opening origin slot b → a ≡ b
+one_kept bank origin None a b is_a is_b = is_a ∙ sym is_b
+one_kept bank origin (Some bytes) a b is_a is_b =
+    let one = one_checkpoint Second is_b.0.0 (opening_total bank) origin.opening_total a b bytes is_a.0 is_b.0.1 in one.1
 
-pub kept_of : (opening : Balances) (customers : ℕ) (slot : Option (List ℕ)) (checkpoint : CheckpointOf) → IsStoredAs opening customers slot checkpoint
+pub kept_of : (bank : BankOf) (slot : Option (List ℕ)) (checkpoint : CheckpointOf) → IsKeptAs bank slot checkpoint
     → kept_in slot ≡ length checkpoint.replies
-kept_of opening customers None checkpoint is = ap (λ c. length c.replies) (sym is)
-kept_of opening customers (Some bytes) checkpoint is = let back = read_back checkpoint bytes is.0 in back.count
+kept_of bank None checkpoint is = ap (λ c. length c.replies) (sym is)
+kept_of bank (Some bytes) checkpoint is = let back = read_back Second (opening_total bank) checkpoint bytes is.0 in back.count
 
 -- a new board on what is stored, or on a state, and no op is held: it begins at that length
 pub begins_on : (bank : BankOf) (r : ℕ) (old : Node) (new : ReplicaOf MemoryStoreOf) (slot : Option (List ℕ)) (size : ℕ)
-    (noted : ℕ → Note) (moved : NodeOf × Note) → IsNodeAt bank r old → IsKeptAlong bank slot → IsLogOn old.replica.opening (length old.replica.names) slot new.board → size ≡ length_of new.board
-    → KeepsBeside old.replica new → new.held ≡ empty_held → new.store.slot ≡ old.replica.store.slot
-    → moved ≡ (begun_at (seen_node old) (kept_in slot), noted (kept_in slot)) → Arrives bank r (record old { replica = new }) (noted size) moved
+    (noted : ℕ → Note) (moved : NodeOf × Note) → IsNodeAt bank r old → IsKeptAlong bank slot
+    → IsLogOn old.replica.opening (origin_of old.replica) slot new.board → size ≡ length_of new.board → KeepsBeside old.replica new
+    → new.held ≡ empty_held → new.store.slot ≡ old.replica.store.slot → moved ≡ (begun_at (seen_node old) (kept_in slot), noted (kept_in slot)) → Arrives bank r (record old { replica = new }) (noted size) moved
 begins_on bank r old new slot size noted moved is along on size_is beside held store e =
     let made = along.checkpoint in
     let read = on.checkpoint in
-    let stored : IsStoredAs bank.opening (length bank.names) slot read =
-    subst (λ o. IsStoredAs o (length bank.names) slot read) is.opening
-    (subst (λ names. IsStoredAs old.replica.opening (length names) slot read) is.names on.is_stored) in
-    let same : made ≡ read = one_kept bank.opening (length bank.names) slot made read along.stored stored in
+    let origin = origin_of old.replica in
+    let stored : IsStoredAs bank.opening origin slot read = subst (λ o. IsStoredAs o origin slot read) is.opening on.is_stored in
+    let same : made ≡ read = one_kept bank origin slot made read along.stored stored in
     let board : new.board ≡ opened_with made.columns made.replies = on.board_is ∙ ap (λ c. opened_with c.columns c.replies) (sym same) in
-    let kept : kept_in slot ≡ length made.replies = kept_of bank.opening (length bank.names) slot made along.stored in
+    let kept : kept_in slot ≡ length made.replies = kept_of bank slot made along.stored in
     let length_is : size ≡ length made.replies = let e = size_is ∙ ap length_of board in omega (arith, e) in
     let stages : copies (kept_in slot) IsDone ≡ stages_of new.board =
     ap (λ n. copies n IsDone) kept ∙ sym (append_nothing (copies (length made.replies) IsDone)) ∙ ap stages_of (sym board) in
@@ -333,7 +338,7 @@ pub goes_back : (bank : BankOf) (r : ℕ) (old : Node) (new : ReplicaOf MemorySt
 goes_back bank r old new size is restarts =
     let acts = restarts.got.as_told in
     begins_on bank r old new old.replica.store.slot size note.Restarted (restarted (seen_node old)) is is.kept
-    (subst (λ held. IsLogOn old.replica.opening (length old.replica.names) held new.board) acts.0 restarts.board) restarts.length_is
+    (subst (λ held. IsLogOn old.replica.opening (origin_of old.replica) held new.board) acts.0 restarts.board) restarts.length_is
     (record {
       id = ap (λ x. x.id) restarts.stays;
       names = ap (λ x. x.names) restarts.stays;
@@ -352,11 +357,17 @@ not_bad store.OutOfMemory bad e = bad_memory e
     bad_memory : ◌≡◌ {A = RestartFault} (restart.BadCheckpoint bad) restart.OutOfMemory → ⊥
     bad_memory h = cc
 
-kept_taken : (opening : Balances) (customers : ℕ) (slot : Option (List ℕ)) (checkpoint : CheckpointOf) (bytes : List ℕ) (fault : CheckpointFault)
-    → IsStoredAs opening customers slot checkpoint → slot ≡ Some bytes → first_fault bytes customers ≡ Some fault → ⊥
-kept_taken opening customers None checkpoint bytes fault is e refused = none_some e
-kept_taken opening customers (Some held) checkpoint bytes fault is e refused =
-    none_some (sym (spelled_is_taken checkpoint held is.0) ∙ ap (first_fault held) is.1 ∙ ap (λ b. first_fault b customers) (some_is e) ∙ refused)
+abbrev origin_at : List (List ℕ) → Balances → Origin
+origin_at names opening = record { customers = length names; opening_total = total opening.savings +ℤ total opening.checking }
+
+kept_taken : (bank : BankOf) (slot : Option (List ℕ)) (checkpoint : CheckpointOf) (bytes : List ℕ) (fault : CheckpointFault)
+    → SameCustomers bank.names bank.opening → IsKeptAs bank slot checkpoint → slot ≡ Some bytes
+    → first_fault bytes (origin_at bank.names bank.opening) ≡ Some fault → ⊥
+kept_taken bank None checkpoint bytes fault same is e refused = none_some e
+kept_taken bank (Some held) checkpoint bytes fault same is e refused =
+    let read = spelled_is_taken Second (opening_total bank) checkpoint held (total_fits bank.opening same.balances) is.0 in
+    let of_bank = ap (λ n. first_fault held (record { customers = n; opening_total = opening_total bank })) is.1 in
+    none_some (sym read ∙ of_bank ∙ ap (λ b. first_fault b (origin_at bank.names bank.opening)) (some_is e) ∙ refused)
 
 pub never_bad : (bank : BankOf) (r : ℕ) (old : Node) (new : ReplicaOf MemoryStoreOf) (bad : CheckpointFault) → IsNodeAt bank r old
     → IsRestartFaultOf Does old.replica (restart.BadCheckpoint bad) new → ⊥
@@ -364,15 +375,16 @@ never_bad bank r old new bad is (same, inl failed) = not_bad failed.0 bad failed
 never_bad bank r old new bad is (same, inr refused) =
     let acts = refused.1.as_told in
     let why = refused.2 in
-    kept_taken bank.opening (length bank.names) old.replica.store.slot is.kept.checkpoint why.0 bad is.kept.stored (sym acts.0 ∙ why.1)
-    (subst (λ names. first_fault why.0 (length names) ≡ Some bad) is.names why.3)
+    kept_taken bank old.replica.store.slot is.kept.checkpoint why.0 bad is.customers is.kept.stored (sym acts.0 ∙ why.1)
+    (subst (λ opening. first_fault why.0 (origin_at bank.names opening) ≡ Some bad) is.opening
+    (subst (λ names. first_fault why.0 (origin_at names old.replica.opening) ≡ Some bad) is.names why.3))
 
 -- where a restart, or a look at what is stored, fails, nothing changed
 pub restart_same : (old new : ReplicaOf MemoryStoreOf) (fault : RestartFault) → IsRestartFaultOf Does old fault new → new ≡ old
 restart_same old new fault refused = refused.0 ∙ ap (λ s. record old { store = s }) (by refused.1)
   where
     by : (((failed : StoreFault) × Does old.store (NotGot failed) new.store × (fault ≡ of_store_fault failed))
-        ⊎ ((held : Option (List ℕ)) × Does old.store (Got held) new.store × IsRefusalOf (length old.names) held fault))
+        ⊎ ((held : Option (List ℕ)) × Does old.store (Got held) new.store × IsRefusalOf (origin_of old) held fault))
         → new.store ≡ old.store
     by (inl (store.Device, acts, why)) = absurd acts.as_told
     by (inl (store.OutOfMemory, acts, why)) = acts.as_told.1

@@ -1,19 +1,18 @@
 -- A node of the code, as the machine sees it, and beside the log.
-use Rattle.std.specs.Prelude.{◌≡◌, ◌≢◌, ℕ, ◌≤◌, Option, Some, None, IfSome, IsTrue, Result, Ok, Err, List, length, map, is_some, option_map}
+use Rattle.std.specs.Prelude.{◌≡◌, ◌≢◌, ℕ, ◌≤◌, Option, Some, None, IfSome, IsTrue, Result, Ok, Err, List, [], length, map, is_some, option_map}
 use Rattle.sb_rows.specs.Rows.{SameCustomers}
 use Rattle.sb_calls.specs.Cowns.{held_of}
 use Rattle.sb_calls.specs.declared.call.Call.{Call}
 use Rattle.sb_calls.specs.declared.call.TheConstants.{LOG_CALLS}
 use Rattle.sb_calls.specs.declared.op.Op.{Op}
-use Rattle.sb_checkpoint.specs.Checkpoint.{CheckpointOf}
+use Rattle.sb_checkpoint.specs.Checkpoint.{CheckpointOf, Second, Spells}
 use Rattle.sb_checkpoint.specs.Reading.{stated_length}
 use Rattle.sb_frames.specs.declared.frame.Frame.{Frame}
 use Rattle.sb_frames.specs.declared.frame.Frame.TheVariants as frame
-use Rattle.sb_replica.specs.Restarting.{IsStoredAs}
 use Rattle.cown_board.specs.Board.{length_of}
 use Rattle.cown_board.specs.Job.{JobOf}
 use Rattle.schedule_player.specs.Along.{IsBoardAlong, IsJobAlong, IsCheckpointAlong, AreHeldAlong}
-use Rattle.schedule_player.specs.Bank.{BankOf, log_reply}
+use Rattle.schedule_player.specs.Bank.{BankOf, log_reply, opening_total}
 use Rattle.schedule_player.specs.Numbered.{numbered, Every}
 use Rattle.schedule_player.specs.ReplicaMoves.{NodeOf}
 use Rattle.schedule_player.specs.Seen.{stages_of, kept_in, ops_of}
@@ -53,10 +52,17 @@ IsToldBy bank r (frame.Have replica size) = (replica ≡ r) × (size ≤ length 
 IsToldBy bank r (frame.Answer number reply) = log_reply bank number ≡ Some reply
 IsToldBy bank r other = ⊥
 
+-- what is stored is this checkpoint, as a mark puts it: in the second layout, with the bank's opening total. Where nothing
+-- is, it is the opening
+abbrev pub IsKeptAs : BankOf → Option (List ℕ) → CheckpointOf → Type 0
+IsKeptAs bank None checkpoint = checkpoint ≡ record { columns = bank.opening; replies = [] }
+IsKeptAs bank (Some bytes) checkpoint = Spells Second (opening_total bank) checkpoint bytes
+    × (length checkpoint.columns.savings ≡ length bank.names)
+
 -- what is stored, or the opening where nothing is, is what the log up to its length comes to
 pub record IsKeptAlong (bank : BankOf) (slot : Option (List ℕ)) : Type 0 where
   pub checkpoint : CheckpointOf
-  pub stored : IsStoredAs bank.opening (length bank.names) slot checkpoint
+  pub stored : IsKeptAs bank slot checkpoint
   pub along : IsCheckpointAlong (held_of bank.opening) (ops_of bank) checkpoint
 
 -- bytes are a state of the bank: they could be what is stored

@@ -153,9 +153,10 @@ fn a_store_without_a_checkpoint_has_no_state(rt: HostRuntime) {
     is_none(&rt, &world, 1, 1);
 }
 
-// The checkpoint that the bytes of a state are.
+// The checkpoint of the three customers' bank that the bytes of a state are, in the second layout.
 fn checkpoint_of(rt: &impl Abort, alloc: Global, bytes: &[u8]) -> Box<Checkpoint> {
-    let checkpoint = read_checkpoint(alloc, bytes, 3)
+    assert!(rt; bytes.starts_with(b"SBCKPT02"));
+    let checkpoint = read_checkpoint(alloc, bytes, 3, 18_000)
         .ok()
         .expect(rt, "a checkpoint");
     Box::new(alloc, checkpoint).expect(rt, "memory")

@@ -15,11 +15,11 @@ use std::process::Abort;
 use std::{env, fs};
 
 // The checkpoint of the three customers' bank after client 7's balance and its payment to bob: its length, how many
-// customers, their savings and checking, the total, and the two replies.
-const SAVED: &[u8] = b"SBCKPT01\x00\x00\x00\x00\x00\x00\x00\x02\x00\x00\x00\x03\
+// customers, their savings and checking, the total, the opening total, and the two replies.
+const SAVED: &[u8] = b"SBCKPT02\x00\x00\x00\x00\x00\x00\x00\x02\x00\x00\x00\x03\
 \x00\x00\x00\x00\x00\x00\x27\x10\x00\x00\x00\x00\x00\x00\x00\x00\x00\x00\x00\x00\x00\x00\x03\xe8\
 \x00\x00\x00\x00\x00\x00\x13\x88\x00\x00\x00\x00\x00\x00\x09\xc4\x00\x00\x00\x00\x00\x00\x00\x00\
-\x00\x00\x00\x00\x00\x00\x48\x44\
+\x00\x00\x00\x00\x00\x00\x48\x44\x00\x00\x00\x00\x00\x00\x46\x50\
 \x00\x00\x00\x00\x00\x00\x00\x3a\x98\x01\x00\x00\x00\x00\x00\x00\x00\x00";
 
 // A bank is saved so.
@@ -73,6 +73,7 @@ fn a_file_has_what_was_put(rt: HostRuntime) {
     save_in(&rt, rt.alloc(), file);
     let held = held_in(&rt, &rt, &folder);
     fs::remove_dir_all(&rt, &folder).expect(&rt, "a folder to remove");
+    assert!(&rt; held.len() == 102);
     expect_bytes(&rt, &held, SAVED, "what the file has");
 }
 

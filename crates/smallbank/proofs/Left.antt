@@ -3,7 +3,7 @@ use Rattle.std.proofs.Common.{◌≡◌, ℕ, ◌+◌, Bool, true, false, refl, 
 use Rattle.sb_calls.specs.Behaviour.{declared_cowns, effect_of}
 use Rattle.cown_board.specs.Board.{BoardOf, IsAfterAll, open_of}
 use Rattle.sb_calls.specs.declared.op.Op.{Op}
-use Rattle.sb_checkpoint.specs.Checkpoint.{Spells}
+use Rattle.sb_checkpoint.specs.Checkpoint.{Second, Spells}
 use Rattle.sb_checkpoint.specs.Stores.{StoreDoes, StoreModel}
 use Rattle.sb_replica.specs.Replica.{BesideOf, replies_held}
 use Rattle.sb_sequencer.specs.Numbering.{IsLog}
@@ -101,6 +101,6 @@ module _ {S : Type 0} (model : StoreModel S) where
         columns = held.columns;
         after = subst (λ (b : BoardOf Op). IsAfterAll declared_cowns effect_of b held.columns) (sym board) held.after;
         bytes = held.bytes;
-        spelled = subst (λ (b : BoardOf Op). Spells (record { columns = held.columns; replies = replies_held b }) held.bytes) (sym board) held.spelled;
+        spelled = subst (λ (b : BoardOf Op). Spells Second _ (record { columns = held.columns; replies = replies_held b }) held.bytes) (sym board) held.spelled;
         holds = held.holds;
       }

@@ -1,26 +1,28 @@
 -- How large checkpoints are, and what is read of one.
-use Rattle.std.proofs.Common.{◌≡◌, ℕ, ◌+◌, ◌*◌, List, length, ap, ap₂, ◌∙◌}
+use Rattle.std.proofs.Common.{◌≡◌, ℕ, ◌+◌, ◌*◌, ℤ, ◌+ℤ◌, List, length, ap, ap₂, ◌∙◌}
 use Rattle.sb_rows.specs.Balances.{Balances}
+use Rattle.lane_audit.specs.Columns.{total}
 use Rattle.sb_calls.specs.declared.call.TheConstants.{LOG_CALLS}
 use Rattle.sb_calls.specs.declared.reply.Reply.{Reply}
-use Rattle.sb_checkpoint.specs.Checkpoint.{CheckpointOf, Spells}
+use Rattle.sb_checkpoint.specs.Checkpoint.{CheckpointOf, IsSpelled, Second, Spells}
 use Rattle.sb_checkpoint.proofs.Spelled.{one_checkpoint, read_back}
 use Rattle.store_bench.specs.Checkpoints.{SpellsFull, size_of}
 
-pub size_is : (columns : Balances) (replies : List Reply) (bytes : List ℕ)
-    → Spells (record { columns = columns; replies = replies }) bytes
+pub size_is : (opening_total : ℤ) (columns : Balances) (replies : List Reply) (bytes : List ℕ)
+    → Spells Second opening_total (record { columns = columns; replies = replies }) bytes
     → length bytes ≡ size_of (length columns.savings) (length replies)
-size_is columns replies bytes is =
-    let back = read_back (record { columns = columns; replies = replies }) bytes is in
-    back.size ∙ ap₂ (λ j k. 28 + 16 * j + 9 * k) back.many back.count
+size_is opening_total columns replies bytes is =
+    let back = read_back Second opening_total (record { columns = columns; replies = replies }) bytes is in
+    back.size ∙ ap₂ (λ j k. 36 + 16 * j + 9 * k) back.many back.count
 
-pub is_full : (columns : Balances) (replies : List Reply) (bytes : List ℕ)
-    → Spells (record { columns = columns; replies = replies }) bytes → length replies ≡ LOG_CALLS → SpellsFull bytes
-is_full columns replies bytes is full =
-    record { checkpoint = record { columns = columns; replies = replies }; spelled = is; full = full }
+pub is_full : (opening_total : ℤ) (columns : Balances) (replies : List Reply) (bytes : List ℕ)
+    → Spells Second opening_total (record { columns = columns; replies = replies }) bytes
+    → opening_total ≡ total columns.savings +ℤ total columns.checking → length replies ≡ LOG_CALLS → SpellsFull opening_total bytes
+is_full opening_total columns replies bytes is opening full =
+    record { checkpoint = record { columns = columns; replies = replies }; spelled = is; opening = opening; full = full }
 
-pub full_is_read : (bytes : List ℕ) (read : CheckpointOf) → SpellsFull bytes → Spells read bytes
+pub full_is_read : (opening_total told : ℤ) (bytes : List ℕ) (read : CheckpointOf) → SpellsFull opening_total bytes → IsSpelled told read bytes
     → length read.replies ≡ LOG_CALLS
-full_is_read bytes read made is =
-    ap (λ (checkpoint : CheckpointOf). length checkpoint.replies) (one_checkpoint read made.checkpoint bytes is made.spelled)
-    ∙ made.full
+full_is_read opening_total told bytes read made is =
+    let one = one_checkpoint is.0 Second told opening_total read made.checkpoint bytes is.1 made.spelled in
+    ap (λ (checkpoint : CheckpointOf). length checkpoint.replies) one.1 ∙ made.full

@@ -1,14 +1,16 @@
 -- Checkpoints of the greatest size.
-use Rattle.std.specs.Prelude.{◌≡◌, ℕ, ◌+◌, ◌*◌, List, length}
+use Rattle.std.specs.Prelude.{◌≡◌, ℕ, ◌+◌, ◌*◌, ℤ, ◌+ℤ◌, List, length}
 use Rattle.sb_calls.specs.declared.call.TheConstants.{LOG_CALLS}
-use Rattle.sb_checkpoint.specs.Checkpoint.{CheckpointOf, Spells}
+use Rattle.lane_audit.specs.Columns.{total}
+use Rattle.sb_checkpoint.specs.Checkpoint.{CheckpointOf, Second, Spells}
 
 -- how many bytes a checkpoint of so many customers and replies has
 abbrev pub size_of : ℕ → ℕ → ℕ
-size_of customers replies = 28 + 16 * customers + 9 * replies
+size_of customers replies = 36 + 16 * customers + 9 * replies
 
--- the bytes spell a checkpoint with as many replies as a log has calls
-pub record SpellsFull (bytes : List ℕ) : Type 0 where
+-- the bytes spell a checkpoint with as many replies as a log has calls, of a bank that has what it opened with
+pub record SpellsFull (opening_total : ℤ) (bytes : List ℕ) : Type 0 where
   pub checkpoint : CheckpointOf
-  pub spelled : Spells checkpoint bytes
+  pub spelled : Spells Second opening_total checkpoint bytes
+  pub opening : opening_total ≡ total checkpoint.columns.savings +ℤ total checkpoint.columns.checking
   pub full : length checkpoint.replies ≡ LOG_CALLS

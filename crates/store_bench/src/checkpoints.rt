@@ -39,15 +39,16 @@ fn write_often(
     ensures { IfOk result (λ measured.
         measured.length ≡ size_of (length columns.now.savings) (length replies.now)) }
 {
+    let opening_total = bank_total(columns);
     let mut sum = 0;
     let start = Instant::now(clock)?;
     for _ in 0..count {
-        let bytes = write_checkpoint(alloc, columns, replies)?;
+        let bytes = write_checkpoint(alloc, columns, opening_total, replies)?;
         sum = with_last(sum, &bytes);
     }
     let time = start.elapsed(clock)?;
     // Once more, to be looked at beside the clock.
-    let bytes = write_checkpoint(alloc, columns, replies)?;
+    let bytes = write_checkpoint(alloc, columns, opening_total, replies)?;
     Ok(Measured {
         length: bytes.len() as u64,
         sum: with_all(sum, &bytes),
@@ -59,13 +60,13 @@ fn write_often(
 pub fn read(clock: &impl Clock, alloc: Global, count: u32) -> Result<Measured, Fault>
     ensures { IfOk result (λ measured. measured.length ≡ LOG_CALLS) }
 {
-    let bytes = written(alloc)?;
-    read_often(clock, alloc, &bytes, count)
+    let (bytes, opening_total) = written(alloc)?;
+    read_often(clock, alloc, &bytes, opening_total, count)
 }
 
-/// The checkpoint that is read.
-pub(crate) fn written(alloc: Global) -> Result<Vec<u8>, Fault>
-    ensures { IfOk result (λ bytes. SpellsFull bytes.items) }
+/// The checkpoint that is read, and the opening total of its bank.
+pub(crate) fn written(alloc: Global) -> Result<(Vec<u8>, i64), Fault>
+    ensures { IfOk result (λ made. SpellsFull made.1 made.0.items) }
 {
     let opening = open_bank(alloc, CUSTOMERS as u32, BALANCES)?;
     let replies = all_replies(alloc)?;
@@ -73,39 +74,52 @@ pub(crate) fn written(alloc: Global) -> Result<Vec<u8>, Fault>
 }
 
 #[tactic(auto, using(crate::proofs::Sizes::is_full))]
-fn write_once(alloc: Global, columns: &Columns, replies: &[Reply]) -> Result<Vec<u8>, Fault>
+fn write_once(
+    alloc: Global,
+    columns: &Columns,
+    replies: &[Reply],
+) -> Result<(Vec<u8>, i64), Fault>
     requires full { length replies.now ≡ LOG_CALLS }
     requires valid { All IsReply replies.now }
-    ensures { IfOk result (λ bytes. SpellsFull bytes.items) }
+    ensures { IfOk result (λ made. SpellsFull made.1 made.0.items) }
 {
-    Ok(write_checkpoint(alloc, columns, replies)?)
+    let opening_total = bank_total(columns);
+    let bytes = write_checkpoint(alloc, columns, opening_total, replies)?;
+    Ok((bytes, opening_total))
 }
 
 fn read_often(
     clock: &impl Clock,
     alloc: Global,
     bytes: &[u8],
+    opening_total: i64,
     count: u32,
 ) -> Result<Measured, Fault>
-    requires { SpellsFull bytes.now }
+    requires { SpellsFull opening_total bytes.now }
     ensures { IfOk result (λ measured. measured.length ≡ LOG_CALLS) }
 {
     let mut sum = 0;
     let start = Instant::now(clock)?;
     for _ in 0..count {
-        let checkpoint = read_checkpoint(alloc, bytes, CUSTOMERS)?;
+        let checkpoint = read_checkpoint(alloc, bytes, CUSTOMERS, opening_total)?;
         sum = with_last_reply(sum, checkpoint.replies());
     }
     let time = start.elapsed(clock)?;
-    read_once(alloc, bytes, sum, time)
+    read_once(alloc, bytes, opening_total, sum, time)
 }
 
 // Reads it once more, to look at it beside the clock.
-fn read_once(alloc: Global, bytes: &[u8], sum: i64, time: Duration) -> Result<Measured, Fault>
-    requires { SpellsFull bytes.now }
+fn read_once(
+    alloc: Global,
+    bytes: &[u8],
+    opening_total: i64,
+    sum: i64,
+    time: Duration,
+) -> Result<Measured, Fault>
+    requires { SpellsFull opening_total bytes.now }
     ensures { IfOk result (λ measured. measured.length ≡ LOG_CALLS) }
 {
-    let checkpoint = read_checkpoint(alloc, bytes, CUSTOMERS)?;
+    let checkpoint = read_checkpoint(alloc, bytes, CUSTOMERS, opening_total)?;
     let sum = with_shown(sum, checkpoint.replies());
     Ok(Measured {
         length: checkpoint.replies().len() as u64,

@@ -20,7 +20,7 @@ const NOTHING: &str = "0.00 0.00";
 /// A replica at its opening adopts a state of the greatest size this often. It comes to how long its log is, and what
 /// all customers have.
 pub fn adopt(clock: &impl Clock, alloc: Global, count: u32) -> Result<Measured, Fault> {
-    let bytes = written(alloc)?;
+    let (bytes, _) = written(alloc)?;
     let mut replica = open_replica(alloc, CUSTOMERS as u32, BALANCES)?;
     let mut time = Duration::ZERO;
     for _ in 0..count {
@@ -43,14 +43,14 @@ fn adopt_once(
 
 /// The same checkpoint is read and a board opened on it this often. It comes to the same.
 pub fn open(clock: &impl Clock, alloc: Global, count: u32) -> Result<Measured, Fault> {
-    let bytes = written(alloc)?;
+    let (bytes, opening_total) = written(alloc)?;
     let mut last = Measured {
         length: 0,
         sum: 0,
         time: Duration::ZERO,
     };
     for _ in 0..count {
-        let opened = open_once(clock, alloc, &bytes)?;
+        let opened = open_once(clock, alloc, &bytes, opening_total)?;
         last = Measured {
             time: last.time.saturating_add(opened.time),
             ..opened
@@ -60,9 +60,14 @@ pub fn open(clock: &impl Clock, alloc: Global, count: u32) -> Result<Measured, F
 }
 
 // A board on a checkpoint, and how long it took.
-fn open_once(clock: &impl Clock, alloc: Global, bytes: &[u8]) -> Result<Measured, Fault> {
+fn open_once(
+    clock: &impl Clock,
+    alloc: Global,
+    bytes: &[u8],
+    opening_total: i64,
+) -> Result<Measured, Fault> {
     let start = Instant::now(clock)?;
-    let board = board_on(alloc, bytes)?;
+    let board = board_on(alloc, bytes, opening_total)?;
     let time = start.elapsed(clock)?;
     Ok(Measured {
         length: board.length(),
@@ -71,8 +76,9 @@ fn open_once(clock: &impl Clock, alloc: Global, bytes: &[u8]) -> Result<Measured
     })
 }
 
-fn board_on(alloc: Global, bytes: &[u8]) -> Result<Box<Board<Op>>, Fault> {
-    let (columns, replies) = read_checkpoint(alloc, bytes, CUSTOMERS)?.into_parts();
+fn board_on(alloc: Global, bytes: &[u8], opening_total: i64) -> Result<Box<Board<Op>>, Fault> {
+    let checkpoint = read_checkpoint(alloc, bytes, CUSTOMERS, opening_total)?;
+    let (columns, replies) = checkpoint.into_parts();
     let length = replies.len() as u64;
     let board = Board::open(alloc, columns, length, replies)?;
     Ok(Box::new(alloc, board)?)

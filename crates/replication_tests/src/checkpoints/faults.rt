@@ -3,27 +3,50 @@ use super::*;
 
 #[test]
 fn every_proper_beginning_is_short(rt: HostRuntime) {
-    let bytes = bytes(&rt, &[HEAD, SAVINGS, CHECKING, TOTAL, REPLIES]);
-    for length in 0..bytes.len() {
-        is_refused(&rt, &bytes[..length], 3, CheckpointFault::Short);
+    for fields in [FIRST, SECOND] {
+        let bytes = bytes(&rt, &fields);
+        for length in 0..bytes.len() {
+            is_refused(&rt, &bytes[..length], THREE, CheckpointFault::Short);
+        }
     }
+}
+
+// The fields of one layout behind the head of the other: eight bytes are missing, or left over.
+#[test]
+fn a_head_of_the_other_layout(rt: HostRuntime) {
+    let missing = bytes(&rt, &[SECOND_HEAD, SAVINGS, CHECKING, TOTAL, REPLIES]);
+    is_refused(&rt, &missing, THREE, CheckpointFault::Short);
+    let over = bytes(
+        &rt,
+        &[FIRST_HEAD, SAVINGS, CHECKING, TOTAL, OPENING, REPLIES],
+    );
+    is_refused(&rt, &over, THREE, CheckpointFault::Long);
 }
 
 #[test]
 fn bytes_left_over(rt: HostRuntime) {
-    let bytes = bytes(&rt, &[HEAD, SAVINGS, CHECKING, TOTAL, REPLIES, "00"]);
-    is_refused(&rt, &bytes, 3, CheckpointFault::Long);
+    for fields in [FIRST, SECOND] {
+        let mut bytes = bytes(&rt, &fields);
+        bytes.push(0).expect(&rt, "memory for a byte");
+        is_refused(&rt, &bytes, THREE, CheckpointFault::Long);
+    }
 }
 
-// Each of these lists of fields is refused for this many customers, and with this fault.
+// The savings, the checking balances, their total and the replies.
+type Fields = [&'static str; 4];
+
+// Each of these is refused in either layout for so many customers, and with this fault.
 fn are_refused(
     rt: &(impl Abort + AllocGlobal),
-    customers: usize,
+    origin: Origin,
     fault: CheckpointFault,
-    cases: &[[&str; 5]],
+    cases: &[Fields],
 ) {
-    for fields in cases {
-        is_refused(rt, &bytes(rt, fields.as_slice()), customers, fault);
+    for [savings, checking, total, replies] in cases {
+        let first = [FIRST_HEAD, savings, checking, total, "", replies];
+        is_refused(rt, &bytes(rt, &first), origin, fault);
+        let second = [SECOND_HEAD, savings, checking, total, OPENING, replies];
+        is_refused(rt, &bytes(rt, &second), origin, fault);
     }
 }
 
@@ -49,71 +72,87 @@ const SHOWN: &str =
 
 #[test]
 fn the_magic_counts_first(rt: HostRuntime) {
-    let other_head = "5242434b50543031 0000000000000005 00000003";
-    are_refused(
-        &rt,
-        3,
-        CheckpointFault::BadMagic,
-        &[
-            ["52", "", "", "", ""],
-            ["5342434b50543032", "", "", "", ""],
-            [other_head, SAVINGS, CHECKING, TOTAL, REPLIES],
-        ],
-    );
+    for head in [
+        "52",
+        "5342434b50543030",
+        "5342434b50543033",
+        "5242434b50543031 0000000000000005 00000003",
+        "5242434b50543032 0000000000000005 00000003",
+    ] {
+        let bytes = bytes(&rt, &[head, SAVINGS, CHECKING, TOTAL, OPENING, REPLIES]);
+        is_refused(&rt, &bytes, THREE, CheckpointFault::BadMagic);
+    }
+    is_refused(&rt, &[0x52], THREE, CheckpointFault::BadMagic);
 }
 
 #[test]
 fn then_the_number_of_customers(rt: HostRuntime) {
     let fault = CheckpointFault::WrongCustomers;
-    are_refused(
-        &rt,
-        4,
-        fault,
-        &[[HEAD, ABOVE, ABOVE, ANOTHER_TOTAL, CODE_8]],
-    );
-    are_refused(&rt, 2, fault, &[[HEAD, SAVINGS, CHECKING, TOTAL, REPLIES]]);
+    let cases = [
+        [ABOVE, ABOVE, ANOTHER_TOTAL, CODE_8],
+        [SAVINGS, CHECKING, TOTAL, REPLIES],
+    ];
+    are_refused(&rt, (4, 18_001), fault, &cases);
+    are_refused(&rt, (2, 18_000), fault, &cases);
 }
 
 #[test]
 fn then_the_balances_and_their_total(rt: HostRuntime) {
-    are_refused(
-        &rt,
-        3,
-        CheckpointFault::OutOfRange,
-        &[
-            [HEAD, ABOVE, CHECKING, TOTAL, REPLIES],
-            [HEAD, SAVINGS, ABOVE, TOTAL, REPLIES],
-            [HEAD, SAVINGS, ABOVE, ANOTHER_TOTAL, REPLIES],
-            [HEAD, NEGATIVE, BELOW, TOTAL, REPLIES],
-        ],
-    );
-    are_refused(
-        &rt,
-        3,
-        CheckpointFault::NegativeSavings,
-        &[[HEAD, NEGATIVE, CHECKING, TOTAL, CODE_8]],
-    );
-    are_refused(
-        &rt,
-        3,
-        CheckpointFault::WrongTotal,
-        &[
-            [HEAD, SAVINGS, ANOTHER_BALANCE, TOTAL, REPLIES],
-            [HEAD, SAVINGS, CHECKING, ANOTHER_TOTAL, CODE_8],
-        ],
-    );
+    // Another opening total counts later.
+    for opening_total in [18_000, 18_001] {
+        let origin = (3, opening_total);
+        are_refused(
+            &rt,
+            origin,
+            CheckpointFault::OutOfRange,
+            &[
+                [ABOVE, CHECKING, TOTAL, REPLIES],
+                [SAVINGS, ABOVE, TOTAL, REPLIES],
+                [SAVINGS, ABOVE, ANOTHER_TOTAL, REPLIES],
+                [NEGATIVE, BELOW, TOTAL, REPLIES],
+            ],
+        );
+        are_refused(
+            &rt,
+            origin,
+            CheckpointFault::NegativeSavings,
+            &[[NEGATIVE, CHECKING, TOTAL, CODE_8]],
+        );
+        are_refused(
+            &rt,
+            origin,
+            CheckpointFault::WrongTotal,
+            &[
+                [SAVINGS, ANOTHER_BALANCE, TOTAL, REPLIES],
+                [SAVINGS, CHECKING, ANOTHER_TOTAL, CODE_8],
+            ],
+        );
+    }
+}
+
+#[test]
+fn then_the_opening_total(rt: HostRuntime) {
+    for opening_total in [18_001, 17_999, -18_000, 0, i64::MIN, i64::MAX] {
+        let origin = (3, opening_total);
+        for replies in [REPLIES, CODE_8, "00"] {
+            let fields = [SECOND_HEAD, SAVINGS, CHECKING, TOTAL, OPENING, replies, REPLIES];
+            is_refused(&rt, &bytes(&rt, &fields), origin, CheckpointFault::WrongOpening);
+        }
+        // The first layout has none.
+        assert!(&rt; fault_of(&rt, &bytes(&rt, &FIRST), origin).is_none());
+    }
 }
 
 #[test]
 fn then_the_replies(rt: HostRuntime) {
     are_refused(
         &rt,
-        3,
+        THREE,
         CheckpointFault::BadReply,
         &[
-            [HEAD, SAVINGS, CHECKING, TOTAL, CODE_8],
-            [HEAD, SAVINGS, CHECKING, TOTAL, DONE_1],
-            [HEAD, SAVINGS, CHECKING, TOTAL, SHOWN],
+            [SAVINGS, CHECKING, TOTAL, CODE_8],
+            [SAVINGS, CHECKING, TOTAL, DONE_1],
+            [SAVINGS, CHECKING, TOTAL, SHOWN],
         ],
     );
 }

@@ -9,35 +9,66 @@ fn flipped(
 ) -> Option<CheckpointFault> {
     assert!(rt; place < bytes.len());
     bytes[place] ^= 1;
-    let answer = read_checkpoint(rt.alloc(), bytes, 3);
+    let answer = fault_of(rt, bytes, THREE);
     bytes[place] ^= 1;
-    answer.err()
+    answer
 }
 
 fn count_of(answers: &[Option<CheckpointFault>], answer: Option<CheckpointFault>) -> usize {
     answers.iter().filter(|other| **other == answer).count()
 }
 
-#[test]
-fn the_lowest_bit_of_each_byte(rt: HostRuntime) {
-    let mut bytes = bytes(&rt, &[HEAD, SAVINGS, CHECKING, TOTAL, REPLIES]);
+// So many of the answers to the flips of each byte are these.
+fn are_answered(
+    rt: &(impl Abort + AllocGlobal),
+    fields: &[&str],
+    counts: &[(Option<CheckpointFault>, usize)],
+) {
+    let mut bytes = bytes(rt, fields);
     let mut answers = Vec::new(rt.alloc());
     for place in 0..bytes.len() {
-        let answer = flipped(&rt, &mut bytes, place);
-        answers.push(answer).expect(&rt, "memory for an answer");
+        let answer = flipped(rt, &mut bytes, place);
+        answers.push(answer).expect(rt, "memory for an answer");
     }
-    assert!(rt; answers.len() == 121);
-    for (answer, count) in [
-        (Some(CheckpointFault::BadMagic), 8),
-        (Some(CheckpointFault::Short), 10),
-        (Some(CheckpointFault::WrongCustomers), 1),
-        (Some(CheckpointFault::OutOfRange), 18),
-        (Some(CheckpointFault::WrongTotal), 38),
-        (Some(CheckpointFault::BadReply), 35),
-        (Some(CheckpointFault::Long), 1),
-        // Replies that are others.
-        (None, 10),
-    ] {
-        assert!(rt; count_of(&answers, answer) == count, "{answer:?}");
+    for (answer, count) in counts {
+        assert!(rt; count_of(&answers, *answer) == *count, "{answer:?}");
     }
+}
+
+#[test]
+fn the_lowest_bit_of_each_of_121_bytes(rt: HostRuntime) {
+    are_answered(
+        &rt,
+        &FIRST,
+        &[
+            (Some(CheckpointFault::BadMagic), 8),
+            (Some(CheckpointFault::Short), 10),
+            (Some(CheckpointFault::WrongCustomers), 1),
+            (Some(CheckpointFault::OutOfRange), 18),
+            (Some(CheckpointFault::WrongTotal), 38),
+            (Some(CheckpointFault::BadReply), 35),
+            (Some(CheckpointFault::Long), 1),
+            // Replies that are others.
+            (None, 10),
+        ],
+    );
+}
+
+#[test]
+fn the_lowest_bit_of_each_of_129_bytes(rt: HostRuntime) {
+    are_answered(
+        &rt,
+        &SECOND,
+        &[
+            (Some(CheckpointFault::BadMagic), 8),
+            (Some(CheckpointFault::Short), 10),
+            (Some(CheckpointFault::WrongCustomers), 1),
+            (Some(CheckpointFault::OutOfRange), 18),
+            (Some(CheckpointFault::WrongTotal), 38),
+            (Some(CheckpointFault::WrongOpening), 8),
+            (Some(CheckpointFault::BadReply), 35),
+            (Some(CheckpointFault::Long), 1),
+            (None, 10),
+        ],
+    );
 }

@@ -21,43 +21,68 @@ pub(crate) fn full_bank(rt: &(impl Abort + AllocGlobal)) -> Columns {
 #[test]
 fn a_full_bank_is_written_and_read(rt: HostRuntime) {
     let columns = full_bank(&rt);
-    let bytes = write_checkpoint(rt.alloc(), &columns, &[]).expect(&rt, "memory for bytes");
-    assert!(rt; bytes.len() == 28 + 16 * 65_536);
-    are_read(&rt, &bytes, columns.savings(), columns.checking(), &[]);
+    let least = -65_536 * 1_000_000_000_000;
+    let bytes = write_checkpoint(rt.alloc(), &columns, least, &[]).expect(&rt, "memory for bytes");
+    assert!(&rt; bytes.len() == 36 + 16 * 65_536);
+    let told = Told {
+        savings: columns.savings(),
+        checking: columns.checking(),
+        replies: &[],
+    };
+    are_read(&rt, &bytes, least, told, &bytes);
 }
 
+// The fields of a checkpoint of no customers in each layout, before its length and behind it.
+const FIRST_OF_NOBODY: [&str; 2] = ["5342434b50543031", "00000000 0000000000000000"];
+
+const SECOND_OF_NOBODY: [&str; 2] = [
+    "5342434b50543032",
+    "00000000 0000000000000000 0000000000000000",
+];
+
 // A checkpoint of no customers, of this length, and with so many replies, each of which shows 0.
-fn shown_nothing(rt: &(impl Abort + AllocGlobal), length: &str, replies: usize) -> Vec<u8> {
-    let mut bytes = bytes(
-        rt,
-        &["5342434b50543031", length, "00000000", "0000000000000000"],
-    );
-    let size = 28usize.saturating_add(replies.saturating_mul(9));
+fn shown_nothing(
+    rt: &(impl Abort + AllocGlobal),
+    layout: [&str; 2],
+    length: &str,
+    replies: usize,
+) -> Vec<u8> {
+    let [head, behind] = layout;
+    let mut bytes = bytes(rt, &[head, length, behind]);
+    let size = bytes.len().saturating_add(replies.saturating_mul(9));
     bytes.resize(size, 0).expect(rt, "memory for replies");
     bytes
 }
 
 #[test]
 fn a_full_log_is_read_and_written(rt: HostRuntime) {
-    let bytes = shown_nothing(&rt, "00000000000f4240", 1_000_000);
-    let replies = Vec::from_elem(rt.alloc(), Reply::Shown(0), 1_000_000).expect(
-        &rt,
-        "memory for replies",
-    );
-    are_read(&rt, &bytes, &[], &[], &replies);
+    let length = "00000000000f4240";
+    let first = shown_nothing(&rt, FIRST_OF_NOBODY, length, 1_000_000);
+    let second = shown_nothing(&rt, SECOND_OF_NOBODY, length, 1_000_000);
+    let replies = Vec::from_elem(rt.alloc(), Reply::Shown(0), 1_000_000);
+    let replies = replies.expect(&rt, "memory for replies");
+    let told = Told {
+        savings: &[],
+        checking: &[],
+        replies: &replies,
+    };
+    are_read(&rt, &first, 0, told, &second);
+    are_read(&rt, &second, 0, told, &second);
 }
 
 #[test]
 fn one_reply_more_than_a_log_takes_is_too_long(rt: HostRuntime) {
-    let bytes = shown_nothing(&rt, "00000000000f4241", 1_000_001);
-    is_refused(&rt, &bytes, 0, CheckpointFault::Long);
+    for layout in [FIRST_OF_NOBODY, SECOND_OF_NOBODY] {
+        let bytes = shown_nothing(&rt, layout, "00000000000f4241", 1_000_001);
+        is_refused(&rt, &bytes, (0, 0), CheckpointFault::Long);
+    }
 }
 
 #[test]
 fn the_greatest_stated_sizes_are_short(rt: HostRuntime) {
-    let bytes = bytes(
-        &rt,
-        &["5342434b50543031 ffffffffffffffff ffffffff 0000000000000000"],
-    );
-    is_refused(&rt, &bytes, 0, CheckpointFault::Short);
+    for head in ["5342434b50543031", "5342434b50543032"] {
+        let stated = "ffffffffffffffff ffffffff 0000000000000000 0000000000000000";
+        let bytes = bytes(&rt, &[head, stated]);
+        is_refused(&rt, &bytes, (0, 0), CheckpointFault::Short);
+    }
 }

@@ -1,48 +1,76 @@
 //! Checkpoints that are read, and written again.
 use super::*;
 
-#[test]
-fn three_customers_and_five_replies(rt: HostRuntime) {
-    let bytes = bytes(&rt, &[HEAD, SAVINGS, CHECKING, TOTAL, REPLIES]);
-    assert!(rt; bytes.len() == 121);
-    let done = Reply::Done;
-    are_read(
-        &rt,
-        &bytes,
-        &[0, 0, 0],
-        &[0, 2500, 0],
-        &[Reply::Shown(15000), done, done, done, done],
-    );
-}
+const FIVE_REPLIES: [Reply; 5] = [
+    Reply::Shown(15_000),
+    Reply::Done,
+    Reply::Done,
+    Reply::Done,
+    Reply::Done,
+];
 
 #[test]
+fn three_customers_and_five_replies(rt: HostRuntime) {
+    let first = bytes(&rt, &FIRST);
+    let second = bytes(&rt, &SECOND);
+    assert!(&rt; first.len() == 121 && second.len() == 129);
+    let told = Told {
+        savings: &[0, 0, 0],
+        checking: &[0, 2_500, 0],
+        replies: &FIVE_REPLIES,
+    };
+    are_read(&rt, &first, 18_000, told, &second);
+    are_read(&rt, &second, 18_000, told, &second);
+}
+
+// The first layout has no opening total: it is written again with whichever the bank has.
+#[test]
 fn no_customers_and_no_replies(rt: HostRuntime) {
-    let bytes = bytes(
+    let first = bytes(
         &rt,
         &["5342434b50543031 0000000000000000 00000000 0000000000000000"],
     );
-    are_read(&rt, &bytes, &[], &[], &[]);
+    let head = "5342434b50543032 0000000000000000 00000000 0000000000000000";
+    for (opening, opening_total) in [
+        ("0000000000000000", 0),
+        ("ffffffffffffffff", -1),
+        ("8000000000000000", i64::MIN),
+        ("7fffffffffffffff", i64::MAX),
+    ] {
+        let second = bytes(&rt, &[head, opening]);
+        let told = Told {
+            savings: &[],
+            checking: &[],
+            replies: &[],
+        };
+        are_read(&rt, &first, opening_total, told, &second);
+        are_read(&rt, &second, opening_total, told, &second);
+    }
 }
+
+const LIMITS: [&str; 5] = [
+    "000000e8d4a51000 0000000000000000",
+    "000000e8d4a51000 ffffff172b5af000",
+    "000000e8d4a51000",
+    "00 000001d1a94a2000 00 fffffe2e56b5e000 01 0000000000000000 02 0000000000000000 03 0000000000000000",
+    "04 0000000000000000 05 0000000000000000 06 0000000000000000 07 0000000000000000",
+];
 
 #[test]
 fn each_reply_and_balances_at_the_limit(rt: HostRuntime) {
-    let bytes = bytes(
+    let [savings, checking, total, replies, more] = LIMITS;
+    let opening = "fffffffffffffed4";
+    let head = "5342434b50543031 0000000000000009 00000002";
+    let first = bytes(&rt, &[head, savings, checking, total, replies, more]);
+    let head = "5342434b50543032 0000000000000009 00000002";
+    let second = bytes(
         &rt,
-        &[
-            "5342434b50543031 0000000000000009 00000002",
-            "000000e8d4a51000 0000000000000000",
-            "000000e8d4a51000 ffffff172b5af000",
-            "000000e8d4a51000",
-            "00 000001d1a94a2000 00 fffffe2e56b5e000 01 0000000000000000 02 0000000000000000 03 0000000000000000",
-            "04 0000000000000000 05 0000000000000000 06 0000000000000000 07 0000000000000000",
-        ],
+        &[head, savings, checking, total, opening, replies, more],
     );
-    are_read(
-        &rt,
-        &bytes,
-        &[1_000_000_000_000, 0],
-        &[1_000_000_000_000, -1_000_000_000_000],
-        &[
+    let told = Told {
+        savings: &[1_000_000_000_000, 0],
+        checking: &[1_000_000_000_000, -1_000_000_000_000],
+        replies: &[
             Reply::Shown(2_000_000_000_000),
             Reply::Shown(-2_000_000_000_000),
             Reply::Done,
@@ -53,5 +81,7 @@ fn each_reply_and_balances_at_the_limit(rt: HostRuntime) {
             Reply::WouldOverdraw,
             Reply::OverLimit,
         ],
-    );
+    };
+    are_read(&rt, &first, -300, told, &second);
+    are_read(&rt, &second, -300, told, &second);
 }

@@ -1,16 +1,17 @@
 //! Checkpoints that are put into the store.
 use super::*;
-use crate::checkpoints::{CHECKING, HEAD, REPLIES, SAVINGS, TOTAL};
+use crate::checkpoints::{OPENING, SECOND};
 
 // The checkpoint after the five calls of the last test, by hand.
-pub(crate) const AFTER_FIVE_CALLS: [&str; 5] = [HEAD, SAVINGS, CHECKING, TOTAL, REPLIES];
+pub(crate) const AFTER_FIVE_CALLS: [&str; 6] = SECOND;
 
 // The checkpoint after a deposit of 1.00 to alice, by hand.
-pub(crate) const AFTER_A_DEPOSIT: [&str; 5] = [
-    "5342434b50543031 0000000000000001 00000003",
+pub(crate) const AFTER_A_DEPOSIT: [&str; 6] = [
+    "5342434b50543032 0000000000000001 00000003",
     "0000000000002710 0000000000000000 00000000000003e8",
     "00000000000013ec 00000000000007d0 0000000000000000",
     "00000000000046b4",
+    OPENING,
     "01 0000000000000000",
 ];
 

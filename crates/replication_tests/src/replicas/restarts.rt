@@ -1,5 +1,7 @@
 //! Replicas that go back to their checkpoint.
+use super::marks::AFTER_FIVE_CALLS;
 use super::*;
+use crate::checkpoints::{CHECKING, FIRST, REPLIES, SAVINGS, SECOND_HEAD, TOTAL};
 
 // A replica whose store held these bytes before it was opened is restarted, and is as it was.
 fn is_refused(rt: &(impl Abort + AllocGlobal), bytes: &[u8], fault: CheckpointFault) {
@@ -18,11 +20,38 @@ fn is_refused(rt: &(impl Abort + AllocGlobal), bytes: &[u8], fault: CheckpointFa
 #[test]
 fn bytes_that_are_no_checkpoint_of_the_bank(rt: HostRuntime) {
     is_refused(&rt, b"no checkpoint", CheckpointFault::BadMagic);
+    is_refused(&rt, b"SBCKPT03", CheckpointFault::BadMagic);
     is_refused(&rt, b"SBCKPT01", CheckpointFault::Short);
+    is_refused(&rt, b"SBCKPT02", CheckpointFault::Short);
     // A checkpoint of a bank without customers.
     let mut bytes = [0; 28];
     bytes[..8].copy_from_slice(b"SBCKPT01");
     is_refused(&rt, &bytes, CheckpointFault::WrongCustomers);
+    // One of a bank that opened with a cent less.
+    let opening = "000000000000464f";
+    let fields = [SECOND_HEAD, SAVINGS, CHECKING, TOTAL, opening, REPLIES];
+    is_refused(&rt, &super::bytes(&rt, &fields), CheckpointFault::WrongOpening);
+}
+
+// A checkpoint in the first layout is gone back to; the next mark puts it in the second.
+#[test]
+fn a_restart_from_the_first_layout(rt: HostRuntime) {
+    plays_over(
+        &rt,
+        Some(&bytes(&rt, &FIRST)),
+        &[
+            Step::AcceptUpTo(1, "deposit alice 1.00"),
+            Step::Restart(Ok(5)),
+            Step::Ends(5, [0, 2_500, 0]),
+            Step::ReplyTo(1, Some(Reply::Shown(15_000))),
+            Step::ReplyTo(5, Some(Reply::Done)),
+            Step::Stored(Some(&FIRST)),
+            Step::Mark(Ok(5)),
+            Step::Stored(Some(&AFTER_FIVE_CALLS)),
+            Step::Restart(Ok(5)),
+            Step::Ends(5, [0, 2_500, 0]),
+        ],
+    );
 }
 
 #[test]

@@ -1,23 +1,41 @@
 //! States: the checkpoint of one replica, adopted by another.
 use super::marks::{AFTER_A_DEPOSIT, AFTER_FIVE_CALLS};
 use super::*;
-use crate::checkpoints::{CHECKING, HEAD, REPLIES, SAVINGS, TOTAL};
+use crate::checkpoints::{CHECKING, FIRST, FIRST_HEAD, OPENING, REPLIES, SAVINGS, SECOND_HEAD, TOTAL};
 
-// The first 120 bytes of the checkpoint after five calls.
-const SHORT: [&str; 5] = [
-    HEAD,
+// The first 128 bytes of the checkpoint after five calls.
+const SHORT: [&str; 6] = [
+    SECOND_HEAD,
     SAVINGS,
     CHECKING,
     TOTAL,
+    OPENING,
     "00 0000000000003a98 01 0000000000000000 01 0000000000000000 01 0000000000000000 01 00000000000000",
 ];
 
 // The checkpoint after five calls, a cent off.
-const A_CENT_OFF: [&str; 5] = [HEAD, SAVINGS, CHECKING, "00000000000009c5", REPLIES];
+const A_CENT_OFF: [&str; 6] = [
+    SECOND_HEAD,
+    SAVINGS,
+    CHECKING,
+    "00000000000009c5",
+    OPENING,
+    REPLIES,
+];
 
-// The same, but its first reply is none.
+// That of a bank that opened with a cent more.
+const ANOTHER_BANKS: [&str; 6] = [
+    SECOND_HEAD,
+    SAVINGS,
+    CHECKING,
+    TOTAL,
+    "0000000000004651",
+    REPLIES,
+];
+
+// Its first reply is none.
 const NO_REPLY: [&str; 5] = [
-    HEAD,
+    FIRST_HEAD,
     SAVINGS,
     CHECKING,
     TOTAL,
@@ -82,6 +100,35 @@ fn a_state_that_was_adopted_is_marked(rt: HostRuntime) {
     );
 }
 
+// The next mark puts it in the second layout.
+#[test]
+fn a_state_in_the_first_layout_is_adopted(rt: HostRuntime) {
+    plays(
+        &rt,
+        &[
+            Step::Adopt(&FIRST, Ok(Adopted::Adopted(5))),
+            Step::Ends(5, [0, 2_500, 0]),
+            Step::Adopt(&FIRST, Ok(Adopted::Behind(5))),
+            Step::Mark(Ok(5)),
+            Step::Stored(Some(&AFTER_FIVE_CALLS)),
+        ],
+    );
+}
+
+// It is given as it's stored.
+#[test]
+fn a_stored_state_in_the_first_layout_is_kept(rt: HostRuntime) {
+    plays_over(
+        &rt,
+        Some(&bytes(&rt, &FIRST)),
+        &[
+            Step::Keeps(Some((5, &FIRST))),
+            Step::HaveFrame(5),
+            Step::Stored(Some(&FIRST)),
+        ],
+    );
+}
+
 #[test]
 fn a_state_that_is_not_adopted_changes_nothing(rt: HostRuntime) {
     plays(
@@ -103,6 +150,10 @@ fn a_state_that_is_not_adopted_changes_nothing(rt: HostRuntime) {
             Step::Adopt(
                 &A_CENT_OFF,
                 Err(AdoptFault::BadCheckpoint(CheckpointFault::WrongTotal)),
+            ),
+            Step::Adopt(
+                &ANOTHER_BANKS,
+                Err(AdoptFault::BadCheckpoint(CheckpointFault::WrongOpening)),
             ),
             Step::Adopt(
                 &NO_REPLY,
@@ -194,10 +245,11 @@ fn stored_bytes_that_are_no_state(rt: HostRuntime) {
             &[Step::KeepsNone(RestartFault::BadCheckpoint(fault))],
         );
     }
-    let fault = RestartFault::BadCheckpoint(CheckpointFault::WrongTotal);
-    plays_over(
-        &rt,
-        Some(&bytes(&rt, &A_CENT_OFF)),
-        &[Step::KeepsNone(fault)],
-    );
+    for (fields, fault) in [
+        (A_CENT_OFF, CheckpointFault::WrongTotal),
+        (ANOTHER_BANKS, CheckpointFault::WrongOpening),
+    ] {
+        let fault = RestartFault::BadCheckpoint(fault);
+        plays_over(&rt, Some(&bytes(&rt, &fields)), &[Step::KeepsNone(fault)]);
+    }
 }

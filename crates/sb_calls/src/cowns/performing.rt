@@ -73,15 +73,15 @@ fn cowns_of_places(places: TwoPlaces) -> ArrayVec<Cown, BEHAVIOUR_COWNS>
 fn checkings_of_places(places: TwoPlaces) -> ArrayVec<Cown, BEHAVIOUR_COWNS>
     ensures { result.items ≡ checkings_of_two places.0 places.1 }
 {
-    let from = places.from();
-    let to = places.to();
+    let payer = places.from();
+    let taker = places.to();
     let mut cowns = ArrayVec::new();
-    if from < to {
-        cowns.push(Cown::checking(from));
-        cowns.push(Cown::checking(to));
+    if payer < taker {
+        cowns.push(Cown::checking(payer));
+        cowns.push(Cown::checking(taker));
     } else {
-        cowns.push(Cown::checking(to));
-        cowns.push(Cown::checking(from));
+        cowns.push(Cown::checking(taker));
+        cowns.push(Cown::checking(payer));
     }
     cowns
 }
@@ -143,12 +143,11 @@ fn send_payment(places: TwoPlaces, amount: Cents, inputs: &[Cents]) -> Effect
     ensures reply { result.0 ≡ (payment_effect places.0 places.1 amount inputs.now).0 }
     ensures outputs { result.1.items ≡ (payment_effect places.0 places.1 amount inputs.now).1 }
 {
-    let first = inputs[0];
-    let second = inputs[1];
-    if places.from() < places.to() {
-        pay_payer_first(amount, first, second)
+    let payer_is_first = places.from() < places.to();
+    if payer_is_first {
+        pay_payer_first(amount, inputs[0], inputs[1])
     } else {
-        pay_paid_first(amount, first, second)
+        pay_paid_first(amount, inputs[0], inputs[1])
     }
 }
 

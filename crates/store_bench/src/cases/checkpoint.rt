@@ -1,4 +1,4 @@
-//! A checkpoint that is read, and written again.
+//! A checkpoint that is read in either layout, and written again.
 ghost use Rattle.std.specs.Prelude.{IfOk};
 ghost use Rattle.sb_checkpoint.specs.Checkpoint.{IsCheckpoint};
 
@@ -7,8 +7,11 @@ use crate::cases::report::Report;
 use sb_checkpoint::{Checkpoint, CheckpointFault, read_checkpoint, write_checkpoint};
 use std::alloc::{AllocError, Global};
 
+// What the three customers had at the opening.
+const OPENING_TOTAL: i64 = 18_000;
+
 // Three customers and five replies.
-const BYTES: &[u8] = b"SBCKPT01\x00\x00\x00\x00\x00\x00\x00\x05\x00\x00\x00\x03\
+const FIRST: &[u8] = b"SBCKPT01\x00\x00\x00\x00\x00\x00\x00\x05\x00\x00\x00\x03\
 \x00\x00\x00\x00\x00\x00\x00\x00\x00\x00\x00\x00\x00\x00\x00\x00\x00\x00\x00\x00\x00\x00\x00\x00\
 \x00\x00\x00\x00\x00\x00\x00\x00\x00\x00\x00\x00\x00\x00\x09\xc4\x00\x00\x00\x00\x00\x00\x00\x00\
 \x00\x00\x00\x00\x00\x00\x09\xc4\
@@ -18,9 +21,25 @@ const BYTES: &[u8] = b"SBCKPT01\x00\x00\x00\x00\x00\x00\x00\x05\x00\x00\x00\x03\
 \x01\x00\x00\x00\x00\x00\x00\x00\x00\
 \x01\x00\x00\x00\x00\x00\x00\x00\x00";
 
-/// Tells the bytes that it is written as.
+// The same, with the opening total.
+const SECOND: &[u8] = b"SBCKPT02\x00\x00\x00\x00\x00\x00\x00\x05\x00\x00\x00\x03\
+\x00\x00\x00\x00\x00\x00\x00\x00\x00\x00\x00\x00\x00\x00\x00\x00\x00\x00\x00\x00\x00\x00\x00\x00\
+\x00\x00\x00\x00\x00\x00\x00\x00\x00\x00\x00\x00\x00\x00\x09\xc4\x00\x00\x00\x00\x00\x00\x00\x00\
+\x00\x00\x00\x00\x00\x00\x09\xc4\x00\x00\x00\x00\x00\x00\x46\x50\
+\x00\x00\x00\x00\x00\x00\x00\x3a\x98\
+\x01\x00\x00\x00\x00\x00\x00\x00\x00\
+\x01\x00\x00\x00\x00\x00\x00\x00\x00\
+\x01\x00\x00\x00\x00\x00\x00\x00\x00\
+\x01\x00\x00\x00\x00\x00\x00\x00\x00";
+
+/// Tells the bytes that it is written as, once for each layout.
 pub(crate) fn tell(alloc: Global, report: &mut Report) -> Result<(), CaseFault> {
-    let checkpoint = read(alloc, report)?;
+    tell_one(alloc, FIRST, report)?;
+    tell_one(alloc, SECOND, report)
+}
+
+fn tell_one(alloc: Global, bytes: &[u8], report: &mut Report) -> Result<(), CaseFault> {
+    let checkpoint = read(alloc, bytes, report)?;
     match write(alloc, &checkpoint, report) {
         Err(_) => {
             report.refused("write_checkpoint")?;
@@ -31,13 +50,13 @@ pub(crate) fn tell(alloc: Global, report: &mut Report) -> Result<(), CaseFault> 
     Ok(report.tell_bytes()?)
 }
 
-fn read(alloc: Global, report: &mut Report) -> Result<Checkpoint, CaseFault>
+fn read(alloc: Global, bytes: &[u8], report: &mut Report) -> Result<Checkpoint, CaseFault>
     ensures { IfOk result IsCheckpoint }
 {
-    match read_checkpoint(alloc, BYTES, 3) {
+    match read_checkpoint(alloc, bytes, 3, OPENING_TOTAL) {
         Err(CheckpointFault::OutOfMemory) => {
             report.refused("read_checkpoint")?;
-            Ok(read_checkpoint(alloc, BYTES, 3)?)
+            Ok(read_checkpoint(alloc, bytes, 3, OPENING_TOTAL)?)
         }
         read => Ok(read?),
     }
@@ -46,6 +65,11 @@ fn read(alloc: Global, report: &mut Report) -> Result<Checkpoint, CaseFault>
 fn write(alloc: Global, checkpoint: &Checkpoint, report: &mut Report) -> Result<(), AllocError>
     requires { IsCheckpoint checkpoint.now }
 {
-    let bytes = write_checkpoint(alloc, checkpoint.columns(), checkpoint.replies())?;
+    let bytes = write_checkpoint(
+        alloc,
+        checkpoint.columns(),
+        OPENING_TOTAL,
+        checkpoint.replies(),
+    )?;
     report.written.extend_from_slice(&bytes)
 }

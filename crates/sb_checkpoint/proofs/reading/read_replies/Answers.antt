@@ -1,13 +1,14 @@
 use Rattle.std.proofs.Common.{◌∙◌, arith, inl, inr}
+use Rattle.sb_checkpoint.specs.Layouts.{layout_of}
 use Rattle.sb_checkpoint.proofs.Found.{replies_too_long, replies_without_fault}
 use Rattle.sb_checkpoint.proofs.reading.read_replies.Goals as goal
 use Rattle.sb_checkpoint.proofs.reading.read_replies.Goals.{then-count-gt-LOG_CALLS-via-then-count-gt-LOG_CALLS as too_many, then-count-gt-LOG_CALLS-via-else-count-gt-LOG_CALLS+then-size-bytes as too_long}
 
 pub returns-then-count-gt-LOG_CALLS-clause-fault : goal.returns-then-count-gt-LOG_CALLS-clause-fault
 returns-then-count-gt-LOG_CALLS-clause-fault c =
-    replies_too_long c.args.bytes.now c.in_ok-replies.replies.items (c.in_ok-replies.ensures.replies ∙ c.reply_cells.ensures)
+    replies_too_long (layout_of c.args.layout) c.args.bytes.now c.in_ok-replies.replies.items (c.in_ok-replies.ensures.replies ∙ c.reply_cells.ensures)
     (elim c.then-count-gt-LOG_CALLS.branch [ too_many w ↦ inl (omega arith) | too_long w ↦ inr (omega arith) ])
 
 pub returns-clause-fault : goal.returns-clause-fault
 returns-clause-fault c =
-    replies_without_fault c.args.bytes.now c.in_ok-replies.replies.items (c.in_ok-replies.ensures.replies ∙ c.reply_cells.ensures) (omega arith) (omega arith)
+    replies_without_fault (layout_of c.args.layout) c.args.bytes.now c.in_ok-replies.replies.items (c.in_ok-replies.ensures.replies ∙ c.reply_cells.ensures) (omega arith) (omega arith)

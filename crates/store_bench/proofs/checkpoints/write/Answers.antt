@@ -9,5 +9,5 @@ returns g c =
     let opening = c.in_ok-opening in
     let replies : length c.deref.result.now ≡ 1000000 = ap length c.deref.ensures.value ∙ c.in_ok-replies.ensures.many in
     let customers : length opening.opening.columns.savings ≡ 65536 = opening.opening.same_customers.places ∙ opening.ensures.many in
-    IfOk-weaker _ _ (λ (measured : Measured). measured.length ≡ 10048604) (λ measured is. omega (arith, is, replies, customers))
+    IfOk-weaker _ _ (λ (measured : Measured). measured.length ≡ 10048612) (λ measured is. omega (arith, is, replies, customers))
     c.write_often.ensures

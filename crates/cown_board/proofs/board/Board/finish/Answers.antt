@@ -1,6 +1,5 @@
-use Rattle.std.proofs.Common.{◌≡◌, ◌+◌, ◌<◌, ◌≤◌, get_or, true, false, Some, Err, length, refl, sym, ap, ◌∙◌, subst, arith}
-use Rattle.std.specs.Prelude.{All, IfSome, slice_get}
-use Rattle.std.specs.VecDeque.{deque_capacity}
+use Rattle.std.proofs.Common.{◌≡◌, ◌≤◌, true, false, Some, Err, length, refl, sym, ap, ◌∙◌, subst, arith}
+use Rattle.std.specs.Prelude.{IfSome, slice_get}
 use Rattle.std.proofs.lemmas.Bool.{both_ways}
 use Rattle.std.proofs.lemmas.Option.{slice_get_read}
 use Rattle.sb_calls.specs.Cowns.{AreBelow, AreHeld, held_of, write_cowns}
@@ -10,7 +9,7 @@ use Rattle.cown_board.proofs.TakenJob.{declared_in_held, seen}
 use Rattle.cown_board.proofs.LogLaws.{injective}
 use Rattle.cown_board.proofs.PlayedCalls.{played_refused, played_finished}
 use Rattle.cown_board.specs.Board.{BoardOf, IsOutHere}
-use Rattle.cown_board.specs.Due.{times}
+use Rattle.cown_board.specs.Links.{ComesForward}
 use Rattle.cown_board.specs.Noted.{AreNoted}
 use Rattle.cown_board.specs.Played.{StaysTrueToLog, Returned}
 use Rattle.cown_board.proofs.board.Board.finish.Goals as goal
@@ -38,8 +37,8 @@ returns-then-not-is_out_at-clause-accepted g c =
     (refused_done touches effect board done (not_inside touches effect board c.in-Some.place done (sym c.number-number.ensures ∙ c.in-Some.ensures.1)
     (λ inside. both_ways c.is_out_at.result c.if-not-is_out_at.true (c.is_out_at.ensures.1 inside))))
 
-pub release-fronts-requires-clause-front : goal.release-fronts-requires-clause-front
-release-fronts-requires-clause-front g c =
+pub finish-requires-clause-front : goal.finish-requires-clause-front
+finish-requires-clause-front g c linked =
     let touches = g.B.Behaviour.touches in
     let log = c.self.inside.log.items in
     let inside = c.is_out_at.ensures.0 c.if-not-is_out_at.false in
@@ -47,8 +46,31 @@ release-fronts-requires-clause-front g c =
     slice_get_read log (length log) c.in-Some.place c.index.result.now refl
     (omega (arith, c.in-Some.ensures.0, c.len.ensures, c.self.inside.log.ok)) c.index.ensures in
     let same : c.index.result.now ≡ c.args.done.behaviour = injective (sym here ∙ inside.1) in
-    subst (λ cowns. IsInFront c.in-Some.place cowns c.self.inside.queues.lists) (sym (c.as_slice.ensures.value ∙ c.cowns-cowns.ensures ∙ ap touches same))
-    (released_in_front touches g.B.Behaviour.effect c.self.invariant c.in-Some.place c.args.done (sym c.number-number.ensures ∙ c.in-Some.ensures.1) inside)
+    let declared : c.as_slice.result.now ≡ touches c.args.done.behaviour = c.as_slice.ensures.value ∙ c.cowns-cowns.ensures ∙ ap touches same in
+    subst (λ cowns. IsInFront c.in-Some.place cowns c.self.inside.links.queues.lists) (sym declared)
+    (released_in_front touches g.B.Behaviour.effect c.self.invariant c.in-Some.place c.args.done (sym c.number-number.ensures ∙ c.in-Some.ensures.1) inside
+    linked)
+
+pub finish-requires-clause-behind : goal.finish-requires-clause-behind
+finish-requires-clause-behind g c linked new released k =
+    let touches = g.B.Behaviour.touches in
+    let log = c.self.inside.log.items in
+    let inside = c.is_out_at.ensures.0 c.if-not-is_out_at.false in
+    let here : slice_get log c.in-Some.place ≡ Some c.index.result.now =
+    slice_get_read log (length log) c.in-Some.place c.index.result.now refl
+    (omega (arith, c.in-Some.ensures.0, c.len.ensures, c.self.inside.log.ok)) c.index.ensures in
+    let same : c.index.result.now ≡ c.args.done.behaviour = injective (sym here ∙ inside.1) in
+    let declared : c.as_slice.result.now ≡ touches c.args.done.behaviour = c.as_slice.ensures.value ∙ c.cowns-cowns.ensures ∙ ap touches same in
+    rw declared (fronts_behind touches g.B.Behaviour.effect c.self.invariant c.in-Some.place c.args.done
+    (sym c.number-number.ensures ∙ c.in-Some.ensures.1) inside g.met.B.Behaviour.rising c.into_effect-reply.result.0 linked new
+    (subst (λ cowns. Releases cowns c.self.inside.links.queues.lists new) declared released) k)
+
+pub finish-requires-clause-room : goal.finish-requires-clause-room
+finish-requires-clause-room g c =
+    let inside = c.is_out_at.ensures.0 c.if-not-is_out_at.false in
+    let room = room_for_fronts g.B.Behaviour.touches g.B.Behaviour.effect c.self.invariant c.in-Some.place c.args.done
+    (sym c.number-number.ensures ∙ c.in-Some.ensures.1) inside in
+    omega (arith, room, c.self.inside.links.ready.ready.ok)
 
 pub write_cowns-requires-clause-cowns : goal.write_cowns-requires-clause-cowns
 write_cowns-requires-clause-cowns g c =
@@ -57,7 +79,7 @@ write_cowns-requires-clause-cowns g c =
     let here : slice_get log c.in-Some.place ≡ Some c.index.result.now =
     slice_get_read log (length log) c.in-Some.place c.index.result.now refl
     (omega (arith, c.in-Some.ensures.0, c.len.ensures, c.self.inside.log.ok)) c.index.ensures in
-    subst (AreBelow (length (held_of c.self.inside.columns))) (sym (c.as_slice-3.ensures.value ∙ c.cowns-cowns.ensures))
+    subst (AreBelow (length (held_of c.self.inside.columns))) (sym (c.as_slice-2.ensures.value ∙ c.cowns-cowns.ensures))
     (declared_in_held touches g.B.Behaviour.effect c.self.invariant c.in-Some.place c.index.result.now here)
 
 pub write_cowns-requires-clause-values : goal.write_cowns-requires-clause-values
@@ -69,10 +91,10 @@ write_cowns-requires-clause-values g c =
     slice_get_read log (length log) c.in-Some.place c.index.result.now refl
     (omega (arith, c.in-Some.ensures.0, c.len.ensures, c.self.inside.log.ok)) c.index.ensures in
     let same : c.index.result.now ≡ c.args.done.behaviour = injective (sym here ∙ inside.1) in
-    subst (λ cowns. AreHeld cowns c.as_slice-4.result.now) (sym (c.as_slice-3.ensures.value ∙ c.cowns-cowns.ensures ∙ ap touches same))
+    subst (λ cowns. AreHeld cowns c.as_slice-3.result.now) (sym (c.as_slice-2.ensures.value ∙ c.cowns-cowns.ensures ∙ ap touches same))
     (outputs_held touches g.B.Behaviour.effect c.self.invariant c.in-Some.place c.args.done
     (sym c.number-number.ensures ∙ c.in-Some.ensures.1) inside g.met.B.Behaviour.keeps
-    c.as_slice-4.result.now (c.as_slice-4.ensures.value ∙ c.into_effect-reply.ensures.outputs))
+    c.as_slice-3.result.now (c.as_slice-3.ensures.value ∙ c.into_effect-reply.ensures.outputs))
 
 pub note_finished-requires-clause-cowns : goal.note_finished-requires-clause-cowns
 note_finished-requires-clause-cowns g c =
@@ -84,7 +106,7 @@ note_finished-requires-clause-cowns g c =
     (omega (arith, c.in-Some.ensures.0, c.len.ensures, c.self.inside.log.ok)) c.index.ensures in
     let same : c.index.result.now ≡ c.args.done.behaviour = injective (sym here ∙ inside.1) in
     subst (λ cowns. IfSome c.self.inside.cut (λ cut. AreBelow (length (held_of cut.columns)) cowns))
-    (sym (c.as_slice-5.ensures.value ∙ c.cowns-cowns.ensures ∙ ap touches same))
+    (sym (c.as_slice-4.ensures.value ∙ c.cowns-cowns.ensures ∙ ap touches same))
     (cowns_of_cut touches g.B.Behaviour.effect c.self.invariant c.in-Some.place c.args.done (sym c.number-number.ensures ∙ c.in-Some.ensures.1) inside)
 
 pub note_finished-requires-clause-unfinished : goal.note_finished-requires-clause-unfinished
@@ -103,39 +125,16 @@ note_finished-requires-clause-values g c =
     slice_get_read log (length log) c.in-Some.place c.index.result.now refl
     (omega (arith, c.in-Some.ensures.0, c.len.ensures, c.self.inside.log.ok)) c.index.ensures in
     let same : c.index.result.now ≡ c.args.done.behaviour = injective (sym here ∙ inside.1) in
-    subst (λ cowns. AreHeld cowns c.as_slice-6.result.now) (sym (c.as_slice-5.ensures.value ∙ c.cowns-cowns.ensures ∙ ap touches same))
+    subst (λ cowns. AreHeld cowns c.as_slice-5.result.now) (sym (c.as_slice-4.ensures.value ∙ c.cowns-cowns.ensures ∙ ap touches same))
     (outputs_held touches g.B.Behaviour.effect c.self.invariant c.in-Some.place c.args.done
     (sym c.number-number.ensures ∙ c.in-Some.ensures.1) inside g.met.B.Behaviour.keeps
-    c.as_slice-6.result.now (c.as_slice-6.ensures.value ∙ c.into_effect-reply.ensures.outputs))
+    c.as_slice-5.result.now (c.as_slice-5.ensures.value ∙ c.into_effect-reply.ensures.outputs))
 
 pub overflow_sub-self : goal.overflow_sub-self
 overflow_sub-self g c =
     let inside = c.is_out_at.ensures.0 c.if-not-is_out_at.false in
     some_unfinished g.B.Behaviour.touches g.B.Behaviour.effect c.self.invariant c.in-Some.place c.args.done
     (sym c.number-number.ensures ∙ c.in-Some.ensures.1) inside
-
-pub come_forward-requires-clause-behind : goal.come_forward-requires-clause-behind
-come_forward-requires-clause-behind g c j =
-    let touches = g.B.Behaviour.touches in
-    let log = c.self.inside.log.items in
-    let inside = c.is_out_at.ensures.0 c.if-not-is_out_at.false in
-    let here : slice_get log c.in-Some.place ≡ Some c.index.result.now =
-    slice_get_read log (length log) c.in-Some.place c.index.result.now refl
-    (omega (arith, c.in-Some.ensures.0, c.len.ensures, c.self.inside.log.ok)) c.index.ensures in
-    let same : c.index.result.now ≡ c.args.done.behaviour = injective (sym here ∙ inside.1) in
-    let declared : c.as_slice.result.now ≡ touches c.args.done.behaviour = c.as_slice.ensures.value ∙ c.cowns-cowns.ensures ∙ ap touches same in
-    fronts_behind touches g.B.Behaviour.effect c.self.invariant c.in-Some.place c.args.done
-    (sym c.number-number.ensures ∙ c.in-Some.ensures.1) inside g.met.B.Behaviour.rising c.into_effect-reply.result.0
-    c.release-fronts.new.self.lists c.as_slice-2.result.now
-    (subst (λ cowns. Releases cowns c.self.inside.queues.lists c.release-fronts.new.self.lists) declared c.release-fronts.ensures.lists)
-    (c.as_slice-2.ensures.value ∙ c.release-fronts.ensures.fronts ∙ ap (fronts_of c.release-fronts.new.self.lists) declared) j
-
-pub come_forward-requires-clause-room : goal.come_forward-requires-clause-room
-come_forward-requires-clause-room g c =
-    let inside = c.is_out_at.ensures.0 c.if-not-is_out_at.false in
-    let room = room_for_fronts g.B.Behaviour.touches g.B.Behaviour.effect c.self.invariant c.in-Some.place c.args.done
-    (sym c.number-number.ensures ∙ c.in-Some.ensures.1) inside in
-    omega (arith, room, c.self.inside.ready.ready.ok)
 
 pub invariant_of-self : goal.invariant_of-self
 invariant_of-self g c =
@@ -147,26 +146,23 @@ invariant_of-self g c =
     (omega (arith, c.in-Some.ensures.0, c.len.ensures, c.self.inside.log.ok)) c.index.ensures in
     let same : c.index.result.now ≡ c.args.done.behaviour = injective (sym here ∙ inside.1) in
     let declared : c.as_slice.result.now ≡ touches c.args.done.behaviour = c.as_slice.ensures.value ∙ c.cowns-cowns.ensures ∙ ap touches same in
-    let again : c.as_slice-3.result.now ≡ touches c.args.done.behaviour = c.as_slice-3.ensures.value ∙ c.cowns-cowns.ensures ∙ ap touches same in
-    let fronts : c.as_slice-2.result.now ≡ fronts_of c.release-fronts.new.self.lists (touches c.args.done.behaviour) =
-    c.as_slice-2.ensures.value ∙ c.release-fronts.ensures.fronts ∙ ap (fronts_of c.release-fronts.new.self.lists) declared in
+    let again : c.as_slice-2.result.now ≡ touches c.args.done.behaviour = c.as_slice-2.ensures.value ∙ c.cowns-cowns.ensures ∙ ap touches same in
+    let fourth : c.as_slice-4.result.now ≡ touches c.args.done.behaviour = c.as_slice-4.ensures.value ∙ c.cowns-cowns.ensures ∙ ap touches same in
+    let third = c.as_slice-3.ensures.value in
+    let links = c.finish.new.self in
     board_finished touches g.B.Behaviour.effect c.self.invariant c.in-Some.place c.args.done
     (sym c.number-number.ensures ∙ c.in-Some.ensures.1) inside g.met.B.Behaviour.keeps g.met.B.Behaviour.rising
-    c.into_effect-reply.result.0 c.as_slice-4.result.now c.write_cowns.new.columns c.release-fronts.new.self.lists
-    c.come_forward.new.self.behind.items c.come_forward.new.self.ready.items (deque_capacity c.come_forward.new.self.ready)
-    c.into_effect-reply.ensures.reply (c.as_slice-4.ensures.value ∙ c.into_effect-reply.ensures.outputs)
-    (c.write_cowns.ensures ∙ ap (λ cowns. write_cowns (held_of c.self.inside.columns) cowns c.as_slice-4.result.now) again)
-    (subst (λ cowns. Releases cowns c.self.inside.queues.lists c.release-fronts.new.self.lists) declared c.release-fronts.ensures.lists)
-    c.come_forward.ensures.beside
-    (λ j. subst (λ xs. get_or c.come_forward.new.self.behind.items j 0 + times j xs ≡ get_or c.self.inside.ready.behind.items j 0) fronts
-    (c.come_forward.ensures.behind j))
-    (λ waits bound all. c.come_forward.ensures.due waits bound (subst (All (λ place. (place < bound) × (waits place ≡ true))) (sym fronts) all))
-    c.come_forward.ensures.room c.note_finished.new.cut
-    (subst (λ number. AreNoted number (touches c.args.done.behaviour) c.as_slice-4.result.now c.self.inside.cut c.note_finished.new.cut) c.number-number.ensures
-    (subst (λ cowns. AreNoted c.number-number.result cowns c.as_slice-4.result.now c.self.inside.cut c.note_finished.new.cut)
-    (c.as_slice-5.ensures.value ∙ c.cowns-cowns.ensures ∙ ap touches same)
-    (subst (λ values. AreNoted c.number-number.result c.as_slice-5.result.now values c.self.inside.cut c.note_finished.new.cut)
-    (c.as_slice-6.ensures.value ∙ sym c.as_slice-4.ensures.value) c.note_finished.ensures)))
+    c.into_effect-reply.result.0 c.as_slice-3.result.now c.write_cowns.new.columns links
+    c.into_effect-reply.ensures.reply (third ∙ c.into_effect-reply.ensures.outputs)
+    (c.write_cowns.ensures ∙ ap (λ cowns. write_cowns (held_of c.self.inside.columns) cowns c.as_slice-3.result.now) again)
+    c.finish.ensures.linked c.finish.ensures.stay
+    (λ is. subst (λ cowns. Releases cowns c.self.inside.links.queues.lists links.queues.lists) declared (c.finish.ensures.released is))
+    (λ is. subst (λ cowns. ComesForward (fronts_of links.queues.lists cowns) c.self.inside.links.ready links.ready) declared (c.finish.ensures.forward is))
+    c.finish.ensures.room c.note_finished.new.cut
+    (subst (λ number. AreNoted number (touches c.args.done.behaviour) c.as_slice-3.result.now c.self.inside.cut c.note_finished.new.cut) c.number-number.ensures
+    (subst (λ cowns. AreNoted c.number-number.result cowns c.as_slice-3.result.now c.self.inside.cut c.note_finished.new.cut) fourth
+    (subst (λ values. AreNoted c.number-number.result c.as_slice-4.result.now values c.self.inside.cut c.note_finished.new.cut)
+    (c.as_slice-5.ensures.value ∙ sym third) c.note_finished.ensures)))
 
 pub returns-clause-accepted : goal.returns-clause-accepted
 returns-clause-accepted g c =
@@ -184,7 +180,7 @@ returns-clause-outcome g c =
     let inside = c.is_out_at.ensures.0 c.if-not-is_out_at.false in
     let finished = finishes_from touches effect c.self.invariant c.in-Some.place c.args.done
     (sym c.number-number.ensures ∙ c.in-Some.ensures.1) inside c.into_effect-reply.result.0 c.into_effect-reply.ensures.reply
-    c.number-number.result c.as_slice-5.result.now c.as_slice-6.result.now c.note_finished.new.cut c.note_finished.ensures in
+    c.number-number.result c.as_slice-4.result.now c.as_slice-5.result.now c.note_finished.new.cut c.note_finished.ensures in
     rw (sym c.self.view_is) finished
 
 pub returns-in_default-clause-played : goal.returns-in_default-clause-played
@@ -215,5 +211,5 @@ returns-clause-played g c =
     let inside = c.is_out_at.ensures.0 c.if-not-is_out_at.false in
     let finished = finishes_from touches effect c.self.invariant c.in-Some.place c.args.done
     (sym c.number-number.ensures ∙ c.in-Some.ensures.1) inside c.into_effect-reply.result.0 c.into_effect-reply.ensures.reply
-    c.number-number.result c.as_slice-5.result.now c.as_slice-6.result.now c.note_finished.new.cut c.note_finished.ensures in
+    c.number-number.result c.as_slice-4.result.now c.as_slice-5.result.now c.note_finished.new.cut c.note_finished.ensures in
     rw (sym c.self.view_is) (played_finished touches effect finished)

@@ -1,44 +1,43 @@
-use Rattle.std.proofs.Common.{rules, ◌≤◌, ◌≡◌, ◌+◌, Err, ◌++◌, ◌∷◌, [], List, ℕ, length, ap, sym, ◌∙◌, subst, arith}
-use Rattle.std.specs.Prelude.{◌==◌, if◌then◌else◌, count_by}
+use Rattle.std.proofs.Common.{rules, ◌≤◌, ◌≡◌, ◌+◌, ◌*◌, true, false, vec_capacity, Err, ◌++◌, ◌∷◌, [], List, length, ap, sym, ◌∙◌, subst, arith}
 use Rattle.std.specs.VecDeque.{deque_capacity}
-use Rattle.cown_board.specs.Fronts.{is_held}
 use Rattle.sb_calls.specs.Cowns.{AreBelow, held_of}
 use Rattle.cown_board.specs.Board.{BoardOf}
-use Rattle.cown_queue.specs.Queues.{Appends}
-use Rattle.cown_board.proofs.Changes.{IsBoard-pushed, few_ready}
+use Rattle.cown_board.proofs.Changes.{IsBoard-pushed, few_ready, links_submitted}
 use Rattle.cown_board.proofs.PlayedCalls.{played_busy, played_full, played_no_memory, played_put}
+use Rattle.cown_board.specs.Links.{Stands, Stay}
 use Rattle.cown_board.specs.Played.{StaysTrueToLog, Submitted}
 use Rattle.cown_board.specs.declared.board.SubmitFault.TheVariants.{Busy, LogFull}
 use Rattle.cown_board.specs.declared.state.State.TheVariants.{Waiting}
 use Rattle.cown_board.proofs.board.Board.submit.Goals as goal
 
-pub push-requires-clause-ready_room : goal.push-requires-clause-ready_room
-push-requires-clause-ready_room g c =
-    let few = few_ready g.B.Behaviour.touches g.B.Behaviour.effect c.self.invariant in
-    let wide : c.self.inside.unfinished + 1 + 3 ≤ deque_capacity c.make_room.new.ready.ready = search rules in
-    omega (arith, few, wide, ap length c.make_room.ensures.ready, c.make_room.new.ready.ready.ok)
+pub submit-requires-clause-ready : goal.submit-requires-clause-ready
+submit-requires-clause-ready g c is =
+    let few = few_ready g.B.Behaviour.touches g.B.Behaviour.effect c.self.invariant is in
+    omega (arith, few, c.self.inside.links.ready.ready.ok)
 
 pub invariant_of-self-2 : goal.invariant_of-self-2
 invariant_of-self-2 g c =
     let touches = g.B.Behaviour.touches in
+    let effect = g.B.Behaviour.effect in
     let room = c.make_room.ensures in
-    let declared : c.as_slice-3.result.now ≡ touches c.args.behaviour = c.as_slice-3.ensures.value ∙ c.cowns-cowns.ensures in
-    IsBoard-pushed touches g.B.Behaviour.effect c.self.invariant c.args.behaviour c.len-place.result c.count_held-behind.result
-    (deque_capacity c.push.new.self.ready)
-    c.push_reserved.new.self.items c.push_reserved-2.new.self.items c.append.new.self.lists c.push.new.self.behind.items c.push.new.self.ready.items
-    (subst (λ (v : BoardOf g.row.B.Denot). AreBelow (length (held_of v.opening)) (touches c.args.behaviour)) (sym c.self.view_is) c.requires)
-    (omega (arith, c.len-place.ensures, room.log.1, c.self.inside.log.ok))
-    (subst (λ cs. Appends c.len-place.result cs c.self.inside.queues.lists c.append.new.self.lists) declared
-    (subst (λ lists. Appends c.len-place.result c.as_slice-3.result.now lists c.append.new.self.lists) room.lists c.append.ensures.lists))
-    (c.count_held-behind.ensures ∙ ap (λ lists. count_by (is_held lists) c.as_slice-2.result.now) room.lists
-    ∙ ap (count_by (is_held c.self.inside.queues.lists)) (c.as_slice-2.ensures.value ∙ c.cowns-cowns.ensures))
+    let links = c.self.inside.links in
+    let new = c.submit.new.self in
+    let declared : c.as_slice.result.now ≡ touches c.args.behaviour = c.as_slice.ensures.value ∙ c.cowns-cowns.ensures in
+    let place : c.len-place.result ≡ length c.self.inside.log.items = omega (arith, c.len-place.ensures, room.log.1, c.self.inside.log.ok) in
+    let below : AreBelow (length (held_of c.self.inside.opening)) (touches c.args.behaviour) =
+    subst (λ (v : BoardOf g.row.B.Denot). AreBelow (length (held_of v.opening)) (touches c.args.behaviour)) (sym c.self.view_is) c.requires in
+    let put : links.linked ≡ true → Stands c.len-place.result c.as_slice.result.now links new = search rules in
+    let stay : links.linked ≡ false → Stay links new × ((c.self.inside.unfinished + 1) * 3 ≤ new.queues.places) = search rules in
+    let counts : c.len-place.result + 1 ≤ vec_capacity new.ready.behind = search rules in
+    let wide : c.self.inside.unfinished + 1 + 3 ≤ deque_capacity new.ready.ready = search rules in
+    IsBoard-pushed touches effect c.self.invariant c.args.behaviour c.push_reserved.new.self.items c.push_reserved-2.new.self.items new below
     (c.push_reserved.ensures.items ∙ ap (λ (xs : List g.row.B.Denot). xs ++ c.args.behaviour ∷ []) room.log.0)
     (c.push_reserved-2.ensures.items ∙ ap (λ xs. xs ++ Waiting ∷ []) room.states.0)
-    (c.push.ensures.behind ∙ ap (λ (xs : List ℕ). xs ++ c.count_held-behind.result ∷ []) room.behind)
-    (c.push.ensures.ready ∙ ap (λ (xs : List ℕ). if c.count_held-behind.result == 0 then xs ++ c.len-place.result ∷ [] else xs) room.ready)
+    (links_submitted touches effect c.self.invariant c.args.behaviour new below c.submit.ensures.linked
+    (λ is. subst (λ n. Stands n (touches c.args.behaviour) links new) place (subst (λ cs. Stands c.len-place.result cs links new) declared (put is)))
+    stay (omega (arith, counts, place)) wide)
     c.if-self-eq-OPEN_BEHAVIOURS.false
     (λ full. c.if-self-len-eq-LOG_CALLS.false (omega (arith, full, c.len.ensures, c.self.inside.log.ok)))
-    (let wide : c.self.inside.unfinished + 1 + 3 ≤ deque_capacity c.make_room.new.ready.ready = search rules in omega (arith, c.push.ensures.room, wide))
 
 pub returns-then-self-eq-OPEN_BEHAVIOURS-clause-played : goal.returns-then-self-eq-OPEN_BEHAVIOURS-clause-played
 returns-then-self-eq-OPEN_BEHAVIOURS-clause-played g c =
@@ -57,6 +56,15 @@ returns-then-self-len-eq-LOG_CALLS-clause-played g c =
 
 pub returns-then-is_err-clause-played : goal.returns-then-is_err-clause-played
 returns-then-is_err-clause-played g c =
+    let touches = g.B.Behaviour.touches in
+    let effect = g.B.Behaviour.effect in
+    let room = c.make_room.ensures in
+    rw (room.log.0, room.states.0, sym c.self.view_is)
+    (played_no_memory touches effect c.self.invariant c.args.behaviour c.if-self-eq-OPEN_BEHAVIOURS.false
+    (λ full. c.if-self-len-eq-LOG_CALLS.false (omega (arith, full, c.len.ensures, c.self.inside.log.ok))))
+
+pub returns-then-is_err-2-clause-played : goal.returns-then-is_err-2-clause-played
+returns-then-is_err-2-clause-played g c =
     let touches = g.B.Behaviour.touches in
     let effect = g.B.Behaviour.effect in
     let room = c.make_room.ensures in

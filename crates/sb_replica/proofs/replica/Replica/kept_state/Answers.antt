@@ -1,6 +1,6 @@
 use Rattle.std.proofs.Common.{option_map, List, ℕ, None, length, refl, subst}
 use Rattle.sb_checkpoint.specs.Stores.{StoreDoes}
-use Rattle.sb_replica.specs.Replica.{ReplicaOf}
+use Rattle.sb_replica.specs.Replica.{ReplicaOf, origin_of}
 use Rattle.sb_replica.specs.States.{IsStateOf, KeepsState}
 use Rattle.sb_replica.proofs.NoEntries.{gives_none}
 use Rattle.sb_replica.proofs.replica.Replica.kept_state.Goals as goal
@@ -8,7 +8,6 @@ use Rattle.sb_replica.proofs.replica.Replica.kept_state.Goals as goal
 pub returns-then-length-eq0-clause-ok : goal.returns-then-length-eq0-clause-ok
 returns-then-length-eq0-clause-ok g c =
     let inside = c.self.inside in
-    let customers = length inside.directory in
     let size = c.in_ok-length.length in
     let bytes = c.in-Some.bytes.items in
     let holding : g.row.S.Denot → ReplicaOf g.row.S.Denot = λ store. record {
@@ -19,8 +18,9 @@ returns-then-length-eq0-clause-ok g c =
       held = inside.log.held;
       store = store;
     } in
-    let state : IsStateOf customers size bytes =
-    subst (λ (b : List ℕ). IsStateOf customers size b) c.deref.ensures.value c.in_ok-length.ensures.length in
+    let origin = origin_of (holding c.get.new.self) in
+    let state : IsStateOf origin size bytes =
+    subst (λ (b : List ℕ). IsStateOf origin size b) c.deref.ensures.value c.in_ok-length.ensures.length in
     subst
     (λ (old : ReplicaOf g.row.S.Denot).
     KeepsState (StoreDoes g.S.CheckpointStore.model) old None (holding c.get.new.self))
@@ -28,6 +28,6 @@ returns-then-length-eq0-clause-ok g c =
     (record {
       held = option_map (λ bytes. bytes.items) c.in_ok-bytes.field-0;
       got = c.in_ok-bytes.ensures;
-      gives = rw c.in-Some.is (gives_none customers size bytes state c.if-length-eq0.true);
+      gives = rw c.in-Some.is (gives_none origin size bytes state c.if-length-eq0.true);
       stays = refl;
     })

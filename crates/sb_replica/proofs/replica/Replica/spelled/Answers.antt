@@ -3,13 +3,15 @@ use Rattle.std.proofs.Math.Seq.{take-length}
 use Rattle.std.proofs.lemmas.Grind.{flat_map-append}
 use Rattle.std.proofs.lemmas.List.Elements.{All-push}
 use Rattle.std.specs.List.{All, flat_map}
-use Rattle.std.specs.Prelude.{IfSome}
+use Rattle.std.specs.Prelude.{FitsSigned, IfSome}
+use Rattle.std.specs.Int.{w64}
+use Rattle.std.proofs.lemmas.Int.{to_z-of_z}
 use Rattle.sb_calls.specs.Replies.{IsReply, reply_field}
 use Rattle.sb_calls.specs.declared.reply.Reply.{Reply}
-use Rattle.sb_checkpoint.specs.Checkpoint.{Spells}
+use Rattle.sb_checkpoint.specs.Checkpoint.{Second, Spells}
 use Rattle.cown_board.specs.Board.{length_of}
 use Rattle.sb_replica.specs.Marking.{up_to_cut}
-use Rattle.sb_replica.specs.Replica.{replies_held}
+use Rattle.sb_replica.specs.Replica.{origin_of, replies_held}
 use Rattle.sb_replica.proofs.IdleReplies.{reply_at, length_held, none_missing, take_one_more}
 use Rattle.sb_replica.proofs.MarkedReplies.{marked_beside, marked_reply}
 use Rattle.sb_replica.proofs.replica.Replica.spelled.Goals as goal
@@ -58,6 +60,9 @@ returns g c =
     let size : length held ≡ c.marked_length-length.result = length_held board c.requires beside ∙ sym c.marked_length-length.ensures.value in
     let all : c.loop-place.place ≡ length held = omega (arith, c.loop-place-test.false, c.loop-place.auto.place-end, size) in
     let whole : take c.loop-place.place held ≡ held = ap (λ n. take n held) all ∙ take-length held in
-    subst (Spells (record { columns = c.args.columns.now; replies = held }))
+    let fits : FitsSigned w64 c.opening_total.result = record { sfits = c.opening_total.type_inv } in
+    let opening = to_z-of_z w64 _ fits ∙ c.opening_total.ensures in
+    subst (Spells Second (origin_of c.args.self.now).opening_total (record { columns = c.args.columns.now; replies = held }))
     (sym (c.finish.ensures ∙ c.loop-place.invariant.bytes ∙ ap (λ xs. c.in_ok-draft.draft.bytes ++ flat_map reply_field xs) whole))
-    (c.in_ok-draft.ensures.begins held size (subst (All IsReply) whole c.loop-place.invariant.valid))
+    (subst (λ t. Spells Second t (record { columns = c.args.columns.now; replies = held }) (c.in_ok-draft.draft.bytes ++ flat_map reply_field held)) opening
+    (c.in_ok-draft.ensures.begins held size (subst (All IsReply) whole c.loop-place.invariant.valid)))

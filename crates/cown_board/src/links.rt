@@ -1,0 +1,186 @@
+//! Who waits for whom among the behaviours of a log.
+ghost use Rattle.std.specs.Prelude.{◌≡◌, ◌+◌, ◌*◌, ◌<◌, ◌≤◌, [], ℕ, true, false, Some, List, length, replicate, get_or, slice_get, slice_set, IfOk, OnOk, OnErr, MatchOption, vec_len, vec_capacity};
+ghost use Rattle.std.specs.VecDeque.{deque_len, deque_capacity};
+ghost use Rattle.sb_calls.specs.Cowns.{AreBelow, IsRising};
+ghost use Rattle.cown_queue.specs.Queues.{IsInFront, Releases, fronts_of};
+ghost use Rattle.cown_board.specs.Due.{times};
+ghost use Rattle.cown_board.specs.Invariant.{AllLinked, AreCowns, AreLinks};
+ghost use Rattle.cown_board.specs.Links.{ComesForward, NoneLinked, Stands, Stay};
+ghost use Rattle.cown_board.specs.Readiness.{ready_places};
+
+use crate::fronts::count_held;
+use crate::ready_list::ReadyList;
+use crate::state::State;
+use cown_queue::Queues;
+use sb_calls::{BEHAVIOUR_COWNS, Behaviour, Cown};
+use std::alloc::{AllocError, Global};
+
+// Which of the unfinished behaviours may be handed out.
+//
+// While they are taken one at a time that is the first of them, and nothing is linked. Once another is asked for
+// all are, and stay so.
+#[derive(Drop)]
+pub(crate) struct Links {
+    pub(crate) linked: bool,
+    // For each cown the places in the log of the unfinished behaviours that declare it.
+    pub(crate) queues: Queues,
+    pub(crate) ready: ReadyList,
+}
+
+impl Links {
+    // Those of an empty log over this many cowns.
+    pub(crate) fn open(alloc: Global, cowns: usize) -> Result<Links, AllocError>
+        ensures { IfOk result (λ links. (links.linked ≡ false) × (links.queues.lists ≡ replicate cowns []) ×
+            (links.ready.behind.items ≡ []) × (links.ready.ready.items ≡ [])) }
+    {
+        Ok(Links {
+            linked: false,
+            queues: Queues::open(alloc, cowns)?,
+            ready: ReadyList::new(alloc),
+        })
+    }
+
+    // Makes room for the counts of a log of this length. Where memory is refused nothing is lost.
+    pub(crate) fn reserve(&mut self, numbers: usize) -> Result<(), AllocError>
+        ensures linked { self.new.linked ≡ self.old.linked }
+        ensures queues { self.new.queues ≡ self.old.queues }
+        ensures behind { self.new.ready.behind.items ≡ self.old.ready.behind.items }
+        ensures ready { self.new.ready.ready ≡ self.old.ready.ready }
+        ensures counts { vec_capacity self.old.ready.behind ≤ vec_capacity self.new.ready.behind }
+    {
+        self.ready.reserve_counts(numbers)
+    }
+
+    // One behaviour more, at this place of the log, where so many are unfinished with it. All room that linking,
+    // handing out and finishing it take is made here. Where memory is refused nothing is lost.
+    #[inline(always)]
+    pub(crate) fn submit(
+        &mut self,
+        place: u64,
+        cowns: &[Cown],
+        unfinished: usize,
+    ) -> Result<(), AllocError>
+        requires few { length cowns.now ≤ 3 }
+        requires rising { IsRising cowns.now }
+        requires cowns { AreBelow (length self.old.queues.lists) cowns.now }
+        requires place { place < 1000000 }
+        requires unfinished { unfinished ≤ 1024 }
+        requires counts { self.old.linked ≡ true → vec_len self.old.ready.behind ≡ place }
+        requires ready { self.old.linked ≡ true → deque_len self.old.ready.ready < unfinished }
+        ensures linked { self.new.linked ≡ self.old.linked }
+        ensures counts { vec_capacity self.old.ready.behind ≤ vec_capacity self.new.ready.behind }
+        ensures room { deque_capacity self.old.ready.ready ≤ deque_capacity self.new.ready.ready }
+        ensures places { self.old.queues.places ≤ self.new.queues.places }
+        ensures err { OnErr result (Stay self.old self.new) }
+        ensures counts_room { OnOk result (place + 1 ≤ vec_capacity self.new.ready.behind) }
+        ensures ready_room { OnOk result (unfinished + 3 ≤ deque_capacity self.new.ready.ready) }
+        ensures put { OnOk result (self.old.linked ≡ true → Stands place cowns.now self.old self.new) }
+        ensures stay { OnOk result (self.old.linked ≡ false →
+            Stay self.old self.new × (unfinished * 3 ≤ self.new.queues.places)) }
+    {
+        self.ready.reserve(place as usize + 1, unfinished)?;
+        if !self.linked {
+            return self.queues.reserve_places(unfinished * BEHAVIOUR_COWNS);
+        }
+        self.queues.reserve(cowns)?;
+        let behind = count_held(&self.queues, cowns);
+        self.queues.append(place, cowns);
+        self.ready.push(place, behind);
+        Ok(())
+    }
+
+    // Hands out the ready behaviour that has this many ready ones before it, and answers its place. It takes no
+    // memory.
+    #[inline(always)]
+    pub(crate) fn take<B: Behaviour>(
+        &mut self,
+        log: &Vec<B>,
+        states: &Vec<State>,
+        unfinished: usize,
+        index: usize,
+    ) -> Option<u64>
+        requires links { AreLinks B.touches B.effect log.now.items states.now.items
+            unfinished (length self.old.queues.lists) self.old }
+        requires cowns { AreCowns B.touches B.effect (length self.old.queues.lists) log.now.items }
+        requires beside { length log.now.items ≡ length states.now.items }
+        requires few { length log.now.items ≤ 1000000 }
+        ensures cowns_stay { length self.new.queues.lists ≡ length self.old.queues.lists }
+        ensures outcome { MatchOption result
+            ((length (ready_places B.touches log.now.items states.now.items) ≤ index) ×
+            AreLinks B.touches B.effect log.now.items states.now.items
+            unfinished (length self.old.queues.lists) self.new)
+            (λ place. (slice_get (ready_places B.touches log.now.items states.now.items) index ≡ Some place) ×
+            AreLinks B.touches B.effect log.now.items (slice_set states.now.items place State.Out)
+            unfinished (length self.old.queues.lists) self.new) }
+    {
+        if self.linked {
+            return self.ready.take(index);
+        }
+        if unfinished == 0 {
+            return None;
+        }
+        let first = log.len() - unfinished;
+        if index == 0 && states[first].waits() {
+            return Some(first as u64);
+        }
+        self.link(log, states, first);
+        self.ready.take(index)
+    }
+
+    // Links all that is unfinished, from this place on.
+    #[cold]
+    fn link<B: Behaviour>(&mut self, log: &Vec<B>, states: &Vec<State>, first: usize)
+        requires some { first < length log.now.items }
+        requires few { length log.now.items ≤ 1000000 }
+        requires none { NoneLinked (length log.now.items) states.now.items first
+            (length self.old.queues.lists) self.old }
+        requires room { length log.now.items + 3 ≤ first + deque_capacity self.old.ready.ready }
+        requires cowns { AreCowns B.touches B.effect (length self.old.queues.lists) log.now.items }
+        requires beside { length log.now.items ≡ length states.now.items }
+        ensures linked { self.new.linked ≡ true }
+        ensures cowns_stay { length self.new.queues.lists ≡ length self.old.queues.lists }
+        ensures all { AllLinked B.touches B.effect log.now.items states.now.items
+            (length self.old.queues.lists) self.new }
+        ensures room { deque_capacity self.new.ready.ready ≡ deque_capacity self.old.ready.ready }
+    {
+        self.ready.skip(first);
+        for place in first..log.len() {
+            let behaviour = log[place];
+            let cowns = behaviour.cowns();
+            let behind = count_held(&self.queues, cowns.as_slice());
+            self.queues.put(place as u64, cowns.as_slice());
+            self.ready.push(place as u64, behind);
+        }
+        // The first may be out already.
+        if !states[first].waits() {
+            self.ready.remove(0);
+        }
+        self.linked = true;
+    }
+
+    // The behaviour at this place, which is out and declares these cowns, is finished: those behind it come
+    // forward. It takes no memory.
+    #[inline(always)]
+    pub(crate) fn finish(&mut self, place: u64, cowns: &[Cown])
+        requires few { length cowns.now ≤ 3 }
+        requires rising { IsRising cowns.now }
+        requires front { self.old.linked ≡ true → IsInFront place cowns.now self.old.queues.lists }
+        requires behind { self.old.linked ≡ true → (new : List (List ℕ)) →
+            Releases cowns.now self.old.queues.lists new →
+            (k : ℕ) → times k (fronts_of new cowns.now) ≤ get_or self.old.ready.behind.items k 0 }
+        requires room { deque_len self.old.ready.ready + 3 ≤ deque_capacity self.old.ready.ready }
+        ensures linked { self.new.linked ≡ self.old.linked }
+        ensures stay { self.old.linked ≡ false → self.new ≡ self.old }
+        ensures released { self.old.linked ≡ true →
+            Releases cowns.now self.old.queues.lists self.new.queues.lists }
+        ensures forward { self.old.linked ≡ true →
+            ComesForward (fronts_of self.new.queues.lists cowns.now) self.old.ready self.new.ready }
+        ensures room { deque_capacity self.old.ready.ready ≤ deque_capacity self.new.ready.ready }
+    {
+        if !self.linked {
+            return;
+        }
+        let fronts = self.queues.release(place, cowns);
+        self.ready.come_forward(fronts.as_slice());
+    }
+}

@@ -1,0 +1,315 @@
+//! Boards whose jobs are taken one at a time, until another one is asked for.
+use crate::bank::{Bank, Step};
+use sb_calls::Reply;
+use std::alloc::Global;
+use std::process::Abort;
+
+#[test]
+fn an_idle_board_hands_nothing_out(rt: HostRuntime) {
+    let mut bank = Bank::open(&rt, rt.alloc());
+    for number in 1..=3 {
+        bank.plays(
+            &rt,
+            &[
+                Step::TakeNone(0),
+                Step::TakeNone(1),
+                Step::TakeNone(usize::MAX),
+                Step::Submit(number, "deposit alice 0.01"),
+                Step::Run(number, Reply::Done),
+            ],
+        );
+    }
+    bank.ends_with(&rt, [10_000, 0, 1_000], [5_003, 2_000, 0]);
+}
+
+// The first is out where it waited, and nobody gets it again; the third is handed out beside it.
+#[test]
+fn what_is_out_is_not_handed_out_again(rt: HostRuntime) {
+    let mut bank = Bank::open(&rt, rt.alloc());
+    bank.plays(
+        &rt,
+        &[
+            Step::Submit(1, "deposit alice 1.00"),
+            Step::Submit(2, "balance alice"),
+            Step::Submit(3, "deposit bob 1.00"),
+            Step::Take(0, 1),
+            Step::TakeNone(1),
+            Step::Take(0, 3),
+            Step::TakeNone(0),
+            Step::Finish(3, Reply::Done),
+            Step::TakeNone(0),
+            Step::Finish(1, Reply::Done),
+            Step::Run(2, Reply::Shown(15_100)),
+        ],
+    );
+}
+
+// Two are run one after the other. Then the last of three is asked for, and each that comes later waits as before.
+#[test]
+fn one_with_others_before_it_is_handed_out(rt: HostRuntime) {
+    let mut bank = Bank::open(&rt, rt.alloc());
+    bank.plays(
+        &rt,
+        &[
+            Step::Submit(1, "deposit alice 1.00"),
+            Step::Submit(2, "balance alice"),
+            Step::Run(1, Reply::Done),
+            Step::Submit(3, "deposit bob 1.00"),
+            Step::Submit(4, "deposit alice 1.00"),
+            Step::Submit(5, "deposit carol 1.00"),
+            Step::Run(2, Reply::Shown(15_100)),
+            Step::TakeNone(3),
+            Step::Take(2, 5),
+            Step::Submit(6, "amalgamate bob carol"),
+            Step::Take(1, 4),
+            Step::Finish(5, Reply::Done),
+            Step::Finish(4, Reply::Done),
+            Step::Run(3, Reply::Done),
+            Step::Run(6, Reply::Done),
+        ],
+    );
+    bank.ends_with(&rt, [10_000, 0, 1_000], [5_200, 0, 2_200]);
+}
+
+// The cut has the first three. The fourth is run before anything is asked for beside another one.
+#[test]
+fn a_cut_settles_where_jobs_go_one_at_a_time(rt: HostRuntime) {
+    let mut alone = Bank::open(&rt, rt.alloc());
+    let mut bank = Bank::open(&rt, rt.alloc());
+    let first = [
+        Step::Submit(1, "deposit alice 1.00"),
+        Step::Submit(2, "deposit bob 1.00"),
+        Step::Run(1, Reply::Done),
+        Step::Submit(3, "amalgamate alice bob"),
+        Step::Take(0, 2),
+        Step::NoColumns,
+    ];
+    let second = [Step::Finish(2, Reply::Done), Step::Run(3, Reply::Done)];
+    alone.plays(&rt, &first);
+    alone.plays(&rt, &second);
+    bank.plays(&rt, &first);
+    bank.cuts(&rt);
+    bank.plays(&rt, &[Step::Submit(4, "deposit carol 1.00")]);
+    bank.has_no_cut_columns(&rt);
+    bank.plays(&rt, &second);
+    bank.has_cut_of(&rt, &alone);
+    bank.plays(&rt, &[Step::NoColumns, Step::Run(4, Reply::Done)]);
+    bank.has_cut_of(&rt, &alone);
+    bank.ends_with(&rt, [0, 0, 1_000], [0, 17_200, 100]);
+}
+
+// As many are unfinished as may be, of which the first is out where it waited.
+#[test]
+fn a_full_board_hands_out_another_beside_the_first(rt: HostRuntime) {
+    let mut bank = Bank::open(&rt, rt.alloc());
+    for number in 1..=3 {
+        bank.plays(
+            &rt,
+            &[
+                Step::Submit(number, "deposit bob 0.01"),
+                Step::Run(number, Reply::Done),
+            ],
+        );
+    }
+    for number in 4..=1_026 {
+        bank.plays(&rt, &[Step::Submit(number, "amalgamate alice bob")]);
+    }
+    bank.plays(
+        &rt,
+        &[
+            Step::Submit(1_027, "deposit carol 0.01"),
+            Step::Take(0, 4),
+            Step::Take(0, 1_027),
+            Step::TakeNone(0),
+            Step::Finish(4, Reply::Done),
+            Step::Take(0, 5),
+            Step::TakeNone(0),
+            Step::Finish(1_027, Reply::Done),
+        ],
+    );
+}
+
+// What is submitted in a schedule. Of the calls each has the cowns that it declares as bits: two for each of the
+// three, first that of the savings.
+const CALLS: [(&str, u8); 6] = [
+    ("deposit alice 0.01", 0b00_00_10),
+    ("deposit bob 0.01", 0b00_10_00),
+    ("savings bob 0.01", 0b00_01_00),
+    ("amalgamate alice bob", 0b00_10_11),
+    ("deposit carol 0.01", 0b10_00_00),
+    ("savings zed 0.01", 0),
+];
+
+// Where a call of a schedule is.
+#[derive(Clone, Copy, PartialEq, Eq)]
+enum Place {
+    Waiting,
+    Out,
+    Finished,
+}
+
+// A call of a schedule, and where it is.
+#[derive(Clone, Copy)]
+struct Entry {
+    line: &'static str,
+    cowns: u8,
+    place: Place,
+}
+
+impl Entry {
+    fn reply(&self) -> Reply {
+        if self.cowns == 0 {
+            Reply::NoCustomer
+        } else {
+            Reply::Done
+        }
+    }
+}
+
+// The number that has so many ready ones before it: each that waits is compared with all unfinished ones before it.
+fn ready_at(entries: &[Entry], index: usize) -> Option<u64> {
+    let mut held = 0;
+    let mut before = index;
+    for (entry, number) in entries.iter().zip(1..) {
+        if entry.place == Place::Waiting && entry.cowns & held == 0 {
+            if before == 0 {
+                return Some(number);
+            }
+            before -= 1;
+        }
+        if entry.place != Place::Finished {
+            held |= entry.cowns;
+        }
+    }
+    None
+}
+
+// The number that is out and has so many before it that are, counted round.
+fn out_at(entries: &[Entry], index: usize) -> Option<u64> {
+    let out = entries
+        .iter()
+        .filter(|entry| entry.place == Place::Out)
+        .count();
+    let mut before = index.checked_rem(out)?;
+    for (entry, number) in entries.iter().zip(1..) {
+        if entry.place == Place::Out {
+            if before == 0 {
+                return Some(number);
+            }
+            before -= 1;
+        }
+    }
+    None
+}
+
+// A board, and what a plain one has.
+#[derive(Drop)]
+struct Beside {
+    bank: Box<Bank>,
+    entries: Vec<Entry>,
+}
+
+impl Beside {
+    fn open(rt: &impl Abort, alloc: Global) -> Box<Beside> {
+        let beside = Beside {
+            bank: Bank::open(rt, alloc),
+            entries: Vec::new(alloc),
+        };
+        Box::new(alloc, beside).expect(rt, "memory")
+    }
+
+    fn submit(&mut self, rt: &impl Abort, kind: usize) {
+        let (line, cowns) = *CALLS.get(kind).expect(rt, "a kind of call");
+        let entry = Entry {
+            line,
+            cowns,
+            place: Place::Waiting,
+        };
+        self.entries.push(entry).expect(rt, "memory");
+        let number = self.entries.len() as u64;
+        self.bank.plays(rt, &[Step::Submit(number, line)]);
+    }
+
+    // Both hand the same one out, or none.
+    fn take(&mut self, rt: &impl Abort, index: usize) {
+        match ready_at(&self.entries, index) {
+            Some(number) => {
+                self.bank.plays(rt, &[Step::Take(index, number)]);
+                self.moves(rt, number, Place::Out);
+            }
+            None => self.bank.plays(rt, &[Step::TakeNone(index)]),
+        }
+    }
+
+    // One that is out is finished, where there is one.
+    fn finish(&mut self, rt: &impl Abort, index: usize) {
+        let Some(number) = out_at(&self.entries, index) else {
+            return;
+        };
+        let reply = self.moves(rt, number, Place::Finished);
+        self.bank.plays(rt, &[Step::Finish(number, reply)]);
+    }
+
+    fn moves(&mut self, rt: &impl Abort, number: u64, place: Place) -> Reply {
+        let index = number.checked_sub(1).expect(rt, "a number") as usize;
+        let entry = self
+            .entries
+            .get_mut(index)
+            .expect(rt, "a number of the log");
+        entry.place = place;
+        entry.reply()
+    }
+
+    // A step that these bits choose: while jobs go one at a time what is handed out comes back at once.
+    fn step(&mut self, rt: &impl Abort, bits: u64, one_at_a_time: bool) {
+        let index = (bits >> 8 & 3) as usize;
+        match bits & 3 {
+            0 | 1 => self.submit(rt, (bits >> 2 & 63) as usize % 6),
+            2 if one_at_a_time => {
+                self.take(rt, 0);
+                self.finish(rt, 0);
+            }
+            2 => self.take(rt, index),
+            _ => self.finish(rt, index),
+        }
+    }
+}
+
+// Jobs go one at a time for so many steps, and then in whatever order.
+fn plays_beside(rt: &impl Abort, beside: &mut Beside, seed: u64, alone: u64) {
+    for step in 0..200_u64 {
+        let mixed = (seed << 8 | step).wrapping_mul(0x9e37_79b9_7f4a_7c15);
+        let bits = (mixed ^ mixed >> 29).wrapping_mul(0xbf58_476d_1ce4_e5b9) >> 40;
+        beside.step(rt, bits, step < alone);
+    }
+}
+
+// All that is left is run one after the other, and the columns are those of the log run in place.
+fn ends_as_one_hand_does(rt: &impl Abort, alloc: Global, beside: &mut Beside) {
+    let mut alone = Bank::open(rt, alloc);
+    for (entry, number) in beside.entries.iter().zip(1..) {
+        let steps = [
+            Step::Submit(number, entry.line),
+            Step::Run(number, entry.reply()),
+        ];
+        alone.plays(rt, &steps);
+    }
+    for _ in 0..beside.entries.len() {
+        beside.finish(rt, 0);
+    }
+    for _ in 0..beside.entries.len() {
+        beside.take(rt, 0);
+        beside.finish(rt, 0);
+    }
+    beside.bank.cuts(rt);
+    beside.bank.has_cut_of(rt, &alone);
+}
+
+#[test]
+fn whatever_is_asked_a_plain_board_says_the_same(rt: HostRuntime) {
+    for seed in 0..40 {
+        let mut beside = Beside::open(&rt, rt.alloc());
+        plays_beside(&rt, &mut beside, seed, seed * 5);
+        ends_as_one_hand_does(&rt, rt.alloc(), &mut beside);
+    }
+}
