@@ -1,5 +1,6 @@
 pub mod CustomerLines
 pub mod Customers
+pub mod NameBlocks
 pub mod Names
 pub mod OpeningLaws
 pub mod OpeningSteps

@@ -7,6 +7,7 @@ mod directory;
 mod fault;
 mod laws;
 mod name;
+mod name_bytes;
 mod opening;
 mod reading;
 mod text;
