@@ -10,6 +10,7 @@ mod name;
 mod name_bytes;
 mod opening;
 mod reading;
+mod spaces;
 mod text;
 mod words;
 
