@@ -1,11 +1,10 @@
 -- What the mask of a line's spaces says of its first word.
-use Rattle.std.proofs.Common.{◌≡◌, ℕ, suc, ◌+◌, ◌*◌, ◌-◌, ◌/◌, ◌^◌, ◌<◌, ◌≤◌, Bool, true, false, not, cond, List, [], ◌∷◌, map, length, take, drop, refl, sym, ap, ◌∙◌, subst, arith, length-drop, drop-drop}
+use Rattle.std.proofs.Common.{◌≡◌, ℕ, suc, ◌+◌, ◌*◌, ◌/◌, ◌^◌, ◌<◌, Bool, true, false, not, cond, List, [], ◌∷◌, length, take, drop, sym, ap, ◌∙◌, arith, length-drop, drop-drop}
 use Rattle.std.proofs.lemmas.Simd.{leading_from_mask_l, trailing_mask_l}
 use Rattle.std.specs.Int.{w64, trailing_zeros}
 use Rattle.std.specs.List.{position_or_len}
-use lib.Lanes.{mask_l}
 use Rattle.sb_rows.proofs.Masks.{spaces_behind}
-use Rattle.sb_rows.proofs.Parting.{words-at, words-one, to_end}
+use Rattle.sb_rows.proofs.Parting.{words-at, words-one}
 use Rattle.sb_rows.specs.Text.{words, is_space}
 use Rattle.sb_rows.specs.Spaces.{spaces_of, AreSpacesOf}
 

@@ -1,4 +1,4 @@
-use Rattle.std.proofs.Common.{◌≡◌, ◌+◌, ◌-◌, ◌*◌, ◌/◌, ◌%◌, ◌<◌, ◌^◌, length, take, drop, sym, ap, ◌∙◌, arith, length-drop, drop-drop}
+use Rattle.std.proofs.Common.{◌≡◌, ◌+◌, ◌-◌, ◌/◌, ◌%◌, ◌^◌, length, take, drop, ap, ◌∙◌, arith, length-drop, drop-drop}
 use Rattle.std.proofs.lemmas.List.{length-take, take_all}
 use Rattle.sb_rows.specs.Spaces.{spaces_of}
 use Rattle.sb_rows.proofs.Masks.{spaces_below, spaces_behind, spaces_parted}
@@ -9,8 +9,7 @@ loop-at-init c =
     let line = c.args.line.now in
     let n = length line in
     let whole = take_all 16 (drop (n - 16) line) (omega (arith, length-drop (n - 16) line)) in
-    let place : n - 16 + (16 - n % 16) ≡ n - n % 16 = omega arith in
-    (
+    let place : n - 16 + (16 - n % 16) ≡ n - n % 16 = omega arith in (
       omega arith,
       omega arith,
       ap (λ m. m / 2 ^ (16 - n % 16)) (c.spaces_of_block.ensures ∙ ap spaces_of whole)
@@ -35,8 +34,7 @@ loop-at-preserved c =
     let line = c.args.line.now in
     let at = c.loop-at.at - 16 in
     let back : at + 16 ≡ c.loop-at.at = omega (arith, c.loop-at.invariant.1) in
-    let behind = ap spaces_of (drop-drop 16 at line ∙ ap (λ k. drop k line) back) in
-    (
+    let behind = ap spaces_of (drop-drop 16 at line ∙ ap (λ k. drop k line) back) in (
       omega arith,
       omega (arith, c.loop-at.invariant.1),
       omega (arith, c.loop-at.invariant.2, c.spaces_of_block-in-loop-at.ensures, behind, spaces_parted 16 (drop at line) (omega (arith, length-drop at line))),

@@ -1,6 +1,5 @@
-use Rattle.std.proofs.Common.{◌≡◌, ℕ, ◌≤◌, ◌<◌, ◌^◌, Bool, true, false, drop, arith, length-drop}
+use Rattle.std.proofs.Common.{◌≡◌, ℕ, ◌≤◌, Bool, true, false, drop, arith, length-drop}
 use mir.Val.{bool_byte}
-use Rattle.sb_rows.specs.Spaces.{spaces_of}
 use Rattle.sb_rows.proofs.Masks.{spaces_below}
 use Rattle.sb_rows.proofs.spaces.spaces_of_few.Goals as goal
 

@@ -1,8 +1,6 @@
-use Rattle.std.proofs.Common.{◌≡◌, ◌∙◌, ℕ, ◌+◌, ◌<◌, ◌≤◌, List, length, ap, sym, subst, rules, arith, length-take-le}
+use Rattle.std.proofs.Common.{◌+◌, ◌≤◌, length, sym, rules, arith, length-take-le}
 use Rattle.std.specs.Int.{w64, trailing_zeros}
-use Rattle.sb_rows.specs.Spaces.{AreSpacesOf}
-use Rattle.sb_rows.specs.Text.{words}
-use Rattle.sb_rows.proofs.MarkedWords.{FirstWord, first_word, one_word}
+use Rattle.sb_rows.proofs.MarkedWords.{first_word, one_word}
 use Rattle.sb_rows.proofs.Parting.{to_end}
 use Rattle.sb_rows.proofs.text.next_marked_word.Goals as goal
 
