@@ -1,5 +1,8 @@
 pub mod CustomerLines
 pub mod Customers
+pub mod MarkedWords
+pub mod Masks
+pub mod NameBlocks
 pub mod Names
 pub mod OpeningLaws
 pub mod OpeningSteps

@@ -74,12 +74,21 @@ lines-nil [] h = refl
 lines-nil (x ∷ xs) h = absurd (omega arith)
 
 -- a line with a space has the word before it, and the words after it
-pub words-first : (line : List ℕ) (k : ℕ) → IsFirstByte is_space line (Some k)
+pub words-at : (line : List ℕ) (k : ℕ) → k < length line → position_or_len is_space line ≡ k
     → words line ≡ take k line ∷ words (drop (k + 1) line)
 unfolding words
-words-first line k h = split_first is_space line k h.0.high (found_first is_space line k h)
+words-at line k l e = split_first is_space line k l e
 
 -- a line without one is one word
-pub words-whole : (line : List ℕ) → IsFirstByte is_space line None → words line ≡ line ∷ []
+pub words-one : (line : List ℕ) → position_or_len is_space line ≡ length line → words line ≡ line ∷ []
 unfolding words
-words-whole line h = split_whole is_space line (nothing_found is_space line h)
+words-one line e = split_whole is_space line e
+
+-- the same of what a search found
+pub words-first : (line : List ℕ) (k : ℕ) → IsFirstByte is_space line (Some k)
+    → words line ≡ take k line ∷ words (drop (k + 1) line)
+words-first line k h = words-at line k h.0.high (found_first is_space line k h)
+
+-- and where it found nothing
+pub words-whole : (line : List ℕ) → IsFirstByte is_space line None → words line ≡ line ∷ []
+words-whole line h = words-one line (nothing_found is_space line h)

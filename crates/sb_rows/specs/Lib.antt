@@ -8,4 +8,5 @@ pub mod Name
 pub mod Opening
 pub mod Reads
 pub mod Rows
+pub mod Spaces
 pub mod Text

@@ -7,8 +7,10 @@ mod directory;
 mod fault;
 mod laws;
 mod name;
+mod name_bytes;
 mod opening;
 mod reading;
+mod spaces;
 mod text;
 mod words;
 

@@ -2,11 +2,11 @@
 ghost use Rattle.std.specs.Prelude.{◌≡◌, [], ◌∷◌, SomeIff};
 ghost use Rattle.std.specs.Cmp.{partial_equiv_from_equiv};
 ghost use Rattle.std.specs.Cmp.Lexicographic.{nat_list_eq_equiv};
-ghost use Rattle.std.specs.List.{list_all};
 ghost use Rattle.std.specs.Str.{bytes_eq};
 ghost use Rattle.sb_rows.specs.Name as spec;
 ghost use Rattle.sb_rows.specs.Name.{IsName};
 
+use crate::name_bytes::are_name_bytes;
 use std::hash::{Hash, Hasher};
 use std::marker::Model;
 
@@ -38,21 +38,6 @@ impl Model for Name {
     ghost inverse_ok = { λ n h i.
         let back = stored_back n.bytes n.len h in
         record { bytes = back.0 i; len = back.1 i } };
-}
-
-// Whether a byte may stand in a name. Most are letters, so these are tested first.
-#[inline(always)]
-fn is_name_byte(byte: u8) -> bool
-    ensures { result ≡ spec.is_name_byte byte }
-{
-    byte.is_ascii_lowercase() || byte.is_ascii_digit() || byte == b'_'
-}
-
-// Whether each byte of a text may.
-fn are_name_bytes(text: &[u8]) -> bool
-    ensures { result ≡ list_all spec.is_name_byte text.now }
-{
-    text.iter().all(|byte| is_name_byte(*byte))
 }
 
 // Whether a text is a name.

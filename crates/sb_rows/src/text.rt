@@ -1,6 +1,7 @@
 //! How a text is parted into lines, and a line into words.
 ghost use Rattle.std.specs.Prelude.{◌≡◌, ◌<◌, [], ◌∷◌, length, MatchOption, IfSome};
 ghost use Rattle.std.specs.Option.{option_map};
+ghost use Rattle.sb_rows.specs.Spaces.{AreSpacesOf};
 ghost use Rattle.sb_rows.specs.Text.{lines, words, words_left, after_line};
 
 use memchr::memchr;
@@ -30,4 +31,19 @@ pub(crate) fn next_word(line: &[u8]) -> (&[u8], Option<&[u8]>)
         Some(end) => (&line[..end], Some(&line[end + 1..])),
         None => (line, None),
     }
+}
+
+// The same of a line whose spaces are known, and the spaces of what follows.
+#[inline(always)]
+pub(crate) fn next_marked_word(line: &[u8], spaces: u64) -> (&[u8], Option<&[u8]>, u64)
+    requires { AreSpacesOf line.now spaces }
+    ensures words { words line.now ≡ result.0.now ∷ words_left (option_map (λ rest. rest.now) result.1) }
+    ensures spaces { IfSome result.1 (λ rest. AreSpacesOf rest.now result.2) }
+{
+    if spaces == 0 {
+        return (line, None, 0);
+    }
+    let end = spaces.trailing_zeros();
+    let rest = &line[end as usize + 1..];
+    (&line[..end as usize], Some(rest), spaces >> end >> 1)
 }

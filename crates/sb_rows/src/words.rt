@@ -2,7 +2,8 @@
 ghost use Rattle.std.specs.Prelude.{◌≡◌, ◌≢◌, ℕ, List, [], ◌∷◌, MatchOption, MatchResult};
 ghost use Rattle.sb_rows.specs.Text.{words};
 
-use crate::text::next_word;
+use crate::spaces::{MASK_BYTES, spaces_of};
+use crate::text::{next_marked_word, next_word};
 use std::marker::Model;
 use thiserror::Error;
 
@@ -18,16 +19,21 @@ pub struct WrongWords;
 pub struct Words<'a> {
     // The text that they are the words of; where it is none there are none, since each text has a word.
     text: Option<&'a [u8]>,
+    // Where the text has spaces, and none where it's longer than a mask has room for.
+    spaces: Option<u64>,
 }
 
 impl<'a> Model for Words<'a> {
     ghost use Rattle.std.specs.Prelude.{ℕ, List};
     ghost use Rattle.std.specs.Option.{option_map};
+    ghost use Rattle.sb_rows.specs.Spaces.{AreSpacesLeft};
     ghost use Rattle.sb_rows.specs.Text.{words_left};
 
     ghost Value = { List (List ℕ) };
 
     ghost view = { λ w. words_left (option_map (λ text. text.now) w.text) };
+
+    ghost invariant = { λ w. AreSpacesLeft (option_map (λ text. text.now) w.text) w.spaces };
 }
 
 impl<'a> Words<'a> {
@@ -36,7 +42,15 @@ impl<'a> Words<'a> {
     pub fn of(line: &'a [u8]) -> Words<'a>
         ensures { result ≡ words line.entry.now }
     {
-        Words { text: Some(line) }
+        let spaces = if line.len() <= MASK_BYTES {
+            Some(spaces_of(line))
+        } else {
+            None
+        };
+        Words {
+            text: Some(line),
+            spaces,
+        }
     }
 
     /// Takes the next word, or gives `None` where none is left.
@@ -46,7 +60,15 @@ impl<'a> Words<'a> {
             ((self.old ≡ []) × (self.new ≡ []))
             (λ word. self.old ≡ word.now ∷ self.new) }
     {
-        let (word, rest) = next_word(self.text?);
+        let text = self.text?;
+        let (word, rest) = match self.spaces {
+            Some(spaces) => {
+                let (word, rest, left) = next_marked_word(text, spaces);
+                self.spaces = Some(left);
+                (word, rest)
+            }
+            None => next_word(text),
+        };
         self.text = rest;
         Some(word)
     }
