@@ -1,4 +1,4 @@
--- An entry that is heard as accepted is the next of the log.
+-- An entry that is answered `Accepted` is the log's next.
 use Rattle.std.proofs.Common.{◌≡◌, ℕ, suc, Bool, true, false, arith, Option, Some, None, Result, Ok, refl, ap}
 use Rattle.std.proofs.lemmas.Bool.{leb-false, ltb-false}
 use Rattle.std.specs.Prelude.{◌||◌, ◌+◌, nat_le, nat_lt, ◌==◌, if◌then◌else◌, IfSome, option_map}
@@ -27,7 +27,7 @@ accepted_next number n (Gap size) e = absurd cc
 accepted_next number n (Held held) e = absurd cc
 accepted_next number n (Busy size) e = absurd cc
 
--- neither there already nor early
+-- neither a repeat nor early
 next_tests : (there past early busy : Bool) (size number : ℕ)
     → (if there then Repeat else if past then Gap size else if early then Held number else if busy then Busy size else Next) ≡ Next
     → (there ≡ false) × (early ≡ false)
@@ -45,7 +45,7 @@ next_number board number e =
     let below = ltb-false (suc (length_of board)) number tests.1 in
     omega (arith, above, below)
 
--- an op that is held was put last in the log
+-- an op that was held is appended to the log
 held_accepts : (board new : BoardOf Op) (found : Option Op) → option_map (λ op. next_offered board) found ≡ Some Next
     → IfSome found (λ op. StaysTrueToLog declared_cowns effect_of board (Submitted op (Ok (suc (length_of board)))) new)
     → Accepts board (suc (length_of board)) new
@@ -60,7 +60,7 @@ advance_accepts log new e played = held_accepts log.board new (next_held log) e 
 some_is : {A : Type 0} {x y : A} → ◌≡◌ {A = Option A} (Some x) (Some y) → x ≡ y
 some_is h = cc
 
--- one that was held was the next one, under its own number
+-- the held one was the next one, under its own number
 pub accepted_held : (number n : ℕ) (answer : Option Offered) → option_map (heard_of number) answer ≡ Some (heard.Accepted n)
     → (answer ≡ Some Next) × (number ≡ n)
 accepted_held number n None e = absurd cc

@@ -96,7 +96,7 @@ stopped old new from behind rest why h fails =
 
 -- ---- memory that is refused among them
 
--- the frames behind a batch that were taken too, where so many entries were
+-- the frames behind a batch that were taken too, if this many entries were taken
 record Ending (behind rest : StreamState) (n limit : ℕ) : Type 0 where
   last : List Frame
   after : StreamState
@@ -126,7 +126,7 @@ ending behind rest (Err why) n limit ends whole early =
 some_is : {x y : EntryOp} → ◌≡◌ {A = Option EntryOp} (Some x) (Some y) → x ≡ y
 some_is e = cc
 
--- the one that memory was refused for is the first that wasn't heard
+-- the entry that memory was refused for is the first that wasn't heard
 first_lost : (names : List (List ℕ)) (board : BoardOf Op) (entries : List (ℕ × Call)) (place : ℕ) (entry : EntryOp) (last : List Frame)
     → slice_get (map (entry_op names) entries) place ≡ Some entry → offered board entry.number ≡ offer.Next
     → IsNext board (map entry_frame (drop place entries) ++ last)
@@ -183,7 +183,7 @@ refused {S} old new log from rest batch answer limit looks whole early few room 
 
 -- ---- a batch
 
--- how looking up ended, as it is told
+-- what ended the batch, as it is reported
 by_end : {S : Type 0} (old new : ReplicaOf S) (from behind rest : StreamState) (answer : Result (Option Pause) StreamFault)
     → HearsEntries old from new behind → Ends behind answer rest → (answer ≡ Ok None → length rest.unread < length from.unread)
     → (answer ≢ Ok None → open_of new.board < OPEN_BEHAVIOURS) → HearsBatch old from (as_heard answer) new rest

@@ -1,4 +1,4 @@
--- A frame is heard as the bytes that spell it are.
+-- A frame is heard as the bytes that spell it.
 use Rattle.std.proofs.Common.{◌≡◌, Ok, Err, List, [], length, refl, sym, ap, ◌∙◌, append-nil, ℕ}
 use Rattle.std.specs.Prelude.{if◌then◌else◌}
 use Rattle.sb_calls.proofs.HeldLaws.{eqb-refl}
@@ -30,13 +30,13 @@ pub hears_frame : {S : Type 0} (old : ReplicaOf S) (frame : Frame) → IsFrame f
 hears_frame old frame valid =
     record { frame = frame; whole = whole_is frame (spelling frame) (spells frame valid); answer_is = refl; after = refl }
 
--- so are all bytes that spell it
+-- so do all bytes that spell it
 pub hears_bytes : {S : Type 0} (old new : ReplicaOf S) (frame : Frame) (answer : Heard) → answer ≡ heard old.board frame
     → new ≡ with_log old (after_frame old.names (log_of old) frame) → (bytes : List ℕ) → Spells frame bytes → Hears old bytes answer new
 hears_bytes old new frame answer told after bytes h =
     record { frame = frame; whole = whole_is frame bytes h; answer_is = told; after = after }
 
--- one that is no entry is ignored
+-- a frame that isn't an entry is ignored
 pub ignores : {S : Type 0} (old : ReplicaOf S) (frame : Frame) → IsFrame frame → ¬ IsEntry frame → Hears old (spelling frame) Ignored old
 ignores old (Ask client request call) valid other = hears_frame old (Ask client request call) valid
 ignores old (Entry number call) valid other = absurd (other tt)

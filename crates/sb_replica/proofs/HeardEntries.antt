@@ -1,4 +1,5 @@
--- Entries that are offered in order are heard one after another, each in time where there is room for all.
+-- Entries that are offered in order are heard one after another, and each in time if there is room
+-- for all.
 use Rattle.std.proofs.Common.{◌≡◌, ℕ, suc, ◌+◌, ◌<◌, ◌≤◌, Bool, true, false, arith, Some, List, [], ◌∷◌, ◌++◌, length, take, map, refl, ap, sym, ◌∙◌}
 use Rattle.std.specs.List.{All}
 use Rattle.std.specs.Prelude.{◌||◌, ◌==◌, nat_le, nat_lt, if◌then◌else◌, slice_get}
@@ -27,7 +28,7 @@ use Rattle.sb_replica.specs.Streams.{HeardFrame, HearsAll, IsEntryInTime, frames
 use Rattle.sb_replica.specs.declared.heard.Heard.TheVariants as heard
 use Rattle.sb_replica.specs.declared.streams.EntryOp.{EntryOp}
 
--- one entry leaves one more unfinished at most
+-- one entry leaves at most one more unfinished
 opens_one : (log : LogOf) (op : Op) (answer : Offered) → open_of (after_offer log op answer).board ≤ open_of log.board + 1
 opens_one log op Next = let e = count-append log.board.states Waiting in omega (arith, e)
 opens_one log op Repeat = omega arith
@@ -35,7 +36,7 @@ opens_one log op (Gap size) = omega arith
 opens_one log op (Held number) = omega arith
 opens_one log op (Busy size) = omega arith
 
--- so many leave so many more
+-- this many entries leave at most this many more
 pub opens : (log : LogOf) (batch : List EntryOp) → open_of (after_batch log batch).board ≤ open_of log.board + length batch
 opens log [] = omega arith
 opens log (entry ∷ others) =
@@ -43,7 +44,7 @@ opens log (entry ∷ others) =
     let rest = opens (after_offer log entry.op (offered log.board entry.number)) others in
     omega (arith, one, rest)
 
--- where there is room none is answered that the board is busy
+-- if there is room, no entry is answered `Busy`
 busy_tests : (there past early busy : Bool) (size number n : ℕ) → busy ≡ false
     → (if there then Repeat else if past then Gap size else if early then Held number else if busy then Busy size else Next) ≡ Busy n → ⊥
 busy_tests true past early busy size number n free e = cc

@@ -12,7 +12,7 @@ use Rattle.sb_calls.specs.declared.reply.Reply.{Reply}
 use Rattle.sb_calls.proofs.ShownTotals.{replies_fit}
 use Rattle.cown_board.specs.Board.{BoardOf, reply_in}
 
--- what is so of all of a list is so of the one at a place
+-- what holds of every item of a list holds of the one at a place
 pub at_place : {X : Type 0} (P : X → Type 0) (xs : List X) (i : ℕ) → All P xs → IfSome (slice_get xs i) P
 at_place P xs i all = elim (slice_get_cases xs i).1 [
   | inl here ↦ subst (λ o. IfSome o P) (sym here.2) (subst P here.3 (all i here.0 here.1))
@@ -27,12 +27,12 @@ early : (test : Bool) (found : Option Reply) → IfSome found IsReply → IfSome
 early true found h = tt
 early false found h = h
 
--- what a board says of a reply that isn't from before it
+-- a board's reply that isn't from before it
 abbrev pub IsByLog : BoardOf Op → ℕ → Reply → Type 0
 IsByLog board number reply = length board.earlier < number
     → reply_by_log declared_cowns effect_of (held_of board.opening) board.log (number - length board.earlier) ≡ Some reply
 
--- those from before the board, and those of its log run one by one
+-- the replies from before the board, and those of its log run one by one
 pub held_reply : (board : BoardOf Op) (number : ℕ) → All IsReply board.earlier → AllHeld (held_of board.opening)
     → IfSome (reply_in board number) (IsByLog board number)
     → IfSome (reply_in board number) IsReply

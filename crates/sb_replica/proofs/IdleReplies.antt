@@ -55,7 +55,7 @@ reply_at board place idle =
           ∙ sym (slice_get-right earlier fs place (place - length earlier) (omega (arith, past)))
     ]
 
--- as many as there are numbers
+-- there are as many replies as numbers
 pub length_held : (board : BoardOf Op) → open_of board ≡ 0 → length board.log ≡ length board.states → length (replies_held board) ≡ length_of board
 length_held board idle beside =
     length-append board.earlier (filter_map finished_reply board.states)

@@ -1,4 +1,4 @@
--- What a mark is of: its replies by number, its length, and its columns.
+-- What a mark covers: its replies by number, its length, and its columns.
 use Rattle.std.proofs.Common.{◌≡◌, ℕ, ◌+◌, ◌-◌, ◌<◌, ◌≤◌, true, Option, Some, None, List, Bor, length, take, refl, sym, ap, subst, ◌∙◌, arith, inl, inr}
 use Rattle.std.specs.Prelude.{◌≢◌, min, if◌then◌else◌, nat_le, ◌==◌, option_and_then, option_map, MatchOption}
 use Rattle.std.specs.List.{slice_get}
@@ -14,7 +14,7 @@ use Rattle.cown_board.specs.State.{finished_reply}
 use Rattle.cown_board.specs.declared.state.State.{State}
 use Rattle.sb_replica.specs.Marking.{up_to_cut, up_to}
 
--- up to a cut it has as many numbers as the cut is long
+-- up to a cut, the board has as many numbers as the cut's length
 pub length_up_to : (board : BoardOf Op) (number : ℕ) → length board.earlier ≤ number → number ≤ length_of board
     → length_of (up_to board (Some number)) ≡ number
 length_up_to board number after within =
@@ -32,7 +32,7 @@ beside_up_to board (Some number) beside =
 pub marked_beside : (board : BoardOf Op) → length board.log ≡ length board.states → length (up_to_cut board).log ≡ length (up_to_cut board).states
 marked_beside board beside = beside_up_to board board.cut beside
 
--- the numbers that are marked have their replies
+-- the marked numbers have their replies
 abbrev reply_among : BoardOf Op → ℕ → List State → Option Reply
 reply_among board number states =
     if number == 0 then None
@@ -62,7 +62,7 @@ reply_up_to board (Some number) place lt =
 pub marked_reply : (board : BoardOf Op) (place : ℕ) → place < length_of (up_to_cut board) → reply_in board (place + 1) ≡ reply_in (up_to_cut board) (place + 1)
 marked_reply board place lt = reply_up_to board board.cut place lt
 
--- columns that a mark is of, if nothing of that is unfinished
+-- the columns of a mark, if nothing that it covers is unfinished
 abbrev pub AreMarked : BoardOf Op → Option (Bor Balances) → Type 0
 AreMarked board columns = MatchOption columns (open_of board ≢ 0)
     (λ lent. (open_of board ≡ 0) × IsAfterAll declared_cowns effect_of board lent.now)

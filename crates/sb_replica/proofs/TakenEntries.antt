@@ -1,4 +1,4 @@
--- Entries that a stream handed out and whose names were looked up.
+-- Entries that a stream handed out, with their names looked up.
 use Rattle.std.proofs.Common.{◌≡◌, ℕ, suc, ◌≤◌, arith, Some, Ok, List, [], ◌∷◌, ◌++◌, length, map, refl, sym, ap, subst, ◌∙◌}
 use Rattle.std.specs.Int.{w16, to_be_bytes}
 use Rattle.std.specs.List.{All}

@@ -21,14 +21,14 @@ use Rattle.sb_replica.specs.declared.pause.Pause.{Pause}
 use Rattle.sb_replica.specs.declared.pause.Pause.TheVariants.{Short, Other, Busy}
 use Rattle.sb_replica.specs.declared.streams.EntryOp.{EntryOp}
 
--- a call with its number, as a frame and with its names looked up
+-- a numbered call as an Entry frame, and as an op with its names looked up
 abbrev pub entry_frame : ℕ × Call → Frame
 entry_frame entry = Entry entry.0 entry.1
 
 abbrev pub entry_op : List (List ℕ) → ℕ × Call → EntryOp
 entry_op names entry = record { number = entry.0; op = resolved names entry.1 }
 
--- each is of customers among this many
+-- each op has only customers among this many
 abbrev pub AreWithin : ℕ → List EntryOp → Type 0
 AreWithin customers batch = All (λ entry. IsOpWithin customers entry.op) batch
 
@@ -40,7 +40,8 @@ pub record TakesEntries (names : List (List ℕ)) (old : StreamState) (batch : L
   pub valid : All IsFrame (map entry_frame entries)
   pub handed_out : HandsOutAll old (map entry_frame entries) new
 
--- what came behind them: nothing was asked for, there was no whole frame, another frame, or the stream failed
+-- what ended a batch: nothing (it is full), no whole frame, a frame that isn't an entry, or a fault
+-- of the stream
 abbrev pub Ends : StreamState → Result (Option Pause) StreamFault → StreamState → Type 0
 Ends old (Ok None) new = new ≡ old
 Ends old (Ok (Some Short)) new = IsShort old × (new ≡ old)
@@ -55,13 +56,14 @@ pub record LooksUp (names : List (List ℕ)) (old : StreamState) (batch : List E
   pub takes : TakesEntries names old batch behind
   pub ends : Ends behind answer new
 
--- a log after entries that were offered in order
+-- the log after these entries were offered in order
 abbrev pub after_batch : LogOf → List EntryOp → LogOf
 after_batch log [] = log
 after_batch log (entry ∷ others) =
     after_batch (after_offer log entry.op (offered log.board entry.number)) others
 
--- the entries before one were offered, and memory was refused for that one, which is the next for the log
+-- the entries before this one were offered; this one is the log's next, and memory was refused for
+-- it
 pub record IsRefusedAmong (old : LogOf) (batch : List EntryOp) (new : LogOf) : Type 0 where
   pub place : ℕ
   pub entry : EntryOp
@@ -69,7 +71,7 @@ pub record IsRefusedAmong (old : LogOf) (batch : List EntryOp) (new : LogOf) : T
   pub before : new ≡ after_batch old (take place batch)
   pub next : offered new.board entry.number ≡ Next
 
--- entries were handed out and heard, each in time
+-- a stream handed out entries, and the replica heard each in time
 pub record HearsEntries {S : Type 0} (old : ReplicaOf S) (from : StreamState) (new : ReplicaOf S) (rest : StreamState)
     : Type 0 where
   pub entries : List HeardFrame
@@ -77,12 +79,12 @@ pub record HearsEntries {S : Type 0} (old : ReplicaOf S) (from : StreamState) (n
   pub handed_out : HandsOutAll from (frames_of entries) rest
   pub all_heard : HearsAll old entries new
 
--- what ended looking up, as it's told once what was looked up is heard
+-- what ended a batch, as `hear_stream` reports it
 abbrev pub as_heard : Result (Option Pause) StreamFault → Result (Option Pause) HearingFault
 as_heard (Ok end) = Ok end
 as_heard (Err fault) = Err (Stream fault)
 
--- a batch was heard: of entries alone, up to a pause, or up to a fault
+-- a batch was heard: entries alone, entries up to a pause, or entries up to a fault
 abbrev pub HearsBatch : {S : Type 0} → ReplicaOf S → StreamState → Result (Option Pause) HearingFault → ReplicaOf S
     → StreamState → Type 0
 HearsBatch old from (Ok None) new rest = HearsEntries old from new rest × (length rest.unread < length from.unread)

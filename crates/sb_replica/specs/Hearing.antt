@@ -1,4 +1,4 @@
--- What bytes from the network are to a replica.
+-- What a replica makes of bytes from the network.
 use Rattle.std.specs.Prelude.{◌≡◌, ℕ, suc, ◌==◌, if◌then◌else◌, Option, option_map, Result, Ok, Err, List, length}
 use Rattle.sb_calls.specs.Behaviour.{declared_cowns, effect_of}
 use Rattle.sb_calls.specs.Op.{resolved}
@@ -20,7 +20,7 @@ use Rattle.sb_replica.specs.declared.fault.ReplicaFault.TheVariants as fault
 use Rattle.sb_replica.specs.declared.heard.Heard.{Heard}
 use Rattle.sb_replica.specs.declared.heard.Heard.TheVariants.{Accepted, Repeat, Gap, Held, Busy, Ignored}
 
--- a frame that takes all of so many bytes; bytes after it are a fault
+-- the frame that takes all of this many bytes; more bytes after it are a fault
 abbrev pub all_of : ℕ → Result (Frame × ℕ) FrameFault → Result Frame FrameFault
 all_of size (Ok found) = if found.1 == size then Ok found.0 else Err BadLength
 all_of size (Err fault) = Err fault
@@ -28,7 +28,7 @@ all_of size (Err fault) = Err fault
 abbrev pub whole_frame : List ℕ → Result Frame FrameFault
 whole_frame bytes = all_of (length bytes) (decoded bytes)
 
--- what the log answers to an entry with this number
+-- the answer to an entry with this number, by what the log did with it
 abbrev pub heard_of : ℕ → Offered → Heard
 heard_of number offer.Next = Accepted number
 heard_of number offer.Repeat = Repeat number
@@ -55,24 +55,24 @@ after_frame names log (Outcome client request outcome) = log
 after_frame names log Flush = log
 after_frame names log (Have replica size) = log
 
--- what the op that is held for the next number is heard as, if there is one
+-- the answer to the op that is held for the next number, if there is one
 abbrev pub heard_next : LogOf → Option Heard
 heard_next log = option_map (heard_of (suc (length_of log.board))) (advanced log)
 
--- the bytes are a frame, with this answer to it, and this is the replica then
+-- the bytes are one whole frame, this is the answer to it, and this is the replica after it
 pub record Hears {S : Type 0} (old : ReplicaOf S) (bytes : List ℕ) (answer : Heard) (new : ReplicaOf S) : Type 0 where
   pub frame : Frame
   pub whole : whole_frame bytes ≡ Ok frame
   pub answer_is : answer ≡ heard old.board frame
   pub after : new ≡ with_log old (after_frame old.names (log_of old) frame)
 
--- the fault is the frame's; memory is asked for only for an entry that would be accepted
+-- the fault is the frame's, or memory was refused for an entry that would be accepted
 abbrev pub IsHearingFault : {S : Type 0} → ReplicaOf S → List ℕ → ReplicaFault → Type 0
 IsHearingFault replica bytes (fault.BadFrame frame) = whole_frame bytes ≡ Err frame
 IsHearingFault replica bytes fault.OutOfMemory =
     (entry : Frame) × (number : ℕ) × (whole_frame bytes ≡ Ok entry) × (heard replica.board entry ≡ Accepted number)
 
--- an op was put last in the log, under this number
+-- an op was appended to the log, under this number
 pub record Accepts (old : BoardOf Op) (number : ℕ) (new : BoardOf Op) : Type 0 where
   pub op : Op
   pub played : StaysTrueToLog declared_cowns effect_of old (Submitted op (Ok number)) new

@@ -12,25 +12,25 @@ use Rattle.sb_replica.specs.Replica.{ReplicaOf, origin_of, replies_held}
 use Rattle.sb_replica.specs.declared.fault.MarkFault.{MarkFault}
 use Rattle.sb_replica.specs.declared.fault.MarkFault.TheVariants as mark
 
--- a board up to a cut, where there is one
+-- a board up to a cut, or all of it without one
 abbrev pub up_to : BoardOf Op → Option ℕ → BoardOf Op
 up_to board None = board
 up_to board (Some number) =
     let places = number - length board.earlier in
     record board { log = take places board.log; states = take places board.states }
 
--- what a mark is of: the board up to its cut, and all of it where it has none
+-- what a mark covers: the board up to its cut, or all of it without one
 abbrev pub up_to_cut : BoardOf Op → BoardOf Op
 up_to_cut board = up_to board board.cut
 
--- once a checkpoint is put its cut is gone, and else it stays
+-- a put that succeeds removes the cut; one that fails leaves it
 abbrev pub after_put : Result (Unit {0}) StoreFault → BoardOf Op → BoardOf Op
 after_put (Ok done) board = record board { cut = None }
 after_put (Err fault) board = board
 
 module _ {S : Type 0} (does : S → StoreStep → S → Type 0) where
-  -- the balances after all that is marked and all its replies were spelled, in the second layout with the opening
-  -- total, and put with this answer
+  -- the balances after all marked entries and their replies were spelled, in the second layout with
+  -- the opening total, and the store's put gave this answer
   pub record Puts (old : ReplicaOf S) (answer : Result (Unit {0}) StoreFault) (new : ReplicaOf S) : Type 0 where
     pub idle : open_of (up_to_cut old.board) ≡ 0
     pub columns : Balances
@@ -41,12 +41,12 @@ module _ {S : Type 0} (does : S → StoreStep → S → Type 0) where
     pub put : does old.store (Put bytes answer) new.store
     pub stays : new ≡ record old { board = after_put answer old.board; store = new.store }
 
-  -- a checkpoint was spelled so, and put
+  -- these are the bytes of the checkpoint, and the put succeeded
   abbrev pub PutsBytes : ReplicaOf S → List ℕ → ReplicaOf S → Type 0
   PutsBytes old bytes new = (puts : Puts old (Ok tt) new) × (puts.bytes ≡ bytes)
 
-  -- something that is marked is unfinished, and nothing changes; the store failed; or memory was refused, to it or
-  -- before it was asked
+  -- a marked entry is unfinished and nothing changes; or the store failed; or memory was refused,
+  -- by the store or before it was used
   abbrev pub IsMarkFaultOf : ReplicaOf S → MarkFault → ReplicaOf S → Type 0
   IsMarkFaultOf old mark.Busy new = (open_of (up_to_cut old.board) ≢ 0) × (new ≡ old)
   IsMarkFaultOf old mark.Device new = Puts old (Err Device) new

@@ -11,8 +11,8 @@ use Rattle.cown_board.specs.State.{finished_reply}
 use Rattle.sb_checkpoint.specs.Checkpoint.{Origin}
 use Rattle.sb_replica_log.specs.Log.{LogOf}
 
--- its number, the customers' names by place, the balances at the opening, its board, the ops that are held for the
--- numbers after the board's, and its store
+-- its number, the customers' names by place, the balances at the opening, its board, the ops held
+-- for later numbers, and its store
 pub record ReplicaOf (S : Type 0) : Type 0 where
   pub id : ℕ
   pub names : List (List ℕ)
@@ -21,14 +21,14 @@ pub record ReplicaOf (S : Type 0) : Type 0 where
   pub held : List (Option Op)
   pub store : S
 
--- what its checkpoints are told apart by: its number of customers, and what they had together at the opening
+-- what ties a checkpoint to its bank: the number of customers and their opening total
 abbrev pub origin_of : {S : Type 0} → ReplicaOf S → Origin
 origin_of replica = record {
   customers = length replica.names;
   opening_total = total replica.opening.savings +ℤ total replica.opening.checking;
 }
 
--- its log: the board, and what is held
+-- its log: the board and the ops that are held
 abbrev pub log_of : {S : Type 0} → ReplicaOf S → LogOf
 log_of replica = record { board = replica.board; held = replica.held }
 
@@ -36,7 +36,7 @@ log_of replica = record { board = replica.board; held = replica.held }
 abbrev pub with_log : {S : Type 0} → ReplicaOf S → LogOf → ReplicaOf S
 with_log replica log = record replica { board = log.board; held = log.held }
 
--- what it has beside its log
+-- all that it has beside its log
 pub record BesideOf (S : Type 0) : Type 0 where
   pub id : ℕ
   pub names : List (List ℕ)
@@ -47,11 +47,12 @@ abbrev pub beside_of : {S : Type 0} → ReplicaOf S → BesideOf S
 beside_of replica =
     record { id = replica.id; names = replica.names; opening = replica.opening; store = replica.store }
 
--- the replies that a board holds, by number; of an idle one these are all
+-- the replies that a board has, by number; if it is idle, these are all
 abbrev pub replies_held : BoardOf Op → List Reply
 replies_held board = board.earlier ++ filter_map finished_reply board.states
 
--- as many customers as names, at the opening and on the board; what was replied before the board has a spelling
+-- the opening and the board have one customer for each name, and every reply from before the board
+-- has a spelling
 pub record IsReplica {S : Type 0} (replica : ReplicaOf S) : Type 0 where
   pub opening : length replica.opening.savings ≡ length replica.names
   pub board : length replica.board.opening.savings ≡ length replica.names

@@ -1,4 +1,4 @@
--- A replica that is where its store's checkpoint says.
+-- A replica goes back to its store's checkpoint.
 use Rattle.std.specs.Prelude.{◌≡◌, ◌≢◌, ◌⊎◌, ℕ, Option, Some, None, List, [], length}
 use Rattle.sb_rows.specs.Balances.{Balances}
 use Rattle.sb_calls.specs.declared.op.Op.{Op}
@@ -16,8 +16,8 @@ use Rattle.sb_replica.specs.Replica.{ReplicaOf, origin_of}
 use Rattle.sb_replica.specs.declared.fault.RestartFault.{RestartFault}
 use Rattle.sb_replica.specs.declared.fault.RestartFault.TheVariants as restart
 
--- what the store holds is this checkpoint of a bank of this origin, in either layout; where it holds nothing, it is the
--- opening, without replies
+-- what the store holds is this checkpoint of a bank of this origin, in either layout; if it holds
+-- nothing, this is the opening, without replies
 abbrev pub IsStoredAs : Balances → Origin → Option (List ℕ) → CheckpointOf → Type 0
 IsStoredAs opening origin None checkpoint = checkpoint ≡ record { columns = opening; replies = [] }
 IsStoredAs opening origin (Some bytes) checkpoint = IsSpelled origin.opening_total checkpoint bytes
@@ -29,7 +29,7 @@ pub record IsLogOn (opening : Balances) (origin : Origin) (held : Option (List �
   pub is_stored : IsStoredAs opening origin held checkpoint
   pub board_is : board ≡ opened_with checkpoint.columns checkpoint.replies
 
--- what a restart is answered where its store or what it holds is at fault
+-- a restart's fault for a fault of the store, or of the checkpoint in it
 abbrev pub of_store_fault : StoreFault → RestartFault
 of_store_fault store.Device = restart.Device
 of_store_fault store.OutOfMemory = restart.OutOfMemory
@@ -38,13 +38,13 @@ abbrev pub of_checkpoint_fault : CheckpointFault → RestartFault
 of_checkpoint_fault checkpoint.OutOfMemory = restart.OutOfMemory
 of_checkpoint_fault fault = restart.BadCheckpoint fault
 
--- what is held, if anything, begins as a checkpoint of so many customers and isn't short
+-- what the store holds, if anything, has a sound beginning for this many customers and isn't short
 abbrev pub BeginsWell : ℕ → Option (List ℕ) → Type 0
 BeginsWell customers None = Unit {0}
 BeginsWell customers (Some bytes) = head_fault bytes customers ≡ None
 
--- why what the store holds can't be gone back to: it is no checkpoint of this bank, or memory was refused, which only
--- what begins well wants
+-- why a restart refuses what the store holds: it isn't a checkpoint of this bank, or memory was
+-- refused, which only bytes that begin well can need
 abbrev pub IsRefusalOf : Origin → Option (List ℕ) → RestartFault → Type 0
 IsRefusalOf origin held restart.Device = ⊥
 IsRefusalOf origin held (restart.BadCheckpoint fault) =
@@ -53,7 +53,7 @@ IsRefusalOf origin held (restart.BadCheckpoint fault) =
 IsRefusalOf origin held restart.OutOfMemory = BeginsWell origin.customers held
 
 module _ {S : Type 0} (does : S → StoreStep → S → Type 0) where
-  -- a new board on what the store holds, and no op is held
+  -- the board is opened anew on what the store holds, and no op is held
   pub record Restarts (old : ReplicaOf S) (size : ℕ) (new : ReplicaOf S) : Type 0 where
     pub held : Option (List ℕ)
     pub got : does old.store (Got held) new.store
@@ -61,7 +61,7 @@ module _ {S : Type 0} (does : S → StoreStep → S → Type 0) where
     pub length_is : size ≡ length_of new.board
     pub stays : new ≡ record old { board = new.board; held = none_held; store = new.store }
 
-  -- the store failed, or what was got can't be gone back to; all but the store is as it was
+  -- the store failed, or what it holds was refused; all but the store is as it was
   abbrev pub IsRestartFaultOf : ReplicaOf S → RestartFault → ReplicaOf S → Type 0
   IsRestartFaultOf old fault new = (new ≡ record old { store = new.store })
       × (((failed : StoreFault) × does old.store (NotGot failed) new.store × (fault ≡ of_store_fault failed))

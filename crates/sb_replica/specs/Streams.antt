@@ -1,4 +1,4 @@
--- What a replica hears of a stream of frames.
+-- What a replica hears from a stream of frames.
 use Rattle.std.specs.Prelude.{◌≡◌, ◌≢◌, ◌⊎◌, ℕ, ◌≤◌, true, Some, Ok, List, [], ◌∷◌, ◌++◌, map, length}
 use Rattle.std.specs.List.{All}
 use Rattle.sb_calls.specs.declared.op.Op.{Op}
@@ -19,7 +19,7 @@ use Rattle.sb_replica.specs.declared.pause.Pause.{Pause}
 use Rattle.sb_replica.specs.declared.pause.Pause.TheVariants as pause
 use Rattle.sb_replica.specs.declared.streams.TheConstants.{BATCH_ENTRIES}
 
--- a frame, and what it was to the replica
+-- a frame, with the replica's answer to it
 pub record HeardFrame : Type 0 where
   pub frame : Frame
   pub answer : Heard
@@ -31,7 +31,7 @@ frames_of all = map (λ one. one.frame) all
 abbrev pub HandsOutAll : StreamState → List Frame → StreamState → Type 0
 HandsOutAll old frames new = StepsTo old (map (λ frame. Next (Ok (Some frame))) frames) new
 
--- they were heard one after another, each as the bytes that spell it
+-- the replica heard these frames one after another, each as the bytes that spell it
 abbrev pub HearsAll : {S : Type 0} → ReplicaOf S → List HeardFrame → ReplicaOf S → Type 0
 HearsAll old [] new = new ≡ old
 HearsAll {S} old (one ∷ others) new =
@@ -46,23 +46,23 @@ IsEntry (Outcome client request outcome) = ⊥
 IsEntry Flush = ⊥
 IsEntry (Have replica size) = ⊥
 
--- an entry that there was room for: it isn't lost
+-- an entry that wasn't answered `Busy`, so it isn't lost
 abbrev pub IsEntryInTime : HeardFrame → Type 0
 IsEntryInTime one = IsEntry one.frame × ((size : ℕ) → one.answer ≢ Busy size)
 
--- the frame that a pause is for
+-- the frame that made a pause, if one did
 abbrev pub last_heard : Pause → List HeardFrame
 last_heard pause.Short = []
 last_heard (pause.Other frame) = record { frame = frame; answer = Ignored } ∷ []
 last_heard pause.Busy = []
 
--- why a pause is made, of a stream as it is then and a board
+-- why a pause is made, by the stream and the board at that point
 abbrev pub IsPause : StreamState → BoardOf Op → Pause → Type 0
 IsPause stream board pause.Short = IsShort stream
 IsPause stream board (pause.Other frame) = ¬ IsEntry frame
 IsPause stream board pause.Busy = open_of board ≡ OPEN_BEHAVIOURS
 
--- entries, and the frame of the pause behind them, were handed out and heard; nothing else happened
+-- entries, and then the frame that made the pause, were handed out and heard, and nothing else
 pub record HearsUntil {S : Type 0} (old : ReplicaOf S) (from : StreamState) (pause : Pause) (new : ReplicaOf S)
     (rest : StreamState) : Type 0 where
   pub entries : List HeardFrame
@@ -71,7 +71,7 @@ pub record HearsUntil {S : Type 0} (old : ReplicaOf S) (from : StreamState) (pau
   pub all_heard : HearsAll old (entries ++ last_heard pause) new
   pub why : IsPause rest new.board pause
 
--- the first of these frames would be accepted
+-- the first of these frames is an entry that would be accepted
 abbrev pub IsNext : BoardOf Op → List Frame → Type 0
 IsNext board [] = ⊥
 IsNext board (frame ∷ others) = (number : ℕ) × (heard board frame ≡ Accepted number)
@@ -80,16 +80,16 @@ IsNext board (frame ∷ others) = (number : ℕ) × (heard board frame ≡ Accep
 abbrev pub FailsHere : StreamState → StreamFault → StreamState → Type 0
 FailsHere old fault new = FailsBy old fault × (new ≡ record old { failed = true })
 
--- why a stream is heard no further where this board is, these frames were handed out in vain, and the stream was as
--- it is behind them
+-- why hearing stops with a fault on this board; these frames were handed out but not heard, and the
+-- stream was as it is behind them
 abbrev pub IsHeardNoFurther : BoardOf Op → List Frame → StreamState → HearingFault → StreamState → Type 0
 -- the stream failed, and no frame is lost
 IsHeardNoFurther board lost old (fault.Stream failed) new = (lost ≡ []) × FailsHere old failed new
--- memory was refused for the first; behind the last the stream may have failed
+-- memory was refused for the first lost frame; the stream may have failed behind the last
 IsHeardNoFurther board lost old fault.OutOfMemory new = IsNext board lost × (length lost ≤ BATCH_ENTRIES)
     × ((new ≡ old) ⊎ ((failed : StreamFault) × FailsHere old failed new))
 
--- entries were handed out and heard, and no more was heard
+-- entries were handed out and heard, and then hearing stopped with a fault
 pub record HearsUntilFault {S : Type 0} (old : ReplicaOf S) (from : StreamState) (fault : HearingFault)
     (new : ReplicaOf S) (rest : StreamState) : Type 0 where
   pub entries : List HeardFrame

@@ -1,10 +1,11 @@
-//! What a replica answers to another one's state.
+//! A replica's answer to another one's state.
 
-/// What a state was to a replica.
+/// What a replica did with a state.
 #[derive(Clone, Copy, Debug, PartialEq, Eq)]
 pub enum Adopted {
-    /// The replica is where the state is, at this length.
+    /// The replica adopted the state, and its log has this length now.
     Adopted(u64),
-    /// The state has no more entries than the replica's own log, which is of this length. Nothing changed.
+    /// The state has no more entries than the replica's own log, whose length this is. Nothing
+    /// changed.
     Behind(u64),
 }

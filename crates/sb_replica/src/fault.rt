@@ -1,4 +1,4 @@
-//! Why a replica didn't do what it was asked.
+//! Why a replica didn't do what was requested.
 ghost use Rattle.std.specs.Prelude.{◌≡◌};
 ghost use Rattle.sb_replica.specs.Faults.{replica_fault_number, hearing_fault_number, mark_fault_number, restart_fault_number, adopt_fault_number};
 ghost use Rattle.sb_replica.specs.Restarting.{of_store_fault, of_checkpoint_fault};
@@ -34,13 +34,13 @@ impl ReplicaFault {
     }
 }
 
-/// Why a stream isn't heard any further. What was heard before stays.
+/// Why hearing a stream stopped. All that was heard before stays.
 #[derive(Clone, Copy, Debug, PartialEq, Eq, Error, Drop)]
 pub enum HearingFault {
-    /// The stream failed, and fails from then on. All that it handed out was heard.
+    /// The stream failed, and fails from then on. Everything that it handed out was heard.
     #[error("{0}")]
     Stream(StreamFault),
-    /// Memory was refused for an entry. It's lost, with the frames that were taken behind it.
+    /// Memory was refused for an entry. That entry and the frames taken behind it are lost.
     #[error("out of memory")]
     OutOfMemory,
 }
@@ -60,10 +60,10 @@ impl HearingFault {
 /// Why no checkpoint was written. The rows, the log and the replies are as they were.
 #[derive(Clone, Copy, Debug, PartialEq, Eq, Error, Drop)]
 pub enum MarkFault {
-    /// Something is unfinished. The store wasn't touched.
+    /// An entry is unfinished. The store wasn't touched.
     #[error("busy")]
     Busy,
-    /// The store's device failed: it holds wholly the old or wholly the new checkpoint.
+    /// The store's device failed. It holds the whole old checkpoint or the whole new one.
     #[error("device fault")]
     Device,
     /// Memory was refused. The store holds the old checkpoint.
@@ -90,7 +90,7 @@ pub enum RestartFault {
     /// The store's device failed.
     #[error("device fault")]
     Device,
-    /// The store's bytes are no checkpoint of this bank.
+    /// The store's bytes aren't a checkpoint of this bank.
     #[error("bad checkpoint: {0}")]
     BadCheckpoint(CheckpointFault),
     /// Memory was refused.
@@ -144,7 +144,7 @@ impl From<CheckpointFault> for RestartFault {
 /// Why another replica's state wasn't adopted. The replica is as it was.
 #[derive(Clone, Copy, Debug, PartialEq, Eq, Error, Drop)]
 pub enum AdoptFault {
-    /// The bytes are no checkpoint of this bank.
+    /// The bytes aren't a checkpoint of this bank.
     #[error("bad checkpoint: {0}")]
     BadCheckpoint(CheckpointFault),
     /// Memory was refused.

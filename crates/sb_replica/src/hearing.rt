@@ -17,7 +17,7 @@ use sb_frames::{Frame, FrameFault, decode};
 use sb_replica_log::Offered;
 use std::alloc::AllocError;
 
-// The frame that all of these bytes are.
+// The one frame that takes all of these bytes.
 fn whole_frame(bytes: &[u8]) -> Result<Frame, FrameFault>
     ensures { result ≡ spec.whole_frame bytes.now }
 {
@@ -29,7 +29,7 @@ fn whole_frame(bytes: &[u8]) -> Result<Frame, FrameFault>
     }
 }
 
-// What the log answers to an entry with this number.
+// The answer to an entry with this number.
 fn heard_of(number: u64, offered: Offered) -> Heard
     ensures { result ≡ spec.heard_of number offered }
 {
@@ -42,7 +42,7 @@ fn heard_of(number: u64, offered: Offered) -> Heard
     }
 }
 
-// What it answers to the entry that was held for this number, if there was one.
+// The answer to the entry that was held for this number, if there was one.
 fn heard_held(number: u64, offered: Option<Offered>) -> Option<Heard>
     ensures { result ≡ option_map (spec.heard_of number) offered }
 {
@@ -50,16 +50,16 @@ fn heard_held(number: u64, offered: Option<Offered>) -> Option<Heard>
 }
 
 impl<S: CheckpointStore> Replica<S> {
-    /// Hears the bytes of one frame. An entry is offered to the log: it is accepted where it is the next one, and
-    /// held where it comes a little early. Every other frame is ignored, and nothing else changes anything.
+    /// Hears the bytes of one frame. An entry is offered to the log: the next one is accepted, and
+    /// one that comes a little early is held. Every other frame is ignored. Nothing else changes.
     ///
-    /// Fails where the bytes are not one whole frame, and where memory is refused for an entry that would be
-    /// accepted.
+    /// Fails if the bytes aren't one whole frame, or if memory is refused for an entry that would
+    /// be accepted.
     pub fn on_frame(&mut self, bytes: &[u8]) -> Result<Heard, ReplicaFault>
         ensures outcome { MatchResult result
             (λ heard. Hears self.old bytes.now heard self.new)
             (λ fault. IsHearingFault self.old bytes.now fault × (self.new ≡ self.old)) }
-        // After any calls on its board, with this one too, the board is true to its log.
+        // Whatever calls its board has had, including this one, the board is true to its log.
         ensures played { (number : ℕ) → result ≡ Ok (heard.Accepted number) →
             Accepts self.old.board number self.new.board }
     {
@@ -73,19 +73,19 @@ impl<S: CheckpointStore> Replica<S> {
         }
     }
 
-    /// Hears a frame, as [`Replica::on_frame`] does its bytes.
+    /// Hears a frame as [`Replica::on_frame`] hears its bytes.
     ///
-    /// Fails where memory is refused for an entry that would be accepted; nothing changes then.
+    /// Fails if memory is refused for an entry that would be accepted; nothing changes then.
     pub fn hear(&mut self, frame: &Frame) -> Result<Heard, AllocError>
         ensures answer { IfOk result (λ answer. answer ≡ spec.heard self.old.board frame.now) }
         ensures err { OnErr result ((number : ℕ) × (spec.heard self.old.board frame.now ≡ heard.Accepted number)) }
         ensures state { MatchResult result
             (λ answer. self.new ≡ with_log self.old (spec.after_frame self.old.names (log_of self.old) frame.now))
             (λ refused. self.new ≡ self.old) }
-        // After any calls on its board, with this one too, the board is true to its log.
+        // Whatever calls its board has had, including this one, the board is true to its log.
         ensures played { (number : ℕ) → result ≡ Ok (heard.Accepted number) →
             Accepts self.old.board number self.new.board }
-        // It is heard as the bytes that spell it are.
+        // The frame is heard as the bytes that spell it.
         ensures bytes { IfOk result (λ answer. (bytes : List ℕ) → Spells frame.now bytes →
             Hears self.old bytes answer self.new) }
     {
@@ -97,9 +97,9 @@ impl<S: CheckpointStore> Replica<S> {
         Ok(heard_of(*number, offered))
     }
 
-    /// Accepts the entry that is held for the next number, where there is one, as if it came now.
+    /// Accepts the entry that is held for the next number, if there is one, as if it came now.
     ///
-    /// Fails where memory is refused for an entry that would be accepted; nothing changes then.
+    /// Fails if memory is refused for an entry that would be accepted; nothing changes then.
     pub fn advance(&mut self) -> Result<Option<Heard>, ReplicaFault>
         ensures answer { IfOk result (λ answer. answer ≡ heard_next (log_of self.old)) }
         ensures err { IfErr result (λ fault. (fault ≡ ReplicaFault.OutOfMemory) ×
@@ -107,7 +107,7 @@ impl<S: CheckpointStore> Replica<S> {
         ensures state { MatchResult result
             (λ answer. self.new ≡ with_log self.old (after_advance (log_of self.old)))
             (λ fault. self.new ≡ self.old) }
-        // After any calls on its board, with this one too, the board is true to its log.
+        // Whatever calls its board has had, including this one, the board is true to its log.
         ensures played { (number : ℕ) → result ≡ Ok (Some (heard.Accepted number)) →
             Accepts self.old.board number self.new.board }
     {

@@ -1,9 +1,9 @@
-//! What a replica is limited to.
+//! The limits of a replica.
 ghost use Rattle.std.specs.Prelude.{◌≡◌};
 
 use crate::streams::BATCH_ENTRIES;
 
-/// How many entries are looked up at once, as a number.
+/// The number of entries that are looked up at once.
 pub fn limits()
     ensures { BATCH_ENTRIES ≡ 64 }
 {}

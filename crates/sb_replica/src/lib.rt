@@ -1,4 +1,4 @@
-//! One node of the bank: entries in order, checkpoints, restarts, states of other nodes.
+//! One node of the bank: entries in order, checkpoints, restarts, and states of other nodes.
 #![tactic(auto)]
 
 mod adopted;

@@ -20,10 +20,11 @@ use sb_rows::Columns;
 use std::alloc::AllocError;
 
 impl<S: CheckpointStore> Replica<S> {
-    /// Makes a cut at the log's length, and answers that: the next mark is of the entries up to there, while later ones
-    /// run.
+    /// Makes a cut at the log's length, and answers that length. The next mark covers the entries
+    /// up to there, while later ones run.
     ///
-    /// Fails with the first fault that holds, in the order of [`CutFault`]'s variants; nothing changes then.
+    /// Fails with the first fault that holds, in the order of [`CutFault`]'s variants; nothing
+    /// changes then.
     pub fn cut(&mut self) -> Result<u64, CutFault>
         ensures number { IfOk result (λ number. number ≡ length_of self.old.board) }
         ensures ok { OnOk result ((self.old.board.cut ≡ None) × (self.new ≡ record self.old {
@@ -32,22 +33,22 @@ impl<S: CheckpointStore> Replica<S> {
         ensures err { OnErr result (self.new ≡ self.old) }
         ensures pending { (number : ℕ) →
             IsErrOf result (CutFault.Pending number) ↔ (self.old.board.cut ≡ Some number) }
-        // After any calls on its board, with this one too, the board is true to its log.
+        // Whatever calls its board has had, including this one, the board is true to its log.
         ensures played { StaysTrueToLog declared_cowns effect_of self.old.board (CutMade result) self.new.board }
     {
         self.log.cut()
     }
 
-    /// Puts a checkpoint of the log up to the cut into the store, and answers its length; the cut is gone then. Without
-    /// a cut it is of the whole log so far.
+    /// Puts a checkpoint of the log up to the cut into the store, answers its length, and removes
+    /// the cut. Without a cut it covers the whole log so far.
     ///
-    /// Fails with [`MarkFault::Busy`] exactly where something of that is unfinished, and with [`MarkFault::Device`] only
-    /// where the store does. Nothing but the store changes then.
+    /// Fails with [`MarkFault::Busy`] exactly if one of these entries is unfinished, and with
+    /// [`MarkFault::Device`] only if the store does. Then nothing but the store changes.
     pub fn mark(&mut self) -> Result<u64, MarkFault>
         ensures busy { IsErrOf result MarkFault.Busy ↔ (open_of (up_to_cut self.old.board) ≢ 0) }
         ensures ok { IfOk result (λ size. (size ≡ length_of (up_to_cut self.old.board))
             × Puts (StoreDoes S.model) self.old (Ok tt) self.new) }
-        // After any calls on its board, with this one too, the board is true to its log.
+        // Whatever calls its board has had, including this one, the board is true to its log.
         ensures played { OnOk result
             (StaysTrueToLog declared_cowns effect_of self.old.board CutDropped self.new.board) }
         ensures err { IfErr result (λ fault.
@@ -58,14 +59,14 @@ impl<S: CheckpointStore> Replica<S> {
         Ok(length)
     }
 
-    /// Puts a checkpoint into the store as [`Replica::mark`], and answers the bytes that were put.
+    /// Puts a checkpoint into the store as [`Replica::mark`] does, and answers the bytes.
     ///
-    /// Fails as [`Replica::mark`].
+    /// Fails as [`Replica::mark`] does.
     pub fn put_checkpoint(&mut self) -> Result<Vec<u8>, MarkFault>
         ensures busy { IsErrOf result MarkFault.Busy ↔ (open_of (up_to_cut self.old.board) ≢ 0) }
         ensures ok { IfOk result (λ bytes.
             PutsBytes (StoreDoes S.model) self.old bytes.items self.new) }
-        // After any calls on its board, with this one too, the board is true to its log.
+        // Whatever calls its board has had, including this one, the board is true to its log.
         ensures played { OnOk result
             (StaysTrueToLog declared_cowns effect_of self.old.board CutDropped self.new.board) }
         ensures err { IfErr result (λ fault.
@@ -87,7 +88,7 @@ impl<S: CheckpointStore> Replica<S> {
         }
     }
 
-    // How many entries a mark is of.
+    // The number of entries that a mark covers.
     fn marked_length(&self) -> u64
         ensures value { result ≡ length_of (up_to_cut self.now.board) }
         ensures few { result ≤ LOG_CALLS }
@@ -100,7 +101,7 @@ impl<S: CheckpointStore> Replica<S> {
         }
     }
 
-    // The columns that a mark is of, or `None` while something of that is unfinished.
+    // The columns after the entries that a mark covers, or `None` if one of these is unfinished.
     fn marked_columns(&self) -> Option<&Columns>
         ensures value { MatchOption result (open_of (up_to_cut self.now.board) ≢ 0)
             (λ columns. (open_of (up_to_cut self.now.board) ≡ 0)
@@ -112,9 +113,9 @@ impl<S: CheckpointStore> Replica<S> {
         }
     }
 
-    // The checkpoint of these columns and of the replies to all numbers that are marked, where none is unfinished, with
-    // the opening total. Each reply is spelled as it's read: a list of them would be longer than the checkpoint, and pass
-    // through memory twice.
+    // The checkpoint of these columns and of the replies to all marked numbers, with the opening
+    // total, if none is unfinished. Each reply is spelled as it is read: a list of replies would be
+    // longer than the checkpoint, and pass through memory twice.
     fn spelled(&self, columns: &Columns) -> Result<Vec<u8>, AllocError>
         requires { open_of (up_to_cut self.now.board) ≡ 0 }
         ensures { IfOk result (λ bytes. Spells Second (origin_of self.now).opening_total (record {
@@ -133,7 +134,7 @@ impl<S: CheckpointStore> Replica<S> {
         Ok(draft.finish())
     }
 
-    /// The replies to all numbers in order, where none is unfinished. Fails where memory is refused.
+    /// The replies to all numbers in order, if none is unfinished. Fails if memory is refused.
     pub fn replies(&self) -> Result<Vec<Reply>, AllocError>
         requires { open_of self.now.board ≡ 0 }
         ensures value { IfOk result (λ replies. replies.items ≡ replies_held self.now.board) }

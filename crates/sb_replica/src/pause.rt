@@ -1,14 +1,15 @@
-//! Why a replica stops hearing a stream for now.
+//! Why a replica pauses in hearing a stream.
 
 use sb_frames::Frame;
 
-/// Why a replica stopped hearing a stream. All that the stream handed out was heard.
+/// Why a replica stopped hearing a stream. It heard everything that the stream handed out.
 #[derive(Clone, Copy, Debug, PartialEq, Eq)]
 pub enum Pause {
-    /// Less than a whole frame is unread.
+    /// The unread bytes are less than a whole frame.
     Short,
-    /// This frame came, which is no entry. It was heard, as ignored.
+    /// This frame came, which isn't an entry. It was heard, and ignored.
     Other(Frame),
-    /// As many behaviours are unfinished as may be. No more frames are taken until one is finished.
+    /// As many behaviours are unfinished as the limit allows. No frame is taken until one is
+    /// finished.
     Busy,
 }

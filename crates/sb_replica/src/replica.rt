@@ -1,4 +1,4 @@
-//! A replica, and what it tells.
+//! A replica, and what can be read from it.
 ghost use Rattle.std.specs.Prelude.{◌≡◌, ◌≢◌, ◌↔◌, ◌<◌, ◌≤◌, ◌-◌, suc, Ok, [], length, IsTrue, IfOk, IfSome, OnErr, Some, MatchOption, MatchResult, option_map};
 ghost use Rattle.sb_rows.specs.Balances.{IsBalances};
 ghost use Rattle.sb_calls.specs.Behaviour.{declared_cowns, effect_of};
@@ -24,8 +24,8 @@ use sb_rows::{Columns, Directory};
 use std::alloc::{AllocError, Global};
 use std::marker::Model;
 
-/// One node of the bank. It takes the log's entries in order, and holds those that come a little early; it runs them
-/// over its board, keeps a checkpoint in its store, and after a restart is where that checkpoint says.
+/// One node of the bank. It takes the log's entries in order, holds those that come a little early,
+/// and runs them on its board. It keeps a checkpoint in its store, and a restart goes back to that.
 #[derive(Drop)]
 pub struct Replica<S: CheckpointStore> {
     pub(crate) id: u8,
@@ -90,7 +90,8 @@ impl<S: CheckpointStore> Replica<S> {
         })
     }
 
-    /// Offers the entry with this number to the log, as [`ReplicaLog::offer_entry`]. All beside the log stays.
+    /// Offers the entry with this number to the log, as [`ReplicaLog::offer_entry`] does. All
+    /// beside the log stays.
     pub fn offer_entry(&mut self, number: u64, op: Op) -> Result<Offered, AllocError>
         requires { IsOpWithin (length self.old.names) op }
         ensures answer { IfOk result (λ answer. answer ≡ offered self.old.board number) }
@@ -98,7 +99,7 @@ impl<S: CheckpointStore> Replica<S> {
         ensures state { MatchResult result
             (λ answer. self.new ≡ with_log self.old (after_offer (log_of self.old) op answer))
             (λ refused. self.new ≡ self.old) }
-        // After any calls on its board, with this one too, the board is true to its log.
+        // Whatever calls its board has had, including this one, the board is true to its log.
         ensures played { IfOk result (λ answer. answer ≡ Offered.Next →
             StaysTrueToLog declared_cowns effect_of self.old.board
             (Submitted op (Ok (suc (length_of self.old.board)))) self.new.board) }
@@ -106,7 +107,7 @@ impl<S: CheckpointStore> Replica<S> {
         self.log.offer_entry(number, op)
     }
 
-    /// Makes room for this many entries more, as [`ReplicaLog::reserve`].
+    /// Makes room for this many more entries, as [`ReplicaLog::reserve`] does.
     pub fn reserve(&mut self, additional: usize) -> Result<(), AllocError>
         ensures { self.new ≡ self.old }
     {
@@ -128,7 +129,7 @@ impl<S: CheckpointStore> Replica<S> {
         &self.directory
     }
 
-    // What its customers had together at the opening.
+    // The total of all customers' balances at the opening.
     pub(crate) fn opening_total(&self) -> i64
         ensures { result ≡ (origin_of self.now).opening_total }
     {
@@ -143,8 +144,8 @@ impl<S: CheckpointStore> Replica<S> {
         self.log.length()
     }
 
-    /// The reply to a number: one of the checkpoint that it was restarted from, or that of a finished entry. It is
-    /// the reply of the log run one by one from there on.
+    /// The reply to a number: from the checkpoint that the replica restarted from, or of an entry
+    /// that finished since. The latter is the reply of the log run one by one from there on.
     #[inline]
     pub fn reply(&self, number: u64) -> Option<Reply>
         ensures value { result ≡ reply_in self.now.board number }
@@ -158,7 +159,7 @@ impl<S: CheckpointStore> Replica<S> {
         self.log.reply(number)
     }
 
-    /// The columns after all entries, or `None` while one is unfinished. Fails where memory is refused.
+    /// The columns after all entries, or `None` if one is unfinished. Fails if memory is refused.
     pub fn columns(&self) -> Result<Option<Columns>, AllocError>
         ensures value { IfOk result (λ columns. MatchOption columns (open_of self.now.board ≢ 0)
             (λ all. (open_of self.now.board ≡ 0) × IsAfterAll declared_cowns effect_of self.now.board all)) }
@@ -168,7 +169,7 @@ impl<S: CheckpointStore> Replica<S> {
         self.log.columns()
     }
 
-    /// The columns after all entries, lent, or `None` while one is unfinished.
+    /// The columns after all entries, borrowed, or `None` if one is unfinished.
     pub fn settled_columns(&self) -> Option<&Columns>
         ensures value { MatchOption result (open_of self.now.board ≢ 0)
             (λ columns. (open_of self.now.board ≡ 0) × IsAfterAll declared_cowns effect_of self.now.board columns.now) }
@@ -177,7 +178,7 @@ impl<S: CheckpointStore> Replica<S> {
         self.log.board().settled_columns()
     }
 
-    /// What the store holds, as [`CheckpointStore::get`].
+    /// What the store holds, as [`CheckpointStore::get`] answers.
     pub fn stored(&mut self) -> Result<Option<Vec<u8>>, StoreFault>
         ensures got { MatchResult result
             (λ held. StoreDoes S.model self.old.store
@@ -188,7 +189,7 @@ impl<S: CheckpointStore> Replica<S> {
         self.store.get()
     }
 
-    /// Whether the store holds just these bytes, as [`CheckpointStore::holds`].
+    /// Whether the store holds exactly these bytes, as [`CheckpointStore::holds`] answers.
     pub fn store_holds(&mut self, bytes: &[u8]) -> Result<bool, StoreFault>
         ensures told { MatchResult result
             (λ same. Compares (StoreDoes S.model) self.old.store bytes.now same
@@ -199,7 +200,7 @@ impl<S: CheckpointStore> Replica<S> {
         self.store.holds(bytes)
     }
 
-    /// That it has the log up to its length.
+    /// The frame that acknowledges its log up to its length.
     pub fn ack_frame(&self) -> Frame
         ensures { result ≡ frames.Ack self.now.id (length_of self.now.board) }
     {
@@ -209,7 +210,7 @@ impl<S: CheckpointStore> Replica<S> {
         }
     }
 
-    /// Its reply to a number, or `None` where it holds none.
+    /// The frame with its reply to a number, or `None` if it has none.
     pub fn answer_frame(&self, number: u64) -> Option<Frame>
         ensures { result ≡ option_map (frames.Answer number) (reply_in self.now.board number) }
     {
@@ -221,7 +222,7 @@ impl<S: CheckpointStore> Replica<S> {
 }
 
 impl Replica<MemoryStore> {
-    /// Says how the store's next put ends.
+    /// Sets how the store's next put ends.
     pub fn tell(&mut self, how: How)
         ensures { self.new ≡ record self.old { store = record self.old.store { next = how } } }
     {

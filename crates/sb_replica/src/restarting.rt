@@ -1,4 +1,4 @@
-//! Going back to the checkpoint that is stored.
+//! Going back to the stored checkpoint.
 ghost use Rattle.std.specs.Prelude.{◌≡◌, ◌≤◌, IfOk, IfErr, OnOk, length, option_map};
 ghost use Rattle.std.specs.List.{All};
 ghost use Rattle.sb_calls.specs.Replies.{IsReply};
@@ -17,7 +17,7 @@ use sb_replica_log::ReplicaLog;
 use sb_rows::Columns;
 use std::alloc::{AllocError, Global};
 
-// The log of a board on these columns, with the replies to the numbers before it.
+// A log with a board on these columns, and with the replies to the numbers before it.
 pub(crate) fn log_on(
     alloc: Global,
     columns: Columns,
@@ -35,8 +35,9 @@ pub(crate) fn log_on(
 }
 
 impl<S: CheckpointStore> Replica<S> {
-    /// Goes back to where the stored checkpoint says, or to the opening where none was put, and answers the length
-    /// there. What was accepted since, and what is held, is forgotten, until it comes again.
+    /// Goes back to the stored checkpoint, or to the opening if none was ever put, and answers the
+    /// length there. The replica forgets what it accepted since and what it holds, until that comes
+    /// again.
     ///
     /// After a fault the replica is as it was.
     pub fn restart(&mut self) -> Result<u64, RestartFault>
@@ -51,7 +52,7 @@ impl<S: CheckpointStore> Replica<S> {
         Ok(self.log.length())
     }
 
-    // The log that was here is gone, with its cut and what it held.
+    // The old log is gone, with its cut and the ops that it held.
     pub(crate) fn go_on_from(&mut self, log: ReplicaLog)
         requires customers { length log.board.opening.savings ≡ length self.old.names }
         requires replies { All IsReply log.board.earlier }
@@ -60,7 +61,7 @@ impl<S: CheckpointStore> Replica<S> {
         self.log = log;
     }
 
-    // The log of a board on what the store holds.
+    // A log with a board on what the store holds.
     fn held_log(&self, held: Option<Vec<u8>>) -> Result<ReplicaLog, RestartFault>
         ensures log { IfOk result (λ log. IsLogOn self.now.opening (origin_of self.now)
             (option_map (λ bytes. bytes.items) held) log.board) }
@@ -74,7 +75,8 @@ impl<S: CheckpointStore> Replica<S> {
         Ok(log_on(self.alloc, columns, replies)?)
     }
 
-    // The balances and the replies that the store holds, or those of the opening where it holds nothing.
+    // The balances and the replies that the store holds, or those of the opening if it holds
+    // nothing.
     #[tactic(auto, using(crate::proofs::RightHeads::right_head))]
     fn held_parts(&self, held: Option<Vec<u8>>) -> Result<(Columns, Vec<Reply>), RestartFault>
         ensures held { IfOk result (λ parts. IsStoredAs self.now.opening (origin_of self.now)

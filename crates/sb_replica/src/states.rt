@@ -1,4 +1,4 @@
-//! The checkpoint of one replica, taken by another in place of the log's entries.
+//! One replica's checkpoint, which another takes in place of the log's entries.
 ghost use Rattle.std.specs.Prelude.{◌≡◌, ℕ, IfOk, IfErr, List, MatchResult, None, Option, Some, length, option_map};
 ghost use Rattle.sb_checkpoint.specs.Checkpoint.{IsSpelled};
 ghost use Rattle.sb_checkpoint.specs.Reading.{first_fault, IsRefusedBy};
@@ -16,10 +16,11 @@ use sb_checkpoint::{Checkpoint, CheckpointFault, CheckpointStore, read_checkpoin
 use sb_frames::Frame;
 
 impl<S: CheckpointStore> Replica<S> {
-    /// The state that it has for another replica: the checkpoint that its store holds, with its length, or `None` where
-    /// none was put, or one of no entry. Nothing but the store changes.
+    /// The state that this replica has for another: the checkpoint in its store, with its length.
+    /// `None` if none was ever put, or one of no entry. Nothing but the store changes.
     ///
-    /// Fails where its store does, where what that holds is no checkpoint of this bank, and where memory is refused.
+    /// Fails if the store does, if what that holds isn't a checkpoint of this bank, or if memory is
+    /// refused.
     pub fn kept_state(&mut self) -> Result<Option<(u64, Vec<u8>)>, RestartFault>
         ensures ok { IfOk result (λ state. KeepsState (StoreDoes S.model) self.old
             (option_map (λ kept. (kept.0, kept.1.items)) state) self.new) }
@@ -36,10 +37,10 @@ impl<S: CheckpointStore> Replica<S> {
         Ok(Some((length, bytes)))
     }
 
-    /// That it has a state of this length for another replica, of length 0 where it has none. Nothing but the store
-    /// changes.
+    /// The frame that reports the length of the state that this replica has for another, 0 if it
+    /// has none. Nothing but the store changes.
     ///
-    /// Fails as [`Replica::kept_state`].
+    /// Fails as [`Replica::kept_state`] does.
     pub fn have_frame(&mut self) -> Result<Frame, RestartFault>
         ensures ok { IfOk result (λ frame. (state : Option (ℕ × List ℕ))
             × KeepsState (StoreDoes S.model) self.old state self.new
@@ -57,11 +58,12 @@ impl<S: CheckpointStore> Replica<S> {
         })
     }
 
-    /// Goes on from another replica's state, where it has more entries than the own log. What is unfinished here or
-    /// held, and a cut, is gone then. The store isn't touched, so that a restart before the next mark goes back to
-    /// where the store says.
+    /// Goes on from another replica's state, if that has more entries than the own log. Unfinished
+    /// and held entries and a cut are dropped then. The store isn't touched, so a restart before
+    /// the next mark goes back to what the store holds.
     ///
-    /// Fails where the bytes are no checkpoint of this bank, and where memory is refused; nothing changes then.
+    /// Fails if the bytes aren't a checkpoint of this bank, or if memory is refused; nothing
+    /// changes then.
     #[tactic(auto, using(crate::proofs::RightHeads::right_head))]
     pub fn adopt(&mut self, bytes: &[u8]) -> Result<Adopted, AdoptFault>
         ensures outcome { MatchResult result
@@ -79,7 +81,7 @@ impl<S: CheckpointStore> Replica<S> {
         Ok(Adopted::Adopted(length))
     }
 
-    // How many entries the checkpoint of this bank has that these bytes are.
+    // The number of entries in the checkpoint of this bank that these bytes are.
     fn length_in(&self, bytes: &[u8]) -> Result<u64, RestartFault>
         ensures length { IfOk result (λ size. IsStateOf (origin_of self.now) size bytes.now) }
         ensures err { IfErr result (IsRefusalOf (origin_of self.now) (Some bytes.now)) }

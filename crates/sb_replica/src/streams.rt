@@ -17,17 +17,17 @@ use sb_replica_log::ReplicaLog;
 use sb_rows::Directory;
 use std::alloc::AllocError;
 
-/// How many entries are looked up before the first of them is offered.
+/// The number of entries that are looked up before the first of them is offered.
 pub const BATCH_ENTRIES: usize = 64;
 
-// The op of an entry, under the entry's number.
+// The op of an entry, with the entry's number.
 #[derive(Clone, Copy)]
 struct EntryOp {
     number: u64,
     op: Op,
 }
 
-// What a place of a batch holds before an entry.
+// What fills a place of a batch before an entry does.
 impl Default for EntryOp {
     fn default() -> EntryOp {
         EntryOp {
@@ -39,7 +39,8 @@ impl Default for EntryOp {
 
 type Batch = ArrayVec<EntryOp, BATCH_ENTRIES>;
 
-// Takes entries out of a stream, up to a limit, and looks up their names. Answers what ended it before that.
+// Takes entries from a stream, up to a limit, and looks up their names. Answers what ended it
+// before the limit.
 fn look_up(
     directory: &Directory,
     stream: &mut Stream,
@@ -67,7 +68,7 @@ fn look_up(
     Ok(None)
 }
 
-// Offers entries in order, and stops at the first that memory is refused for.
+// Offers entries in order, and stops at the first for which memory is refused.
 fn offer_all(log: &mut ReplicaLog, batch: &[EntryOp]) -> Result<(), AllocError>
     requires { AreWithin (length log.old.board.opening.savings) batch.now }
     ensures { MatchResult result
@@ -80,7 +81,7 @@ fn offer_all(log: &mut ReplicaLog, batch: &[EntryOp]) -> Result<(), AllocError>
     Ok(())
 }
 
-// What ended looking up, once all that was looked up is heard.
+// What ended the batch, once all its entries are heard.
 fn as_heard(end: Result<Option<Pause>, StreamFault>) -> Result<Option<Pause>, HearingFault>
     ensures { result ≡ spec.as_heard end }
 {
@@ -91,15 +92,17 @@ fn as_heard(end: Result<Option<Pause>, StreamFault>) -> Result<Option<Pause>, He
 }
 
 impl<S: CheckpointStore> Replica<S> {
-    /// Hears the frames that a stream has, one after another, each as [`Replica::on_frame`] hears its bytes, until the
-    /// stream has no whole frame, a frame came that is no entry, or no more may be unfinished. It takes no memory beside
+    /// Hears the frames of a stream, one after another, each as [`Replica::on_frame`] hears its
+    /// bytes. It stops when the stream has no whole frame, when a frame comes that isn't an entry,
+    /// or when as many behaviours are unfinished as the limit allows. It takes no memory beside
     /// what accepting entries takes.
     ///
-    /// No entry that it takes is answered that the replica is busy: it takes none while as many behaviours are
-    /// unfinished as may be. Then the caller lets some finish and calls again.
+    /// It takes no entry that would be answered `Busy`: it takes none while as many behaviours are
+    /// unfinished as the limit allows. The caller then lets some finish and calls again.
     ///
-    /// Fails with the stream's fault, where all that came before was heard. Fails where memory is refused for an entry:
-    /// all before it was heard, and that entry and up to 63 frames behind it were taken and are lost.
+    /// Fails with the stream's fault, after all that came before was heard. Fails if memory is
+    /// refused for an entry: everything before it was heard, and it is lost, with up to 63 frames
+    /// taken behind it.
     pub fn hear_stream(&mut self, stream: &mut Stream) -> Result<Pause, HearingFault>
         ensures outcome { MatchResult result
             (λ pause. HearsUntil self.old stream.old pause self.new stream.new)
@@ -113,8 +116,9 @@ impl<S: CheckpointStore> Replica<S> {
         }
     }
 
-    // Hears as many entries as are looked up at once, or up to a pause. The names of all are looked up before the
-    // first is offered, so that neither the directory nor the queues push the other out of the processor's caches.
+    // Hears one batch of entries, or fewer up to a pause. It looks up the names of all before it
+    // offers the first, so that the directory and the queues don't push each other out of the
+    // processor's caches.
     fn hear_batch(&mut self, stream: &mut Stream) -> Result<Option<Pause>, HearingFault>
         ensures { HearsBatch self.old stream.old result self.new stream.new }
     {

@@ -2,7 +2,7 @@ use Rattle.std.proofs.Common.{◌≡◌, ◌+◌, ◌≤◌, length}
 use Rattle.sb_replica.specs.Batches.{AreWithin, TakesEntries}
 use Rattle.sb_replica.proofs.streams.look_up.Given as goal
 
--- so many entries were taken, and looked up
+-- this many entries were taken and looked up
 abbrev pub invariant-loop-taken : goal.invariant-loop-taken
 invariant-loop-taken l = record {
   takes : TakesEntries l.directory l.fn.stream l.batch.items l.stream;

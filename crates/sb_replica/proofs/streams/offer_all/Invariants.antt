@@ -2,6 +2,6 @@ use Rattle.std.proofs.Common.{◌≡◌, take}
 use Rattle.sb_replica.specs.Batches.{after_batch}
 use Rattle.sb_replica.proofs.streams.offer_all.Given as goal
 
--- those so far were offered
+-- the entries so far were offered
 abbrev pub invariant-loop-entry : goal.invariant-loop-entry
 invariant-loop-entry l = l.log ≡ after_batch l.fn.log (take l.entry-index l.batch)

@@ -2,7 +2,7 @@ use Rattle.std.proofs.Common.{length}
 use Rattle.sb_replica.specs.Batches.{HearsEntries}
 use Rattle.sb_replica.proofs.replica.Replica.hear_stream.Given as goal
 
--- all that was handed out so far were entries, and was heard
+-- everything handed out so far was entries, and was heard
 abbrev pub invariant-loop-pause : goal.invariant-loop-pause
 invariant-loop-pause g l = HearsEntries l.fn.self l.fn.stream l.self l.stream
 

@@ -4,7 +4,7 @@ use Rattle.sb_calls.specs.Replies.{IsReply}
 use Rattle.sb_replica.specs.Replica.{replies_held}
 use Rattle.sb_replica.proofs.replica.Replica.replies.Given as goal
 
--- those of the numbers so far
+-- the replies to the numbers so far
 abbrev pub invariant-loop-place : goal.invariant-loop-place
 invariant-loop-place g l = record {
   items : l.replies.items ≡ take l.place (replies_held l.self.board);

@@ -16,7 +16,7 @@ use Rattle.sb_replica.proofs.IdleReplies.{reply_at, length_held, none_missing, t
 use Rattle.sb_replica.proofs.MarkedReplies.{marked_beside, marked_reply}
 use Rattle.sb_replica.proofs.replica.Replica.spelled.Goals as goal
 
--- one reply more is spelled last
+-- one more reply is spelled, as the last
 one_more : (before : List ℕ) (replies : List Reply) (reply : Reply)
     → before ++ flat_map reply_field (replies ++ reply ∷ []) ≡ before ++ flat_map reply_field replies ++ reply_field reply
 one_more before replies reply =
