@@ -1,4 +1,4 @@
--- What keeps a replica beside the log.
+-- What keeps a replica true to the log.
 use Rattle.std.proofs.Common.{◌≡◌, inl, inr, ℕ, zero, suc, ◌+◌, ◌<◌, ◌≤◌, ℤ, Some, List, [], ◌∷◌, ◌++◌, length, take, drop, refl, sym, ap, subst, ◌∙◌, arith}
 use Rattle.std.specs.Prelude.{slice_get, slice_set}
 use Rattle.std.proofs.lemmas.Bool.{cases_eq}
@@ -32,7 +32,7 @@ out_finished h = cc
 finished_is : {one other : Reply} → ◌≡◌ {A = State} (Finished one) (Finished other) → one ≡ other
 finished_is h = cc
 
--- a list that has something in front
+-- a list with something in front of it
 split_first : {A : Type 0} (xs : List A) (x : A) → slice_get xs 0 ≡ Some x → xs ≡ x ∷ drop 1 xs
 split_first [] x here = absurd (none_some here)
 split_first (y ∷ xs) x here = ap (λ z. z ∷ xs) (some_is here)
@@ -95,7 +95,7 @@ module _ (opening : List ℤ) (log : List Op) where
       pushed (s ∷ states) zero reply here = here
       pushed (s ∷ states) (suc k) reply here = pushed states k reply here
 
-  -- one entry is elsewhere; where it is finished, by the reply of the log
+  -- one entry is at another stage; if it is finished, its reply is the log's
   pub along_set : (board : BoardOf Op) (along : IsBoardAlong opening log board) (place : ℕ) (state : State)
       → ((reply : Reply) → state ≡ Finished reply
       → reply_by_log declared_cowns effect_of opening log (suc (length along.before + place)) ≡ Some reply)
@@ -188,7 +188,7 @@ module _ (opening : List ℤ) (log : List Op) where
       ∙ reply_along board done reply new along finishes
       ∙ ap (λ r. Some r) (finished_is e)))
 
-  -- a job of any life whose number is out on a board along the log is the one that is out there
+  -- a job of any life, whose number is out on a board along the log, is the job that is out there
   pub out_here : (board : BoardOf Op) (job : JobOf Op) (done : DoneOf Op) (k : ℕ) → IsBoardAlong opening log board
       → IsJobAlong opening log job → done.number ≡ job.number → done.behaviour ≡ job.behaviour → done.inputs ≡ job.inputs
       → job.number ≡ number_at board k → slice_get board.states k ≡ Some Out → IsOutAt declared_cowns effect_of board done k

@@ -1,4 +1,4 @@
--- A world whose sequencer numbers one ask more.
+-- A world whose sequencer numbers one more ask.
 use Rattle.std.proofs.Common.{◌≡◌, ℕ, zero, suc, Option, Some, None, Result, Ok, Err, List, [], ◌∷◌, ◌++◌, length, sym, ap, subst, ◌∙◌, arith}
 use Rattle.std.specs.Prelude.{slice_get}
 use Rattle.std.proofs.lemmas.List.{map-append}
@@ -19,13 +19,13 @@ use Rattle.schedule_player.proofs.Lists.{some_is, none_some}
 use Rattle.schedule_player.proofs.LongerLogs.{with_call, node_longer, reply_stays}
 use Rattle.schedule_player.proofs.Stages.{length-map}
 
--- the bank of a log with one ask more has one call more
+-- the bank of a log with one more ask has one more call
 longer_bank : (names : List (List ℕ)) (opening : Balances) (log : List (Key × Call)) (ask : Key × Call)
     → bank_with names opening (log ++ ask ∷ []) ≡ with_call (bank_with names opening log) ask.1
 longer_bank names opening log ask =
     ap (λ calls. record { names = names; opening = opening; calls = calls }) (map-append (λ entry. entry.1) log (ask ∷ []))
 
--- one place more, with no answer
+-- one more place, without an answer
 none_last : (answers : List (Option Reply)) (k : ℕ) (reply : Reply) → slice_get (answers ++ None ∷ []) k ≡ Some (Some reply)
     → slice_get answers k ≡ Some (Some reply)
 none_last [] zero reply here = absurd (none_some (some_is here))
@@ -53,7 +53,7 @@ world_longer names opening s nodes ask n is valid =
           (reply_stays bank ask.1 (suc k) reply is.customers (is.answers k reply (none_last s.answers k reply here)));
     }
 
--- whatever the ask is answered, it is a world still
+-- whatever the answer to the ask is, it is still a world
 pub world_asked : (names : List (List ℕ)) (opening : Balances) (s : SequencerOf) (nodes : List Node) (ask : Key × Call) (answer : Result Numbered AskFault)
     → IsWorld names opening s nodes → IsSequencer (after_ask s ask answer) → IsWorld names opening (after_ask s ask answer) nodes
 world_asked names opening s nodes ask (Ok (New n)) is valid = world_longer names opening s nodes ask n is valid

@@ -60,7 +60,7 @@ done_at bank node k empty here runs =
     ∙ ap (λ stage. (comes_back bank (emptied mid 1) (suc k) stage).0) out
     ∙ (λ j. record node { stages = stages j; hands = hands j })
 
--- so many more are done, nothing else changed, and it is at rest
+-- this many more are done, nothing else changed, and it is at rest
 pub record Does (count : ℕ) (old new : NodeOf) : Type 0 where
   pub rest : IsAtRest new
   pub undone : count + undone_in new ≡ undone_in old
@@ -89,7 +89,7 @@ does_one bank s node rest some =
       same = refl;
     })
 
--- ---- one after the other
+-- ---- one after another
 
 abbrev pub works : BankOf → NodeOf → ℕ → NodeOf
 works bank node zero = node
@@ -111,7 +111,7 @@ does_so_many bank s node (suc n) rest le =
       same = one.same ∙ ap (λ (between : NodeOf). record between { stages = new.stages }) so_far.same;
     }
 
--- once none is undone
+-- once no entry is undone
 pub all_worked : (bank : BankOf) (s : SequencerOf) (node : NodeOf) → IsAtRest node
     → works bank node (undone_in node) ≡ record node { stages = copies (length node.stages) IsDone }
 all_worked bank s node rest =

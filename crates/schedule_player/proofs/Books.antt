@@ -40,7 +40,7 @@ use Rattle.schedule_player.proofs.Storing.{same_columns}
 
 -- ---- the rows
 
--- the columns that the bank's calls leave, one by one
+-- the columns that the bank's calls leave, run one by one
 abbrev columns_after : (bank : BankOf) → SameCustomers bank.names bank.opening → ℕ → Balances
 columns_after bank same size = let law = log_by_cowns bank.names bank.opening bank.calls same in (law.rows size).0
 
@@ -62,7 +62,7 @@ idle_rows bank r node columns is valid after =
     subst (IsRowsAt bank (length_of node.replica.board)) (sym (idle_columns bank is.customers r node columns is valid after))
     (record { customers = rows.1; rows = rows.3 })
 
--- those of two that are idle at one length are the same
+-- two replicas that are idle at one length have the same columns
 pub same_rows : (bank : BankOf) (a b : ℕ) (first second : Node) (left right : Balances) → IsNodeAt bank a first → IsNodeAt bank b second
     → IsBalances left → IsBalances right → IsAfterAll declared_cowns effect_of first.replica.board left
     → IsAfterAll declared_cowns effect_of second.replica.board right → length_of first.replica.board ≡ length_of second.replica.board
@@ -77,7 +77,7 @@ same_rows bank a b first second left right is_a is_b valid_a valid_b after_a aft
 head_of : {A : Type 0} {x y : A} → ◌≡◌ {A = Option A} (Some x) (Some y) → x ≡ y
 head_of h = cc
 
--- a list that has the items of a longer one is its first part
+-- a list whose items are those of a longer list is its first part
 first_part : {A : Type 0} (xs ys : List A) → length xs ≤ length ys → ((k : ℕ) (x : A) → slice_get xs k ≡ Some x → slice_get ys k ≡ Some x)
     → xs ≡ take (length xs) ys
 first_part [] ys le alike = refl
@@ -159,7 +159,7 @@ listed_now : (bank : BankOf) (size : ℕ) (columns : Balances) → IsRowsAt bank
     → listed bank.names (log_rows bank size) ≡ customers_of bank.names columns
 listed_now bank size columns at = ap (listed bank.names) (sym at.rows) ∙ listed-rows_of bank.names columns at.customers
 
--- the rows' total and how many are overdrawn
+-- the rows' total and the number of overdrawn customers
 pub books_are : (bank : BankOf) (size : ℕ) (columns : Balances) → IsRowsAt bank size columns
     → audit.Same (total columns.savings +ℤ total columns.checking) (count_below columns.checking (pos 0)) ≡ books_after bank size
 books_are bank size columns at =

@@ -1,4 +1,4 @@
--- What may come of an event.
+-- The notes that may result from an event.
 use Rattle.std.proofs.Common.{◌≡◌, Bool, true, false, ℕ, suc, ◌+◌, Option, Some, None, refl, sym, ap, ◌∙◌}
 use Rattle.std.specs.Prelude.{slice_get, if◌then◌else◌, nat_le, nat_lt, ◌==◌}
 use Rattle.sb_calls.specs.declared.ask.Key.{Key}

@@ -33,7 +33,7 @@ looked_up names opening s nodes now r node view is within at =
     let here = get_here nodes r node lt at in
     subst (λ w. LookedUp w r node) view (record { along = is.each r node here; seen = node_seen names opening s nodes r node here })
 
--- what it is seen as
+-- what the machine sees of it
 pub seen_as : (now : WorldOf) (r : ℕ) (node : Node) (one : NodeOf) → LookedUp now r node → slice_get now.nodes r ≡ Some one → seen_node node ≡ one
 seen_as now r node one looked here = some_is (sym looked.seen ∙ here)
 
@@ -44,7 +44,7 @@ module _ (bank : BankOf) (a b : ℕ) (first second : Node) (is_a : IsNodeAt bank
   abbrev other : NodeOf
   other = seen_node second
 
-  -- what is seen with these tests
+  -- what it sees by these tests
   abbrev with_tests : Bool → Bool → Bool → AuditNote
   with_tests idle also same =
       if idle then (if also then (if same then books_after bank (length_in one) else audit.Apart (length_in one) (length_in other))

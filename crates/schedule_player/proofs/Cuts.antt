@@ -1,4 +1,4 @@
--- A board with a cut, and what a mark of it is of.
+-- A board with a cut, and what a mark of it covers.
 use Rattle.std.proofs.Common.{◌≡◌, ℕ, ◌+◌, ◌-◌, ◌≤◌, ℤ, Option, Some, None, List, ◌++◌, length, map, take, drop, refl, sym, ap, ◌∙◌, arith}
 use Rattle.std.specs.Prelude.{slice_get, count_by, if◌then◌else◌, ◌==◌}
 use Rattle.std.proofs.Math.Seq.{take-append-add}
@@ -25,7 +25,7 @@ use Rattle.schedule_player.proofs.Along.{append_assoc}
 use Rattle.schedule_player.proofs.Lists.{some_is, none_some}
 use Rattle.schedule_player.proofs.Stages.{length-copies, length_stages, undone_in_stages}
 
--- what stands in a beginning stood there
+-- an item in the first part of a list is at the same place in the list
 in_beginning : {A : Type 0} (xs : List A) (n k : ℕ) (x : A) → n ≤ length xs → slice_get (take n xs) k ≡ Some x → slice_get xs k ≡ Some x
 in_beginning xs n k x le here =
     let size = length-take-le n xs le in
@@ -33,7 +33,7 @@ in_beginning xs n k x le here =
     sym (slice_get-take xs n k (omega (arith, size, within))) ∙ here
 
 module _ (opening : List ℤ) (log : List Op) where
-  -- a cut is made at the length, or is gone
+  -- a cut is made at the length, or removed
   pub along_cut : (board : BoardOf Op) → IsBoardAlong opening log board
       → IsBoardAlong opening log (record board { cut = Some (length_of board) })
   along_cut board along = record {
@@ -94,7 +94,7 @@ module _ (opening : List ℤ) (log : List Op) where
   to_along board None here along = along
   to_along board (Some number) here along = up_to_along board number along here
 
-  -- what a mark is of
+  -- what a mark covers
   pub marked_along : (board : BoardOf Op) → IsBoardAlong opening log board → IsBoardAlong opening log (up_to_cut board)
   marked_along board along = to_along board board.cut refl along
 
@@ -132,7 +132,7 @@ marks_to bank r node end (Some number) here is =
     ∙ ap (λ size. if open_of (up_to board (Some number)) == 0 then put_ends seen size end else (seen, note.Unfinished))
     (sym (length_up_to board number within.0 within.1))
 
--- the machine marks what the replica marks
+-- the machine's mark is the replica's
 pub marks_as : (bank : BankOf) (r : ℕ) (node : Node) (end : How) → IsNodeAt bank r node
     → marked (seen_node node) end ≡ mark_of (seen_node node) (up_to_cut node.replica.board) end
 marks_as bank r node end is = marks_to bank r node end node.replica.board.cut refl is

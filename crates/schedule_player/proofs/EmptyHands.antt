@@ -15,7 +15,7 @@ use Rattle.schedule_player.proofs.Lists.{none_some, set_here}
 use Rattle.schedule_player.proofs.Staffing.{stays_staffed, length-with}
 use Rattle.schedule_player.proofs.Undone.{undone-set}
 
--- nothing but stages and hands changed, of each as many as before, and no more is undone
+-- only stages and hands changed, their numbers stay, and no more entries are undone
 pub record WorksOn (old new : NodeOf) : Type 0 where
   pub stages : length new.stages ≡ length old.stages
   pub hands : length new.hands ≡ length old.hands
@@ -86,9 +86,9 @@ gives bank node worker (Some (Some n)) here = comes bank node worker n (numbered
 finish_empties : (bank : BankOf) (node : NodeOf) (worker : ℕ) → Empties node worker (finished_by bank node worker).0
 finish_empties bank node worker = gives bank node worker (numbered node.hands worker) refl
 
--- ---- one after the other
+-- ---- one after another
 
--- what becomes of a replica whose first so many workers finish
+-- a replica after its first so many workers have finished
 abbrev pub finishes : BankOf → NodeOf → ℕ → NodeOf
 finishes bank node zero = node
 finishes bank node (suc k) = (finished_by bank (finishes bank node k) (suc k)).0

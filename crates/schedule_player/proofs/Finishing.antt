@@ -91,7 +91,7 @@ out_state (Some (Finished reply)) e = absurd (done_out (some_is e))
 done_not_out : ◌≡◌ {A = Option Stage} (Some IsDone) (Some IsOut) → ⊥
 done_not_out h = cc
 
--- an entry that is out is so on the board
+-- an entry that is out is out on the board
 out_on_board : (board : BoardOf Op) (p : ℕ) → slice_get (stages_of board) p ≡ Some IsOut
     → (k : ℕ) × (p ≡ length board.earlier + k) × (slice_get board.states k ≡ Some Out)
 out_on_board board p out = elim (cases_lt p (length board.earlier)) [
@@ -109,7 +109,7 @@ stranger_unless_out bank node n (Some Waits) not_out = refl
 stranger_unless_out bank node n (Some IsDone) not_out = refl
 stranger_unless_out bank node n None not_out = refl
 
--- what a worker carried out is what it had in hand
+-- what a worker executed is what it had in hand
 pub record IsOf (job : JobOf Op) (done : DoneOf Op) : Type 0 where
   pub number : done.number ≡ job.number
   pub behaviour : done.behaviour ≡ job.behaviour

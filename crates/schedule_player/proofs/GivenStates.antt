@@ -25,7 +25,7 @@ numbered-map f xs (suc k) = slice_get-map f xs k
 pub state_length : (bank : BankOf) (bytes : List ℕ) → (is : IsStateAlong bank bytes) → stated_length bytes ≡ length is.checkpoint.replies
 state_length bank bytes is = let back = read_back Second (opening_total bank) is.checkpoint bytes is.stored.0 in back.count
 
--- which is at most the log's
+-- and that is at most the log's
 pub state_within : (bank : BankOf) (bytes : List ℕ) → IsStateAlong bank bytes → stated_length bytes ≤ length bank.calls
 state_within bank bytes is =
     let size = state_length bank bytes is in
@@ -44,7 +44,7 @@ states_within bank states all k size here = by (slice_get states k) refl
         (some_is (sym (slice_get-map stated_length states k ∙ ap (option_map stated_length) there) ∙ here))
         (state_within bank bytes (all k bytes there))
 
--- a state is the checkpoint of the bank after as many calls
+-- a state is the bank's checkpoint after that many calls
 pub state_is : (bank : BankOf) (bytes : List ℕ) → SameCustomers bank.names bank.opening → IsStateAlong bank bytes
     → IsStateAt bank (stated_length bytes) bytes
 state_is bank bytes same is =

@@ -42,11 +42,11 @@ received names opening s nodes now r old new bytes result view is within at stat
     steps names opening s nodes r old new (λ node. given node (stated_length bytes)) result is here (λ staffed. staffed)
     (goes (bank_with names opening s.log) r (is.each r old here) (subst (λ w. IsStateAlong (bank_of w) bytes) (sym view) state))
 
--- a replica that is there
+-- a replica that exists
 pub there : (now : WorldOf) (r : ℕ) → r < length now.nodes → (node : NodeOf) × (slice_get now.nodes r ≡ Some node)
 there now r within = (get_or now.nodes r (opened_node 0), slice_get-get_or now.nodes r (opened_node 0) within)
 
--- as many are seen as there are
+-- the machine sees as many as there are
 pub counted : (names : List (List ℕ)) (opening : Balances) (s : SequencerOf) (nodes : List Node) (now : WorldOf) (r count : ℕ)
     → world_of names opening s nodes ≡ now → count ≡ length nodes → r < count → r < length now.nodes
 counted names opening s nodes now r count view is within =
@@ -54,12 +54,12 @@ counted names opening s nodes now r count view is within =
     let many = length-map seen_node nodes in
     omega (arith, size, many, is, within)
 
--- the state that it has, where that is of these bytes
+-- the state that a replica has, if it is of these bytes
 pub has_these : {A : Type 0} (items : A → List ℕ) (bank : BankOf) (node : NodeOf) (state : Option A) (bytes : A) → state ≡ Some bytes
     → HasState bank node (option_map items state) → HasState bank node (Some (items bytes))
 has_these items bank node state bytes is has = subst (λ s. HasState bank node (option_map items s)) is has
 
--- a state of one entry or more goes to the other replica
+-- a state of at least one entry goes to the other replica
 pub gives : (now : WorldOf) (a r size : ℕ) (node : NodeOf) → slice_get now.nodes a ≡ Some node → size ≡ node.kept → node.kept ≢ 0
     → moved_at now r (λ one. given one size) ≡ given_from now r (slice_get now.nodes a)
 gives now a r size node here is some =
@@ -94,7 +94,7 @@ state_here now r node found place answer e = by answer e
           (every_numbered (IsStateAlong (bank_of now)) node.states place bytes.now found.along.states (sym here)),
     )
 
--- the same of the bank that is the world's
+-- the same for the world's own bank
 pub state_by_log : (now : WorldOf) (r place : ℕ) (bank : BankOf) (answer : Option (Bor (List ℕ))) → bank_of now ≡ bank
     → MatchOption answer (state_at now r place ≡ None)
     (λ bytes. (size : ℕ) × (state_at now r place ≡ Some size) × IsStateAt (bank_of now) size bytes.now)

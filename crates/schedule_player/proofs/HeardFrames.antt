@@ -1,4 +1,4 @@
--- The sequencer hears what a replica told.
+-- The sequencer hears what a replica sent.
 use Rattle.std.proofs.Common.{◌≡◌, inl, inr, ℕ, zero, suc, ◌-◌, ◌<◌, ◌≤◌, true, Option, Some, None, List, length, map, refl, sym, ap, subst, ◌∙◌, arith}
 use Rattle.std.specs.Prelude.{slice_get, slice_set, option_map, nat_lt, nat_le, ◌&&◌, if◌then◌else◌}
 use Rattle.std.proofs.lemmas.Bool.{cases_eq, lt-ltb, le-leb}
@@ -32,7 +32,7 @@ use Rattle.schedule_player.proofs.Lists.{some_is, none_some}
 use Rattle.schedule_player.proofs.Moving.{world_of}
 use Rattle.schedule_player.proofs.Stages.{length-map}
 
--- the world is one still, and so the machine moves to it
+-- it is still a world, so the machine moves to it
 pub record Hears (names : List (List ℕ)) (opening : Balances) (s : SequencerOf) (nodes : List Node) (r : ℕ) (sent : Frame) (noted : Note)
     (new : SequencerOf) : Type 0 where
   pub is : IsWorld names opening new nodes
@@ -176,7 +176,7 @@ module _ (names : List (List ℕ)) (opening : Balances) (s : SequencerOf) (nodes
   hears_reply r zero reply noted new here hears = absurd (none_some here)
   hears_reply r (suc k) reply noted new here hears = hears_numbered r k reply noted new here hears.0 hears.1 hears.2 hears.3
 
-  -- ---- whatever a replica told
+  -- ---- whatever a replica sent
 
   hears_by : (r : ℕ) (sent : Frame) (noted : Note) (new : SequencerOf) → r < length nodes → IsToldBy bank r sent → HearsFrame s sent noted new
       → Hears names opening s nodes r sent noted new

@@ -1,4 +1,4 @@
--- The entries that a replica holds, beside the log.
+-- The entries that a replica holds, compared with the log.
 use Rattle.std.proofs.Common.{◌≡◌, inl, inr, ℕ, zero, suc, ◌+◌, ◌<◌, false, Option, Some, None, List, [], ◌∷◌, ◌++◌, length, map, drop, replicate, refl, sym, ap, subst, ◌∙◌, arith}
 use Rattle.std.specs.Prelude.{slice_get, slice_set, is_some}
 use Rattle.std.proofs.lemmas.Bool.{cases_eq}
@@ -14,7 +14,7 @@ use Rattle.schedule_player.specs.Numbered.{copies}
 use Rattle.schedule_player.specs.ReplicaMoves.{none_held}
 use Rattle.schedule_player.proofs.Lists.{some_is, none_some, pushed_cases}
 
--- so many places without an op
+-- this many places without an op
 nothing_held : (held : List (Option Op)) → held ≡ empty_held → held ≡ replicate HELD_ENTRIES None
 unfolding empty_held
 nothing_held held is = is
@@ -48,7 +48,7 @@ module _ (log : List Op) where
     | inr differs ↦ are k other (sym (slice_get-set_other held place k (Some op) (λ e. differs (sym e))) ∙ here)
   ]
 
-  -- the next one is accepted, and the places of the others move up
+  -- the next one is accepted, and the others move up one place
   pub moved_along : (size : ℕ) (held : List (Option Op)) → AreHeldAlong log size held → AreHeldAlong log (size + 1) (drop 1 held ++ None ∷ [])
   moved_along size held are k op here = elim (pushed_cases (drop 1 held) None k (Some op) here) [
     | inl there ↦

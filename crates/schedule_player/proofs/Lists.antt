@@ -46,18 +46,18 @@ get_here {A = A} xs k x lt is = by (slice_get_cases xs k).1
     by (inl found) = found.2 ∙ ap (λ y. Some y) (sym (is ∙ same_default xs k x found.0 lt ∙ found.3))
     by (inr past) = absurd (omega (arith, lt, past.0))
 
--- an empty one
+-- an empty list
 pub none_here : {A : Type 0} (xs : List (Option A)) (k : ℕ) (x : Option A) → k < length xs → x ≡ slice_index_or xs k x
     → false ≡ is_some x → slice_get xs k ≡ Some None
 none_here xs k None lt is empty = get_here xs k None lt is
 none_here xs k (Some x) lt is empty = absurd (true≢false (sym empty))
 
--- no such item
+-- no item is there
 pub no_hand : {A : Type 0} (x : Option A) → ((y : A) → x ≡ Some y → ⊥) → x ≡ None
 no_hand None not_some = refl
 no_hand (Some y) not_some = absurd (not_some y refl)
 
--- one more of the same
+-- one more of the same item
 pub copies_push : {A : Type 0} (n : ℕ) (x : A) → copies (n + 1) x ≡ copies n x ++ x ∷ []
 copies_push {A} n x = let e : n + 1 ≡ suc n = omega arith in ap (λ m. copies m x) e ∙ at_end n
   where
@@ -65,13 +65,13 @@ copies_push {A} n x = let e : n + 1 ≡ suc n = omega arith in ap (λ m. copies 
     at_end zero = refl
     at_end (suc n) = ap (λ t. x ∷ t) (at_end n)
 
--- the item that is there, put there once more
+-- the item at a place, put there again
 pub set_here : {A : Type 0} (xs : List A) (k : ℕ) (x : A) → slice_get xs k ≡ Some x → slice_set xs k x ≡ xs
 set_here [] k x here = refl
 set_here (y ∷ xs) zero x here = ap (λ z. z ∷ xs) (sym (some_is here))
 set_here (y ∷ xs) (suc k) x here = ap (λ zs. y ∷ zs) (set_here xs k x here)
 
--- what is left from an item on begins with it
+-- the rest of a list from an item on begins with it
 pub drop_one : {A : Type 0} (xs : List A) (k : ℕ) (x : A) → slice_get xs k ≡ Some x → drop k xs ≡ x ∷ drop (k + 1) xs
 drop_one {A = A} xs k x here = let e : k + 1 ≡ suc k = omega arith in by xs k here ∙ ap (λ n. x ∷ drop n xs) (sym e)
   where

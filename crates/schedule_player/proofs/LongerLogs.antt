@@ -28,7 +28,7 @@ use Rattle.schedule_player.proofs.HeldEntries.{held_longer}
 use Rattle.schedule_player.proofs.Lists.{none_some}
 use Rattle.schedule_player.proofs.LogParts.{reply_longer}
 
--- the bank with one call more
+-- the bank with one more call
 abbrev pub with_call : BankOf → Call → BankOf
 with_call bank call = record bank { calls = bank.calls ++ call ∷ [] }
 

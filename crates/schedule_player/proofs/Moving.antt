@@ -26,7 +26,7 @@ abbrev pub world_of : List (List ℕ) → Balances → SequencerOf → List Node
 world_of names opening s nodes = record { names = names; opening = opening; sequencer = s; nodes = map seen_node nodes }
 
 module _ (names : List (List ℕ)) (opening : Balances) (s : SequencerOf) (nodes : List Node) where
-  -- where it was put it stands
+  -- it is where it was put
   new_one : (r : ℕ) (new : Node) (q : ℕ) (node : Node) → r ≡ q → slice_get (slice_set nodes r new) q ≡ Some node → new ≡ node
   new_one r new q node same here =
       let within : r < length nodes =
@@ -72,7 +72,7 @@ module _ (names : List (List ℕ)) (opening : Balances) (s : SequencerOf) (nodes
   pub node_seen : (r : ℕ) (old : Node) → slice_get nodes r ≡ Some old → slice_get (map seen_node nodes) r ≡ Some (seen_node old)
   node_seen r old here = slice_get-map seen_node nodes r ∙ ap (option_map seen_node) here
 
-  -- ---- an event that may want memory
+  -- ---- an event for which memory may be refused
 
   -- it moves the world as the machine moves, or nothing changes
   pub record Stepped (r : ℕ) (new : Node) (move : NodeOf → NodeOf × Note) (result : Result Note StepFault) : Type 0 where
@@ -97,7 +97,7 @@ module _ (names : List (List ℕ)) (opening : Balances) (s : SequencerOf) (nodes
         ∙ set_here (map seen_node nodes) r (seen_node old) (node_seen r old here));
   }
 
-  -- and it failed only where its note may take memory
+  -- it fails only if its note may take memory
   pub steps_wanted : (r : ℕ) (old new : Node) (happens : Event) (result : Result Note StepFault) → slice_get nodes r ≡ Some old
       → replica_of happens ≡ Some r
       → Steps (bank_with names opening s.log) r old new result (node_move (bank_with names opening s.log) s (seen_node old) happens)
@@ -106,7 +106,7 @@ module _ (names : List (List ℕ)) (opening : Balances) (s : SequencerOf) (nodes
   steps_wanted r old new happens (Err fault) here at failed =
       wants (world_of names opening s nodes) happens r (seen_node old) at (node_seen r old here) failed.1
 
--- what holds anyway holds where it failed
+-- what holds of the old world holds after a failure
 pub on_err : {A P : Type 0} (result : Result A StepFault) → P → OnErr result P
 on_err (Ok x) p = tt
 on_err (Err fault) p = p

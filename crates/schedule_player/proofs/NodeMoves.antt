@@ -27,7 +27,7 @@ use Rattle.schedule_player.proofs.Runnable.{runnable_alike}
 use Rattle.schedule_player.proofs.Stages.{set-map, stages_set}
 use Rattle.cown_board.specs.declared.state.State.TheVariants.{Out}
 
--- nothing but the board, what is held and the store of the old replica changed
+-- only the board, what is held and the store of the old replica changed
 pub record KeepsBeside (old new : ReplicaOf MemoryStoreOf) : Type 0 where
   pub id : new.id ≡ old.id
   pub names : new.names ≡ old.names
@@ -51,7 +51,7 @@ node_stored bank r old new is beside board held kept = record {
   states = is.states;
 }
 
--- nothing but the board and the hands of the old node changed
+-- only the board and the hands of the old node changed
 pub record ChangesWithin (old new : Node) : Type 0 where
   pub beside : ◌≡◌ {A = BesideOf MemoryStoreOf × List (Option Op)} (beside_of new.replica, new.replica.held) (beside_of old.replica, old.replica.held)
   pub inbound : new.inbound ≡ old.inbound
@@ -85,7 +85,7 @@ node_stays bank r old new moved n is same e = record {
   as_moved = e ∙ ap (λ node. (seen_node node, n)) (sym same);
 }
 
--- nothing changed where memory was refused
+-- nothing changed when memory was refused
 pub node_fails : {P : Type 0} (bank : BankOf) (r : ℕ) (old new : Node) → IsNodeAt bank r old → new ≡ old → P → IsAsBefore bank r old new × P
 node_fails bank r old new is same wants = (record { along = subst (IsNodeAt bank r) (sym same) is; seen = ap seen_node same }, wants)
 

@@ -1,4 +1,4 @@
--- What is seen of a world, beside its log.
+-- What is seen of a world, compared with its log.
 use Rattle.std.proofs.Common.{◌≡◌, ◌≢◌, true, false, ℕ, Option, Some, None, refl, sym, ap, subst, ◌∙◌}
 use Rattle.std.specs.Prelude.{slice_get, option_and_then, option_map, ◌==◌, IfSome, MatchOption}
 use Rattle.std.proofs.lemmas.Bool.{eq-eqb, ne_eqb, eqb-true}
@@ -59,7 +59,7 @@ module _ (world : WorldOf) (r : ℕ) (node : Node) (found : LookedUp world r nod
   pub was_idle : idle_at world r ≡ true → open_of node.replica.board ≡ 0
   was_idle idle = sym undone ∙ eqb-true (undone_in (seen_node node)) 0 (sym idle_is ∙ idle)
 
-  -- columns that are lent
+  -- columns that are borrowed
   pub lent_idle : {A : Type 0} (P : A → Type 0) (answer : Option A)
       → MatchOption answer (open_of node.replica.board ≢ 0) (λ x. (open_of node.replica.board ≡ 0) × P x)
       → MatchOption answer (idle_at world r ≡ false) (λ x. idle_at world r ≡ true)

@@ -1,4 +1,4 @@
--- What a replica's log makes of an entry, beside the whole log, and as the machine sees it.
+-- What a replica's log does with an entry, compared with the whole log, and as the machine sees it.
 use Rattle.std.proofs.Common.{◌≡◌, ℕ, suc, ◌+◌, ◌-◌, ◌<◌, ◌≤◌, Bool, true, false, Option, Some, None, [], ◌∷◌, ◌++◌, length, map, drop, refl, sym, ap, subst, ◌∙◌, arith}
 use Rattle.std.specs.Prelude.{option_map, option_and_then, is_some, if◌then◌else◌, nat_le, nat_lt, ◌==◌, ◌||◌, slice_get, slice_set}
 use Rattle.std.proofs.lemmas.Bool.{le-ltb, ltb-true}
@@ -39,7 +39,7 @@ pub record IsLogAlong (bank : BankOf) (log : LogOf) : Type 0 where
 length_accepted : (board : BoardOf Op) (op : Op) → length_of (accepted board op) ≡ length_of board + 1
 length_accepted board op = let more = length-append board.log (op ∷ []) in omega (arith, more)
 
--- the next entry is taken
+-- the next entry is accepted
 taken_along : (bank : BankOf) (log : LogOf) (op : Op) → IsLogAlong bank log → slice_get (ops_of bank) (length_of log.board) ≡ Some op
     → IsLogAlong bank (taken log op)
 taken_along bank log op is next = record {
@@ -48,14 +48,14 @@ taken_along bank log op is next = record {
       (moved_along (ops_of bank) (length_of log.board) log.held is.held);
 }
 
--- where the log has a call, the op is that call's
+-- if the log has a call, the op is that call's
 op_at : (bank : BankOf) (call : Call) (n place : ℕ) → numbered bank.calls n ≡ Some call → n ≡ suc place
     → slice_get (ops_of bank) place ≡ Some (resolved bank.names call)
 op_at bank call n place here is =
     slice_get-map (resolved bank.names) bank.calls place
     ∙ ap (option_map (resolved bank.names)) (ap (numbered bank.calls) (sym is) ∙ here)
 
--- one that is held came too early, and under its own number
+-- an entry that is held came too early, and is held under its own number
 held_tests : (n size number : ℕ) (there past early full : Bool)
     → (if there then offer.Repeat else if past then offer.Gap size else if early then offer.Held n else if full then offer.Busy size else offer.Next)
     ≡ offer.Held number → (early ≡ true) × (n ≡ number)
@@ -121,7 +121,8 @@ holds_so : (seen : NodeOf) (log : LogOf) (op : Op) (place : ℕ)
     ≡ seeing seen (record log { held = slice_set log.held place (Some op) })
 holds_so seen log op place = ap (λ h. record (seeing seen log) { held = h }) (sym (set-map is_some log.held place (Some op)))
 
--- what the machine does of the next entry, of any, by its length and how many are undone
+-- what the machine does with the next entry, and with any, by its length and its number of undone
+-- entries
 abbrev next_at : NodeOf → ℕ → ℕ → Bool → NodeOf × Note
 next_at node size n full = if full then (node, note.Busy size) else (accepts node, note.Accepted n)
 
@@ -154,7 +155,7 @@ comes_so seen log op n false true early full = refl
 comes_so seen log op n false false true full = ap (λ node. (node, note.Held n)) (holds_so seen log op (n - length_of log.board - 1))
 comes_so seen log op n false false false full = next_so seen log op n full
 
--- no number of the log is past what a log takes
+-- no number of the log is beyond what a replica's log takes
 within_limit : (a : Bool) (n : ℕ) → n ≤ LOG_CALLS → (a || nat_lt LOG_CALLS n) ≡ a
 within_limit true n le = refl
 within_limit false n le = le-ltb LOG_CALLS n le
@@ -171,7 +172,7 @@ entry_alike seen log op n beside within =
     ∙ comes_so seen log op n (nat_le n size) past (nat_lt (suc size) n) full
     ∙ ap (λ p. answered_so seen log op n (answer_at size n (nat_le n size) p (nat_lt (suc size) n) full)) (sym (within_limit past n within))
 
--- what a replica that takes what it holds answers, as a note
+-- the answer of a replica that takes what it holds, as a note
 abbrev pub note_if : Option Heard → Note
 note_if (Some heard) = note_of_heard heard
 note_if None = note.Nothing
@@ -196,7 +197,7 @@ advance_alike seen log beside =
         ∙ ap (λ u. next_at node size (suc size) (u == 1024)) (undone_in_stages log.board)
         ∙ next_so seen log op (suc size) (open_of log.board == 1024)
 
--- what is heard as accepted, the machine accepts
+-- the machine accepts what is answered as accepted
 accepts_next : (node : NodeOf) (size other n number : ℕ) (full : Bool) → heard_of number (next_answer size full) ≡ heard.Accepted number
     → (next_at node other n full).1 ≡ note.Accepted n
 accepts_next node size other n number true e = absurd cc

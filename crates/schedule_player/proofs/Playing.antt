@@ -1,4 +1,4 @@
--- Events one after the other.
+-- Events, one after another.
 use Rattle.std.proofs.Common.{◌≡◌, Bool, true, false, ℕ, Option, Some, None, Result, Ok, Err, List, [], ◌∷◌, ◌++◌, length, map, refl, sym, ap, subst, ◌∙◌}
 use Rattle.std.specs.Prelude.{slice_get, ◌==◌, IfOk, OnErr}
 use Rattle.std.specs.List.{cons_option, filter_map}
@@ -28,9 +28,9 @@ use Rattle.schedule_text.specs.declared.note.Note.TheVariants as note
 use Rattle.schedule_player.proofs.Coming.{comes_of}
 use Rattle.schedule_player.proofs.Working.{give_by}
 
--- ---- what stays, and what becomes of the log
+-- ---- what stays, and how the log changes
 
--- the bank and how many replicas there are stay, and the log is this one
+-- the bank and the number of replicas stay, and this is the log
 pub record Leaves (old new : WorldOf) (log : List (Key × Call)) : Type 0 where
   pub names : new.names ≡ old.names
   pub opening : new.opening ≡ old.opening
@@ -81,7 +81,7 @@ leaves_moved world other = leaves_by world other (replica_of other)
 leaves_so : (old : WorldOf) (happens : Event) (n : Note) (new : WorldOf) → moved old happens ≡ (new, n) → Leaves old new old.sequencer.log
 leaves_so old happens n new e = subst (λ m. Leaves old m.0 old.sequencer.log) e (leaves_moved old happens)
 
--- an ask makes of the log what the log is with it
+-- an ask changes the log to the one with it
 leaves_asked : (old : WorldOf) (ask : Key × Call) (n : Note) (new : WorldOf) → Asks old ask n new → Leaves old new (log_with old.sequencer.log ask)
 leaves_asked old ask (note.New n) new asks = record {
   names = ap (λ w. w.names) asks.1;
@@ -157,7 +157,7 @@ pub played_log : (schedule : ScheduleOf) (world : WorldOf) → IsPlayed schedule
 played_log schedule world played =
     (leaves_all (opened_world schedule) schedule.events played.notes world played.plays).log_is ∙ log_after-empty (filter_map ask_in schedule.events)
 
--- and the bank is the one of these events
+-- and the bank is that of these events
 pub played_bank : (schedule : ScheduleOf) (world : WorldOf) → IsPlayed schedule world → bank_of world ≡ bank_after schedule
 played_bank schedule world played =
     let all = leaves_all (opened_world schedule) schedule.events played.notes world played.plays in
@@ -181,7 +181,7 @@ played_more schedule old happens n new played moves = record {
   plays = plays_more (opened_world schedule) schedule.events played.notes old happens n new played.plays moves;
 }
 
--- events and then events
+-- events, and then more events
 pub plays_on : (old : WorldOf) (events : List Event) (notes : List Note) (middle : WorldOf) (more : List Event) (later : List Note) (new : WorldOf)
     → Plays old events notes middle → Plays middle more later new → Plays old (events ++ more) (notes ++ later) new
 plays_on old [] [] middle more later new plays goes = subst (λ w. Plays w more later new) plays goes

@@ -1,4 +1,4 @@
--- A recorded length was told.
+-- A recorded length was sent.
 use Rattle.std.proofs.Common.{◌≡◌, inl, inr, Bool, true, false, ℕ, zero, suc, ◌+◌, ◌<◌, Option, Some, None, List, [], ◌∷◌, ◌++◌, length, replicate, refl, sym, ap, subst, ◌∙◌, append-nil}
 use Rattle.std.specs.Prelude.{slice_get, slice_set, nat_le, nat_lt, ◌==◌}
 use Rattle.std.proofs.lemmas.Bool.{cases_eq}
@@ -124,7 +124,7 @@ told_longer kind old new size more is = (
       ∙ is.2,
 )
 
--- a replica told more
+-- a replica sent more
 were_longer : (kind : ℕ → ℕ → Frame) (nodes : List NodeOf) (sizes : List ℕ) (r : ℕ) (node new : NodeOf) → Tells node new → WereTold kind nodes sizes
     → slice_get nodes r ≡ Some node → WereTold kind (slice_set nodes r new) sizes
 were_longer kind nodes sizes r node new more were here = λ q now size there recorded. elim (cases_eq r q) [
@@ -152,7 +152,7 @@ records_at : (world : WorldOf) (r : ℕ) (move : NodeOf → NodeOf × Note) → 
     → RecordsWereTold (moved_at world r move).0
 records_at world r move more were = records_if world r move more were (slice_get world.nodes r) refl
 
--- a length that is heard stands in the list
+-- a length that is heard is in the list
 were_set : (kind : ℕ → ℕ → Frame) (nodes : List NodeOf) (sizes : List ℕ) (r place : ℕ) (node : NodeOf) (replica size : ℕ) → WereTold kind nodes sizes
     → slice_get nodes r ≡ Some node → numbered node.outbound place ≡ Some (kind replica size)
     → WereTold kind nodes (slice_set sizes r size)

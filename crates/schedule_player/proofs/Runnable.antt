@@ -1,4 +1,5 @@
--- What may run by the balances is what the board has ready, moved by what is done before the board.
+-- What may run by the balances is what the board has ready, moved by the number of entries before
+-- the board.
 use Rattle.std.proofs.Common.{◌≡◌, ◌⊎◌, get_or, inl, inr, ℕ, zero, suc, ◌+◌, ◌<◌, ◌≤◌, Bool, true, false, not, Option, Some, None, [], ◌∷◌, ◌++◌, length, map, refl, sym, ap, ◌∙◌, arith}
 use Rattle.std.specs.Prelude.{◌&&◌, slice_get, option_map, if◌then◌else◌}
 use Rattle.std.proofs.lemmas.List.{map-append}

@@ -1,4 +1,4 @@
--- The replies that a board beside the log holds, and what an idle one comes to.
+-- The replies of a board along the log, and the checkpoint of an idle one.
 use Rattle.std.proofs.Common.{◌≡◌, ◌⊎◌, inl, inr, ℕ, zero, suc, ◌+◌, ◌-◌, ◌<◌, ◌≤◌, ℤ, false, Option, Some, None, List, ◌++◌, length, get_or, refl, sym, ap, ◌∙◌, arith}
 use Rattle.std.specs.Prelude.{slice_get, option_map, option_and_then, if◌then◌else◌, nat_le, ◌==◌}
 use Rattle.std.proofs.lemmas.Bool.{cases_lt, lt-leb, le-leb, ne_eqb}
@@ -25,7 +25,7 @@ use Rattle.schedule_player.proofs.Along.{held_alike}
 use Rattle.schedule_player.proofs.Lists.{none_some}
 use Rattle.schedule_player.proofs.Stages.{stage_before, stage_at}
 
--- the reply where the entry is done
+-- the reply if the entry is done
 abbrev pub reply_if_done : Option Reply → Option Stage → Option Reply
 reply_if_done reply (Some IsDone) = reply
 reply_if_done reply (Some IsOut) = None
@@ -118,7 +118,7 @@ module _ (opening : List ℤ) (log : List Op) where
       ∙ held_alike opening log board along (length board.log) (omega arith)
       ∙ ap (λ n. held_after_first declared_cowns effect_of opening log (n + length board.log)) along.base
 
-  -- and they are a checkpoint beside the log, with all replies
+  -- with all replies, they are a checkpoint along the log
   pub checkpoint_along : (board : BoardOf Op) (columns : Balances) → IsBoardAlong opening log board → open_of board ≡ 0
       → IsAfterAll declared_cowns effect_of board columns
       → IsCheckpointAlong opening log (record { columns = columns; replies = replies_held board })

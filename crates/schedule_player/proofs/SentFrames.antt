@@ -12,7 +12,7 @@ use Rattle.schedule_player.specs.Numbered.{numbered, Every}
 use Rattle.schedule_player.specs.Seen.{frame_or_flush, frame_in, IsSpelled}
 use Rattle.schedule_player.proofs.Lists.{none_some}
 
--- bytes that spell a frame are decoded as it, with nothing behind it
+-- bytes that spell a frame decode to it, and nothing is left
 pub decoded_whole : (frame : Frame) (bytes : List ℕ) → Spells frame bytes → decoded bytes ≡ Ok (frame, length bytes)
 decoded_whole frame bytes spelled =
     subst (λ b. decoded b ≡ Ok (frame, length bytes)) (append_nothing bytes) (begins_so frame bytes [] spelled)
@@ -21,7 +21,7 @@ pub frame_in_spelled : (frame : Frame) (bytes : List ℕ) → Spells frame bytes
 unfolding frame_in
 frame_in_spelled frame bytes spelled = ap frame_or_flush (decoded_whole frame bytes spelled)
 
--- the frame that such bytes are seen as is the one that they spell
+-- the machine sees these bytes as the frame that they spell
 pub spelled_as_seen : (bytes : List ℕ) → IsSpelled bytes → Spells (frame_in bytes) bytes
 spelled_as_seen bytes is =
     subst (λ frame. Spells frame bytes) (sym (frame_in_spelled is.frame bytes is.spelled)) is.spelled

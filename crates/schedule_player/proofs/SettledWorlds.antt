@@ -22,13 +22,13 @@ use Rattle.schedule_player.proofs.EmptyHands.{finishes, all_finished}
 use Rattle.schedule_player.proofs.Lists.{some_is, none_some, set_here}
 use Rattle.schedule_player.proofs.Playing.{plays_on}
 
--- ---- events that ask for nothing
+-- ---- events without an ask
 
 after_append : (world : WorldOf) (xs ys : List Event) → after_events world (xs ++ ys) ≡ after_events (after_events world xs) ys
 after_append world [] ys = refl
 after_append world (x ∷ xs) ys = after_append (moved world x).0 xs ys
 
--- the machine plays them
+-- the machine plays these events
 abbrev IsPlayable : WorldOf → List Event → Type 0
 IsPlayable world events = (notes : List Note) × Plays world events notes (after_events world events)
 
@@ -63,7 +63,7 @@ settling_plays world r =
     playable_on world (emptying world r) (first_works r (left_undone world r)) (plays_finishes world r (workers_at world r))
     (plays_works (after_events world (emptying world r)) r (left_undone world r))
 
--- one event more
+-- one more event
 pub after_finish : (world : WorldOf) (r k : ℕ)
     → after_events world (each_finishes r (suc k)) ≡ (moved (after_events world (each_finishes r k)) (event.Finish r (suc k))).0
 after_finish world r k = after_append world (each_finishes r k) (event.Finish r (suc k) ∷ [])
@@ -168,7 +168,7 @@ module _ (world : WorldOf) (r : ℕ) (node : NodeOf) (here : slice_get world.nod
 
   -- ---- and then the rest is done
 
-  -- the world is at rest: so many pairs on
+  -- the world is at rest after this many pairs
   worked_so : (n : ℕ) → after_events world (first_works r n) ≡ put world r (works (bank_of world) node n)
   worked_so n =
       ap (λ w. after_events w (first_works r n)) (λ j. record world { nodes = sym (set_here world.nodes r node here) j })
@@ -183,7 +183,7 @@ module _ (world : WorldOf) (r : ℕ) (node : NodeOf) (here : slice_get world.nod
   undone_here : undone_at world r ≡ undone_in node
   undone_here = ap undone_if here
 
-  -- how many are left after so many
+  -- the number left after this many
   left_after : (n : ℕ) → IsAtRest node → n ≤ undone_at world r → n + undone_at (after_events world (first_works r n)) r ≡ undone_at world r
   left_after n rest le =
       let was = undone_here in
@@ -209,7 +209,7 @@ module _ (world : WorldOf) (r : ℕ) (node : NodeOf) (here : slice_get world.nod
       ∙ ap (put world r) same
       ∙ sym (ap (settled_if world r) here)
 
--- ---- of whatever replica there is
+-- ---- at every replica that exists
 
 there : (world : WorldOf) (r : ℕ) → r < length world.nodes → (node : NodeOf) × (slice_get world.nodes r ≡ Some node)
 there world r lt = by (slice_get world.nodes r) refl
@@ -250,7 +250,7 @@ undone_few world r lt rest =
     let within = (rest node.0 node.1).able.within in
     omega (arith, is, count, within)
 
--- nothing is undone just where it is idle
+-- nothing is undone exactly if the replica is idle
 pub idle_none : (world : WorldOf) (r : ℕ) → idle_at world r ≡ true → undone_at world r ≡ 0
 idle_none world r = by (slice_get world.nodes r)
   where
@@ -291,7 +291,7 @@ busy_before world r lt able n more =
     ap (λ w. idle_at w r) (after_append world (emptying world r) (first_works r n))
     ∙ busy_where (after_events empty (first_works r n)) r (omega (arith, left, more))
 
--- nothing is undone then
+-- then nothing is undone
 pub settled_idle : (world : WorldOf) (r : ℕ) → r < length world.nodes → idle_at (settled world r) r ≡ true
 settled_idle world r lt =
     let node = there world r lt in
@@ -310,9 +310,9 @@ settled_count world r = by (slice_get world.nodes r)
     by None = refl
     by (Some node) = length-set world.nodes r (settled_node node)
 
--- ---- what settling comes to
+-- ---- the result of settling
 
--- the world after so many workers' finishes, and then so many pairs
+-- the world after this many workers' finishes, and then this many pairs
 pub record Settles (world : WorldOf) (r : ℕ) (count : ℕ) (new : WorldOf) : Type 0 where
   pub notes : List Note
   pub plays : Plays world (settling world r) notes new

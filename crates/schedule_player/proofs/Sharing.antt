@@ -1,4 +1,4 @@
--- Two calls wait for one another by their cowns exactly where they do by the balances that they touch.
+-- Two calls wait for one another by their cowns exactly if they do by the balances that they touch.
 use Rattle.std.proofs.Common.{◌≡◌, ◌⊎◌, inl, inr, Bool, true, false, List, [], ◌∷◌, refl, sym, ap, subst}
 use Rattle.std.specs.Prelude.{◌||◌}
 use Rattle.std.specs.List.{list_any}

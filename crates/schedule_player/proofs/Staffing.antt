@@ -163,7 +163,7 @@ marks : (node : NodeOf) (end : How) (cut : Option ℕ) → IsStaffed node → Is
 marks node end (Some n) is = puts node n end (undone_up_to node n == 0) is
 marks node end None is = puts node (length_in node) end (undone_in node == 0) is
 
--- all that it begins with is done
+-- every entry that it begins with is done
 begins : (node : NodeOf) (size : ℕ) → IsStaffed node → IsStaffed (begun_at node size)
 begins node size is = record { some = is.some; few = is.few; out = found }
   where

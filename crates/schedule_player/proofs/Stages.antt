@@ -67,7 +67,7 @@ undone_after : (n : ℕ) (stages : List Stage) → count_by is_undone (copies n 
 undone_after zero stages = refl
 undone_after (suc n) stages = undone_after n stages
 
--- as many undone ones as are open
+-- as many are undone as are open
 pub undone_in_stages : (board : BoardOf Op) → count_by is_undone (stages_of board) ≡ open_of board
 undone_in_stages board = undone_after (length board.earlier) (map stage_of board.states) ∙ undone_states board.states
 
@@ -89,14 +89,14 @@ stages_set board place state =
     ap (λ s. copies (length board.earlier) IsDone ++ s) (set-map stage_of board.states place state)
     ∙ set-copies (length board.earlier) IsDone (map stage_of board.states) place (stage_of state)
 
--- what was replied before the board is done
+-- entries before the board's opening are done
 pub stage_before : (board : BoardOf Op) (k : ℕ) → k < length board.earlier → slice_get (stages_of board) k ≡ Some IsDone
 stage_before board k lt =
     slice_get-left (copies (length board.earlier) IsDone) (map stage_of board.states) k (subst (λ n. k < n) (sym (length-copies
     (length board.earlier) IsDone)) lt)
     ∙ get-copies (length board.earlier) IsDone k lt
 
--- and the rest is where the board has it
+-- the others are in the board's states
 pub stage_at : (board : BoardOf Op) (k : ℕ) → slice_get (stages_of board) (length board.earlier + k) ≡ option_map stage_of (slice_get board.states k)
 stage_at board k =
     slice_get-right (copies (length board.earlier) IsDone) (map stage_of board.states) (length board.earlier + k) k

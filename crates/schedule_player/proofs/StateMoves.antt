@@ -1,4 +1,4 @@
--- What a replica has of the log goes to another one as a state.
+-- A replica's state goes to another one.
 use Rattle.std.proofs.Common.{◌≡◌, inl, inr, Bool, true, false, ℕ, suc, ◌≤◌, Option, Some, None, List, [], ◌∷◌, ◌++◌, length, map, refl, sym, ap, subst, ◌∙◌, arith}
 use Rattle.std.specs.Prelude.{option_map, nat_le}
 use Rattle.std.proofs.lemmas.Bool.{lt-leb, le-leb}
@@ -35,7 +35,7 @@ use Rattle.schedule_player.proofs.Working.{state_by, adopts_so}
 
 -- ---- what it keeps
 
--- a look at the store changes nothing
+-- reading the store changes nothing
 pub keeps_same : (old new : ReplicaOf MemoryStoreOf) (state : Option (ℕ × List ℕ)) → KeepsState Does old state new → new ≡ old
 keeps_same old new state keeps = let acts = keeps.got.as_told in keeps.stays ∙ ap (λ s. record old { store = s }) acts.1
 
@@ -63,7 +63,7 @@ kept_in_log bank r node is =
     let calls = length-map (resolved bank.names) bank.calls in
     omega (arith, kept, within, calls)
 
--- it is told
+-- the replica sends it
 pub tells_kept : (bank : BankOf) (r : ℕ) (old : Node) (new : ReplicaOf MemoryStoreOf) (state : Option (ℕ × List ℕ)) (outbound : List Frame)
     (told : Frame) (place : ℕ) → IsNodeAt bank r old → KeepsState Does old.replica state new
     → told ≡ frame.Have old.replica.id (state_length state) → outbound ≡ old.outbound ++ told ∷ [] → place ≡ length outbound
@@ -78,7 +78,7 @@ tells_kept bank r old new state outbound told place is keeps t e p =
     (ap (λ n. tells (seen_node old) (frame.Have r n)) (sym size)
     ∙ ap (λ n. tells (seen_node old) (frame.Have n (state_length state))) (sym is.id) ∙ ap (tells (seen_node old)) (sym t)))
 
--- and is what others get
+-- and others get it
 pub has_state : (bank : BankOf) (r : ℕ) (old : Node) (new : ReplicaOf MemoryStoreOf) (state : Option (ℕ × List ℕ)) → IsNodeAt bank r old
     → KeepsState Does old.replica state new → HasState bank (seen_node old) (option_map (λ kept. kept.1) state)
 has_state bank r old new None is keeps = sym (state_kept old.replica new None keeps)
@@ -129,14 +129,14 @@ state_seen : (old : Node) (place : ℕ) (bytes : List ℕ) → numbered old.stat
     → numbered (seen_node old).states place ≡ Some (stated_length bytes)
 state_seen old place bytes here = numbered-map stated_length old.states place ∙ ap (option_map stated_length) here
 
--- what a state comes to, by whether the replica's log has as much
+-- what a state does, by whether the replica's log has as many entries
 state_does : (old : Node) (place : ℕ) (bytes : List ℕ) (behind : Bool) → numbered old.states place ≡ Some bytes
     → nat_le (stated_length bytes) (length_in (seen_node old)) ≡ behind
     → adopted (seen_node old) place ≡ state_by (seen_node old) (stated_length bytes) behind
 state_does old place bytes behind here is =
     ap (state_comes (seen_node old)) (state_seen old place bytes here) ∙ ap (state_by (seen_node old) (stated_length bytes)) is
 
--- a board on a state is of its length
+-- a board on a state has its length
 board_length : (opening : Balances) (origin : Origin) (bytes : List ℕ) (board : BoardOf Op) → IsLogOn opening origin (Some bytes) board
     → length_of board ≡ stated_length bytes
 board_length opening origin bytes board on =
@@ -179,14 +179,14 @@ stays_ahead bank r old new place bytes own is here adopts =
     (le-leb (stated_length bytes) (length_in (seen_node old)) (omega (arith, own_is, count, size_is, fits, log)))
     ∙ ap (λ n. (seen_node old, note.Behind n)) (log ∙ sym own_is))
 
--- there is none
+-- there is no such state
 pub no_state : (bank : BankOf) (r : ℕ) (old : Node) (place : ℕ) → IsNodeAt bank r old → numbered old.states place ≡ None
     → Arrives bank r old note.Nothing (adopted (seen_node old) place)
 no_state bank r old place is none =
     node_stays bank r old old (adopted (seen_node old) place) note.Nothing is refl
     (ap (state_comes (seen_node old)) (numbered-map stated_length old.states place ∙ ap (option_map stated_length) none))
 
--- memory may be wanted for one that is there
+-- memory may be refused for a state that exists
 pub adopts_wanting : (old : Node) (place : ℕ) (bytes : List ℕ) → numbered old.states place ≡ Some bytes
     → may_take_memory (adopted (seen_node old) place).1 ≡ true
 adopts_wanting old place bytes here =

@@ -85,7 +85,7 @@ same_columns a b p q e =
     let both = same_by_cown a.savings a.checking b.savings b.checking p q e in
     ap (λ s. record { savings = s; checking = a.checking }) both.0 ∙ ap (λ c. record { savings = b.savings; checking = c }) both.1
 
--- the columns of a board beside the log, once all is done, are of the bank's customers
+-- the columns of a board along the log, once all is done, are of the bank's customers
 pub after_columns : (bank : BankOf) (board : BoardOf Op) (columns : Balances) → SameCustomers bank.names bank.opening
     → IsBoardAlong (held_of bank.opening) (ops_of bank) board → length columns.savings ≡ length columns.checking
     → IsAfterAll declared_cowns effect_of board columns → SameCustomers bank.names columns
@@ -158,7 +158,7 @@ told_of old end = record old { store = record old.store { next = end } }
 abbrev pub Does : MemoryStoreOf → StoreStep → MemoryStoreOf → Type 0
 Does = StoreDoes memory_model
 
--- what was put is a checkpoint beside the log
+-- what was put is a checkpoint along the log
 kept_now : (bank : BankOf) (r : ℕ) (old : Node) (end : How) (answer : Result (Unit {0}) StoreFault) (new : ReplicaOf MemoryStoreOf) → IsNodeAt bank r old
     → (puts : Puts Does (told_of old.replica end) answer new) → IsKeptAlong bank (Some puts.bytes)
 kept_now bank r old end answer new is puts =
@@ -268,14 +268,14 @@ marks_busy bank r old end new is (busy, same) =
     (subst (λ x. IsKeptAlong bank x.store.slot) (sym same) is.kept) (ap (λ x. kept_in x.store.slot) same)
     (busy_marks bank r old end is busy ∙ ap (λ x. (record (seen_node old) { cut = x.board.cut }, note.Unfinished)) (sym same))
 
--- memory is wanted only for a checkpoint that is put
+-- memory may be refused only for a checkpoint that is put
 wants_marked : (bank : BankOf) (r : ℕ) (old : Node) (end : How) (new : ReplicaOf MemoryStoreOf) → IsNodeAt bank r old
     → IsMarkFaultOf Does (told_of old.replica end) fault.OutOfMemory new → may_take_memory (marked (seen_node old) end).1 ≡ true
 wants_marked bank r old end new is refused =
     ap (λ moved. may_take_memory moved.1) (idle_marks bank r old end is refused.0)
     ∙ puts (seen_node old) (length_of (up_to_cut old.replica.board)) end
 
--- where memory was refused nothing that the machine sees changed
+-- if memory was refused nothing that the machine sees changed
 pub mark_refused : (bank : BankOf) (r : ℕ) (old : Node) (end : How) (new : ReplicaOf MemoryStoreOf) → IsNodeAt bank r old
     → IsMarkFaultOf Does (told_of old.replica end) fault.OutOfMemory new
     → IsAsBefore bank r old (record old { replica = new }) × (may_take_memory (marked (seen_node old) end).1 ≡ true)
@@ -305,7 +305,7 @@ pub kept_of : (bank : BankOf) (slot : Option (List ℕ)) (checkpoint : Checkpoin
 kept_of bank None checkpoint is = ap (λ c. length c.replies) (sym is)
 kept_of bank (Some bytes) checkpoint is = let back = read_back Second (opening_total bank) checkpoint bytes is.0 in back.count
 
--- a new board on what is stored, or on a state, and no op is held: it begins at that length
+-- a new board on what is stored, or on a state, with no op held: the replica begins at that length
 pub begins_on : (bank : BankOf) (r : ℕ) (old : Node) (new : ReplicaOf MemoryStoreOf) (slot : Option (List ℕ)) (size : ℕ)
     (noted : ℕ → Note) (moved : NodeOf × Note) → IsNodeAt bank r old → IsKeptAlong bank slot
     → IsLogOn old.replica.opening (origin_of old.replica) slot new.board → size ≡ length_of new.board → KeepsBeside old.replica new
@@ -379,7 +379,7 @@ never_bad bank r old new bad is (same, inr refused) =
     (subst (λ opening. first_fault why.0 (origin_at bank.names opening) ≡ Some bad) is.opening
     (subst (λ names. first_fault why.0 (origin_at names old.replica.opening) ≡ Some bad) is.names why.3))
 
--- where a restart, or a look at what is stored, fails, nothing changed
+-- if a restart, or a read of what is stored, fails, nothing changed
 pub restart_same : (old new : ReplicaOf MemoryStoreOf) (fault : RestartFault) → IsRestartFaultOf Does old fault new → new ≡ old
 restart_same old new fault refused = refused.0 ∙ ap (λ s. record old { store = s }) (by refused.1)
   where

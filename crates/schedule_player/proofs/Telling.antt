@@ -1,4 +1,4 @@
--- A replica tells, and hears.
+-- A replica sends frames, and hears them.
 use Rattle.std.proofs.Common.{◌≡◌, true, ℕ, zero, suc, ◌≤◌, Option, Some, None, Result, Ok, Err, List, [], ◌∷◌, ◌++◌, length, refl, sym, ap, subst, ◌∙◌, arith}
 use Rattle.std.specs.Prelude.{option_map, if◌then◌else◌}
 use Rattle.std.proofs.lemmas.Bool.{eq-eqb}
@@ -43,7 +43,7 @@ use Rattle.schedule_player.proofs.SentFrames.{decoded_whole}
 use Rattle.schedule_player.proofs.Stages.{length-map, length_stages}
 use Rattle.schedule_player.proofs.Working.{answers_so}
 
--- ---- telling
+-- ---- sending
 
 pub tells_frame : (bank : BankOf) (r : ℕ) (old : Node) (outbound : List Frame) (told : Frame) (place : ℕ) (moved : NodeOf × Note)
     → IsNodeAt bank r old → outbound ≡ old.outbound ++ told ∷ [] → place ≡ length outbound → IsToldBy bank r told
@@ -132,7 +132,7 @@ answers_reply bank r old outbound told n place is t e p = by (reply_in_node bank
         (subst (IsToldBy bank r) (sym (some_is some)) (held_by_log bank n (numbered (stages_of old.replica.board) n) reply held))
         (ap (told_reply (seen_node old) n) held ∙ ap (tells (seen_node old)) (sym (some_is some)))
 
--- memory may be wanted for a reply that is held
+-- memory may be refused for a reply that is held
 pub answers_wanting : (bank : BankOf) (r : ℕ) (old : Node) (n : ℕ) (told : Frame) → IsNodeAt bank r old
     → Some told ≡ option_map (frame.Answer n) (reply_in old.replica.board n) → may_take_memory (answered bank (seen_node old) n).1 ≡ true
 answers_wanting bank r old n told is t =
@@ -180,7 +180,7 @@ sends_all bank r old inbound entries count is all e size =
 
 -- ---- hearing
 
--- bytes that spell a frame are wholly that frame
+-- bytes that spell a frame are exactly that frame
 pub whole_spelled : (sent : Frame) (bytes : List ℕ) → Spells sent bytes → whole_frame bytes ≡ Ok sent
 whole_spelled sent bytes spelled =
     ap (all_of (length bytes)) (decoded_whole sent bytes spelled)
@@ -193,11 +193,11 @@ pub number_within : (calls : List Call) (n : ℕ) (call : Call) → numbered cal
 number_within calls zero call here = absurd (none_some here)
 number_within calls (suc k) call here = let lt = slice_get_within calls k call here in omega (arith, lt)
 
--- the replica's log, beside the whole one
+-- the replica's log, compared with the whole one
 log_along : (bank : BankOf) (r : ℕ) (node : Node) → IsNodeAt bank r node → IsLogAlong bank (log_of node.replica)
 log_along bank r node is = record { board = is.board; held = is.held }
 
--- a replica whose log alone changes
+-- only the replica's log changes
 arrives_so : (bank : BankOf) (r : ℕ) (old : Node) (new : ReplicaOf MemoryStoreOf) (log : LogOf) (n : Note) (moved : NodeOf × Note)
     → IsNodeAt bank r old → new ≡ with_log old.replica log → IsLogAlong bank log
     → moved ≡ (seeing (seen_node old) log, n) → Arrives bank r (record old { replica = new }) n moved
@@ -239,7 +239,7 @@ delivers bank r old new place bytes sent answer is here spelled hears =
 ok_err : {x : Frame} {f : FrameFault} → ◌≡◌ {A = Result Frame FrameFault} (Ok x) (Err f) → ⊥
 ok_err h = cc
 
--- memory is wanted only for an entry that is accepted
+-- memory may be refused only for an entry that is accepted
 pub wants_delivered : (bank : BankOf) (r : ℕ) (old : Node) (place : ℕ) (bytes : List ℕ) (sent : Frame) (why : ReplicaFault)
     → IsNodeAt bank r old → numbered old.inbound place ≡ Some sent → Spells sent bytes → IsHearingFault old.replica bytes why
     → may_take_memory (delivered_to (seen_node old) place).1 ≡ true

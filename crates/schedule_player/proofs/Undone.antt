@@ -11,7 +11,7 @@ use Rattle.schedule_player.specs.Stage.{Stage, Waits, IsOut, IsDone, waits, is_u
 use Rattle.schedule_player.proofs.Lists.{some_is, none_some}
 use Rattle.schedule_player.proofs.Stages.{count_more}
 
--- one that is done now makes one less undone
+-- an entry that becomes done makes one less undone
 pub undone-set : (stages : List Stage) (k : ℕ) (stage : Stage) → slice_get stages k ≡ Some stage → is_undone stage ≡ true
     → suc (count_by is_undone (slice_set stages k IsDone)) ≡ count_by is_undone stages
 undone-set [] k stage here undone = absurd (none_some here)
@@ -26,7 +26,7 @@ undone-set (x ∷ xs) (suc k) stage here undone =
     let rest = undone-set xs k stage here undone in
     omega (arith, all, left, rest)
 
--- where none is undone all are done
+-- if none is undone all are done
 pub all_done : (stages : List Stage) → count_by is_undone stages ≡ 0 → stages ≡ copies (length stages) IsDone
 all_done [] none = refl
 all_done (Waits ∷ stages) none = absurd (let all = count_more is_undone Waits stages in omega (arith, all, none))
@@ -43,7 +43,7 @@ none_undone (x ∷ xs) none =
     let rest = none_undone xs (λ k lt. none (suc k) (omega (arith, lt))) in
     omega (arith, all, first, rest)
 
--- there is none, or a first one
+-- no entry is undone, or there is a first one
 least : (f : ℕ → Bool) (m : ℕ) → (none_below f m ≡ true) ⊎ ((k : ℕ) × (k < m) × (f k ≡ true) × (none_below f k ≡ true))
 least f zero = inl refl
 least f (suc m) = elim (least f m) [
@@ -66,7 +66,7 @@ waits_not (Some Waits) not_undone = not_undone
 waits_not (Some IsOut) not_undone = refl
 waits_not (Some IsDone) not_undone = refl
 
--- where nothing is out and something is undone, the first that may run is one that waits
+-- if nothing is out and something is undone, the first that may run is one that waits
 pub first_runs : (bank : BankOf) (stages : List Stage) → ((k : ℕ) → slice_get stages k ≡ Some IsOut → ⊥) → 0 < count_by is_undone stages
     → (k : ℕ) × (slice_get stages k ≡ Some Waits) × (slice_get (runnable bank stages) 0 ≡ Some k)
 unfolding runnable

@@ -40,7 +40,8 @@ abbrev Fits : ℕ → Frame → Type 0
 Fits size (frame.Entry n call) = n ≤ size
 Fits size other = Unit {0}
 
--- a replica of so many entries, with this kept, cut, held and sent to it, has none past so many, and no state of more
+-- a replica with this many entries, and with this kept, cut, held and sent to it, has nothing
+-- beyond this many
 record Within (size count kept : ℕ) (cut : Option ℕ) (held : List Bool) (inbound : List Frame) (states : List ℕ) : Type 0 where
   count_in : count ≤ size
   kept_in : kept ≤ size
@@ -173,7 +174,7 @@ module _ (size : ℕ) where
     states_in = is.states_in;
   }
 
-  -- so many are kept
+  -- this many are kept
   keeping : (node : NodeOf) (n : ℕ) → n ≤ size → IsWithin size node → IsWithin size (record node { kept = n })
   keeping node n le is = record {
     count_in = is.count_in;
@@ -206,7 +207,7 @@ module _ (size : ℕ) where
   none_of (suc n) zero here = true≢false (sym (some_is here))
   none_of (suc n) (suc k) here = none_of n k here
 
-  -- it begins at a length that isn't past
+  -- it begins at a length within the log
   begins : (node : NodeOf) (n : ℕ) → n ≤ size → IsWithin size node → IsWithin size (begun_at node n)
   begins node n le is = record {
     count_in = let same = length-copies n IsDone in omega (arith, same, le);
@@ -217,7 +218,7 @@ module _ (size : ℕ) where
     states_in = is.states_in;
   }
 
-  -- a state comes
+  -- a state arrives
   adopts_by : (node : NodeOf) (n : ℕ) (behind : Bool) → n ≤ size → IsWithin size node → IsWithin size (state_by node n behind).0
   adopts_by node n true le is = is
   adopts_by node n false le is = begins node n le is

@@ -1,4 +1,4 @@
--- Where memory may be wanted, and moves by their tests.
+-- When memory may be refused, and moves by their tests.
 use Rattle.std.proofs.Common.{◌≡◌, ◌≢◌, Bool, true, false, ℕ, Option, Some, None, refl, sym, ap, ◌∙◌}
 use Rattle.std.specs.Prelude.{slice_get, nat_le, if◌then◌else◌}
 use Rattle.std.proofs.lemmas.Bool.{true≢false}
@@ -21,7 +21,7 @@ use Rattle.schedule_player.proofs.Lists.{none_some}
 
 -- ---- what each event does at a replica
 
--- what the next entry comes to, and any entry, by these tests
+-- what the next entry does, and any entry, by these tests
 abbrev pub next_by : NodeOf → ℕ → Bool → NodeOf × Note
 next_by node n full = if full then (node, note.Busy (length_in node)) else (accepts node, note.Accepted n)
 
@@ -37,7 +37,7 @@ replies node n None there = absurd (there refl)
 pub answers_so : (bank : BankOf) (node : NodeOf) (n : ℕ) → reply_in_node bank node n ≢ None → may_take_memory (answered bank node n).1 ≡ true
 answers_so bank node n there = replies node n (reply_in_node bank node n) there
 
--- what a mark of so many entries comes to
+-- what a mark of this many entries does
 abbrev pub mark_by : NodeOf → ℕ → How → Bool → NodeOf × Note
 mark_by node size end idle = if idle then put_ends node size end else (node, note.Unfinished)
 
@@ -46,11 +46,11 @@ puts node size how.Ok = refl
 puts node size how.Old = refl
 puts node size how.New = refl
 
--- a cut is made where there is none
+-- a cut is made if there is none
 pub cuts : (node : NodeOf) → node.cut ≡ None → may_take_memory (cut_off node).1 ≡ true
 cuts node none = ap (λ cut. may_take_memory (cut_after node cut).1) none
 
--- what a state of so many entries comes to, and one that is given, by these tests
+-- what a state of this many entries does, and one that is given, by these tests
 abbrev pub state_by : NodeOf → ℕ → Bool → NodeOf × Note
 state_by node size behind = if behind then (node, note.Behind (length_in node)) else (begun_at node size, note.Adopted size)
 
@@ -61,13 +61,13 @@ state_wants : (node : NodeOf) (size : ℕ) (behind : Bool) → may_take_memory (
 state_wants node size true = refl
 state_wants node size false = refl
 
--- a state that is there may want memory
+-- memory may be refused for a state that exists
 pub adopts_so : (node : NodeOf) (size : ℕ) → may_take_memory (state_comes node (Some size)).1 ≡ true
 adopts_so node size = state_wants node size (nat_le size (length_in node))
 
 -- ---- a worker's part never takes memory
 
--- a note that may come, and takes no memory
+-- a note that may result, and takes no memory
 abbrev pub IsQuiet : Note → Type 0
 IsQuiet n = (may_come n ≡ true) × (may_take_memory n ≡ false)
 

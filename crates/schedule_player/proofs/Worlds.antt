@@ -63,7 +63,7 @@ opened_so names opening nodes workers all s same few some_worker few_workers is 
       answers = λ k reply here. absurd (none_some here);
     })
 
--- ---- what is so of it
+-- ---- what holds of it
 
 -- a replica that the machine sees is one of the code
 pub seen_is : (bank : BankOf) (nodes : List Node) (r : ℕ) (one : NodeOf)

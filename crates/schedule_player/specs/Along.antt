@@ -1,4 +1,4 @@
--- What a replica holds, beside the whole log run one by one.
+-- What a replica holds, compared with the whole log run one by one.
 use Rattle.std.specs.Prelude.{◌≡◌, ℕ, suc, ◌+◌, ◌≤◌, ℤ, Option, Some, List, ◌++◌, length, slice_get}
 use Rattle.sb_calls.specs.Behaviour.{declared_cowns, effect_of}
 use Rattle.sb_calls.specs.Cowns.{held_of}
@@ -10,15 +10,15 @@ use Rattle.cown_board.specs.Board.{BoardOf, length_of}
 use Rattle.cown_board.specs.Job.{JobOf}
 use Rattle.cown_board.specs.declared.state.State.TheVariants.{Finished}
 
--- for what the cowns held at the opening, and all ops of the log
+-- given what the cowns held at the opening, and all ops of the log
 module _ (opening : List ℤ) (log : List Op) where
-  -- the replies to the numbers from 1 on
+  -- these are the log's replies to the numbers from 1 on
   abbrev pub AreReplies : List Reply → Type 0
   AreReplies replies = (k : ℕ) (reply : Reply) → slice_get replies k ≡ Some reply
       → reply_by_log declared_cowns effect_of opening log (suc k) ≡ Some reply
 
-  -- the board's log is a part of the whole log, and it was opened on what the log before this part leaves; its cut is
-  -- within its own numbers
+  -- the board's log is a part of the whole log; the board was opened on what the log before this
+  -- part leaves, and its cut is within its own numbers
   pub record IsBoardAlong (board : BoardOf Op) : Type 0 where
     pub before : List Op
     pub later : List Op
@@ -32,7 +32,7 @@ module _ (opening : List ℤ) (log : List Op) where
     pub cut : (number : ℕ) → board.cut ≡ Some number
         → (length board.earlier ≤ number) × (number ≤ length_of board)
 
-  -- the job is of an op of the log, on what the log before it leaves
+  -- the job is of an op of the log, with the inputs that the log before that op leaves
   pub record IsJobAlong (job : JobOf Op) : Type 0 where
     pub place : ℕ
     pub number : job.number ≡ suc place
@@ -41,14 +41,15 @@ module _ (opening : List ℤ) (log : List Op) where
         ≡ inputs_of declared_cowns effect_of
         (held_after_first declared_cowns effect_of opening log place) job.behaviour
 
-  -- the checkpoint is what the log up to its length leaves and replies
+  -- the checkpoint has what the log up to its length leaves and replies
   pub record IsCheckpointAlong (checkpoint : CheckpointOf) : Type 0 where
     pub within : length checkpoint.replies ≤ length log
     pub columns : held_of checkpoint.columns
         ≡ held_after_first declared_cowns effect_of opening log (length checkpoint.replies)
     pub replies : AreReplies checkpoint.replies
 
--- what is held after the first so many entries of the log, the next number first, is the log's at its number
+-- each op held for a later number is the log's op of that number; the first of the list is for the
+-- next number after these entries
 abbrev pub AreHeldAlong : List Op → ℕ → List (Option Op) → Type 0
 AreHeldAlong log size held =
     (k : ℕ) (op : Op) → slice_get held k ≡ Some (Some op) → slice_get log (size + k) ≡ Some op

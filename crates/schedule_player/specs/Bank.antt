@@ -1,4 +1,4 @@
--- The bank that a schedule is about: what it opened with, and the calls of the log.
+-- The bank that a schedule is about: its opening, and the calls of the log.
 use Rattle.std.specs.Prelude.{ℕ, ℤ, ◌+ℤ◌, Option, List}
 use Rattle.sb_rows.specs.Balances.{Balances}
 use Rattle.sb_rows.specs.Rows.{Rows, rows_of}
@@ -7,7 +7,7 @@ use Rattle.sb_calls.specs.declared.call.Call.{Call}
 use Rattle.sb_calls.specs.declared.reply.Reply.{Reply}
 use Rattle.lane_audit.specs.Columns.{total}
 
--- the customers' names and balances at the opening, and the calls, numbered from 1
+-- the customers' names, their balances at the opening, and the calls, numbered from 1
 pub record BankOf : Type 0 where
   pub names : List (List ℕ)
   pub opening : Balances
@@ -16,14 +16,14 @@ pub record BankOf : Type 0 where
 abbrev pub opening_rows : BankOf → Rows
 opening_rows bank = rows_of bank.names bank.opening
 
--- what all customers had together at the opening
+-- the total of all customers' balances at the opening
 abbrev pub opening_total : BankOf → ℤ
 opening_total bank = total bank.opening.savings +ℤ total bank.opening.checking
 
--- the reply to a number: that of the calls run one by one
+-- the reply to a number, with the calls run one by one
 abbrev pub log_reply : BankOf → ℕ → Option Reply
 log_reply bank number = reply_to (opening_rows bank) bank.calls number
 
--- the rows after so many calls, run one by one
+-- the rows after this many calls, run one by one
 abbrev pub log_rows : BankOf → ℕ → Rows
 log_rows bank size = rows_after_calls (opening_rows bank) bank.calls size

@@ -6,13 +6,13 @@ use Rattle.sb_calls.specs.declared.reply.Reply.{Reply}
 use Rattle.sb_checkpoint.specs.Checkpoint.{CheckpointOf, Second, Spells}
 use Rattle.schedule_player.specs.Bank.{BankOf, log_reply, log_rows, opening_total}
 
--- the columns are of its customers, and their rows are those after so many calls
+-- the columns are of the bank's customers, and their rows are those after this many calls
 pub record IsRowsAt (bank : BankOf) (size : ℕ) (columns : Balances) : Type 0 where
   pub customers : SameCustomers bank.names columns
   pub rows : rows_of bank.names columns ≡ log_rows bank size
 
--- bytes are the checkpoint of a bank after so many calls, in the second layout: its rows, what it opened with, and the
--- replies to the numbers up to there
+-- the bytes are the bank's checkpoint after this many calls, in the second layout: its rows, its
+-- opening total, and the replies to the numbers up to there
 pub record IsStateAt (bank : BankOf) (size : ℕ) (bytes : List ℕ) : Type 0 where
   pub checkpoint : CheckpointOf
   pub spelled : Spells Second (opening_total bank) checkpoint bytes

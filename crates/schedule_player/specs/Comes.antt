@@ -1,11 +1,11 @@
--- The notes that may come of an event.
+-- The notes that may result from an event.
 use Rattle.std.specs.Prelude.{Bool, true, false}
 use Rattle.schedule_text.specs.declared.note.AuditNote.{AuditNote}
 use Rattle.schedule_text.specs.declared.note.AuditNote.TheVariants as audit
 use Rattle.schedule_text.specs.declared.note.Note.{Note}
 use Rattle.schedule_text.specs.declared.note.Note.TheVariants as note
 
--- two replicas of one length never differ, and are never off the books
+-- two replicas of one length never differ, and never disagree with the books
 abbrev pub audit_may_come : AuditNote → Bool
 audit_may_come (audit.Differ column place) = false
 audit_may_come (audit.OffBooks total expected) = false
@@ -13,7 +13,7 @@ audit_may_come (audit.Busy replica) = true
 audit_may_come (audit.Apart first second) = true
 audit_may_come (audit.Same total overdrawn) = true
 
--- no length and no reply is odd, and each reply is to a number of the log
+-- no length or reply is odd, and each reply is to a number of the log
 abbrev pub may_come : Note → Bool
 may_come note.Odd = false
 may_come (note.OddAnswer number) = false

@@ -10,7 +10,7 @@ use Rattle.schedule_player.specs.Stage.{IsDone}
 use Rattle.schedule_player.specs.World.{WorldOf}
 use Rattle.schedule_text.specs.ScheduleText.{ScheduleOf}
 
--- what is so of a world in which the events of a schedule happened
+-- what holds in a world after exactly the events of a schedule
 pub record IsReplicated (schedule : ScheduleOf) (world : WorldOf) : Type 0 where
   -- the log is the first asks of the events
   pub log : world.sequencer.log ≡ log_of schedule.events
@@ -20,12 +20,13 @@ pub record IsReplicated (schedule : ScheduleOf) (world : WorldOf) : Type 0 where
   -- it is the reply that running the log one by one gives
   pub by_log : (r number : ℕ) (reply : Reply) → reply_at world r number ≡ Some reply
       → log_reply (bank_after schedule) number ≡ Some reply
-  -- a replica holds one to each number that is done at it
+  -- a replica holds a reply to each number that is done at it
   pub replied : (r number : ℕ) (node : NodeOf) → slice_get world.nodes r ≡ Some node
       → numbered node.stages number ≡ Some IsDone → (reply : Reply) × (reply_at world r number ≡ Some reply)
-  -- and has at most as many entries as the log
+  -- it has at most as many entries as the log
   pub within : (r size : ℕ) → length_at world r ≡ Some size → size ≤ length (log_of schedule.events)
 
--- after whatever schedule: an opening, so many replicas with so many workers each, and the events in order
+-- it holds after every schedule: an opening, a number of replicas, a number of workers for each,
+-- and events in order
 abbrev pub Replication : Type 0
 Replication = (schedule : ScheduleOf) (world : WorldOf) → IsPlayed schedule world → IsReplicated schedule world

@@ -1,4 +1,4 @@
--- What the sequencer makes of a frame.
+-- What the sequencer does with a frame.
 use Rattle.std.specs.Prelude.{◌≡◌, ℕ}
 use Rattle.sb_frames.specs.declared.frame.Frame.{Frame}
 use Rattle.sb_frames.specs.declared.frame.Frame.TheVariants as frame
@@ -13,7 +13,7 @@ use Rattle.sb_sequencer.specs.declared.note.HaveNote.TheVariants as haves
 use Rattle.schedule_text.specs.declared.note.Note.{Note}
 use Rattle.schedule_text.specs.declared.note.Note.TheVariants as note
 
--- how it notes a log's length, a checkpoint's, and a reply
+-- its note on the length of a log, on that of a checkpoint, and on a reply
 abbrev pub ack_noted : ℕ → AckNote → Note
 ack_noted size acks.Recorded = note.Recorded size
 ack_noted size acks.Odd = note.Odd
@@ -28,7 +28,7 @@ answer_noted number answers.Repeat = note.Repeat number
 answer_noted number answers.Odd = note.OddAnswer number
 answer_noted number answers.Unknown = note.Unknown number
 
--- only what a replica tells is heard
+-- it hears only the frames that replicas send
 abbrev pub HearsFrame : SequencerOf → Frame → Note → SequencerOf → Type 0
 HearsFrame old (frame.Ack replica size) noted new =
     (noted ≡ ack_noted size (hears_ack old replica size)) × (new ≡ after_ack old replica size)

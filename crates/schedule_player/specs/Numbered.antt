@@ -10,11 +10,11 @@ abbrev pub with_numbered : {A : Type 0} → List A → ℕ → A → List A
 with_numbered items zero item = items
 with_numbered items (suc k) item = slice_set items k item
 
--- so many of one item
+-- a list of this many copies of one item
 abbrev pub copies : {A : Type 0} → ℕ → A → List A
 copies zero item = []
 copies (suc n) item = item ∷ copies n item
 
--- it is so of each item
+-- it holds of every item
 abbrev pub Every : {A : Type 0} → (A → Type 0) → List A → Type 0
 Every {A} P items = (k : ℕ) (item : A) → slice_get items k ≡ Some item → P item

@@ -1,4 +1,4 @@
--- Events one after the other.
+-- Events, one after another.
 use Rattle.std.specs.Prelude.{◌≡◌, ℕ, Option, Some, None, List, [], ◌∷◌, ◌++◌}
 use Rattle.std.specs.List.{filter_map}
 use Rattle.sb_rows.specs.Balances.{Balances}
@@ -12,7 +12,7 @@ use Rattle.schedule_text.specs.declared.event.Event.{Event}
 use Rattle.schedule_text.specs.declared.event.Event.TheVariants as event
 use Rattle.schedule_text.specs.declared.note.Note.{Note}
 
--- the machine goes from one world to another by these events, with these notes
+-- the machine goes from the old world to the new one by these events, with these notes
 abbrev pub Plays : WorldOf → List Event → List Note → WorldOf → Type 0
 Plays old [] [] new = new ≡ old
 Plays old [] (note ∷ notes) new = ⊥
@@ -20,7 +20,7 @@ Plays old (event ∷ events) [] new = ⊥
 Plays old (event ∷ events) (note ∷ notes) new =
     (next : WorldOf) × Moves old event note next × Plays next events notes new
 
--- what an event asks, if it is an ask
+-- the request in an event, if it is an ask
 abbrev pub ask_in : Event → Option (Key × Call)
 ask_in (event.Ask client request call) = Some (record { client = client; request = request }, call)
 ask_in other = None
@@ -29,20 +29,20 @@ ask_in other = None
 abbrev pub log_of : List Event → List (Key × Call)
 log_of events = first_asks (filter_map ask_in events)
 
--- the bank whose calls a schedule's events ask
+-- the bank with the calls that a schedule's events ask for
 abbrev pub bank_after : ScheduleOf → BankOf
 bank_after schedule = bank_with schedule.names schedule.balances (log_of schedule.events)
 
--- a world in which a schedule's events happened, and nothing else, since its opening
+-- a world after exactly a schedule's events, from its opening
 pub record IsPlayed (schedule : ScheduleOf) (world : WorldOf) : Type 0 where
   pub notes : List Note
   pub plays : Plays (opened_world schedule) schedule.events notes world
 
--- a schedule that has no event yet
+-- a schedule without events
 abbrev pub no_events : List (List ℕ) → Balances → ℕ → ℕ → ScheduleOf
 no_events names balances nodes workers =
     record { nodes = nodes; workers = workers; names = names; balances = balances; events = [] }
 
--- a schedule with events after its own
+-- a schedule with more events after its own
 abbrev pub with_events : ScheduleOf → List Event → ScheduleOf
 with_events schedule more = record schedule { events = schedule.events ++ more }

@@ -18,27 +18,27 @@ same_place (Checking a) (Checking b) = bytes_eq a b
 abbrev pub share_place : List BalancePlace → List BalancePlace → Bool
 share_place these others = list_any (λ place. list_any (same_place place) others) these
 
--- the balances that a call touches; none where there is no call
+-- the balances that a call touches; none if there is no call
 abbrev pub touched_in : BankOf → Option Call → List BalancePlace
 touched_in bank None = []
 touched_in bank (Some call) = touched (opening_rows bank) call
 
--- whether the calls at two places of the log, counted from 0, touch a balance in common
+-- whether the calls at two places of the log, counted from 0, touch a common balance
 abbrev pub conflict_between : BankOf → ℕ → ℕ → Bool
 conflict_between bank j k =
     share_place (touched_in bank (slice_get bank.calls j)) (touched_in bank (slice_get bank.calls k))
 
--- what is so of the stage at a place; where there is none, nothing is
+-- whether there is a stage at a place, and it passes this test
 abbrev pub stage_is : (Stage → Bool) → Option Stage → Bool
 stage_is test None = false
 stage_is test (Some stage) = test stage
 
--- an entry may run once it waits and no undone one before it touches a balance that it touches
+-- an entry may run if it waits and no undone entry before it touches a balance that it touches
 abbrev pub may_run : BankOf → List Stage → ℕ → Bool
 may_run bank stages k =
     stage_is waits (slice_get stages k)
     && none_below (λ j. stage_is is_undone (slice_get stages j) && conflict_between bank j k) k
 
--- the places of those that may run, in rising order
+-- the places of the entries that may run, in rising order
 unfoldable pub runnable : BankOf → List Stage → List ℕ
 runnable bank stages = places (may_run bank stages) (length stages)

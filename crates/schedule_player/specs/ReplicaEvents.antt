@@ -1,4 +1,4 @@
--- The reference machine: at which replica an event happens, and what it does there.
+-- The reference machine: the replica at which an event happens, and what the event does there.
 use Rattle.std.specs.Prelude.{ℕ, Option, Some, None}
 use Rattle.sb_sequencer.specs.Entries.{entry_of, resent}
 use Rattle.sb_sequencer.specs.Sequencer.{SequencerOf}
@@ -9,7 +9,8 @@ use Rattle.schedule_text.specs.declared.event.Event.TheVariants as event
 use Rattle.schedule_text.specs.declared.note.Note.{Note}
 use Rattle.schedule_text.specs.declared.note.Note.TheVariants as note
 
--- an ask, what the sequencer hears or is asked, a state that is given and an audit happen at none
+-- an ask, a frame to the sequencer, a question about donors, a give and an audit happen at no
+-- replica
 abbrev pub replica_of : Event → Option ℕ
 replica_of (event.Send r number) = Some r
 replica_of (event.Resend r) = Some r
@@ -26,7 +27,7 @@ replica_of (event.Have r) = Some r
 replica_of (event.Adopt r place) = Some r
 replica_of other = None
 
--- what an event does at its replica, with the bank and the sequencer as they are
+-- what an event does at its replica, given the bank and the sequencer
 abbrev pub node_move : BankOf → SequencerOf → NodeOf → Event → NodeOf × Note
 node_move bank sequencer node (event.Send r number) = sent node (entry_of sequencer.log number)
 node_move bank sequencer node (event.Resend r) = sent_all node (resent sequencer r)

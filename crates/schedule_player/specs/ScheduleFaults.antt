@@ -1,4 +1,4 @@
--- What a fault of a schedule says.
+-- What a fault of a schedule means.
 use Rattle.std.specs.Prelude.{◌≡◌, ℕ, Option, Result, Err, List}
 use Rattle.std.specs.Io.KnownBytes.{Keeps}
 use Rattle.sb_text.specs.declared.input.ReadFault.{ReadFault}
@@ -9,13 +9,13 @@ use Rattle.schedule_text.specs.declared.fault.ScheduleLineFault.{ScheduleLineFau
 use Rattle.schedule_text.specs.declared.fault.TextFault.{TextFault}
 use Rattle.schedule_text.specs.declared.fault.TextFault.TheVariants as text
 
--- a line's fault is the first of the text
+-- a fault of a line is the first one in the text
 abbrev pub Blames : {A : Type 0} → ScheduleFault → Result A (ℕ × ScheduleLineFault) → Type 0
 Blames (Input line fault) read = read ≡ Err (line, fault)
 Blames Device read = Unit {0}
 Blames OutOfMemory read = Unit {0}
 
--- the same of a text that is in memory already: no device has a part in it
+-- the same for a text in memory, where no device can fail
 abbrev pub BlamesText : {A : Type 0} → ScheduleFault → Result A (ℕ × ScheduleLineFault) → Type 0
 BlamesText (Input line fault) read = read ≡ Err (line, fault)
 BlamesText Device read = ⊥
@@ -33,7 +33,7 @@ schedule_fault_number (Input line fault) = 1
 schedule_fault_number Device = 2
 schedule_fault_number OutOfMemory = 3
 
--- of a text that isn't read, and of one that is at fault
+-- the fault for an input that can't be read, and for a text at fault
 abbrev pub of_read_fault : ReadFault → ScheduleFault
 of_read_fault reading.Device = Device
 of_read_fault reading.OutOfMemory = OutOfMemory

@@ -15,7 +15,7 @@ use Rattle.schedule_player.specs.Bank.{BankOf}
 use Rattle.schedule_player.specs.Numbered.{copies}
 use Rattle.schedule_player.specs.Stage.{Stage, Waits, IsOut, IsDone}
 
--- the frame that bytes begin with; where there is none, some frame that says nothing
+-- the frame that the bytes begin with, or a frame that says nothing if they begin with none
 abbrev pub frame_or_flush : Result (Frame × ℕ) FrameFault → Frame
 frame_or_flush (Ok found) = found.0
 frame_or_flush (Err fault) = frame.Flush
@@ -28,26 +28,26 @@ pub record IsSpelled (bytes : List ℕ) : Type 0 where
   pub frame : Frame
   pub spelled : Spells frame bytes
 
--- ---- where the entries of a board are
+-- ---- the stages of a board's entries
 
 abbrev pub stage_of : State → Stage
 stage_of Waiting = Waits
 stage_of Out = IsOut
 stage_of (Finished reply) = IsDone
 
--- what was replied before the board is done; the rest is where the board has it
+-- entries before the board's opening are done; the others are in the board's states
 abbrev pub stages_of : BoardOf Op → List Stage
 stages_of board = copies (length board.earlier) IsDone ++ map stage_of board.states
 
 -- ---- what is stored
 
--- the length that stored bytes state, 0 where there are none
+-- the length that the stored bytes state, 0 if there are none
 abbrev pub kept_in : Option (List ℕ) → ℕ
 kept_in None = 0
 kept_in (Some bytes) = stated_length bytes
 
 -- ---- the log by cowns
 
--- the calls with places for names
+-- the calls, with places for names
 abbrev pub ops_of : BankOf → List Op
 ops_of bank = map (resolved bank.names) bank.calls

@@ -1,12 +1,12 @@
--- Who has what is out.
+-- Who has the entries that are out.
 use Rattle.std.specs.Prelude.{◌≡◌, ℕ, ◌≤◌, Option, Some, List, length}
 use Rattle.cown_bench.specs.declared.bench.TheConstants.{WORKERS}
 use Rattle.schedule_player.specs.Numbered.{numbered}
 use Rattle.schedule_player.specs.ReplicaMoves.{NodeOf}
 use Rattle.schedule_player.specs.Stage.{Stage, IsOut}
 
--- for where each entry is, and what each worker has in hand: there is a worker or more, as many as a replica may
--- have, and each entry that is out is in the hand of one
+-- given the stage of each entry and what each worker has in hand: there are from 1 worker up to as
+-- many as a replica may have, and each entry that is out is in a worker's hand
 pub record AreInHands (stages : List Stage) (hands : List (Option ℕ)) : Type 0 where
   pub some : 1 ≤ length hands
   pub few : length hands ≤ WORKERS

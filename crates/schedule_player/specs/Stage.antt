@@ -1,4 +1,4 @@
--- Where an accepted entry is.
+-- The stage of an accepted entry.
 use Rattle.std.specs.Prelude.{Bool, true, false}
 
 -- it waits for its turn, a worker has it, or it is done

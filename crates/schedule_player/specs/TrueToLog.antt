@@ -1,4 +1,4 @@
--- What is so of every world, whatever happened.
+-- What holds of every world, whatever happened.
 use Rattle.std.specs.Prelude.{◌≡◌, ◌⊎◌, ℕ, suc, ◌≤◌, Some, List, length, slice_get}
 use Rattle.sb_calls.specs.declared.reply.Reply.{Reply}
 use Rattle.sb_frames.specs.declared.frame.Frame.{Frame}
@@ -11,9 +11,10 @@ use Rattle.schedule_player.specs.ReplicaMoves.{NodeOf, length_in}
 use Rattle.schedule_player.specs.World.{WorldOf, bank_of}
 use Rattle.schedule_text.specs.ScheduleText.{ScheduleOf}
 
--- each replica has at most as many entries as the log; each frame to it is an entry of the log; each frame from it
--- tells a length up to the log's, of its log or of its checkpoint, under its own number, or the log's reply to a
--- number; each state that was sent to it is at most as long as the log; each answer that is kept is the log's reply
+-- each replica has at most as many entries as the log; each frame to it is an entry of the log;
+-- each frame from it has the length of its log or of its checkpoint, at most the log's, under its
+-- own number, or the log's reply to a number; each state that was sent to it is at most as long as
+-- the log; each answer that the sequencer keeps is the log's reply
 pub record IsTrueToLog (world : WorldOf) : Type 0 where
   pub within : (r : ℕ) (node : NodeOf) → slice_get world.nodes r ≡ Some node
       → length_in node ≤ length world.sequencer.log
@@ -26,20 +27,20 @@ pub record IsTrueToLog (world : WorldOf) : Type 0 where
   pub kept : (k : ℕ) (reply : Reply) → slice_get world.sequencer.answers k ≡ Some (Some reply)
       → log_reply (bank_of world) (suc k) ≡ Some reply
 
--- a length in a list of frames, in one of this kind
+-- a frame of this kind, with this length, is among those that the replica sent
 abbrev pub IsTold : (ℕ → ℕ → Frame) → NodeOf → ℕ → Type 0
 IsTold kind node size = (place replica : ℕ) × (slice_get node.outbound place ≡ Some (kind replica size))
 
--- each of these lengths, one a replica, is 0, or was told by its replica
+-- each of these lengths, one for each replica, is 0 or was sent by its replica
 abbrev pub WereTold : (ℕ → ℕ → Frame) → List NodeOf → List ℕ → Type 0
 WereTold kind nodes sizes = (r : ℕ) (node : NodeOf) (size : ℕ) → slice_get nodes r ≡ Some node
     → slice_get sizes r ≡ Some size → (size ≡ 0) ⊎ IsTold kind node size
 
--- the recorded lengths of logs by acknowledgements, and those of checkpoints by frames on what is kept
+-- recorded lengths of logs were sent in acknowledgements, and those of checkpoints in `Have` frames
 abbrev pub RecordsWereTold : WorldOf → Type 0
 RecordsWereTold world = WereTold frame.Ack world.nodes world.sequencer.recorded
     × WereTold frame.Have world.nodes world.sequencer.checkpoints
 
--- after whatever schedule
+-- it holds after every schedule
 abbrev pub RecordedLengths : Type 0
 RecordedLengths = (schedule : ScheduleOf) (world : WorldOf) → IsPlayed schedule world → RecordsWereTold world

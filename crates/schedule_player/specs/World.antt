@@ -25,18 +25,18 @@ use Rattle.schedule_text.specs.declared.note.AuditNote.TheVariants as audit
 use Rattle.schedule_text.specs.declared.note.Note.{Note}
 use Rattle.schedule_text.specs.declared.note.Note.TheVariants as note
 
--- the customers' names and balances at the opening, the sequencer, and the replicas
+-- the customers' names and their balances at the opening, the sequencer, and the replicas
 pub record WorldOf : Type 0 where
   pub names : List (List ℕ)
   pub opening : Balances
   pub sequencer : SequencerOf
   pub nodes : List NodeOf
 
--- the bank with this log
+-- the bank whose calls are this log's
 abbrev pub bank_with : List (List ℕ) → Balances → List (Key × Call) → BankOf
 bank_with names opening log = record { names = names; opening = opening; calls = map (λ entry. entry.1) log }
 
--- the bank, with the calls that were numbered
+-- the bank whose calls are those that were numbered
 abbrev pub bank_of : WorldOf → BankOf
 bank_of world = bank_with world.names world.opening world.sequencer.log
 
@@ -51,7 +51,7 @@ opened_world schedule = record {
 
 -- ---- what an event does
 
--- an ask, as the sequencer answers it
+-- an ask, by the sequencer's answer to it
 abbrev pub Asks : WorldOf → Key × Call → Note → WorldOf → Type 0
 Asks old ask (note.New n) new =
     IsAnswered old.sequencer.log ask (Ok (New n))
@@ -61,7 +61,7 @@ Asks old ask (note.Mismatch n) new = IsAnswered old.sequencer.log ask (Err (Mism
 Asks old ask note.LogFull new = IsAnswered old.sequencer.log ask (Err LogFull) × (new ≡ old)
 Asks old ask other new = ⊥
 
--- a replica moves; one that doesn't exist does nothing
+-- a replica moves; an event at one that doesn't exist does nothing
 abbrev pub placed : WorldOf → ℕ → NodeOf × Note → WorldOf × Note
 placed world r moved = (record world { nodes = slice_set world.nodes r moved.0 }, moved.1)
 
@@ -72,8 +72,8 @@ moved_if world r move None = (world, note.Nothing)
 abbrev pub moved_at : WorldOf → ℕ → (NodeOf → NodeOf × Note) → WorldOf × Note
 moved_at world r move = moved_if world r move (slice_get world.nodes r)
 
--- what a replica told comes to the sequencer: a length is recorded, that of its log or of its checkpoint; the first
--- answer to a number is kept
+-- a frame from a replica arrives at the sequencer: it records the length of a log or of a
+-- checkpoint, and keeps the first answer to a number
 abbrev pub keeps : WorldOf → ℕ → Reply → Option (Option Reply) → WorldOf × Note
 keeps world number reply (Some None) = (
   record world {
@@ -102,13 +102,14 @@ abbrev pub heard_from : WorldOf → ℕ → ℕ → Option NodeOf → WorldOf ×
 heard_from world r place (Some node) = told world r (numbered node.outbound place)
 heard_from world r place None = (world, note.Nothing)
 
--- the bank's books after so many calls: its total, and how many customers have less than 0 in checking
+-- the bank's books after this many calls: its total, and the number of customers whose checking
+-- balance is below 0
 abbrev pub books_after : BankOf → ℕ → AuditNote
 books_after bank size =
     let rows = listed bank.names (log_rows bank size) in
     audit.Same (total_of rows) (count_by (λ customer. int_lt customer.checking (pos 0)) rows)
 
--- two replicas are compared: the first case that holds
+-- two replicas are compared; the first case that holds decides
 abbrev pub compared : BankOf → ℕ → ℕ → NodeOf → NodeOf → AuditNote
 compared bank a b first second =
     if undone_in first == 0 then (
@@ -122,7 +123,7 @@ abbrev pub audited : BankOf → ℕ → ℕ → Option NodeOf → Option NodeOf 
 audited bank a b (Some first) (Some second) = note.Audit (compared bank a b first second)
 audited bank a b first second = note.Nothing
 
--- the state that a replica keeps, if it is of one entry or more, is sent to another
+-- the state that a replica keeps is sent to another, if it has at least one entry
 abbrev pub given_at : WorldOf → ℕ → ℕ → WorldOf × Note
 given_at world r size =
     if size == 0 then (world, note.Nothing) else moved_at world r (λ node. given node size)
@@ -133,7 +134,7 @@ given_from world r None = (world, note.Nothing)
 
 -- ---- all events but an ask and a donor
 
--- one at a replica moves it
+-- an event at a replica moves that replica
 abbrev pub replica_move : WorldOf → Event → Option ℕ → WorldOf × Note
 replica_move world happens (Some r) =
     moved_at world r (λ node. node_move (bank_of world) world.sequencer node happens)
@@ -146,28 +147,28 @@ moved world (event.Audit a b) =
     (world, audited (bank_of world) a b (slice_get world.nodes a) (slice_get world.nodes b))
 moved world other = replica_move world other (replica_of other)
 
--- from whom a replica gets a state, as the sequencer answers it
+-- the donor of a replica's state, as the sequencer names it
 abbrev pub IsDonorNoted : SequencerOf → ℕ → Note → Type 0
 IsDonorNoted s r (note.Donor donor size) = IsDonor s r (Some (donor, size))
 IsDonorNoted s r note.Nothing = IsDonor s r None
 IsDonorNoted s r other = ⊥
 
--- the machine goes from one world to another with this note
+-- the machine goes from the old world to the new one by this event, with this note
 abbrev pub Moves : WorldOf → Event → Note → WorldOf → Type 0
 Moves old (event.Ask client request call) note new =
     Asks old (record { client = client; request = request }, call) note new
 Moves old (event.Donor r) note new = IsDonorNoted old.sequencer r note × (new ≡ old)
 Moves old other note new = moved old other ≡ (new, note)
 
--- ---- where memory may be wanted
+-- ---- when memory may be refused
 
--- whether an audit comes to the books
+-- whether an audit adds up the books
 abbrev pub adds_up : AuditNote → Bool
 adds_up (audit.Same total overdrawn) = true
 adds_up other = false
 
--- the notes on what may take memory: a frame is sent, an entry accepted, a cut made, a checkpoint put or gone back to,
--- a state given or read, or the books are added up
+-- the notes on what may take memory: a frame is sent, an entry accepted, a cut made, a checkpoint
+-- put or gone back to, a state given or read, or the books are added up
 abbrev pub may_take_memory : Note → Bool
 may_take_memory (note.Sent place) = true
 may_take_memory (note.Resent count) = nat_lt 0 count
@@ -182,9 +183,10 @@ may_take_memory (note.Behind size) = true
 may_take_memory (note.Audit found) = adds_up found
 may_take_memory other = false
 
--- never for a take, a finish or what the sequencer hears or is asked of states; an ask wants it for a new number alone;
--- a give wherever both replicas exist, since a checkpoint of no entry is read too; and each other event only where the
--- machine's note on it is one of these
+-- when memory may be refused: never to a take, a finish, or what the sequencer hears or is asked of
+-- donors; to an ask only if it gets a new number; to a give if both replicas exist, since a
+-- checkpoint of no entry is read too; and to any other event only if the machine's note on it is
+-- one of these
 abbrev pub MayWantMemory : WorldOf → Event → Type 0
 MayWantMemory world (event.Ask client request call) =
     IsAnswered world.sequencer.log (record { client = client; request = request }, call) (Err OutOfMemory)
@@ -195,7 +197,7 @@ MayWantMemory world (event.Donor r) = ⊥
 MayWantMemory world (event.Give a r) = (a < length world.nodes) × (r < length world.nodes)
 MayWantMemory world other = IsTrue (may_take_memory (moved world other).1)
 
--- the next event may; after the last one there is none
+-- memory may be refused to the next event; after the last one there is none
 abbrev pub NextMayWantMemory : WorldOf → Option Event → Type 0
 NextMayWantMemory world (Some next) = MayWantMemory world next
 NextMayWantMemory world None = ⊥

@@ -1,4 +1,4 @@
--- A world of the code, beside its log.
+-- A world of the code, compared with its log.
 use Rattle.std.specs.Prelude.{◌≡◌, ℕ, suc, ◌≤◌, Some, List, length, slice_get}
 use Rattle.sb_rows.specs.Balances.{Balances}
 use Rattle.sb_rows.specs.Rows.{SameCustomers}
@@ -11,8 +11,8 @@ use Rattle.schedule_player.specs.Staffed.{IsStaffed}
 use Rattle.schedule_player.specs.World.{bank_with}
 use Rattle.schedule_player.specs.declared.node.Node.{Node}
 
--- each replica is one of this bank, with what is out in its workers' hands; each answer that is kept is the log's, and the
--- sequencer knows these replicas
+-- each replica is one of this bank, and its entries that are out are in its workers' hands; each
+-- answer that is kept is the log's, and the sequencer knows exactly these replicas
 pub record IsWorld (names : List (List ℕ)) (opening : Balances) (sequencer : SequencerOf)
     (nodes : List Node) : Type 0 where
   pub customers : SameCustomers names opening

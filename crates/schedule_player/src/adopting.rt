@@ -1,4 +1,4 @@
-//! What a replica has of the log goes to another one as a state.
+//! A replica's state goes to another one.
 ghost use Rattle.std.specs.Prelude.{◌≡◌, ℕ, IfOk};
 ghost use Rattle.std.specs.Option.{option_map};
 ghost use Rattle.sb_checkpoint.specs.Reading.{stated_length};
@@ -12,7 +12,7 @@ use sb_replica::Adopted;
 use schedule_text::Note;
 
 impl Node {
-    /// The replica sends how long the checkpoint is that it keeps.
+    /// The replica sends the length of the checkpoint that it keeps.
     pub fn have(&mut self) -> Result<Note, StepFault>
         ensures { (bank : BankOf) (r : ℕ) → IsNodeAt bank r self.old
             → Steps bank r self.old self.new result (told_kept (seen_node self.old) r) }
@@ -27,7 +27,8 @@ impl Node {
         }
     }
 
-    /// The bytes of the checkpoint that the replica keeps, if that has an entry. The replica stays as it is.
+    /// The bytes of the checkpoint that the replica keeps, if it has an entry. The replica stays as
+    /// it is.
     pub fn state(&mut self) -> Result<Option<Vec<u8>>, StepFault>
         ensures same { self.new ≡ self.old }
         ensures kept { (bank : BankOf) (r : ℕ) → IsNodeAt bank r self.old
@@ -52,8 +53,8 @@ impl Node {
         Ok(Note::Gave(place))
     }
 
-    /// The replica goes on from the state at a place of those that were sent to it, where that has more entries than its
-    /// log. Hands and frames stay.
+    /// The replica adopts the state at a place of those that were sent to it, if that has more
+    /// entries than its log. Hands and frames stay.
     pub fn adopt(&mut self, place: u32) -> Result<Note, StepFault>
         ensures { (bank : BankOf) (r : ℕ) → IsNodeAt bank r self.old
             → Steps bank r self.old self.new result (adopted (seen_node self.old) place) }
@@ -64,7 +65,7 @@ impl Node {
         match self.replica.adopt(bytes) {
             Ok(Adopted::Adopted(length)) => Ok(Note::Adopted(length)),
             Ok(Adopted::Behind(length)) => Ok(Note::Behind(length)),
-            // All that was sent is a checkpoint of this bank.
+            // Every state that was sent is a checkpoint of this bank.
             Err(_) => Err(StepFault::OutOfMemory),
         }
     }

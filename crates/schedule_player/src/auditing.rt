@@ -1,4 +1,4 @@
-//! Comparing two replicas, and one of them with the books.
+//! Compares two replicas with each other, and one of them with the books.
 ghost use Rattle.std.specs.Prelude.{◌≡◌, ◌<◌, ◌≤◌, Some, None, length, map, take, slice_get, IfOk, OnErr};
 ghost use Rattle.sb_rows.specs.Balances.{IsBalances};
 ghost use Rattle.sb_calls.specs.Log.{replies_to};
@@ -17,13 +17,13 @@ use sb_sequencer::Sequencer;
 use schedule_text::{AuditNote, Column};
 use std::alloc::{AllocError, Global};
 
-// Where two banks' columns differ first, the savings before the checking balances.
+// The first place at which two banks' columns differ; savings come before checking balances.
 fn first_place(left: &Columns, right: &Columns) -> Option<(Column, usize)>
     requires savings { length left.now.savings ≡ length right.now.savings }
     requires checking { length left.now.checking ≡ length right.now.checking }
     ensures { left.now ≡ right.now → result ≡ None }
 {
-    // The law says that a first difference is one.
+    // The law says that what is found is a first difference.
     least_difference();
     if let Some(place) = first_difference(left.savings(), right.savings()) {
         return Some((Column::Savings, place));
@@ -48,7 +48,8 @@ fn first_calls(alloc: Global, sequencer: &Sequencer, count: usize) -> Result<Vec
 }
 
 impl World {
-    // The bank's total with how many are overdrawn, unless it isn't what the opening and the calls make it.
+    // The bank's total with the number of overdrawn customers, or that the total isn't what the
+    // opening and the calls make it.
     fn books(&self, columns: &Columns, replies: &[Reply]) -> Result<AuditNote, AllocError>
         requires few { length replies.now ≤ length self.now.sequencer.log }
         requires rows { IsRowsAt (bank_of self.now) (length replies.now) columns.now }
@@ -65,10 +66,10 @@ impl World {
         }
     }
 
-    /// Compares two replicas, and the rows of the first one with the books: the opening's total and what each call of
-    /// the log added.
+    /// Compares two replicas, and the rows of the first with the books: the opening's total and
+    /// what each call of the log added.
     ///
-    /// Fails where memory is refused, which may be only where both are idle at one length.
+    /// Fails if memory is refused, which can happen only if both are idle at one length.
     pub fn audit(&self, first: u32, second: u32) -> Result<AuditNote, StepFault>
         requires replicas { (first < length self.now.nodes) × (second < length self.now.nodes) }
         ensures value { (one other : NodeOf) → slice_get self.now.nodes first ≡ Some one

@@ -11,7 +11,7 @@ use sb_sequencer::{REPLICAS, Sequencer};
 use schedule_text::{Event, Note};
 
 impl Node {
-    /// An event happens at the replica. What happens at none does nothing.
+    /// An event happens at the replica. An event that happens at no replica does nothing.
     pub fn step(&mut self, event: Event, sequencer: &Sequencer) -> Result<Note, StepFault>
         ensures { (names : List (List ℕ)) (opening : Balances) (r : ℕ) → r < REPLICAS → replica_of event ≡ Some r
             → IsNodeAt (bank_with names opening sequencer.now.log) r self.old

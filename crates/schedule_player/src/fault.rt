@@ -1,4 +1,5 @@
-//! Why an event isn't played, why not all are, and why a schedule isn't.
+//! Why an event isn't played, why a list of events isn't played to its end, and why a schedule
+//! isn't played.
 ghost use Rattle.std.specs.Prelude.{◌≡◌};
 ghost use Rattle.schedule_player.specs.ScheduleFaults.{of_read_fault, of_text_fault, schedule_fault_number};
 ghost use Rattle.schedule_player.specs.declared.fault.ScheduleFault.TheVariants as schedule;
@@ -8,7 +9,7 @@ use schedule_text::{ScheduleLineFault, TextFault};
 use std::alloc::AllocError;
 use thiserror::Error;
 
-/// Why an event isn't played. Everything is as before.
+/// Why an event isn't played. Nothing changed.
 #[derive(Clone, Copy, Debug, PartialEq, Eq, Error)]
 pub enum StepFault {
     /// Memory was refused.
@@ -22,26 +23,26 @@ impl From<AllocError> for StepFault {
     }
 }
 
-/// Why not all events of a list are played: memory was refused.
+/// Why a list of events isn't played to its end: memory was refused.
 #[derive(Clone, Copy, Debug, PartialEq, Eq, Error)]
 #[error("out of memory")]
 pub struct PlayFault {
-    /// How many events happened before the one that didn't.
+    /// The number of events that happened before the one that didn't.
     pub done: usize,
 }
 
 /// Why the text of a schedule isn't played.
 #[derive(Clone, Copy, Debug, PartialEq, Eq, Error)]
 pub enum ScheduleFault {
-    /// The first line at fault, numbered from 1, and its fault. Nothing was written.
+    /// A line is at fault; this is the first one. Nothing was written.
     #[error("line {line}: {fault}")]
     Input {
-        /// The number of the line.
+        /// The line's number, counted from 1.
         line: usize,
-        /// What is wrong with it.
+        /// What is wrong with the line.
         fault: ScheduleLineFault,
     },
-    /// A read or a write failed. A part of the output may be written.
+    /// A read or a write failed. Part of the output may be written.
     #[error("device")]
     Device,
     /// Memory was refused.

@@ -11,7 +11,7 @@ use sb_frames::{Frame, MAX_FRAME, encode};
 use std::alloc::{AllocError, Global};
 use std::marker::Model;
 
-/// All frames that were ever sent one way, in order. A frame's bytes stand in the list itself.
+/// All frames that were ever sent one way, in order. The frames' bytes are in the list itself.
 #[derive(Drop)]
 pub(crate) struct Frames {
     sent: Vec<ArrayVec<u8, MAX_FRAME>>,
@@ -30,7 +30,7 @@ impl Model for Frames {
     ghost invariant = { λ f. Every (λ bytes. IsSpelled bytes.items) f.sent.items };
 }
 
-/// The item at a place, from 1.
+/// The item at a place, counted from 1.
 pub(crate) fn item_at<T>(items: &[T], place: u32) -> Option<&T>
     ensures { option_copied result ≡ numbered items.now place }
 {
@@ -38,7 +38,7 @@ pub(crate) fn item_at<T>(items: &[T], place: u32) -> Option<&T>
     items.get(place as usize)
 }
 
-// Puts the bytes of frames last, in room that is there.
+// Appends the bytes of frames, in room that is there.
 fn push_all(sent: &mut Vec<ArrayVec<u8, MAX_FRAME>>, frames: &[Frame])
     requires { length sent.old.items + length frames.now ≤ vec_capacity sent.old }
     ensures spelled { Every (λ bytes. IsSpelled bytes.items) sent.old.items
@@ -61,7 +61,7 @@ impl Frames {
         }
     }
 
-    /// Puts a frame last, and answers its place, from 1.
+    /// Appends a frame, and answers its place, counted from 1.
     pub fn send(&mut self, frame: &Frame) -> Result<u64, AllocError>
         ensures sent { IfOk result (λ place. self.new ≡ self.old ++ frame.now ∷ []) }
         ensures place { IfOk result (λ place. place ≡ length self.new) }
@@ -71,7 +71,8 @@ impl Frames {
         Ok(self.sent.len() as u64)
     }
 
-    /// Puts frames last, in order. Where memory is refused none is put, which is never where there are none.
+    /// Appends frames, in order. If memory is refused none is appended; with no frames that never
+    /// happens.
     pub fn send_all(&mut self, frames: &[Frame]) -> Result<(), AllocError>
         ensures sent { OnOk result (self.new ≡ self.old ++ frames.now) }
         ensures err { OnErr result (self.new ≡ self.old) }
@@ -82,7 +83,7 @@ impl Frames {
         Ok(())
     }
 
-    /// The bytes of the frame at a place, from 1.
+    /// The bytes of the frame at a place, counted from 1.
     pub fn get(&self, place: u32) -> Option<&[u8]>
         ensures { MatchOption result (numbered self.now place ≡ None)
             (λ bytes. (frame : AnyFrame) × (numbered self.now place ≡ Some frame) × Spells frame bytes.now) }

@@ -7,7 +7,8 @@ use crate::frames::item_at;
 use std::alloc::{AllocError, Global};
 use std::marker::Model;
 
-/// All states that were ever sent to a replica, in order: the bytes of the checkpoints, as they were sent.
+/// All states that were ever sent to a replica, in order: the bytes of the checkpoints as they were
+/// sent.
 #[derive(Drop)]
 pub(crate) struct States {
     sent: Vec<Vec<u8>>,
@@ -31,7 +32,7 @@ impl States {
         }
     }
 
-    /// Puts a state last, and answers its place, from 1.
+    /// Appends a state, and answers its place, counted from 1.
     pub fn send(&mut self, bytes: Vec<u8>) -> Result<u64, AllocError>
         ensures sent { IfOk result (λ place. self.new ≡ self.old ++ bytes.items ∷ []) }
         ensures place { IfOk result (λ place. place ≡ length self.new) }
@@ -41,7 +42,7 @@ impl States {
         Ok(self.sent.len() as u64)
     }
 
-    /// The bytes of the state at a place, from 1.
+    /// The bytes of the state at a place, counted from 1.
     pub fn get(&self, place: u32) -> Option<&[u8]>
         ensures { option_copied result ≡ numbered self.now place }
     {

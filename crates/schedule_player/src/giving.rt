@@ -1,4 +1,4 @@
-//! States that replicas get from others.
+//! Replicas get states from others.
 ghost use Rattle.std.specs.Prelude.{◌≡◌, ◌<◌, Some, length, slice_get, IfOk, OnErr};
 ghost use Rattle.std.specs.Option.{option_map};
 ghost use Rattle.sb_checkpoint.specs.Reading.{stated_length};
@@ -12,7 +12,7 @@ use crate::world::World;
 use schedule_text::Note;
 
 impl World {
-    /// The sequencer is asked from whom a replica gets a state.
+    /// Asks the sequencer for the donor of a replica's state.
     pub(crate) fn donor(&self, replica: u32) -> Note
         ensures { IsDonorNoted self.now.sequencer replica result }
     {
@@ -27,7 +27,7 @@ impl World {
         }
     }
 
-    // The bytes of the state that a replica has for others.
+    // The bytes of the state that the replica has for others.
     fn state_of(&mut self, donor: u32) -> Result<Option<Vec<u8>>, StepFault>
         requires { donor < length self.old.nodes }
         ensures same { self.new ≡ self.old }
@@ -38,7 +38,7 @@ impl World {
         self.nodes[donor as usize].state()
     }
 
-    // A state is sent to a replica.
+    // Sends a state to the replica.
     fn receive(&mut self, replica: u32, bytes: Vec<u8>) -> Result<Note, StepFault>
         requires replica { replica < length self.old.nodes }
         requires state { IsStateAlong (bank_of self.old) bytes.items }
@@ -50,7 +50,7 @@ impl World {
         self.nodes[replica as usize].receive(bytes)
     }
 
-    /// The state that a replica keeps is sent to another.
+    /// Sends the state that a replica keeps to another.
     pub(crate) fn give(&mut self, donor: u32, replica: u32) -> Result<Note, StepFault>
         ensures moves { IfOk result (λ note.
             given_from self.old replica (slice_get self.old.nodes donor) ≡ (self.new, note)) }

@@ -1,4 +1,4 @@
-//! What a frame comes to at the sequencer.
+//! What a frame does at the sequencer.
 ghost use Rattle.std.specs.Prelude.{◌≡◌};
 ghost use Rattle.sb_frames.specs.Grammar.{Spells};
 ghost use Rattle.sb_frames.specs.declared.frame.Frame.{Frame as AnyFrame};
@@ -8,7 +8,7 @@ use sb_frames::{Frame, decode};
 use sb_sequencer::{AckNote, AnswerNote, HaveNote, Sequencer};
 use schedule_text::Note;
 
-// How the sequencer notes a length.
+// The sequencer's note on the length of a log.
 fn ack_noted(length: u64, noted: AckNote) -> Note
     ensures { result ≡ ack_noted length noted }
 {
@@ -18,7 +18,7 @@ fn ack_noted(length: u64, noted: AckNote) -> Note
     }
 }
 
-// How the sequencer notes a checkpoint's length.
+// The sequencer's note on the length of a checkpoint.
 fn have_noted(length: u64, noted: HaveNote) -> Note
     ensures { result ≡ have_noted length noted }
 {
@@ -28,7 +28,7 @@ fn have_noted(length: u64, noted: HaveNote) -> Note
     }
 }
 
-// How the sequencer notes a reply.
+// The sequencer's note on a reply.
 fn answer_noted(number: u64, noted: AnswerNote) -> Note
     ensures { result ≡ answer_noted number noted }
 {
@@ -40,7 +40,7 @@ fn answer_noted(number: u64, noted: AnswerNote) -> Note
     }
 }
 
-// What a frame comes to at the sequencer.
+// The sequencer hears a frame, and notes it.
 fn hear_frame(sequencer: &mut Sequencer, frame: &Frame) -> Note
     ensures { HearsFrame sequencer.old frame.now result sequencer.new }
 {
@@ -57,13 +57,13 @@ fn hear_frame(sequencer: &mut Sequencer, frame: &Frame) -> Note
     }
 }
 
-/// What the bytes of a frame come to at the sequencer.
+/// The sequencer hears the bytes of a frame, and notes it.
 pub(crate) fn hear(sequencer: &mut Sequencer, bytes: &[u8]) -> Note
     ensures { (sent : AnyFrame) → Spells sent bytes.now → HearsFrame sequencer.old sent result sequencer.new }
 {
     match decode(bytes) {
         Ok((frame, _)) => hear_frame(sequencer, &frame),
-        // All that was sent is a frame.
+        // Everything that was sent is a frame.
         Err(_) => Note::Nothing,
     }
 }

@@ -1,4 +1,4 @@
-//! Plays schedules: a sequencer and its replicas, event after event.
+//! Plays schedules: a sequencer and its replicas, one event after another.
 #![tactic(auto)]
 
 mod adopting;

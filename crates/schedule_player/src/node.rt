@@ -1,4 +1,4 @@
-//! A replica with its workers' hands, and all that was ever sent to it and from it.
+//! A replica with its workers' hands, and everything that was ever sent to it and from it.
 ghost use Rattle.std.specs.Prelude.{◌≡◌, ℕ, suc, ◌<◌, ◌≤◌, None, List, length, MatchOption, IfOk};
 ghost use Rattle.sb_rows.specs.Balances.{Balances};
 ghost use Rattle.sb_rows.specs.Rows.{SameCustomers};
@@ -21,8 +21,8 @@ use sb_sequencer::{REPLICAS, Sequencer};
 use schedule_text::Note;
 use std::alloc::{AllocError, Global};
 
-/// A replica, what each worker has in hand, all frames that were ever sent to it and from it, and all states that
-/// were ever sent to it.
+/// A replica, what each worker has in hand, all frames that were ever sent to it and from it, and
+/// all states that were ever sent to it.
 #[derive(Drop)]
 pub(crate) struct Node {
     pub replica: Replica<MemoryStore>,
@@ -32,7 +32,7 @@ pub(crate) struct Node {
     pub states: States,
 }
 
-// What a replica's answer to a frame is as a note.
+// A replica's answer to a frame, as a note.
 fn heard_note(heard: Heard) -> Note
     ensures { result ≡ note_of_heard heard }
 {
@@ -46,7 +46,7 @@ fn heard_note(heard: Heard) -> Note
     }
 }
 
-// The hands of so many workers, all empty.
+// The hands of this many workers, all empty.
 #[tactic(auto, using(crate::proofs::Lists::copies_push))]
 fn empty_hands(alloc: Global, workers: usize) -> Result<Vec<Option<Job<Op>>>, AllocError>
     ensures { IfOk result (λ hands. hands.items ≡ copies workers None) }
@@ -59,7 +59,7 @@ fn empty_hands(alloc: Global, workers: usize) -> Result<Vec<Option<Job<Op>>>, Al
 }
 
 impl Node {
-    /// A replica of so many workers at the opening. It is one of every bank that opens so.
+    /// A replica with this many workers at the opening. It is one of every bank with this opening.
     pub fn open(
         alloc: Global,
         id: u8,
@@ -96,7 +96,7 @@ impl Node {
         }
     }
 
-    /// A worker takes the behaviour that has so many ready ones before it.
+    /// A worker takes the ready behaviour that has this many ready ones before it.
     pub fn take(&mut self, worker: u32, index: u32) -> Note
         ensures { (bank : BankOf) (r : ℕ) → IsNodeAt bank r self.old
             → Arrives bank r self.new result (taken bank (seen_node self.old) worker index) }
@@ -115,7 +115,7 @@ impl Node {
         Note::Took(number)
     }
 
-    /// A worker carries out what it has in hand and gives it back. Its hand is empty then.
+    /// A worker executes what it has in hand and gives it back. Its hand is empty then.
     pub fn finish(&mut self, worker: u32) -> Note
         ensures { (bank : BankOf) (r : ℕ) → IsNodeAt bank r self.old
             → Arrives bank r self.new result (finished_by bank (seen_node self.old) worker) }
@@ -133,7 +133,7 @@ impl Node {
         Note::Finished(number, reply)
     }
 
-    /// The frame at a place of those that were sent to the replica comes there.
+    /// The frame at a place of those that were sent to the replica arrives.
     pub fn deliver(&mut self, place: u32) -> Result<Note, StepFault>
         ensures { (bank : BankOf) (r : ℕ) → IsNodeAt bank r self.old
             → Steps bank r self.old self.new result (delivered_to (seen_node self.old) place) }
@@ -143,12 +143,12 @@ impl Node {
         };
         match self.replica.on_frame(bytes) {
             Ok(heard) => Ok(heard_note(heard)),
-            // All that was sent is a frame.
+            // Everything that was sent is a frame.
             Err(_) => Err(StepFault::OutOfMemory),
         }
     }
 
-    /// The entry with a number is sent to the replica, if the log has it.
+    /// Sends the entry with a number to the replica, if the log has it.
     pub fn send(&mut self, number: u32, sequencer: &Sequencer) -> Result<Note, StepFault>
         ensures { (names : List (List ℕ)) (opening : Balances) (r : ℕ)
             → IsNodeAt (bank_with names opening sequencer.now.log) r self.old
@@ -162,7 +162,8 @@ impl Node {
         Ok(Note::Sent(place))
     }
 
-    /// The entries that a replica lacks, as far as was heard of it, are sent to this one, all of them or none.
+    /// Sends the replica the entries that it lacks, by what it last acknowledged: all of them or,
+    /// if memory is refused, none.
     pub fn resend(&mut self, replica: u32, sequencer: &Sequencer) -> Result<Note, StepFault>
         ensures { (names : List (List ℕ)) (opening : Balances) (r : ℕ) → replica < REPLICAS
             → IsNodeAt (bank_with names opening sequencer.now.log) r self.old
@@ -178,7 +179,7 @@ impl Node {
         Ok(Note::Resent(entries.len() as u64))
     }
 
-    /// The replica sends how long its log is.
+    /// The replica sends the length of its log.
     pub fn acknowledge(&mut self) -> Result<Note, StepFault>
         ensures { (bank : BankOf) (r : ℕ) → IsNodeAt bank r self.old
             → Steps bank r self.old self.new result (acknowledged (seen_node self.old) r) }
@@ -200,7 +201,7 @@ impl Node {
         Ok(Note::Sent(place))
     }
 
-    /// The replica begins a cut, where it has none.
+    /// The replica makes a cut, if it has none.
     pub fn cut(&mut self) -> Result<Note, StepFault>
         ensures { (bank : BankOf) (r : ℕ) → IsNodeAt bank r self.old
             → Steps bank r self.old self.new result (cut_off (seen_node self.old)) }
@@ -224,7 +225,7 @@ impl Node {
         }
     }
 
-    /// The replica puts a checkpoint, and the put ends so.
+    /// The replica puts a checkpoint, and the put ends in this way.
     pub fn mark(&mut self, how: How) -> Result<Note, StepFault>
         ensures { (bank : BankOf) (r : ℕ) → IsNodeAt bank r self.old
             → Steps bank r self.old self.new result (marked (seen_node self.old) how) }

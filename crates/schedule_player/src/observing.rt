@@ -1,4 +1,4 @@
-//! What is seen of a world.
+//! What can be seen of a world.
 ghost use Rattle.std.specs.Prelude.{◌≡◌, ℕ, ◌+◌, ◌<◌, ◌≤◌, ◌↔◌, true, false, Some, None, length, slice_get, IsTrue, IfOk, IfSome, MatchOption};
 ghost use Rattle.std.specs.Option.{option_copied};
 ghost use Rattle.sb_sequencer.specs.Notes.{answer_of};
@@ -18,11 +18,12 @@ use sb_rows::{Columns, Directory};
 use sb_sequencer::REPLICAS;
 
 impl World {
-    /// How many replicas there are, at most sixteen.
+    /// The number of replicas, at most sixteen.
     pub fn replicas(&self) -> u32
         ensures value { result ≡ length self.now.nodes }
         ensures few { result ≤ REPLICAS }
-        // Whatever happened, no replica is ahead of the log, and all frames, states and answers are the log's.
+        // Whatever happened, no replica is ahead of the log, and all frames, states and answers are
+        // the log's.
         ensures true_to_log { IsTrueToLog self.now }
     {
         self.nodes.len() as u32
@@ -35,7 +36,7 @@ impl World {
         &self.directory
     }
 
-    /// How long a replica's log is.
+    /// The length of a replica's log.
     pub fn length(&self, replica: u32) -> u64
         requires { replica < length self.now.nodes }
         ensures { length_at self.now replica ≡ Some result }
@@ -43,7 +44,7 @@ impl World {
         self.nodes[replica as usize].replica.length()
     }
 
-    /// Whether nothing is unfinished at a replica.
+    /// Whether a replica has nothing unfinished.
     pub fn idle(&self, replica: u32) -> bool
         requires { replica < length self.now.nodes }
         ensures { IsTrue result ↔ IsTrue (idle_at self.now replica) }
@@ -54,7 +55,7 @@ impl World {
     /// The reply that a replica holds to a number.
     pub fn reply(&self, replica: u32, number: u64) -> Option<Reply>
         requires { replica < length self.now.nodes }
-        // Where the number is done it is the log's, and else there is none.
+        // If the number is done it is the log's, and otherwise there is none.
         ensures value { result ≡ reply_at self.now replica number }
         // After whatever schedule, it is the reply of the first asks run one by one.
         ensures by_log { (schedule : ScheduleOf) → IsPlayed schedule self.now
@@ -63,14 +64,15 @@ impl World {
         self.nodes[replica as usize].replica.reply(number)
     }
 
-    /// The columns of a replica, lent, or `None` while something is unfinished at it.
+    /// The columns of a replica, borrowed, or `None` if it has something unfinished.
     pub fn columns(&self, replica: u32) -> Option<&Columns>
         requires { replica < length self.now.nodes }
         ensures idle { MatchOption result (idle_at self.now replica ≡ false) (λ _. idle_at self.now replica ≡ true) }
-        // Read by the customers' names they are the rows after as many calls of the log as it has.
+        // Read by the customers' names, they are the rows after as many calls of the log as the
+        // replica has.
         ensures rows { IfSome result (λ columns. (size : ℕ) → length_at self.now replica ≡ Some size
             → IsRowsAt (bank_of self.now) size columns.now) }
-        // After whatever schedule, they are those after as many of the first asks of its events.
+        // After whatever schedule, these calls are the first asks of its events.
         ensures by_log { (schedule : ScheduleOf) → IsPlayed schedule self.now
             → IfSome result (λ columns. (size : ℕ) → length_at self.now replica ≡ Some size
             → IsRowsAt (bank_after schedule) size columns.now) }
@@ -78,14 +80,15 @@ impl World {
         self.nodes[replica as usize].replica.settled_columns()
     }
 
-    /// The bytes of the state at a place, from 1, of those that were ever sent to a replica.
+    /// The bytes of the state at a place, counted from 1, among all that were ever sent to a
+    /// replica.
     pub fn state(&self, replica: u32, place: u32) -> Option<&[u8]>
         requires { replica < length self.now.nodes }
-        // They are the checkpoint of the bank after as many calls of the log as the machine says.
+        // They are the bank's checkpoint after as many calls of the log as the machine says.
         ensures value { MatchOption result (state_at self.now replica place ≡ None) (λ bytes.
             (size : ℕ) × (state_at self.now replica place ≡ Some size)
             × IsStateAt (bank_of self.now) size bytes.now) }
-        // After whatever schedule, they are that after as many of the first asks of its events.
+        // After whatever schedule, these calls are the first asks of its events.
         ensures by_log { (schedule : ScheduleOf) → IsPlayed schedule self.now
             → IfSome result (λ bytes. (size : ℕ) → state_at self.now replica place ≡ Some size
             → IsStateAt (bank_after schedule) size bytes.now) }
@@ -93,7 +96,7 @@ impl World {
         self.nodes[replica as usize].states.get(place)
     }
 
-    /// The call with a number of the log.
+    /// The call with this number in the log.
     pub fn call(&self, number: u64) -> Option<&Call>
         ensures { option_copied result ≡ call_at self.now.sequencer.log number }
     {
@@ -103,7 +106,7 @@ impl World {
     /// The answer that the sequencer keeps for a request.
     pub fn answer_of(&self, client: u32, request: u32) -> Option<Reply>
         ensures value { result ≡ answer_of self.now.sequencer (record { client = client; request = request }) }
-        // It is the reply of the log to the number of the request.
+        // It is the log's reply to the number of the request.
         ensures by_log { IfSome result (λ reply. (place : ℕ)
             → place_of_key self.now.sequencer.log (record { client = client; request = request }) ≡ Some place
             → log_reply (bank_of self.now) (place + 1) ≡ Some reply) }

@@ -46,9 +46,10 @@ fn open_nodes(
 }
 
 impl World {
-    /// A bank at its opening, with an empty log: at most sixteen replicas, each with 1 to 16 workers and an empty store.
+    /// A bank at its opening, with an empty log, at most sixteen replicas, 1 to 16 workers for
+    /// each, and an empty store for each.
     ///
-    /// Fails where memory is refused.
+    /// Fails if memory is refused.
     pub fn open(
         alloc: Global,
         directory: Directory,

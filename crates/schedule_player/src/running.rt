@@ -1,4 +1,4 @@
-//! A whole schedule: what is written is a stated function of what is read.
+//! A whole schedule: its output is a stated function of its input.
 ghost use Rattle.std.specs.Prelude.{◌≡◌, List, IfSome, IfErr, OnOk, MatchResult};
 ghost use Rattle.sb_rows.specs.Text.{unlines};
 ghost use Rattle.schedule_player.specs.Played.{Plays};
@@ -18,25 +18,26 @@ use schedule_text::{Event, Schedule, push_notes, read_schedule};
 use std::alloc::Global;
 use std::io::{Read, Write};
 
-/// Reads a schedule, plays its events, and writes a line for each note and then where each replica is.
+/// Reads a schedule, plays its events, and writes a line for each note and then the state of each
+/// replica.
 ///
 /// The whole schedule is read and checked before the first event. Fails with
 /// - [`ScheduleFault::Input`] at the first line at fault; nothing was written then,
-/// - [`ScheduleFault::Device`] where a read or a write fails, or the input takes more than [`sb_text::READS`] reads; a
-///   part of the output may be written,
-/// - [`ScheduleFault::OutOfMemory`] where memory is refused.
+/// - [`ScheduleFault::Device`] if a read or a write fails, or if the input takes more than
+///   [`sb_text::READS`] reads; part of the output may be written then,
+/// - [`ScheduleFault::OutOfMemory`] if memory is refused.
 pub fn run_schedule<R: Read, W: Write>(
     alloc: Global,
     reader: &mut R,
     writer: &mut W,
 ) -> Result<(), ScheduleFault>
-    // No line was at fault, and what the machine's notes and final states come to is written.
+    // No line was at fault, and the output is that of the machine's notes and final states.
     ensures done { OnOk result (IfSome (R.remaining reader.old) (λ input.
         WritesOutput (schedule_of input) (W.contents writer.old) (W.contents writer.new))) }
-    // A line's fault is the first of what was read.
+    // A line's fault is the first of the input.
     ensures first { IfErr result (λ fault. IfSome (R.remaining reader.old) (λ input.
         Blames fault (schedule_of input))) }
-    // After it nothing was written.
+    // Nothing was written after a line's fault.
     ensures unwritten { IfErr result (λ fault.
         WritesNothing fault (W.contents writer.old) (W.contents writer.new)) }
 {
@@ -75,7 +76,7 @@ fn output_of(alloc: Global, schedule: Schedule) -> Result<Vec<u8>, ScheduleFault
     play_and_list(alloc, &mut world, &events)
 }
 
-// Events are played, and then a line for each note and where each replica is.
+// Plays events, and lists a line for each note and the state of each replica.
 fn play_and_list(
     alloc: Global,
     world: &mut World,

@@ -1,4 +1,4 @@
-//! Nothing is left unfinished at a replica.
+//! Finishes everything at a replica.
 ghost use Rattle.std.specs.Prelude.{◌≡◌, ◌+◌, ◌*◌, ◌<◌, ◌≤◌, List, length, IsTrue};
 ghost use Rattle.sb_calls.specs.declared.call.TheConstants.{LOG_CALLS};
 ghost use Rattle.schedule_player.specs.Observed.{idle_at};
@@ -14,7 +14,7 @@ use cown_bench::WORKERS;
 use schedule_text::Event;
 
 impl World {
-    // How many workers a replica has.
+    // A replica's number of workers.
     fn workers(&self, replica: u32) -> u32
         requires { replica < length self.now.nodes }
         ensures value { result ≡ workers_at self.now replica }
@@ -24,7 +24,8 @@ impl World {
         self.nodes[replica as usize].hands.len() as u32
     }
 
-    // The first worker takes the first behaviour that is ready. That takes no memory, so it never fails.
+    // The first worker takes the first behaviour that is ready. That takes no memory, so it never
+    // fails.
     fn take(&mut self, replica: u32)
         ensures { self.new ≡ (moved self.old (event.Take replica 1 0)).0 }
     {
@@ -42,7 +43,7 @@ impl World {
         let _ = self.step(Event::Finish { replica, worker });
     }
 
-    // Each worker of a replica finishes what it has in hand. Answers how many there are.
+    // Each worker of a replica finishes what it has in hand. Answers the number of workers.
     fn empty_hands(&mut self, replica: u32) -> u32
         requires { replica < length self.old.nodes }
         ensures after { self.new ≡ after_events self.old (emptying self.old replica) }
@@ -59,7 +60,8 @@ impl World {
         workers
     }
 
-    // The first worker takes and finishes one entry after the other until nothing is unfinished. Answers how many.
+    // The first worker takes and finishes one entry after another until nothing is unfinished.
+    // Answers the number of entries.
     fn work_off(&mut self, replica: u32) -> u32
         requires replica { replica < length self.old.nodes }
         requires rests { SoAt IsAtRest self.old replica }
@@ -76,23 +78,26 @@ impl World {
         done
     }
 
-    /// Settles a replica: each worker finishes what it has in hand, and then the first one takes and finishes one entry
-    /// after the other, until nothing is unfinished. Answers how many events that were.
+    /// Settles a replica: each worker finishes what it has in hand, and then the first one takes
+    /// and finishes one entry after another until nothing is unfinished. Answers the number of
+    /// events.
     ///
-    /// It takes no memory, so it never fails: whatever happened, no replica is stuck.
+    /// It takes no memory and never fails: whatever happened, no replica is stuck.
     pub fn settle(&mut self, replica: u32) -> u32
         requires { replica < length self.old.nodes }
-        // The world moves as the reference machine does by these events, the last of them until it is idle.
+        // The world moves by these events as the reference machine does, and none of them is
+        // needless.
         ensures moves { (notes : List AnyNote) × Plays self.old (settling self.old replica) notes self.new }
         ensures until { IsBusyBefore self.old replica }
         ensures count { result ≡ length (settling self.old replica) }
-        // They are at most one for each worker, and two for each entry that was unfinished.
+        // There are at most one for each worker, and two for each entry that was unfinished.
         ensures most { result ≤ workers_at self.old replica + 2 * undone_at self.old replica }
-        // Nothing is unfinished then. All else at the replica, all other replicas, all frames and the log stay.
+        // Nothing is unfinished then. All else at the replica, all other replicas, all frames and
+        // the log stay.
         ensures idle { IsTrue (idle_at self.new replica) }
         ensures settled { self.new ≡ settled self.old replica }
         ensures replicas { length self.new.nodes ≡ length self.old.nodes }
-        // After whatever schedule, the world is the one after it and these events.
+        // After whatever schedule, the new world is the one after that schedule and these events.
         ensures played { (schedule : ScheduleOf) → IsPlayed schedule self.old
             → IsPlayed (with_events schedule (settling self.old replica)) self.new }
     {

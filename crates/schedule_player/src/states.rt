@@ -1,4 +1,4 @@
-//! Where each replica is, as text.
+//! The state of each replica, as text.
 ghost use Rattle.std.specs.Prelude.{◌≡◌, ℕ, ◌<◌, ◌++◌, Some, length, slice_get, OnOk};
 ghost use Rattle.sb_rows.specs.Text.{unlines};
 ghost use Rattle.schedule_player.specs.ReplicaMoves.{NodeOf};
@@ -9,8 +9,8 @@ use sb_text::list_rows;
 use schedule_text::push_numbered;
 use std::alloc::AllocError;
 
-/// Writes for each replica its number and the length of its log, and, where nothing is unfinished at it, its rows and
-/// the total.
+/// Writes for each replica its number and the length of its log, and, if it has nothing unfinished,
+/// its rows and the total.
 pub(crate) fn push_states(world: &World, out: &mut Vec<u8>) -> Result<(), AllocError>
     ensures { OnOk result (out.new.items ≡ out.old.items ++ unlines (states_from world.now 0 world.now.nodes)) }
 {
@@ -20,7 +20,7 @@ pub(crate) fn push_states(world: &World, out: &mut Vec<u8>) -> Result<(), AllocE
     Ok(())
 }
 
-// Writes where a replica is.
+// Writes the state of a replica.
 fn push_state(world: &World, replica: u32, out: &mut Vec<u8>) -> Result<(), AllocError>
     requires { replica < length world.now.nodes }
     ensures { (node : NodeOf) → slice_get world.now.nodes replica ≡ Some node

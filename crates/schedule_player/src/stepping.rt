@@ -1,4 +1,4 @@
-//! One event after the other.
+//! Events, one after another.
 ghost use Rattle.std.specs.Prelude.{◌≡◌, ◌⊎◌, ◌<◌, List, [], ◌∷◌, take, length, slice_get, IfOk, IfErr, OnErr, IsTrue};
 ghost use Rattle.schedule_player.specs.Comes.{may_come};
 ghost use Rattle.schedule_player.specs.Played.{IsPlayed, Plays, with_events};
@@ -15,7 +15,7 @@ use schedule_text::{Event, Note};
 use std::alloc::Global;
 
 impl World {
-    // An audit, of replicas that may be missing.
+    // An audit of two replicas, which needn't exist.
     fn compare(&self, first: u32, second: u32) -> Result<Note, StepFault>
         ensures moves { IfOk result (λ note. Moves self.now (event.Audit first second) note self.now) }
         ensures wanted { OnErr result (MayWantMemory self.now (event.Audit first second)) }
@@ -26,7 +26,7 @@ impl World {
         Ok(Note::Audit(self.audit(first, second)?))
     }
 
-    // What an event comes to.
+    // What an event does.
     fn moves(&mut self, event: Event) -> Result<Note, StepFault>
         ensures moves { IfOk result (λ note. Moves self.old event note self.new) }
         ensures err { OnErr result (self.new ≡ self.old) }
@@ -58,20 +58,20 @@ impl World {
         }
     }
 
-    /// One event happens, and is noted.
+    /// Plays one event, and notes it.
     ///
-    /// Fails where memory is refused, which may be only where a request gets a new number, a frame is sent, an entry is
-    /// accepted, a cut is made, a checkpoint is put or gone back to, a state is given or read, or an audit adds up the
-    /// books. Nothing is changed then.
+    /// Fails if memory is refused. That can happen only if a request gets a new number, a frame is
+    /// sent, an entry is accepted, a cut is made, a checkpoint is put or gone back to, a state is
+    /// given or read, or an audit adds up the books. Nothing changes then.
     pub fn step(&mut self, event: Event) -> Result<Note, StepFault>
         // The world moves as the reference machine does.
         ensures moves { IfOk result (λ note. Moves self.old event note self.new) }
         ensures err { OnErr result (self.new ≡ self.old) }
         ensures wanted { OnErr result (MayWantMemory self.old event) }
         ensures replicas { length self.new.nodes ≡ length self.old.nodes }
-        // Nothing is ever odd, unknown, different or off the books.
+        // No note is ever odd, unknown, different or off the books.
         ensures comes { IfOk result (λ note. IsTrue (may_come note)) }
-        // After whatever schedule, the world is the one after it and this event.
+        // After whatever schedule, the new world is the one after that schedule and this event.
         ensures played { (schedule : ScheduleOf) → IsPlayed schedule self.old
             → IfOk result (λ _. IsPlayed (with_events schedule (event ∷ [])) self.new) }
     {
@@ -79,26 +79,26 @@ impl World {
     }
 }
 
-/// Events happen one after the other, and are noted in order.
+/// Plays events one after another, and notes them in order.
 ///
-/// Fails at the first event for which memory is refused, and before the first where there is no room for the notes;
-/// the fault tells how many events happened before it.
+/// Fails at the first event for which memory is refused, or before the first if memory is refused
+/// for the notes. The fault has the number of events that happened before.
 pub fn play(alloc: Global, world: &mut World, events: &[Event]) -> Result<Vec<Note>, PlayFault>
     // All events happened, with these notes.
     ensures plays { IfOk result (λ notes. Plays world.old events.now notes.items world.new) }
-    // As many happened as the fault tells, and nothing else; there is one more.
+    // As many events happened as the fault says, and nothing else; another one follows.
     ensures stopped { IfErr result (λ fault. (fault.done < length events.now)
         × ((notes : List AnyNote) × Plays world.old (take fault.done events.now) notes world.new)) }
-    // That one may want memory, or at the first the list of notes does.
+    // Memory may be refused for that one or, before the first, for the list of notes.
     ensures wanted { IfErr result (λ fault. (fault.done ≡ 0)
         ⊎ NextMayWantMemory world.new (slice_get events.now fault.done)) }
     ensures replicas { length world.new.nodes ≡ length world.old.nodes }
-    // After whatever schedule, the world is the one after it and these events.
+    // After whatever schedule, the new world is the one after that schedule and these events.
     ensures played { (schedule : ScheduleOf) → IsPlayed schedule world.old
         → IfOk result (λ _. IsPlayed (with_events schedule events.now) world.new) }
 {
     let mut notes = Vec::with_capacity(alloc, events.len()).map_err(|_| PlayFault { done: 0 })?;
-    // The checker goes through what an event is made of, and has to be told the types.
+    // The checker takes the event apart, and needs the types spelled out.
     let _parts: Option<(Call, How)> = None;
     for (done, event) in events.iter().enumerate() {
         match world.step(*event) {

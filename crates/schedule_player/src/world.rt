@@ -15,8 +15,8 @@ use schedule_text::{Event, Note};
 use std::alloc::Global;
 use std::marker::Model;
 
-/// A sequencer, its replicas with their workers, all frames that were ever sent between them, and all states that were
-/// ever sent to a replica.
+/// A sequencer, its replicas with their workers, all frames that were ever sent between them, and
+/// all states that were ever sent to a replica.
 #[derive(Drop)]
 pub struct World {
     pub(crate) alloc: Global,
@@ -45,7 +45,7 @@ impl Model for World {
 }
 
 impl World {
-    /// A client asks the sequencer for a call.
+    /// A client asks the sequencer to number a call.
     pub(crate) fn ask(&mut self, client: u32, request: u32, call: &Call) -> Result<Note, StepFault>
         ensures moves { IfOk result (λ note.
             Asks self.old (record { client = client; request = request }, call.now) note self.new) }
@@ -63,7 +63,7 @@ impl World {
         }
     }
 
-    /// A frame that a replica sent comes to the sequencer.
+    /// A frame that a replica sent arrives at the sequencer.
     pub(crate) fn hear(&mut self, replica: u32, place: u32) -> Note
         ensures { heard_from self.old replica place (slice_get self.old.nodes replica) ≡ (self.new, result) }
     {
@@ -76,7 +76,7 @@ impl World {
         hear(&mut self.sequencer, bytes)
     }
 
-    /// An event happens at its replica. At one that doesn't exist nothing does.
+    /// An event happens at its replica. If that doesn't exist, nothing happens.
     pub(crate) fn at(&mut self, replica: u32, event: Event) -> Result<Note, StepFault>
         requires { replica_of event ≡ Some replica }
         ensures moves { IfOk result (λ note. replica_move self.old event (Some replica) ≡ (self.new, note)) }

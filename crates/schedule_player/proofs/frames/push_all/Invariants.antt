@@ -4,7 +4,7 @@ use Rattle.schedule_player.specs.Numbered.{Every}
 use Rattle.schedule_player.specs.Seen.{frame_in, IsSpelled}
 use Rattle.schedule_player.proofs.frames.push_all.Given as goal
 
--- what was put and what is left to put are all, and there is room for the rest
+-- what was appended and what is left to append are all, and there is room for the rest
 abbrev pub invariant-loop-frame : goal.invariant-loop-frame
 invariant-loop-frame l = record {
   spelled : Every (λ bytes. IsSpelled bytes.items) l.fn.sent.items → Every (λ bytes. IsSpelled bytes.items) l.sent.items;

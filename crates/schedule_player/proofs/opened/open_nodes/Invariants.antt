@@ -9,7 +9,7 @@ use Rattle.schedule_player.specs.ReplicaMoves.{opened_node}
 use Rattle.schedule_player.specs.declared.node.Node.{Node}
 use Rattle.schedule_player.proofs.opened.open_nodes.Given as goal
 
--- so many are open, each under its own number
+-- this many are open, each under its own number
 abbrev pub invariant-loop-id : goal.invariant-loop-id
 invariant-loop-id l = record {
   seen : map seen_node l.all.items ≡ copies l.id (opened_node l.workers);

@@ -3,7 +3,7 @@ use Rattle.std.specs.Prelude.{vec_capacity}
 use Rattle.schedule_player.specs.Played.{Plays}
 use Rattle.schedule_player.proofs.stepping.play.Given as goal
 
--- so many events happened, with a note each, and there is room for the others
+-- this many events happened, with a note each, and there is room for the others
 abbrev pub invariant-loop-done : goal.invariant-loop-done
 invariant-loop-done l = record {
   plays : Plays l.fn.world (take l.done l.events) l.notes.items l.world;

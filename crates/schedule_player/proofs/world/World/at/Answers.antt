@@ -22,7 +22,7 @@ moves c =
     c.step.ensures w.directory w.opening c.args.replica (omega (arith, within, few)) c.requires
     (c.self.invariant.each c.args.replica c.in-Some.node.now (here c))
 
--- so the world does
+-- so does the world
 stepped : (c : goal.After-self-2-1) → let w = c.self.inside in let bank = bank_with w.directory w.opening w.sequencer.log in
     Stepped w.directory w.opening w.sequencer w.nodes.items c.args.replica c.step.new.self (λ node. node_move bank w.sequencer node c.args.event)
     c.step.result

@@ -44,7 +44,7 @@ as_seen c one other seen_one seen_other = λ j.
     (seen_as c.args.self.now c.args.first c.index.result.now one (look_one c) seen_one j)
     (seen_as c.args.self.now c.args.second c.index-2.result.now other (look_other c) seen_other j)
 
--- ---- what each way out answers
+-- ---- the answer at each return
 
 pub returns-in_default-clause-value : goal.returns-in_default-clause-value
 returns-in_default-clause-value c one other seen_one seen_other =
@@ -94,7 +94,7 @@ returns-in-Some-first_place-clause-value c one other seen_one seen_other =
     absurd (none_some (sym (c.first_place.ensures (same_columns (goal.at.returns-in-Some-first_place-clause-value c).Else-length))
     ∙ c.in-Some-first_place.is))
 
--- memory may be refused to the replies, and to the books
+-- memory may be refused for the replies, and for the books
 wants : (c : Else-length) → let now = c.args.self.now in
     may_take_memory (audited (bank_of now) c.args.first c.args.second (slice_get now.nodes c.args.first) (slice_get now.nodes c.args.second)) ≡ true
 wants c =
@@ -112,7 +112,7 @@ returns-in_err-books-clause-wanted c =
 
 -- ---- the books
 
--- the replies are those of the whole log of the first
+-- the replies are those of the first replica's whole log
 held : (c : After-deref) → c.deref.result.now ≡ replies_held c.index.result.now.replica.board
 held c = c.deref.ensures.value ∙ c.in_ok-replies.ensures.value
 

@@ -5,7 +5,7 @@ use Rattle.schedule_text.specs.declared.event.Event.TheVariants as event
 use Rattle.schedule_player.proofs.SettledWorlds.{after_finish, hands_count, hands_emptied}
 use Rattle.schedule_player.proofs.world.World.empty_hands.Goals as goal
 
--- one hand more is emptied
+-- one more hand is emptied
 pub loop-worker-preserved : goal.loop-worker-preserved
 loop-worker-preserved c =
     let world = c.args.self.now in

@@ -15,7 +15,7 @@ idle-requires c =
     let lt = c.requires.replica in
     omega (arith, same, lt)
 
--- so many are left
+-- this many are left
 left : (world now : WorldOf) (r done : ℕ) → r < length world.nodes → SoAt IsAtRest world r → done ≤ undone_at world r
     → now ≡ after_events world (first_works r done) → done + undone_at now r ≡ undone_at world r
 left world now r done lt rests few is =
