@@ -1,4 +1,4 @@
--- The rows of a bank whose log is carried out.
+-- The rows of a bank whose log is executed.
 use Rattle.std.proofs.Common.{◌≡◌, ◌≢◌, Option, Some, Bor, refl, subst}
 use Rattle.std.specs.Prelude.{MatchOption, IfSome}
 use Rattle.sb_rows.specs.Balances.{Balances, IsBalances}
@@ -12,7 +12,7 @@ use Rattle.bank_server.specs.Primary.{HasAll, IsPrimary, PrimaryOf, ops_of}
 use Rattle.bank_server.proofs.Boards.{one_by_one}
 
 module _ {S : Type 0} (primary : PrimaryOf S) (node : ReplicaOf S) (is : node ≡ primary.node) (valid : IsPrimary primary) (all : HasAll primary) where
-  -- columns after its whole log are its rows after the log, one by one
+  -- the columns after the whole log are the rows after the log, one by one
   pub rows_are : (settled : Option (Bor Balances)) (lent : Bor Balances) → settled ≡ Some lent
       → MatchOption settled (open_of node.board ≢ 0) (λ l. (open_of node.board ≡ 0) × IsAfterAll declared_cowns effect_of node.board l.now)
       → IfSome settled (λ l. IsBalances l.now)

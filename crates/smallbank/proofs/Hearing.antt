@@ -1,4 +1,4 @@
--- Sessions, one after the other.
+-- Sessions, one after another.
 use Rattle.std.proofs.Common.{◌≡◌, ℕ, Option, Some, None, List, [], ◌∷◌, ◌++◌, Ok, Err, refl, sym, ap, subst, ◌∙◌, append-nil, append_assoc}
 use Rattle.std.specs.Prelude.{IfSome, OnOk, IfErr}
 use Rattle.std.proofs.lemmas.List.Elements.{All-nil}
@@ -18,7 +18,7 @@ abbrev Log : Type 0
 Log = List (Key × Call)
 
 module _ {T : Type 0} (sends : T → Option (List ℕ)) where
-  -- sessions, and then more
+  -- sessions, and then more sessions
   AreHeard-append : (before : Log) (came : List T) (ends : List End) (mid : Log) (then : List T) (later : List End) (after : Log)
       → AreHeard sends before came ends mid → AreHeard sends mid then later after → AreHeard sends before (came ++ then) (ends ++ later) after
   AreHeard-append before [] [] mid then later after same heard = subst (λ (b : Log). AreHeard sends b then later after) same heard
@@ -93,7 +93,7 @@ heard_session (Ok done) opening before log old new (Some sent) served cut = hear
 heard_session (Err fault) opening before log old new None served cut = tt
 heard_session (Err fault) opening before log old new (Some sent) served cut = heard_cut_short opening before log old new sent fault cut
 
--- a client of whom nothing was heard
+-- a client that doesn't tell what it sends
 pub not_heard : (log : Log) → IsLog log → (sends : Option (List ℕ)) → IfSome sends (λ sent. IsHeard log sent (Err Device) log)
 not_heard log is None = tt
 not_heard log is (Some sent) = record {

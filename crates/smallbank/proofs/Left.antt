@@ -30,7 +30,7 @@ module _ {S : Type 0} (model : StoreModel S) where
     kept = record { honest = λ honest. honest; held = λ s some honest. absurd (omega (arith, some)); stays = λ s. refl };
   }
 
-  -- one session more
+  -- one more session
   pub left_after_next : (saves : Bool) (count : ℕ) (old mid new : PrimaryOf S) → IsLeft model saves count old mid
       → IsLeft model saves 1 mid new → IsLeft model saves (count + 1) old new
   left_after_next saves count old mid new first next = record {
@@ -44,7 +44,7 @@ module _ {S : Type 0} (model : StoreModel S) where
     };
   }
 
-  -- what a bank was before it was settled counts
+  -- what the bank was before it was settled is what counts
   pub left_since : (saves : Bool) (count : ℕ) (old mid new : PrimaryOf S) → KeepsBank old mid → IsLeft model saves count mid new
       → IsLeft model saves count old new
   left_since saves count old mid new keeps left =

@@ -1,4 +1,4 @@
--- What stands for an option among words whose first is looked at.
+-- The value of an option, by the first of the words.
 use Rattle.std.proofs.Common.{◌≡◌, ◌≢◌, ◌++◌, ◌∷◌, [], List, String, string_bytes, map, refl, sym, ap, subst, arith, length, ◌∙◌}
 use Rattle.smallbank.specs.Words.{Stands}
 use Rattle.smallbank.proofs.Standing.{Text, stands-next, stands-same, stands-later, stands-only, stands-nowhere, stands-last}

@@ -18,13 +18,13 @@ use Rattle.smallbank.specs.Served.{GoesOn, PrintsLines, PrintsPort, PrintsRows, 
 abbrev Log : Type 0
 Log = List (Key × Call)
 
--- lines, and then more
+-- lines, and then more lines
 pub PrintsLines-trans : (a b c : Option (List ℕ)) (xs ys : List (List ℕ)) → PrintsLines xs a b → PrintsLines ys b c → PrintsLines (xs ++ ys) a c
 PrintsLines-trans a b c xs ys first second =
     subst (λ (bytes : List ℕ). Appends a c bytes) (sym (flat_map-append (λ (line : List ℕ). line ++ 10 ∷ []) xs ys))
     (Appends-trans a b c (unlines xs) (unlines ys) first second)
 
--- one session more
+-- one more session
 session_lines-push : (first : ℕ) (ends : List End) (end : End)
     → session_lines first (ends ++ end ∷ []) ≡ session_lines first ends ++ session_line (first + length ends) end ∷ []
 unfolding session_lines
@@ -34,7 +34,7 @@ session_lines-push first (e ∷ ends) end =
     ∙ ap (λ (n : ℕ). session_line first e ∷ (session_lines (first + 1) ends ++ session_line n end ∷ [])) (omega arith)
 
 module _ {T : Type 0} (sends : T → Option (List ℕ)) where
-  -- nobody is served, and nothing printed
+  -- no one is served, and nothing printed
   pub no_sessions : (coming : Option (List T)) (log : Log) (a : Option (List ℕ)) → ServesAll sends 0 coming coming log log a a
   unfolding session_lines
   no_sessions coming log a = record {
@@ -58,7 +58,7 @@ module _ {T : Type 0} (sends : T → Option (List ℕ)) where
   }
   one_session number client coming left before mid after end a b (Err fault) came heard same goes printed = tt
 
-  -- one client more
+  -- one more client
   pub next_session : (count : ℕ) (coming mid left : Option (List T)) (before between after : Log) (a b c : Option (List ℕ))
       → ServesAll sends count coming mid before between a b → ServesNext sends (count + 1) mid left between after b c
       → ServesAll sends (count + 1) coming left before after a c

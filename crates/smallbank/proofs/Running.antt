@@ -1,4 +1,4 @@
--- What the words after the program's own say is what all words say.
+-- What the words after the subcommand say is what all words say.
 use Rattle.std.proofs.Common.{◌≡◌, ◌≤◌, ◌-◌, ◌∷◌, [], List, String, Option, Some, None, IfSome, arith, length, length-drop, take, drop, subst}
 use Rattle.std.proofs.lemmas.List.{take_all}
 use Rattle.smallbank.specs.Words.{IsRunOf, IsServeOf, Says}
@@ -6,7 +6,7 @@ use Rattle.smallbank.specs.declared.words.Words.{Words}
 use Rattle.smallbank.specs.declared.words.Words.TheVariants.{Run, Play, Serve}
 
 module _ {A : Type 0} where
-  -- as all words after the first two say
+  -- what all words after the first two say
   abbrev By : (List (String A) → Words → Type 0) → Option Words → List (String A) → Type 0
   By IsOf read words = IfSome read (λ r. IsOf (take (length words - 2) (drop 2 words)) r)
 
@@ -33,10 +33,10 @@ module _ {A : Type 0} where
   serve_says (Some (Serve port plan store)) (name ∷ []) long said = absurd (omega (arith, long))
   serve_says (Some (Serve port plan store)) (name ∷ program ∷ options) long said = said.1
 
-  -- from all the words after `run`
+  -- for all words, those after `run`
   pub says_of : (read : Option Words) (words : List (String A)) → 2 ≤ length words → By IsRunOf read words → IfSome read (λ r. Says r words)
   says_of read words long said = run_says read words long (all_after IsRunOf read words long said)
 
-  -- from all the words after `serve`
+  -- for all words, those after `serve`
   pub says_of_serve : (read : Option Words) (words : List (String A)) → 2 ≤ length words → By IsServeOf read words → IfSome read (λ r. Says r words)
   says_of_serve read words long said = serve_says read words long (all_after IsServeOf read words long said)

@@ -1,4 +1,4 @@
--- What stands for an option, from word to word.
+-- An option's value, from word to word.
 use Rattle.std.proofs.Common.{◌≡◌, ◌≢◌, ◌++◌, ◌∷◌, [], List, ℕ, inl, inr, refl, ap, arith, length, length-append, ◌+◌, ◌∙◌}
 use Rattle.smallbank.specs.Words.{Stands}
 
@@ -27,12 +27,12 @@ stands-next option value others = ([], others, inl refl)
 pub stands-same : (word option value : Text) (others : List Text) → word ≡ option ++ (61 ∷ value) → Stands option value (word ∷ others)
 stands-same word option value others e = ([], others, inr (ap (λ w. w ∷ others) e))
 
--- it stands with a word before, too
+-- an option has its value with one more word in front, too
 pub stands-later : (word option value : Text) (others : List Text) → Stands option value others → Stands option value (word ∷ others)
 stands-later word option value others (before, after, inl e) = (word ∷ before, after, inl (ap (λ ws. word ∷ ws) e))
 stands-later word option value others (before, after, inr e) = (word ∷ before, after, inr (ap (λ ws. word ∷ ws) e))
 
--- after a word that is neither it stands where it stood
+-- with a word in front that is neither, it has the value that it had
 pub stands-only : (word option value : Text) (others : List Text) → word ≢ option → word ≢ option ++ (61 ∷ value)
     → Stands option value (word ∷ others) → Stands option value others
 stands-only word option value others other bare ([], after, inl e) = absurd (other (cons_head word option others (value ∷ after) e))
@@ -42,12 +42,12 @@ stands-only word option value others other bare (b ∷ before, after, inl e) =
 stands-only word option value others other bare (b ∷ before, after, inr e) =
     (before, after, inr (cons_tail word b others (before ++ ((option ++ (61 ∷ value)) ∷ after)) e))
 
--- nothing stands in no words
+-- it has no value without words
 pub stands-nowhere : (option value : Text) → ¬ (Stands option value [])
 stands-nowhere option value (before, after, inl e) = not_empty before (value ∷ after) option e
 stands-nowhere option value (before, after, inr e) = not_empty before after (option ++ (61 ∷ value)) e
 
--- nor where the option is the last word
+-- nor if it is the last word
 pub stands-last : (option value : Text) → ¬ (Stands option value (option ∷ []))
 stands-last option value ([], after, inl e) =
     let tails : ◌≡◌ {A = List Text} [] (value ∷ after) = cons_tail option option [] (value ∷ after) e in

@@ -9,7 +9,7 @@ use Rattle.smallbank.specs.declared.fault.ProgramFault.TheVariants.{Run, Play, S
 use Rattle.smallbank.specs.declared.serve_fault.ServeFault.{ServeFault}
 use Rattle.smallbank.specs.declared.serve_fault.ServeFault.TheVariants as serve
 
--- 1 for an input that is refused, 3 for all else
+-- 1 for an input that is refused, 3 for every other fault
 abbrev pub run_status : RunFault → ℕ
 run_status (Input line fault) = 1
 run_status (Strayed node) = 3
@@ -17,13 +17,13 @@ run_status CrewGone = 3
 run_status Device = 3
 run_status OutOfMemory = 3
 
--- the same of the playing of a schedule
+-- the same for playing a schedule
 abbrev pub play_status : ScheduleFault → ℕ
 play_status (schedule.Input line fault) = 1
 play_status schedule.Device = 3
 play_status schedule.OutOfMemory = 3
 
--- the same of the serving of a bank
+-- the same for serving a bank
 abbrev pub serve_status : ServeFault → ℕ
 serve_status (serve.Run fault) = run_status fault
 serve_status serve.ReadBack = 3

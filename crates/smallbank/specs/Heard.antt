@@ -1,4 +1,4 @@
--- What the sessions of a bank come to, by what its clients send.
+-- What the sessions of a bank do, by what its clients send.
 use Rattle.std.specs.Prelude.{◌≡◌, ℕ, Option, Some, Result, Ok, Err, List, [], ◌∷◌, ◌++◌, IfSome}
 use Rattle.std.specs.List.{All, flat_map}
 use Rattle.sb_calls.specs.declared.ask.Key.{Key}
@@ -13,13 +13,14 @@ use Rattle.bank_server.specs.declared.session_fault.SessionFault.{SessionFault}
 abbrev pub End : Type 0
 End = Result (Unit {0}) SessionFault
 
--- where a session ended so nothing is left of what its client sent, or the rest is what the fault says
+-- after a session that ended well nothing is left of what its client sent; otherwise the rest is
+-- what the fault says
 abbrev pub EndsAt : End → List ℕ → Type 0
 EndsAt (Ok done) rest = rest ≡ []
 EndsAt (Err fault) rest = IsAt fault rest
 
--- a client sent this, and its session ended so: frames, each an ask or a flush, whose asks were numbered behind the
--- log before, and then the rest
+-- a client sent these bytes, and its session ended so: whole frames, each an ask or a flush, whose
+-- asks were numbered after the log before; and then the rest
 pub record IsHeard (before : List (Key × Call)) (sent : List ℕ) (end : End) (after : List (Key × Call)) : Type 0 where
   pub frames : List frames.Frame
   pub clients : All IsClients frames
@@ -34,7 +35,8 @@ module _ {T : Type 0} where
   LetsIn client coming left = IfSome coming (λ clients. (rest : List T) × (clients ≡ client ∷ rest) × (left ≡ Some rest))
 
   module _ (sends : T → Option (List ℕ)) where
-    -- the sessions of these clients, each where it's told what it sends, ended so and led from one log to the other
+    -- the sessions of these clients ended so, and led from one log to the other; each client is
+    -- heard if it tells what it sends
     abbrev pub AreHeard : List (Key × Call) → List T → List End → List (Key × Call) → Type 0
     AreHeard before [] [] after = after ≡ before
     AreHeard before [] (end ∷ ends) after = ⊥

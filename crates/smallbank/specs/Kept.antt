@@ -6,8 +6,9 @@ use Rattle.bank_server.specs.Saving.{HoldsCheckpoint}
 use Rattle.sb_replica.specs.Replica.{ReplicaOf}
 use Rattle.sb_sequencer.specs.Numbering.{IsLog}
 
--- whatever was saved after each of so many sessions, the store is honest where it was, and then holds the checkpoint of
--- all that the node carried out; where nothing is saved the store stays as it was
+-- the bank after this many sessions: an honest store stays honest and, if the bank saves and served
+-- someone, holds the checkpoint of all that node 0 executed; if the bank doesn't save, the store
+-- stays as it was
 pub record IsKept {S : Type 0} (model : StoreModel S) (saves : Bool) (sessions : ℕ) (store : S)
     (node : ReplicaOf S) : Type 0 where
   pub honest : model.IsHonest store → model.IsHonest node.store
@@ -19,8 +20,8 @@ pub record IsSameBank {S : Type 0} (old new : PrimaryOf S) : Type 0 where
   pub names : new.node.names ≡ old.node.names
   pub opening : new.node.board.opening ≡ old.node.board.opening
 
--- the same bank after so many sessions: its log has one number a key, node 0 has carried out all of it, and its store
--- is as told above
+-- the same bank after this many sessions: its log has one number for each key, node 0 has executed
+-- all of it, and its store is as `IsKept` says
 pub record IsLeft {S : Type 0} (model : StoreModel S) (saves : Bool) (sessions : ℕ)
     (old new : PrimaryOf S) : Type 0 where
   pub bank : IsSameBank old new

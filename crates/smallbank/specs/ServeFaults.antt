@@ -1,4 +1,4 @@
--- What a fault of a bank that is served says.
+-- What a fault of serving a bank means.
 use Rattle.std.specs.Prelude.{◌≡◌, ◌<◌, ◌≤◌, ℕ, Bool, true}
 use Rattle.bank_server.specs.declared.fault.RunFault.{RunFault}
 use Rattle.bank_server.specs.declared.fault.RunFault.TheVariants.{Input, Strayed, Device, OutOfMemory}
@@ -26,7 +26,7 @@ IsPortFault port (Run fault) = IsDeviceFault fault
 IsPortFault port (PortTaken taken) = taken ≡ port
 IsPortFault port other = ⊥
 
--- memory was refused, or the store takes nothing, where there is one
+-- memory was refused; or there is a store, and it takes nothing
 abbrev pub IsStoreFault : Bool → ServeFault → Type 0
 IsStoreFault stores (Run fault) = fault ≡ OutOfMemory
 IsStoreFault stores Store = stores ≡ true
@@ -38,18 +38,18 @@ IsKeepRunFault (Input line fault) = ⊥
 IsKeepRunFault (Strayed node) = ⊥
 IsKeepRunFault other = Unit {0}
 
--- the same, or the store gives back something else, where it is asked
+-- the same; or the bank saves, and its store gives back something else
 abbrev pub IsKeepFault : Bool → ServeFault → Type 0
 IsKeepFault saves (Run fault) = IsKeepRunFault fault
 IsKeepFault saves ReadBack = saves ≡ true
 IsKeepFault saves other = ⊥
 
--- the same, or one of so many nodes strayed, which node 0 isn't
+-- the same, or a follower strayed, which is one of this many nodes and not node 0
 abbrev pub IsServingRunFault : ℕ → RunFault → Type 0
 IsServingRunFault nodes (Strayed node) = (1 ≤ node) × (node < nodes)
 IsServingRunFault nodes other = IsKeepRunFault other
 
--- a served bank of so many nodes, with a store or without one, may end with this fault
+-- serving a bank of this many nodes, which saves or doesn't, may end with this fault
 abbrev pub IsServingFault : ℕ → Bool → ServeFault → Type 0
 IsServingFault nodes saves (Run fault) = IsServingRunFault nodes fault
 IsServingFault nodes saves other = IsKeepFault saves other
@@ -59,7 +59,8 @@ abbrev pub IsProgramRunFault : ℕ → RunFault → Type 0
 IsProgramRunFault nodes (Strayed node) = (1 ≤ node) × (node < nodes)
 IsProgramRunFault nodes other = Unit {0}
 
--- the same, or the store gives back something else, or takes nothing, where there is one, or this port is taken
+-- the same; or the bank saves, and its store gives back something else; or there is a store, and it
+-- takes nothing; or this port is taken
 abbrev pub IsProgramFault : ℕ → ℕ → Bool → Bool → ServeFault → Type 0
 IsProgramFault port nodes saves stores (Run fault) = IsProgramRunFault nodes fault
 IsProgramFault port nodes saves stores ReadBack = saves ≡ true

@@ -1,4 +1,4 @@
--- What is printed of a bank that is served.
+-- What a served bank prints.
 use Rattle.std.specs.Prelude.{◌≡◌, ℕ, ◌+◌, Option, Ok, Err, List, [], ◌∷◌, ◌++◌, length, decimal, codes}
 use Rattle.std.specs.List.{All}
 use Rattle.std.specs.Io.KnownBytes.{Appends}
@@ -18,7 +18,7 @@ use Rattle.smallbank.specs.Heard.{End, HearsFirst}
 use Rattle.smallbank.specs.Kept.{IsLeft}
 use Rattle.smallbank.specs.declared.serving.Plan.{Plan}
 
--- others can be served after it
+-- a session that ended so lets the server go on
 abbrev pub GoesOn : End → Type 0
 GoesOn (Ok done) = Unit {0}
 GoesOn (Err (Frame fault)) = Unit {0}
@@ -32,16 +32,16 @@ abbrev pub end_text : End → List ℕ
 end_text (Ok done) = codes " ok"
 end_text (Err fault) = codes " fault " ++ decimal (session_fault_number fault)
 
--- session I and how it ended
+-- `session`, its number, and how it ended
 abbrev pub session_line : ℕ → End → List ℕ
 session_line number end = codes "session " ++ decimal number ++ end_text end
 
--- a line a session, of which the first has this number
+-- one line for each session; the first has this number
 unfoldable pub session_lines : ℕ → List End → List (List ℕ)
 session_lines first [] = []
 session_lines first (end ∷ ends) = session_line first end ∷ session_lines (first + 1) ends
 
--- listening 127.0.0.1:PORT
+-- `listening 127.0.0.1:PORT`
 abbrev pub port_line : ℕ → List ℕ
 port_line port = codes "listening 127.0.0.1:" ++ decimal port
 
@@ -54,7 +54,7 @@ abbrev pub PrintsPort : Option (List ℕ) → Option (List ℕ) → Type 0
 PrintsPort old new = (port : ℕ) × PrintsLines (port_line port ∷ []) old new
 
 module _ {T : Type 0} (sends : T → Option (List ℕ)) where
-  -- the next client is served, which is printed, and others can be served then
+  -- the next client is served, its session is printed, and the server can go on
   pub record ServesNext (number : ℕ) (coming left : Option (List T)) (before after : List (Key × Call))
       (old new : Option (List ℕ)) : Type 0 where
     pub end : End
@@ -62,7 +62,7 @@ module _ {T : Type 0} (sends : T → Option (List ℕ)) where
     pub heard : HearsFirst sends coming left before (end ∷ []) after
     pub printed : PrintsLines (session_line number end ∷ []) old new
 
-  -- so many clients are served, one after the other, and each session is printed
+  -- this many clients are served, one after another, and each session is printed
   pub record ServesAll (count : ℕ) (coming left : Option (List T)) (before after : List (Key × Call))
       (old new : Option (List ℕ)) : Type 0 where
     pub ends : List End
@@ -71,16 +71,16 @@ module _ {T : Type 0} (sends : T → Option (List ℕ)) where
     pub heard : HearsFirst sends coming left before ends after
     pub printed : PrintsLines (session_lines 1 ends) old new
 
--- the rows after a log, carried out one by one, and their total
+-- the rows after a log that is executed one by one, and their total
 abbrev pub end_lines : List (List ℕ) → Balances → List (Key × Call) → List (List ℕ)
 end_lines names opening log = row_lines names (rows_after (calls_of log) (rows_of names opening))
 
--- they are printed, of the log and the opening of a bank
+-- these lines are printed, for the log and the opening of the bank
 abbrev pub PrintsRows : {S : Type 0} → PrimaryOf S → Option (List ℕ) → Option (List ℕ) → Type 0
 PrintsRows primary old new = PrintsLines (end_lines primary.node.names primary.node.board.opening primary.log) old new
 
--- a bank with this opening is served to so many of those who are coming, which leaves this log. Printed is where it
--- listens, how each session ended, and the rows after the log, carried out one by one
+-- a bank with this opening is served to this many of those who are coming, and has this log then.
+-- It prints its port, how each session ended, and the rows after the log, executed one by one
 pub record ServesBank {T : Type 0} (sends : T → Option (List ℕ)) (names : List (List ℕ)) (opening : Balances)
     (count : ℕ) (coming : Option (List T)) (log : List (Key × Call)) (old new : Option (List ℕ)) : Type 0 where
   pub port : ℕ
@@ -91,7 +91,8 @@ pub record ServesBank {T : Type 0} (sends : T → Option (List ℕ)) (names : Li
   pub heard : HearsFirst sends coming left [] ends log
   pub printed : PrintsLines (port_line port ∷ session_lines 1 ends ++ end_lines names opening log) old new
 
--- a bank with an empty log is served as planned: what was printed and its log are told above, and what it is left as in Kept
+-- a bank with an empty log is served by this plan: its output and its log are as `ServesBank` says,
+-- and what is left of it is as `IsLeft` says
 pub record ServesAsPlanned {T S : Type 0} (sends : T → Option (List ℕ))
     (model : StoreModel S) (plan : Plan) (coming : Option (List T)) (before after : PrimaryOf S)
     (old new : Option (List ℕ)) : Type 0 where

@@ -15,11 +15,12 @@ use std::io::{Read, Write};
 use std::net::OpenStream;
 use std::time::{Clock, Duration};
 
-/// Serves a client, as [`serve_session`]. Its stream stays open: the client sees its end once the caller lets it go.
+/// Serves a client, as [`serve_session`] does. Its stream stays open: the client sees the end once
+/// the caller drops it.
 ///
-/// A client that sent what it may not is told at once that nothing more comes, and still gets all that it was told.
-/// Where the stream can't be set up, it is as if it had failed at once; where the patience with a read or a write, of so
-/// many seconds, is over, as if that had failed.
+/// A client at fault is notified at once that nothing more comes, and still gets all that was sent
+/// to it. A stream that can't be set up counts as one that fails at once. A read or a write that
+/// exceeds the patience, in seconds, counts as one that fails.
 pub(crate) fn serve_client<R, T, S, C>(
     rt: &R,
     alloc: Global,
@@ -50,7 +51,8 @@ where
     served
 }
 
-// Another end of the stream, to write to. What is written is sent at once, and the client is waited for so many seconds.
+// The writing end of the stream. What is written is sent at once, and each write waits this many
+// seconds for the client.
 fn set_up<T: OpenStream>(stream: &T, patience: Option<usize>) -> io::Result<T> {
     stream.set_nodelay(true)?;
     if let Some(seconds) = patience {

@@ -1,4 +1,4 @@
-//! What clap is told of the program's words.
+//! The program's words, as they are described to clap.
 use clap::{Arg, Command, value_parser};
 use std::alloc::{AllocError, Global};
 
@@ -34,11 +34,11 @@ prints, once a client has deposited 1.00 for alice
 // An option that takes a number.
 struct Count {
     name: &'static str,
-    // From the first to the last, and as help shows it.
+    // The least and the greatest number, and the range as help shows it.
     first: i64,
     last: i64,
     shown: &'static str,
-    // What it is where it isn't said, if it is anything then.
+    // The default, if there is one.
     standard: Option<&'static str>,
     help: &'static str,
 }
@@ -88,7 +88,7 @@ const PATIENCE: Count = Count {
     help: "For how many seconds a client is waited for, at each read and each write; without it for ever",
 };
 
-/// The command whose grammar the program's words have.
+/// The command whose grammar the program's words follow.
 pub fn command<'a>(alloc: Global) -> Result<Command<'a>, AllocError> {
     let run = run(alloc)?;
     let serve = serve(alloc)?;
@@ -99,7 +99,7 @@ pub fn command<'a>(alloc: Global) -> Result<Command<'a>, AllocError> {
         .subcommands(parts)
 }
 
-// The part of the command that runs calls.
+// The subcommand that runs calls.
 fn run<'a>(alloc: Global) -> Result<Command<'a>, AllocError> {
     let args = Vec::from_array(alloc, [number(alloc, &NODES), number(alloc, &WORKERS)])?;
     Command::new(alloc, "run")
@@ -109,12 +109,12 @@ fn run<'a>(alloc: Global) -> Result<Command<'a>, AllocError> {
         .args(args)
 }
 
-// The part of the command that plays a schedule.
+// The subcommand that plays a schedule.
 fn play<'a>(alloc: Global) -> Command<'a> {
     Command::new(alloc, "play").about("Plays a schedule from standard input")
 }
 
-// The part of the command that serves.
+// The subcommand that serves.
 fn serve<'a>(alloc: Global) -> Result<Command<'a>, AllocError> {
     let args = [
         number(alloc, &PORT).required(true),
@@ -132,7 +132,7 @@ fn serve<'a>(alloc: Global) -> Result<Command<'a>, AllocError> {
         .args(args)
 }
 
-// An option that takes a number, as clap is told of it.
+// An option that takes a number, as it is described to clap.
 fn number<'a>(alloc: Global, option: &Count) -> Arg<'a> {
     let arg = Arg::new(alloc, option.name)
         .long(option.name)
@@ -145,7 +145,7 @@ fn number<'a>(alloc: Global, option: &Count) -> Arg<'a> {
     }
 }
 
-// Where node 0's checkpoint is kept.
+// The folder of node 0's checkpoint.
 fn store<'a>(alloc: Global) -> Arg<'a> {
     Arg::new(alloc, "store")
         .long("store")

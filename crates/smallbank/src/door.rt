@@ -7,25 +7,25 @@ use std::io::ErrorKind;
 use std::net::OpenListener;
 use std::sync::Wait;
 
-/// Lets clients in, one after the other.
+/// Lets clients in, one after another.
 ///
-/// One that tells who is coming lets them in in that order.
+/// A door that tells who is coming lets them in in that order.
 pub trait Door {
     /// The server's end of a client's stream.
     type Stream: Drop;
 
-    /// Who is coming, in order, where that is told.
+    /// Those who are coming, in order, if the door tells.
     ghost coming: { Self → Option (List Self.Stream) };
 
     /// Waits for the next client.
     fn let_in(&mut self) -> io::Result<Self::Stream>
         ensures next { IfOk result (λ client. LetsIn client (coming self.old) (coming self.new)) };
 
-    /// The port where it is.
+    /// The port of the door.
     fn port(&self) -> io::Result<u16>;
 }
 
-/// The door of a listener, which tells nobody who is coming.
+/// The door of a listener. It doesn't tell who is coming.
 #[derive(Drop)]
 pub struct ListenerDoor<'a, R: Wait, L: OpenListener> {
     rt: &'a R,
@@ -33,7 +33,7 @@ pub struct ListenerDoor<'a, R: Wait, L: OpenListener> {
 }
 
 impl<'a, R: Wait, L: OpenListener> ListenerDoor<'a, R, L> {
-    /// The door where this listener listens.
+    /// The door at which this listener listens.
     pub fn new(rt: &'a R, listener: L) -> ListenerDoor<'a, R, L>
         ensures { result.listener ≡ listener }
     {
@@ -46,7 +46,7 @@ impl<'a, R: Wait, L: OpenListener> Door for ListenerDoor<'a, R, L> {
 
     ghost coming = { λ door. None };
 
-    // A client that is gone before it is let in is passed by.
+    // It skips a client that is gone before it is let in.
     fn let_in(&mut self) -> io::Result<L::Stream> {
         for _ in self.rt.forever() {
             match self.listener.accept() {
@@ -66,8 +66,8 @@ impl<'a, R: Wait, L: OpenListener> Door for ListenerDoor<'a, R, L> {
     }
 }
 
-// Whether what is told of a client says nothing of the device: that it is gone, or the way to it is. Linux tells that as
-// it lets a client in.
+// Whether an error says only that the client or the way to it is gone, and nothing of the device.
+// Linux reports such errors as it lets a client in.
 fn is_of_a_client(kind: ErrorKind) -> bool {
     matches!(
         kind,

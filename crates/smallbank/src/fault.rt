@@ -8,13 +8,13 @@ use thiserror::Error;
 /// Why a program ends without its output.
 #[derive(Clone, Copy, Debug, PartialEq, Eq, Error)]
 pub enum ProgramFault {
-    /// A run.
+    /// A run failed.
     #[error(transparent)]
     Run(RunFault),
-    /// The playing of a schedule.
+    /// Playing a schedule failed.
     #[error(transparent)]
     Play(ScheduleFault),
-    /// The serving of a bank.
+    /// Serving a bank failed.
     #[error(transparent)]
     Serve(ServeFault),
 }

@@ -3,21 +3,22 @@ use std::io::{ErrorKind, Read};
 use std::net::{OpenStream, Shutdown};
 use std::time::{Clock, Duration, Instant};
 
-// How many bytes of a client at fault are passed over, in how many reads at most.
+// How many bytes of a client at fault are skipped, and in how many reads, at most.
 const PASSED_OVER: usize = 1024 * 1024;
 
 const READS: u32 = 4_096;
 
-// How many bytes are asked of it at once.
+// The size of one such read, in bytes.
 const CHUNK: usize = 65_536;
 
-// How long it may be silent, and for how long more is passed over at all, in seconds.
+// How long the client may be silent, and how long bytes are skipped altogether, in seconds.
 const PATIENCE: u64 = 3;
 
 const LONGEST: u64 = 10;
 
-/// Tells a client that nothing more comes, and passes over what it still sends: where that was left unread, what the
-/// client was told could get lost on the way. A client that is silent, or sends on and on, is left.
+/// Notifies a client that nothing more comes, and skips what it still sends: left unread, that
+/// could make the network lose what was sent to the client. It leaves a client that is silent, or
+/// that goes on sending.
 pub(crate) fn hang_up<R: Clock, S: Read + OpenStream>(rt: &R, stream: &mut S) {
     let patience = Duration::from_secs(PATIENCE);
     if stream.set_read_timeout(Some(patience)).is_ok() && stream.shutdown(Shutdown::Write).is_ok() {
@@ -25,7 +26,7 @@ pub(crate) fn hang_up<R: Clock, S: Read + OpenStream>(rt: &R, stream: &mut S) {
     }
 }
 
-// Reads on until the end, a failure, or as much or for as long as is passed over.
+// Reads until the end, a failure, or a limit of bytes, reads or time.
 pub(crate) fn pass_over<R: Clock, S: Read>(rt: &R, reader: &mut S, longest: Duration) {
     let Ok(began) = Instant::now(rt) else {
         return;
@@ -48,7 +49,7 @@ pub(crate) fn pass_over<R: Clock, S: Read>(rt: &R, reader: &mut S, longest: Dura
     }
 }
 
-// Whether it began so long ago. Where the clock can't tell, it did.
+// Whether the start is this long ago. If the clock can't tell, the answer is yes.
 fn has_lasted<R: Clock>(rt: &R, began: &Instant, longest: Duration) -> bool {
     match began.elapsed(rt) {
         Ok(lasted) => lasted >= longest,

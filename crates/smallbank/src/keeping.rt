@@ -11,12 +11,12 @@ use cown_workers::Crew;
 use sb_checkpoint::CheckpointStore;
 use std::sync::Wait;
 
-/// Has node 0 carry out all of the log, tells the followers of it, and puts a checkpoint into node 0's store where
-/// that is asked for.
+/// Has node 0 execute the whole log, sends it to the followers, and puts a checkpoint into node 0's
+/// store if the bank saves.
 ///
 /// Fails with
-/// - [`ServeFault::Run`] where the crew is gone, the store's device fails, or memory is refused,
-/// - [`ServeFault::ReadBack`] where the store doesn't give back what was put.
+/// - [`ServeFault::Run`] if the crew is gone, the store's device fails, or memory is refused,
+/// - [`ServeFault::ReadBack`] if the store doesn't give back what was put.
 pub(crate) fn keep<R: Wait, S: CheckpointStore, C: Crew>(
     primary: &mut Primary<S>,
     followers: &mut Followers<'_, R>,
@@ -25,7 +25,7 @@ pub(crate) fn keep<R: Wait, S: CheckpointStore, C: Crew>(
 ) -> Result<(), ServeFault>
     ensures log { primary.new.log ≡ primary.old.log }
     ensures left { OnOk result (IsLeft S.model saves 1 primary.old primary.new) }
-    // The followers were told of all of the log.
+    // The whole log was sent to the followers.
     ensures told { OnOk result (length primary.new.log ≤ followers.new.told) }
     ensures nodes { followers.new.nodes ≡ followers.old.nodes }
     ensures fault { IfErr result (IsKeepFault saves) }
@@ -38,7 +38,7 @@ pub(crate) fn keep<R: Wait, S: CheckpointStore, C: Crew>(
     Ok(())
 }
 
-// Has node 0 carry out all of the log.
+// Has node 0 execute the whole log.
 fn settle<S: CheckpointStore, C: Crew>(
     primary: &mut Primary<S>,
     crew: &mut C,
@@ -53,7 +53,7 @@ fn settle<S: CheckpointStore, C: Crew>(
         Ok(()) => Ok(()),
         Err(SessionFault::CrewGone) => Err(ServeFault::Run(RunFault::CrewGone)),
         Err(SessionFault::OutOfMemory) => Err(ServeFault::Run(RunFault::OutOfMemory)),
-        // Nobody is read from or written to.
+        // No client is read from or written to.
         Err(_) => unreachable!(),
     }
 }

@@ -1,4 +1,4 @@
-//! The port where clients are listened to.
+//! The port where the server listens.
 ghost use Rattle.std.specs.Prelude.{IfErr};
 ghost use Rattle.smallbank.specs.ServeFaults.{IsPortFault};
 
@@ -7,9 +7,10 @@ use bank_server::RunFault;
 use std::io::ErrorKind;
 use std::net::{IpAddr, Ipv4Addr, Net, SocketAddr};
 
-/// Listens at this port of this machine, and with 0 at any free one. No other machine reaches it.
+/// Listens at this port of this machine, and with 0 at any free one. No other machine can reach it.
 ///
-/// Fails with [`ServeFault::PortTaken`] where someone else listens there, and else with a failed device.
+/// Fails with [`ServeFault::PortTaken`] if another program listens there, and otherwise with a
+/// failed device.
 pub fn listen<N: Net>(net: &N, port: u16) -> Result<N::Listener, ServeFault>
     ensures fault { IfErr result (IsPortFault port) }
 {

@@ -42,7 +42,7 @@ fn main(rt: HostRuntime) -> ExitCode {
         Ok(status) => status,
         Err(fault) => {
             let report = told(fault);
-            // Where standard error fails too, the status still tells.
+            // If standard error fails too, the status still tells the fault.
             let _ = eprintln!(rt; "{report}");
             report.status
         }
@@ -50,7 +50,8 @@ fn main(rt: HostRuntime) -> ExitCode {
     ExitCode::from(status)
 }
 
-// Does what the program's words say, and gives the exit status. Threads are the second handle's.
+// Executes what the program's words say, and answers the exit status. The second handle is for
+// threads.
 fn start<H: Threads + Wait + Clock + Sync + Net>(
     rt: &HostRuntime,
     threads: &H,
@@ -68,7 +69,7 @@ fn start<H: Threads + Wait + Clock + Sync + Net>(
     }
 }
 
-// Does what the words say.
+// Executes what the words say.
 fn obey<H: Threads + Wait + Clock + Sync + Net>(
     rt: &HostRuntime,
     threads: &H,
@@ -95,7 +96,7 @@ fn obey<H: Threads + Wait + Clock + Sync + Net>(
     Ok(0)
 }
 
-// Tells what clap has to say of words that nothing is done for: a fault, or help that they call for.
+// Prints clap's text for words that start nothing: a fault, or help that they call for.
 fn tell(rt: &HostRuntime, error: clap::Error) -> Result<u8, ProgramFault> {
     if error.kind() == ErrorKind::OutOfMemory {
         return Err(ProgramFault::Run(RunFault::OutOfMemory));

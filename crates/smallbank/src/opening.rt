@@ -1,4 +1,4 @@
-//! An opening text, and nothing behind it.
+//! An opening text, with nothing after it.
 ghost use Rattle.std.specs.Prelude.{◌≡◌, MatchResult};
 ghost use Rattle.bank_server.specs.Faults.{BlamesText};
 ghost use Rattle.smallbank.specs.Opening.{IsOpeningOf, whole_opening_of};
@@ -9,8 +9,8 @@ use std::alloc::Global;
 
 /// Reads an opening text that ends with its line `begin`.
 ///
-/// Fails with [`RunFault::Input`] at the first line at fault, which the first line behind `begin` is too, and with
-/// [`RunFault::OutOfMemory`].
+/// Fails with [`RunFault::Input`] at the first line at fault, which may be the line after `begin`,
+/// and with [`RunFault::OutOfMemory`] if memory is refused.
 pub fn whole_opening(alloc: Global, input: &[u8]) -> Result<Opening, RunFault>
     ensures whole { MatchResult result
         (IsOpeningOf (whole_opening_of input.now))
@@ -28,7 +28,7 @@ pub fn whole_opening(alloc: Global, input: &[u8]) -> Result<Opening, RunFault>
     Ok(opening)
 }
 
-// This line is at fault.
+// The fault of this line.
 fn at_line(line: usize, fault: LineFault) -> RunFault
     ensures { result ≡ RunFault.Input line (InputFault.Opening fault) }
 {

@@ -1,8 +1,8 @@
-//! What stands for an option among the program's words.
+//! The values of options among the program's words.
 ghost use Rattle.std.specs.Prelude.{◌≡◌, ◌≢◌, ◌++◌, ◌∷◌, IfSome, MatchOption, map, string_bytes};
 ghost use Rattle.smallbank.specs.Words.{Counts, MayNumber, Numbers, Stands};
 
-/// The number that stands for an option, or the standard one; `None` for what is no number.
+/// The number that an option has, or the default. `None` if its value isn't a number.
 pub fn count(words: &[String], option: &str, standard: usize) -> Option<usize>
     ensures { IfSome result
         (λ number. Counts option.now standard number (map string_bytes words.now)) }
@@ -13,7 +13,7 @@ pub fn count(words: &[String], option: &str, standard: usize) -> Option<usize>
     }
 }
 
-/// The number that stands for an option, if one does; `None` for what is no number.
+/// The number that an option has, if it has a value. `None` if that isn't a number.
 pub fn maybe(words: &[String], option: &str) -> Option<Option<usize>>
     ensures { IfSome result (λ number. MayNumber option.now number (map string_bytes words.now)) }
 {
@@ -23,14 +23,14 @@ pub fn maybe(words: &[String], option: &str) -> Option<Option<usize>>
     }
 }
 
-/// The number that stands for an option; `None` for what is no number, and where nothing stands for it.
+/// The number that an option has. `None` if its value isn't a number, or it has none.
 pub fn number(words: &[String], option: &str) -> Option<usize>
     ensures { IfSome result (λ number. Numbers option.now number (map string_bytes words.now)) }
 {
     value(words, option)?.parse::<usize>().ok()
 }
 
-/// The first value that stands for an option.
+/// The first value that an option has.
 pub fn value<'a>(words: &'a [String], option: &str) -> Option<&'a str>
     ensures { MatchOption result
         ((text : _) → ¬ (Stands option.now text (map string_bytes words.entry.now)))

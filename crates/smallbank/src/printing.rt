@@ -1,4 +1,4 @@
-//! What is printed of a bank that is served.
+//! What a served bank prints.
 ghost use Rattle.std.specs.Prelude.{◌≡◌, [], ◌∷◌, ◌++◌, IfErr, OnOk};
 ghost use Rattle.bank_server.specs.Primary.{HasAll};
 ghost use Rattle.smallbank.specs.ServeFaults.{IsPrintFault};
@@ -13,9 +13,9 @@ use sb_text::{list_rows, write_whole};
 use std::alloc::{AllocError, Global};
 use std::io::Write;
 
-/// Prints where clients are listened to.
+/// Prints the address where the server listens.
 ///
-/// Fails where that can't be told, where a write fails, and where memory is refused.
+/// Fails if the port can't be found out, if a write fails, or if memory is refused.
 pub(crate) fn print_port<D: Door, W: Write>(
     alloc: Global,
     door: &D,
@@ -34,7 +34,7 @@ pub(crate) fn print_port<D: Door, W: Write>(
 
 /// Prints how a session ended.
 ///
-/// Fails where a write fails, and where memory is refused.
+/// Fails if a write fails, or if memory is refused.
 pub(crate) fn print_session<W: Write>(
     alloc: Global,
     number: usize,
@@ -70,7 +70,7 @@ fn push_ending(served: Result<(), SessionFault>, out: &mut Vec<u8>) -> Result<()
 
 /// Prints the rows of a bank and their total.
 ///
-/// Fails where a write fails, and where memory is refused.
+/// Fails if a write fails, or if memory is refused.
 pub(crate) fn print_rows<S: CheckpointStore, W: Write>(
     alloc: Global,
     primary: &Primary<S>,

@@ -11,20 +11,20 @@ use std::alloc::{AllocError, AllocFailed};
 use std::io;
 use thiserror::Error;
 
-/// Why a bank isn't served, or no longer.
+/// Why a bank isn't served, or why serving it ends.
 #[derive(Clone, Copy, Debug, PartialEq, Eq, Error)]
 pub enum ServeFault {
-    /// What ends a run too: the opening is at fault, a follower strayed, the crew is gone, a device failed, or memory
-    /// was refused.
+    /// A fault that a run has too: the opening is at fault, a follower strayed, the crew is gone, a
+    /// device failed, or memory was refused.
     #[error(transparent)]
     Run(RunFault),
     /// What the store gave back isn't what was put.
     #[error("read back")]
     ReadBack,
-    /// No checkpoint can be put into the store's folder. Nobody was listened to.
+    /// No checkpoint can be put into the store's folder. The server didn't listen.
     #[error("the store's folder takes no file")]
     Store,
-    /// Someone else listens at this port.
+    /// Another program listens at this port.
     #[error("port {0} is taken")]
     PortTaken(u16),
 }

@@ -22,13 +22,13 @@ use std::sync::Wait;
 use std::thread::Threads;
 use std::time::Clock;
 
-// The name of node 0's checkpoint.
+// The file name of node 0's checkpoint.
 const CHECKPOINT: &str = "node0.ckpt";
 
-/// Serves the bank of the opening in standard input at a port, and keeps node 0's checkpoint in this folder, if there
-/// is one.
+/// Serves the bank of the opening in standard input at a port. Node 0 keeps its checkpoint in this
+/// folder, if there is one.
 ///
-/// Nothing is listened to before the whole input was read and checked, and the folder was tried.
+/// The server listens only after the whole input was read and checked, and the folder tried.
 pub fn serve_program<H>(
     rt: &HostRuntime,
     threads: &H,
@@ -53,7 +53,7 @@ where
     serve_at(rt, threads, port, opening, store, plan)
 }
 
-// A whole opening text, read as by `whole_opening`.
+// A whole opening text, read as `whole_opening` reads it.
 fn boxed_opening(alloc: Global, input: &[u8]) -> Result<Box<Opening>, RunFault>
     ensures { IfErr result (λ fault. BlamesText fault (whole_opening_of input.now)) }
 {
@@ -61,8 +61,8 @@ fn boxed_opening(alloc: Global, input: &[u8]) -> Result<Box<Opening>, RunFault>
     Ok(Box::new(alloc, opening)?)
 }
 
-// A store in this folder, which can be written. Without a folder it is one that nothing is asked of, so that a bank is
-// served over one type of store.
+// A store in this folder, which can be written. Without a folder it is one that is never used, so
+// that a bank is always served over one type of store.
 fn store_of(
     rt: &HostRuntime,
     folder: Option<&str>,
@@ -78,7 +78,7 @@ fn store_of(
 
 // A store in a file, which can be written.
 fn store_in<P: FileWithSpare>(file: P) -> Result<FileStore<P>, ServeFault>
-    // It was tried: in an honest folder no spare is left, and the checkpoint stays.
+    // The store was tried: in an honest folder no spare is left, and the checkpoint stays.
     ensures tried { IfOk result (λ store. P.IsHonest file → P.spare store.file ≡ None) }
     ensures stays { IfOk result (λ store. P.IsHonest file → P.held store.file ≡ P.held file) }
     ensures fault { IfErr result (λ fault. fault ≡ ServeFault.Store) }

@@ -1,4 +1,4 @@
-//! Who serves a bank's clients.
+//! The server of a bank's clients.
 ghost use Rattle.std.specs.Prelude.{◌≡◌, [], IfErr, IfOk, MatchOption, OnOk};
 ghost use Rattle.bank_server.specs.Primary.{HasAll};
 ghost use Rattle.sb_sequencer.specs.Numbering.{IsLog};
@@ -22,7 +22,7 @@ use std::sync::Wait;
 use std::thread::Threads;
 use std::time::Clock;
 
-/// A bank, where its clients come in, and where it is printed.
+/// A bank, the door where its clients come in, and the writer where it prints.
 #[derive(Drop)]
 pub(crate) struct Server<D, S: CheckpointStore, W> {
     pub(crate) alloc: Global,
@@ -47,7 +47,7 @@ where
         server.plan (D.coming server.door) server.primary bank.primary (W.contents server.writer) (W.contents bank.writer))
         × IfErr answer (IsServingFault nodes server.plan.saves) };
 
-    // Serves the bank, and prints all that is printed of it.
+    // Serves the bank, and prints its whole output.
     fn carry_out<R, C>(
         self,
         rt: &R,
@@ -74,7 +74,7 @@ where
     S: CheckpointStore,
     W: Write,
 {
-    // Serves the bank, and prints all that is printed of it.
+    // Serves the bank, and prints its whole output.
     fn serve_whole<R, C>(
         &mut self,
         rt: &R,
@@ -98,7 +98,7 @@ where
         Ok(())
     }
 
-    // Serves the clients, one after the other.
+    // Serves the clients, one after another.
     fn serve_all<R, C>(
         &mut self,
         rt: &R,
@@ -125,7 +125,7 @@ where
         Ok(())
     }
 
-    // Serves the next client, and prints how that ended.
+    // Serves the next client, and prints how its session ended.
     fn serve_next<R, C>(
         &mut self,
         number: usize,
@@ -146,7 +146,8 @@ where
         ensures plan { self.new.plan ≡ self.old.plan }
         ensures fault { IfErr result (IsKeepFault self.old.plan.saves) }
     {
-        // It ends with this function, so a client whose stream ends while the server goes on knows that its asks are saved.
+        // The stream is dropped when this function ends. So a client whose stream ends while the
+        // server goes on knows that its asks are saved.
         let mut stream = self.door.let_in()?;
         let (alloc, patience) = (self.alloc, self.plan.patience);
         let served = serve_client(rt, alloc, patience, &mut stream, &mut self.primary, crew);
@@ -159,7 +160,7 @@ where
     }
 }
 
-// How the program ends after such a session, if it does.
+// The fault with which the program ends after such a session, if it does.
 fn ending(served: Result<(), SessionFault>) -> Option<RunFault>
     ensures { MatchOption result (GoesOn served) IsKeepRunFault }
 {

@@ -1,4 +1,4 @@
-//! A bank that is served: its clients, one after the other, and its rows at the end.
+//! A served bank: its clients, one after another, and its rows at the end.
 ghost use Rattle.std.specs.Prelude.{◌≡◌, ◌≤◌, [], IfErr, IfOk};
 ghost use Rattle.bank_server.specs.Primary.{HasAll};
 ghost use Rattle.sb_sequencer.specs.Numbering.{IsLog};
@@ -25,39 +25,41 @@ use std::time::Clock;
 /// How a bank is served.
 #[derive(Clone, Copy, Debug, PartialEq, Eq)]
 pub struct Plan {
-    /// How many clients are served, one after the other.
+    /// How many clients are served, one after another.
     pub sessions: usize,
-    /// How many nodes carry the log out: 1 to 16.
+    /// How many nodes execute the log: 1 to 16.
     pub nodes: usize,
-    /// How many threads work for node 0: 0 to 16, and with 0 it works alone.
+    /// How many threads work for node 0: 0 to 16. With 0 it works alone.
     pub workers: usize,
     /// Whether node 0 puts a checkpoint into its store after each session.
     pub saves: bool,
-    /// For how many seconds a client is waited for, at each read and each write; `None` is for ever.
+    /// How many seconds each read and each write waits for a client; `None` is for ever.
     pub patience: Option<usize>,
 }
 
 /// A bank that was served.
 #[derive(Drop)]
 pub struct Served<S: CheckpointStore, W> {
-    /// Its log and node 0, which has carried out all of it.
+    /// Its log and node 0, which has executed all of it.
     pub primary: Primary<S>,
-    /// Where it was printed.
+    /// The writer where it printed.
     pub writer: W,
 }
 
-/// Serves a bank with this opening to those that come in at a door, and gives back the bank and the writer.
+/// Serves a bank with this opening to those who come in at a door, and gives back the bank and the
+/// writer.
 ///
-/// It prints where clients are listened to, a line a session as soon as node 0 has carried out all that was asked and
-/// the followers were told, and at the end, once the followers came to the same, the rows and their total. A client at
-/// fault ends its own session, and the next is served.
+/// It prints the address, and then a line for each session, as soon as node 0 has executed all that
+/// was asked and it was sent to the followers. At the end, once the followers agree with node 0, it
+/// prints the rows and their total. A client at fault ends its own session only, and the next is
+/// served.
 ///
-/// Fails with
-/// - [`ServeFault::Run`] where a follower can't be started or differs from node 0, where the crew is gone, where a
-///   client isn't let in, a write to the writer or the store's device fails, or where memory is refused,
-/// - [`ServeFault::ReadBack`] where the store doesn't give back what was put.
+/// Fails with - [`ServeFault::Run`] where a follower can't be started or differs from node 0, where
+/// the crew is gone, where a client isn't let in, a write to the writer or the store's device
+/// fails, or where memory is refused, - [`ServeFault::ReadBack`] where the store doesn't give back
+/// what was put.
 ///
-/// The rows aren't printed then.
+/// After a fault the rows aren't printed.
 pub fn serve<H, D, S, W>(
     rt: &H,
     alloc: Global,
@@ -75,7 +77,7 @@ where
     W: Write + Drop,
     requires nodes { plan.nodes ≤ REPLICAS }
     requires workers { plan.workers ≤ WORKERS }
-    // The log is that of the clients' sessions, and the rows that are printed are those after it.
+    // The log is that of the clients' sessions, and the printed rows are those after it.
     ensures served { IfOk result (λ bank. ServesBank D.Stream.remaining opening.directory
         opening.columns plan.sessions (D.coming door) bank.primary.log
         (W.contents writer) (W.contents bank.writer)) }
@@ -83,10 +85,10 @@ where
     ensures all { IfOk result (λ bank. HasAll bank.primary) }
     ensures names { IfOk result (λ bank. bank.primary.node.names ≡ opening.directory) }
     ensures opening { IfOk result (λ bank. bank.primary.node.board.opening ≡ opening.columns) }
-    // What is saved is the checkpoint of all of that log.
+    // A bank that saves has the checkpoint of all of that log.
     ensures kept { IfOk result (λ bank. IsKept S.model plan.saves plan.sessions store
         bank.primary.node) }
-    // Node 0 never strays, and the store is asked only where the plan says so.
+    // Node 0 never strays, and `ReadBack` comes only if the plan saves.
     ensures fault { IfErr result (IsServingFault plan.nodes plan.saves) }
 {
     let primary = Primary::open(alloc, opening, store)?;
@@ -101,7 +103,8 @@ where
     serve_beside(rt, followers, server)
 }
 
-// Serves a bank beside these followers. They are at the bank's opening, but for a test that has them stray.
+// Serves a bank with these followers. They are at the bank's opening, except in a test of followers
+// that stray.
 pub(crate) fn serve_beside<H, D, S, W>(
     rt: &H,
     followers: ReadyFollowers,

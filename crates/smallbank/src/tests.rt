@@ -1,4 +1,4 @@
-//! What no clause says: the program's words, how faults are told, and banks that are served.
+//! What no clause says: the program's words, how faults are reported, and banks that are served.
 mod clients;
 mod hostile;
 mod openings;

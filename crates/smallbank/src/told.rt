@@ -1,4 +1,4 @@
-//! How a fault is told.
+//! How a fault is reported.
 ghost use Rattle.std.specs.Prelude.{◌≡◌};
 ghost use Rattle.smallbank.specs.Faults as spec;
 ghost use Rattle.smallbank.specs.Faults.{exit_status};
@@ -12,9 +12,9 @@ use std::fmt;
 /// How a fault ends the program: its exit status, and its text by `Display`.
 #[derive(Clone, Copy, Debug, PartialEq, Eq)]
 pub struct Report {
-    /// 1 for an input that is refused, 3 for all else.
+    /// 1 for an input that is refused, 3 for every other fault.
     pub status: u8,
-    /// What is told.
+    /// The fault.
     pub fault: ProgramFault,
 }
 

@@ -12,39 +12,39 @@ use cown_bench::WORKERS;
 use sb_sequencer::REPLICAS;
 use std::alloc::{AllocError, Global};
 
-// What is told of words that clap takes and `named` doesn't. None are known.
+// The text for words that clap takes and `named` doesn't. None are known.
 const UNREAD: &str =
     "these take 1 to 16 nodes, 0 to 16 workers, 1 to 1000 sessions, 1 to 86400 seconds and a port, \
     as plain numbers";
 
 const NO_TEXT: &str = "a word isn't UTF-8";
 
-/// What the program is to do.
+/// What the program does.
 #[derive(Clone, Copy, Debug, PartialEq, Eq)]
 pub enum Words<'a> {
     /// Run an opening and calls from standard input.
     Run {
-        /// How many nodes carry the calls out: 1 to 16.
+        /// How many nodes execute the calls: 1 to 16.
         nodes: usize,
-        /// How many threads carry out node 0's calls: 0 to 16, and with 0 it does so itself.
+        /// How many threads execute node 0's calls: 0 to 16. With 0 it executes them itself.
         workers: usize,
     },
     /// Play a schedule from standard input.
     Play,
     /// Serve the bank of an opening from standard input.
     Serve {
-        /// Where clients are listened to, and with 0 at any free port.
+        /// The port where the server listens; 0 is any free one.
         port: u16,
-        /// How it is served: it saves where there is a store.
+        /// How the bank is served: it saves exactly if there is a store.
         plan: Plan,
         /// The folder where node 0 keeps its checkpoint, if it keeps one.
         store: Option<&'a str>,
     },
 }
 
-/// Reads the program's words, of which the first is its name. No further word means `run`.
+/// Reads the program's words; the first is its name. Without further words it is `run`.
 ///
-/// Fails with clap's error, whose text and exit status tell what is wrong; a call for help or for
+/// Fails with clap's error, whose text and exit status say what is wrong. A call for help or for
 /// the version is one too.
 pub fn read_words<'a>(alloc: Global, words: &'a [String]) -> Result<Words<'a>, Error>
     ensures names { IfOk result (λ read. Names read words.entry.now) }
@@ -53,14 +53,14 @@ pub fn read_words<'a>(alloc: Global, words: &'a [String]) -> Result<Words<'a>, E
 {
     let mut command = boxed_command(alloc)?;
     check(&mut command, words)?;
-    // Looked at here once more, so that the clauses rest on nothing of clap's grammar.
+    // The values are checked here again, so that no clause rests on clap's grammar.
     match named(words) {
         Some(read) => Ok(read),
         None => Err(command.error(ErrorKind::ValueValidation, UNREAD)?),
     }
 }
 
-/// What is told where a word isn't UTF-8: that the words are wrong, or that memory was refused.
+/// The error if a word isn't UTF-8: the words are wrong, or memory was refused.
 pub fn refuse_bytes(alloc: Global) -> Error
     ensures { IsRefusal (kind_of result) }
 {
@@ -78,12 +78,12 @@ fn refusal(alloc: Global, text: &str) -> Result<Error, Error>
     Ok(command.error(ErrorKind::ValueValidation, text)?)
 }
 
-// The program's command. Each way out of a function that owns it would drop all of it.
+// The program's command. A function that owned it would have a drop path for it at each `?`.
 fn boxed_command<'a>(alloc: Global) -> Result<Box<Command<'a>>, AllocError> {
     Ok(Box::new(alloc, command(alloc)?)?)
 }
 
-// Fails where the words aren't in the command's grammar.
+// Fails if the words don't follow the command's grammar.
 fn check<'a>(command: &mut Command<'a>, words: &'a [String]) -> Result<(), Error> {
     command.try_get_matches_from_mut(words)?;
     Ok(())
@@ -113,7 +113,7 @@ fn named<'a>(words: &'a [String]) -> Option<Words<'a>>
     None
 }
 
-// How a run is to go, by the words after `run`.
+// How a run goes, by the words after `run`.
 fn run<'a>(options: &'a [String]) -> Option<Words<'a>>
     ensures { IfSome result (λ read. IsRunOf options.entry.now read) }
 {
@@ -126,7 +126,7 @@ fn run<'a>(options: &'a [String]) -> Option<Words<'a>>
     }
 }
 
-// How a bank is to be served, by the words after `serve`.
+// How a bank is served, by the words after `serve`.
 fn serve<'a>(options: &'a [String]) -> Option<Words<'a>>
     ensures { IfSome result (λ read. IsServeOf options.entry.now read) }
 {
@@ -136,7 +136,7 @@ fn serve<'a>(options: &'a [String]) -> Option<Words<'a>>
     Some(Words::Serve { port, plan, store })
 }
 
-// The plan of such words, of a bank that saves or doesn't.
+// The plan that these words give, for a bank that saves or doesn't.
 fn plan_of(options: &[String], saves: bool) -> Option<Plan>
     ensures { IfSome result (λ plan. IsPlanOf options.now saves plan) }
 {

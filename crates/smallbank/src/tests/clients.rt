@@ -1,4 +1,4 @@
-//! Clients in memory, who connect one after the other.
+//! Clients in memory, who connect one after another.
 ghost use Rattle.std.specs.Prelude.{Some};
 
 use crate::door::Door;
@@ -13,13 +13,13 @@ use std::time::Duration;
 /// How a client's stream behaves.
 #[derive(Clone, Copy, PartialEq, Eq)]
 pub enum Manner {
-    /// It gives all that was sent.
+    /// It gives all bytes that were sent.
     Plain,
     /// It can't be set up.
     Stubborn,
     /// It takes nothing.
     Deaf,
-    /// It breaks once all that was sent is read.
+    /// It breaks once all bytes that were sent are read.
     Broken,
 }
 
@@ -30,8 +30,8 @@ pub struct Client<'a> {
     pub manner: Manner,
 }
 
-/// All that clients are told, how often the server hangs up before they do, and how long it waited for each of them, at a
-/// read and at a write.
+/// Everything that is sent to clients, how often the server hangs up before they do, and how long
+/// it waited for each of them, at a read and at a write.
 #[derive(Drop)]
 pub struct Told {
     pub bytes: RefCell<Vec<u8>>,
@@ -122,14 +122,14 @@ impl OpenStream for End<'_, '_> {
     }
 }
 
-/// Lets clients in, in order. There is no other, and nobody is let in then.
+/// Lets clients in, in order. After the last one it lets nobody in.
 #[derive(Drop)]
 pub struct Doorway<'c, 't> {
     pub coming: VecDeque<End<'c, 't>>,
 }
 
 impl<'c, 't> Doorway<'c, 't> {
-    /// The door to which these clients come, and where they are told.
+    /// The door for these clients, and the place where their answers go.
     pub fn of(
         alloc: Global,
         clients: &[Client<'c>],

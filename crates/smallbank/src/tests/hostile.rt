@@ -36,7 +36,7 @@ impl Read for Drip {
     }
 }
 
-// How often a client that drips is read for so long.
+// How many reads a client that drips gets in this time.
 fn reads_within<R: Clock>(rt: &R, longest: Duration) -> u64 {
     let mut drip = Drip { reads: 0 };
     pass_over(rt, &mut drip, longest);
@@ -49,13 +49,14 @@ fn a_drip_is_left(rt: HostRuntime) {
     assert!(&rt; reads_within(&rt, Duration::from_secs(3_600)) == 4_096);
 }
 
-/// A listener whose clients are gone before they are let in, but for the third; then its device fails.
+/// A listener whose clients are gone before they are let in, except the third; then its device
+/// fails.
 #[derive(Drop)]
 struct Flaky {
     calls: Cell<u32>,
 }
 
-/// The server's end of such a client's stream.
+/// The server's end of the stream of one of these clients.
 #[derive(Drop)]
 struct Third;
 
@@ -87,7 +88,7 @@ fn clients_that_are_gone_are_passed_by(rt: HostRuntime) {
     assert!(&rt; refused == Err(ErrorKind::OutOfMemory));
 }
 
-// For how long a client is waited for at a read and at a write, by this patience.
+// How long a read and a write wait for a client, with this patience.
 fn limits<R>(rt: &R, alloc: Global, patience: Option<usize>) -> (Option<Duration>, Option<Duration>)
 where
     R: Abort + Threads + Wait + Clock + Sync,

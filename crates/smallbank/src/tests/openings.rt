@@ -1,4 +1,4 @@
-//! Openings with nothing behind them.
+//! Openings with nothing after them.
 use crate::opening::whole_opening;
 use bank_server::{InputFault, RunFault};
 use sb_rows::LineFault;
@@ -11,7 +11,7 @@ fn at(line: usize, fault: LineFault) -> RunFault {
     RunFault::Input { line, fault }
 }
 
-// This text is a whole opening of so many customers.
+// This text is a whole opening of this many customers.
 fn expect_whole(rt: &impl Abort, alloc: Global, text: &str, customers: usize) {
     let opening = whole_opening(alloc, text.as_bytes()).expect(rt, "an opening");
     assert!(rt; opening.directory.len() == customers);

@@ -1,4 +1,4 @@
-//! How faults are told.
+//! How faults are reported.
 use crate::fault::ProgramFault;
 use crate::serve_fault::ServeFault;
 use crate::told::told;
@@ -8,7 +8,7 @@ use schedule_player::ScheduleFault;
 use std::alloc::Global;
 use std::process::Abort;
 
-// Tells a fault, and compares the status and the text.
+// Reports a fault, and compares the status and the text.
 fn expect_told(rt: &impl Abort, alloc: Global, fault: ProgramFault, status: u8, text: &str) {
     let report = told(fault);
     assert!(rt; report.status == status);

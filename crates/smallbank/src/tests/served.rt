@@ -20,7 +20,7 @@ use std::time::Clock;
 
 const OPENING: &[u8] = b"alice 100.00 50.00\nbob 0.00 20.00\nbegin\n";
 
-// Client 7 asks for alice's balance, deposits 5.00 for bob, and is told of both.
+// Client 7 asks for alice's balance, deposits 5.00 for bob, and gets the outcomes of both.
 const ASKED: &[u8] = b"\x00\x10\x01\0\0\0\x07\0\0\0\x01\x01\x05alice\
 \x00\x16\x01\0\0\0\x07\0\0\0\x02\x02\x03bob\0\0\0\0\0\0\x01\xf4\
 \x00\x01\x06";
@@ -28,7 +28,7 @@ const ASKED: &[u8] = b"\x00\x10\x01\0\0\0\x07\0\0\0\x01\x01\x05alice\
 const TOLD: &[u8] = b"\x00\x13\x05\0\0\0\x07\0\0\0\x01\0\0\0\0\0\0\0\0\x3a\x98\
 \x00\x13\x05\0\0\0\x07\0\0\0\x02\0\x01\0\0\0\0\0\0\0\0";
 
-// The deposit alone, of which nobody is told.
+// The deposit alone, whose outcome nobody gets.
 const DEPOSIT: &[u8] = b"\x00\x16\x01\0\0\0\x07\0\0\0\x02\x02\x03bob\0\0\0\0\0\0\x01\xf4";
 
 // A flush, and an acknowledgement, which no client may send.
@@ -66,7 +66,8 @@ impl CheckpointStore for Forgetful {
     }
 }
 
-// Serves a bank to these clients with this store, and compares how that ends, what is printed and what they are told.
+// Serves a bank to these clients with this store, and compares its end, its output and what the
+// clients get.
 fn expect<S: CheckpointStore>(
     rt: &(impl Abort + Threads + Wait + Clock + Sync),
     alloc: Global,
@@ -207,7 +208,8 @@ fn bank_of(rt: &impl Abort, alloc: Global, opening: &[u8]) -> Box<Primary<Memory
     Box::new(alloc, bank).expect(rt, "a box")
 }
 
-// Serves a client who is told, beside followers that begin with this opening, and gives how that ends.
+// Serves a client in memory, with followers that begin with this opening, and answers how that
+// ends.
 fn serve_one_beside(
     rt: &(impl Abort + Threads + Wait + Clock + Sync),
     alloc: Global,
@@ -235,7 +237,7 @@ fn serve_one_beside(
     serve_beside(rt, followers, server).map(|_| ())
 }
 
-// What `serve` does with its followers: it has no part of its own in which they could stray.
+// What `serve` does with its followers; those that it starts itself never stray.
 #[test]
 fn followers_that_began_otherwise_stray(rt: HostRuntime) {
     let alloc = rt.alloc();
@@ -243,6 +245,6 @@ fn followers_that_began_otherwise_stray(rt: HostRuntime) {
     let strayed = Err(ServeFault::Run(RunFault::Strayed(1)));
     assert!(&rt; serve_one_beside(&rt, alloc, OPENING, 3).is_ok());
     assert!(&rt; serve_one_beside(&rt, alloc, other, 3) == strayed);
-    // Without followers nobody is compared.
+    // Without followers node 0 is compared with nobody.
     assert!(&rt; serve_one_beside(&rt, alloc, other, 1).is_ok());
 }

@@ -18,7 +18,7 @@ fn send<S: Write + OpenStream>(stream: &mut S, sent: &[&[u8]]) -> io::Result<()>
     stream.shutdown(Shutdown::Write)
 }
 
-// Compares what is told until the server hangs up.
+// Compares what comes until the server hangs up.
 fn hears(stream: &mut impl Read, told: &[u8]) -> io::Result<bool> {
     let mut left = told;
     let mut piece = [0u8; 64];
@@ -35,7 +35,7 @@ fn hears(stream: &mut impl Read, told: &[u8]) -> io::Result<bool> {
     Ok(false)
 }
 
-// Connects to a port, sends these pieces, and compares what is told until the server hangs up.
+// Connects to a port, sends these pieces, and compares what comes until the server hangs up.
 fn is_told<N: Net>(net: &N, port: u16, sent: &[&[u8]], told: &[u8]) -> io::Result<bool> {
     let mut stream = net.connect(SocketAddr::new(IpAddr::V4(Ipv4Addr::LOCALHOST), port))?;
     send(&mut stream, sent)?;

@@ -34,14 +34,14 @@ fn expect(rt: &impl Abort, alloc: Global, words: &[&str], wanted: Words) {
     }
 }
 
-// These words end with this status and a text that has this part.
+// These words end with this status, and with a text that has this part.
 fn expect_told(rt: &impl Abort, alloc: Global, words: &[&str], status: i32, part: &str) {
     let all = words_of(rt, alloc, words);
     let error = read_words(alloc, &all).err().expect(rt, "a fault");
     expect_error(rt, alloc, &error, status, part);
 }
 
-// This fault of words ends with this status and a text that has this part.
+// This fault of words ends with this status, and with a text that has this part.
 fn expect_error(rt: &impl Abort, alloc: Global, error: &Error, status: i32, part: &str) {
     assert!(rt; error.exit_code() == status);
     let told = format!(in alloc; "{error}").expect(rt, "memory for a text");

@@ -2,7 +2,7 @@ use Rattle.std.proofs.Common.{List, ℕ, length, map, string_bytes}
 use Rattle.smallbank.specs.Words.{Stands}
 use Rattle.smallbank.proofs.options.value.Given as goal
 
--- what stands for the option stands in the words that are left
+-- the option has a value in the words that are left exactly if it has it in all words
 abbrev pub invariant-loop-word : goal.invariant-loop-word
 invariant-loop-word l = record {
   stands : (text : List ℕ) → Stands l.option text (map string_bytes l.rest) → Stands l.option text (map string_bytes l.words);

@@ -3,7 +3,7 @@ use Rattle.smallbank.specs.Kept.{IsLeft}
 use Rattle.smallbank.specs.Served.{ServesAll}
 use Rattle.smallbank.proofs.server.Server.serve_all.Given as goal
 
--- so many clients are served
+-- this many clients are served
 abbrev pub invariant-loop-before : goal.invariant-loop-before
 invariant-loop-before g l = record {
   served : ServesAll g.D.Stream.Read.remaining l.before (g.D.Door.coming l.fn.self.door) (g.D.Door.coming l.self.door)
