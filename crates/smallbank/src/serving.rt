@@ -54,10 +54,10 @@ pub struct Served<S: CheckpointStore, W> {
 /// prints the rows and their total. A client at fault ends its own session only, and the next is
 /// served.
 ///
-/// Fails with - [`ServeFault::Run`] where a follower can't be started or differs from node 0, where
-/// the crew is gone, where a client isn't let in, a write to the writer or the store's device
-/// fails, or where memory is refused, - [`ServeFault::ReadBack`] where the store doesn't give back
-/// what was put.
+/// Fails with
+/// - [`ServeFault::Run`] if a follower can't be started or differs from node 0, the crew is gone, no
+///   client can be let in, a write to the writer or the store's device fails, or memory is refused,
+/// - [`ServeFault::ReadBack`] if the store doesn't give back what was put.
 ///
 /// After a fault the rows aren't printed.
 pub fn serve<H, D, S, W>(
