@@ -1,4 +1,4 @@
--- How large checkpoints are, and what is read of one.
+-- How large checkpoints are, and how many replies are read from one.
 use Rattle.std.proofs.Common.{◌≡◌, ℕ, ◌+◌, ◌*◌, ℤ, ◌+ℤ◌, List, length, ap, ap₂, ◌∙◌}
 use Rattle.sb_rows.specs.Balances.{Balances}
 use Rattle.lane_audit.specs.Columns.{total}

@@ -11,11 +11,11 @@ use Rattle.store_bench.specs.declared.words.Measurement.{Measurement}
 use Rattle.store_bench.specs.declared.words.Measurement.TheVariants.{Drain, Write, Read, Adopt, Open, ByState, ByEntries}
 
 module _ {A : Type 0} where
-  -- there are so many words, of which the second is this one
+  -- there are this many words, and the second is this one
   abbrev pub Asks : List (String A) → ℕ → List ℕ → Type 0
   Asks words many action = (length words ≡ many) × (slice_get (map string_bytes words) 1 ≡ Some action)
 
-  -- the digits of the word at a place, after a `+` or none, spell the number
+  -- the word at a place is the number's digits, after an optional `+`
   abbrev pub Spells : List (String A) → ℕ → ℕ → Type 0
   Spells words place number = (text : List ℕ) × (slice_get (map string_bytes words) place ≡ Some text)
       × IsNumeral 10 (without_leading_plus text) × (number ≡ digits_value 10 (without_leading_plus text))
@@ -29,7 +29,8 @@ module _ {A : Type 0} where
   Drains (Held One calls) words = Asks words 3 (codes "one-customer") × Spells words 2 calls
   Drains (Held Many calls) words = Asks words 3 (codes "many-customers") × Spells words 2 calls
 
-  -- the three numbers behind the second word: the customers, the log's length before, and the entries since
+  -- the three numbers after the second word: customers, the length of the log before, and entries
+  -- since
   abbrev pub Misses : Absence → List (String A) → Type 0
   Misses absence words = Spells words 2 absence.customers
       × Spells words 3 absence.before × Spells words 4 absence.entries

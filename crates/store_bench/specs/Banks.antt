@@ -3,7 +3,7 @@ use Rattle.std.specs.Prelude.{◌≡◌, ℕ, zero, suc, Ok, List, [], ◌++◌,
 use Rattle.sb_rows.specs.Balances.{Balances}
 use Rattle.sb_rows.specs.Opening.{opening_of}
 
--- a customer's line: the letter c, the place, and the balances as they are given
+-- a customer's line: the letter c, the place, and these balances
 abbrev pub customer_line : List ℕ → ℕ → List ℕ
 customer_line balances place = codes "c" ++ decimal place ++ codes " " ++ balances ++ codes "\n"
 
@@ -12,7 +12,7 @@ abbrev pub customer_lines : List ℕ → ℕ → List ℕ
 customer_lines balances zero = []
 customer_lines balances (suc place) = customer_lines balances place ++ customer_line balances place
 
--- so many customers have these names and these balances, as the opening text of their lines says
+-- this many customers have these names and balances, as the opening text of their lines says
 pub record IsBankOf (customers : ℕ) (balances : List ℕ) (names : List (List ℕ)) (columns : Balances) : Type 0 where
   pub many : length names ≡ customers
   pub taken : ℕ

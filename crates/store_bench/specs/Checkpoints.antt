@@ -4,11 +4,12 @@ use Rattle.sb_calls.specs.declared.call.TheConstants.{LOG_CALLS}
 use Rattle.lane_audit.specs.Columns.{total}
 use Rattle.sb_checkpoint.specs.Checkpoint.{CheckpointOf, Second, Spells}
 
--- how many bytes a checkpoint of so many customers and replies has
+-- the size in bytes of a checkpoint of this many customers and replies
 abbrev pub size_of : ℕ → ℕ → ℕ
 size_of customers replies = 36 + 16 * customers + 9 * replies
 
--- the bytes spell a checkpoint with as many replies as a log has calls, of a bank that has what it opened with
+-- the bytes spell a checkpoint with as many replies as a log has calls, of a bank whose total is
+-- that of its opening
 pub record SpellsFull (opening_total : ℤ) (bytes : List ℕ) : Type 0 where
   pub checkpoint : CheckpointOf
   pub spelled : Spells Second opening_total checkpoint bytes

@@ -16,7 +16,7 @@ use sb_calls::{Call, Op, resolve};
 use sb_rows::Directory;
 use std::alloc::Global;
 
-// What each customer has.
+// The balances of each customer.
 const BALANCES: &str = "0.00 0.00";
 
 /// A bank's names, and its board.
@@ -42,7 +42,8 @@ impl Bank {
         })
     }
 
-    /// Deposits a cent so often, and has the crew carry it out. Where the board is busy it is drained first.
+    /// Makes this many deposits of a cent, and has the crew execute them. A busy board is drained
+    /// first.
     pub fn deposit(&mut self, crew: &mut impl Crew, payees: Payees, calls: u32) -> Result<(), Fault>
         ensures added { OnOk result (self.new.board.log ≡
             self.old.board.log ++ cents_in_turn self.old.directory payees calls) }
@@ -58,14 +59,14 @@ impl Bank {
         Ok(())
     }
 
-    /// How many calls there were.
+    /// The number of calls in the log.
     pub fn length(&self) -> u64
         ensures { result ≡ length_of self.now.board }
     {
         self.board.length()
     }
 
-    /// What all customers have, or `None` while something is unfinished.
+    /// The total of all customers' balances, or `None` while something is unfinished.
     pub fn total(&self) -> Option<i64>
         ensures { MatchOption result (open_of self.now.board ≢ 0)
             (λ cents. (open_of self.now.board ≡ 0) × IsTotalAfterAll self.now.board cents) }
@@ -88,7 +89,7 @@ impl Bank {
     }
 }
 
-// Submits an op. Where the board is busy it is drained first.
+// Submits an op. A busy board is drained first.
 fn submit(op: &Op, board: &mut Board<Op>, crew: &mut impl Crew) -> Result<(), Fault>
     requires { AreBelow (length (held_of board.old.opening)) (declared_cowns op.now) }
     ensures added { OnOk result (board.new.log ≡ board.old.log ++ op.now ∷ []) }

@@ -1,4 +1,4 @@
-//! Cases that are gone through with a refusal of memory at any place, for `bench/refusals`.
+//! Cases in which memory may be refused at any place, for `bench/refusals`.
 
 use fault::CaseFault;
 use report::Report;
@@ -18,7 +18,8 @@ mod schedule;
 mod session;
 mod story;
 
-/// Goes through all cases, one after the other, and tells what each answers. A call that is refused memory is made again.
+/// Plays all cases, one after another, and reports the answer of each. A call that is refused
+/// memory is repeated.
 pub(crate) fn tell_all<R: Threads + Wait + Clock + Sync>(
     rt: &R,
     alloc: Global,

@@ -1,4 +1,4 @@
-//! Checkpoints, written and read over and over.
+//! Checkpoints, written and read many times.
 ghost use Rattle.std.specs.Prelude.{◌≡◌, ◌≤◌, length, IfOk};
 ghost use Rattle.std.specs.List.{All};
 ghost use Rattle.sb_calls.specs.Replies.{IsReply};
@@ -14,10 +14,11 @@ use sb_rows::{CUSTOMERS, Columns};
 use std::alloc::Global;
 use std::time::{Clock, Duration, Instant};
 
-/// What each customer has, savings and checking.
+/// Each customer's savings and checking balance.
 pub(crate) const BALANCES: &str = "1000.25 -200.75";
 
-/// Writes a checkpoint of the greatest size this often. It comes to how many bytes it has, and their sum.
+/// Writes a checkpoint of the greatest size this often. The result is its size and the sum of its
+/// bytes.
 pub fn write(clock: &impl Clock, alloc: Global, count: u32) -> Result<Measured, Fault>
     ensures { IfOk result (λ measured. measured.length ≡ size_of CUSTOMERS LOG_CALLS) }
 {
@@ -47,7 +48,7 @@ fn write_often(
         sum = with_last(sum, &bytes);
     }
     let time = start.elapsed(clock)?;
-    // Once more, to be looked at beside the clock.
+    // Written once more, outside the measured time, for the result.
     let bytes = write_checkpoint(alloc, columns, opening_total, replies)?;
     Ok(Measured {
         length: bytes.len() as u64,
@@ -56,7 +57,8 @@ fn write_often(
     })
 }
 
-/// Reads a checkpoint of the greatest size this often. It comes to how many replies it has, and what it adds up to.
+/// Reads a checkpoint of the greatest size this often. The result is its number of replies, and a
+/// sum over what was read.
 pub fn read(clock: &impl Clock, alloc: Global, count: u32) -> Result<Measured, Fault>
     ensures { IfOk result (λ measured. measured.length ≡ LOG_CALLS) }
 {
@@ -108,7 +110,7 @@ fn read_often(
     read_once(alloc, bytes, opening_total, sum, time)
 }
 
-// Reads it once more, to look at it beside the clock.
+// Reads it once more, outside the measured time, for the result.
 fn read_once(
     alloc: Global,
     bytes: &[u8],
@@ -128,7 +130,7 @@ fn read_once(
     })
 }
 
-// As many replies as a log has, of which every third shows a total.
+// As many replies as a log has; every third one shows a total.
 fn all_replies(alloc: Global) -> Result<Vec<Reply>, Fault>
     ensures many { IfOk result (λ replies. length replies.items ≡ LOG_CALLS) }
     ensures valid { IfOk result (λ replies. All IsReply replies.items) }
@@ -167,7 +169,7 @@ fn with_all(sum: i64, bytes: &[u8]) -> i64 {
     sum
 }
 
-// What a reply shows, else 1.
+// The total that a reply shows, or 1.
 fn shown(reply: Reply) -> i64 {
     match reply {
         Reply::Shown(total) => total,

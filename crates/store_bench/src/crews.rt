@@ -1,4 +1,4 @@
-//! Calls on a board, carried out by a crew.
+//! Calls on a board, executed by a crew.
 ghost use Rattle.std.specs.Prelude.{◌≤◌, IfOk};
 
 use crate::bank::Bank;
@@ -15,7 +15,8 @@ use std::sync::Wait;
 use std::thread::Threads;
 use std::time::{Clock, Duration, Instant};
 
-/// Has a crew carry out calls on the board of a bank. It comes to how many calls there were, and the bank's total.
+/// Has a crew execute calls on the board of a bank. The result is the number of calls, and the
+/// bank's total.
 pub(crate) fn drain_calls<R: Threads + Wait + Clock + Sync>(
     rt: &R,
     alloc: Global,
@@ -47,7 +48,7 @@ fn time_of<R: Threads + Wait + Clock + Sync>(
     }
 }
 
-// So many workers, if a crew may have so many.
+// This number of workers, if a crew may have as many.
 fn few(workers: usize) -> Result<usize, Fault>
     ensures { IfOk result (λ workers. (1 ≤ workers) × (workers ≤ 16)) }
 {
@@ -57,7 +58,7 @@ fn few(workers: usize) -> Result<usize, Fault>
     Ok(workers)
 }
 
-// So many calls, carried out by one thread.
+// One thread executes this many calls.
 fn in_place(
     clock: &impl Clock,
     steps: u64,
@@ -74,7 +75,7 @@ fn in_place(
     )
 }
 
-// So many calls, carried out by a crew that holds jobs.
+// A crew that holds jobs executes this many calls.
 fn held(
     clock: &impl Clock,
     alloc: Global,
@@ -98,7 +99,7 @@ fn deposit(
     Ok(start.elapsed(clock)?)
 }
 
-// So many calls, carried out by so many workers, with the start and the end of the threads.
+// This many workers execute this many calls; starting and ending the threads counts too.
 fn in_threads<R, G>(
     rt: &R,
     alloc: Global,
@@ -120,7 +121,7 @@ where
     Ok(start.elapsed(rt)?)
 }
 
-// What the calls came to that took so long, if they were carried out.
+// The result of the calls that took this time, if they were executed.
 fn measured(time: Result<Duration, Fault>, bank: &Bank) -> Result<Measured, Fault> {
     let time = time?;
     Ok(Measured {

@@ -1,4 +1,4 @@
-//! Why nothing is measured or told.
+//! Why nothing is measured or reported.
 
 use crate::cases::fault::CaseFault;
 use cown_board::SubmitFault;
@@ -10,7 +10,7 @@ use std::alloc::AllocError;
 use std::io;
 use thiserror::Error;
 
-/// Why nothing is measured or told.
+/// Why nothing is measured or reported.
 #[derive(Debug, Error, Drop)]
 pub enum Fault {
     /// The number of workers isn't from 1 to 16.
@@ -19,13 +19,13 @@ pub enum Fault {
     /// The bank can't be opened.
     #[error("no bank")]
     Bank,
-    /// The board doesn't take so many calls.
+    /// The board doesn't take this many calls.
     #[error("{0}")]
     Submit(#[from] SubmitFault),
     /// The crew can't be started.
     #[error("{0}")]
     Crew(#[from] CrewFault),
-    /// The crew handed nothing more over.
+    /// The crew handed over nothing more.
     #[error("{0}")]
     Gone(#[from] CrewGone),
     /// The board isn't idle.
@@ -40,16 +40,16 @@ pub enum Fault {
     /// A replica hears no entries.
     #[error("{0}")]
     Hearing(#[from] HearingFault),
-    /// It keeps no checkpoint.
+    /// A replica keeps no checkpoint.
     #[error("{0}")]
     Mark(#[from] MarkFault),
-    /// It doesn't go back.
+    /// A replica doesn't go back to its checkpoint.
     #[error("{0}")]
     Restart(#[from] RestartFault),
-    /// It doesn't adopt a state.
+    /// A replica doesn't adopt a state.
     #[error("{0}")]
     Adopt(#[from] AdoptFault),
-    /// A case goes otherwise.
+    /// A case goes wrong.
     #[error("{0}")]
     Case(#[from] CaseFault),
     /// Memory was refused.

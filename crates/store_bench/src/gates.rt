@@ -6,17 +6,17 @@ use std::sync::atomic::{AtomicBool, Ordering};
 use std::thread;
 use std::time::{Clock, Duration};
 
-/// Computes for so many steps before each job. Steps and not the clock: a thread that is put aside doesn't
-/// get on.
+/// Computes this many steps before each job. Steps are counted, and not time: a thread that the
+/// system suspends makes no progress.
 #[derive(Drop)]
 pub struct Computing {
     steps: u64,
-    // Whether some steps came to nothing. It is kept so that they are computed.
+    // Whether the result of some steps was 0. It is kept so that the compiler can't drop the steps.
     came_to_nothing: AtomicBool,
 }
 
 impl Computing {
-    /// A gate of so many steps.
+    /// A gate of this many steps.
     pub fn of(steps: u64) -> Computing
         ensures { result.steps ≡ steps }
     {
@@ -30,7 +30,7 @@ impl Computing {
 impl Gate for Computing {
     ghost admits = { λ gate. true };
 
-    // As the program's gate does.
+    // As the program's own gate does.
     fn admits_owner(&self) -> bool {
         true
     }
@@ -44,7 +44,8 @@ impl Gate for Computing {
     fn after(&self, _number: u64) {}
 }
 
-// So many steps, each of which needs the one before, and which no compiler joins: a shift and a product.
+// This many steps of a shift and a product, each of which needs the one before, so that no compiler
+// can join them.
 fn after_steps(number: u64, steps: u64) -> u64 {
     let mut value = number;
     for _ in 0..steps {
@@ -56,14 +57,14 @@ fn after_steps(number: u64, steps: u64) -> u64 {
 /// Waits for a second before each job.
 #[derive(Drop)]
 pub struct Waiting<'a, R: Clock> {
-    /// The clock that tells it.
+    /// The clock that the waits use.
     pub clock: &'a R,
 }
 
 impl<'a, R: Clock> Gate for Waiting<'a, R> {
     ghost admits = { λ gate. true };
 
-    // As the program's gate does.
+    // As the program's own gate does.
     fn admits_owner(&self) -> bool {
         true
     }

@@ -6,10 +6,10 @@ use cown_workers::Crew;
 use sb_calls::Op;
 use std::alloc::{AllocError, Global};
 
-// How many it holds at most: as many as a board's workers may be.
+// How many it holds at most: as many as a crew may have workers.
 const HELD: usize = 16;
 
-/// A crew that carries a job out when it is given, and holds what was done until it is asked for more.
+/// A crew that executes each job as it is given, and holds the result until it is asked for one.
 #[derive(Drop)]
 pub struct HoldingCrew {
     held: Vec<Done<Op>>,

@@ -6,10 +6,10 @@ use cown_board::{Done, Job};
 use cown_workers::{Crew, Gate};
 use sb_calls::Op;
 
-/// Takes each job through the gate, and hands it back to be carried out in place.
+/// Passes each job through the gate, and hands it back to be executed in place.
 #[derive(Drop)]
 pub struct InPlace<'a, G: Gate> {
-    /// What is told of each job.
+    /// The gate, which is notified of each job.
     pub gate: &'a G,
 }
 

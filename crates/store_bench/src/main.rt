@@ -1,5 +1,5 @@
-//! `store_bench`: times how a crew drains a board, for `bench/nodes`, and what checkpoints and states take, for
-//! `bench/replica`; goes through cases that are refused memory, for `bench/refusals`.
+//! `store_bench`: times how a crew drains a board, for `bench/nodes`, and how long checkpoints and
+//! states take, for `bench/replica`; plays cases in which memory is refused, for `bench/refusals`.
 #![tactic(auto)]
 
 use cases::report::Report;
@@ -54,7 +54,7 @@ fn main(rt: HostRuntime) -> ExitCode {
     }
 }
 
-// What the program's words say, or `None` where they say nothing.
+// The action that the program's words say, or `None` if they say none.
 fn action(rt: &HostRuntime) -> Result<Option<Action>, Fault> {
     let words: Vec<String> = env::args(rt)?.collect(rt.alloc())?;
     Ok(read_words(&words))
@@ -73,7 +73,7 @@ fn print_measured<H: Threads + Wait + Clock + Sync>(
     Ok(())
 }
 
-// All that is told of the cases goes to standard output, and how many refusals there were.
+// The output of the cases goes to standard output, with the number of refusals.
 fn print_cases<H: Threads + Wait + Clock + Sync>(
     rt: &HostRuntime,
     threads: &H,

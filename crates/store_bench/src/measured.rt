@@ -1,14 +1,14 @@
-//! What a measured action came to.
+//! The result of a measured action.
 
 use std::time::Duration;
 
 /// What is printed of an action, and the time of its measured part.
 #[derive(Clone, Copy)]
 pub struct Measured {
-    /// How many calls there were, or how many bytes or replies a checkpoint has.
+    /// The number of calls, or of a checkpoint's bytes or replies.
     pub length: u64,
-    /// A sum that depends on all that was done: of calls, the bank's total.
+    /// A sum that depends on everything that was done; for calls, the bank's total.
     pub sum: i64,
-    /// How long it took.
+    /// The measured time.
     pub time: Duration,
 }

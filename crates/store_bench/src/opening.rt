@@ -7,14 +7,15 @@ use crate::fault::Fault;
 use sb_rows::{Opening, read_opening};
 use std::alloc::Global;
 
-/// The opening of this many customers `c0`, `c1`, .., each with these balances, as `1000.00 1000.00`.
+/// The opening of this many customers `c0`, `c1`, .., each with these balances, for instance
+/// `1000.00 1000.00`.
 pub fn open_bank(alloc: Global, customers: u32, balances: &str) -> Result<Opening, Fault>
     ensures { IfOk result (λ opening.
         IsBankOf customers balances.now opening.directory opening.columns) }
 {
     let text = bank_text(alloc, customers, balances)?;
     let opening = read_text(alloc, text.as_str())?;
-    // It is as large as was asked, whatever the balances are.
+    // It has as many customers as the caller wants, whatever the balances are.
     if opening.directory.len() != customers as usize {
         return Err(Fault::Bank);
     }

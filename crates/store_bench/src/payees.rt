@@ -2,8 +2,8 @@
 ghost use Rattle.std.specs.Prelude.{◌≡◌, ◌<◌};
 ghost use Rattle.store_bench.specs.Deposits.{payee_of};
 
-/// How many customers a bank has whose board is drained: as many as calls may be unfinished at once, so that
-/// deposits to all of them share no cown.
+/// The number of customers of a bank whose board is drained: as many as calls may be unfinished at
+/// once, so that deposits to all of them share no cown.
 pub const PAYEES: u32 = 1_024;
 
 /// Who gets the deposits.
@@ -16,7 +16,7 @@ pub enum Payees {
 }
 
 impl Payees {
-    /// The place of who gets the deposit of a call, of which the first is number 0.
+    /// The place of the payee of a call; the first call is number 0.
     pub fn place(self, call: u32) -> u32
         ensures { result ≡ payee_of self call }
     {

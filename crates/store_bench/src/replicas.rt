@@ -15,12 +15,12 @@ use sb_rows::Directory;
 use std::alloc::Global;
 use std::time::Duration;
 
-// How many bytes come at once.
+// The number of bytes that come at once.
 const MESSAGE: usize = 64 * 1_024;
-// The next entry's customer is so many places behind the last one's.
+// The next entry's customer is this many places after the last one's.
 const APART: u64 = 7_919;
 
-/// A replica of so many customers with these balances, at the opening. Its store is empty.
+/// A replica of this many customers with these balances, at the opening. Its store is empty.
 pub(crate) fn open_replica(
     alloc: Global,
     customers: u32,
@@ -32,7 +32,7 @@ pub(crate) fn open_replica(
     Ok(Box::new(alloc, replica)?)
 }
 
-/// The frames of so many entries behind a length of the log: cents for the customers in turn.
+/// The frames of this many entries after this length of the log: cents for the customers in turn.
 pub(crate) fn entry_frames(
     alloc: Global,
     directory: &Directory,
@@ -60,7 +60,7 @@ fn push_entry(directory: &Directory, number: u64, frames: &mut Vec<u8>) -> Resul
     Ok(())
 }
 
-/// A replica hears frames, and carries all entries out in place.
+/// A replica hears frames, and executes all entries in place.
 pub(crate) fn hear_all(
     alloc: Global,
     replica: &mut Replica<MemoryStore>,
@@ -75,9 +75,9 @@ pub(crate) fn hear_all(
     Ok(())
 }
 
-// It hears all whole frames of a stream. Where too much is unfinished, all is carried out.
+// It hears all whole frames of a stream. When its board is full, everything is executed.
 fn hear_message(replica: &mut Replica<MemoryStore>, stream: &mut Stream) -> Result<(), Fault> {
-    // The checker goes through what a frame is made of, and has to be told the types.
+    // The checker takes the frame apart, and needs the types spelled out.
     let _parts: Option<(Frame, Call, WireReply, AskOutcome)> = None;
     // A message has fewer entries than bytes.
     for _ in 0..MESSAGE {
@@ -90,7 +90,7 @@ fn hear_message(replica: &mut Replica<MemoryStore>, stream: &mut Stream) -> Resu
     Err(Fault::Unfinished)
 }
 
-/// Where a replica is in the end, and how long that took.
+/// The length and the total of a replica at the end, and the time that it took.
 pub(crate) fn measured(replica: &Replica<MemoryStore>, time: Duration) -> Result<Measured, Fault> {
     let columns = replica.settled_columns().ok_or(Fault::Unfinished)?;
     Ok(Measured {

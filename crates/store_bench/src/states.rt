@@ -14,11 +14,11 @@ use sb_rows::CUSTOMERS;
 use std::alloc::Global;
 use std::time::{Clock, Duration, Instant};
 
-// What each customer has before entries are heard.
+// The balances of each customer before any entry is heard.
 const NOTHING: &str = "0.00 0.00";
 
-/// A replica at its opening adopts a state of the greatest size this often. It comes to how long its log is, and what
-/// all customers have.
+/// A replica at its opening adopts a state of the greatest size this often. The result is the
+/// length of its log, and the total of all balances.
 pub fn adopt(clock: &impl Clock, alloc: Global, count: u32) -> Result<Measured, Fault> {
     let (bytes, _) = written(alloc)?;
     let mut replica = open_replica(alloc, CUSTOMERS as u32, BALANCES)?;
@@ -30,7 +30,7 @@ pub fn adopt(clock: &impl Clock, alloc: Global, count: u32) -> Result<Measured, 
     measured(&replica, time)
 }
 
-// How long it takes to adopt a state.
+// The time that adopting a state takes.
 fn adopt_once(
     clock: &impl Clock,
     replica: &mut Replica<MemoryStore>,
@@ -41,7 +41,7 @@ fn adopt_once(
     Ok(start.elapsed(clock)?)
 }
 
-/// The same checkpoint is read and a board opened on it this often. It comes to the same.
+/// The same checkpoint is read and a board opened on it, this often. The result is the same.
 pub fn open(clock: &impl Clock, alloc: Global, count: u32) -> Result<Measured, Fault> {
     let (bytes, opening_total) = written(alloc)?;
     let mut last = Measured {
@@ -59,7 +59,7 @@ pub fn open(clock: &impl Clock, alloc: Global, count: u32) -> Result<Measured, F
     Ok(last)
 }
 
-// A board on a checkpoint, and how long it took.
+// A board on a checkpoint, and the time that it took.
 fn open_once(
     clock: &impl Clock,
     alloc: Global,
@@ -84,8 +84,8 @@ fn board_on(alloc: Global, bytes: &[u8], opening_total: i64) -> Result<Box<Board
     Ok(Box::new(alloc, board)?)
 }
 
-/// A replica that was away adopts the state of one that wasn't. It comes to how long its log is, and what all customers
-/// have.
+/// A replica that was away adopts the state of one that wasn't. The result is the length of its
+/// log, and the total of all balances.
 pub fn by_state(clock: &impl Clock, alloc: Global, absence: Absence) -> Result<Measured, Fault> {
     let state = state_after(alloc, absence)?;
     let mut replica = replica_before(alloc, absence)?;
@@ -93,7 +93,7 @@ pub fn by_state(clock: &impl Clock, alloc: Global, absence: Absence) -> Result<M
     measured(&replica, time)
 }
 
-/// It hears the entries that it missed, and carries them out. It comes to the same.
+/// It hears the entries that it missed, and executes them. The result is the same.
 pub fn by_entries(clock: &impl Clock, alloc: Global, absence: Absence) -> Result<Measured, Fault> {
     let mut replica = replica_before(alloc, absence)?;
     let frames = entry_frames(alloc, replica.directory(), absence.before, absence.entries)?;

@@ -9,7 +9,7 @@ use crate::payees::Payees;
 pub enum Action {
     /// It measures something.
     Measure(Measurement),
-    /// It goes through its cases.
+    /// It plays its cases.
     Cases,
 }
 
@@ -18,13 +18,13 @@ pub enum Action {
 pub enum Measurement {
     /// A crew drains a board.
     Drain(Crewed),
-    /// A checkpoint of the greatest size is written so often.
+    /// A checkpoint of the greatest size is written this often.
     Write { count: u32 },
-    /// It is read so often.
+    /// It is read this often.
     Read { count: u32 },
-    /// A replica adopts a state of the greatest size so often.
+    /// A replica adopts a state of the greatest size this often.
     Adopt { count: u32 },
-    /// A board is opened on the same so often.
+    /// A board is opened on the same state this often.
     Open { count: u32 },
     /// A replica catches up by another one's state.
     ByState(Absence),
@@ -35,40 +35,40 @@ pub enum Measurement {
 /// What a replica missed.
 #[derive(Clone, Copy)]
 pub struct Absence {
-    /// How many customers the bank has.
+    /// The number of the bank's customers.
     pub customers: u32,
-    /// How long its log was when it left.
+    /// The length of its log when it left.
     pub before: u32,
-    /// How many entries came since.
+    /// The number of entries since then.
     pub entries: u32,
 }
 
-/// Which crew carries out which calls.
+/// Which crew executes which calls.
 #[derive(Clone, Copy)]
 pub enum Crewed {
-    /// So many calls are carried out in place, each after so many steps at the gate.
+    /// This many calls are executed in place, each after this many steps at the gate.
     InPlace {
         steps: u64,
         calls: u32,
     },
-    /// So many workers carry them out.
+    /// This many workers execute them.
     InThreads {
         workers: usize,
         steps: u64,
         calls: u32,
     },
-    /// One of so many workers carries one call out, and waits for a second at the gate.
+    /// One of this many workers executes one call, and waits for a second at the gate.
     Wait {
         workers: usize,
     },
-    /// A crew that holds sixteen jobs carries so many calls out, without threads.
+    /// A crew that holds sixteen jobs executes this many calls, without threads.
     Held {
         payees: Payees,
         calls: u32,
     },
 }
 
-/// Reads the program's words, of which the first is its name.
+/// Reads the program's words; the first is its name.
 pub fn read_words(words: &[String]) -> Option<Action>
     ensures { IfSome result (λ action. Says action words.now) }
 {
@@ -121,7 +121,7 @@ fn read_states(words: &[String]) -> Option<Measurement>
     None
 }
 
-// What a replica missed, by the three numbers behind the second word.
+// What a replica missed, by the three numbers after the second word.
 fn read_absence(words: &[String]) -> Option<Absence>
     ensures { IfSome result (λ absence. Misses absence words.now) }
 {
@@ -135,7 +135,7 @@ fn read_absence(words: &[String]) -> Option<Absence>
     })
 }
 
-// What is carried out without threads.
+// Calls that are executed without threads.
 fn held(words: &[String]) -> Option<Crewed>
     ensures { IfSome result (λ crewed. Drains crewed words.now) }
 {
@@ -161,7 +161,7 @@ fn held(words: &[String]) -> Option<Crewed>
     None
 }
 
-// What workers in threads of their own carry out.
+// Calls that workers in threads of their own execute.
 fn threads(words: &[String]) -> Option<Crewed>
     ensures { IfSome result (λ crewed. Drains crewed words.now) }
 {
@@ -181,7 +181,7 @@ fn threads(words: &[String]) -> Option<Crewed>
     None
 }
 
-// Whether there are so many words, and the second is this one.
+// Whether there are this many words, and the second is this one.
 fn asks(words: &[String], many: usize, action: &str) -> bool
     ensures { IsTrue result → Asks words.now many action.now }
 {
@@ -206,7 +206,7 @@ fn number(words: &[String], place: usize) -> Option<u64>
     text(words, place)?.parse::<u64>().ok()
 }
 
-// The same, where it is below 2^32.
+// The same, if it is below 2^32.
 fn few(words: &[String], place: usize) -> Option<u32>
     ensures { IfSome result (λ number. Spells words.now place number) }
 {

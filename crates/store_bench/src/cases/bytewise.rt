@@ -3,7 +3,7 @@
 use std::io;
 use std::io::Read;
 
-/// Gives a byte a read.
+/// Gives one byte at each read.
 #[derive(Drop)]
 pub(crate) struct Bytewise<'a> {
     pub(crate) left: &'a [u8],

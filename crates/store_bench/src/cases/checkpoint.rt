@@ -7,7 +7,7 @@ use crate::cases::report::Report;
 use sb_checkpoint::{Checkpoint, CheckpointFault, read_checkpoint, write_checkpoint};
 use std::alloc::{AllocError, Global};
 
-// What the three customers had at the opening.
+// The opening total of the three customers.
 const OPENING_TOTAL: i64 = 18_000;
 
 // Three customers and five replies.
@@ -32,7 +32,7 @@ const SECOND: &[u8] = b"SBCKPT02\x00\x00\x00\x00\x00\x00\x00\x05\x00\x00\x00\x03
 \x01\x00\x00\x00\x00\x00\x00\x00\x00\
 \x01\x00\x00\x00\x00\x00\x00\x00\x00";
 
-/// Tells the bytes that it is written as, once for each layout.
+/// Reports the bytes that it is written as, once for each layout.
 pub(crate) fn tell(alloc: Global, report: &mut Report) -> Result<(), CaseFault> {
     tell_one(alloc, FIRST, report)?;
     tell_one(alloc, SECOND, report)

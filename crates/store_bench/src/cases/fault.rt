@@ -1,4 +1,4 @@
-//! Why a case goes otherwise than it should.
+//! Why a case goes wrong.
 
 use bank_server::{RunFault, SessionFault};
 use sb_checkpoint::CheckpointFault;
@@ -9,7 +9,7 @@ use schedule_text::TextFault;
 use std::alloc::AllocError;
 use thiserror::Error;
 
-/// Why a case goes otherwise than it should. Where it is a want of memory, a call that was made again was refused it again.
+/// Why a case goes wrong. For `OutOfMemory`, a call that was repeated was refused memory again.
 #[derive(Clone, Copy, Debug, Error)]
 pub enum CaseFault {
     /// A run ends without its output.

@@ -9,7 +9,7 @@ use std::sync::Wait;
 use std::thread::Threads;
 use std::time::Clock;
 
-// What is run.
+// The input of the run.
 const INPUT: &[u8] = b"alice 100.00 50.00
 bob 0.00 20.00
 carol 10.00 0.00
@@ -21,7 +21,7 @@ check alice 150.00
 amalgamate alice bob
 ";
 
-/// Tells what the run writes.
+/// Reports the output of the run.
 pub(crate) fn tell<R: Threads + Wait + Clock + Sync>(
     rt: &R,
     alloc: Global,

@@ -19,7 +19,7 @@ const PIECES: &[&[u8]] = &[
     b"\x00\x0a\x07\x01\x00\x00\x00\x00\x00\x00\x00\x02",
 ];
 
-/// Tells the frames that come out, as they are spelled.
+/// Reports the frames that come out, as they are spelled.
 pub(crate) fn tell(alloc: Global, report: &mut Report) -> Result<(), CaseFault> {
     let mut stream = Stream::new(alloc);
     for piece in PIECES {
@@ -44,7 +44,7 @@ fn feed(stream: &mut Stream, bytes: &[u8], report: &mut Report) -> Result<(), Ca
 
 // The next frame is handed out, if there is one.
 fn hand_out(stream: &mut Stream, report: &mut Report) -> Result<(), CaseFault> {
-    // The checker goes through what a frame is made of, and has to be told the types.
+    // The checker takes the frame apart, and needs the types spelled out.
     let _parts: Option<(Call, WireReply, AskOutcome)> = None;
     if let Some(frame) = stream.next()? {
         report.written.extend_from_slice(encode(&frame).as_slice())?;

@@ -1,29 +1,29 @@
-//! What is told of the cases.
+//! The output of the cases.
 
 use schedule_text::push_numbered;
 use std::alloc::{AllocError, Global};
 
-// Room for all that is told, so that telling takes no memory.
+// Room for the whole output, so that reporting takes no memory.
 const ROOM: usize = 8_192;
 
-// Room for what one call writes.
+// Room for the output of one call.
 const CALL_ROOM: usize = 512;
 
 const DIGITS: &[u8; 16] = b"0123456789abcdef";
 
-/// What is told of the cases, line by line.
+/// The output of the cases, line by line.
 #[derive(Drop)]
 pub struct Report {
     /// The lines so far.
     pub(crate) text: Vec<u8>,
-    /// What the call that is made wrote. It is told with the call, and then empty.
+    /// What the current call wrote. It is reported with the call, and then emptied.
     pub(crate) written: Vec<u8>,
     /// How many calls were refused memory.
     pub(crate) refusals: u32,
 }
 
 impl Report {
-    /// Nothing is told yet, and there is room for all that will be.
+    /// An empty report, with room for the whole output.
     pub fn new(alloc: Global) -> Result<Report, AllocError> {
         let text = Vec::with_capacity(alloc, ROOM)?;
         let written = Vec::with_capacity(alloc, CALL_ROOM)?;
@@ -34,7 +34,7 @@ impl Report {
         })
     }
 
-    /// A call was refused memory. It is told with how many bytes it had written.
+    /// Reports that a call was refused memory, with the number of bytes that it had written.
     pub fn refused(&mut self, call: &str) -> Result<(), AllocError> {
         self.refusals = self.refusals.saturating_add(1);
         self.text.extend_from_slice(b"refused ")?;
@@ -44,14 +44,14 @@ impl Report {
         Ok(self.text.push(b'\n')?)
     }
 
-    /// A call wrote a text, which is told as it is.
+    /// Reports the text that a call wrote, as it is.
     pub fn tell_text(&mut self) -> Result<(), AllocError> {
         self.text.extend_from_slice(&self.written)?;
         self.written.clear();
         Ok(())
     }
 
-    /// A call wrote bytes, which are told by their digits, on a line.
+    /// Reports the bytes that a call wrote, by their digits, on a line.
     pub fn tell_bytes(&mut self) -> Result<(), AllocError> {
         for byte in &self.written {
             self.text.push(DIGITS[(*byte / 16) as usize])?;

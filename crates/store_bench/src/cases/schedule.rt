@@ -1,4 +1,4 @@
-//! A schedule as a world at its opening, and its events.
+//! A schedule as a world at its opening, with its events.
 
 use crate::cases::fault::CaseFault;
 use crate::cases::report::Report;
@@ -6,14 +6,14 @@ use schedule_player::{Event, World};
 use schedule_text::{Schedule, TextFault, read_schedule};
 use std::alloc::{AllocError, Global};
 
-/// A world, and what is to happen in it.
+/// A world, and the events that are to happen in it.
 #[derive(Drop)]
 pub(crate) struct Planned {
     pub(crate) world: Box<World>,
     pub(crate) events: Vec<Event>,
 }
 
-/// A world at the opening of a schedule, of which nothing has happened.
+/// A world at the opening of a schedule, before the first event.
 pub(crate) fn plan(alloc: Global, text: &str, report: &mut Report) -> Result<Planned, CaseFault> {
     let schedule = read(alloc, text, report)?;
     match open(alloc, schedule) {

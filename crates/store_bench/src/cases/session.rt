@@ -1,4 +1,4 @@
-//! A session of two asks, of which one is asked again.
+//! A session of two asks, one of them repeated.
 
 use crate::cases::bytewise::Bytewise;
 use crate::cases::fault::CaseFault;
@@ -11,14 +11,15 @@ use std::alloc::{AllocError, Global};
 
 const OPENING: &[u8] = b"alice 100.00 50.00\nbob 0.00 20.00\ncarol 10.00 0.00\nbegin\n";
 
-// Client 7 asks for alice's balance, pays 5.00 to bob, flushes, asks for the balance again, and flushes.
+// Client 7 asks for alice's balance, pays 5.00 to bob, flushes, asks for the balance again, and
+// flushes.
 const SENT: &[u8] = b"\x00\x10\x01\x00\x00\x00\x07\x00\x00\x00\x01\x01\x05alice\
 \x00\x16\x01\x00\x00\x00\x07\x00\x00\x00\x02\x02\x03bob\x00\x00\x00\x00\x00\x00\x01\xf4\
 \x00\x01\x06\
 \x00\x10\x01\x00\x00\x00\x07\x00\x00\x00\x01\x01\x05alice\
 \x00\x01\x06";
 
-/// Tells what the client is told.
+/// Reports what is sent to the client.
 pub(crate) fn tell(alloc: Global, report: &mut Report) -> Result<(), CaseFault> {
     let mut primary = opened(alloc, report)?;
     match serve(alloc, &mut primary, report) {

@@ -61,7 +61,7 @@ finish 0 1
 restart 0
 ";
 
-/// A replica tells of its checkpoint, and another one goes on from it.
+/// A replica reports its checkpoint, and another adopts it.
 pub(crate) const STATE: &str = "nodes 2 workers 1
 alice 100.00 50.00
 bob 0.00 20.00
@@ -83,7 +83,7 @@ audit 0 1
 restart 1
 ";
 
-/// Tells what happens in a schedule, and what the first replica has in the end.
+/// Reports what happens in a schedule, and what the first replica holds at the end.
 pub(crate) fn tell(alloc: Global, text: &str, report: &mut Report) -> Result<(), CaseFault> {
     let mut planned = plan(alloc, text, report)?;
     for event in &planned.events {
@@ -92,7 +92,7 @@ pub(crate) fn tell(alloc: Global, text: &str, report: &mut Report) -> Result<(),
     tell_columns(&planned.world, report)
 }
 
-// An event happens.
+// Plays an event.
 fn tell_step(world: &mut World, event: Event, report: &mut Report) -> Result<(), CaseFault> {
     let note = match world.step(event) {
         Ok(note) => note,

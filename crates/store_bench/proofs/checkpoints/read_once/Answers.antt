@@ -1,4 +1,4 @@
--- The bytes spell one checkpoint, so what is read has as many replies as what was written.
+-- The bytes spell only one checkpoint, so what is read has as many replies as what was written.
 use Rattle.std.proofs.Common.{length, ap, ◌∙◌}
 use Rattle.store_bench.proofs.Sizes.{full_is_read}
 use Rattle.store_bench.proofs.checkpoints.read_once.Goals as goal

@@ -1,4 +1,4 @@
--- The bank is as large as was asked, and there are as many replies as a log has calls.
+-- The bank has as many customers as wanted, and there are as many replies as a log has calls.
 use Rattle.std.proofs.Common.{◌≡◌, length, ap, ◌∙◌, arith}
 use Rattle.std.proofs.lemmas.Result.{IfOk-weaker}
 use Rattle.store_bench.specs.declared.measured.Measured.{Measured}

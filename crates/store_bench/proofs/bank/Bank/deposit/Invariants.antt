@@ -1,4 +1,4 @@
--- As many were added so far as there were rounds.
+-- There were as many deposits so far as rounds.
 use Rattle.std.proofs.Common.{◌≡◌, ◌++◌}
 use Rattle.store_bench.specs.Deposits.{cents_in_turn}
 use Rattle.store_bench.proofs.bank.Bank.deposit.Given as goal
