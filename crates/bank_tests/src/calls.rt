@@ -1,4 +1,4 @@
-//! Calls, what is replied to them, and the cowns that they declare.
+//! Calls, the replies to them, and the cowns that they declare.
 mod answers;
 mod ask_lines;
 mod bank;

@@ -6,17 +6,17 @@ use sb_rows::{Name, Opening, read_opening};
 use std::alloc::Global;
 use std::process::Abort;
 
-/// A case comes out as it has to.
+/// Checks one case.
 pub(crate) fn expect(rt: &impl Abort, holds: bool, case: &str) {
     assert!(rt; holds, "{case}");
 }
 
-/// A case gives these bytes.
+/// Checks the bytes of a case.
 pub(crate) fn expect_bytes(rt: &impl Abort, found: &[u8], wanted: &[u8], case: &str) {
     assert!(rt; found == wanted, "{case}");
 }
 
-/// A case gives these amounts.
+/// Checks the amounts of a case.
 pub(crate) fn expect_amounts(rt: &impl Abort, found: &[i64], wanted: &[i64], case: &str) {
     assert!(rt; found == wanted, "{case}");
 }
@@ -31,19 +31,19 @@ pub(crate) fn cents(rt: &impl Abort, number: i64) -> Cents
     Cents::new(number).expect(rt, "an amount within the limit")
 }
 
-/// What a text without a fault opens with.
+/// The opening that a text without a fault spells.
 pub(crate) fn opened(rt: &impl Abort, alloc: Global, text: &str) -> Box<Opening> {
     let opening = read_opening(alloc, text.as_bytes()).expect(rt, "an opening");
     Box::new(alloc, opening).expect(rt, "memory for a box")
 }
 
-// Puts the line of a customer with this number.
+// Appends the line of the customer with this number.
 fn push_line(rt: &impl Abort, alloc: Global, customer: u32, text: &mut String) {
     let line = format!(in alloc; "c{customer} 1.00 2.00\n").expect(rt, "memory for a line");
     text.push_str(line.as_str()).expect(rt, "memory for a text");
 }
 
-/// The lines of so many customers, each with another name, and then this.
+/// The lines of this many customers, each with another name, and then this text.
 pub(crate) fn many_lines(rt: &impl Abort, alloc: Global, customers: u32, end: &str) -> String {
     let mut text = String::new(alloc);
     for customer in 0..customers {

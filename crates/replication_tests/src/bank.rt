@@ -1,4 +1,4 @@
-//! The bank that logs and replicas begin with.
+//! The bank with which logs and replicas begin.
 use sb_rows::{Opening, read_opening};
 use std::process::Abort;
 

@@ -9,9 +9,9 @@ mod flips;
 pub(crate) mod limits;
 mod spellings;
 
-// Three customers and five replies, by hand: the fields up to the balances in the first layout, and in
-// the second, the savings, the checking balances, their total, the opening total that the second layout
-// has, and the replies.
+// Three customers and five replies, by hand: the fields up to the balances in the first layout and
+// in the second, the savings, the checking balances, their total, the opening total that the second
+// layout has, and the replies.
 pub(crate) const FIRST_HEAD: &str = "5342434b50543031 0000000000000005 00000003";
 
 pub(crate) const SECOND_HEAD: &str = "5342434b50543032 0000000000000005 00000003";
@@ -31,12 +31,12 @@ pub(crate) const FIRST: [&str; 6] = [FIRST_HEAD, SAVINGS, CHECKING, TOTAL, "", R
 
 pub(crate) const SECOND: [&str; 6] = [SECOND_HEAD, SAVINGS, CHECKING, TOTAL, OPENING, REPLIES];
 
-// What a bank opened with: how many customers, and their total.
+// What ties a checkpoint to its bank: the number of customers, and their opening total.
 type Origin = (usize, i64);
 
 const THREE: Origin = (3, 18_000);
 
-// The bytes of some fields, each in hexadecimal digits; spaces aside.
+// The bytes of these fields, each in hexadecimal digits; spaces are skipped.
 pub(crate) fn bytes(rt: &(impl Abort + AllocGlobal), fields: &[&str]) -> Vec<u8> {
     let mut bare = Vec::new(rt.alloc());
     for digits in fields {
@@ -49,7 +49,7 @@ pub(crate) fn bytes(rt: &(impl Abort + AllocGlobal), fields: &[&str]) -> Vec<u8>
     hex::decode(rt.alloc(), bare).expect(rt, "hexadecimal digits")
 }
 
-// What the bytes are refused with, if they are.
+// The fault of the bytes, if they have one.
 fn fault_of(
     rt: &(impl Abort + AllocGlobal),
     bytes: &[u8],
@@ -61,7 +61,7 @@ fn fault_of(
     answer.err()
 }
 
-// The bytes are refused with this fault.
+// Checks that the bytes are refused with this fault.
 fn is_refused(
     rt: &(impl Abort + AllocGlobal),
     bytes: &[u8],
@@ -71,7 +71,7 @@ fn is_refused(
     assert!(rt; fault_of(rt, bytes, origin) == Some(fault), "{fault:?}");
 }
 
-// What a checkpoint is of.
+// The contents of a checkpoint.
 #[derive(Clone, Copy)]
 struct Told<'a> {
     savings: &'a [i64],
@@ -85,7 +85,8 @@ fn says(rt: &impl Abort, checkpoint: &Checkpoint, told: Told<'_>) {
     assert!(rt; checkpoint.replies() == told.replies);
 }
 
-// The bytes are read as this checkpoint of a bank with this opening total, and it is written as these.
+// Checks that the bytes are read as this checkpoint of a bank with this opening total, and how that
+// is written again.
 fn are_read(
     rt: &(impl Abort + AllocGlobal),
     bytes: &[u8],

@@ -1,4 +1,4 @@
-//! Tests of what a replica is made of: checkpoints, where they are kept, its log, and the replica itself.
+//! Tests of a replica's parts: checkpoints, their stores, its log, and the replica itself.
 #![tactic(auto)]
 
 #[cfg(test)]

@@ -1,4 +1,4 @@
-//! Logs of replicas: they take the entries of one log in order, however these come.
+//! Logs of replicas: they take the entries of one log in order, in whatever order these come.
 use crate::bank::opening;
 use crate::steps::is_so;
 use cown_board::{Board, CutFault, Runs};
@@ -10,18 +10,20 @@ mod cuts;
 mod early_entries;
 mod entries;
 
-// What is done with a log, and what it answers.
+// A step on a log, with its answer.
 #[derive(Clone, Copy)]
 enum Step {
-    // An entry of nobody's call, which declares no cowns, is answered so, and the log has this length then.
+    // Offers an entry of nobody's call, which declares no cowns, with this answer and this length
+    // of the log then.
     Offer(u64, Offered, u64),
     // The next entries up to this number, of the same call, are taken.
     OfferUpTo(u64),
     // An entry of another call without cowns.
     OfferSameCustomer(u64, Offered),
-    // The op that is held for the next number is answered so, and the log has this length then.
+    // Advances to the op that is held for the next number, with this answer and this length of the
+    // log then.
     Advance(Option<Offered>, u64),
-    // The first that is ready has this number; it is run and finished.
+    // The first ready behaviour has this number; it is run and finished.
     Run(u64),
     Cut(Result<u64, CutFault>),
     CutLength(Option<u64>),
@@ -30,9 +32,9 @@ enum Step {
     DropCut,
     // Whether the columns after all entries are there.
     Settled(bool),
-    // Nothing is unfinished, and these are the checking balances of the three; or something is.
+    // These are the checking balances of the three and nothing is unfinished, or something is.
     Checking(Option<[i64; 3]>),
-    // Room is made for so many entries.
+    // Makes room for this many entries.
     Reserve(usize),
 }
 
@@ -111,7 +113,7 @@ fn plays_one(rt: &impl Abort, log: &mut ReplicaLog, place: usize, step: &Step) {
     }
 }
 
-// The steps on a log over the three, with this many earlier entries.
+// Plays the steps on a log over the three, with this many earlier entries.
 fn plays_after(rt: &(impl Abort + AllocGlobal), entries: usize, steps: &[Step]) {
     let mut log = opened_after(rt, entries);
     for (place, step) in steps.iter().enumerate() {

@@ -17,31 +17,32 @@ mod restarts;
 mod states;
 mod streams;
 
-// Replica 1 of the three, over a store in memory, and its jobs that are out, the earliest first.
+// Replica 1 of the three, over a store in memory, with its jobs that are out, the earliest first.
 #[derive(Drop)]
 struct Node {
     replica: Replica<MemoryStore>,
     out: Vec<Job<Op>>,
 }
 
-// What is done with a replica, and what it answers.
+// A step on a replica, with its answer.
 #[derive(Clone, Copy)]
 enum Step {
-    // The frame of an entry with this call is answered so.
+    // Hears the frame of an entry with this call, with this answer.
     Hear(u64, &'static str, Heard),
     // The next entries up to this number, each with this call, are accepted.
     AcceptUpTo(u64, &'static str),
-    // These bytes are answered so.
+    // Hears these bytes, with this answer.
     HearBytes(&'static [u8], Result<Heard, ReplicaFault>),
-    // The entry that is held for the next number is answered so.
+    // Advances to the entry that is held for the next number, with this answer.
     Advance(Option<Heard>),
-    // The first that is ready has this number, and is out from now on.
+    // The first ready behaviour has this number, and is out from now on.
     Take(u64),
-    // The job that is out for longest is run and finished.
+    // The job that has been out longest is run and finished.
     Finish(Reply),
-    // The job that is out for longest is run, and comes back, since its number is finished already or isn't out.
+    // The job that has been out longest is run, and comes back: its number is finished already, or
+    // isn't out.
     ComeBack,
-    // The first that is ready has this number; it is run and finished.
+    // The first ready behaviour has this number; it is run and finished.
     Run(u64, Reply),
     // The reply to a number.
     ReplyTo(u64, Option<Reply>),
@@ -49,26 +50,26 @@ enum Step {
     Ends(u64, [i64; 3]),
     Length(u64),
     Cut(Result<u64, CutFault>),
-    // The next put of the store ends so.
+    // Sets how the store's next put ends.
     Tell(How),
     Mark(Result<u64, MarkFault>),
-    // A checkpoint of these fields is stored, each in hexadecimal digits; or none is.
+    // The store holds a checkpoint of these fields, each in hexadecimal digits, or none.
     Stored(Option<&'static [&'static str]>),
     Restart(Result<u64, RestartFault>),
-    // The state of these fields is answered so.
+    // Adopts the state of these fields, with this answer.
     Adopt(&'static [&'static str], Result<Adopted, AdoptFault>),
-    // The state that it has: its length, and its fields; or none.
+    // The state that the replica has: its length and its fields, or none.
     Keeps(Option<(u64, &'static [&'static str])>),
-    // Why it has no state to tell, and no length of one.
+    // Why it can't give a state, or the length of one.
     KeepsNone(RestartFault),
-    // What it says of the length of that.
+    // The frame with the length of its state.
     HaveFrame(u64),
-    // What it says of its length, and of its reply to a number.
+    // The frames with its length, and with its reply to a number.
     AckFrame(Frame),
     AnswerFrame(u64, Option<Frame>),
 }
 
-// A replica whose store holds these bytes already.
+// A replica whose store already holds these bytes.
 fn opened_over(rt: &(impl Abort + AllocGlobal), stored: Option<&[u8]>) -> Box<Node> {
     let mut store = MemoryStore::new(rt.alloc());
     if let Some(bytes) = stored {
@@ -230,7 +231,7 @@ fn plays_one(rt: &(impl Abort + AllocGlobal), node: &mut Node, place: usize, ste
     }
 }
 
-// The steps on a replica whose store holds these bytes already.
+// Plays the steps on a replica whose store already holds these bytes.
 fn plays_over(rt: &(impl Abort + AllocGlobal), stored: Option<&[u8]>, steps: &[Step]) {
     let mut node = opened_over(rt, stored);
     for (place, step) in steps.iter().enumerate() {
@@ -238,7 +239,7 @@ fn plays_over(rt: &(impl Abort + AllocGlobal), stored: Option<&[u8]>, steps: &[S
     }
 }
 
-// The steps on a replica at the opening, over an empty store.
+// Plays the steps on a replica at the opening, over an empty store.
 fn plays(rt: &(impl Abort + AllocGlobal), steps: &[Step]) {
     plays_over(rt, None, steps);
 }

@@ -8,7 +8,7 @@ mod files;
 mod memory;
 mod pairs;
 
-// It holds these bytes, and none that are fewer, more or others.
+// Checks that the store holds these bytes, and no fewer, more or other ones.
 fn holds<S: CheckpointStore>(rt: &impl Abort, store: &mut S, bytes: &[u8]) {
     let held = store.get().expect(rt, "a get fails");
     let held = held.expect(rt, "nothing is held");
@@ -25,7 +25,7 @@ fn holds_nothing<S: CheckpointStore>(rt: &impl Abort, store: &mut S) {
     assert!(rt; store.holds(b"") == Ok(false));
 }
 
-// A put ends so, and the store's device has failed this often then.
+// Checks how a put ends, and how often the store's device has failed by then.
 fn puts<S: CheckpointStore>(
     rt: &impl Abort,
     store: &mut S,

@@ -5,7 +5,7 @@ use sb_replica::{AdoptFault, HearingFault, MarkFault, ReplicaFault, RestartFault
 use std::fmt::Display;
 use std::process::Abort;
 
-// A fault has these words.
+// Checks the text of a fault.
 fn says(rt: &(impl Abort + AllocGlobal), fault: impl Display + Drop, words: &str) {
     let told = fault.to_string(rt.alloc()).expect(rt, "memory for a text");
     assert!(rt; told.as_str() == words);

@@ -1,4 +1,4 @@
-//! A board of ops over three customers, which is worked step by step.
+//! A board of ops over three customers, driven step by step.
 ghost use Rattle.std.specs.Prelude.{◌≡◌, ◌<◌, ◌*◌, length, IfSome};
 ghost use Rattle.sb_calls.specs.Cowns.{held_of};
 
@@ -11,7 +11,8 @@ use std::process::Abort;
 
 pub(crate) const OPENING: &str = "alice 100.00 50.00\nbob 0.00 20.00\ncarol 10.00 0.00\nbegin\n";
 
-// A board over the columns of an opening, with the replies to the numbers before it, and the customers' names.
+// A board over the columns of an opening, with the replies to the numbers before it, and the
+// customers' names.
 #[tactic(auto, using(sb_calls::proofs::Holding::two_cowns_a_customer))]
 pub(crate) fn open_board<B: Behaviour>(
     rt: &impl Abort,
@@ -49,20 +50,20 @@ fn submit_all(rt: &impl Abort, board: &mut Board<Op>, directory: &Directory, lin
     }
 }
 
-// What is done at a board, and what it answers.
+// A step on a board, with its answer.
 #[derive(Clone, Copy)]
 pub(crate) enum Step<'a> {
-    // The call that a line spells is submitted, and has this number.
+    // Submits the call that a line spells; it gets this number.
     Submit(u64, &'a str),
-    // The one that this many ready ones stand before is handed out. It has this number.
+    // Hands out the behaviour that has this many ready ones before it; it has this number.
     Take(usize, u64),
-    // No more than this many are ready.
+    // At most this many are ready.
     TakeNone(usize),
-    // What was handed out with this number is carried out and taken back, with this reply.
+    // The job that is out with this number is executed and taken back, with this reply.
     Finish(u64, Reply),
-    // The first that is ready has this number. It is handed out, carried out and taken back.
+    // The first ready behaviour has this number; it is handed out, executed and taken back.
     Run(u64, Reply),
-    // Something is unfinished, and so there are no columns.
+    // Something is unfinished, so there are no columns.
     NoColumns,
 }
 
@@ -70,13 +71,13 @@ pub(crate) enum Step<'a> {
 pub(crate) struct Bank {
     board: Box<Board<Op>>,
     directory: Directory,
-    // What was handed out and hasn't come back.
+    // The jobs that were handed out and haven't come back.
     out: Vec<Job<Op>>,
     ghost places: { length (held_of board.value.opening) ≡ 2 * length directory },
 }
 
 impl Bank {
-    // Over the columns of an opening text, with the replies to the numbers before it.
+    // A bank over the columns of an opening text, with the replies to the numbers before it.
     pub(crate) fn open_with(
         rt: &impl Abort,
         alloc: Global,
@@ -92,12 +93,12 @@ impl Bank {
         Box::new(alloc, bank).expect(rt, "memory")
     }
 
-    // Over the columns of the three, without earlier replies.
+    // A bank over the columns of the three, without earlier replies.
     pub(crate) fn open(rt: &impl Abort, alloc: Global) -> Box<Bank> {
         Bank::open_with(rt, alloc, OPENING, Vec::new(alloc))
     }
 
-    // Each of these steps is done, one after the other.
+    // Plays these steps, one after another.
     pub(crate) fn plays(&mut self, rt: &impl Abort, steps: &[Step<'_>]) {
         for step in steps {
             self.play(rt, *step);
@@ -143,20 +144,20 @@ impl Bank {
         self.out.push(job).expect(rt, "memory");
     }
 
-    // What was handed out with this number is carried out.
+    // Executes the job that is out with this number.
     pub(crate) fn carry_out(&mut self, rt: &impl Abort, number: u64) -> Done<Op> {
         let place = self.place_of(number).expect(rt, "a job with the number");
         self.out.remove(place).run()
     }
 
-    // Where the job with a number is of what was handed out.
+    // The place of the job with a number among those that are out.
     fn place_of(&self, number: u64) -> Option<usize>
         ensures { IfSome result (λ place. place < length self.now.out.items) }
     {
         self.out.iter().position(|job| job.number() == number)
     }
 
-    // What was done is taken back, and has no reply before that.
+    // A result is taken back; its number has no reply before that.
     pub(crate) fn finishes(&mut self, rt: &impl Abort, done: Done<Op>, reply: Reply) {
         let number = done.number();
         assert!(rt; self.reply(number).is_none(), "{number}");
@@ -164,14 +165,14 @@ impl Bank {
         assert!(rt; self.reply(number) == Some(reply), "{number}");
     }
 
-    // What was done is given back, and nothing that the board tells is changed.
+    // A result is given back, and nothing that can be read from the board changes.
     pub(crate) fn gives_back(&mut self, rt: &impl Abort, done: Done<Op>, number: u64) {
         let before = self.told();
         assert!(rt; self.finish(done) == Err(number), "{number}");
         assert!(rt; self.told() == before, "{number}");
     }
 
-    // The reply, or the number of what is given back.
+    // The reply, or the number of the result that is given back.
     fn finish(&mut self, done: Done<Op>) -> Result<Reply, u64> {
         self.board.finish(done).map_err(|back| back.number())
     }
@@ -181,7 +182,7 @@ impl Bank {
         (board.length(), board.idle(), board.reply(1), board.reply(2))
     }
 
-    // The last of the ready ones is carried out, of which there are at most three.
+    // Executes the last of the ready ones; there are at most three.
     pub(crate) fn runs_last(&mut self, rt: &impl Abort) {
         let job = match self.board.take_at(2) {
             Some(job) => job,
@@ -209,13 +210,13 @@ impl Bank {
         self.board.reply(number)
     }
 
-    // Nothing is unfinished, and everyone has this.
+    // Checks that nothing is unfinished, and that these are the balances.
     pub(crate) fn ends_with(&self, rt: &impl Abort, savings: [i64; 3], checking: [i64; 3]) {
         assert!(rt; self.idle());
         assert!(rt; holds(&self.board, savings, checking));
     }
 
-    // A cut is made, at the board's length.
+    // Makes a cut, at the board's length.
     pub(crate) fn cuts(&mut self, rt: &impl Abort) {
         let length = self.length();
         assert!(rt; self.cut() == Ok(length));
@@ -226,13 +227,13 @@ impl Bank {
         self.board.cut()
     }
 
-    // The cut is dropped, and there is none then.
+    // Drops the cut; there is none then.
     pub(crate) fn drops_its_cut(&mut self, rt: &impl Abort) {
         self.board.drop_cut();
         assert!(rt; self.board.cut_length().is_none());
     }
 
-    // There are no columns of a cut yet.
+    // The cut has no columns yet.
     pub(crate) fn has_no_cut_columns(&self, rt: &impl Abort) {
         assert!(rt; self.board.cut_columns().is_none());
     }
@@ -244,14 +245,15 @@ impl Bank {
         assert!(rt; are_same(cut, columns));
     }
 
-    // One turn: a call is submitted, the first that is ready is handed out, and what was done is taken back.
+    // One turn: a call is submitted, the first ready behaviour is handed out, and a result is taken
+    // back.
     pub(crate) fn takes_a_turn(&mut self, rt: &impl Abort, line: &str, done: Done<Op>) -> Turn<Op> {
         let call = read_call(line.as_bytes()).expect(rt, "a call");
         take_turn(&mut self.board, resolve(&self.directory, &call), done)
     }
 }
 
-// Whether the numbers from 1 on are answered so, and no further one is.
+// Whether these are the replies to the numbers from 1 on, and no further number has one.
 pub(crate) fn replies(board: &Board<Op>, wanted: &[Option<Reply>]) -> bool {
     board.length() == wanted.len() as u64
         && wanted
@@ -260,7 +262,7 @@ pub(crate) fn replies(board: &Board<Op>, wanted: &[Option<Reply>]) -> bool {
             .all(|(reply, number)| board.reply(number) == *reply)
 }
 
-// Whether the columns of the three are these. None are while something is unfinished.
+// Whether these are the columns of the three. There are none while something is unfinished.
 pub(crate) fn holds(board: &Board<Op>, savings: [i64; 3], checking: [i64; 3]) -> bool {
     match board.settled_columns() {
         Some(columns) => {
@@ -274,7 +276,7 @@ pub(crate) fn are_same(columns: &Columns, others: &Columns) -> bool {
     columns.savings() == others.savings() && columns.checking() == others.checking()
 }
 
-// The columns after the whole log are copied, where there are some.
+// Copies the columns after the whole log, if there are any.
 pub(crate) fn copies_its_columns(rt: &impl Abort, board: &Board<Op>) {
     let settled = board.settled_columns().expect(rt, "columns");
     match board.columns() {
@@ -283,17 +285,17 @@ pub(crate) fn copies_its_columns(rt: &impl Abort, board: &Board<Op>) {
     }
 }
 
-// Something is unfinished, and so there are no columns.
+// Something is unfinished, so there are no columns.
 pub(crate) fn has_no_columns<B: Behaviour>(rt: &impl Abort, board: &Board<B>) {
     assert!(rt; !board.idle());
     assert!(rt; board.columns().expect(rt, "memory").is_none());
 }
 
-// Each job that is ready is given to a crew, and nothing is taken in.
+// Gives each ready job to a crew, and takes nothing in.
 pub(crate) fn give_all(board: &mut Board<Op>, crew: &mut impl Crew) {
     for _ in 0..OPEN_BEHAVIOURS {
         if let Some(job) = board.take_at(0) {
-            // One that comes back is let go.
+            // A job that comes back is dropped.
             let _ = crew.give(job);
         }
     }

@@ -6,7 +6,7 @@ use cown_workers::Crew;
 use sb_calls::Op;
 use std::alloc::{AllocError, Global};
 
-// Keeps a job until it is asked for one more.
+// Keeps a job until the next one is asked for.
 #[derive(Drop)]
 pub(crate) struct Desk {
     job: Option<Job<Op>>,
@@ -40,7 +40,7 @@ impl Crew for Desk {
     }
 }
 
-// Keeps the first job that it gets after it let this many go, and never hands it over.
+// Hands back this many jobs, keeps the next one, and never hands over its result.
 #[derive(Drop)]
 pub(crate) struct Keeper {
     lets_go: u32,
@@ -82,7 +82,7 @@ impl Crew for Keeper {
     }
 }
 
-// Hands over what was carried out elsewhere in place of the job that it got.
+// Hands over a result from elsewhere in place of that of the job that it got.
 #[derive(Drop)]
 pub(crate) struct Stranger {
     elsewhere: Option<Done<Op>>,
@@ -117,7 +117,7 @@ impl Crew for Stranger {
     }
 }
 
-// Carries each job out as it comes, and hands over last first what it did. It tells in which order.
+// Executes each job as it comes, and hands the results over last first. It reports in which order.
 #[derive(Drop)]
 pub(crate) struct Pile {
     done: Vec<Done<Op>>,
@@ -125,7 +125,7 @@ pub(crate) struct Pile {
 }
 
 impl Pile {
-    // One that holds as many as this, and tells of as many.
+    // A crew that holds up to this many results, and reports as many.
     pub(crate) fn of(alloc: Global, jobs: usize) -> Result<Pile, AllocError> {
         Ok(Pile {
             done: Vec::with_capacity(alloc, jobs)?,

@@ -22,7 +22,7 @@ fn submit_deposits(rt: &impl Abort, bank: &mut Bank, from: u32, to: u32) {
     }
 }
 
-// So many deposits alone.
+// Runs this many deposits alone.
 fn run_deposits(rt: &impl Abort, bank: &mut Bank, deposits: u32) {
     submit_deposits(rt, bank, 1, deposits);
     for _ in 0..deposits {
@@ -30,8 +30,9 @@ fn run_deposits(rt: &impl Abort, bank: &mut Bank, deposits: u32) {
     }
 }
 
-// Each customer's deposits are run to their end before the next one's are begun, so that some after the cut run
-// before some of the cut. The last of the cut is followed by eight of the same customer.
+// All of one customer's deposits are run before the next one's, so that some after the cut run
+// before some that the cut covers. Eight more of the same customer follow the last that the cut
+// covers.
 #[test]
 fn a_cut_settles_while_later_numbers_run(rt: HostRuntime) {
     let mut alone = Bank::open(&rt, rt.alloc());
@@ -43,7 +44,8 @@ fn a_cut_settles_while_later_numbers_run(rt: HostRuntime) {
     settles(&rt, &mut bank, &alone);
 }
 
-// Once only the last eight are left, which came after the cut, its columns are those of the other board.
+// Once only the last eight are left, which came after the cut, its columns are those of the other
+// board.
 fn settles(rt: &impl Abort, bank: &mut Bank, alone: &Bank) {
     for _ in 0..1_016 {
         bank.has_no_cut_columns(rt);

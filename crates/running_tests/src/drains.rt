@@ -1,4 +1,4 @@
-//! The draining of a board by crews of one thread.
+//! Boards that are drained by crews of one thread.
 use crate::bank::{board_of, holds, replies};
 use crate::crews::{Desk, Keeper, Pile, Stranger};
 use crate::owners::{Branch, number_drained};
@@ -8,7 +8,7 @@ use sb_calls::{Op, Reply};
 use std::alloc::Global;
 use std::process::Abort;
 
-// Three that share bob's checking, and one that shares nothing.
+// Three calls that share bob's checking, and one that shares nothing.
 const CALLS: [&str; 4] = [
     "deposit bob 5.00",
     "amalgamate alice bob",
@@ -16,7 +16,7 @@ const CALLS: [&str; 4] = [
     "balance carol",
 ];
 
-// Alice's 150.00 come to bob's 20.00 and 5.00.
+// Alice's 150.00 join bob's 20.00 and 5.00.
 const REPLIES: [Option<Reply>; 4] = [
     Some(Reply::Done),
     Some(Reply::Done),
@@ -24,19 +24,20 @@ const REPLIES: [Option<Reply>; 4] = [
     Some(Reply::Shown(1_000)),
 ];
 
-// What the three have after the calls above.
+// The balances of the three after the calls above.
 const SAVINGS: [i64; 3] = [0, 0, 1_000];
 
 const CHECKING: [i64; 3] = [0, 17_500, 0];
 
-// A crew carries out what the board has, and so these are the replies.
+// Checks that a crew executes what the board has, with these replies.
 fn answers(rt: &impl Abort, board: &mut Board<Op>, crew: &mut impl Crew, wanted: &[Option<Reply>]) {
     assert!(rt; drain(board, crew) == Ok(()));
     assert!(rt; board.idle());
     assert!(rt; replies(board, wanted));
 }
 
-// A crew carries out what these lines spell, and so these are the replies and the columns. Then nothing is left to do.
+// Checks that a crew executes what these lines spell, with these replies and columns. Then nothing
+// is left to do.
 fn carries_out(
     rt: &impl Abort,
     alloc: Global,
@@ -51,7 +52,7 @@ fn carries_out(
     answers(rt, &mut board, crew, wanted);
 }
 
-// The crew gives up, and these are the replies to what was finished.
+// Checks that the crew gives up, with these replies to what was finished.
 fn gives_up(
     rt: &impl Abort,
     board: &mut Board<Op>,
@@ -129,7 +130,7 @@ fn an_empty_board_is_drained(rt: HostRuntime) {
     carries_out(&rt, rt.alloc(), &mut Keeper::after(0), &[], &[], wanted);
 }
 
-// It lets the deposit go and keeps the amalgamation, so the balance of bob isn't shown.
+// It hands back the deposit and keeps the amalgamation, so the balance of bob isn't shown.
 #[test]
 fn a_crew_that_keeps_a_job_leaves_what_was_finished(rt: HostRuntime) {
     let mut board = board_of(&rt, rt.alloc(), &CALLS);
@@ -146,7 +147,7 @@ fn what_comes_from_another_board_is_refused(rt: HostRuntime) {
     gives_up(&rt, &mut board, &mut crew, &[None]);
 }
 
-// A crew that hands over what another board's op did.
+// A crew that hands over the result of another board's op.
 fn stranger(rt: &impl Abort, alloc: Global) -> Stranger {
     let mut other = board_of(rt, alloc, &["balance carol"]);
     let job = other.take_at(0).expect(rt, "a ready one");

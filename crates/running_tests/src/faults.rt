@@ -1,10 +1,10 @@
-//! The numbers and words of faults.
+//! The numbers and texts of faults.
 use cown_board::{CutFault, SubmitFault};
 use cown_workers::CrewFault;
 use std::alloc::AllocError;
 use std::process::Abort;
 
-// A fault with a number is told by these words.
+// Checks a fault's number and its text.
 fn is_told(
     rt: &impl Abort,
     (number, told): (u8, Result<String, AllocError>),

@@ -1,4 +1,4 @@
-//! Gates that tell what they heard.
+//! Gates that report what they heard.
 ghost use Rattle.std.specs.Prelude.{◌≡◌, true};
 
 use cown_workers::Gate;
@@ -8,11 +8,11 @@ use std::thread;
 // How many turns a worker waits for another.
 pub(crate) const TURNS: u32 = 1_000_000;
 
-// How many turns it waits for one that should not come.
+// How many turns a worker waits for one that should not come.
 pub(crate) const A_WHILE: u32 = 100_000;
 
-// The first two jobs each wait until the other one is about to be carried out. If they were carried out one after the
-// other, the first would wait for nothing, and give up.
+// The first two jobs each wait until the other one is about to be executed. If they were executed
+// one after another, the first would wait in vain, and give up.
 #[derive(Default, Drop)]
 pub(crate) struct Meeting {
     first: AtomicBool,
@@ -50,7 +50,7 @@ fn was(flag: &AtomicBool) -> bool {
     flag.load(Ordering::SeqCst)
 }
 
-// Hears of the jobs numbered from 1 to 4: of each once before it is carried out, then once after that.
+// Hears of the jobs numbered from 1 to 4: of each once before it is executed, and once after that.
 #[derive(Default, Drop)]
 pub(crate) struct Ear {
     // How often it has heard of each number. There is no job 0.
@@ -64,7 +64,7 @@ impl Ear {
         heard.eq([0, 2, 2, 2, 2]) && !was(&self.out_of_turn)
     }
 
-    // It has heard of this number so often, and now once more.
+    // It has heard of this number this often before, and now once more.
     fn hears(&self, number: u64, before: u64, now: u64) {
         let in_turn = match self.heard.get(number as usize) {
             Some(heard) => heard
@@ -88,7 +88,7 @@ impl Gate for Ear {
     }
 }
 
-// Another gate, as it is, but that the owner comes through it too.
+// Another gate, except that the owner comes through it too.
 #[derive(Clone, Copy)]
 pub(crate) struct Admitting<'a, G>(pub(crate) &'a G);
 
@@ -108,7 +108,7 @@ impl<'a, G: Gate> Gate for Admitting<'a, G> {
     }
 }
 
-// Holds each job until so many have come, or for so many turns.
+// Holds each job until this many have come, or for this many turns.
 #[derive(Drop)]
 pub(crate) struct Crowd {
     wanted: u64,
@@ -127,7 +127,7 @@ impl Crowd {
         }
     }
 
-    // Whether so many were there at once, each in a thread of its own, since none went on before.
+    // Whether this many were there at once, each in a thread of its own, since none went on before.
     pub(crate) fn gathered(&self) -> bool {
         self.is_here() && !was(&self.gave_up)
     }
@@ -152,8 +152,8 @@ impl Gate for Crowd {
     fn after(&self, _number: u64) {}
 }
 
-// Holds the second job until the owner opens it. The first one it holds for a while, in which the second would come if
-// there were a thread for it.
+// Holds the second job until the owner opens it. It holds the first one for a while, in which the
+// second would come if there were a thread for it.
 #[derive(Default, Drop)]
 pub(crate) struct Door {
     first: AtomicBool,
@@ -172,7 +172,7 @@ impl Door {
         self.open.store(true, Ordering::SeqCst);
     }
 
-    // Whether the second job came before it was open, and was held in vain.
+    // Whether the second job came before the gate was open, and was held in vain.
     pub(crate) fn gave_up(&self) -> bool {
         was(&self.gave_up)
     }
@@ -194,7 +194,7 @@ impl Gate for Door {
     fn after(&self, _number: u64) {}
 }
 
-// Waits for a flag, for so many turns, and answers whether it was set.
+// Waits for a flag, for this many turns, and answers whether it was set.
 fn comes_true(flag: &AtomicBool, turns: u32) -> bool {
     for _ in 0..turns {
         if was(flag) {
@@ -205,7 +205,7 @@ fn comes_true(flag: &AtomicBool, turns: u32) -> bool {
     false
 }
 
-// Counts the jobs that were carried out.
+// Counts the jobs that were executed.
 #[derive(Default, Drop)]
 pub(crate) struct Counter {
     carried_out: AtomicU64,
@@ -216,7 +216,7 @@ impl Counter {
         self.carried_out.load(Ordering::SeqCst)
     }
 
-    // Waits until so many were carried out.
+    // Waits until this many were executed.
     pub(crate) fn comes_to(&self, count: u64) -> bool {
         for _ in 0..TURNS {
             if self.carried_out() >= count {

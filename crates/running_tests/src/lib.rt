@@ -1,4 +1,4 @@
-//! Tests of what runs a log: the board, the bench on which its jobs lie, and the crews that carry them out.
+//! Tests of what runs a log: the board, the bench with its jobs, and the crews that execute them.
 #![tactic(auto)]
 
 #[cfg(test)]

@@ -1,11 +1,11 @@
-//! How much a board takes, and what it answers then.
+//! How much a board takes, and its answers at the limit.
 use crate::bank::{Bank, OPENING, Step};
 use cown_board::SubmitFault;
 use sb_calls::{Reply, read_call};
 use std::alloc::Global;
 use std::process::Abort;
 
-// Of the numbers from one to another each is a deposit of a cent to alice.
+// Submits the numbers from one to another; each is a deposit of a cent to alice.
 fn deposits(rt: &impl Abort, bank: &mut Bank, from: u64, to: u64) {
     for number in from..=to {
         bank.plays(rt, &[Step::Submit(number, "deposit alice 0.01")]);

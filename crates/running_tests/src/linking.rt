@@ -22,7 +22,7 @@ fn an_idle_board_hands_nothing_out(rt: HostRuntime) {
     bank.ends_with(&rt, [10_000, 0, 1_000], [5_003, 2_000, 0]);
 }
 
-// The first is out where it waited, and nobody gets it again; the third is handed out beside it.
+// The first is out where it waited, and isn't handed out again; the third is handed out beside it.
 #[test]
 fn what_is_out_is_not_handed_out_again(rt: HostRuntime) {
     let mut bank = Bank::open(&rt, rt.alloc());
@@ -44,7 +44,8 @@ fn what_is_out_is_not_handed_out_again(rt: HostRuntime) {
     );
 }
 
-// Two are run one after the other. Then the last of three is asked for, and each that comes later waits as before.
+// Two are run one after another. Then the last of three is asked for, and each that comes later
+// waits as before.
 #[test]
 fn one_with_others_before_it_is_handed_out(rt: HostRuntime) {
     let mut bank = Bank::open(&rt, rt.alloc());
@@ -71,7 +72,8 @@ fn one_with_others_before_it_is_handed_out(rt: HostRuntime) {
     bank.ends_with(&rt, [10_000, 0, 1_000], [5_200, 0, 2_200]);
 }
 
-// The cut has the first three. The fourth is run before anything is asked for beside another one.
+// The cut covers the first three. The fourth is run before a second job is asked for while one is
+// out.
 #[test]
 fn a_cut_settles_where_jobs_go_one_at_a_time(rt: HostRuntime) {
     let mut alone = Bank::open(&rt, rt.alloc());
@@ -98,7 +100,7 @@ fn a_cut_settles_where_jobs_go_one_at_a_time(rt: HostRuntime) {
     bank.ends_with(&rt, [0, 0, 1_000], [0, 17_200, 100]);
 }
 
-// As many are unfinished as may be, of which the first is out where it waited.
+// As many are unfinished as the limit allows; the first of them is out where it waited.
 #[test]
 fn a_full_board_hands_out_another_beside_the_first(rt: HostRuntime) {
     let mut bank = Bank::open(&rt, rt.alloc());
@@ -129,8 +131,8 @@ fn a_full_board_hands_out_another_beside_the_first(rt: HostRuntime) {
     );
 }
 
-// What is submitted in a schedule. Of the calls each has the cowns that it declares as bits: two for each of the
-// three, first that of the savings.
+// The calls that a schedule submits. Each has the cowns that it declares as bits: two for each of
+// the three, savings first.
 const CALLS: [(&str, u8); 6] = [
     ("deposit alice 0.01", 0b00_00_10),
     ("deposit bob 0.01", 0b00_10_00),
@@ -140,7 +142,7 @@ const CALLS: [(&str, u8); 6] = [
     ("savings zed 0.01", 0),
 ];
 
-// Where a call of a schedule is.
+// The state of a call in a schedule.
 #[derive(Clone, Copy, PartialEq, Eq)]
 enum Place {
     Waiting,
@@ -148,7 +150,7 @@ enum Place {
     Finished,
 }
 
-// A call of a schedule, and where it is.
+// A call in a schedule, and its state.
 #[derive(Clone, Copy)]
 struct Entry {
     line: &'static str,
@@ -166,7 +168,8 @@ impl Entry {
     }
 }
 
-// The number that has so many ready ones before it: each that waits is compared with all unfinished ones before it.
+// The number that has this many ready ones before it: each that waits is compared with all
+// unfinished ones before it.
 fn ready_at(entries: &[Entry], index: usize) -> Option<u64> {
     let mut held = 0;
     let mut before = index;
@@ -184,7 +187,7 @@ fn ready_at(entries: &[Entry], index: usize) -> Option<u64> {
     None
 }
 
-// The number that is out and has so many before it that are, counted round.
+// The number that is out and has this many others before it that are out, counted round.
 fn out_at(entries: &[Entry], index: usize) -> Option<u64> {
     let out = entries
         .iter()
@@ -202,7 +205,7 @@ fn out_at(entries: &[Entry], index: usize) -> Option<u64> {
     None
 }
 
-// A board, and what a plain one has.
+// A board, and a plain one with the same calls.
 #[derive(Drop)]
 struct Beside {
     bank: Box<Bank>,
@@ -230,7 +233,7 @@ impl Beside {
         self.bank.plays(rt, &[Step::Submit(number, line)]);
     }
 
-    // Both hand the same one out, or none.
+    // Both hand out the same one, or none.
     fn take(&mut self, rt: &impl Abort, index: usize) {
         match ready_at(&self.entries, index) {
             Some(number) => {
@@ -241,7 +244,7 @@ impl Beside {
         }
     }
 
-    // One that is out is finished, where there is one.
+    // One of those that are out is finished, if there is one.
     fn finish(&mut self, rt: &impl Abort, index: usize) {
         let Some(number) = out_at(&self.entries, index) else {
             return;
@@ -260,7 +263,8 @@ impl Beside {
         entry.reply()
     }
 
-    // A step that these bits choose: while jobs go one at a time what is handed out comes back at once.
+    // The step that these bits choose: while jobs go one at a time, what is handed out comes back
+    // at once.
     fn step(&mut self, rt: &impl Abort, bits: u64, one_at_a_time: bool) {
         let index = (bits >> 8 & 3) as usize;
         match bits & 3 {
@@ -275,7 +279,7 @@ impl Beside {
     }
 }
 
-// Jobs go one at a time for so many steps, and then in whatever order.
+// Jobs go one at a time for this many steps, and then in any order.
 fn plays_beside(rt: &impl Abort, beside: &mut Beside, seed: u64, alone: u64) {
     for step in 0..200_u64 {
         let mixed = (seed << 8 | step).wrapping_mul(0x9e37_79b9_7f4a_7c15);
@@ -284,7 +288,8 @@ fn plays_beside(rt: &impl Abort, beside: &mut Beside, seed: u64, alone: u64) {
     }
 }
 
-// All that is left is run one after the other, and the columns are those of the log run in place.
+// Everything that is left is run one after another, and the columns are those of the log run in
+// place.
 fn ends_as_one_hand_does(rt: &impl Abort, alloc: Global, beside: &mut Beside) {
     let mut alone = Bank::open(rt, alloc);
     for (entry, number) in beside.entries.iter().zip(1..) {

@@ -1,4 +1,4 @@
-//! Behaviours that can't be carried out: the board needs no more than what they declare.
+//! Behaviours that can't be executed: the board needs only the cowns that they declare.
 ghost use Rattle.std.specs.Prelude.{◌≡◌, ◌+◌, ◌<◌, length};
 ghost use Rattle.sb_calls.specs.Cowns.{held_of};
 
@@ -10,7 +10,7 @@ use std::alloc::Global;
 use std::marker::Model;
 use std::process::Abort;
 
-// It looks at a cown and the next one.
+// It reads a cown and the next one.
 #[derive(Clone, Copy, Debug, PartialEq, Eq)]
 struct Look {
     first: u32,
@@ -62,7 +62,7 @@ fn open(rt: &impl Abort, alloc: Global) -> Box<Board<Look>>
     board
 }
 
-// The looks at each of these cowns and the next one are submitted, and numbered from 1.
+// Submits the looks at each of these cowns and the next one, numbered from 1.
 fn submit_looks(rt: &impl Abort, board: &mut Board<Look>, firsts: &[u32])
     requires { length (held_of board.old.opening) ≡ 6 }
 {
@@ -72,7 +72,7 @@ fn submit_looks(rt: &impl Abort, board: &mut Board<Look>, firsts: &[u32])
     }
 }
 
-// The look that this many ready ones stand before has this number. It never comes back.
+// Takes the look that has this many ready ones before it; it has this number. It never comes back.
 fn takes(rt: &impl Abort, board: &mut Board<Look>, index: usize, number: u64) {
     let job = board.take_at(index).expect(rt, "a ready one");
     assert!(rt; job.number() == number, "{number}");

@@ -5,7 +5,7 @@ use sb_calls::{Op, Reply};
 use std::alloc::Global;
 use std::process::Abort;
 
-// Alice has a cent less.
+// Alice has one cent less.
 const POORER: &str = "alice 100.00 49.99\nbob 0.00 20.00\ncarol 10.00 0.00\nbegin\n";
 
 // A deposit to alice and one to bob, which share no cown.
@@ -22,7 +22,7 @@ fn open_with_two(rt: &impl Abort, alloc: Global) -> Box<Bank> {
     bank
 }
 
-// What the op with a number does on a board of its own over these columns.
+// The result of the op with a number on a board of its own over these columns.
 fn done_elsewhere(rt: &impl Abort, alloc: Global, opening: &str, number: u64) -> Done<Op> {
     let mut bank = Bank::open_with(rt, alloc, opening, Vec::new(alloc));
     bank.plays(rt, &TWO);
@@ -30,7 +30,7 @@ fn done_elsewhere(rt: &impl Abort, alloc: Global, opening: &str, number: u64) ->
     bank.carry_out(rt, number)
 }
 
-// What the first op does on a board where it has this number.
+// The result of the first op on a board where it has this number.
 fn done_with_number(rt: &impl Abort, alloc: Global, number: u64) -> Done<Op> {
     let mut replies = Vec::new(alloc);
     for _ in 1..number {
@@ -47,7 +47,7 @@ fn done_with_number(rt: &impl Abort, alloc: Global, number: u64) -> Done<Op> {
     bank.carry_out(rt, number)
 }
 
-// What was done elsewhere with a number is given back.
+// The result of an op with this number from elsewhere is given back.
 fn gives_back_twin(rt: &impl Abort, alloc: Global, bank: &mut Bank, opening: &str, number: u64) {
     let twin = done_elsewhere(rt, alloc, opening, number);
     bank.gives_back(rt, twin, number);
@@ -77,7 +77,7 @@ fn what_was_done_on_other_inputs_comes_back(rt: HostRuntime) {
     ends_well(&rt, &bank);
 }
 
-// On the same inputs it doesn't matter where it was done.
+// On the same inputs it doesn't matter where the op was executed.
 fn takes_the_twin_for_the_second(rt: &impl Abort, alloc: Global, bank: &mut Bank) {
     let twin = done_elsewhere(rt, alloc, POORER, 2);
     bank.finishes(rt, twin, Reply::Done);
@@ -101,7 +101,7 @@ fn what_is_not_out_comes_back(rt: HostRuntime) {
 #[test]
 fn what_has_another_number_comes_back(rt: HostRuntime) {
     let mut bank = open_with_two(&rt, rt.alloc());
-    // The number of another op, and a number past the log.
+    // The number of another op, and a number beyond the log.
     for number in [2, 3] {
         bank.gives_back(&rt, done_with_number(&rt, rt.alloc(), number), number);
     }

@@ -1,4 +1,4 @@
-//! What owns a board and something beside it.
+//! An owner of a board and of something more.
 ghost use Rattle.std.specs.Prelude.{◌≡◌, IfOk};
 
 use cown_board::{Board, Done, Job, Runs};

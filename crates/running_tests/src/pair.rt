@@ -1,5 +1,5 @@
-//! A bench with two workers, whose passes are known to be of it, so that each call in the tests is one that it
-//! allows.
+//! A bench with two workers, whose passes are known to be of it, so that it allows each call in the
+//! tests.
 ghost use Rattle.std.specs.Prelude.{◌≡◌};
 
 use crate::bank::{OPENING, open_board};
@@ -53,7 +53,7 @@ impl Pair {
         assert!(rt; self.offer(rt, work).is_ok());
     }
 
-    // So many jobs, numbered from 1.
+    // Offers this many jobs, numbered from 1.
     pub(crate) fn offers_jobs<R: Wait + Abort>(&mut self, rt: &R, alloc: Global, count: usize) {
         for job in jobs(rt, alloc, count) {
             self.offers(rt, Work::Run(job));
@@ -107,12 +107,12 @@ pub(crate) fn close<R: Wait + Abort>(rt: &R, alloc: Global, pair: Box<Pair>) -> 
     bench.close(rt, owner, workers)
 }
 
-// So many jobs, numbered from 1, of behaviours that declare no cown: all are ready at once.
+// This many jobs, numbered from 1, of behaviours that declare no cown: all are ready at once.
 pub(crate) fn jobs(rt: &impl Abort, alloc: Global, count: usize) -> Vec<Job<Op>> {
     jobs_after(rt, alloc, 0, count)
 }
 
-// So many of these jobs, whose numbers come after this one.
+// This many of these jobs, whose numbers come after this one.
 pub(crate) fn jobs_after(
     rt: &impl Abort,
     alloc: Global,
@@ -131,7 +131,7 @@ pub(crate) fn jobs_after(
     jobs
 }
 
-// Whether it is the job with this number.
+// Whether the work is the job with this number.
 fn is_job(work: &Work, number: u64) -> bool {
     match work {
         Work::Run(job) => job.number() == number,
@@ -139,7 +139,7 @@ fn is_job(work: &Work, number: u64) -> bool {
     }
 }
 
-// Whether what is left are jobs with these numbers.
+// Whether the rest are jobs with these numbers.
 pub(crate) fn are_jobs(left: &[Work], numbers: &[u64]) -> bool {
     let mut both = left.iter().zip(numbers);
     left.len() == numbers.len() && both.all(|(work, number)| is_job(work, *number))

@@ -1,4 +1,4 @@
-//! What is offered on a bench, picked from it and left there.
+//! What is offered on a bench, picked from it, and left on it.
 use crate::pair::{Pair, are_jobs, close, jobs};
 use cown_bench::Work;
 use std::alloc::Global;

@@ -23,7 +23,8 @@ fn two_hands_run_what_is_ready(rt: HostRuntime) {
             Step::Submit(2, FOUR[1]),
             Step::Submit(3, FOUR[2]),
             Step::Submit(4, FOUR[3]),
-            // The second is out first and back first; the third waits for both, and the fourth for the third.
+            // The second is taken first and comes back first; the third waits for both, and the
+            // fourth for the third.
             Step::Take(1, 2),
             Step::Take(0, 1),
             Step::Finish(2, Reply::Done),
@@ -41,7 +42,7 @@ fn two_hands_run_what_is_ready(rt: HostRuntime) {
     bank.ends_with(&rt, [0, 0, 1_000], [0, 17_200, 0]);
 }
 
-// The cowns of the first three wait for nobody; each of the others waits until the one before it is finished.
+// The first three wait for nobody; each of the others waits until the one before it is finished.
 #[test]
 fn what_becomes_ready_is_listed_in_order(rt: HostRuntime) {
     let mut bank = Bank::open(&rt, rt.alloc());
@@ -54,7 +55,8 @@ fn what_becomes_ready_is_listed_in_order(rt: HostRuntime) {
             Step::Submit(4, "deposit alice 0.01"),
             Step::Submit(5, "deposit bob 0.01"),
             Step::Submit(6, "deposit carol 0.01"),
-            // The fifth becomes ready before the fourth and beside the third, and stands after both.
+            // The fifth becomes ready before the fourth and while the third is ready, and comes
+            // after both.
             Step::Take(1, 2),
             Step::Finish(2, Reply::Done),
             Step::Take(0, 1),
@@ -72,7 +74,8 @@ fn what_becomes_ready_is_listed_in_order(rt: HostRuntime) {
     );
 }
 
-// An amalgamation declares three cowns, and comes to the front of all when the one before it is finished.
+// An amalgamation declares three cowns, and is first at all of them once the one before it is
+// finished.
 #[test]
 fn one_comes_to_the_front_of_two_cowns_at_once(rt: HostRuntime) {
     let mut bank = Bank::open(&rt, rt.alloc());
@@ -93,7 +96,8 @@ fn one_comes_to_the_front_of_two_cowns_at_once(rt: HostRuntime) {
     );
 }
 
-// A payment declares two checking balances: savings wait for none, and the next payment for what it shares.
+// A payment declares two checking balances: it doesn't wait for savings, and the next payment waits
+// for what they share.
 #[test]
 fn payments_wait_for_checking_alone(rt: HostRuntime) {
     let mut bank = Bank::open(&rt, rt.alloc());
@@ -178,7 +182,7 @@ fn takes_a_turn(rt: &impl Abort, bank: &mut Bank) {
     assert!(rt; job.number() == 2);
 }
 
-// How many ops one hand runs until none is ready.
+// The number of ops that are run one by one until none is ready.
 fn run_all<R: Runs>(runs: &mut R) -> Result<u64, &'static str> {
     for finished in 0..OPEN_BEHAVIOURS as u64 {
         let Some(job) = runs.take_at(0) else {

@@ -17,7 +17,7 @@ fn workers_that_rest_are_woken(rt: HostRuntime) {
     wakes(&rt, rt.alloc(), 16);
 }
 
-// A crew of so many carries out calls that come while all rest.
+// A crew of this many executes calls that come while all workers rest.
 fn wakes<R: Threads + Wait + Clock + Sync + Abort>(rt: &R, alloc: Global, workers: usize)
     requires some { 1 ≤ workers }
     requires few { workers ≤ 16 }
@@ -28,7 +28,7 @@ fn wakes<R: Threads + Wait + Clock + Sync + Abort>(rt: &R, alloc: Global, worker
     assert!(rt; ended.is_ok());
 }
 
-// Each of ten boards is carried out, which come once the crew had nothing to do for a while.
+// Ten boards, each of which comes after the crew had nothing to do for a while, are executed.
 fn carries_out_late_calls<R: Clock + Abort>(rt: &R, alloc: Global, crew: &mut impl Crew) {
     for _ in 0..10 {
         thread::sleep(rt, Duration::from_millis(5));
@@ -38,7 +38,7 @@ fn carries_out_late_calls<R: Clock + Abort>(rt: &R, alloc: Global, crew: &mut im
     }
 }
 
-// An owner that helps rings no bell while it doesn't wait.
+// An owner that helps rings no bell unless it waits.
 #[test]
 fn a_rest_ends_by_itself(rt: HostRuntime) {
     let gate = Ear::default();
@@ -51,7 +51,7 @@ fn a_rest_ends_by_itself(rt: HostRuntime) {
     assert!(rt; ended.is_ok());
 }
 
-// All four jobs are carried out while the owner sleeps.
+// All four jobs are executed while the owner sleeps.
 fn hears_of_all<R: Clock + Abort>(rt: &R, gate: &Ear) {
     for _ in 0..10_000 {
         if gate.heard_of_each_in_turn() {

@@ -13,7 +13,7 @@ use std::sync::Wait;
 use std::thread::Threads;
 use std::time::Clock;
 
-// Alice's 150.00 come to bob's 20.00 and 5.00.
+// Alice's 150.00 join bob's 20.00 and 5.00.
 const LINES: [&str; 5] = [
     "deposit bob 5.00",
     "amalgamate alice bob",
@@ -22,7 +22,7 @@ const LINES: [&str; 5] = [
     "balance carol",
 ];
 
-// A board with the calls that these lines spell, drained by so many workers.
+// A board with the calls that these lines spell, drained by this many workers.
 pub(crate) fn drained<R, G>(
     rt: &R,
     alloc: Global,
@@ -48,7 +48,7 @@ where
     board
 }
 
-// Two boards that are idle have the same replies and columns.
+// Checks that two idle boards have the same replies and columns.
 fn are_alike(rt: &impl Abort, one: &Board<Op>, other: &Board<Op>) {
     assert!(rt; one.length() == other.length());
     assert!(rt; (1..=one.length()).all(|number| one.reply(number) == other.reply(number)));
@@ -57,7 +57,8 @@ fn are_alike(rt: &impl Abort, one: &Board<Op>, other: &Board<Op>) {
     assert!(rt; are_same(columns, others));
 }
 
-// So many workers leave a board with the calls that these lines spell as one thread leaves it.
+// Checks that this many workers leave a board with the calls that these lines spell as one thread
+// leaves it.
 fn drain_as_one_does<R: Threads + Wait + Clock + Sync + Abort>(
     rt: &R,
     alloc: Global,
@@ -102,7 +103,7 @@ fn an_owner_that_is_admitted_is_one_more_worker(rt: HostRuntime) {
     assert!(rt; gate.took_place());
 }
 
-// So many workers, and the owner if it is admitted, carry two jobs out.
+// This many workers, and the owner if it is admitted, execute two jobs.
 fn carry_two_out<R, G>(rt: &R, alloc: Global, workers: usize, gate: &G)
 where
     R: Threads + Wait + Clock + Sync + Abort,
@@ -136,7 +137,7 @@ fn what_nobody_takes_in_holds_nobody_up(rt: HostRuntime) {
     assert!(rt; ended.is_ok());
 }
 
-// Gives more than lies on the bench and in the channel together, and takes nothing in.
+// Gives more than the bench and the channel hold together, and takes nothing in.
 fn give_more_than_fits(rt: &impl Abort, alloc: Global, crew: &mut impl Crew) {
     for _ in 0..3 {
         let mut board = board_of(rt, alloc, &["balance zed"; OPEN_BEHAVIOURS]);

@@ -12,7 +12,7 @@ use sb_calls::Op;
 use std::alloc::Global;
 use std::process::Abort;
 
-// Draining by a traced crew keeps what draining keeps, and of the exchanges with which it does the first 64 are noted.
+// Draining by a traced crew keeps what draining keeps, and notes the first 64 of its exchanges.
 fn drain_traced<R: Runs, C: Crew>(runs: &mut R, crew: &mut Traced<C>) -> Result<(), CrewGone>
     requires { length crew.old.notices ≤ 64 }
     ensures exchanged { (steps : List CrewStep) × (AreTraced C.acts crew.old steps crew.new × MatchResult result
@@ -26,7 +26,7 @@ fn drain_traced<R: Runs, C: Crew>(runs: &mut R, crew: &mut Traced<C>) -> Result<
     drain(runs, crew)
 }
 
-// Draining these calls by this crew ends so, and these exchanges are noted.
+// Checks how draining these calls by this crew ends, and which exchanges are noted.
 fn are_noted<C: Crew + Drop>(
     rt: &impl Abort,
     alloc: Global,
@@ -47,7 +47,7 @@ const LINES: [&str; 3] = ["deposit bob 5.00", "balance bob", "balance carol"];
 fn what_a_crew_does_is_noted(rt: HostRuntime) {
     let in_place = [Notice::Back(1), Notice::Back(2), Notice::Back(3)];
     are_noted(&rt, rt.alloc(), InlineCrew, &LINES, Ok(()), &in_place);
-    // It keeps the first, which the second waits for, and lets the third go.
+    // It keeps the first, which the second waits for, and hands the third back.
     let kept = [
         Notice::Given(1),
         Notice::Back(3),
@@ -62,8 +62,8 @@ fn what_a_crew_does_is_noted(rt: HostRuntime) {
     are_noted(&rt, rt.alloc(), Keeper::after(0), &LINES, ended, &gone);
 }
 
-// This crew keeps each job that it is given, or hands each back. Either way the 65th comes back, and nothing is noted of
-// it, nor of what is handed over then.
+// This crew keeps each job that it is given, or hands each back. Either way the 65th comes back;
+// neither that nor what is handed over later is noted.
 fn notes_no_more_than_64<C: Crew + Drop>(rt: &impl Abort, alloc: Global, crew: C, keeps: bool) {
     let mut board = board_of(rt, alloc, &["balance zed"; 66]);
     let mut traced = Traced::new(crew);
@@ -83,7 +83,7 @@ fn notes_no_more_than_64<C: Crew + Drop>(rt: &impl Abort, alloc: Global, crew: C
     }
 }
 
-// The first that is ready is given to a crew, which keeps it or hands it back.
+// Gives the first ready job to a crew, which keeps it or hands it back.
 fn gives(rt: &impl Abort, board: &mut Board<Op>, crew: &mut impl Crew, keeps: bool) {
     let job = board.take_at(0).expect(rt, "a ready one");
     assert!(rt; crew.give(job).is_ok() == keeps);

@@ -11,7 +11,7 @@ use std::sync::Wait;
 use std::thread;
 use std::thread::{Promise, Threads};
 
-// What a worker's thread gives back is a pass of this bench.
+// A worker's thread gives back a pass of this bench.
 #[derive(Clone, Copy)]
 struct Of<'a>(&'a Bench);
 
@@ -83,7 +83,7 @@ fn offer_and_pick<R: Threads + Wait + Abort + Sync>(
     )
 }
 
-// Offers all jobs, and a `Stop` behind them.
+// Offers all jobs, and then a `Stop`.
 fn offer_all<R: Wait + Abort>(
     rt: &R,
     bench: &Bench,
@@ -100,7 +100,7 @@ fn offer_all<R: Wait + Abort>(
     owner
 }
 
-// Picks until there is a `Stop`, and answers the numbers of the jobs.
+// Picks until a `Stop` comes, and answers the numbers of the jobs.
 fn pick_all<R: Wait + Abort>(
     rt: &R,
     alloc: Global,

@@ -1,4 +1,5 @@
-//! The workers of a crew: how many there are, that the owner is none of them, and that they lose nothing.
+//! The workers of a crew: how many there are, that the owner isn't one of them, and that they lose
+//! nothing.
 ghost use Rattle.std.specs.Prelude.{◌≤◌};
 
 use crate::gates::{A_WHILE, Counter, Crowd, Door, TURNS};
@@ -34,7 +35,8 @@ fn no_more_work_than_are_asked_for(rt: HostRuntime) {
     }
 }
 
-// Whether so many workers have this many jobs out at once, each of which waits so many turns for the others.
+// Whether this many workers have this many jobs out at once, each of which waits this many turns
+// for the others.
 fn gathers<R: Threads + Wait + Clock + Sync + Abort>(
     rt: &R,
     alloc: Global,
@@ -52,7 +54,7 @@ fn gathers<R: Threads + Wait + Clock + Sync + Abort>(
     gate.gathered()
 }
 
-// If the owner carried jobs out it would come with the second, and wait for itself.
+// If the owner executed jobs, it would come with the second, and wait for itself.
 #[test]
 fn an_owner_that_is_not_admitted_opens_its_gate(rt: HostRuntime) {
     let gate = Door::default();
@@ -74,7 +76,7 @@ fn opens_after_the_first(rt: &impl Abort, alloc: Global, gate: &Door, crew: &mut
     hands_over(rt, crew, 2);
 }
 
-// What the crew hands over has this number.
+// Checks that what the crew hands over has this number.
 fn hands_over(rt: &impl Abort, crew: &mut impl Crew, number: u64) {
     let done = crew.next().expect(rt, "a job that is done");
     assert!(rt; done.number() == number, "{number}");
@@ -94,7 +96,7 @@ fn what_a_full_inbox_has_no_room_for_comes_in_later(rt: HostRuntime) {
     assert!(rt; ended.is_ok());
 }
 
-// Takes nothing in before more is carried out than the inbox holds. Then each job comes in once.
+// Takes nothing in before more is executed than the inbox holds. Then each job comes in once.
 fn fills_the_inbox(rt: &impl Abort, alloc: Global, gate: &Counter, crew: &mut impl Crew) {
     let half = MANY / 2;
     give_jobs(rt, crew, jobs_after(rt, alloc, 0, half));
@@ -121,7 +123,7 @@ fn give_jobs(rt: &impl Abort, crew: &mut impl Crew, jobs: Vec<Job<Op>>) {
     }
 }
 
-// Gives a job as often as it comes back, since the bench may be full for a moment.
+// Gives a job again each time it comes back, since the bench may be full for a moment.
 fn give_patiently(rt: &impl Abort, crew: &mut impl Crew, job: Job<Op>) {
     let mut job = job;
     for _ in 0..TURNS {

@@ -1,4 +1,4 @@
-//! Calls carried out in a row.
+//! Calls executed in a row.
 use super::bank::{Bank, answer, opened, opened_with};
 use crate::fixtures::expect;
 use crate::rows::columns::expect_columns;
@@ -7,7 +7,7 @@ use sb_calls::{Reply, read_call};
 use std::alloc::Global;
 use std::process::Abort;
 
-// Calls of the bank, each with its reply, and what the bank holds then.
+// Calls of the bank, each with its reply, and the bank's balances after them.
 #[derive(Clone, Copy)]
 struct Case<'a> {
     calls: &'a [(&'a str, Reply)],
@@ -15,7 +15,7 @@ struct Case<'a> {
     checking: [i64; 3],
 }
 
-// A line is answered so.
+// Checks the reply to a line.
 fn expect_reply(rt: &impl Abort, bank: &mut Bank, line: &str, wanted: Reply) {
     let call = read_call(line.as_bytes()).expect(rt, "a call");
     expect(rt, answer(rt, bank, &call) == wanted, line);
@@ -35,7 +35,7 @@ fn calls_that_are_carried_out(rt: HostRuntime) {
         ("balance alice", Reply::Shown(15000)),
         ("deposit bob 5.00", Reply::Done),
         ("savings carol -10.00", Reply::Done),
-        // All that alice has: no penalty.
+        // Alice pays exactly what she has: no penalty.
         ("check alice 150.00", Reply::Done),
         ("balance alice", Reply::Shown(0)),
         ("amalgamate alice bob", Reply::Done),
@@ -56,7 +56,7 @@ fn an_overdraft_is_penalised(rt: HostRuntime) {
         checking: [5000, -101, 0],
     };
     expect_case(&rt, rt.alloc(), overdraft);
-    // What is moved is below 0.
+    // The balance that moves is below 0.
     let moved = Case {
         calls: &[
             ("check bob 20.01", Reply::Penalised),
@@ -89,7 +89,7 @@ fn a_refusal_changes_nothing(rt: HostRuntime) {
         ("pay carol bob -0.01", Reply::Negative),
         ("savings carol -10.01", Reply::WouldOverdraw),
         ("pay carol bob 0.01", Reply::WouldOverdraw),
-        // Neither may alice pay so much, nor may bob have it.
+        // Alice doesn't have that much, and bob couldn't hold it either.
         ("pay alice bob 9999999980.01", Reply::WouldOverdraw),
     ];
     let case = Case {

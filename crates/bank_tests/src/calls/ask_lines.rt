@@ -3,7 +3,7 @@ use crate::fixtures::{cents, expect, name};
 use sb_calls::{Call, CallFault, read_ask};
 use std::process::Abort;
 
-// A line asks for this call, with this client's request as its key, or without a key.
+// Checks that a line asks for this call, with this client's request as its key, or without a key.
 fn expect_asked(rt: &impl Abort, line: &str, key: Option<(u32, u32)>, call: &Call) {
     let asked = read_ask(line.as_bytes()).expect(rt, "an asking line");
     expect(rt, asked.call == *call, line);
@@ -59,7 +59,7 @@ const FAULTS: &[(&str, CallFault)] = &[
     ("ask 1 x", CallFault::BadNumber),
 ];
 
-// A line is no asking line, with this fault.
+// Checks that a line isn't an asking line, with this fault.
 fn expect_fault(rt: &impl Abort, line: &str, fault: CallFault) {
     expect(rt, read_ask(line.as_bytes()).err() == Some(fault), line);
 }

@@ -1,4 +1,4 @@
-//! The bank of three customers that calls are carried out on.
+//! The bank of three customers on which calls are executed.
 use sb_calls::{Call, Reply, apply, resolve};
 use sb_rows::{Columns, Directory, read_opening};
 use std::alloc::Global;
@@ -12,12 +12,12 @@ pub(super) struct Bank {
     pub(super) columns: Columns,
 }
 
-/// The bank as it opens.
+/// The bank at its opening.
 pub(super) fn opened(rt: &impl Abort, alloc: Global) -> Box<Bank> {
     opened_with(rt, alloc, OPENING)
 }
 
-/// A bank that opens with this text.
+/// A bank with this opening text.
 pub(super) fn opened_with(rt: &impl Abort, alloc: Global, text: &str) -> Box<Bank> {
     let opening = read_opening(alloc, text.as_bytes()).expect(rt, "an opening");
     let bank = Bank {
@@ -27,7 +27,7 @@ pub(super) fn opened_with(rt: &impl Abort, alloc: Global, text: &str) -> Box<Ban
     Box::new(alloc, bank).expect(rt, "memory for a box")
 }
 
-/// Carries out a call, and gives its reply.
+/// Executes a call, and answers its reply.
 pub(super) fn answer(rt: &impl Abort, bank: &mut Bank, call: &Call) -> Reply {
     assert!(rt; bank.directory.len() == bank.columns.customers());
     apply(&mut bank.columns, resolve(&bank.directory, call))

@@ -5,7 +5,7 @@ use sb_rows::Words;
 use std::alloc::Global;
 use std::process::Abort;
 
-// A line spells this call.
+// Checks that a line spells this call.
 fn expect_call(rt: &impl Abort, line: &str, call: Call) {
     expect(rt, read_call(line.as_bytes()).ok() == Some(call), line);
 }
@@ -25,7 +25,7 @@ fn lines_that_are_read(rt: HostRuntime) {
     expect_call(&rt, "pay bob alice 20.00", payment);
 }
 
-// What the words of a line behind its first one spell.
+// The call that the words of a line after its first one spell.
 fn read_behind(line: &str) -> Result<Call, CallFault> {
     let mut words = Words::of(line.as_bytes());
     let _first = words.next();
@@ -93,7 +93,7 @@ const FAULTS: &[(&str, CallFault)] = &[
     ("pay alice bob carol", CallFault::BadMoney),
 ];
 
-// A line is no call, with this fault.
+// Checks that a line isn't a call, with this fault.
 fn expect_fault(rt: &impl Abort, line: &str, fault: CallFault) {
     expect(rt, read_call(line.as_bytes()).err() == Some(fault), line);
 }
@@ -105,7 +105,7 @@ fn lines_at_fault(rt: HostRuntime) {
     }
 }
 
-// A fault has this number, and is shown so.
+// Checks a fault's number and its text.
 fn expect_shown(rt: &impl Abort, alloc: Global, fault: CallFault, number: u8, words: &str) {
     let shown = fault.to_string(alloc).expect(rt, "memory for a text");
     expect(rt, fault.number() == number, words);

@@ -10,7 +10,7 @@ use sb_calls::{Behaviour, Cown, Op, TwoPlaces, cowns_of, read_cowns, write_cowns
 use sb_rows::Columns;
 use std::process::Abort;
 
-// The last place that a bank of 65,536 customers has.
+// The last place in a bank of 65,536 customers.
 const LAST: u32 = 65_535;
 
 // Whether these are the cowns with these numbers.
@@ -22,13 +22,13 @@ fn are(cowns: &[Cown], wanted: &[usize]) -> bool {
             .all(|(cown, number)| cown.number() == *number)
 }
 
-// A behaviour declares the cowns with these numbers, through its bound alone.
+// Checks the cowns that a behaviour declares, through its bound alone.
 fn expect_cowns<B: Behaviour>(rt: &impl Abort, behaviour: B, wanted: &[usize], case: &str) {
     let cowns = behaviour.cowns();
     expect(rt, are(&cowns, wanted), case);
 }
 
-// The ops of the customer at a place declare these cowns of savings and checking.
+// Checks the cowns of savings and checking that the ops of the customer at a place declare.
 fn expect_place(rt: &impl Abort, place: u32, savings: usize, checking: usize) {
     let amount = cents(rt, 500);
     let both = [savings, checking];
@@ -55,7 +55,7 @@ fn those_of_one_customer(rt: HostRuntime) {
     expect_place(&rt, LAST, 131_070, 131_071);
 }
 
-// An amalgamation declares these cowns.
+// Checks the cowns that an amalgamation declares.
 fn expect_two(rt: &impl Abort, giver: u32, taker: u32, wanted: &[usize]) {
     let places = TwoPlaces::new(giver, taker).expect(rt, "two places");
     expect_cowns(rt, Op::Amalgamate(places), wanted, "amalgamate");
@@ -70,7 +70,7 @@ fn those_of_two_customers_rise(rt: HostRuntime) {
     expect_two(&rt, LAST, 1, &[3, 131_070, 131_071]);
 }
 
-// A payment declares these cowns.
+// Checks the cowns that a payment declares.
 fn expect_payment(rt: &impl Abort, payer: u32, taker: u32, wanted: &[usize]) {
     let places = TwoPlaces::new(payer, taker).expect(rt, "two places");
     let payment = Op::SendPayment(places, cents(rt, 500));

@@ -1,4 +1,4 @@
-//! What ops reply, and what their cowns hold after them.
+//! What ops reply, and what their cowns hold afterwards.
 ghost use Rattle.std.specs.Prelude.{pos, ◌≤ℤ◌};
 ghost use Rattle.sb_amount.specs.Limit.{IsWithinLimit};
 ghost use Rattle.sb_calls.specs.Cowns.{AreHeld};
@@ -18,7 +18,7 @@ fn savings(rt: &impl Abort, number: i64) -> Cents
     held
 }
 
-// Whether these are balances of so many cents.
+// Whether these are balances of this many cents.
 fn are(balances: &[Cents], wanted: &[i64]) -> bool {
     balances.len() == wanted.len()
         && balances
@@ -27,7 +27,7 @@ fn are(balances: &[Cents], wanted: &[i64]) -> bool {
             .all(|(balance, number)| balance.value() == *number)
 }
 
-// A behaviour replies this, and its cowns hold that after it, through its bound alone.
+// Checks a behaviour's reply, and what its cowns hold afterwards, through its bound alone.
 fn expect_effect<B: Performs>(
     rt: &impl Abort,
     behaviour: B,
@@ -90,7 +90,7 @@ fn expect_check(rt: &impl Abort, amount: i64, held: [i64; 2], reply: Reply, left
 
 #[test]
 fn checks(rt: HostRuntime) {
-    // All that there is, and one cent more, for which there is a penalty of a dollar.
+    // Everything that there is, and one cent more, which costs a penalty of a dollar.
     expect_check(&rt, 15_000, [10_000, 5_000], Reply::Done, -10_000);
     expect_check(&rt, 15_001, [10_000, 5_000], Reply::Penalised, -10_101);
     expect_check(&rt, -1, [10_000, 5_000], Reply::Negative, 5_000);
@@ -98,14 +98,14 @@ fn checks(rt: HostRuntime) {
     expect_check(&rt, LIMIT, [0, 99], Reply::OverLimit, 99);
 }
 
-// The first of two customers gives: its savings and checking stand before the other's checking.
+// The first of two customers gives: its savings and checking come before the other's checking.
 fn expect_first_gives(rt: &impl Abort, held: [i64; 3], reply: Reply, left: [i64; 3]) {
     let places = TwoPlaces::new(2, 5).expect(rt, "two places");
     let inputs = [savings(rt, held[0]), cents(rt, held[1]), cents(rt, held[2])];
     expect_effect(rt, Op::Amalgamate(places), &inputs, reply, &left);
 }
 
-// The second gives: the other's checking stands first.
+// The second gives: the other's checking comes first.
 fn expect_second_gives(rt: &impl Abort, held: [i64; 3], reply: Reply, left: [i64; 3]) {
     let places = TwoPlaces::new(5, 2).expect(rt, "two places");
     let inputs = [cents(rt, held[0]), savings(rt, held[1]), cents(rt, held[2])];
@@ -120,7 +120,7 @@ fn amalgamations(rt: HostRuntime) {
     expect_second_gives(&rt, [-LIMIT, 0, -1], Reply::OverLimit, [-LIMIT, 0, -1]);
 }
 
-// The first of two customers pays: its checking stands before the other's.
+// The first of two customers pays: its checking comes before the other's.
 fn expect_first_pays(rt: &impl Abort, amount: i64, held: [i64; 2], reply: Reply, left: [i64; 2]) {
     let places = TwoPlaces::new(2, 5).expect(rt, "two places");
     let payment = Op::SendPayment(places, cents(rt, amount));
@@ -128,7 +128,7 @@ fn expect_first_pays(rt: &impl Abort, amount: i64, held: [i64; 2], reply: Reply,
     expect_effect(rt, payment, &inputs, reply, &left);
 }
 
-// The second pays: the other's checking stands first.
+// The second pays: the other's checking comes first.
 fn expect_second_pays(rt: &impl Abort, amount: i64, held: [i64; 2], reply: Reply, left: [i64; 2]) {
     let places = TwoPlaces::new(5, 2).expect(rt, "two places");
     let payment = Op::SendPayment(places, cents(rt, amount));

@@ -1,4 +1,4 @@
-//! What calls change the bank's total by.
+//! How calls change the bank's total.
 use crate::fixtures::{cents, expect, name};
 use sb_calls::{Call, Reply, net};
 use std::process::Abort;
@@ -12,7 +12,8 @@ const REFUSALS: &[Reply] = &[
     Reply::OverLimit,
 ];
 
-// A call changes the total so by the two replies that pay, and by none of the others.
+// Checks how a call changes the total with the two replies that pay; with the others it changes
+// nothing.
 fn expect_net(rt: &impl Abort, call: Call, done: i64, penalised: i64, case: &str) {
     expect(rt, net(&call, Reply::Done) == done, case);
     expect(rt, net(&call, Reply::Penalised) == penalised, case);

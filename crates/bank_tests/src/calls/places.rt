@@ -1,4 +1,4 @@
-//! The places that calls' names are looked up at.
+//! The places that the names of calls resolve to.
 use super::bank::{Bank, opened};
 use crate::fixtures::{cents, expect, name};
 use sb_calls::{Call, Op, TwoPlaces, resolve};
@@ -8,7 +8,7 @@ fn expect_op(rt: &impl Abort, bank: &Bank, call: Call, op: Op, case: &str) {
     expect(rt, resolve(&bank.directory, &call) == op, case);
 }
 
-// The calls of one name are looked up at this place.
+// Checks the place that the calls of one name resolve to.
 fn expect_place(rt: &impl Abort, bank: &Bank, text: &str, place: u32) {
     let customer = name(rt, text);
     let five = cents(rt, 500);
@@ -38,7 +38,7 @@ fn two_places_differ(rt: HostRuntime) {
     expect(&rt, TwoPlaces::new(1, 1).is_none(), "1 and 1");
 }
 
-// An amalgamation of these names is looked up so.
+// Checks the op that an amalgamation of these names resolves to.
 fn expect_two(rt: &impl Abort, bank: &Bank, from: &str, to: &str, op: Op) {
     let call = Call::Amalgamate(name(rt, from), name(rt, to));
     expect_op(rt, bank, call, op, from);
@@ -55,7 +55,7 @@ fn calls_of_two_names(rt: HostRuntime) {
     expect_two(&rt, &bank, "zed", "alice", Op::NoCustomer);
 }
 
-// A payment between these names is looked up so.
+// Checks the op that a payment between these names resolves to.
 fn expect_payment(rt: &impl Abort, bank: &Bank, from: &str, to: &str, op: Op) {
     let call = Call::SendPayment(name(rt, from), name(rt, to), cents(rt, 500));
     expect_op(rt, bank, call, op, from);

@@ -1,4 +1,4 @@
-//! Calls beside a plain bank, which keeps names and balances together.
+//! Calls compared with a plain bank, which keeps names and balances together.
 use super::bank::{Bank, answer, opened};
 use crate::fixtures::{cents, name};
 use crate::rows::columns::expect_columns;
@@ -163,7 +163,7 @@ const OPENED: [Customer; 3] = [
     },
 ];
 
-// A customer for a number; one of the four is none of the bank's.
+// A customer by number; one of the four isn't in the bank.
 fn numbered_name(rt: &impl Abort, number: u8) -> Name {
     let text = match number % 4 {
         0 => "alice",
@@ -174,7 +174,7 @@ fn numbered_name(rt: &impl Abort, number: u8) -> Name {
     name(rt, text)
 }
 
-// A call for a number.
+// A call by number.
 fn numbered_call(rt: &impl Abort, number: u8) -> Call {
     let first = numbered_name(rt, number);
     let amount = cents(rt, (i64::from(number) - 60) * 4_000_000_003);
@@ -188,7 +188,7 @@ fn numbered_call(rt: &impl Abort, number: u8) -> Call {
     }
 }
 
-// The bank answers the call of a number as the plain one does.
+// Checks that the bank replies to the call of a number as the plain one does.
 fn expect_same(rt: &impl Abort, bank: &mut Bank, plain: &mut [Customer], number: u8) {
     let call = numbered_call(rt, number);
     let wanted = plain_reply(plain, &call);

@@ -16,7 +16,7 @@ const WORDS: &[(Reply, &str)] = &[
     (Reply::OverLimit, "over limit"),
 ];
 
-// A reply is printed so.
+// Checks the text of a reply.
 fn expect_words(rt: &impl Abort, reply: Reply, words: &str) {
     let printed = print_reply(reply);
     expect_bytes(rt, printed.as_bytes(), words.as_bytes(), words);

@@ -4,7 +4,7 @@ use sb_rows::{CUSTOMERS, Columns};
 use std::alloc::Global;
 use std::process::Abort;
 
-/// Columns hold these savings and these checking balances.
+/// Checks the savings and the checking balances of columns.
 pub(crate) fn expect_columns(
     rt: &impl Abort,
     columns: &Columns,
@@ -15,7 +15,7 @@ pub(crate) fn expect_columns(
     expect_amounts(rt, columns.checking(), checking, "checking balances");
 }
 
-// Puts the balances of one more customer last, where they may stand there.
+// Appends the balances of one more customer, if they are in range.
 fn add_balances(rt: &impl Abort, columns: &mut Columns, savings: i64, checking: i64) {
     let (savings, checking) = (cents(rt, savings), cents(rt, checking));
     if columns.customers() < CUSTOMERS && savings.value() >= 0 {
@@ -57,7 +57,7 @@ fn a_copy_stays(rt: HostRuntime) {
     expect_columns(&rt, &copy, &[500, 0], &[-20, 7]);
 }
 
-// Both columns hold the balances of so many customers, and the same.
+// Checks that both columns hold the balances of this many customers, and the same ones.
 fn expect_same(rt: &impl Abort, a: &Columns, b: &Columns, customers: usize) {
     expect(rt, a.customers() == customers, "how many customers");
     expect_columns(rt, a, b.savings(), b.checking());

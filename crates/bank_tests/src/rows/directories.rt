@@ -4,14 +4,14 @@ use sb_rows::{CUSTOMERS, Directory};
 use std::alloc::Global;
 use std::process::Abort;
 
-// A directory has a name at this place.
+// Checks that a directory has a name at this place.
 fn expect_name(rt: &impl Abort, directory: &Directory, place: u32, text: &str) {
     let name = name(rt, text);
     expect(rt, directory.name(place) == Some(name), text);
     expect(rt, directory.place(&name) == Some(place), text);
 }
 
-/// A directory has these names at their places, and no more.
+/// Checks that a directory has these names at their places, and no others.
 pub(super) fn expect_names(rt: &impl Abort, directory: &Directory, names: &[&str]) {
     let mut place = 0u32;
     for text in names {
@@ -22,12 +22,12 @@ pub(super) fn expect_names(rt: &impl Abort, directory: &Directory, names: &[&str
     expect(rt, directory.name(place).is_none(), "behind the last name");
 }
 
-/// A directory hasn't got a name.
+/// Checks that a directory doesn't have a name.
 pub(super) fn expect_no_name(rt: &impl Abort, directory: &Directory, text: &str) {
     expect(rt, directory.place(&name(rt, text)).is_none(), text);
 }
 
-// Puts a name last, unless the directory has it.
+// Appends a name, unless the directory has it.
 fn add_name(rt: &impl Abort, directory: &mut Directory, text: &str) {
     let name = name(rt, text);
     if directory.place(&name).is_none() && directory.len() < CUSTOMERS {
@@ -59,7 +59,7 @@ fn a_copy_stays(rt: HostRuntime) {
     expect_no_name(&rt, &copy, "carol");
 }
 
-// Both directories have so many names, and the same.
+// Checks that both directories have this many names, and the same ones.
 fn expect_same_names(rt: &impl Abort, a: &Directory, b: &Directory, places: u32) {
     expect(rt, a.len() == places as usize, "how many names");
     for place in 0..places {

@@ -4,7 +4,7 @@ use sb_rows::{LineFault, OpeningFault, read_opening};
 use std::alloc::Global;
 use std::process::Abort;
 
-// A text is refused at this line.
+// Checks that a text is refused at this line.
 fn expect_fault(
     rt: &impl Abort,
     alloc: Global,
@@ -67,7 +67,7 @@ fn the_first_of_two_faults(rt: HostRuntime) {
     }
 }
 
-// As many customers as a bank has and then this are refused at the line of the end.
+// Checks that a full bank's customers and then this text are refused at the line of the text.
 fn expect_fault_of_last(rt: &impl Abort, alloc: Global, end: &str, fault: LineFault) {
     let text = many_lines(rt, alloc, 65_536, end);
     expect_fault(rt, alloc, text.as_str(), 65_537, fault, end);
@@ -84,7 +84,7 @@ fn one_customer_more_than_a_bank_has(rt: HostRuntime) {
     expect_fault_of_last(&rt, rt.alloc(), "d 1.00 2.00\nbegin\n", LineFault::TooMany);
 }
 
-// A fault has this number, and is shown so.
+// Checks a fault's number and its text.
 fn expect_shown(rt: &impl Abort, alloc: Global, fault: OpeningFault, number: u8, words: &str) {
     let shown = fault.to_string(alloc).expect(rt, "memory for a text");
     expect(rt, fault.number() == number, words);

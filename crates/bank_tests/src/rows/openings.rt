@@ -6,7 +6,7 @@ use sb_rows::Opening;
 use std::alloc::Global;
 use std::process::Abort;
 
-// An opening has so many customers, and takes so many bytes.
+// Checks an opening's number of customers, and the number of bytes that it takes.
 fn expect_size(rt: &impl Abort, opening: &Opening, customers: usize, consumed: usize, case: &str) {
     expect(rt, opening.directory.len() == customers, case);
     expect(rt, opening.columns.customers() == customers, case);

@@ -3,7 +3,7 @@ use crate::fixtures::{expect, expect_bytes};
 use sb_rows::{Words, WrongWords, next_line};
 use std::process::Abort;
 
-// A text has these lines.
+// Checks the lines of a text.
 fn expect_lines(rt: &impl Abort, text: &str, lines: &[&str]) {
     let mut rest = text.as_bytes();
     for wanted in lines {
@@ -26,7 +26,7 @@ fn texts_in_lines(rt: HostRuntime) {
     expect_lines(&rt, "\n\nab cd\n\n", &["", "", "ab cd", ""]);
 }
 
-// A line has these words.
+// Checks the words of a line.
 fn expect_words(rt: &impl Abort, line: &str, wanted: &[&str]) {
     let mut words = Words::of(line.as_bytes());
     for text in wanted {
@@ -36,7 +36,7 @@ fn expect_words(rt: &impl Abort, line: &str, wanted: &[&str]) {
         expect_bytes(rt, word, text.as_bytes(), line);
     }
     expect(rt, words.next().is_none(), line);
-    // There is none behind the end either.
+    // There is no word after the end either.
     expect(rt, words.word() == Err(WrongWords), line);
     expect(rt, words.last() == Err(WrongWords), line);
 }
@@ -52,7 +52,7 @@ fn lines_in_words(rt: HostRuntime) {
     expect_words(&rt, "a\tb", &["a\tb"]);
 }
 
-// The one word that is left of a line behind so many others.
+// The one word that is left after this many others of a line.
 fn last_behind(line: &str, others: usize) -> Option<&[u8]> {
     let mut words = Words::of(line.as_bytes());
     for _ in 0..others {

@@ -1,4 +1,4 @@
-//! Bytes that are no checkpoint of the bank.
+//! Bytes that aren't a checkpoint of the bank.
 use super::*;
 
 #[test]
@@ -11,7 +11,7 @@ fn every_proper_beginning_is_short(rt: HostRuntime) {
     }
 }
 
-// The fields of one layout behind the head of the other: eight bytes are missing, or left over.
+// The fields of one layout after the head of the other: eight bytes are missing, or left over.
 #[test]
 fn a_head_of_the_other_layout(rt: HostRuntime) {
     let missing = bytes(&rt, &[SECOND_HEAD, SAVINGS, CHECKING, TOTAL, REPLIES]);
@@ -35,7 +35,8 @@ fn bytes_left_over(rt: HostRuntime) {
 // The savings, the checking balances, their total and the replies.
 type Fields = [&'static str; 4];
 
-// Each of these is refused in either layout for so many customers, and with this fault.
+// Checks that each of these is refused, in either layout, for this many customers, and with this
+// fault.
 fn are_refused(
     rt: &(impl Abort + AllocGlobal),
     origin: Origin,
@@ -56,7 +57,7 @@ const BELOW: &str = "0000000000000000 ffffff172b5aefff 0000000000000000";
 
 const NEGATIVE: &str = "0000000000000000 ffffffffffffffff 0000000000000000";
 
-// Bob has a cent more than the total says.
+// Bob has one cent more than the total says.
 const ANOTHER_BALANCE: &str = "0000000000000000 00000000000009c5 0000000000000000";
 
 const ANOTHER_TOTAL: &str = "00000000000009c5";
@@ -98,7 +99,7 @@ fn then_the_number_of_customers(rt: HostRuntime) {
 
 #[test]
 fn then_the_balances_and_their_total(rt: HostRuntime) {
-    // Another opening total counts later.
+    // A wrong opening total is found later.
     for opening_total in [18_000, 18_001] {
         let origin = (3, opening_total);
         are_refused(
@@ -138,7 +139,7 @@ fn then_the_opening_total(rt: HostRuntime) {
             let fields = [SECOND_HEAD, SAVINGS, CHECKING, TOTAL, OPENING, replies, REPLIES];
             is_refused(&rt, &bytes(&rt, &fields), origin, CheckpointFault::WrongOpening);
         }
-        // The first layout has none.
+        // The first layout doesn't have one.
         assert!(&rt; fault_of(&rt, &bytes(&rt, &FIRST), origin).is_none());
     }
 }

@@ -1,7 +1,7 @@
-//! One bit of a checkpoint is another.
+//! Checkpoints with one flipped bit.
 use super::*;
 
-// What the bytes are refused with, if they are, once the lowest bit of the byte at this place is the other.
+// The fault, if there is one, of the bytes with the lowest bit flipped in the byte at this place.
 fn flipped(
     rt: &(impl Abort + AllocGlobal),
     bytes: &mut [u8],
@@ -18,7 +18,7 @@ fn count_of(answers: &[Option<CheckpointFault>], answer: Option<CheckpointFault>
     answers.iter().filter(|other| **other == answer).count()
 }
 
-// So many of the answers to the flips of each byte are these.
+// Checks how many flips, one in each byte, have each of these answers.
 fn are_answered(
     rt: &(impl Abort + AllocGlobal),
     fields: &[&str],
@@ -48,7 +48,7 @@ fn the_lowest_bit_of_each_of_121_bytes(rt: HostRuntime) {
             (Some(CheckpointFault::WrongTotal), 38),
             (Some(CheckpointFault::BadReply), 35),
             (Some(CheckpointFault::Long), 1),
-            // Replies that are others.
+            // The replies differ.
             (None, 10),
         ],
     );

@@ -1,9 +1,9 @@
-//! The largest checkpoints, and those that state more.
+//! The largest checkpoints, and those that state a greater length.
 use super::*;
 use sb_amount::Cents;
 use sb_rows::Columns;
 
-// As many customers as a bank takes, each with savings of 1 cent and the least checking balance.
+// As many customers as a bank may have, each with savings of 1 cent and the least checking balance.
 pub(crate) fn full_bank(rt: &(impl Abort + AllocGlobal)) -> Columns {
     let savings = Cents::new(1).expect(rt, "an amount");
     let checking = Cents::new(-1_000_000_000_000).expect(rt, "an amount");
@@ -32,7 +32,7 @@ fn a_full_bank_is_written_and_read(rt: HostRuntime) {
     are_read(&rt, &bytes, least, told, &bytes);
 }
 
-// The fields of a checkpoint of no customers in each layout, before its length and behind it.
+// The fields of a checkpoint of no customers in each layout, before its length and after it.
 const FIRST_OF_NOBODY: [&str; 2] = ["5342434b50543031", "00000000 0000000000000000"];
 
 const SECOND_OF_NOBODY: [&str; 2] = [
@@ -40,7 +40,7 @@ const SECOND_OF_NOBODY: [&str; 2] = [
     "00000000 0000000000000000 0000000000000000",
 ];
 
-// A checkpoint of no customers, of this length, and with so many replies, each of which shows 0.
+// A checkpoint of no customers, of this length, with this many replies, each of which shows 0.
 fn shown_nothing(
     rt: &(impl Abort + AllocGlobal),
     layout: [&str; 2],

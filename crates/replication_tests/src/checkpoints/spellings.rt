@@ -23,7 +23,7 @@ fn three_customers_and_five_replies(rt: HostRuntime) {
     are_read(&rt, &second, 18_000, told, &second);
 }
 
-// The first layout has no opening total: it is written again with whichever the bank has.
+// The first layout has no opening total: it is written again with any that the bank has.
 #[test]
 fn no_customers_and_no_replies(rt: HostRuntime) {
     let first = bytes(

@@ -36,7 +36,7 @@ fn no_entry_is_held_after_the_millionth(rt: HostRuntime) {
     );
 }
 
-// Each of the three is replied as nobody's call.
+// Each of the three gets the reply to nobody's call.
 #[test]
 fn the_later_op_for_a_number_counts(rt: HostRuntime) {
     plays_after(
@@ -48,7 +48,7 @@ fn the_later_op_for_a_number_counts(rt: HostRuntime) {
             Step::OfferSameCustomer(3, Offered::Held(3)),
             Step::Offer(1, Offered::Next, 1),
             Step::Advance(Some(Offered::Next), 2),
-            // An entry that is offered in its turn takes the place of the one that is held for it.
+            // An entry that is offered in its turn replaces the one that is held for that number.
             Step::Offer(3, Offered::Next, 3),
             Step::Advance(None, 3),
             Step::Run(1),

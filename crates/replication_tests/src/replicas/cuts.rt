@@ -16,7 +16,7 @@ fn a_mark_of_a_cut_while_another_entry_is_out(rt: HostRuntime) {
             Step::Take(2),
             Step::Mark(Ok(1)),
             Step::Stored(Some(&AFTER_A_DEPOSIT)),
-            // The cut is gone, so the next mark is of both.
+            // The cut is gone, so the next mark covers both.
             Step::Mark(Err(MarkFault::Busy)),
             Step::Finish(Reply::Done),
             Step::Restart(Ok(1)),

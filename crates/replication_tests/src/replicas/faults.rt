@@ -2,8 +2,8 @@
 use super::*;
 use sb_checkpoint::{FaultyStore, Version};
 
-// The store fails at this call, and a put at which it does leaves this version: how a mark of one entry is answered, and
-// two restarts after it.
+// A store that fails at this call, and the version that a failed put leaves; the answer to a mark
+// of one entry, and those to two restarts after it.
 #[derive(Clone, Copy)]
 struct Case {
     at: u64,
@@ -25,7 +25,7 @@ fn opened_over_faulty(
     Box::new(rt.alloc(), replica).expect(rt, "memory for a box")
 }
 
-// A restart is answered so; where it is refused the entry is still there, and its reply.
+// Checks the answer to a restart; if it is refused, the entry and its reply are still there.
 fn restarts_so(
     rt: &impl Abort,
     replica: &mut Replica<FaultyStore>,

@@ -1,4 +1,4 @@
-//! What a replica hears, and what it says.
+//! What a replica hears, and what it sends.
 use super::*;
 use sb_calls::WireReply;
 
@@ -11,7 +11,7 @@ fn only_the_next_entry_is_accepted(rt: HostRuntime) {
             Step::Hear(1, "deposit alice 1.00", Heard::Accepted(1)),
             Step::Hear(1, "deposit alice 1.00", Heard::Repeat(1)),
             Step::Hear(2, "deposit bob 1.00", Heard::Accepted(2)),
-            // The one that was held for its number isn't accepted once more.
+            // The entry that was held for its number isn't accepted a second time.
             Step::Advance(None),
             Step::Run(1, Reply::Done),
             Step::Run(2, Reply::Done),
@@ -63,10 +63,10 @@ fn what_is_no_whole_frame_is_refused(rt: HostRuntime) {
         &[
             Step::HearBytes(&[], Err(short)),
             Step::HearBytes(&[0, 1, 9], Err(unknown)),
-            // A whole frame, and a byte after it.
+            // A whole frame, and one more byte.
             Step::HearBytes(&[0, 1, 6, 0], Err(long)),
             Step::HearBytes(&[0, 1, 6], Ok(Heard::Ignored)),
-            // How long another's checkpoint is.
+            // The length of another replica's checkpoint.
             Step::HearBytes(&[0, 10, 7, 1, 0, 0, 0, 0, 0, 0, 0, 2], Ok(Heard::Ignored)),
             Step::Length(0),
         ],

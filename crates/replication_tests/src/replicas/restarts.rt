@@ -3,7 +3,7 @@ use super::marks::AFTER_FIVE_CALLS;
 use super::*;
 use crate::checkpoints::{CHECKING, FIRST, REPLIES, SAVINGS, SECOND_HEAD, TOTAL};
 
-// A replica whose store held these bytes before it was opened is restarted, and is as it was.
+// Checks that a replica whose store already held these bytes can't be restarted, and is as it was.
 fn is_refused(rt: &(impl Abort + AllocGlobal), bytes: &[u8], fault: CheckpointFault) {
     plays_over(
         rt,
@@ -27,13 +27,13 @@ fn bytes_that_are_no_checkpoint_of_the_bank(rt: HostRuntime) {
     let mut bytes = [0; 28];
     bytes[..8].copy_from_slice(b"SBCKPT01");
     is_refused(&rt, &bytes, CheckpointFault::WrongCustomers);
-    // One of a bank that opened with a cent less.
+    // A checkpoint of a bank whose opening total is one cent less.
     let opening = "000000000000464f";
     let fields = [SECOND_HEAD, SAVINGS, CHECKING, TOTAL, opening, REPLIES];
     is_refused(&rt, &super::bytes(&rt, &fields), CheckpointFault::WrongOpening);
 }
 
-// A checkpoint in the first layout is gone back to; the next mark puts it in the second.
+// A restart goes back to a checkpoint in the first layout; the next mark puts it in the second.
 #[test]
 fn a_restart_from_the_first_layout(rt: HostRuntime) {
     plays_over(
@@ -67,7 +67,7 @@ fn a_restart_forgets_what_is_held(rt: HostRuntime) {
     );
 }
 
-// The first job is out when it's restarted at the opening, and is taken once more.
+// The first job is out when the replica restarts at the opening, and is taken again.
 #[test]
 fn the_earlier_hand_finishes_first(rt: HostRuntime) {
     plays(

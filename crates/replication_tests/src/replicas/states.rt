@@ -13,7 +13,7 @@ const SHORT: [&str; 6] = [
     "00 0000000000003a98 01 0000000000000000 01 0000000000000000 01 0000000000000000 01 00000000000000",
 ];
 
-// The checkpoint after five calls, a cent off.
+// The checkpoint after five calls, with a total that is one cent off.
 const A_CENT_OFF: [&str; 6] = [
     SECOND_HEAD,
     SAVINGS,
@@ -23,7 +23,7 @@ const A_CENT_OFF: [&str; 6] = [
     REPLIES,
 ];
 
-// That of a bank that opened with a cent more.
+// The same of a bank whose opening total is one cent more.
 const ANOTHER_BANKS: [&str; 6] = [
     SECOND_HEAD,
     SAVINGS,
@@ -33,7 +33,7 @@ const ANOTHER_BANKS: [&str; 6] = [
     REPLIES,
 ];
 
-// Its first reply is none.
+// The bytes of its first reply aren't a reply.
 const NO_REPLY: [&str; 5] = [
     FIRST_HEAD,
     SAVINGS,
@@ -83,7 +83,7 @@ fn a_state_is_adopted(rt: HostRuntime) {
     );
 }
 
-// All that was adopted is put by the next mark.
+// The next mark puts everything that was adopted.
 #[test]
 fn a_state_that_was_adopted_is_marked(rt: HostRuntime) {
     plays(
@@ -115,7 +115,7 @@ fn a_state_in_the_first_layout_is_adopted(rt: HostRuntime) {
     );
 }
 
-// It is given as it's stored.
+// It is given as it is stored.
 #[test]
 fn a_stored_state_in_the_first_layout_is_kept(rt: HostRuntime) {
     plays_over(
@@ -187,7 +187,7 @@ fn a_hand_of_an_adopted_number_is_a_stranger(rt: HostRuntime) {
     );
 }
 
-// The hands are of numbers behind the state, from before a restart.
+// The hands hold numbers beyond the state, from before a restart.
 #[test]
 fn a_hand_of_a_later_number_is_a_stranger(rt: HostRuntime) {
     plays(

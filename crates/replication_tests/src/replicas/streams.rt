@@ -1,4 +1,4 @@
-//! What a replica hears of a stream, beside what another hears of the bytes of the same frames.
+//! A replica that hears a stream, compared with one that hears the bytes of the same frames.
 use super::*;
 use sb_frames::{Stream, StreamFault};
 use sb_replica::{BATCH_ENTRIES, HearingFault, Pause};
@@ -23,7 +23,7 @@ fn entry(rt: &impl Abort, number: u64, line: &str) -> Frame {
     Frame::Entry { number, call }
 }
 
-// Entries with these numbers, each of a deposit.
+// Entries with these numbers, each a deposit.
 fn entries(rt: &(impl Abort + AllocGlobal), numbers: &[u64]) -> Vec<Frame> {
     let mut frames = Vec::new(rt.alloc());
     for number in numbers {
@@ -65,7 +65,7 @@ fn run_all(rt: &impl Abort, replica: &mut Replica<MemoryStore>) {
     }
 }
 
-// Hears the bytes of each frame. Where the replica is busy, all is run first.
+// Hears the bytes of each frame. A busy replica runs everything first.
 fn hear_each(rt: &impl Abort, replica: &mut Replica<MemoryStore>, frames: &[Frame]) {
     for frame in frames {
         let bytes = encode(frame);
@@ -76,7 +76,7 @@ fn hear_each(rt: &impl Abort, replica: &mut Replica<MemoryStore>, frames: &[Fram
     }
 }
 
-// Hears all that comes with these bytes. Where the replica is busy, all is run.
+// Hears everything that comes with these bytes. A busy replica runs everything.
 fn hear_piece(rt: &impl Abort, other: &mut Listener, bytes: &[u8]) {
     assert!(rt; other.stream.feed(bytes) == Ok(()));
     for _ in 0..u64::MAX {
@@ -96,7 +96,7 @@ fn have_same_columns(rt: &impl Abort, one: &Replica<MemoryStore>, other: &Replic
     assert!(rt; first.savings() == second.savings());
 }
 
-// Once all is run both are alike, with the entries that are held for the next two numbers.
+// Once everything is run both are alike, and hold the same entries for the next two numbers.
 fn are_alike(rt: &impl Abort, one: &mut Node, other: &mut Node) {
     for _ in 0..3 {
         run_all(rt, &mut one.replica);
@@ -152,7 +152,7 @@ fn a_long_stream_is_heard_as_its_frames(rt: HostRuntime) {
     }
 }
 
-// What is fed, what hearing answers then, and the length of the log after it.
+// The bytes that are fed, the answer of hearing then, and the length of the log after it.
 #[derive(Clone, Copy)]
 struct Hearing<'a> {
     bytes: &'a [u8],
@@ -244,7 +244,7 @@ fn no_entry_is_taken_while_too_many_are_unfinished(rt: HostRuntime) {
     hears_so(&rt, &mut other, 3, &short);
 }
 
-// Nothing more is fed.
+// No more bytes are fed.
 fn fails_so(rt: &impl Abort, other: &mut Listener, fault: HearingFault) {
     let told = other.node.replica.hear_stream(&mut other.stream);
     assert!(rt; told == Err(fault));

@@ -1,4 +1,4 @@
-//! The file system, of which one call can be made to fail.
+//! The file system, with one call that can be made to fail.
 use std::cell::Cell;
 use std::fs::{Files, Metadata, OpenFile, OpenOptions};
 use std::io::{ErrorKind, Read, Seek, SeekFrom, Write};
@@ -20,7 +20,8 @@ pub(super) enum Call {
     Read,
 }
 
-/// The system's files. Each read and each write moves up to three bytes, after one that was interrupted.
+/// The system's files. Each read and each write moves up to three bytes, after one that was
+/// interrupted.
 #[derive(Drop)]
 pub(super) struct Failing {
     pub rt: HostRuntime,
@@ -36,7 +37,7 @@ pub(super) struct FailingFile {
     is_written: bool,
 }
 
-// Fails where this call is to fail.
+// Fails if this is the call that has to fail.
 fn unless(told: &Cell<Call>, call: Call) -> io::Result<()> {
     if told.get() == call {
         return Err(io::Error::from(ErrorKind::PermissionDenied));
@@ -45,7 +46,7 @@ fn unless(told: &Cell<Call>, call: Call) -> io::Result<()> {
 }
 
 impl FailingFile {
-    // A read or a write is interrupted every other time, and fails in mid-stream.
+    // Every other read or write is interrupted, and one fails in mid-stream.
     fn turn(&mut self, call: Call) -> io::Result<()> {
         self.interrupted = !self.interrupted;
         if self.interrupted {

@@ -2,15 +2,15 @@
 use super::*;
 use sb_checkpoint::{FaultyStore, MemoryStore, Version};
 
-// The device fails at this call, and a put at which it does leaves this version.
+// A device that fails at this call, and the version that a failed put leaves.
 #[derive(Clone, Copy)]
 struct Case {
     at: u64,
     leaves: Version,
-    // How two puts end, and what is held after each.
+    // How two puts end, and what the store holds after each.
     puts: [Result<(), StoreFault>; 2],
     gets: [Result<Option<&'static [u8]>, StoreFault>; 2],
-    // How often the device has failed after each of the four.
+    // How often the device has failed after each of the four calls.
     failures: [u64; 4],
 }
 

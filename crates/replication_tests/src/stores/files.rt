@@ -11,17 +11,17 @@ use std::{env, fs};
 
 const FAILED: Result<(), StoreFault> = Err(StoreFault::Device);
 
-// What is done with a store, and what it answers.
+// A step on a store, with its answer.
 #[derive(Clone, Copy)]
 enum Step<'a> {
-    // A put ends so, and the device has failed this often then.
+    // A put ends so, and the device has failed this often by then.
     Put(&'a [u8], Result<(), StoreFault>, u64),
-    // A probe ends so, and the device has failed this often then.
+    // A probe ends so, and the device has failed this often by then.
     Probe(Result<(), StoreFault>, u64),
-    // It holds these bytes, and none that are fewer, more or others.
+    // The store holds these bytes, and no fewer, more or other ones.
     Holds(&'a [u8]),
     HoldsNothing,
-    // A get fails and a comparison too, and the device has failed this often then.
+    // A get fails, and so does a comparison; the device has failed this often by then.
     HoldsFails(u64),
 }
 
@@ -52,7 +52,7 @@ fn folder(rt: &impl Abort, files: &HostRuntime, name: &str) -> PathBuf {
     let path = place
         .join(files.alloc(), name)
         .expect(rt, "memory for a path");
-    // One that a test which didn't end has left.
+    // It may have been left by a test that didn't end.
     let _ = fs::remove_dir_all(files, &path);
     fs::create_dir(files, &path).expect(rt, "a folder");
     path
@@ -87,7 +87,7 @@ enum Store {
     Second,
 }
 
-// The steps on each of the stores in turn, in a folder of this name.
+// Plays the steps on each of the stores in turn, in a folder of this name.
 fn plays_on_two(rt: &impl Abort, files: &HostRuntime, name: &str, parts: &[(Store, &[Step])]) {
     let folder = folder(rt, files, name);
     let mut first = opened(rt, files, &folder);
@@ -101,7 +101,7 @@ fn plays_on_two(rt: &impl Abort, files: &HostRuntime, name: &str, parts: &[(Stor
     removes(rt, files, &folder);
 }
 
-// What another store has put is found, and replaced.
+// A store finds what another one has put, and replaces it.
 #[test]
 fn what_is_put_is_got(rt: HostRuntime) {
     plays_on_two(
@@ -144,7 +144,7 @@ fn a_checkpoint_of_a_full_bank(rt: HostRuntime) {
     );
 }
 
-// A store in this folder can put nothing.
+// A store in this folder can't put anything.
 fn is_nowhere(rt: &impl Abort, files: &HostRuntime, folder: &PathBuf) {
     plays(
         rt,
@@ -165,12 +165,12 @@ fn a_folder_that_is_not_there(rt: HostRuntime) {
         .expect(&rt, "memory for a path");
     is_nowhere(&rt, &rt, &file);
     is_nowhere(&rt, &rt, &gone);
-    // A folder with an empty name is none.
+    // No folder has an empty name.
     is_nowhere(&rt, &rt, &PathBuf::new(rt.alloc()));
     removes(&rt, &rt, &folder);
 }
 
-// A store in a folder of its own, one of whose calls may fail.
+// A store in a folder of its own; one of its calls may fail.
 #[derive(Drop)]
 struct Disk {
     call: Rc<Cell<Call>>,
@@ -188,7 +188,7 @@ fn opened_disk(rt: &impl Abort, files: &HostRuntime, folder: &PathBuf) -> Box<Di
     Box::new(files.alloc(), Disk { call, store }).expect(rt, "memory for a disk")
 }
 
-// The steps with each of the calls that fail meanwhile, on one store in a folder of this name.
+// Plays the steps once for each of the calls that may fail, on one store in a folder of this name.
 fn plays_failing(rt: &impl Abort, files: &HostRuntime, name: &str, steps: &[(Call, &[Step])]) {
     let folder = folder(rt, files, name);
     let mut disk = opened_disk(rt, files, &folder);

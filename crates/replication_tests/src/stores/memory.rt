@@ -14,7 +14,7 @@ fn a_put_ends_as_it_is_told(rt: HostRuntime) {
     store.tell(How::New);
     puts(&rt, &mut store, b"third", Err(StoreFault::Device), 2);
     holds(&rt, &mut store, b"third");
-    // The next one ends well again.
+    // The next put succeeds again.
     puts(&rt, &mut store, b"fourth", Ok(()), 2);
     holds(&rt, &mut store, b"fourth");
 }

@@ -1,4 +1,4 @@
-//! A file and its spare in memory: one that is honest, and is proved to be.
+//! A file and its spare in memory: an honest one, and proved to be.
 ghost use Rattle.std.specs.Prelude.{option_map};
 
 use super::*;
