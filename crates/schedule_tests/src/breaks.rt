@@ -8,7 +8,7 @@ const SCHEDULE: &[u8] = b"nodes 1 workers 1\na 1.00 2.00\nbegin\nask 1 1 balance
 
 const OUTPUT: &[u8] = b"new 1\nreplica 0 length 0 idle\na 1.00 2.00\ntotal 3.00\n";
 
-// The schedule's reader fails after so many bytes: nothing is written.
+// Checks that nothing is written if the schedule's reader fails after this many bytes.
 fn break_after(rt: &impl Abort, alloc: Global, reads: usize) {
     let left = SCHEDULE;
     let mut reader = Bytewise { left, reads };
@@ -18,7 +18,7 @@ fn break_after(rt: &impl Abort, alloc: Global, reads: usize) {
     assert!(rt; written.is_empty());
 }
 
-// The output's writer takes so many bytes: these are what is written.
+// Checks what is written if the output's writer takes only this many bytes.
 fn write_into(rt: &impl Abort, alloc: Global, room: usize, ends: Result<(), ScheduleFault>) {
     let mut reader = SCHEDULE;
     let taken = Vec::new(alloc);

@@ -22,7 +22,7 @@ impl Write for Broken {
     }
 }
 
-// Gives a text a byte at a time, and fails after so many reads.
+// Gives a text a byte at a time, and fails after this many reads.
 #[derive(Drop)]
 pub(crate) struct Bytewise<'a> {
     pub(crate) left: &'a [u8],
@@ -46,7 +46,7 @@ impl Read for Bytewise<'_> {
     }
 }
 
-// Takes so many bytes, one a write, and then fails.
+// Takes this many bytes, one at each write, and then fails.
 #[derive(Drop)]
 pub(crate) struct Narrow {
     pub(crate) taken: Vec<u8>,

@@ -5,7 +5,8 @@ use std::process::Abort;
 
 const ENTRIES: u32 = 1_000;
 
-// What is held after this number is taken in order, until nothing is held for the next one; answers the last taken.
+// Takes what is held after this number, in order, until nothing is held for the next one; answers
+// the last taken.
 fn takes_what_is_held(rt: &impl Abort, world: &mut World, after: u32) -> u32 {
     assert!(rt; after <= ENTRIES);
     for number in after + 1..=ENTRIES {
@@ -36,7 +37,7 @@ fn step(random: u32) -> u32 {
     ((u64::from(random) * 75 + 74) % 65_537) as u32
 }
 
-// Of the next 64 entries one comes at a time, whichever it is, so some come again before their turn.
+// Any of the next 64 entries comes at a time, so some come again before their turn.
 #[test]
 fn a_thousand_entries_in_disorder(rt: HostRuntime) {
     let mut world = world_of(&rt, rt.alloc(), 1, 1);

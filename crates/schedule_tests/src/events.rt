@@ -96,7 +96,7 @@ fn reads_how_a_put_ends(rt: HostRuntime) {
     }
 }
 
-// A line is that of an ask by this client, with this number, for alice's balance.
+// Checks that a line spells the ask by this client, with this number, for alice's balance.
 fn is_ask(rt: &impl Abort, line: &str, client: u32, request: u32) {
     let alice = Name::new(b"alice").expect(rt, "a name");
     let event = Event::Ask {
@@ -170,7 +170,7 @@ const BAD_NUMBERS: [&str; 16] = [
     "ask 1 4294967296 pay",
 ];
 
-// The same of the events of states.
+// The same for the events of states.
 const UNKNOWN_STATES: [&str; 6] = [
     "donors 1",
     "haves 1",
@@ -214,7 +214,7 @@ const BAD_STATE_NUMBERS: [&str; 18] = [
     "adopt 0 x",
 ];
 
-// Each of these lines has this fault first.
+// Checks the first fault of each of these lines.
 fn are_at_fault(rt: &impl Abort, lines: &[&str], fault: EventFault) {
     for line in lines {
         assert!(rt; read_event(line.as_bytes()) == Err(fault), "{line}");

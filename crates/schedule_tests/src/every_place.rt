@@ -5,7 +5,7 @@ use schedule_player::{AuditNote, World};
 use std::alloc::Global;
 use std::process::Abort;
 
-// Four entries come to the replica, and its workers carry them out, the second before the first.
+// Four entries come to the replica, and its workers execute them, the second before the first.
 const EVENTS: [&str; 22] = [
     "ask 1 1 deposit alice 1.00",
     "ask 1 2 deposit bob 1.00",
@@ -31,7 +31,7 @@ const EVENTS: [&str; 22] = [
     "finish 0 1",
 ];
 
-// Every hand is emptied, and then each entry is sent once more and carried out.
+// Every hand is emptied, and then each entry is sent once more and executed.
 const TAIL: [&str; 18] = [
     "finish 0 1",
     "finish 0 2",
@@ -53,7 +53,7 @@ const TAIL: [&str; 18] = [
     "finish 0 1",
 ];
 
-// These events happen, whatever they are noted as.
+// Plays these events, whatever the notes on them.
 fn all_happen(rt: &impl Abort, world: &mut World, lines: &[&str]) {
     for line in lines {
         let event = event_of(rt, line);
@@ -61,7 +61,7 @@ fn all_happen(rt: &impl Abort, world: &mut World, lines: &[&str]) {
     }
 }
 
-// Of the events that are put in, those of this place happen.
+// Plays those of the extra events that belong at this place.
 fn put_in(rt: &impl Abort, world: &mut World, events: &[(usize, &str)], here: usize) {
     for (place, line) in events {
         if *place == here {
@@ -70,7 +70,7 @@ fn put_in(rt: &impl Abort, world: &mut World, events: &[(usize, &str)], here: us
     }
 }
 
-// Whatever was put in, all four are carried out once, in the order of the log.
+// Whatever was put in, all four are executed once, in the order of the log.
 fn ends_as_ever(rt: &impl Abort, world: &World) {
     stands_at(rt, world, 0, 4, true);
     for number in 1..=3 {
@@ -84,7 +84,7 @@ fn ends_as_ever(rt: &impl Abort, world: &World) {
     assert!(rt; world.audit(0, 0) == Ok(AuditNote::Same(18_200, 0)));
 }
 
-// The events with others put in, each before the event of its place, and the tail.
+// Plays the events, each extra one before the event of its place, and then the tail.
 fn plays_with(rt: &impl Abort, alloc: Global, more: &[(usize, &str)]) {
     let mut world = world_of(rt, alloc, 1, 2);
     for (place, line) in EVENTS.iter().enumerate() {
@@ -116,7 +116,7 @@ fn a_restart_at_every_place_after_a_cut(rt: HostRuntime) {
     }
 }
 
-// The replica is settled by so many events.
+// Checks that this many events settle the replica.
 fn settles(rt: &impl Abort, world: &mut World, events: u32) {
     assert!(rt; world.replicas() > 0);
     assert!(rt; world.settle(0) == events);

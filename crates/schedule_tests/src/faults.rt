@@ -1,4 +1,4 @@
-//! Schedules at fault, and what is told of them.
+//! Schedules at fault, and the texts of their faults.
 use crate::devices::Broken;
 use crate::outputs::{expect_fault, expect_output, joined};
 use sb_calls::CallFault;
@@ -42,7 +42,7 @@ fn openings_at_fault(rt: HostRuntime) {
     }
 }
 
-// Each stands behind a head, an opening without customers, and one good event.
+// Each comes after a head, an opening without customers, and one good event.
 #[test]
 fn events_at_fault(rt: HostRuntime) {
     for (event, fault) in [
@@ -84,7 +84,7 @@ fn devices_that_fail(rt: HostRuntime) {
     assert!(rt; run_schedule(alloc, &mut reader, &mut Broken) == Err(ScheduleFault::Device));
 }
 
-// A fault is told by this text.
+// Checks the text of a fault.
 fn is_told(rt: &impl Abort, alloc: Global, fault: &impl Display, text: &str) {
     let told = fault.to_string(alloc).expect(rt, "memory");
     assert!(rt; told.as_str() == text, "{text}");

@@ -1,4 +1,5 @@
-//! The largest world: sixteen replicas of sixteen workers, each of which takes a job and finishes it.
+//! The largest world: sixteen replicas of sixteen workers, each of which takes a job and finishes
+//! it.
 use crate::worlds::{all_happen, stands_at, world_over};
 use sb_calls::{Reply, read_call};
 use schedule_player::{AuditNote, Event, Note, World};
@@ -14,7 +15,7 @@ const OPENING: &str =
     g 0.00 1.00\nh 0.00 1.00\ni 0.00 1.00\nj 0.00 1.00\nk 0.00 1.00\nl 0.00 1.00\nm 0.00 1.00\n\
     n 0.00 1.00\no 0.00 1.00\np 0.00 1.00\nbegin\n";
 
-// A deposit for each of them, none of which waits for another.
+// A deposit for each of them; none waits for another.
 const DEPOSITS: [&str; 16] = [
     "deposit a 1.00",
     "deposit b 1.00",
@@ -71,7 +72,7 @@ fn takes_each(rt: &impl Abort, world: &mut World, replica: u32) {
     }
 }
 
-// Each of its workers finishes what it has, the last worker first.
+// Each of the replica's workers finishes what it has, the last worker first.
 fn finishes_each(rt: &impl Abort, world: &mut World, replica: u32) {
     for before in 0..WORKERS {
         let worker = WORKERS - before;

@@ -1,4 +1,4 @@
-//! Tests of schedules: their text, and worlds that play them event after event.
+//! Tests of schedules: their text, and worlds that play them, one event after another.
 #![tactic(auto)]
 
 #[cfg(test)]

@@ -5,7 +5,7 @@ use schedule_player::{AuditNote, Event, Note, World, play};
 use std::alloc::Global;
 use std::process::Abort;
 
-// The events that these lines say, played, have these notes.
+// Plays the events that these lines spell, and compares their notes.
 fn plays(rt: &impl Abort, alloc: Global, world: &mut World, lines: &[&str], wanted: &[Note]) {
     let mut events: Vec<Event> = Vec::new(alloc);
     for line in lines {

@@ -16,7 +16,7 @@ fn a_resend_sends_what_was_not_heard_of(rt: HostRuntime) {
         &mut world,
         &[
             ("to 0 17", Note::Nothing),
-            // Nothing was heard of it yet.
+            // The sequencer has heard nothing of it yet.
             ("resend 0", Note::Resent(16)),
             ("to 0 32", Note::Repeat(16)),
             ("ack 0", Note::Sent(1)),
@@ -26,13 +26,13 @@ fn a_resend_sends_what_was_not_heard_of(rt: HostRuntime) {
             ("to 0 33", Note::Accepted(17)),
             ("ack 0", Note::Sent(2)),
             ("from 0 2", Note::Recorded(17)),
-            // What the other one tells changes nothing of it.
+            // What the other one sends changes nothing for it.
             ("ack 1", Note::Sent(1)),
             ("from 1 1", Note::Recorded(0)),
             ("resend 0", Note::Resent(0)),
             ("resend 1", Note::Resent(16)),
             ("to 1 16", Note::Held(16)),
-            // An old length comes again.
+            // An old length arrives again.
             ("from 0 1", Note::Recorded(16)),
             ("resend 0", Note::Resent(1)),
         ],
@@ -81,7 +81,7 @@ fn the_first_answer_is_kept(rt: HostRuntime) {
     assert!(rt; world.answer_of(7, 4).is_none());
 }
 
-// What a world of two replicas shows that finished one deposit at replica 0.
+// Checks what can be seen of a world of two replicas after one deposit at replica 0.
 fn shows_one_deposit(rt: &impl Abort, world: &World) {
     assert!(rt; world.replicas() == 2);
     stands_at(rt, world, 0, 1, true);
@@ -97,7 +97,7 @@ fn shows_one_deposit(rt: &impl Abort, world: &World) {
     assert!(rt; world.directory().len() == 3);
 }
 
-// No replica, no frame, no number and no worker is named so, in any world of the tests.
+// In no world of the tests is there a replica, frame, number or worker that these events name.
 const NAMELESS: [&str; 36] = [
     "send 9 1",
     "resend 9",

@@ -1,4 +1,4 @@
-//! Schedules, played from their text to what is written.
+//! Schedules, played from their text to their output.
 use schedule_player::{ScheduleFault, run_schedule};
 use schedule_text::ScheduleLineFault;
 use std::alloc::Global;
@@ -6,7 +6,7 @@ use std::process::Abort;
 
 const OPENING: &[u8] = b"alice 100.00 50.00\nbob 0.00 20.00\ncarol 10.00 0.00\nbegin\n";
 
-// Plays a schedule, and compares what is written.
+// Plays a schedule, and compares its output.
 pub(crate) fn expect_output(rt: &impl Abort, alloc: Global, schedule: &[u8], output: &[u8]) {
     let mut reader = schedule;
     let mut written: Vec<u8> = Vec::new(alloc);
@@ -14,7 +14,7 @@ pub(crate) fn expect_output(rt: &impl Abort, alloc: Global, schedule: &[u8], out
     assert!(rt; written.as_slice() == output);
 }
 
-// Plays a head, the opening of three customers and these events, and compares what is written.
+// Plays a head, the opening of three customers and these events, and compares the output.
 pub(crate) fn expect_played(
     rt: &impl Abort,
     alloc: Global,
@@ -44,7 +44,7 @@ pub(crate) fn expect_fault(
     assert!(rt; written.is_empty());
 }
 
-// These texts, one behind the other.
+// These texts, one after another.
 pub(crate) fn joined(rt: &impl Abort, alloc: Global, texts: &[&[u8]]) -> Vec<u8> {
     let mut all = Vec::new(alloc);
     for text in texts {

@@ -5,7 +5,7 @@ use schedule_player::{AuditNote, Note, World};
 use std::alloc::Global;
 use std::process::Abort;
 
-// A world whose replica was restarted while its first job was out; it took the entry again.
+// A world whose replica restarted while its first job was out, and took the entry again.
 fn with_a_job_from_before(rt: &impl Abort, alloc: Global) -> Box<World> {
     let mut world = world_of(rt, alloc, 1, 2);
     all_happen(
@@ -55,7 +55,7 @@ fn a_job_from_before_a_restart_while_none_is_out(rt: HostRuntime) {
     );
 }
 
-// A world whose replica finished one entry, and whose mark of it ended so.
+// A world whose replica finished one entry, and whose mark of it ended in this way.
 fn with_mark(rt: &impl Abort, alloc: Global, line: &str, note: Note) -> Box<World> {
     let mut world = world_of(rt, alloc, 1, 1);
     all_happen(

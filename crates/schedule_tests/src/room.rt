@@ -3,7 +3,7 @@ use crate::worlds::{accepts, all_happen, asks, sends, stands_at, world_of};
 use sb_calls::Reply;
 use schedule_player::Note;
 
-// How many may be unfinished at a replica.
+// How many entries may be unfinished at a replica.
 const ROOM: u32 = 1_024;
 
 // How many calls the log takes.
@@ -40,7 +40,7 @@ fn one_ask_more_than_the_log_takes(rt: HostRuntime) {
         &mut world,
         &[
             ("ask 1 1000001 balance alice", Note::LogFull),
-            // What is in the log is told as before.
+            // What is in the log is answered as before.
             ("ask 1 1000000 balance alice", Note::Repeat(1_000_000)),
             ("ask 1 1000000 balance bob", Note::Mismatch(1_000_000)),
             ("send 0 1000000", Note::Sent(1)),

@@ -1,4 +1,4 @@
-//! Whole schedules: what is written of each.
+//! Whole schedules, and their outputs.
 use crate::outputs::{expect_played, joined};
 use schedule_text::push_numbered;
 use std::alloc::Global;
@@ -139,7 +139,7 @@ fn the_sequencer_hears(rt: HostRuntime) {
     expect_played(&rt, rt.alloc(), b"nodes 2 workers 1\n", events, output);
 }
 
-// So many lines, each with its number from 1.
+// This many lines, each with its number, counted from 1.
 fn push_lines(rt: &impl Abort, out: &mut Vec<u8>, before: &[u8], count: u64, after: &[u8]) {
     for number in 1..=count {
         push_numbered(before, number, out).expect(rt, "memory");
@@ -147,7 +147,8 @@ fn push_lines(rt: &impl Abort, out: &mut Vec<u8>, before: &[u8], count: u64, aft
     }
 }
 
-// So many deposits to alice are asked for and sent; what stands behind the notes of these is added to each text.
+// Asks for this many deposits to alice and sends them; each text goes on with what follows the
+// notes of these.
 fn expect_played_after_deposits(
     rt: &impl Abort,
     alloc: Global,

@@ -21,7 +21,7 @@ fn a_state_goes_from_one_replica_to_the_other(rt: HostRuntime) {
     expect_played(&rt, rt.alloc(), b"nodes 2 workers 1\n", events, output);
 }
 
-// Two replicas of a bank of so many deposits, all of them done and marked at the first one.
+// Two replicas of a bank after this many deposits, all of them done and marked at the first one.
 fn with_deposits(rt: &impl Abort, alloc: Global, count: u32) -> Box<World> {
     let mut world = world_of(rt, alloc, 2, 2);
     asks(rt, &mut world, count, "deposit alice 1.00");
@@ -44,7 +44,7 @@ fn one_that_was_away_for_seventy_entries_catches_up(rt: HostRuntime) {
         &rt,
         &mut world,
         &[
-            // The last entry is beyond what is held, and a resend is of sixteen.
+            // The last entry is beyond what is held, and a resend has sixteen.
             ("send 1 70", Note::Sent(1)),
             ("to 1 1", Note::Gap(0)),
             ("resend 1", Note::Resent(16)),
@@ -63,7 +63,7 @@ fn one_that_was_away_for_seventy_entries_catches_up(rt: HostRuntime) {
             ("from 1 1", Note::Kept(1)),
             ("answer 1 70", Note::Sent(2)),
             ("from 1 2", Note::Kept(70)),
-            // Once it told so it needs no state.
+            // Once it has acknowledged its log it needs no state.
             ("donor 1", Note::Donor(0, 70)),
             ("ack 1", Note::Sent(3)),
             ("from 1 3", Note::Recorded(70)),
@@ -94,7 +94,7 @@ fn what_a_replica_had_is_gone_once_it_adopts(rt: HostRuntime) {
             ("cut 1", Note::Pending(1)),
             ("give 0 1", Note::Gave(1)),
             ("adopt 1 1", Note::Adopted(2)),
-            // The job in hand is a stranger, what was held isn't, and there is no cut.
+            // The job in hand is a stranger, nothing is held, and there is no cut.
             ("take 1 1 0", Note::HandFull),
             ("finish 1 1", Note::Stranger(1)),
             ("next 1", Note::Nothing),
@@ -141,7 +141,7 @@ fn a_store_without_a_checkpoint_has_no_state(rt: HostRuntime) {
             ("give 0 1", Note::Nothing),
             ("have 0", Note::Sent(1)),
             ("from 0 1", Note::Has(0)),
-            // A checkpoint of no entry is none.
+            // A checkpoint of no entry isn't a state.
             ("mark 0 ok", Note::Marked(0)),
             ("give 0 1", Note::Nothing),
             ("have 0", Note::Sent(2)),
@@ -153,7 +153,8 @@ fn a_store_without_a_checkpoint_has_no_state(rt: HostRuntime) {
     is_none(&rt, &world, 1, 1);
 }
 
-// The checkpoint of the three customers' bank that the bytes of a state are, in the second layout.
+// The checkpoint of the three customers' bank that the bytes of a state spell, in the second
+// layout.
 fn checkpoint_of(rt: &impl Abort, alloc: Global, bytes: &[u8]) -> Box<Checkpoint> {
     assert!(rt; bytes.starts_with(b"SBCKPT02"));
     let checkpoint = read_checkpoint(alloc, bytes, 3, 18_000)
@@ -162,15 +163,15 @@ fn checkpoint_of(rt: &impl Abort, alloc: Global, bytes: &[u8]) -> Box<Checkpoint
     Box::new(alloc, checkpoint).expect(rt, "memory")
 }
 
-// They are of these columns and replies.
+// Checks the columns and the replies of a checkpoint.
 fn says(rt: &impl Abort, checkpoint: &Checkpoint, columns: &Columns, replies: &[Reply]) {
     assert!(rt; checkpoint.columns().savings() == columns.savings());
     assert!(rt; checkpoint.columns().checking() == columns.checking());
     assert!(rt; checkpoint.replies() == replies);
 }
 
-// The state at a place of those that were sent to the second replica is the checkpoint of the first one's columns and
-// these replies.
+// Checks that the state at a place of those sent to the second replica has the first one's columns,
+// and these replies.
 fn is_checkpoint(rt: &impl Abort, alloc: Global, world: &World, place: u32, replies: &[Reply]) {
     assert!(rt; world.replicas() == 2);
     let columns = world.columns(0).expect(rt, "columns");
@@ -178,13 +179,13 @@ fn is_checkpoint(rt: &impl Abort, alloc: Global, world: &World, place: u32, repl
     says(rt, &checkpoint_of(rt, alloc, bytes), columns, replies);
 }
 
-// Two states, each by its replica and place, have the same bytes.
+// Checks that two states, each given by its replica and place, have the same bytes.
 fn are_alike(rt: &impl Abort, world: &World, one: (u32, u32), other: (u32, u32)) {
     assert!(rt; one.0 < world.replicas() && other.0 < world.replicas());
     assert!(rt; world.state(one.0, one.1) == world.state(other.0, other.1));
 }
 
-// There is no such state.
+// Checks that there is no such state.
 fn is_none(rt: &impl Abort, world: &World, replica: u32, place: u32) {
     assert!(rt; replica < world.replicas());
     assert!(rt; world.state(replica, place).is_none());

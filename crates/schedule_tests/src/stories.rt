@@ -1,4 +1,4 @@
-//! The stories of the folder examples/, with what each must give.
+//! The stories in the folder examples/, with their outputs.
 use crate::outputs::expect_output;
 
 #[test]

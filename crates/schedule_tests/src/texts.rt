@@ -1,4 +1,4 @@
-//! What is read of the text of a schedule.
+//! The schedules that texts spell.
 use sb_calls::Call;
 use sb_checkpoint::How;
 use sb_rows::{LineFault, Name};
@@ -15,13 +15,13 @@ fn read(rt: &impl Abort, alloc: Global, text: &str) -> Box<Schedule> {
     Box::new(alloc, schedule).expect(rt, "memory")
 }
 
-// A text is refused, and this is the first line at fault.
+// Checks that a text is refused, with this first line at fault.
 fn is_at_fault(rt: &impl Abort, alloc: Global, text: &str, line: usize, fault: ScheduleLineFault) {
     let found = read_schedule(alloc, text.as_bytes()).err();
     assert!(rt; found == Some(TextFault::Line { line, fault }), "{text}");
 }
 
-// A schedule has these counts of replicas, workers, customers and events.
+// Checks a schedule's numbers of replicas, workers, customers and events.
 fn has_counts(
     rt: &impl Abort,
     schedule: &Schedule,
@@ -33,7 +33,7 @@ fn has_counts(
     assert!(rt; [schedule.directory.len(), schedule.events.len()] == others);
 }
 
-// The customers of the schedule, and what they have.
+// Checks the customers of the schedule, and their balances.
 fn has_alice_and_bob(rt: &impl Abort, schedule: &Schedule) {
     assert!(rt; schedule.directory.name(0) == Name::new(b"alice"));
     assert!(rt; schedule.directory.name(1) == Name::new(b"bob"));

@@ -1,4 +1,4 @@
-//! What a crew of threads did with a board, played again in a world.
+//! A world plays again what a crew of threads did with a board.
 ghost use Rattle.std.specs.Prelude.{◌≡◌, ◌*◌, length};
 ghost use Rattle.sb_calls.specs.Cowns.{held_of};
 
@@ -33,7 +33,7 @@ const CALLS: [&str; 16] = [
     "balance bob",
 ];
 
-// A board with these calls, of which nothing is carried out yet.
+// A board with these calls, none of them executed yet.
 #[tactic(auto, using(sb_calls::proofs::Holding::two_cowns_a_customer))]
 fn board_of_calls(rt: &impl Abort, alloc: Global) -> Box<Board<Op>> {
     let opening = read_opening(alloc, OPENING.as_bytes()).expect(rt, "an opening");
@@ -57,7 +57,7 @@ fn submit_calls(rt: &impl Abort, board: &mut Board<Op>, directory: &Directory)
     }
 }
 
-// The board once four workers carried the calls out, and what was noted of them.
+// The board after four workers executed the calls, with the exchanges that were noted.
 fn drained<R>(rt: &R, alloc: Global) -> (Box<Board<Op>>, Vec<Notice>)
 where
     R: Threads + Wait + Clock + Sync + Abort,
@@ -76,7 +76,7 @@ where
     (board, notices)
 }
 
-// Client 1 asks for the calls, the replica accepts them, and nothing is carried out yet.
+// Client 1 asks for the calls, and the replica accepts them; none is executed yet.
 fn asked(rt: &impl Abort, alloc: Global) -> Box<World> {
     let mut world = world_of(rt, alloc, 1, 16);
     for place in 0..CALLS.len() {
@@ -92,7 +92,7 @@ fn asked(rt: &impl Abort, alloc: Global) -> Box<World> {
     world
 }
 
-// The first worker whose hand holds this number, and has it then with another. No job has the number 0.
+// The first worker whose hand holds this number; it then holds the other one. There is no job 0.
 fn hand_over(rt: &impl Abort, hands: &mut [u64; 16], before: u64, now: u64) -> u32 {
     let place = hands.iter().position(|held| *held == before);
     let place = place.expect(rt, "a hand");
@@ -100,7 +100,7 @@ fn hand_over(rt: &impl Abort, hands: &mut [u64; 16], before: u64, now: u64) -> u
     place as u32 + 1
 }
 
-// The first that is ready has this number. A worker whose hand is empty takes it.
+// The first ready entry has this number. A worker whose hand is empty takes it.
 fn takes(rt: &impl Abort, world: &mut World, hands: &mut [u64; 16], number: u64) {
     let take = Event::Take {
         replica: 0,
@@ -153,7 +153,7 @@ fn is_alike(rt: &impl Abort, world: &World, board: &Board<Op>) {
     assert!(rt; columns.checking() == others.checking());
 }
 
-// As what stands in a trace differs from run to run, so does the schedule that is played. Each is one of many.
+// A trace differs from run to run, and so does the schedule that is played: each is one of many.
 fn plays_a_trace<R>(rt: &R, alloc: Global)
 where
     R: Threads + Wait + Clock + Sync + Abort,

@@ -8,7 +8,7 @@ use std::process::Abort;
 
 pub(crate) const OPENING: &str = "alice 100.00 50.00\nbob 0.00 20.00\ncarol 10.00 0.00\nbegin\n";
 
-// A world of the three, with so many replicas of so many workers.
+// A world of the three, with this many replicas, each with this many workers.
 pub(crate) fn world_of(rt: &impl Abort, alloc: Global, nodes: u8, workers: u8) -> Box<World> {
     world_over(rt, alloc, OPENING, nodes, workers)
 }
@@ -37,20 +37,20 @@ pub(crate) fn event_of(rt: &impl Abort, line: &str) -> Event {
     read_event(line.as_bytes()).expect(rt, "an event")
 }
 
-// The event that a line says happens, and is noted so.
+// Plays the event that a line spells, and compares its note.
 fn happens(rt: &impl Abort, world: &mut World, line: &str, note: Note) {
     let event = event_of(rt, line);
     assert!(rt; world.step(event) == Ok(note), "{line}");
 }
 
-// Each of these happens, one after the other.
+// Plays these events, one after another, and compares their notes.
 pub(crate) fn all_happen(rt: &impl Abort, world: &mut World, steps: &[(&str, Note)]) {
     for (line, note) in steps {
         happens(rt, world, line, *note);
     }
 }
 
-// A replica's log has this length, and something or nothing is unfinished at it.
+// Checks the length of a replica's log, and whether it is idle.
 pub(crate) fn stands_at(rt: &impl Abort, world: &World, replica: u32, length: u64, idle: bool) {
     assert!(rt; replica < world.replicas());
     assert!(rt; world.length(replica) == length, "{replica}");
@@ -58,7 +58,7 @@ pub(crate) fn stands_at(rt: &impl Abort, world: &World, replica: u32, length: u6
     assert!(rt; world.columns(replica).is_some() == idle, "{replica}");
 }
 
-// The reply that a replica holds to a number.
+// Checks the reply that a replica holds to a number.
 pub(crate) fn replies(
     rt: &impl Abort,
     world: &World,
@@ -70,7 +70,7 @@ pub(crate) fn replies(
     assert!(rt; world.reply(replica, number) == reply, "{replica} {number}");
 }
 
-// Client 1 asks for this call so many times, each time as a new request.
+// Client 1 asks for this call this many times, each time as a new request.
 pub(crate) fn asks(rt: &impl Abort, world: &mut World, count: u32, line: &str) {
     let call = read_call(line.as_bytes()).expect(rt, "a call");
     for place in 0..count {
@@ -87,7 +87,8 @@ fn new_ask(request: u32, call: &Call) -> Event {
     }
 }
 
-// The first so many entries are sent to the first replica, each at the place of its number.
+// Sends the first entries, this many, to the first replica; the frame of each has the place of its
+// number.
 pub(crate) fn sends(rt: &impl Abort, world: &mut World, count: u32) {
     for number in 1..=count {
         let event = Event::Send { replica: 0, number };
@@ -95,7 +96,7 @@ pub(crate) fn sends(rt: &impl Abort, world: &mut World, count: u32) {
     }
 }
 
-// The first so many entries come to the first replica, as the frames with the same places.
+// The frames with these places arrive at the first replica, which accepts their entries.
 pub(crate) fn accepts(rt: &impl Abort, world: &mut World, count: u32) {
     for place in 1..=count {
         let event = Event::To { replica: 0, place };

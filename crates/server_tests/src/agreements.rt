@@ -1,4 +1,4 @@
-//! Replicas that came to the same, and replicas that didn't.
+//! Replicas that agree, and replicas that don't.
 use crate::bank::{OPENING, expect};
 use bank_server::agree;
 use cown_workers::{InlineCrew, drain};
@@ -37,7 +37,7 @@ fn hear_all(rt: &impl Abort, replica: &mut Replica<MemoryStore>, calls: &[&str])
     }
 }
 
-// A replica that carried these calls out.
+// A replica that executed these calls.
 fn replica_after(rt: &impl Abort, alloc: Global, calls: &[&str]) -> Box<Replica<MemoryStore>> {
     let mut replica = opened(rt, alloc);
     hear_all(rt, &mut replica, calls);
@@ -45,7 +45,7 @@ fn replica_after(rt: &impl Abort, alloc: Global, calls: &[&str]) -> Box<Replica<
     replica
 }
 
-// Two replicas agree, or don't, and say the same of each other.
+// Checks whether two replicas agree; it is the same in both directions.
 fn expect_agreement(
     rt: &impl Abort,
     one: &Replica<MemoryStore>,
@@ -57,7 +57,7 @@ fn expect_agreement(
     expect(rt, agree(other, one) == Ok(wanted), case);
 }
 
-// The same of two replicas that carried these calls out.
+// The same for two replicas that executed these calls.
 fn expect_after(
     rt: &impl Abort,
     alloc: Global,
@@ -94,7 +94,7 @@ fn calls_that_come_to_the_same(rt: HostRuntime) {
         false,
         "two payments",
     );
-    // The same columns with another reply.
+    // The same columns, but another reply.
     expect_after(
         &rt,
         rt.alloc(),
@@ -114,7 +114,7 @@ fn one_that_is_not_idle(rt: HostRuntime) {
     expect_agreement(&rt, &one, &other, false, "not idle");
 }
 
-// A replica is restarted from a checkpoint of so many entries.
+// Restarts a replica from a checkpoint of this many entries.
 fn restart(rt: &impl Abort, replica: &mut Replica<MemoryStore>, entries: u64) {
     expect(rt, replica.mark() == Ok(entries), "a checkpoint");
     expect(rt, replica.restart() == Ok(entries), "a restart");

@@ -14,12 +14,12 @@ pub(crate) const OPENING: &[u8] = b"alice 100.00 50.00\nbob 0.00 20.00\ncarol 10
 pub(crate) const OTHER_OPENING: &[u8] =
     b"alice 100.00 50.00\nbob 0.00 20.01\ncarol 10.00 0.00\nbegin\n";
 
-/// A case comes out as it has to.
+/// Checks one case.
 pub(crate) fn expect(rt: &impl Abort, holds: bool, case: &str) {
     assert!(rt; holds, "{case}");
 }
 
-/// A case gives these bytes.
+/// Checks the bytes of a case.
 pub(crate) fn expect_bytes(rt: &impl Abort, found: &[u8], wanted: &[u8], case: &str) {
     assert!(rt; found == wanted, "{case}");
 }
@@ -59,7 +59,7 @@ pub(crate) fn opened_at<S: CheckpointStore>(
     Box::new(alloc, primary).expect(rt, "memory for a box")
 }
 
-/// These pieces in a row.
+/// These pieces, one after another.
 pub(crate) fn joined(rt: &impl Abort, alloc: Global, pieces: &[&[u8]]) -> Vec<u8> {
     let mut bytes = Vec::new(alloc);
     for piece in pieces {

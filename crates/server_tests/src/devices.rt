@@ -3,7 +3,8 @@ use std::alloc::Global;
 use std::io;
 use std::io::{ErrorKind, Read, Write};
 
-/// Gives a text a byte at a time, and fails, or ends, after so many reads. Each other read is interrupted.
+/// Gives a text a byte at a time, and fails, or ends, after this many reads. Every other read is
+/// interrupted.
 #[derive(Drop)]
 pub(crate) struct Bytewise<'a> {
     pub(crate) left: &'a [u8],
@@ -34,16 +35,16 @@ impl Read for Bytewise<'_> {
     }
 }
 
-/// What is the matter with one read.
+/// What is unusual about one read.
 #[derive(Clone, Copy, PartialEq, Eq)]
 pub(crate) enum Hitch {
-    /// It gives a byte fewer than the others.
+    /// It gives one byte less than the others.
     Short,
     /// It is interrupted.
     Interrupted,
 }
 
-/// Gives a text two bytes at a time, with a hitch at one read, which is so many reads away.
+/// Gives a text two bytes at a time, with a hitch at one read, which is this many reads away.
 #[derive(Drop)]
 pub(crate) struct Halting<'a> {
     pub(crate) left: &'a [u8],
@@ -83,7 +84,7 @@ impl Read for Halting<'_> {
     }
 }
 
-/// Gives nothing: so many reads are interrupted, and the next one is the end.
+/// Gives nothing: this many reads are interrupted, and the next one is the end.
 #[derive(Drop)]
 pub(crate) struct Interrupted {
     pub(crate) reads: u32,
@@ -99,7 +100,7 @@ impl Read for Interrupted {
     }
 }
 
-/// Takes so many bytes, one a write, and then fails.
+/// Takes this many bytes, one at each write, and then fails.
 #[derive(Drop)]
 pub(crate) struct Narrow {
     pub(crate) taken: Vec<u8>,
@@ -108,7 +109,7 @@ pub(crate) struct Narrow {
 }
 
 impl Narrow {
-    /// Nothing is taken yet.
+    /// A writer that has taken nothing yet.
     pub(crate) fn new(alloc: Global, room: usize, flushes: bool) -> Narrow {
         Narrow {
             taken: Vec::new(alloc),

@@ -1,4 +1,4 @@
-//! How faults are shown and numbered.
+//! The texts and numbers of faults.
 use crate::bank::{expect, expect_bytes};
 use bank_server::{InputFault, RunFault, SaveFault, SessionFault};
 use sb_calls::CallFault;
@@ -7,7 +7,7 @@ use std::alloc::Global;
 use std::fmt;
 use std::process::Abort;
 
-/// A fault is shown so.
+/// Checks the text of a fault.
 pub(crate) fn expect_text(rt: &impl Abort, alloc: Global, fault: &impl fmt::Display, text: &str) {
     let shown = format!(in alloc; "{fault}").expect(rt, "memory for a text");
     expect_bytes(rt, shown.as_bytes(), text.as_bytes(), text);

@@ -13,18 +13,18 @@ const PAYMENT: &[&[u8]] = &[DEPOSIT, FLUSH];
 
 const QUESTION: &[&[u8]] = &[BALANCE, FLUSH];
 
-// What followers are told of the log of a bank that serves two clients.
+// What is sent to followers of the log of a bank that serves two clients.
 #[derive(Clone, Copy)]
 enum Told {
-    // All of it, after each session.
+    // All of the log, after each session.
     All,
-    // What the first client asked.
+    // Only what the first client asked.
     First,
-    // What another bank's log has in the place of that.
+    // Another bank's log in the place of the first client's.
     Other,
 }
 
-// Tells followers of a log.
+// Sends a log to followers.
 fn feed<R: Abort + Wait>(rt: &R, followers: &mut Followers<'_, R>, primary: &Primary<MemoryStore>) {
     expect(
         rt,
@@ -33,14 +33,14 @@ fn feed<R: Abort + Wait>(rt: &R, followers: &mut Followers<'_, R>, primary: &Pri
     );
 }
 
-// Tells followers of the log of a bank that served one client.
+// Sends followers the log of a bank that served one client.
 fn feed_other<R: Abort + Wait>(rt: &R, alloc: Global, followers: &mut Followers<'_, R>) {
     let mut other = opened(rt, alloc);
     serve(rt, alloc, &mut *other, QUESTION, &[SHOWN]);
     feed(rt, followers, &other);
 }
 
-// How followers come out that are told this.
+// How followers compare that were sent this.
 fn compared<R: Abort + Threads + Wait + Sync>(
     rt: &R,
     alloc: Global,
@@ -61,7 +61,8 @@ fn compared<R: Abort + Threads + Wait + Sync>(
     followers.compare(rt, primary.node())
 }
 
-// The followers of a bank of so many nodes, which are opened so and told this, come out so.
+// Checks how the followers of a bank of this many nodes, with this opening, compare after they were
+// sent this.
 fn expect_compared<R: Abort + Threads + Wait + Sync>(
     rt: &R,
     alloc: Global,
@@ -79,7 +80,8 @@ fn expect_compared<R: Abort + Threads + Wait + Sync>(
     expect(rt, compared == Ok(wanted), "how they come out");
 }
 
-// The same of a bank of one node, which has no followers, and of two and sixteen nodes.
+// The same for a bank of one node, which has no followers, and for banks of two and of sixteen
+// nodes.
 fn expect_strayed<R: Abort + Threads + Wait + Sync>(
     rt: &R,
     alloc: Global,

@@ -1,4 +1,4 @@
-//! Workers that are held up at the gate.
+//! Workers that a gate holds up.
 use crate::bank::{OPENING, expect, expect_bytes, joined};
 use bank_server::run_text;
 use cown_workers::{Gate, OpenGate};
@@ -13,8 +13,8 @@ use std::time::Clock;
 // How many turns a worker waits for another.
 const TURNS: u32 = 1_000_000;
 
-// The first two calls each wait until the other one is about to be carried out. With one worker the first would wait
-// for nothing, and give up.
+// The first two calls each wait until the other one is about to be executed. With one worker the
+// first would wait in vain, and give up.
 #[derive(Default, Drop)]
 struct Meeting {
     first: AtomicBool,
@@ -74,7 +74,7 @@ fn two_calls_wait_for_each_other(rt: HostRuntime) {
     expect_meeting(&rt, rt.alloc());
 }
 
-// Holds each job with an odd number up, so that later ones are carried out before it.
+// Holds up each job with an odd number, so that later ones are executed before it.
 struct Uneven;
 
 impl Gate for Uneven {
@@ -89,12 +89,12 @@ impl Gate for Uneven {
     fn after(&self, _number: u64) {}
 }
 
-// Holds the first job until the second, the third and the fourth are carried out.
+// Holds the first job until the second, the third and the fourth are executed.
 #[derive(Default, Drop)]
 struct LastOfFour {
-    // Which numbers have come, of the first four. There is no job 0.
+    // Which numbers have come, among the first four. There is no job 0.
     came: [AtomicBool; 5],
-    // How many of the other three are carried out.
+    // How many of the other three are executed.
     others: AtomicU64,
     gave_up: AtomicBool,
 }
@@ -127,7 +127,7 @@ impl Gate for LastOfFour {
     }
 }
 
-// The flag of this number is set, if it has one.
+// Sets the flag of this number, if it has one.
 fn set(flags: &[AtomicBool; 5], number: u64) {
     if let Some(flag) = flags.get(number as usize) {
         flag.store(true, Ordering::SeqCst);
@@ -143,7 +143,8 @@ fn expect_last(rt: &impl Abort, gate: &LastOfFour) {
     expect(rt, !gate.gave_up.load(Ordering::SeqCst), "none gave up");
 }
 
-// What so many nodes and workers write of four calls of four customers, and of four that wait for these.
+// The output of this many nodes and workers for four calls of four customers, and four that wait
+// for these.
 fn written_by<G: Gate + Sync>(
     rt: &(impl Abort + Threads + Wait + Clock + Sync),
     alloc: Global,
@@ -163,7 +164,8 @@ const FOUR_CUSTOMERS: &[u8] = b"alice 100.00 50.00\nbob 0.00 20.00\ncarol 10.00 
       dave 0.00 1.00\nbegin\ndeposit alice 1.00\ndeposit bob 1.00\ndeposit carol 1.00\n\
       deposit dave 1.00\namalgamate alice bob\namalgamate carol dave\nbalance bob\nbalance dave\n";
 
-// Two nodes with four workers write what one thread does, though workers are held up at this gate.
+// Checks that two nodes with four workers write what one thread does, though this gate holds
+// workers up.
 fn expect_same_output<G: Gate + Sync>(
     rt: &(impl Abort + Threads + Wait + Clock + Sync),
     alloc: Global,

@@ -1,4 +1,5 @@
-//! Tests of the bank's runs and of its server: worked inputs, texts of faults, readers, writers and stores that fail.
+//! Tests of the bank's runs and of its server: worked inputs, texts of faults, readers, writers and
+//! stores that fail.
 #![tactic(auto)]
 
 #[cfg(test)]

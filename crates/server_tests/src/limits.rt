@@ -8,7 +8,7 @@ use std::alloc::Global;
 use std::io::Write;
 use std::process::Abort;
 
-// Puts a deposit so many times.
+// Appends this many deposits.
 fn push_deposits(rt: &impl Abort, times: u32, out: &mut Vec<u8>) {
     for _ in 0..times {
         out.extend_from_slice(b"deposit a 0.01\n")
@@ -16,7 +16,7 @@ fn push_deposits(rt: &impl Abort, times: u32, out: &mut Vec<u8>) {
     }
 }
 
-// An input of so many deposits between two texts.
+// An input of this many deposits between two texts.
 fn input_of(rt: &impl Abort, alloc: Global, start: &[u8], deposits: u32, end: &[u8]) -> Vec<u8> {
     let mut bytes = joined(rt, alloc, &[start]);
     push_deposits(rt, deposits, &mut bytes);
@@ -24,7 +24,7 @@ fn input_of(rt: &impl Abort, alloc: Global, start: &[u8], deposits: u32, end: &[
     bytes
 }
 
-// The output of so many calls that are done, and then this.
+// The output of this many calls that are done, and then this text.
 fn output_of(rt: &impl Abort, alloc: Global, calls: u32, end: &[u8]) -> Vec<u8> {
     let mut bytes = Vec::new(alloc);
     for call in 0..calls {
@@ -35,7 +35,7 @@ fn output_of(rt: &impl Abort, alloc: Global, calls: u32, end: &[u8]) -> Vec<u8> 
     bytes
 }
 
-// The lines of so many customers.
+// The lines of this many customers.
 fn customers(rt: &impl Abort, alloc: Global, count: u32) -> Vec<u8> {
     let mut bytes = Vec::new(alloc);
     for customer in 0..count {
@@ -55,7 +55,7 @@ fn too_many_customers(rt: HostRuntime) {
 #[test]
 fn calls_past_a_full_log(rt: HostRuntime) {
     let start = b"a 0.00 0.00\nbegin\nask 9 9 deposit a 0.01\n";
-    // New keys find no room; the first key keeps its number.
+    // New keys find the log full; the first key keeps its number.
     let end = b"deposit a 0.01\nask 9 8 balance a\nask 9 9 deposit a 0.01\nask 9 9 balance a\n";
     let input = input_of(&rt, rt.alloc(), start, 999_999, end);
     let end = b"log full\nlog full\n1 done\nmismatch 1\na 0.00 10000.00\ntotal 10000.00\n";

@@ -1,4 +1,4 @@
-//! Node 0 that carries out a whole log beside followers that began as it did, or otherwise.
+//! Node 0 executes a whole log, with followers that have its opening, or another one.
 use crate::bank::{OPENING, OTHER_OPENING, expect, opened, opened_at};
 use bank_server::{ReadyFollowers, RunFault, ask_lines, carry_out_log};
 use cown_workers::OpenGate;
@@ -11,7 +11,7 @@ use std::time::Clock;
 
 const LINES: &[u8] = b"balance alice\ndeposit bob 5.00\n";
 
-// What it fails with, if it fails, with followers at this opening.
+// The fault, if there is one, with followers at this opening.
 fn fault_of(
     rt: &(impl Abort + Threads + Wait + Clock + Sync),
     alloc: Global,
@@ -28,7 +28,8 @@ fn fault_of(
     carry_out_log(rt, alloc, primary, followers, workers, &OpenGate).err()
 }
 
-// It ends well with one node, which has no followers, and with two and sixteen so.
+// Checks that one node, which has no followers, has no fault, and that two and sixteen have this
+// one.
 fn expect_fault(
     rt: &(impl Abort + Threads + Wait + Clock + Sync),
     alloc: Global,

@@ -1,11 +1,11 @@
-//! A plain bank of nine customers: what runs are compared with on random calls.
+//! A plain bank of nine customers, with which runs of random calls are compared.
 use std::alloc::Global;
 use std::io::Write;
 use std::process::Abort;
 
 const LIMIT: i64 = 1_000_000_000_000;
 
-/// A call of the customers with these numbers, with an amount in cents.
+/// A call of the customers with these numbers, and with an amount in cents.
 #[derive(Clone, Copy)]
 pub(crate) struct Call {
     verb: Verb,
@@ -35,7 +35,7 @@ pub(crate) struct Account {
     checking: i64,
 }
 
-/// The call of a random number. Of ten customers that it may name one is none of the bank's.
+/// The call of a random number. One of the ten customers that it may name isn't in the bank.
 pub(crate) fn call_of(random: u64) -> Call {
     let other = (random >> 37) % 10;
     let whole = ((random >> 24) % 5_000_000_000) as i64 * 100;
@@ -57,7 +57,7 @@ pub(crate) fn call_of(random: u64) -> Call {
     }
 }
 
-/// Puts a call's line.
+/// Appends a call's line.
 pub(crate) fn push_line(rt: &impl Abort, call: Call, out: &mut Vec<u8>) {
     let words = match call.verb {
         Verb::Balance => "balance",
@@ -89,7 +89,7 @@ fn push_amount(rt: &impl Abort, cents: i64, out: &mut Vec<u8>) {
     write!(out, " {sign}{whole}.{rest:02}").expect(rt, "memory for an amount");
 }
 
-/// Carries out a call, and puts the line of its reply.
+/// Executes a call, and appends the line of its reply.
 pub(crate) fn push_reply(
     rt: &impl Abort,
     number: u32,
@@ -163,7 +163,7 @@ fn check(account: &mut Account, amount: i64) -> &'static str {
     if is_short { "penalised" } else { "done" }
 }
 
-// Moves all of a customer to another's checking balance.
+// Moves everything that a customer has to another's checking balance.
 fn amalgamate(accounts: &mut [Account], giver: usize, taker: usize) -> &'static str {
     let Some(giving) = accounts.get(giver).copied() else {
         return "no customer";
@@ -191,7 +191,7 @@ fn set(accounts: &mut [Account], customer: usize, savings: i64, checking: i64) {
     }
 }
 
-/// The accounts as the bank opens.
+/// The accounts at the bank's opening.
 pub(crate) fn opened(rt: &impl Abort, alloc: Global) -> Vec<Account> {
     let mut accounts = Vec::new(alloc);
     for customer in 0..9i64 {
@@ -204,7 +204,7 @@ pub(crate) fn opened(rt: &impl Abort, alloc: Global) -> Vec<Account> {
     accounts
 }
 
-/// Puts the line of each account: an opening and an output spell it alike.
+/// Appends the line of each account; openings and outputs spell it alike.
 pub(crate) fn push_rows(rt: &impl Abort, accounts: &[Account], out: &mut Vec<u8>) {
     let mut customer = 0u32;
     for account in accounts {
@@ -216,7 +216,7 @@ pub(crate) fn push_rows(rt: &impl Abort, accounts: &[Account], out: &mut Vec<u8>
     }
 }
 
-/// Puts the line of the total.
+/// Appends the line of the total.
 pub(crate) fn push_total(rt: &impl Abort, accounts: &[Account], out: &mut Vec<u8>) {
     let mut total = 0i64;
     for account in accounts {

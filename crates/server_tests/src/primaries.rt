@@ -1,4 +1,4 @@
-//! A log, and the node that carries it out.
+//! A log, and the node that executes it.
 use crate::bank::{expect, opened};
 use crate::wire::{ENTRY, expect_session};
 use bank_server::{Primary, SessionFault, Standing, ask_lines};
@@ -9,7 +9,7 @@ use sb_frames::{Frame, encode};
 use std::alloc::Global;
 use std::process::Abort;
 
-// How lines stand that come to so many numbers.
+// The standings of lines that get this many numbers.
 fn standings(rt: &impl Abort, alloc: Global, text: &[u8], numbers: u64) -> Vec<Standing> {
     assert!(rt; text.len() < 1_000);
     let mut primary = opened(rt, alloc);
@@ -34,7 +34,7 @@ fn a_repeat_stands_as_its_first_ask(rt: HostRuntime) {
     );
 }
 
-// Puts client 7's ask by this request.
+// Appends client 7's ask by this request.
 fn push_ask(rt: &impl Abort, request: u32, line: &str, out: &mut Vec<u8>) {
     let call = read_call(line.as_bytes()).expect(rt, "a call");
     let client = 7;
@@ -46,7 +46,8 @@ fn push_ask(rt: &impl Abort, request: u32, line: &str, out: &mut Vec<u8>) {
     out.extend_from_slice(&frame).expect(rt, "memory for bytes");
 }
 
-// A client sends these asks and then a frame that no client sends: they are numbered, and the node isn't offered them.
+// A client sends these asks and then a frame that no client sends: they are numbered, and the node
+// isn't offered them.
 fn break_off(
     rt: &impl Abort,
     alloc: Global,
@@ -60,7 +61,7 @@ fn break_off(
     end_with_entry(rt, alloc, primary, sent);
 }
 
-// The same of deposits of a cent by these requests.
+// The same for deposits of a cent by these requests.
 fn break_off_deposits(
     rt: &impl Abort,
     alloc: Global,
@@ -92,13 +93,13 @@ fn end_with_entry(
     );
 }
 
-// The log has so many entries, and the node so many of them.
+// Checks the number of entries in the log, and in the node's log.
 fn expect_lengths(rt: &impl Abort, primary: &Primary<MemoryStore>, log: u64, node: u64) {
     expect(rt, primary.log().length() == log, "the log");
     expect(rt, primary.node().length() == node, "the node");
 }
 
-// The node replied this to an entry.
+// Checks the node's reply to an entry.
 fn expect_reply(rt: &impl Abort, primary: &Primary<MemoryStore>, number: u64, wanted: Reply) {
     expect(rt, primary.node().reply(number) == Some(wanted), "a reply");
 }
@@ -111,7 +112,7 @@ fn settle(rt: &impl Abort, primary: &mut Primary<MemoryStore>) {
     );
 }
 
-// Two asks, the first of them again, and another call under its key.
+// Two asks, then the first of them again, and another call under its key.
 const ASKS: &[(u32, &str)] = &[
     (1, "deposit bob 5.00"),
     (2, "balance bob"),
@@ -137,7 +138,7 @@ fn more_asks_than_may_be_unfinished(rt: HostRuntime) {
     let mut primary = opened(&rt, rt.alloc());
     break_off_deposits(&rt, rt.alloc(), &mut primary, 0, 2_000);
     expect_lengths(&rt, &primary, 2_000, 0);
-    // A session begins with what is left of those before.
+    // A session begins with what is left of the ones before.
     break_off_deposits(&rt, rt.alloc(), &mut primary, 2_000, 3_000);
     expect_lengths(&rt, &primary, 3_000, 2_000);
     settle(&rt, &mut primary);

@@ -11,7 +11,7 @@ use std::time::Clock;
 
 const DEPOSIT: &[u8] = b"a 1.00 2.00\nbegin\ndeposit a 0.50\n";
 
-// A run over a device that gives or takes so much ends so.
+// Checks how a run ends over a device that gives or takes this much.
 fn expect_ended(
     rt: &impl Abort,
     ended: Result<(), RunFault>,
@@ -21,7 +21,8 @@ fn expect_ended(
     assert!(rt; ended == wanted, "after {after}");
 }
 
-// Compares how a run ends that is read a byte at a time and fails after so many reads, and what it writes.
+// Compares the end and the output of a run whose reader gives a byte at a time and fails after this
+// many reads.
 fn expect_read(
     rt: &(impl Abort + Threads + Wait + Clock + Sync),
     alloc: Global,
@@ -53,7 +54,7 @@ fn a_read_that_fails(rt: HostRuntime) {
     }
 }
 
-// A run that is read with a hitch is as any other.
+// Checks that a read with a hitch changes nothing about a run.
 fn halt_at(
     rt: &(impl Abort + Threads + Wait + Clock + Sync),
     alloc: Global,
@@ -69,7 +70,7 @@ fn halt_at(
     expect_bytes(rt, &written, output, "what is written");
 }
 
-// The 33 bytes are 17 reads, and one more is the end.
+// The 33 bytes take 17 reads, and one more is the end.
 #[test]
 fn a_read_with_a_hitch(rt: HostRuntime) {
     for away in 1..19u32 {
@@ -78,7 +79,7 @@ fn a_read_with_a_hitch(rt: HostRuntime) {
     }
 }
 
-// Compares how a run of this input ends whose writer has so much room, and what is written.
+// Compares the end and the output of a run of this input whose writer has this much room.
 fn expect_write(
     rt: &(impl Abort + Threads + Wait + Clock + Sync),
     alloc: Global,

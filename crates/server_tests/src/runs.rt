@@ -1,4 +1,4 @@
-//! Inputs worked by hand, and random ones beside a plain bank.
+//! Inputs worked by hand, and random ones compared with a plain bank.
 use crate::bank::{OPENING, joined};
 use crate::plain;
 use crate::plain::{Account, call_of, push_line, push_reply, push_rows, push_total};
@@ -10,7 +10,7 @@ use std::sync::Wait;
 use std::thread::Threads;
 use std::time::Clock;
 
-// A run with so many nodes and workers ended well, and wrote this.
+// Checks that a run with this many nodes and workers ended well, and its output.
 fn expect_written(
     rt: &impl Abort,
     ended: Result<(), RunFault>,
@@ -23,7 +23,7 @@ fn expect_written(
     assert!(rt; is_right, "with {nodes} nodes and {workers} workers");
 }
 
-/// Runs an input with so many nodes and workers, and compares what is written.
+/// Runs an input with this many nodes and workers, and compares its output.
 pub(crate) fn expect_output_by(
     rt: &(impl Abort + Threads + Wait + Clock + Sync),
     alloc: Global,
@@ -47,8 +47,8 @@ pub(crate) fn expect_output_by(
     expect_written(rt, ended, &written, output, nodes, workers);
 }
 
-// Runs an input with one, two and sixteen nodes and with none, one, four and sixteen workers, and compares what is
-// written.
+// Runs an input with one, two and sixteen nodes and with none, one, four and sixteen workers, and
+// compares its output.
 fn expect_output(
     rt: &(impl Abort + Threads + Wait + Clock + Sync),
     alloc: Global,
@@ -62,7 +62,7 @@ fn expect_output(
     }
 }
 
-// Runs an opening of three customers with these calls, and compares what is written.
+// Runs an opening of three customers with these calls, and compares its output.
 fn expect_after_opening(
     rt: &(impl Abort + Threads + Wait + Clock + Sync),
     alloc: Global,
@@ -159,7 +159,7 @@ fn keys_beside_lines_without_one(rt: HostRuntime) {
     expect_after_opening(&rt, rt.alloc(), calls, output);
 }
 
-// Puts five hundred random calls, and what is replied to them.
+// Appends five hundred random calls, and the replies to them.
 fn push_calls(
     rt: &impl Abort,
     accounts: &mut [Account],

@@ -14,15 +14,16 @@ use std::path::PathBuf;
 use std::process::Abort;
 use std::{env, fs};
 
-// The checkpoint of the three customers' bank after client 7's balance and its payment to bob: its length, how many
-// customers, their savings and checking, the total, the opening total, and the two replies.
+// The checkpoint of the three customers' bank after client 7's balance and its deposit for bob: its
+// length, the number of customers, their savings and checking, the total, the opening total, and
+// the two replies.
 const SAVED: &[u8] = b"SBCKPT02\x00\x00\x00\x00\x00\x00\x00\x02\x00\x00\x00\x03\
 \x00\x00\x00\x00\x00\x00\x27\x10\x00\x00\x00\x00\x00\x00\x00\x00\x00\x00\x00\x00\x00\x00\x03\xe8\
 \x00\x00\x00\x00\x00\x00\x13\x88\x00\x00\x00\x00\x00\x00\x09\xc4\x00\x00\x00\x00\x00\x00\x00\x00\
 \x00\x00\x00\x00\x00\x00\x48\x44\x00\x00\x00\x00\x00\x00\x46\x50\
 \x00\x00\x00\x00\x00\x00\x00\x3a\x98\x01\x00\x00\x00\x00\x00\x00\x00\x00";
 
-// A bank is saved so.
+// Checks how a save ends.
 fn expect_saved<S: CheckpointStore>(
     rt: &impl Abort,
     primary: &mut Primary<S>,
@@ -77,7 +78,7 @@ fn a_file_has_what_was_put(rt: HostRuntime) {
     expect_bytes(&rt, &held, SAVED, "what the file has");
 }
 
-// A client's connection breaks after its payment, which no flush follows.
+// A client's connection breaks after its deposit, which no flush follows.
 fn break_after_payment(rt: &impl Abort, alloc: Global, primary: &mut Primary<MemoryStore>) {
     // Its 24 bytes take two reads each.
     let mut reader = Bytewise {
@@ -112,7 +113,7 @@ fn something_unfinished(rt: HostRuntime) {
     expect_saved(&rt, &mut *primary, Ok(1), "a payment");
 }
 
-// A bank is saved so over a store with this habit, after a payment. The log stays.
+// Checks how a save ends after a deposit, over a store with this habit. The log stays.
 fn expect_saved_over(
     rt: &impl Abort,
     alloc: Global,

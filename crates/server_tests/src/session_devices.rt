@@ -8,12 +8,13 @@ use sb_checkpoint::MemoryStore;
 use std::alloc::Global;
 use std::process::Abort;
 
-// What each client sends, and what it is told.
+// What each client sends, and what is sent to it.
 const SENT: &[&[u8]] = &[BALANCE, DEPOSIT, FLUSH, BALANCE, FLUSH];
 
 const TOLD: &[&[u8]] = &[SHOWN, DONE, SHOWN];
 
-// A client's session broke off after so many bytes, and left a log of this length, which node 0 was offered.
+// Checks a session that broke off after this many bytes: it left a log of this length, which node 0
+// was offered.
 fn expect_broken(
     rt: &impl Abort,
     ended: Result<(), SessionFault>,
@@ -27,7 +28,7 @@ fn expect_broken(
     assert!(rt; is_offered, "node 0 after {after} bytes");
 }
 
-// How many asks are whole in so many bytes of two asks and a flush.
+// How many asks are whole in this many bytes of two asks and a flush.
 fn whole_asks(bytes: u32) -> u64 {
     match bytes {
         0..=17 => 0,
@@ -36,7 +37,7 @@ fn whole_asks(bytes: u32) -> u64 {
     }
 }
 
-// A client's connection breaks after so many bytes.
+// A client's connection breaks after this many bytes.
 fn break_after(rt: &impl Abort, alloc: Global, bytes: u32, primary: &mut Primary<MemoryStore>) {
     let sent = joined(rt, alloc, SENT);
     let mut reader = Bytewise {
@@ -58,7 +59,7 @@ fn a_read_that_fails(rt: HostRuntime) {
     }
 }
 
-// A client takes so many bytes, and hangs up.
+// A client takes this many bytes, and hangs up.
 fn hang_up_after(rt: &impl Abort, alloc: Global, room: usize, primary: &mut Primary<MemoryStore>) {
     let sent = joined(rt, alloc, SENT);
     let mut reader = sent.as_slice();
@@ -76,7 +77,7 @@ fn a_client_that_hangs_up(rt: HostRuntime) {
     }
 }
 
-// A session that is read with a hitch is as any other.
+// Checks that a read with a hitch changes nothing about a session.
 fn halt_at(rt: &impl Abort, alloc: Global, away: u32, hitch: Hitch) {
     let mut primary = opened(rt, alloc);
     let sent = joined(rt, alloc, SENT);
@@ -95,7 +96,7 @@ fn halt_at(rt: &impl Abort, alloc: Global, away: u32, hitch: Hitch) {
     expect_bytes(rt, &written, &told, "what the client is told");
 }
 
-// The 66 bytes are 33 reads, and one more is the end.
+// The 66 bytes take 33 reads, and one more is the end.
 #[test]
 fn a_read_with_a_hitch(rt: HostRuntime) {
     for away in 1..35u32 {
@@ -104,7 +105,8 @@ fn a_read_with_a_hitch(rt: HostRuntime) {
     }
 }
 
-// A session whose client sends nothing, and whose reads are interrupted so often before its end, ends so.
+// Checks the end of a session whose client sends nothing, and whose reads are interrupted this
+// often before its end.
 fn expect_after(rt: &impl Abort, alloc: Global, reads: u32, ends: Result<(), SessionFault>) {
     let mut primary = opened(rt, alloc);
     let mut reader = Interrupted { reads };

@@ -1,4 +1,4 @@
-//! What clients send, and what they are told.
+//! What clients send, and what is sent to them.
 use crate::bank::{expect, expect_bytes, joined, opened};
 use crate::devices::Bytewise;
 use crate::wire::{
@@ -14,7 +14,7 @@ use std::sync::Wait;
 use std::thread::Threads;
 use std::time::Clock;
 
-// What a client sends, how its session ends, and what it is told.
+// What a client sends, how its session ends, and what is sent to it.
 #[derive(Clone, Copy)]
 struct Session<'a> {
     sent: &'a [&'a [u8]],
@@ -43,7 +43,7 @@ fn serve_bytewise<C: Crew>(
     expect_bytes(rt, &written, &told, "what the client is told");
 }
 
-// Serves one client after the other. It answers the length of the log.
+// Serves one client after another. Answers the length of the log.
 fn serve_all<C: Crew>(rt: &impl Abort, alloc: Global, sessions: &[Session], crew: &mut C) -> u64 {
     let mut primary = opened(rt, alloc);
     for session in sessions {
@@ -54,7 +54,7 @@ fn serve_all<C: Crew>(rt: &impl Abort, alloc: Global, sessions: &[Session], crew
     carried_out
 }
 
-// The same by no workers and by four.
+// The same with no workers and with four.
 fn expect_sessions(
     rt: &(impl Abort + Threads + Wait + Clock + Sync),
     alloc: Global,
@@ -103,7 +103,7 @@ const NO_FLUSH_FOLLOWS: &[Session] = &[
         ends: Ok(()),
         told: &[],
     },
-    // It's told when it asks again.
+    // It gets the outcome when it asks again.
     Session {
         sent: &[DEPOSIT, FLUSH],
         ends: Ok(()),
@@ -193,7 +193,7 @@ fn a_frame_that_is_not_whole(rt: HostRuntime) {
     }
 }
 
-// So many frames, each as the model with the next request in its place, and then this.
+// This many copies of the model, each with the next request in its place, and then this end.
 fn frames(rt: &impl Abort, alloc: Global, count: u32, model: &[u8], end: &[u8]) -> Vec<u8> {
     let mut bytes = Vec::new(alloc);
     for request in 0..count {

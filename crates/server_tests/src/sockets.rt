@@ -10,8 +10,8 @@ use std::net::{Shutdown, SocketAddr, TcpListener, TcpStream};
 use std::process::Abort;
 use std::thread;
 
-// Sends a session in pieces, of which the last come once the first flush was answered, and hears all that the server
-// tells.
+// Sends a session in pieces, the last ones after the first flush was answered, and hears everything
+// that the server sends.
 fn asked(rt: &impl Abort, host: &HostRuntime, server: SocketAddr) -> Vec<u8> {
     let mut stream = TcpStream::connect(host, server).expect(rt, "a connection");
     for piece in [BALANCE, &DEPOSIT[..5], &DEPOSIT[5..], FLUSH] {

@@ -2,22 +2,22 @@
 use sb_checkpoint::{CheckpointStore, StoreFault};
 use std::alloc::Global;
 
-/// What a store does.
+/// How a store behaves.
 #[derive(Clone, Copy)]
 pub(crate) enum Habit {
-    /// It does as it is asked.
+    /// It does what it should.
     Honest,
-    /// Each put fails so.
+    /// Each put fails with this fault.
     FailsPuts(StoreFault),
-    /// Each get fails so.
+    /// Each get fails with this fault.
     FailsGets(StoreFault),
-    /// It forgets what it was put.
+    /// It forgets what was put.
     Forgets,
-    /// It gives a byte more than it was put.
+    /// It gives one byte more than was put.
     Adds,
 }
 
-/// A store with a habit. Nothing is said of what it holds.
+/// A store with a habit. Its model says nothing of what it holds.
 #[derive(Drop)]
 pub(crate) struct Habitual {
     pub(crate) alloc: Global,

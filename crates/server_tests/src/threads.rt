@@ -11,7 +11,7 @@ use std::sync::atomic::{AtomicU64, Ordering};
 use std::thread::Threads;
 use std::time::Clock;
 
-// Counts the threads of the program as the first call is about to be carried out.
+// Counts the threads of the program when the first call is about to be executed.
 #[derive(Drop)]
 struct Census<'a> {
     rt: &'a HostRuntime,
@@ -29,15 +29,15 @@ impl Gate for Census<'_> {
     fn after(&self, _number: u64) {}
 }
 
-// How many threads the program has by now.
+// The number of threads that the program has now.
 fn threads<R: Files + Alloc>(rt: &R) -> Option<u64> {
     let status = fs::read_to_string(rt, "/proc/self/status").ok()?;
     let (_, rest) = status.split_once("Threads:")?;
     rest.lines().next()?.trim().parse().ok()
 }
 
-// Runs a call by one worker with sixteen nodes. Meanwhile node 0's own thread is there, the worker's, and one for each
-// follower.
+// Runs a call with one worker and sixteen nodes. Meanwhile there are node 0's own thread, the
+// worker's, and one for each follower.
 fn expect_threads(
     rt: &(impl Abort + Threads + Wait + Clock + Sync),
     alloc: Global,

@@ -1,4 +1,4 @@
-//! Frames as they stand on the wire, and sessions of them.
+//! Frames as bytes on the wire, and sessions of them.
 use crate::bank::{expect, expect_bytes, joined};
 use bank_server::{Primary, SessionFault, serve_session};
 use cown_workers::InlineCrew;
@@ -9,11 +9,11 @@ use std::process::Abort;
 /// Client 7 asks for alice's balance by its request 1.
 pub(crate) const BALANCE: &[u8] = b"\x00\x10\x01\x00\x00\x00\x07\x00\x00\x00\x01\x01\x05alice";
 
-/// By its request 2 it pays 5.00 to bob.
+/// It deposits 5.00 for bob by its request 2.
 pub(crate) const DEPOSIT: &[u8] =
     b"\x00\x16\x01\x00\x00\x00\x07\x00\x00\x00\x02\x02\x03bob\x00\x00\x00\x00\x00\x00\x01\xf4";
 
-/// By its request 1 it pays 1.00 to alice.
+/// It deposits 1.00 for alice by its request 1.
 pub(crate) const OTHER: &[u8] =
     b"\x00\x18\x01\x00\x00\x00\x07\x00\x00\x00\x01\x02\x05alice\x00\x00\x00\x00\x00\x00\x00\x64";
 
@@ -22,22 +22,23 @@ pub(crate) const FLUSH: &[u8] = b"\x00\x01\x06";
 /// The log's first entry, which no client sends.
 pub(crate) const ENTRY: &[u8] = b"\x00\x10\x02\x00\x00\x00\x00\x00\x00\x00\x01\x01\x05alice";
 
-/// That replica 1 keeps a checkpoint of length 2, which no client sends.
+/// A report that replica 1 keeps a checkpoint of length 2, which no client sends.
 pub(crate) const HAVE: &[u8] = b"\x00\x0a\x07\x01\x00\x00\x00\x00\x00\x00\x00\x02";
 
 /// The balance's outcome, 150.00.
 pub(crate) const SHOWN: &[u8] =
     b"\x00\x13\x05\x00\x00\x00\x07\x00\x00\x00\x01\x00\x00\x00\x00\x00\x00\x00\x00\x3a\x98";
 
-/// The payment's.
+/// The deposit's outcome.
 pub(crate) const DONE: &[u8] =
     b"\x00\x13\x05\x00\x00\x00\x07\x00\x00\x00\x02\x00\x01\x00\x00\x00\x00\x00\x00\x00\x00";
 
-/// What another call under the balance's numbers comes to.
+/// The outcome of another call under the balance's numbers.
 pub(crate) const MISMATCH: &[u8] =
     b"\x00\x13\x05\x00\x00\x00\x07\x00\x00\x00\x01\x01\x00\x00\x00\x00\x00\x00\x00\x00\x00";
 
-/// A session of these bytes, by reads as long as they may be, ends so, and its client is told this.
+/// Checks how a session of these bytes ends, by reads as long as they may be, and what its client
+/// gets.
 pub(crate) fn expect_session<S: CheckpointStore>(
     rt: &impl Abort,
     alloc: Global,
@@ -53,7 +54,7 @@ pub(crate) fn expect_session<S: CheckpointStore>(
     expect_bytes(rt, &written, told, "what the client is told");
 }
 
-/// A session of these pieces ends well, and its client is told this.
+/// Checks that a session of these pieces ends well, and what its client gets.
 pub(crate) fn serve<S: CheckpointStore>(
     rt: &impl Abort,
     alloc: Global,
@@ -66,7 +67,7 @@ pub(crate) fn serve<S: CheckpointStore>(
     expect_session(rt, alloc, primary, &sent, Ok(()), &told);
 }
 
-/// Puts as many bytes as the model, with this request in its place.
+/// Appends a copy of the model, with this request in its place.
 pub(crate) fn push_with(rt: &impl Abort, model: &[u8], request: u32, out: &mut Vec<u8>) {
     let number = request.to_be_bytes();
     if let Some((head, rest)) = model.split_at_checked(7) {

@@ -1,11 +1,11 @@
-//! What the tables of the tests are made of.
+//! The parts of the tests' tables.
 use sb_amount::Cents;
 use sb_calls::{Call, Reply, WireReply};
 use sb_frames::{AskOutcome, Frame};
 use sb_rows::Name;
 use std::process::Abort;
 
-// The bytes that hexadecimal digits spell, spaces aside.
+// The bytes that hexadecimal digits spell; spaces are skipped.
 pub(crate) fn bytes(rt: &(impl Abort + AllocGlobal), digits: &str) -> Vec<u8> {
     let mut bare = Vec::new(rt.alloc());
     for digit in digits.as_bytes() {
@@ -16,7 +16,7 @@ pub(crate) fn bytes(rt: &(impl Abort + AllocGlobal), digits: &str) -> Vec<u8> {
     hex::decode(rt.alloc(), bare).expect(rt, "hexadecimal digits")
 }
 
-// The bytes of a body with the length that is theirs before them.
+// The bytes of a body, with their length in front.
 pub(crate) fn framed(rt: &(impl Abort + AllocGlobal), body: &str) -> Vec<u8> {
     let mut framed = Vec::new(rt.alloc());
     let body = bytes(rt, body);

@@ -1,4 +1,4 @@
-//! Tests of the wire: its frames, their streams, and the sequencer that numbers what is asked.
+//! Tests of the wire: its frames, their streams, and the sequencer that numbers asks.
 #![tactic(auto)]
 
 #[cfg(test)]

@@ -1,4 +1,4 @@
-//! The sequencer: what is asked and heard, and what it answers.
+//! The sequencer: what it is asked, what it hears, and its answers.
 use crate::fixtures::{balance, entry};
 use crate::steps::is_so;
 use sb_calls::Reply;
@@ -10,33 +10,33 @@ mod donors;
 mod entries;
 mod notes;
 
-// What is asked of a sequencer, and its answer. Each call is a balance of the customer with this name.
+// A step on a sequencer, with its answer. Each call is a balance of the customer with this name.
 #[derive(Clone, Copy)]
 enum Step {
     // An ask by the client under its own number of the request.
     Ask(u32, u32, &'static str, Result<Numbered, AskFault>),
-    // Client 1 asks for so many calls, the first of the log, with its requests from 0 on.
+    // Client 1 asks for this many calls, the first of the log, with its requests from 0 on.
     AskMany(u32, &'static str),
     Length(u64),
     // The call with this number.
     Shows(u64, Option<&'static str>),
-    // The entry with this number is of this call.
+    // The entry with this number has this call.
     Entry(u64, Option<&'static str>),
-    // The call with this number is replied so.
+    // A replica answers the call with this number with this reply.
     Answer(u64, Reply, AnswerNote),
-    // The reply to a client's request.
+    // The reply that is kept for a client's request.
     AnswerOf(u32, u32, Option<Reply>),
     // A replica has the log up to a length.
     Ack(u8, u64, AckNote),
     // A replica keeps a checkpoint of a length.
     Have(u8, u64, HaveNote),
-    // From whom a replica gets a state, and of which length.
+    // The donor of a replica's state, with its length.
     Donor(u8, Option<(u8, u64)>),
-    // A replica is sent so many entries of this call again, the first with this number.
+    // A replica gets this many entries of this call again; the first has this number.
     Resends(u8, u64, usize, &'static str),
 }
 
-// A sequencer for so many replicas.
+// A sequencer for this many replicas.
 fn opened(rt: &(impl Abort + AllocGlobal), replicas: usize) -> Box<Sequencer> {
     assert!(rt; replicas <= REPLICAS);
     Box::new(rt.alloc(), Sequencer::open(rt.alloc(), replicas)).expect(rt, "memory for a sequencer")
@@ -124,12 +124,12 @@ fn plays_on(rt: &impl Abort, log: &mut Sequencer, steps: &[Step]) {
     }
 }
 
-// The steps on a sequencer for so many replicas.
+// Plays the steps on a sequencer for this many replicas.
 fn plays(rt: &(impl Abort + AllocGlobal), replicas: usize, steps: &[Step]) {
     plays_on(rt, &mut opened(rt, replicas), steps);
 }
 
-// The steps on a sequencer for one replica, with room for so many calls.
+// Plays the steps on a sequencer for one replica, with room for this many calls.
 fn plays_with_room(rt: &(impl Abort + AllocGlobal), calls: usize, steps: &[Step]) {
     let log = Sequencer::with_capacity(rt.alloc(), 1, calls).expect(rt, "memory for calls");
     let mut log = Box::new(rt.alloc(), log).expect(rt, "memory for a sequencer");

@@ -1,7 +1,7 @@
-//! Steps of a test that stand in a table.
+//! Steps of a test that are written in a table.
 use std::process::Abort;
 
-// What the step at this place says is so.
+// Checks what the step at this place says.
 pub(crate) fn is_so(rt: &impl Abort, place: usize, so: bool) {
     assert!(rt; so, "step {place}");
 }

@@ -5,19 +5,19 @@ use sb_frames::{Frame, FrameFault, Stream, StreamFault, encode};
 use std::ops::Range;
 use std::process::Abort;
 
-// What is done with a stream, and what it answers.
+// A step on a stream, with its answer.
 #[derive(Clone, Copy)]
 enum Step<'a> {
     // It takes the bytes that these digits spell.
     Takes(&'a str),
-    // It hands this frame out.
+    // It hands out this frame.
     Gives(Frame),
-    // What is unread is too short to judge.
+    // The unread bytes are too few to judge.
     Waits,
     Fails(StreamFault),
-    // It takes no bytes any more.
+    // It takes no more bytes.
     TakesNothing,
-    // Every byte that came was handed out in a frame, or not.
+    // Whether every byte that came was handed out in a frame.
     Ended(bool),
 }
 
@@ -54,12 +54,12 @@ fn plays(rt: &(impl Abort + AllocGlobal), stream: &mut Stream, steps: &[Step]) {
     }
 }
 
-// These steps, on a stream that nothing came to.
+// Plays these steps on an empty stream.
 fn plays_alone(rt: &(impl Abort + AllocGlobal), steps: &[Step]) {
     plays(rt, &mut opened(rt), steps);
 }
 
-// The bytes come one by one, and the frame is handed out behind the last.
+// The bytes come one by one, and the frame is handed out after the last.
 fn comes_by_bytes(rt: &impl Abort, stream: &mut Stream, frame: Frame, bytes: &[u8]) {
     for byte in bytes {
         waits(rt, stream);
@@ -212,7 +212,8 @@ fn two_large_pieces_with_no_next_between(rt: HostRuntime) {
     comes_in_pieces(&rt, &mut opened(&rt), &bytes);
 }
 
-// 1,048,590 bytes: a stream that copied what is unread, or what was read, at each of them would take minutes.
+// 1,048,590 bytes: a stream that copied the unread bytes, or those that were read, at each of them
+// would take minutes.
 const ENTRIES: u64 = 58_255;
 
 #[test]
@@ -243,7 +244,7 @@ fn comes_with_the_next(rt: &impl Abort, stream: &mut Stream, entry: Frame) {
     assert!(rt; !stream.ended());
 }
 
-// Frames are taken one behind, so that bytes of the next are unread whenever bytes come.
+// Frames are taken one behind, so that bytes of the next one are unread whenever bytes come.
 #[test]
 fn a_long_stream_that_is_never_empty(rt: HostRuntime) {
     let mut stream = opened(&rt);

@@ -1,10 +1,10 @@
-//! The numbers and the words of the faults.
+//! The numbers and the texts of the faults.
 use sb_frames::{FrameFault, StreamFault};
 use sb_sequencer::AskFault;
 use std::fmt::Display;
 use std::process::Abort;
 
-// A fault has these words.
+// Checks the text of a fault.
 fn says(rt: &(impl Abort + AllocGlobal), fault: impl Display + Drop, words: &str) {
     let told = fault.to_string(rt.alloc()).expect(rt, "memory for a text");
     assert!(rt; told.as_str() == words);

@@ -1,4 +1,4 @@
-//! What is no frame, and the first fault of it.
+//! Bytes that aren't a frame, and their first fault.
 use super::*;
 
 #[test]
@@ -72,7 +72,7 @@ fn too_few_bytes_for_a_field(rt: HostRuntime) {
             "04 00000000000002",
             "04 0000000000000002",
             "04 0000000000000002 01 00000000000000",
-            // Nothing of a reply is looked at before it is all there.
+            // A reply isn't read before it is all there.
             "04 0000000000000002 08 00000000000000",
             "05 000007",
             "05 00000007 000001",
@@ -116,7 +116,7 @@ fn names_at_fault(rt: HostRuntime) {
             "01 00000007 00000001 01 00",
             "01 00000007 00000001 01 05 616c696345",
             "01 00000007 00000001 01 05 616c206365",
-            // The length is looked at before the bytes, which aren't there.
+            // The length is checked before the bytes, which aren't there.
             "02 0000000000000001 01 15",
             "02 0000000000000001 02 ff",
         ],
@@ -125,7 +125,7 @@ fn names_at_fault(rt: HostRuntime) {
         &rt,
         FrameFault::BadLength,
         &[
-            // The bytes are looked at when all of them are there, and before the amount.
+            // The bytes are checked once all of them are there, and before the amount.
             "02 0000000000000001 01 05 41",
         ],
     );
@@ -142,7 +142,7 @@ fn names_at_fault(rt: HostRuntime) {
             "02 0000000000000001 04 01 61 15",
             "02 0000000000000001 04 01 61 01 3a",
             "02 0000000000000001 06 00 01 61 0000000000000000",
-            // A name is looked at before the amount.
+            // A name is checked before the amount.
             "02 0000000000000001 06 01 61 01 3a 7fffffffffffffff",
             "02 0000000000000001 01 15 616161616161616161616161616161616161616161",
         ],
@@ -173,11 +173,11 @@ fn replies_at_fault(rt: HostRuntime) {
             "04 0000000000000002 07 ffffffffffffffff",
             "05 00000007 00000001 00 08 0000000000000000",
             "05 00000007 00000001 00 02 8000000000000000",
-            // Where the status says that there is no reply, nine zeros stand for it.
+            // If the status says that there is no reply, it is spelled as nine zeros.
             "05 00000007 00000001 01 01 0000000000000000",
             "05 00000007 00000001 01 00 0000000000000001",
             "05 00000007 00000001 02 00 0100000000000000",
-            // The first fault counts, though bytes are left over.
+            // The first fault is reported, though bytes are left over.
             "04 0000000000000002 08 0000000000000000 00",
         ],
     );

@@ -1,4 +1,4 @@
-//! Frames whose fields are at the ends of their ranges, and past them.
+//! Frames whose fields are at the ends of their ranges, and beyond them.
 use super::*;
 use crate::fixtures::{ask, balance, cents, entry, name, wire_reply};
 use sb_calls::{Call, Reply, WireReply};

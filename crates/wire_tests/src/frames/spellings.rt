@@ -1,4 +1,4 @@
-//! Frames that are spelled as they should be, and read again.
+//! Frames that are spelled as they should be, and read back.
 use super::*;
 use crate::fixtures::{cents, name, vectors, wire_reply};
 use sb_calls::{Call, Reply};
@@ -9,7 +9,7 @@ fn frames_are_spelled_so(rt: HostRuntime) {
     are_spelled(&rt, &vectors(&rt));
 }
 
-// The frame is decoded from the front of these bytes, of which the last isn't its own.
+// The frame is decoded from the front of these bytes; the last one isn't part of it.
 fn is_in_front(rt: &impl Abort, frame: Frame, bytes: &[u8]) {
     assert!(rt; decode(bytes) == Ok((frame, bytes.len().saturating_sub(1))));
 }
@@ -48,7 +48,7 @@ fn an_ack_and_a_have_by_hand(rt: HostRuntime) {
         ("000a070100000000000000", FrameFault::Short),
         ("000b0301000000000000000200", FrameFault::BadLength),
         ("000b0701000000000000000200", FrameFault::BadLength),
-        // With the same fields, the tags of no frame and above all.
+        // With the same fields, tags of no frame: 0 and those above all others.
         ("000a00010000000000000002", FrameFault::UnknownTag),
         ("000a08010000000000000002", FrameFault::UnknownTag),
         ("000a09010000000000000002", FrameFault::UnknownTag),
@@ -58,7 +58,7 @@ fn an_ack_and_a_have_by_hand(rt: HostRuntime) {
     }
 }
 
-// Every kind of call, every reply and every outcome, each behind the same fields.
+// Every kind of call, every reply and every outcome, each after the same fields.
 #[test]
 fn every_call_both_ways(rt: HostRuntime) {
     let alice = name(&rt, "alice");

@@ -91,7 +91,7 @@ fn takes_more_calls_than_it_was_opened_for(rt: HostRuntime) {
     assert!(rt; Sequencer::with_capacity(rt.alloc(), 1, usize::MAX).is_err());
 }
 
-// What an ask is answered by a plain search of the asks that have a number.
+// The answer to an ask by a plain search of the numbered asks.
 fn plain_answer(log: &[(Key, Call)], key: Key, call: Call) -> Result<Numbered, AskFault> {
     for (place, (asked, numbered)) in log.iter().enumerate() {
         if *asked == key {
@@ -106,7 +106,7 @@ fn plain_answer(log: &[(Key, Call)], key: Key, call: Call) -> Result<Numbered, A
     Ok(Numbered::New(log.len() as u64 + 1))
 }
 
-// An ask is answered as by the plain search, which notes it where it's new.
+// Checks that an ask is answered as by the plain search, which appends it if it is new.
 fn asks_both(
     rt: &impl Abort,
     log: &mut Sequencer,
@@ -125,7 +125,7 @@ fn asks_both(
     assert!(rt; log.length() == plain.len() as u64, "{key:?}");
 }
 
-// The log shows the calls of the plain one, in their order.
+// Checks that the log shows the calls of the plain one, in their order.
 fn shows_all(rt: &impl Abort, log: &Sequencer, plain: &[(Key, Call)]) {
     for (place, (_, call)) in plain.iter().enumerate() {
         assert!(rt;

@@ -1,4 +1,4 @@
-//! From whom a replica gets a state.
+//! The donors of states.
 use super::*;
 
 #[test]
@@ -14,10 +14,10 @@ fn the_longest_checkpoint_is_given(rt: HostRuntime) {
             Step::Donor(0, Some((2, 7))),
             Step::Have(3, 6, HaveNote::Recorded),
             Step::Donor(0, Some((2, 7))),
-            // The last length that was heard counts.
+            // The last length that was heard is the one that counts.
             Step::Have(2, 5, HaveNote::Recorded),
             Step::Donor(0, Some((3, 6))),
-            // One that isn't noted doesn't.
+            // A length that isn't recorded doesn't count.
             Step::Have(1, 10, HaveNote::Odd),
             Step::Donor(0, Some((3, 6))),
         ],
@@ -86,10 +86,10 @@ fn nobody_gives_what_a_replica_has(rt: HostRuntime) {
             Step::Donor(0, None),
             Step::Ack(0, 6, AckNote::Recorded),
             Step::Donor(0, None),
-            // A replica that was restarted lacks entries again.
+            // A replica that restarted lacks entries again.
             Step::Ack(0, 0, AckNote::Recorded),
             Step::Donor(0, Some((1, 4))),
-            // How much the donor has itself doesn't count, only what it keeps.
+            // The length of the donor's own log doesn't count, only that of its checkpoint.
             Step::Ack(1, 6, AckNote::Recorded),
             Step::Donor(0, Some((1, 4))),
         ],

@@ -1,4 +1,4 @@
-//! Entries by number, and those that are sent again.
+//! Entries by number, and entries that are sent again.
 use super::*;
 
 #[test]
