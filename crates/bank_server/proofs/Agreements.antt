@@ -1,4 +1,4 @@
--- Two boards that came to the same.
+-- Two boards that agree.
 use Rattle.std.proofs.Common.{◌≡◌, inl, inr, ℕ, zero, suc, ◌+◌, ◌<◌, ◌≤◌, Bool, true, false, Option, Some, None, List, length, refl, sym, ap, ◌∙◌, arith}
 use Rattle.std.specs.Prelude.{◌↔◌, IsTrue, ℤ, not, slice_get}
 use Rattle.std.specs.Option.{is_some}
@@ -14,7 +14,7 @@ use Rattle.bank_server.proofs.Boards.{past}
 true_is_false : true ≡ false → ⊥
 true_is_false e = cc
 
--- columns of one length are equal where no difference is found
+-- columns of one length are equal if no difference is found
 pub same_column : (left right : List ℤ) (found : Option ℕ) (answer : Bool) → LeastDifference → EqualWithout → length left ≡ length right
     → found ≡ first_difference left right → is_some found ≡ not answer → IsTrue answer ↔ (left ≡ right)
 same_column left right None true least without long is says = (λ yes. without left right long (sym is), λ same. refl)
@@ -28,7 +28,7 @@ no_zero : (board : BoardOf Op) → reply_in board 0 ≡ None
 unfolding reply_in
 no_zero board = refl
 
--- a board has no reply past its length
+-- a board has no reply beyond its length
 none_past : (board : BoardOf Op) (k : ℕ) → open_of board ≡ 0 → length board.log ≡ length board.states → length_of board ≤ k → reply_in board (k + 1) ≡ None
 none_past board k idle beside le = reply_at board k idle ∙ past (replies_held board) k (omega (arith, le, length_held board idle beside))
 

@@ -23,7 +23,7 @@ use Rattle.bank_server.specs.declared.asking.Standing.TheVariants.{LogFull}
 use Rattle.bank_server.proofs.Keyed.{own_key, absent_from_log, full_log}
 use Rattle.bank_server.proofs.Standings.{answered_new, answered_repeat, answered_mismatch, answered_full}
 
--- an standing by the log as it was is one by the log as it is, which stayed
+-- a standing in the log as it was is one in the log as it is, if that stayed
 by_same_log : {A : Type 0} {old new : List (Key × Call)} {x : A} (f : List (Key × Call) → A) → new ≡ old → x ≡ f old → x ≡ f new
 by_same_log f e h = h ∙ ap f (sym e)
 
@@ -60,20 +60,20 @@ pub asks_one : (asks old new : List (Key × Call)) (ask : Key × Call) (answer :
 asks_one asks old new ask answer standing is e answered log numbered =
     (numbers_so asks old new ask answer standing is e numbered, stands_so old new ask answer standing is answered log)
 
--- a log that was asked goes on
+-- a log after asks goes on from the old one
 pub goes_on : (old new : List (Key × Call)) (ask : Key × Call) (answer : Result Numbered AskFault) → LogAfter old ask answer new → GoesOn old new
 goes_on old new ask (Ok (New n)) log = (ask ∷ [], log)
 goes_on old new ask (Ok (Repeat n)) log = ([], log ∙ sym (append-nil old))
 goes_on old new ask (Err fault) log = ([], log ∙ sym (append-nil old))
 
--- where memory was refused nothing changed
+-- if memory was refused nothing changed
 pub not_asked : (old new : SequencerOf) (ask : Key × Call) (answer : Result Numbered AskFault) → standing_of_answer answer ≡ None
     → new ≡ after_ask old ask answer → new ≡ old
 not_asked old new ask (Ok (New n)) is after = absurd (none_is_some (sym is))
 not_asked old new ask (Ok (Repeat n)) is after = after
 not_asked old new ask (Err fault) is after = after
 
--- a place of a key is one of the log
+-- the place of a key is one of the log
 place_within : (log : List (Key × Call)) (ask : Key × Call) (k : ℕ) → place_of_key log ask.0 ≡ Some k → k < length log
 place_within log ask k at = (position-Some (λ entry. same_key ask.0 entry.0) log k ask at).0
 
@@ -84,7 +84,7 @@ kept old new ask n k few log at is = record {
   few = omega (arith, ap {B = ℕ} length log, is, place_within old ask k at);
 }
 
--- and so is the number that is answered
+-- and so is the number in the answer
 pub number_within : (old new : List (Key × Call)) (ask : Key × Call) (answer : Result Numbered AskFault) → length new ≤ LOG_CALLS → IsAnswered old ask answer
     → LogAfter old ask answer new → IsOfLog answer
 number_within old new ask (Ok (New n)) few answered log = record { counted = omega (arith, answered.2); few = omega (arith, answered.1, answered.2) }
@@ -104,7 +104,7 @@ no_place log key e = by (place_of_key log key) refl
     by None f = f
     by (Some k) f = absurd (some_is_false k (sym (has_key-place log key ∙ ap is_some f) ∙ e))
 
--- past what a request can be, the log is full and has no such key
+-- beyond what a request can be, the log is full and doesn't have the key
 pub asks_past_requests : (asks : List Asked) (running : ℕ) (asked : Asked) (log : List (Key × Call)) → IsAfter asks running log → asked.key ≡ None
     → 2 ^ 32 ≤ running
     → AsksLine asks running asked log (Ok LogFull)

@@ -1,4 +1,4 @@
--- A log of calls over a board.
+-- A log of calls on a board.
 use Rattle.std.proofs.Common.{◌≡◌, ◌≢◌, inl, inr, ℕ, zero, suc, ◌+◌, ◌<◌, ◌≤◌, Bool, true, false, Option, Some, None, List, [], ◌∷◌, ◌++◌, length, ◌-◌, map, take, refl, sym, ap, subst, ◌∙◌, arith}
 use Rattle.std.specs.Prelude.{slice_get, option_and_then, ◌==◌, nat_le, if◌then◌else◌, IsSome, IfSome}
 use Rattle.std.proofs.lemmas.Bool.{cases_lt, true≢false, lt-leb, ne_eqb}
@@ -58,11 +58,11 @@ waits_not_out : ◌≡◌ {A = Option State} (Some Waiting) (Some Out) → true 
 unfolding waits
 waits_not_out h = ap waits h
 
--- where nothing is unfinished nothing is out
+-- if nothing is unfinished nothing is out
 pub idle_none_out : (board : BoardOf Op) → open_of board ≡ 0 → NoneOut board
 idle_none_out board idle k out = true≢false (sym (ap (state_is is_open) out) ∙ all_finished board.states k idle)
 
--- one more that waits is not out
+-- one more that waits isn't out
 pub none_out_more : (states : List State) → ((k : ℕ) → slice_get states k ≢ Some Out) → (k : ℕ) → slice_get (states ++ Waiting ∷ []) k ≢ Some Out
 none_out_more [] none zero h = true≢false (waits_not_out h)
 none_out_more [] none (suc k) h = absurd (no_out h)
@@ -78,7 +78,7 @@ put_after op old new is = record {
   none_out = λ none. subst NoneOut (sym is) (none_out_more old.states none);
 }
 
--- the same where what was unfinished was carried out between
+-- the same if the unfinished ones were executed in between
 pub put_after_run : (op : Op) (old mid new : BoardOf Op) → Drains old mid → NoneOut mid → new ≡ accepted mid op → ArePut (op ∷ []) old new
 put_after_run op old mid new drained none put =
     let made = put_after op mid new put in
@@ -90,7 +90,7 @@ put_after_run op old mid new drained none put =
       none_out = λ before. made.none_out none;
     }
 
--- a board that is as it was drained nothing
+-- a board that stayed as it was executed nothing
 pub drains_same : (old new : BoardOf Op) → new ≡ old → Drains old new
 drains_same old new is = record {
   opening = ap (λ (b : BoardOf Op). b.opening) is;
@@ -146,7 +146,7 @@ reply_at board k none =
     after
     ∙ ap (λ n. option_and_then finished_reply (slice_get board.states n)) at
 
--- nothing is past the end of a list
+-- nothing is beyond the end of a list
 pub past : {A : Type 0} (xs : List A) (k : ℕ) → length xs ≤ k → slice_get xs k ≡ None
 past [] k le = refl
 past (x ∷ xs) zero le = absurd (omega (arith, le))
@@ -201,7 +201,7 @@ told_here board place answer reply none is told =
     let at : place + 1 - length board.earlier ≡ suc place = omega (arith, ap length none) in
     sym (known (omega (arith, ap length none))) ∙ ap (reply_by_log declared_cowns effect_of (held_of board.opening) board.log) at
 
--- what a board answers is the reply of the log one by one
+-- what a board replies is the reply of the log run one by one
 pub told_at : (board : BoardOf Op) (replies : List Reply) (place : ℕ) (answer : Option Reply) → Tells board replies → length board.log ≡ length board.states
     → answer ≡ reply_in board (place + 1)
     → IfSome answer (λ r. length board.earlier < place + 1
@@ -230,7 +230,7 @@ some_reply board number answer idle none beside counted few is =
     let state : answer ≡ option_and_then finished_reply (slice_get board.states place) = is ∙ ap (reply_in board) next ∙ reply_at board place none in
     subst IsSome (sym state) (finished_some board.states place (omega (arith, beside)) (all_finished board.states place idle))
 
--- and it is that of the log one by one
+-- and it is that of the log run one by one
 pub told_of : (board : BoardOf Op) (replies : List Reply) (number : ℕ) (answer : Option Reply) → Tells board replies → length board.log ≡ length board.states
     → 0 < number
     → answer ≡ reply_in board number
@@ -244,7 +244,7 @@ told_of board replies number answer tells beside counted is told =
     (λ r. length board.earlier < n → reply_by_log declared_cowns effect_of (held_of board.opening) board.log (n - length board.earlier) ≡ Some r)) next
     told)
 
--- ops that were carried out are the calls that come to them, one by one
+-- executed ops are the calls with these ops, run one by one
 pub one_by_one : (directory : List (List ℕ)) (b : Balances) (calls : List Call) (ops : List Op) (board : BoardOf Op) → SameCustomers directory b
     → board.opening ≡ b → IsCarriedOut ops board → ops ≡ map (resolved directory) calls → IsOneByOne directory calls b board
 one_by_one directory b calls ops board same opening carried is = record {

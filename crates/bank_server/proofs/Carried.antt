@@ -1,4 +1,4 @@
--- What a log's ops are while a node carries them out.
+-- The ops of a log while a node executes them.
 use Rattle.std.proofs.Common.{◌≡◌, ℕ, zero, suc, ◌+◌, ◌≤◌, Bool, Option, Some, None, List, [], ◌∷◌, ◌++◌, length, map, sym, ap, ◌∙◌, arith, length-append, append_assoc, append-nil, refl}
 use Rattle.std.specs.Prelude.{slice_get}
 use Rattle.std.proofs.lemmas.List.{length-map}
@@ -20,7 +20,7 @@ some_is h = cc
 none_is_some : {A : Type 0} {x : A} → ◌≡◌ {A = Option A} None (Some x) → ⊥
 none_is_some h = cc
 
--- a fault behind steps that ended well is one of them all
+-- a fault after steps that ended well is a fault of all of them
 pub fault_behind : (keeps : Bool) (old mid : BoardOf Op) (fault : CrewFault) → (NoneOut old → NoneOut mid)
     → IsCarryFault keeps mid fault → IsCarryFault keeps old fault
 fault_behind keeps old mid crew.CrewGone none is = λ e out. is e (none out)
@@ -45,7 +45,7 @@ next_is [] [] x h = absurd (none_is_some h)
 next_is [] (y ∷ rest) x h = (rest, ap (λ z. z ∷ rest) (some_is h))
 next_is (y ∷ xs) rest x h = next_is xs rest x h
 
--- a beginning with the next op is one too
+-- a beginning with the next op is a beginning too
 pub one_more_op : (ops log rest : List Op) (op : Op) → ops ≡ log ++ rest → slice_get ops (length log) ≡ Some op
     → (behind : List Op) × (ops ≡ (log ++ op ∷ []) ++ behind)
 one_more_op ops log rest op is at =

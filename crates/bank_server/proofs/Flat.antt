@@ -1,9 +1,9 @@
--- Lists of what is made of each item.
+-- Lists in which each item gives several.
 use Rattle.std.proofs.Common.{◌≡◌, ℕ, zero, suc, ◌+◌, ◌<◌, List, [], ◌∷◌, ◌++◌, length, drop, sym, ap, ◌∙◌, arith}
 use Rattle.std.specs.Prelude.{slice_index_or}
 use Rattle.std.specs.List.{flat_map}
 
--- what is made of the next item, and then of those behind it
+-- what the next item gives, and then what those behind it give
 pub flat_map-drop : {A : Type 0} (f : A → List ℕ) (xs : List A) (k : ℕ) (x : A) → k < length xs → x ≡ slice_index_or xs k x
     → flat_map f (drop k xs) ≡ f x ++ flat_map f (drop (k + 1) xs)
 flat_map-drop f [] k x lt is = absurd (omega (arith, lt))

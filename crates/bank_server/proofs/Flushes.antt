@@ -1,4 +1,4 @@
--- Which asks a flush follows, where one frame more comes.
+-- The asks that a flush follows, with one more frame.
 use Rattle.std.proofs.Common.{◌≡◌, Bool, true, false, ◌||◌, if◌then◌else◌, List, [], ◌∷◌, ◌++◌, refl, sym, ap, ◌∙◌, append_assoc, append-nil}
 use Rattle.std.specs.List.{list_any}
 use Rattle.std.proofs.lemmas.Grind.{flat_map-append}
@@ -8,7 +8,7 @@ use Rattle.sb_frames.specs.declared.frame.Frame.TheVariants.{Flush}
 use Rattle.bank_server.specs.Place.{untold_in}
 use Rattle.bank_server.specs.Session.{ask_in, asks_in, is_flush, told_in}
 
--- each ask is told or not
+-- each ask gets its outcome or waits
 pub all_asks : (frames : List Frame) → asks_in frames ≡ told_in frames ++ untold_in frames
 all_asks [] = refl
 all_asks (frame ∷ frames) = by (all_asks frames) (list_any is_flush frames)

@@ -9,13 +9,13 @@ use Rattle.sb_replica.specs.Replica.{BesideOf, ReplicaOf, beside_of}
 use Rattle.sb_replica.specs.declared.pause.Pause.{Pause}
 use Rattle.bank_server.specs.Following.{FollowerOf, RunsAll, TakesTurn, TakesTurns, Turn}
 
--- one turn more
+-- one more turn
 pub turn_after : {S : Type 0} (old mid new : FollowerOf S) (turns : List Turn) (turn : Turn) → TakesTurns old turns mid → TakesTurn mid turn new
     → TakesTurns old (turns ++ turn ∷ []) new
 turn_after old mid new [] turn before is = (new, subst (λ f. TakesTurn f turn new) before is, refl)
 turn_after old mid new (first ∷ turns) turn before is = (before.0, before.1, turn_after before.0 mid new turns turn before.2 is)
 
--- a crew of nobody takes its steps in place
+-- a crew without workers takes its steps in place
 pub steps_in_place : {C : Type 0} (steps : List CrewStep) (old new : C) → ActsAlong (λ before step after. KeepsNoJob step) old steps new
     → AllByRecursion KeepsNoJob steps
 steps_in_place [] old new acts = tt
@@ -27,13 +27,13 @@ some_is h = cc
 none_is_some : {A B : Type 0} {x : A} → ◌≡◌ {A = Option A} (Some x) None → B
 none_is_some h = absurd cc
 
--- what holds of an answer holds of the pause that it is
+-- what holds of an answer holds of the pause in it
 pub of_pause : {E : Type 0} (answer : Result Pause E) (pause : Pause) (P : Pause → Type 0) (Q : E → Type 0) → Some pause ≡ result_ok answer
     → MatchResult answer P Q → P pause
 of_pause (Ok found) pause P Q is holds = subst P (sym (some_is is)) holds
 of_pause (Err fault) pause P Q is holds = none_is_some is
 
--- a board that was drained by a crew of nobody ran all
+-- a board that was drained in place ran everything
 pub runs_all : {S C E : Type 0} (old new : ReplicaOf S) (before after : C) (answer : Result (Unit {0}) E)
     → ((steps : List CrewStep) × (ActsAlong (λ before step after. KeepsNoJob step) before steps after × MatchResult answer
     (λ done. IsDrained old.board steps new.board)

@@ -1,4 +1,4 @@
--- How an ask stands in a log that goes on.
+-- The standing of an ask in a log that goes on.
 use Rattle.std.proofs.Common.{◌≡◌, ℕ, zero, suc, Option, Some, None, Result, Ok, Err, List, [], ◌∷◌, ◌++◌, length, map, drop, sym, ap, ◌∙◌, append_assoc, append-nil, refl}
 use Rattle.std.specs.Prelude.{slice_get}
 use Rattle.sb_calls.specs.declared.ask.Key.{Key}
@@ -51,7 +51,7 @@ get_last : {A : Type 0} (xs : List A) (x : A) → slice_get (xs ++ x ∷ []) (le
 get_last [] x = refl
 get_last (y ∷ xs) x = get_last xs x
 
--- one more ask, and any number of them, leave how it stands
+-- one more ask, and any number of them, leave its standing
 one_more : (asks : List (Key × Call)) (more ask : Key × Call) (k : ℕ) → slice_get asks k ≡ Some ask
     → standing_of (first_asks (asks ++ more ∷ [])) ask ≡ standing_of (first_asks asks) ask
 one_more asks more ask k at =

@@ -25,7 +25,7 @@ use Rattle.bank_server.proofs.Leading.{leads_nowhere, leads_on}
 pub hears_nothing : (opening : Rows) (at : Place) (unread : List ℕ) → Hears opening at unread at unread
 hears_nothing opening at unread = record { more = []; read = refl; leads = leads_nowhere opening at }
 
--- one frame more
+-- one more frame
 pub hears_frame : (opening : Rows) (old mid new : Place) (unread left behind : List ℕ) (frame : frames.Frame) (bytes : List ℕ)
     → Hears opening old unread mid left
     → Spells frame bytes → left ≡ bytes ++ behind → Leads opening mid (frame ∷ []) new → Hears opening old unread new behind
@@ -82,7 +82,7 @@ pub nothing_short : decoded [] ≡ Err Short
 unfolding decoded
 nothing_short = refl
 
--- bytes that no frame begins with stay so, however they go on
+-- bytes that no frame begins with stay so, whatever bytes follow
 pub bad_at : (rest more : List ℕ) (fault : FrameFault) → decoded rest ≡ Err fault → fault ≢ Short → IsAt (Frame fault) (rest ++ more)
 bad_at rest more fault bad long =
     let settled : decoded (rest ++ more) ≡ Err fault = decoded_settled rest more (λ short. long (err_is (sym bad ∙ short))) ∙ bad in

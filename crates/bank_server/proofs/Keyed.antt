@@ -18,7 +18,7 @@ or_kept : (b c d : Bool) → (c ≡ false → d ≡ false) → (b || c) ≡ fals
 or_kept true c d h e = e
 or_kept false c d h e = h e
 
--- what fails at a whole list fails at a front of it
+-- what fails on a whole list fails on a front of it
 list_any_take : {X : Type 0} (test : X → Bool) (n : ℕ) (xs : List X) → list_any test xs ≡ false → list_any test (take n xs) ≡ false
 list_any_take test zero xs e = refl
 list_any_take test (suc n) [] e = refl
@@ -75,13 +75,13 @@ fresh_push running before (Some key) call k fresh j l =
     ∙ ap (λ b. b || (same_key (own_key j) key || false)) (fresh j l)
     ∙ ap (λ b. b || false) (other_client j key k.0)
 
--- one more first ask, where the test of its key fails
+-- one more first ask, if the test of its key fails
 longer : {X : Type 0} (skips : Bool) (x : X) (xs : List X) (n running : ℕ) → skips ≡ false → n ≤ (running + 1) + length xs
     → n ≤ running + length (if skips then xs else x ∷ xs)
 longer true x xs n running e l = absurd (true_is_false e)
 longer false x xs n running e l = omega arith
 
--- as many first asks, whatever the test of the key says
+-- as many first asks, whatever the test of the key answers
 as_long : {X : Type 0} (skips : Bool) (x : X) (xs : List X) (n running : ℕ) → n ≤ running + length xs → n ≤ running + length (if skips then xs else x ∷ xs)
 as_long true x xs n running l = l
 as_long false x xs n running l = omega arith
@@ -114,14 +114,14 @@ fresh_after running before (asked ∷ asks) h fresh j l =
     ∙ fresh_after (running_after running asked.key) (before ++ (key_of_line running asked.key, asked.call) ∷ []) asks h.1
     (fresh_push running before asked.key asked.call h.0 fresh) j l
 
--- and none of the log has it
+-- and no entry of the log has it
 pub absent_from_log : (asks : List Asked) (running : ℕ) → HaveKeys asks → running ≡ running_from 1 asks → has_key (log_of asks) (own_key running) ≡ false
 unfolding first_asks
 absent_from_log asks running h e =
     list_any_take (λ ask. same_key (own_key running) ask.0) LOG_CALLS (firsts_after [] (keyed asks))
     (has_key-firsts_after [] (keyed asks) (own_key running) ∙ fresh_after 1 [] asks h (λ j k. refl) running (omega (arith, e)))
 
--- where the running number passes what a request can be, the log is full
+-- if the running number is beyond what a request can be, the log is full
 pub full_log : (asks : List Asked) (running : ℕ) → HaveKeys asks → running ≡ running_from 1 asks → 2 ^ 32 ≤ running → LOG_CALLS ≤ length (log_of asks)
 unfolding first_asks
 full_log asks running h e l =

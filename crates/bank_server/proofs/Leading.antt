@@ -97,7 +97,7 @@ appends_more (Some s) None new xs ys first second = absurd first
 appends_more (Some s) (Some o) None xs ys first second = absurd second
 appends_more (Some s) (Some o) (Some n) xs ys first second = second ∙ ap (λ (l : List ℕ). l ++ ys) first ∙ append_assoc s xs ys
 
--- what is spelled for the asks that wait is what is spelled of their outcomes
+-- what is spelled for the waiting asks is the spelling of their outcomes
 spelled_of : (opening : Rows) (log : List (Key × Call)) (asks : List (Key × Call))
     → flat_map (λ (w : Waiting). flat_map spelling (outcome_by (replies_to opening (calls_of log)) w.key w.standing)) (map (waiting_in log) asks)
     ≡ flat_map spelling (flat_map (outcome_of opening log) asks)

@@ -10,7 +10,7 @@ use Rattle.sb_replica_log.specs.Offers.{offered}
 use Rattle.sb_replica_log.specs.declared.offered.Offered.TheVariants.{Next, Repeat, Gap, Held, Busy}
 use Rattle.sb_replica_log.specs.declared.replica_log.TheConstants.{HELD_ENTRIES}
 
--- the number after the log's last one is taken, unless too much is unfinished
+-- the number after the log's last one is taken, unless the board is full
 pub next_offered : (board : BoardOf Op) (number : ℕ) → number ≡ length_of board + 1 → length_of board < LOG_CALLS
     → offered board number ≡ (if open_of board == OPEN_BEHAVIOURS then Busy (length_of board) else Next)
 next_offered board number is room =
@@ -23,7 +23,7 @@ next_offered board number is room =
     ∙ ap (λ b. if b then Gap size else if nat_lt (suc size) number then Held number else next) (le-ltb LOG_CALLS number (omega (arith, is, room)))
     ∙ ap (λ b. if b then Held number else next) (le-ltb (suc size) number (omega (arith, is)))
 
--- where nothing is unfinished it is taken
+-- if nothing is unfinished it is taken
 pub next_taken : (board : BoardOf Op) (number : ℕ) → number ≡ length_of board + 1
     → length_of board < LOG_CALLS → open_of board ≡ 0 → offered board number ≡ Next
 next_taken board number is room idle =

@@ -10,7 +10,7 @@ use Rattle.sb_rows.specs.Rows.{SameCustomers}
 use Rattle.cown_board.specs.Board.{BoardOf, IsAfterAll}
 use Rattle.bank_server.specs.Execution.{IsOpened}
 
--- the columns of a board to which nothing was submitted are its opening
+-- the columns of a board without entries are its opening
 pub opened_columns : (names : List (List ℕ)) (board : BoardOf Op) (columns : Balances) → IsOpened board → SameCustomers names board.opening
     → IsAfterAll declared_cowns effect_of board columns → IsBalances columns → columns ≡ board.opening
 opened_columns names board columns opened same after bank =

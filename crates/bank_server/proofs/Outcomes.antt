@@ -1,4 +1,4 @@
--- How asks ended, in a log that goes on.
+-- The outcomes of asks, in a log that goes on.
 use Rattle.std.proofs.Common.{◌≡◌, ℕ, zero, suc, ◌+◌, ◌-◌, ◌<◌, Bool, true, false, ◌||◌, if◌then◌else◌, Option, Some, None, List, [], ◌∷◌, ◌++◌, length, map, drop, refl, sym, ap, ◌∙◌, arith, inl, inr}
 use Rattle.std.specs.Prelude.{◌⊎◌, slice_get, nat_le}
 use Rattle.std.specs.List.{flat_map}
@@ -87,7 +87,7 @@ told_so opening log entry key (Number n) among =
 told_so opening log entry key (Mismatch n) among = refl
 told_so opening log entry key LogFull among = refl
 
--- with one entry more an ask that stands as before ended as before
+-- with one more entry, an ask with the same standing has the same outcome
 ended_so : (opening : Rows) (log : List (Key × Call)) (entry ask : Key × Call) → standing_of (log ++ entry ∷ []) ask ≡ standing_of log ask
     → outcome_of opening (log ++ entry ∷ []) ask ≡ outcome_of opening log ask
 ended_so opening log entry ask same =
@@ -102,7 +102,7 @@ grown log ask = by (has_key log ask.0 || nat_le LOG_CALLS (length log))
     by true = inl refl
     by false = inr refl
 
--- the same with one ask more
+-- the same with one more ask
 pub ended_as_before : (opening : Rows) (asks : List (Key × Call)) (more ask : Key × Call)
     → standing_of (first_asks (asks ++ more ∷ [])) ask ≡ standing_of (first_asks asks) ask
     → outcome_of opening (first_asks (asks ++ more ∷ [])) ask ≡ outcome_of opening (first_asks asks) ask

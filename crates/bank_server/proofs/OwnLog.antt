@@ -18,7 +18,7 @@ differ a b other = by (same_key b a) refl
     by true e = absurd (other (sym (same_key_same b a e)))
     by false e = e
 
--- a key that stood nowhere doesn't either once another was asked
+-- a key without a place has none after another one was asked
 still_new : (before : List (Key × Call)) (ask other : Key × Call) → has_key before other.0 ≡ false → ask.0 ≢ other.0
     → has_key (before ++ ask ∷ []) other.0 ≡ false
 still_new before ask other new differs =

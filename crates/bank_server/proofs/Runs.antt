@@ -1,4 +1,4 @@
--- What a node that carried out the log of a prepared input has to tell.
+-- What a node that executed the log of a prepared input answers.
 use Rattle.std.proofs.Common.{◌≡◌, ℕ, Ok, List, length, map, refl, sym, ap, subst, ◌∙◌}
 use Rattle.std.specs.List.{All}
 use Rattle.sb_rows.specs.Rows.{SameCustomers}
@@ -19,7 +19,7 @@ use Rattle.sb_calls.specs.Op.{resolved}
 
 module _ (text : List ℕ) (prepared : Prepared) (replica : ReplicaOf MemoryStore) (ready : IsPreparedOf text prepared)
     (run : RunsLog prepared.primary replica) where
-  -- each ask stands among its calls
+  -- the standing of each ask is among its calls
   pub among : All (StandsAmong (length replica.board.log)) prepared.standings.items
   among =
       let primary = prepared.primary in
@@ -35,7 +35,7 @@ module _ (text : List ℕ) (prepared : Prepared) (replica : ReplicaOf MemoryStor
       ∙ ap (λ (d : List (List ℕ)). Ok (output_after d primary.node.board.opening calls prepared.standings.items)) (sym run.names_are)
       ∙ ap (λ b. Ok (output_after replica.names b calls prepared.standings.items)) (sym run.opening_is)
 
--- an input is prepared once its asks stand in a log, and node 0 is as it was opened
+-- an input is prepared once its asks have standings in a log, and node 0 is as it was opened
 pub prepared_at : (text : List ℕ) (prepared : Prepared) (opening : Opening) (store : MemoryStore)
     → prepared.primary.node ≡ opened_node opening store → SameCustomers opening.directory opening.columns
     → All (StandsAmong (length prepared.primary.log)) prepared.standings.items
@@ -47,7 +47,7 @@ prepared_at text prepared opening store is same among output =
     let at = subst opened (sym is) (same, record { earlier = refl; log = refl; states = refl }, output) in
     record { customers = at.0; opened = at.1; among = among; output = at.2 }
 
--- a node that began with a bank's names and balances and carried out the ops of its log ran the log
+-- a node that began with a bank's names and balances and executed the ops of its log ran the log
 pub runs_log : {S : Type 0} (primary : PrimaryOf S) (lent new : ReplicaOf S) (ops : List Op) → lent ≡ primary.node
     → SameCustomers primary.node.names primary.node.board.opening → ops ≡ ops_of primary.node.names primary.log → IsCarriedOut ops new.board
     → new.board.opening ≡ lent.board.opening → beside_of new ≡ beside_of lent → RunsLog primary new

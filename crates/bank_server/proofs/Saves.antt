@@ -1,4 +1,4 @@
--- What a save comes to.
+-- The result of a save.
 use Rattle.std.proofs.Common.{◌≡◌, ℕ, Option, Some, None, List, Ok, refl, sym, ap, ◌∙◌, inr}
 use Rattle.std.specs.Prelude.{◌≢◌}
 use Rattle.sb_checkpoint.specs.Stores.{StoreStep, Got, NotGot}
@@ -37,7 +37,7 @@ module _ {S : Type 0} (does : S → StoreStep → S → Type 0) (old mid new : R
   pub read_back : (held : Option (List ℕ)) → does mid.store (Got held) new.store → held ≡ Some bytes → Saves does old new
   read_back held does_so same = then (λ bytes read. read ≡ Got (Some bytes)) (Got held) does_so (ap Got (same ∙ ap Some (sym puts.1)))
 
-  -- another was
+  -- something else was
   pub read_other : (held : Option (List ℕ)) → does mid.store (Got held) new.store → held ≢ Some bytes → IsSaveFaultOf does old ReadBack new
   read_other held does_so other =
       then ReadsOther (Got held) does_so (held, (λ same. other (same ∙ ap Some puts.1)), refl)

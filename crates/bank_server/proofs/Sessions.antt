@@ -34,7 +34,7 @@ appends_nothing : (start : Option (List ℕ)) → Appends start start []
 appends_nothing None = tt
 appends_nothing (Some xs) = sym (append-nil xs)
 
--- a log in which nothing more is asked stays
+-- a log after no more asks stays
 pub nothing_asked : (before : List (Key × Call)) → IsLog before → log_of_session before [] ≡ before
 nothing_asked before is = ap first_asks (append-nil before) ∙ own_log before is
 
@@ -59,7 +59,7 @@ further bytes chunk unread left frames more bytes_are read =
     ∙ ap (λ (l : List ℕ). flat_map spelling frames ++ l) read ∙ sym (append_assoc (flat_map spelling frames) (flat_map spelling more) left)
     ∙ ap (λ (l : List ℕ). l ++ left) (sym (flat_map-append spelling frames more))
 
--- one read more
+-- one more read
 pub heard_more : (opening : Rows) (before : List (Key × Call)) (start : Option (List ℕ)) (bytes chunk : List ℕ) (mid : Place) (unread : List ℕ)
     (new : Place) (left : List ℕ) → Heard opening before start bytes mid unread → Hears opening mid (unread ++ chunk) new left
     → Heard opening before start (bytes ++ chunk) new left
@@ -130,7 +130,7 @@ ended opening before start bytes behind input at unread new fault heard input_is
   told = told_before fault opening before start heard.frames at new heard.comes left;
 }
 
--- what says that the last frame isn't whole
+-- the fault that says that the last frame isn't whole
 pub end_at : (fault : SessionFault) (stream : StreamState) → IsShort stream → IsEndFault stream fault → IsAt fault (stream.unread ++ [])
 end_at (Frame fault) stream short is =
     subst (λ (rest : List ℕ). (decoded rest ≡ Err fault) × (rest ≢ [])) (sym (append-nil stream.unread))
@@ -152,7 +152,7 @@ end_left CrewGone stream at new is same = ap (λ (p : Place). p.log) same
 end_left Device stream at new is same = ap (λ (p : Place). p.log) same
 end_left OutOfMemory stream at new is same = ap (λ (p : Place). p.log) same
 
--- a log that isn't carried out at first
+-- a log that can't be executed at first
 pub settle_at : (fault : SessionFault) (rest : List ℕ) → IsSettleFault fault → IsAt fault rest
 settle_at (Frame fault) rest is = absurd is
 settle_at Unexpected rest is = absurd is
@@ -169,14 +169,14 @@ settle_left OutOfMemory at new is same = same
 
 -- ---- what a reader had
 
--- what follows of an input whose front was read
+-- what follows for an input whose front was read
 pub of_front : (P : List ℕ → Type 0) (old now : Option (List ℕ)) (bytes : List ℕ) → Consumes old now bytes
     → ((input behind : List ℕ) → input ≡ bytes ++ behind → P input) → IfSome old P
 of_front P None now bytes read f = tt
 of_front P (Some xs) None bytes read f = absurd read
 of_front P (Some xs) (Some ys) bytes read f = f xs ys read
 
--- and of one that was read whole
+-- and for one that was read whole
 pub of_whole : (P : List ℕ → Type 0) (old now : Option (List ℕ)) (bytes : List ℕ) → Consumes old now bytes → IsAtEnd now
     → ((input : List ℕ) → input ≡ bytes → P input) → IfSome old P
 of_whole P None now bytes read end f = tt

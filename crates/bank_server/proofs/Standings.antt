@@ -1,4 +1,4 @@
--- How asks stand in a log.
+-- The standings of asks in a log.
 use Rattle.std.proofs.Common.{◌≡◌, ℕ, ◌+◌, ◌<◌, ◌≤◌, Bool, true, false, ◌&&◌, ◌||◌, cond, if◌then◌else◌, nat_lt, Option, Some, None, is_some, List, [], ◌∷◌, ◌++◌, length, map, take, get_or, slice_get, refl, sym, ap, subst, ◌∙◌, arith, lt-ltb, append_assoc, inl, inr, Ok, Err}
 use Rattle.std.specs.Prelude.{◌≢◌, slice_index_or}
 use Rattle.std.specs.Ordering.{int_eq}
@@ -43,7 +43,7 @@ same_call_itself (SendPayment x u v) =
     and_from (bytes_eq x x && bytes_eq u u) (int_eq v v)
     (and_from (bytes_eq x x) (bytes_eq u u) ((bytes_decides x x).1 refl) ((bytes_decides u u).1 refl)) ((Decides-int_eq v v).1 refl)
 
--- calls that the test finds the same are one
+-- calls that the test calls the same are one
 pub same_call_same : (a b : Call) → same_call a b ≡ true → a ≡ b
 unfolding same_call
 same_call_same (Balance x) (Balance x') e = ap Balance ((bytes_decides x x').0 e)
@@ -86,7 +86,7 @@ place_kept log entry key k e =
     ap (λ n. cond (nat_lt n (length (log ++ entry ∷ []))) (Some n) None) first
     ∙ cond-true (nat_lt k (length (log ++ entry ∷ []))) (Some k) None (lt-ltb k (length (log ++ entry ∷ [])) (omega (arith, longer, at.0)))
 
--- a new key has the last
+-- a new key has the last place
 place_new : (log : List (Key × Call)) (entry : Key × Call) → place_of_key log entry.0 ≡ None → place_of_key (log ++ entry ∷ []) entry.0 ≡ Some (length log)
 place_new log entry e =
     let test = λ (ask : Key × Call). same_key entry.0 ask.0 in
@@ -151,7 +151,7 @@ all_known front (ask ∷ asks) = (
         → AllByRecursion (λ other. has_key known' other.0 ≡ true) asks
     moved e h = subst (λ known. AllByRecursion (λ other. has_key known other.0 ≡ true) asks) e h
 
--- a list that is cut where it has room is whole
+-- a list that is cut at a limit that it doesn't exceed is whole
 cut_with_room : (room : ℕ) (xs : List (Key × Call)) → length (take room xs) < room → take room xs ≡ xs
 cut_with_room room xs l = elim (cases_lt (length xs) room) [
   | inl short ↦ take_all room xs (omega arith)

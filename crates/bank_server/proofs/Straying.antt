@@ -17,13 +17,13 @@ followers_in_team nodes keeps CrewGone is = absurd is
 followers_in_team nodes keeps Device is = absurd is
 followers_in_team nodes keeps OutOfMemory is = tt
 
--- so is what a crew is at fault for, where no op was out
+-- so is a fault of a crew, if no op was out
 pub crew_in_team : (nodes : ℕ) (keeps : Bool) (board : BoardOf Op) (fault : CrewFault) → NoneOut board → IsCarryFault keeps board fault
     → IsTeamFault nodes keeps (of_crew_fault fault)
 crew_in_team nodes keeps board crew.CrewGone none is = λ e. is e none
 crew_in_team nodes keeps board crew.OutOfMemory none is = tt
 
--- and that is one of nodes, where a crew that may keep a job has workers
+-- and that is one of nodes, if a crew that may keep a job has workers
 pub team_fault : (nodes workers : ℕ) (keeps : Bool) (fault : RunFault) → (keeps ≡ true → 0 < workers) → IsTeamFault nodes keeps fault
     → IsNodesFault nodes workers fault
 team_fault nodes workers keeps (Input line fault) some is = absurd is

@@ -33,13 +33,13 @@ answers_are opening asks log standings h =
     ∙ map_map (standing_line (replies_to opening (calls_of log))) (standing_of log) (keyed asks)
     ∙ ap (λ l. map (λ ask. standing_line (replies_to opening (calls_of l)) (standing_of l ask)) (keyed asks)) h.log_is
 
--- each ask stands among the log's calls
+-- the standing of each ask is among the log's calls
 pub asked_stand : (read : Result (List Asked) (ℕ × CallFault)) (log : List (Key × Call)) (standings : List Standing) → IsAsking read log standings
     → All (StandsAmong (length log)) standings
 asked_stand (Ok asks) log standings h = subst (All (StandsAmong (length log))) (sym h.standings_are) (all_among log (keyed asks))
 asked_stand (Err fault) log standings h = absurd h
 
--- what an opening, the asks after it, and their answers make
+-- the result of an opening, the asks after it, and their answers
 pub output_is : (input : List ℕ) (opening : OpeningText) (log : List (Key × Call)) (standings : List Standing) → opening_of input ≡ Ok opening
     → IsAsking (asks_from (length opening.names + 2) [] (lines (drop opening.consumed input))) log standings
     → output_of input ≡ Ok (unlines (map (standing_line (replies_to (rows_of opening.names opening.balances) (calls_of log))) standings)

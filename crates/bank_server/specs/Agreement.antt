@@ -1,4 +1,4 @@
--- Two replicas that came to the same.
+-- Two replicas that agree.
 use Rattle.std.specs.Prelude.{◌≡◌, ℕ, ℤ, List}
 use Rattle.sb_calls.specs.Behaviour.{declared_cowns, effect_of}
 use Rattle.sb_calls.specs.Cowns.{held_of}
@@ -6,12 +6,12 @@ use Rattle.sb_calls.specs.OneByOne.{held_after}
 use Rattle.sb_calls.specs.declared.op.Op.{Op}
 use Rattle.cown_board.specs.Board.{BoardOf, length_of, open_of, reply_in}
 
--- what a board's cowns hold after all entries: its columns then
+-- what a board's cowns hold after all its entries; if it is idle, these are its columns
 abbrev pub held_by : BoardOf Op → List ℤ
 held_by board = held_after declared_cowns effect_of (held_of board.opening) board.log
 
--- nothing is unfinished on either board, and they have the same length, the same reply to each number and the same
--- columns
+-- nothing is unfinished on either board, and both have the same length, the same reply to each
+-- number and the same columns
 pub record Agrees (one other : BoardOf Op) : Type 0 where
   pub one_idle : open_of one ≡ 0
   pub other_idle : open_of other ≡ 0

@@ -1,4 +1,4 @@
--- What asking for each line comes to.
+-- The result of asking for each line.
 use Rattle.std.specs.Prelude.{◌≡◌, ℕ, Option, Some, None, Result, Ok, Err, List, ◌∷◌, [], ◌++◌, map}
 use Rattle.std.specs.List.{AllByRecursion}
 use Rattle.sb_calls.specs.Ask.{IsKey}
@@ -21,12 +21,12 @@ use Rattle.bank_server.specs.declared.asking.Standing.TheVariants.{Number, Misma
 use Rattle.bank_server.specs.declared.fault.RunFault.{RunFault}
 use Rattle.bank_server.specs.declared.fault.RunFault.TheVariants.{OutOfMemory}
 
--- what was asked is in the log, and so each ask stands in it
+-- the log is that of these asks, and each ask has its standing in it
 pub record HasAsked (asks : List Asked) (log : List (Key × Call)) (standings : List Standing) : Type 0 where
   pub log_is : log ≡ log_of asks
   pub standings_are : standings ≡ map (standing_of log) (keyed asks)
 
--- these lines were asked, none of them at fault
+-- these lines were asked for, and none of them is at fault
 abbrev pub IsAsking : Result (List Asked) (ℕ × CallFault) → List (Key × Call) → List Standing → Type 0
 IsAsking (Ok asks) log standings = HasAsked asks log standings
 IsAsking (Err fault) log standings = ⊥
@@ -37,7 +37,7 @@ pub record IsAfter (asks : List Asked) (running : ℕ) (log : List (Key × Call)
   pub running_is : running ≡ running_from 1 asks
   pub log_is : log ≡ log_of asks
 
--- the number that is answered, if one is, is of a log
+-- the number in the answer, if there is one, is one of a log
 abbrev pub IsOfLog : Result Numbered AskFault → Type 0
 IsOfLog (Ok (New n)) = IsLogNumber n
 IsOfLog (Ok (Repeat n)) = IsLogNumber n
@@ -45,7 +45,7 @@ IsOfLog (Err (faults.Mismatch n)) = IsLogNumber n
 IsOfLog (Err faults.LogFull) = Unit {0}
 IsOfLog (Err faults.OutOfMemory) = Unit {0}
 
--- how an ask stands in the log that was answered so, unless memory was refused
+-- the standing in the log of an ask with this answer, or `None` if memory was refused
 abbrev pub standing_of_answer : Result Numbered AskFault → Option Standing
 standing_of_answer (Ok (New n)) = Some (Number n)
 standing_of_answer (Ok (Repeat n)) = Some (Number n)
@@ -53,21 +53,21 @@ standing_of_answer (Err (faults.Mismatch n)) = Some (Mismatch n)
 standing_of_answer (Err faults.LogFull) = Some LogFull
 standing_of_answer (Err faults.OutOfMemory) = None
 
--- a log begins with another
+-- the new log begins with the old one
 abbrev pub GoesOn : List (Key × Call) → List (Key × Call) → Type 0
 GoesOn old new = (more : List (Key × Call)) × (new ≡ old ++ more)
 
--- one more ask was made, and so it stands in the log
+-- one more ask was made, and this is its standing in the log
 abbrev pub AsksOne : List (Key × Call) → Key × Call → List (Key × Call) → Standing → Type 0
 AsksOne asks ask new standing = (new ≡ first_asks (asks ++ ask ∷ [])) × (standing ≡ standing_of new ask)
 
--- one more line was asked, and so it stands in the log; or memory was refused
+-- one more line was asked for, and this is its standing in the log; or memory was refused
 abbrev pub AsksLine : List Asked → ℕ → Asked → List (Key × Call) → Result Standing RunFault → Type 0
 AsksLine asks running asked new (Ok standing) =
     AsksOne (keyed asks) (key_of_line running asked.key, asked.call) new standing
 AsksLine asks running asked new (Err fault) = fault ≡ OutOfMemory
 
--- what the sequencer answers an ask is how it stands in the log for good, whatever is asked after it
+-- the sequencer's answer to an ask is its standing in the log for good, whatever is asked after it
 abbrev pub AnsweredForGood : Type 0
 AnsweredForGood =
     (before after : List (Key × Call)) (ask : Key × Call) (answer : Result Numbered AskFault) (standing : Standing)

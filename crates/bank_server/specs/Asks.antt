@@ -1,10 +1,10 @@
--- The keys under which lines are asked.
+-- The keys of asking lines.
 use Rattle.std.specs.Prelude.{ℕ, ◌+◌, Option, Some, None, List, [], ◌∷◌}
 use Rattle.sb_calls.specs.declared.ask.Asked.{Asked}
 use Rattle.sb_calls.specs.declared.ask.Key.{Key}
 use Rattle.sb_calls.specs.declared.call.Call.{Call}
 
--- the key of a line; one without a key is asked by client 0, with its running number among such lines
+-- the key of a line; a line without one gets client 0, and its running number among such lines
 abbrev pub key_of_line : ℕ → Option Key → Key
 key_of_line running None = record { client = 0; request = running }
 key_of_line running (Some key) = key
@@ -14,17 +14,17 @@ abbrev pub running_after : ℕ → Option Key → ℕ
 running_after running None = running + 1
 running_after running (Some key) = running
 
--- the asks with their keys, where the next line without a key has this running number
+-- the asks with their keys, if the next line without a key has this running number
 abbrev pub keyed_from : ℕ → List Asked → List (Key × Call)
 keyed_from running [] = []
 keyed_from running (asked ∷ asks) =
     (key_of_line running asked.key, asked.call) ∷ keyed_from (running_after running asked.key) asks
 
--- the running number after all of these
+-- the running number after all of these asks
 abbrev pub running_from : ℕ → List Asked → ℕ
 running_from running [] = running
 running_from running (asked ∷ asks) = running_from (running_after running asked.key) asks
 
--- what is asked, in order
+-- the asks with their keys, in order
 abbrev pub keyed : List Asked → List (Key × Call)
 keyed asks = keyed_from 1 asks

@@ -1,4 +1,4 @@
--- What carrying out the log over a board keeps.
+-- What executing the log on a board keeps.
 use Rattle.std.specs.Prelude.{◌≡◌, ℕ, suc, ◌<◌, List, [], ◌++◌, length, slice_get}
 use Rattle.sb_calls.specs.Behaviour.{declared_cowns, effect_of}
 use Rattle.std.specs.List.{All}
@@ -14,17 +14,17 @@ use Rattle.sb_calls.specs.declared.reply.Reply.{Reply}
 use Rattle.cown_board.specs.Board.{BoardOf, open_of, IsAfterAll}
 use Rattle.cown_workers.specs.Draining.{NoneOut}
 
--- each op is at places of this many customers
+-- the places of each op are among this many customers
 abbrev pub AreWithin : ℕ → List Op → Type 0
 AreWithin customers ops = All (IsOpWithin customers) ops
 
--- nothing was submitted, and there are no numbers before
+-- the board has no entries, and none came before it
 pub record IsOpened (board : BoardOf Op) : Type 0 where
   pub earlier : board.earlier ≡ []
   pub log : board.log ≡ []
   pub states : board.states ≡ []
 
--- these ops are last in the log, the cut stays, and where no op was out none is
+-- these ops are appended to the log, the cut stays, and if no op was out none is
 pub record ArePut (ops : List Op) (old new : BoardOf Op) : Type 0 where
   pub opening : new.opening ≡ old.opening
   pub earlier : new.earlier ≡ old.earlier
@@ -38,7 +38,8 @@ pub record IsCarriedOut (ops : List Op) (board : BoardOf Op) : Type 0 where
   pub earlier : board.earlier ≡ []
   pub log : board.log ≡ ops
 
--- an idle board with no numbers before, and a reply to each op of its log: that of the log run one by one
+-- an idle board that nothing came before, and the reply to each op of its log: that of the log run
+-- one by one
 pub record Tells (board : BoardOf Op) (replies : List Reply) : Type 0 where
   pub idle : open_of board ≡ 0
   pub earlier : board.earlier ≡ []
@@ -46,8 +47,8 @@ pub record Tells (board : BoardOf Op) (replies : List Reply) : Type 0 where
   pub each : (k : ℕ) → k < length board.log
       → slice_get replies k ≡ reply_by_log declared_cowns effect_of (held_of board.opening) board.log (suc k)
 
--- the replies on the board are those of the calls one by one, and columns that hold what its log leaves are the rows
--- after them
+-- the replies on the board are those of the calls run one by one, and columns that hold what its
+-- log leaves are the rows after these calls
 pub record IsOneByOne (directory : List (List ℕ)) (calls : List Call) (before : Balances) (board : BoardOf Op)
     : Type 0 where
   pub replies : Tells board (replies_to (rows_of directory before) calls)

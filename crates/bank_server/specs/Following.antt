@@ -1,4 +1,4 @@
--- What a follower does with a message: it hears frames, and carries out what is unfinished, in turn.
+-- What a follower does with a message: by turns, it hears frames, and executes what is unfinished.
 use Rattle.std.specs.Prelude.{◌≡◌, ℕ, Ok, List, [], ◌∷◌}
 use Rattle.std.specs.List.{AllByRecursion}
 use Rattle.cown_workers.specs.Draining.{CrewStep, IsDrained, KeepsNoJob}
@@ -12,7 +12,8 @@ pub record FollowerOf (S : Type 0) : Type 0 where
   pub replica : ReplicaOf S
   pub stream : StreamState
 
--- all that was unfinished was taken and finished in place, one behaviour after another, and all else stays
+-- everything that was unfinished was taken and finished in place, one behaviour after another; all
+-- else stays
 pub record RunsAll {S : Type 0} (old : ReplicaOf S) (new : ReplicaOf S) : Type 0 where
   pub steps : List CrewStep
   pub in_place : AllByRecursion KeepsNoJob steps
@@ -20,8 +21,8 @@ pub record RunsAll {S : Type 0} (old : ReplicaOf S) (new : ReplicaOf S) : Type 0
   pub beside : beside_of new ≡ beside_of old
   pub held : new.held ≡ old.held
 
--- a turn: frames of the stream are heard up to a pause, each as the bytes that spell it, or all that is unfinished is
--- carried out
+-- a turn: frames of the stream are heard up to a pause, each as the bytes that spell it, or
+-- everything unfinished is executed
 pub data Turn : Type 0 where
   Hears : (pause : Pause) → Turn
   Runs : Turn
@@ -30,18 +31,18 @@ abbrev pub TakesTurn : {S : Type 0} → FollowerOf S → Turn → FollowerOf S �
 TakesTurn old (Hears pause) new = HearsUntil old.replica old.stream pause new.replica new.stream
 TakesTurn old Runs new = RunsAll old.replica new.replica × (new.stream ≡ old.stream)
 
--- these turns one after another
+-- these turns, one after another
 abbrev pub TakesTurns : {S : Type 0} → FollowerOf S → List Turn → FollowerOf S → Type 0
 TakesTurns old [] new = new ≡ old
 TakesTurns {S} old (turn ∷ turns) new = (mid : FollowerOf S) × TakesTurn old turn mid × TakesTurns mid turns new
 
--- turns were taken, until less than a whole frame was unread
+-- turns were taken, until the unread bytes were less than a whole frame
 pub record HearsRest {S : Type 0} (old new : FollowerOf S) : Type 0 where
   pub turns : List Turn
   pub taken : TakesTurns old turns new
   pub short : IsShort new.stream
 
--- a message's bytes came behind those that were unread, and all whole frames were heard
+-- a message's bytes were appended to the unread ones, and all whole frames were heard
 pub record HearsMessage {S : Type 0} (old : FollowerOf S) (bytes : List ℕ) (new : FollowerOf S) : Type 0 where
   pub fed : StreamState
   pub feeds : Feeds old.stream bytes (Ok tt) fed

@@ -1,4 +1,4 @@
--- What is written for an input.
+-- The output for an input.
 use Rattle.std.specs.Prelude.{ℕ, Result, Ok, List, ◌++◌, map}
 use Rattle.sb_rows.specs.Opening.{◌>>=◌}
 use Rattle.sb_rows.specs.Rows.{Rows, rows_of}
@@ -22,18 +22,18 @@ log_of asks = first_asks (keyed asks)
 abbrev pub calls_of : List (Key × Call) → List Call
 calls_of log = map (λ entry. entry.1) log
 
--- a line an asking line, by its number in the log and the replies to the log
+-- one line for each asking line, by its standing in the log and the replies to the log
 unfoldable pub answer_lines : Rows → List Asked → List (List ℕ)
 answer_lines opening asks =
     map (λ ask. standing_line (replies_to opening (calls_of (log_of asks))) (standing_of (log_of asks) ask))
     (keyed asks)
 
--- the answers, then the rows after the whole log and their total
+-- the answers, and then the rows after the whole log with their total
 abbrev pub output_lines : InputText → List (List ℕ)
 output_lines input =
     let opening = rows_of input.opening.names input.opening.balances in
     answer_lines opening input.asks ++ row_lines input.opening.names (rows_after (calls_of (log_of input.asks)) opening)
 
--- what is written for an input, or its first line at fault with its fault
+-- the output for an input, or the input's first line at fault with its fault
 abbrev pub output_of : List ℕ → Result (List ℕ) (ℕ × InputFault)
 output_of text = input_of text >>= λ input. Ok (unlines (output_lines input))

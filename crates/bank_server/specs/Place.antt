@@ -1,4 +1,4 @@
--- Where a session is, and how it came there.
+-- The state of a session, and the frames that led there.
 use Rattle.std.specs.Prelude.{◌≡◌, ℕ, if◌then◌else◌, Option, List, [], ◌∷◌, ◌++◌, map}
 use Rattle.std.specs.Io.KnownBytes.{Appends}
 use Rattle.std.specs.List.{All, flat_map, list_any}
@@ -21,7 +21,7 @@ pub record Place : Type 0 where
   pub waiting : List Waiting
   pub written : Option (List ℕ)
 
--- where a session is that heard so much
+-- the place of a session with this log, these waiting asks, and this output
 abbrev pub place_of : List (Key × Call) → Hearing → Option (List ℕ) → Place
 place_of log hearing written = record { log = log; waiting = hearing.waiting.items; written = written }
 
@@ -30,15 +30,15 @@ abbrev pub untold_in : List frames.Frame → List (Key × Call)
 untold_in [] = []
 untold_in (frame ∷ frames) = if list_any is_flush frames then untold_in frames else asks_in (frame ∷ frames)
 
--- how an ask waits that stands so in a log
+-- a waiting ask, with its standing in a log
 abbrev pub waiting_in : List (Key × Call) → Key × Call → Waiting
 waiting_in log ask = record { key = ask.0; standing = standing_of log ask }
 
--- what waits stands in a log of so many calls
+-- the standings of the waiting asks are in a log of this many calls
 abbrev pub AreAmong : ℕ → List Waiting → Type 0
 AreAmong calls waiting = All (λ ask. StandsAmong calls ask.standing) waiting
 
--- a session came there by these frames, from this log, where the writer had this
+-- these frames led a session there, from this log, and from this content of the writer
 pub record Comes (opening : Rows) (before : List (Key × Call)) (start : Option (List ℕ)) (frames : List frames.Frame)
     (at : Place) : Type 0 where
   pub clients : All IsClients frames
@@ -46,18 +46,20 @@ pub record Comes (opening : Rows) (before : List (Key × Call)) (start : Option 
   pub waiting_are : at.waiting ≡ map (waiting_in at.log) (untold_in frames)
   pub written : Appends start at.written (flat_map spelling (outcomes_of opening at.log frames))
 
--- wherever a session came from to the one place, by these frames more it comes to the other
+-- whatever frames led a session to the old place, these frames more lead it to the new one
 abbrev pub Leads : Rows → Place → List frames.Frame → Place → Type 0
 Leads opening old more new = (before : List (Key × Call)) (start : Option (List ℕ)) (frames : List frames.Frame)
     → Comes opening before start frames old → Comes opening before start (frames ++ more) new
 
--- these unread bytes are the spellings of frames that led there, and of what is unread then
+-- these unread bytes spell frames that led to the new place, and then the bytes that are unread
+-- there
 pub record Hears (opening : Rows) (old : Place) (unread : List ℕ) (new : Place) (left : List ℕ) : Type 0 where
   pub more : List frames.Frame
   pub read : unread ≡ flat_map spelling more ++ left
   pub leads : Leads opening old more new
 
--- after a fault of what was sent a session is where the frames before it led; after another one its log is
+-- after a fault of what the client sent, the session is where the frames before it led; after any
+-- other fault only its log is
 abbrev pub IsLeftAt : SessionFault → Place → Place → Type 0
 IsLeftAt (Frame fault) there now = now ≡ there
 IsLeftAt Unexpected there now = now ≡ there
@@ -65,8 +67,8 @@ IsLeftAt CrewGone there now = now.log ≡ there.log
 IsLeftAt Device there now = now.log ≡ there.log
 IsLeftAt OutOfMemory there now = now.log ≡ there.log
 
--- some of the unread bytes are spellings of frames that led somewhere, and there the fault came, however the bytes
--- go on
+-- some of the unread bytes spell frames that led somewhere, and the fault came there, whatever
+-- bytes follow
 pub record Stops (opening : Rows) (old : Place) (unread : List ℕ) (fault : SessionFault) (new : Place) : Type 0 where
   pub there : Place
   pub rest : List ℕ
@@ -74,7 +76,7 @@ pub record Stops (opening : Rows) (old : Place) (unread : List ℕ) (fault : Ses
   pub at : (behind : List ℕ) → IsAt fault (rest ++ behind)
   pub left : IsLeftAt fault there new
 
--- a frame that isn't a client's changes nothing, and with another fault the log stays
+-- a frame that no client sends changes nothing, and after any other fault the log stays
 abbrev pub IsRefused : frames.Frame → SessionFault → Place → Place → Type 0
 IsRefused frame (Frame fault) old new = ⊥
 IsRefused frame Unexpected old new = (¬ IsClients frame) × (new ≡ old)

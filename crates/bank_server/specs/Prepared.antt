@@ -1,4 +1,4 @@
--- What is ready to be carried out.
+-- An input that is ready to be executed.
 use Rattle.std.specs.Prelude.{◌≡◌, ℕ, Ok, List, ◌++◌, length, map}
 use Rattle.std.specs.List.{All}
 use Rattle.sb_rows.specs.Balances.{Balances}
@@ -13,13 +13,14 @@ use Rattle.bank_server.specs.Standing.{StandsAmong, standing_line}
 use Rattle.bank_server.specs.declared.asking.Standing.{Standing}
 use Rattle.bank_server.specs.declared.preparing.Prepared.{Prepared}
 
--- the lines for asks that stand so in a log of these calls, then the rows after it and their total
+-- the lines for asks with these standings in a log of these calls, and then the rows after it with
+-- their total
 abbrev pub output_after : List (List ℕ) → Balances → List Call → List Standing → List ℕ
 output_after names opening calls standings =
     unlines (map (standing_line (replies_to (rows_of names opening) calls)) standings)
     ++ unlines (row_lines names (rows_after calls (rows_of names opening)))
 
--- the opening, the log and how each ask stands in it are those of this input, and nothing is carried out
+-- the opening, the log and the standings in it are those of this input, and nothing is executed yet
 pub record IsPreparedOf (text : List ℕ) (prepared : Prepared) : Type 0 where
   pub customers : SameCustomers prepared.primary.node.names prepared.primary.node.board.opening
   pub opened : IsOpened prepared.primary.node.board

@@ -1,4 +1,4 @@
--- The log and node 0, which carries it out.
+-- The log, and node 0, which executes it.
 use Rattle.std.specs.Prelude.{◌≡◌, ℕ, None, List, [], ◌++◌, map}
 use Rattle.sb_rows.specs.Rows.{Rows, SameCustomers, rows_of}
 use Rattle.sb_calls.specs.Op.{resolved}
@@ -18,7 +18,7 @@ use Rattle.bank_server.specs.Output.{calls_of}
 abbrev pub ops_of : List (List ℕ) → List (Key × Call) → List Op
 ops_of names log = map (resolved names) (calls_of log)
 
--- a board has a beginning of these ops, no numbers before, and no cut
+-- the board has a beginning of these ops, nothing came before it, and it has no cut
 pub record IsBehind (ops : List Op) (board : BoardOf Op) : Type 0 where
   pub earlier : board.earlier ≡ []
   pub uncut : board.cut ≡ None
@@ -28,7 +28,7 @@ pub record PrimaryOf (S : Type 0) : Type 0 where
   pub log : List (Key × Call)
   pub node : ReplicaOf S
 
--- node 0 at an opening, which has nothing of the log
+-- node 0 at an opening, with nothing of the log
 abbrev pub opened_node : {S : Type 0} → Opening → S → ReplicaOf S
 opened_node opening store = record {
   id = 0;
@@ -39,26 +39,27 @@ opened_node opening store = record {
   store = store;
 }
 
--- the rows that the log is carried out over
+-- the rows on which the log is executed
 abbrev pub opening_of : {S : Type 0} → PrimaryOf S → Rows
 opening_of primary = rows_of primary.node.names primary.node.board.opening
 
--- what is always so of the two
+-- what always holds of the log and node 0
 pub record IsPrimary {S : Type 0} (primary : PrimaryOf S) : Type 0 where
   pub log : IsLog primary.log
   pub customers : SameCustomers primary.node.names primary.node.board.opening
   pub behind : IsBehind (ops_of primary.node.names primary.log) primary.node.board
 
--- node 0 has carried out the whole log
+-- node 0 has executed the whole log
 abbrev pub HasAll : {S : Type 0} → PrimaryOf S → Type 0
 HasAll primary = IsCarriedOut (ops_of primary.node.names primary.log) primary.node.board
 
--- node 0 stays who it is, with its names and store, over the same opening
+-- node 0 keeps its identity, its names and its store, over the same opening
 pub record KeepsBank {S : Type 0} (old new : PrimaryOf S) : Type 0 where
   pub beside : beside_of new.node ≡ beside_of old.node
   pub opening : new.node.board.opening ≡ old.node.board.opening
 
--- a node that began where node 0 of this bank did, and carried out its log, which is as if its calls had run one by one
+-- a node with the names and the opening of node 0 executed this bank's log, as if its calls were
+-- run one by one
 pub record RunsLog {S : Type 0} (primary : PrimaryOf S) (node : ReplicaOf S) : Type 0 where
   pub names_are : node.names ≡ primary.node.names
   pub opening_is : node.board.opening ≡ primary.node.board.opening

@@ -14,20 +14,20 @@ use Rattle.sb_replica.specs.declared.fault.MarkFault.TheVariants as mark
 use Rattle.bank_server.specs.declared.save_fault.SaveFault.{SaveFault}
 use Rattle.bank_server.specs.declared.save_fault.SaveFault.TheVariants.{Device, ReadBack, OutOfMemory, Busy}
 
--- the number of a fault
+-- a fault's number
 abbrev pub save_fault_number : SaveFault → ℕ
 save_fault_number Device = 1
 save_fault_number ReadBack = 2
 save_fault_number OutOfMemory = 3
 save_fault_number Busy = 4
 
--- how a save ends whose checkpoint isn't put
+-- a save's fault if its checkpoint can't be put
 abbrev pub save_of_mark_fault : MarkFault → SaveFault
 save_of_mark_fault mark.Busy = Busy
 save_of_mark_fault mark.Device = Device
 save_of_mark_fault mark.OutOfMemory = OutOfMemory
 
--- how a save ends whose checkpoint isn't read back
+-- a save's fault if its checkpoint can't be read back
 abbrev pub save_of_store_fault : StoreFault → SaveFault
 save_of_store_fault store.Device = Device
 save_of_store_fault store.OutOfMemory = OutOfMemory
@@ -37,7 +37,7 @@ abbrev pub ReadsOther : List ℕ → StoreStep → Type 0
 ReadsOther bytes read = (held : Option (List ℕ)) × (held ≢ Some bytes) × (read ≡ Got held)
 
 module _ {S : Type 0} (does : S → StoreStep → S → Type 0) where
-  -- a checkpoint of all was put, and then the store did this when it was read back
+  -- a checkpoint of all entries was put, and then reading it back was this step of the store
   pub record PutsThen (old : ReplicaOf S) (step : List ℕ → StoreStep → Type 0) (new : ReplicaOf S) : Type 0 where
     pub mid : ReplicaOf S
     pub puts : Puts does old (Ok tt) mid
@@ -50,7 +50,7 @@ module _ {S : Type 0} (does : S → StoreStep → S → Type 0) where
   abbrev pub Saves : ReplicaOf S → ReplicaOf S → Type 0
   Saves old new = PutsThen old (λ bytes read. read ≡ Got (Some bytes)) new
 
-  -- the checkpoint wasn't put, or it wasn't read back, or what was read back is another
+  -- the checkpoint couldn't be put, or couldn't be read back, or something else was read back
   abbrev pub IsSaveFaultOf : ReplicaOf S → SaveFault → ReplicaOf S → Type 0
   IsSaveFaultOf old Device new = IsMarkFaultOf does old mark.Device new
       ⊎ PutsThen old (λ bytes read. read ≡ NotGot store.Device) new
@@ -59,8 +59,8 @@ module _ {S : Type 0} (does : S → StoreStep → S → Type 0) where
       ⊎ PutsThen old (λ bytes read. read ≡ NotGot store.OutOfMemory) new
   IsSaveFaultOf old Busy new = IsMarkFaultOf does old mark.Busy new
 
--- the replica was idle, and its store holds the spelling of the balances after its whole log, of the opening total and of
--- all its replies, in the second layout
+-- the replica was idle, and its store holds the spelling of the balances after its whole log, of
+-- the opening total and of all its replies, in the second layout
 pub record HoldsCheckpoint {S : Type 0} (slot : S → Option (List ℕ)) (old new : ReplicaOf S) : Type 0 where
   pub idle : open_of old.board ≡ 0
   pub columns : Balances

@@ -1,4 +1,4 @@
--- What a session leaves: the log, and what was written.
+-- What a session leaves: the log, and its output.
 use Rattle.std.specs.Prelude.{◌≡◌, ◌≢◌, ℕ, Option, Err, List, [], ◌++◌}
 use Rattle.std.specs.Io.KnownBytes.{Appends}
 use Rattle.std.specs.List.{All, flat_map}
@@ -12,13 +12,13 @@ use Rattle.bank_server.specs.Session.{IsClients, log_of_session, outcomes_of}
 use Rattle.bank_server.specs.declared.session_fault.SessionFault.{SessionFault}
 use Rattle.bank_server.specs.declared.session_fault.SessionFault.TheVariants.{Frame, Unexpected, CrewGone, Device, OutOfMemory}
 
--- the log is that of a session of these frames, and what was written is the spelling of their outcomes
+-- the log is that of a session of these frames, and the output is the spelling of their outcomes
 pub record IsTold (opening : Rows) (before : List (Key × Call)) (frames : List frames.Frame)
     (log : List (Key × Call)) (old new : Option (List ℕ)) : Type 0 where
   pub log_is : log ≡ log_of_session before frames
   pub written : Appends old new (flat_map spelling (outcomes_of opening log frames))
 
--- the input was whole frames, each an ask or a flush, and all is told of them
+-- the input was whole frames, each an ask or a flush, and the log and the output are theirs
 pub record IsServed (opening : Rows) (before log : List (Key × Call)) (old new : Option (List ℕ)) (input : List ℕ)
     : Type 0 where
   pub frames : List frames.Frame
@@ -26,18 +26,19 @@ pub record IsServed (opening : Rows) (before log : List (Key × Call)) (old new 
   pub input_is : input ≡ flat_map spelling frames
   pub told : IsTold opening before frames log old new
 
--- what a fault says of the bytes behind the frames that were taken
+-- what a fault says of the bytes after the frames that were taken
 abbrev pub IsAt : SessionFault → List ℕ → Type 0
--- they begin with no frame; short of one they are only at the end, and not nothing
+-- no frame begins these bytes; if they are too short for one, they are the last, and there are some
 IsAt (Frame fault) rest = (decoded rest ≡ Err fault) × (rest ≢ [])
--- they begin with a frame that isn't a client's
+-- they begin with a frame that no client sends
 IsAt Unexpected rest = (frame : frames.Frame) × (behind : List ℕ)
     × IsFrame frame × (¬ IsClients frame) × (rest ≡ spelling frame ++ behind)
 IsAt CrewGone rest = Unit {0}
 IsAt Device rest = Unit {0}
 IsAt OutOfMemory rest = Unit {0}
 
--- after a fault of what was sent all before it is told; after another one the log is told alone
+-- after a fault of what the client sent, the log and the output are those of the frames before it;
+-- after any other fault only the log is
 abbrev pub IsToldBefore : SessionFault → Rows → List (Key × Call) → List frames.Frame
     → List (Key × Call) → Option (List ℕ) → Option (List ℕ) → Type 0
 IsToldBefore (Frame fault) opening before frames log old new = IsTold opening before frames log old new
@@ -46,7 +47,7 @@ IsToldBefore CrewGone opening before frames log old new = log ≡ log_of_session
 IsToldBefore Device opening before frames log old new = log ≡ log_of_session before frames
 IsToldBefore OutOfMemory opening before frames log old new = log ≡ log_of_session before frames
 
--- the input began with these frames, each an ask or a flush, and the fault came behind them
+-- the input began with these frames, each an ask or a flush, and the fault came after them
 pub record IsCutShort (opening : Rows) (before log : List (Key × Call)) (old new : Option (List ℕ)) (input : List ℕ)
     (fault : SessionFault) : Type 0 where
   pub frames : List frames.Frame

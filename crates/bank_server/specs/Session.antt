@@ -1,4 +1,4 @@
--- What a client's session comes to.
+-- What a client's session does.
 use Rattle.std.specs.Prelude.{◌-◌, Bool, true, false, if◌then◌else◌, Option, Some, None, List, [], ◌∷◌, ◌++◌, slice_get}
 use Rattle.std.specs.List.{flat_map, list_any}
 use Rattle.sb_rows.specs.Rows.{Rows}
@@ -34,7 +34,7 @@ is_flush (Outcome client request outcome) = false
 is_flush Flush = true
 is_flush (Have replica size) = false
 
--- what a frame asks, if it is an ask
+-- the ask in a frame, if it is one
 abbrev pub ask_in : Frame → List (Key × Call)
 ask_in (Ask client request call) = (record { client = client; request = request }, call) ∷ []
 ask_in (Entry number call) = []
@@ -44,11 +44,11 @@ ask_in (Outcome client request outcome) = []
 ask_in Flush = []
 ask_in (Have replica size) = []
 
--- what is asked, in order
+-- the asks in these frames, in order
 abbrev pub asks_in : List Frame → List (Key × Call)
 asks_in frames = flat_map ask_in frames
 
--- the asks that a flush follows: the client is told how these ended
+-- the asks that a flush follows: the client gets their outcomes
 abbrev pub told_in : List Frame → List (Key × Call)
 told_in [] = []
 told_in (frame ∷ frames) = if list_any is_flush frames then ask_in frame ++ told_in frames else []
@@ -57,21 +57,21 @@ told_in (frame ∷ frames) = if list_any is_flush frames then ask_in frame ++ to
 abbrev pub log_of_session : List (Key × Call) → List Frame → List (Key × Call)
 log_of_session before frames = first_asks (before ++ asks_in frames)
 
--- that a call was run, with this reply
+-- the outcome of a call that was run, with this reply
 abbrev pub replied : Key → Option Reply → List Frame
 replied key None = []
 replied key (Some reply) = Outcome key.client key.request (ended.Replied reply) ∷ []
 
--- how an ask ended that stands so in a log with these replies
+-- the outcome of an ask, by its standing in a log with these replies
 abbrev pub outcome_by : List Reply → Key → Standing → List Frame
 outcome_by replies key (Number n) = replied key (slice_get replies (n - 1))
 outcome_by replies key (Mismatch n) = Outcome key.client key.request ended.Mismatch ∷ []
 outcome_by replies key LogFull = Outcome key.client key.request ended.LogFull ∷ []
 
--- how an ask ended in a log over these rows
+-- the outcome of an ask in a log over these rows
 abbrev pub outcome_of : Rows → List (Key × Call) → Key × Call → List Frame
 outcome_of opening log ask = outcome_by (replies_to opening (calls_of log)) ask.0 (standing_of log ask)
 
--- what a client is told in a session: of each ask that a flush follows, in order, how it ended
+-- what a client gets in a session: the outcome of each ask that a flush follows, in order
 abbrev pub outcomes_of : Rows → List (Key × Call) → List Frame → List Frame
 outcomes_of opening log frames = flat_map (outcome_of opening log) (told_in frames)

@@ -1,4 +1,4 @@
--- What a fault of a session says.
+-- What a fault of a session means.
 use Rattle.std.specs.Prelude.{◌≡◌, ◌≢◌, ◌⊎◌, ℕ, Bool, true, false, []}
 use Rattle.cown_board.specs.Board.{BoardOf}
 use Rattle.cown_workers.specs.Draining.{NoneOut}
@@ -10,7 +10,7 @@ use Rattle.sb_frames.specs.declared.fault.FrameFault.TheVariants.{Short}
 use Rattle.bank_server.specs.declared.session_fault.SessionFault.{SessionFault}
 use Rattle.bank_server.specs.declared.session_fault.SessionFault.TheVariants.{Frame, Unexpected, CrewGone, Device, OutOfMemory}
 
--- the number of a fault
+-- a fault's number
 abbrev pub session_fault_number : SessionFault → ℕ
 session_fault_number (Frame fault) = 1
 session_fault_number Unexpected = 2
@@ -18,7 +18,7 @@ session_fault_number CrewGone = 3
 session_fault_number Device = 4
 session_fault_number OutOfMemory = 5
 
--- how a session ends whose log isn't carried out
+-- a session's fault if its log can't be executed
 abbrev pub session_of_crew_fault : CrewFault → SessionFault
 session_of_crew_fault crew.CrewGone = CrewGone
 session_of_crew_fault crew.OutOfMemory = OutOfMemory
@@ -34,12 +34,12 @@ abbrev pub IsTellFault : SessionFault → Type 0
 IsTellFault Device = Unit {0}
 IsTellFault other = IsSettleFault other
 
--- the last frame isn't whole, or what was sent isn't carried out
+-- the last frame isn't whole, or the log can't be executed
 abbrev pub IsEndFault : StreamState → SessionFault → Type 0
 IsEndFault stream (Frame fault) = (fault ≡ Short) × ((stream.unread ≢ []) ⊎ (stream.failed ≡ true))
 IsEndFault stream other = IsSettleFault other
 
--- a crew that keeps no job is never gone where none was out
+-- a crew that keeps no job is never gone if no op was out
 abbrev pub LosesCrew : Bool → BoardOf Op → SessionFault → Type 0
 LosesCrew keeps board CrewGone = keeps ≡ false → ¬ NoneOut board
 LosesCrew keeps board other = Unit {0}

@@ -1,4 +1,4 @@
--- How an ask stands in a log.
+-- The standing of an ask in a log.
 use Rattle.std.specs.Prelude.{ℕ, ◌≤◌, ◌+◌, ◌-◌, Bool, false, ◌&&◌, if◌then◌else◌, Option, Some, None, List, [], ◌∷◌, ◌++◌, slice_get, decimal, codes}
 use Rattle.std.specs.Ordering.{int_eq}
 use Rattle.std.specs.Str.{bytes_eq}
@@ -21,32 +21,34 @@ same_call (WriteCheck a v) (WriteCheck b w) = bytes_eq a b && int_eq v w
 same_call (SendPayment a c v) (SendPayment b d w) = bytes_eq a b && bytes_eq c d && int_eq v w
 same_call a b = false
 
--- what a call comes to whose key has number n with this entry
+-- the standing of a call whose key has number n, with this entry
 abbrev pub numbered_standing : ℕ → Call → Option (Key × Call) → Standing
 numbered_standing n call None = LogFull
 numbered_standing n call (Some entry) = if same_call entry.1 call then Number n else Mismatch n
 
--- what an ask comes to whose key has this place in the log, if it has one
+-- the standing of an ask whose key has this place in the log, or none
 abbrev pub standing_at : List (Key × Call) → Call → Option ℕ → Standing
 standing_at log call None = LogFull
 standing_at log call (Some k) = numbered_standing (k + 1) call (slice_get log k)
 
--- the number of its key, where the call is the same; else a mismatch; and where its key has no number the log is full
+-- the number of its key if the call is the same, and otherwise a mismatch; if its key has no
+-- number, the log is full
 abbrev pub standing_of : List (Key × Call) → Key × Call → Standing
 standing_of log ask = standing_at log ask.1 (place_of_key log ask.0)
 
--- N REPLY of a number that has this reply
+-- N REPLY, for a number with this reply
 abbrev pub reply_line : ℕ → Option Reply → List ℕ
 reply_line n None = []
 reply_line n (Some reply) = decimal n ++ (32 ∷ reply_text reply)
 
--- its line, where these are the replies to the log: N REPLY, `mismatch N` or `log full`
+-- the line of an ask with this standing, by the replies to the log: N REPLY, `mismatch N` or `log
+-- full`
 abbrev pub standing_line : List Reply → Standing → List ℕ
 standing_line replies (Number n) = reply_line n (slice_get replies (n - 1))
 standing_line replies (Mismatch n) = codes "mismatch " ++ decimal n
 standing_line replies LogFull = codes "log full"
 
--- its number, where it has one, is one of this many
+-- the number in the standing, if there is one, is at most this
 abbrev pub StandsAmong : ℕ → Standing → Type 0
 StandsAmong calls (Number n) = n ≤ calls
 StandsAmong calls (Mismatch n) = n ≤ calls

@@ -11,8 +11,8 @@ use sb_replica::Replica;
 use sb_rows::Columns;
 use std::alloc::AllocError;
 
-/// Whether two replicas came to the same: nothing is unfinished on either, and they have the same length, replies and
-/// columns. It takes no memory.
+/// Whether two replicas agree: nothing is unfinished on either, and they have the same length,
+/// replies and columns. It takes no memory.
 pub fn agree<S: CheckpointStore, T: CheckpointStore>(
     first: &Replica<S>,
     second: &Replica<T>,
@@ -49,7 +49,7 @@ fn is_same_column(left: &[i64], right: &[i64]) -> bool
     first_difference(left, right).is_none()
 }
 
-// Whether two idle replicas have as many numbers, and the same reply to each.
+// Whether two idle replicas have equally many numbers, and the same reply to each.
 fn is_same_told<S: CheckpointStore, T: CheckpointStore>(
     first: &Replica<S>,
     second: &Replica<T>,

@@ -20,7 +20,8 @@ use sb_replica::Replica;
 use sb_text::list_rows;
 use std::alloc::AllocError;
 
-/// Writes a line for each ask, as it stands in the log that a replica carried out, then the rows and their total.
+/// Writes a line for each ask, by its standing in the log that a replica executed, and then the
+/// rows and their total.
 pub fn push_output<S: CheckpointStore>(
     standings: &[Standing],
     replica: &Replica<S>,
@@ -41,8 +42,8 @@ pub fn push_output<S: CheckpointStore>(
     Ok(())
 }
 
-/// Writes a line for each ask, as it stands in the log, with the replies of the replica that carried the
-/// log out.
+/// Writes a line for each ask, by its standing in the log, with the replies of the replica that
+/// executed the log.
 pub fn push_answers<S: CheckpointStore>(
     standings: &[Standing],
     replica: &Replica<S>,
@@ -61,7 +62,7 @@ pub fn push_answers<S: CheckpointStore>(
     Ok(())
 }
 
-// Writes the line of an ask that stands so in the log.
+// Writes the line of an ask with this standing in the log.
 fn push_answer<S: CheckpointStore>(
     standing: Standing,
     replica: &Replica<S>,
@@ -91,7 +92,7 @@ pub(crate) fn reply_to<S: CheckpointStore>(replica: &Replica<S>, number: LogNumb
         → slice_get replies (number - 1) ≡ Some result }
     ensures valid { IsReply result }
 {
-    // Its contract says that each op of the log is somewhere.
+    // Its contract says that each op of the log has a state.
     prove!(replica.idle());
     replica.reply(u64::from(number.value())).unwrap()
 }

@@ -21,10 +21,11 @@ use sb_rows::next_line;
 use sb_sequencer::{AskFault, Numbered, Sequencer};
 use std::alloc::{AllocError, Global};
 
-// How many bytes an asking line takes, as a rule. Room is made by that; where lines are shorter, the lists grow.
+// The usual number of bytes of an asking line. It gives the room to reserve; if lines are shorter,
+// the lists grow.
 const USUAL_LINE: usize = 32;
 
-/// How an ask stands in the log.
+/// The standing of an ask in the log.
 #[derive(Clone, Copy, Debug, PartialEq, Eq)]
 pub enum Standing {
     /// Its call has this number.
@@ -35,13 +36,13 @@ pub enum Standing {
     LogFull,
 }
 
-/// How many asking lines a text of so many bytes has, as a rule.
+/// The usual number of asking lines in a text of this many bytes.
 pub(crate) fn usual_lines(bytes: usize) -> usize {
     bytes / USUAL_LINE
 }
 
-/// Asks for each line of a text, of which nothing was asked yet, and answers how each stands in the log; the first line
-/// has this number.
+/// Asks for each line of a text, with an empty log, and answers the standing of each in the log;
+/// the first line has this number.
 ///
 /// A line without `ask` is asked by client 0, with its running number among such lines.
 pub fn ask_lines<S: CheckpointStore>(
@@ -62,7 +63,7 @@ pub fn ask_lines<S: CheckpointStore>(
     Ok(standings)
 }
 
-// Asks for each line of a text, of which nothing was asked yet.
+// Asks for each line of a text, with an empty log.
 fn ask_all<S: CheckpointStore>(
     text: &[u8],
     first_line: usize,
@@ -96,7 +97,7 @@ fn ask_all<S: CheckpointStore>(
     Ok(())
 }
 
-// The running number of a line without a key, where the line before was asked under this key and this running number.
+// The next running number, if the line before had this key and this running number.
 fn next_running(running: u64, key: Option<Key>) -> u64
     requires { running + 1 < 2 ^ 64 }
     ensures { result ≡ running_after running key }
@@ -164,7 +165,7 @@ fn key_of(running: u64, key: Option<Key>) -> Option<Key>
     }
 }
 
-// How an ask stands that the sequencer answered so, or `None` where memory was refused.
+// The standing of an ask with this answer of the sequencer, or `None` if memory was refused.
 fn standing_of(answer: Result<Numbered, AskFault>) -> Option<Standing>
     requires { IsOfLog answer }
     ensures { result ≡ standing_of_answer answer }

@@ -16,8 +16,9 @@ use sb_sequencer::Sequencer;
 
 /// Offers a node the entries of the log that it lacks.
 ///
-/// Fails with [`CrewFault::CrewGone`] where the crew leaves something unfinished that must be finished first, and
-/// with [`CrewFault::OutOfMemory`]. The node has a beginning of the log then too.
+/// Fails with [`CrewFault::CrewGone`] if the crew leaves something unfinished that must be finished
+/// first, and with [`CrewFault::OutOfMemory`] if memory is refused. Then too the node has a
+/// beginning of the log.
 pub(crate) fn catch_up<S: CheckpointStore, C: Crew>(
     log: &Sequencer,
     node: &mut Replica<S>,

@@ -1,4 +1,4 @@
-//! Carrying out the ops of a log over a replica.
+//! Executing the ops of a log on a replica.
 ghost use Rattle.std.specs.Prelude.{◌≡◌, ◌≢◌, ◌≤◌, ◌<◌, ◌+◌, List, [], ◌∷◌, false, length, map, IfErr, IfNone, OnOk, OnErr};
 ghost use Rattle.sb_rows.specs.Rows.{SameCustomers};
 ghost use Rattle.sb_calls.specs.Op.{IsOpWithin, resolved};
@@ -18,16 +18,17 @@ use sb_replica_log::Offered;
 use sb_sequencer::Sequencer;
 use std::sync::Wait;
 
-// How many entries are submitted between two words to the followers.
+// The number of entries in a part. The followers are sent a part before it is submitted.
 pub(crate) const PART: usize = 1024;
 
-/// Carries out the ops of a log over a replica that has nothing yet, each as soon as its cowns are free. The followers
-/// are told of each part of the log before it is submitted, and carry all of it out. Where nobody hears no log is
-/// wanted.
+/// Executes the ops of a log on a replica that has none yet, each as soon as its cowns are free.
+/// The followers are sent each part of the log before it is submitted, and execute it too. Without
+/// listeners no log is needed.
 ///
 /// Fails with
-/// - [`CrewFault::CrewGone`] where the crew leaves something unfinished, which one that keeps no job never does,
-/// - [`CrewFault::OutOfMemory`] where memory is refused.
+/// - [`CrewFault::CrewGone`] if the crew leaves something unfinished, which one that keeps no job
+///   never does,
+/// - [`CrewFault::OutOfMemory`] if memory is refused.
 pub(crate) fn carry_out<S: CheckpointStore, C: Crew, R: Wait>(
     ops: &[Op],
     log: Option<&Sequencer>,
@@ -41,7 +42,7 @@ pub(crate) fn carry_out<S: CheckpointStore, C: Crew, R: Wait>(
     requires heard { IfNone log (followers.old.listening ≡ 0) }
     ensures finished { OnOk result (IsCarriedOut ops.now replica.new.board) }
     ensures opening { OnOk result (replica.new.board.opening ≡ replica.old.board.opening) }
-    // Where calls come to these ops, it is as if they were carried out one by one.
+    // If these are the ops of calls, the result is as if the calls were executed one by one.
     ensures one_by_one { OnOk result ((calls : List AnyCall)
         → SameCustomers replica.old.names replica.old.board.opening
         → ops.now ≡ map (resolved replica.old.names) calls
@@ -57,7 +58,7 @@ pub(crate) fn carry_out<S: CheckpointStore, C: Crew, R: Wait>(
     settle(replica, crew)
 }
 
-// Submits these ops in parts, each once the followers were told of it.
+// Submits these ops in parts, each after it was sent to the followers.
 fn submit_parts<S: CheckpointStore, C: Crew, R: Wait>(
     ops: &[Op],
     log: Option<&Sequencer>,
@@ -84,9 +85,9 @@ fn submit_parts<S: CheckpointStore, C: Crew, R: Wait>(
     Ok(())
 }
 
-/// Submits these ops, last in the log. Where as many are unfinished as may be, those are carried out first.
+/// Appends these ops to the log. When the board is full, everything unfinished is executed first.
 ///
-/// Fails as [`carry_out`].
+/// Fails as [`carry_out`] does.
 pub(crate) fn submit_all<S: CheckpointStore, C: Crew>(
     ops: &[Op],
     replica: &mut Replica<S>,
@@ -104,9 +105,9 @@ pub(crate) fn submit_all<S: CheckpointStore, C: Crew>(
     Ok(())
 }
 
-/// Submits an op, last in the log. Where as many are unfinished as may be, these are carried out first.
+/// Appends an op to the log. When the board is full, everything unfinished is executed first.
 ///
-/// Fails as [`carry_out`]. The log is as it was then.
+/// Fails as [`carry_out`] does. The log is as it was then.
 pub(crate) fn submit<S: CheckpointStore, C: Crew>(
     op: &Op,
     replica: &mut Replica<S>,
@@ -133,9 +134,9 @@ pub(crate) fn submit<S: CheckpointStore, C: Crew>(
     }
 }
 
-/// Carries out all that is unfinished.
+/// Executes everything that is unfinished.
 ///
-/// Fails with [`CrewFault::CrewGone`] where the crew leaves something unfinished.
+/// Fails with [`CrewFault::CrewGone`] if the crew leaves something unfinished.
 pub(crate) fn settle<S: CheckpointStore, C: Crew>(
     replica: &mut Replica<S>,
     crew: &mut C,

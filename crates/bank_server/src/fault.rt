@@ -24,12 +24,12 @@ pub enum InputFault {
 /// Why a run ends without its output.
 #[derive(Clone, Copy, Debug, PartialEq, Eq, Error)]
 pub enum RunFault {
-    /// The first line at fault, numbered from 1, and its fault. Nothing was written.
+    /// A line is at fault; this is the first one. Nothing was written.
     #[error("line {line}: {fault}")]
     Input {
-        /// The number of the line.
+        /// The line's number, counted from 1.
         line: usize,
-        /// What is wrong with it.
+        /// What is wrong with the line.
         fault: InputFault,
     },
     /// This node, a follower, couldn't be started, or differs from node 0. Nothing was written.
@@ -38,7 +38,7 @@ pub enum RunFault {
     /// The workers left something unfinished. Nothing was written.
     #[error("crew gone")]
     CrewGone,
-    /// A read or a write failed. A part of the output may be written.
+    /// A read or a write failed. Part of the output may be written.
     #[error("device")]
     Device,
     /// Memory was refused.

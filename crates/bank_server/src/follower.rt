@@ -19,8 +19,8 @@ pub(crate) struct Follower {
 }
 
 impl Follower {
-    /// Hears the frames that come, and gives the replica back once no more do. It stops where memory is refused or
-    /// bytes are no frame, with what it has by then.
+    /// Hears the frames that come, and gives the replica back once no more come. It stops early,
+    /// with what it has by then, if memory is refused or bytes aren't a frame.
     pub(crate) fn follow<R: Wait>(mut self, rt: &R) -> Box<Replica<MemoryStore>> {
         for _ in rt.forever() {
             let Ok(message) = self.inbox.recv(rt) else {
@@ -48,7 +48,8 @@ fn hear_message<R: Wait>(
     hear_rest(rt, replica, stream)
 }
 
-// Hears all whole frames of a stream. Where too much is unfinished, and at the log's end, all is carried out.
+// Hears all whole frames of a stream. When the board is full, and at the log's end, everything
+// unfinished is executed.
 fn hear_rest<R: Wait>(rt: &R, replica: &mut Replica<MemoryStore>, stream: &mut Stream) -> Option<()>
     ensures { IfSome result (λ done. HearsRest (record { replica = replica.old; stream = stream.old })
         (record { replica = replica.new; stream = stream.new })) }
@@ -64,7 +65,7 @@ fn hear_rest<R: Wait>(rt: &R, replica: &mut Replica<MemoryStore>, stream: &mut S
     unreachable!()
 }
 
-// Carries out all that is unfinished, in place.
+// Executes everything that is unfinished, in place.
 fn carry_out_all(replica: &mut Replica<MemoryStore>) -> Option<()>
     ensures { IfSome result (λ done. RunsAll replica.old replica.new) }
 {

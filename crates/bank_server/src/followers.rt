@@ -17,8 +17,9 @@ use std::sync::Wait;
 use std::thread::Threads;
 use std::{mem, thread};
 
-/// The followers of node 0, each in a thread of its own, which hear of the log as frames. Contracts see how many nodes
-/// the bank has, how many followers hear what they are told, and how many entries of the log they were told of.
+/// The followers of node 0, each in a thread of its own, which hear the log as frames. Contracts
+/// see the number of nodes, the number of followers that listen, and the number of entries of the
+/// log that they were sent.
 #[derive(Drop)]
 pub struct Followers<'a, R: Wait> {
     nodes: usize,
@@ -41,16 +42,17 @@ impl<'a, R: Wait> Model for Followers<'a, R> {
 }
 
 impl<'a, R: Wait> Followers<'a, R> {
-    /// Whether nobody hears what is told: there are none, or they were compared.
+    /// Whether no follower listens: there are none, or they were compared.
     pub fn is_empty(&self) -> bool
         ensures { IsTrue result ↔ (self.now.listening ≡ 0) }
     {
         self.ends.is_empty()
     }
 
-    /// Tells the followers of the entries of the log that they weren't told of yet, and has them carry these out.
+    /// Sends the followers the entries of the log that they don't have yet, and has them execute
+    /// these.
     ///
-    /// Fails where memory is refused. A follower that is gone is found out by [`Followers::compare`].
+    /// Fails if memory is refused. [`Followers::compare`] finds out whether a follower is gone.
     pub fn feed(&mut self, log: &Sequencer) -> Result<(), AllocError>
         ensures told { OnOk result (self.new.told ≡ max self.old.told (length log.now.log)) }
         ensures stays { self.new ≡ record self.old { told = self.new.told } }
@@ -63,7 +65,8 @@ impl<'a, R: Wait> Followers<'a, R> {
         self.flush()
     }
 
-    // Tells them of the entries up to this number that they weren't told of yet. No log is wanted where nobody hears.
+    // Sends them the entries up to this number that they don't have yet. Without listeners no log
+    // is needed.
     pub(crate) fn tell(&mut self, log: Option<&Sequencer>, end: usize) -> Result<(), AllocError>
         requires heard { IfNone log (self.old.listening ≡ 0) }
         ensures told { OnOk result (self.new ≡ record self.old { told = end }) }
@@ -76,18 +79,19 @@ impl<'a, R: Wait> Followers<'a, R> {
         Ok(())
     }
 
-    // Has them carry out what they were told of.
+    // Has them execute what they were sent.
     pub(crate) fn flush(&mut self) -> Result<(), AllocError>
         ensures { self.new ≡ self.old }
     {
         self.ends.flush()
     }
 
-    /// Compares node 0 with each follower, once that has carried out all that it was told. No more can be told then.
+    /// Compares node 0 with each follower, once that has executed everything that it was sent. No
+    /// more can be sent then.
     ///
     /// Fails with
-    /// - [`RunFault::Strayed`] at the first that differs,
-    /// - [`RunFault::OutOfMemory`] where memory is refused.
+    /// - [`RunFault::Strayed`] at the first follower that differs,
+    /// - [`RunFault::OutOfMemory`] if memory is refused.
     pub fn compare<S: CheckpointStore>(&mut self, rt: &R, node: &Replica<S>) -> Result<(), RunFault>
     where
         R: Threads,
@@ -101,11 +105,11 @@ impl<'a, R: Wait> Followers<'a, R> {
     }
 }
 
-/// Starts these followers and hands them to `f`. Once `f` has answered and their threads have ended it answers the
-/// same. All of them hear what they are told, and nothing was told before.
+/// Starts these followers and hands them to `f`. Answers what `f` answers, once their threads have
+/// ended. All of them listen, and nothing was sent to them before.
 ///
-/// Fails with [`RunFault::Strayed`] where a follower can't be started, and with [`RunFault::OutOfMemory`]; then `f`
-/// isn't called.
+/// Fails with [`RunFault::Strayed`] if a follower can't be started, and with
+/// [`RunFault::OutOfMemory`] if memory is refused; then `f` isn't called.
 pub fn with_followers<R, T, F>(
     rt: &R,
     alloc: Global,

@@ -10,7 +10,7 @@ use std::sync::{Arc, Wait};
 /// How many messages may wait for a follower.
 pub(crate) const MESSAGES: usize = 4;
 
-// How many bytes a part's frames take, as a rule.
+// The usual number of bytes in the frames of a part.
 const USUAL_PART: usize = 1 << 16;
 
 /// Some whole frames, which all followers share.
@@ -32,7 +32,7 @@ impl<'a, R: Wait> Ends<'a, R> {
         self.ends.is_empty()
     }
 
-    /// Sends the entries of a log after the first `from`, up to the first `to`.
+    /// Sends the entries of a log with the numbers from `from` + 1 to `to`.
     pub(crate) fn part(&self, log: &Sequencer, from: usize, to: usize) -> Result<(), AllocError> {
         if self.ends.is_empty() {
             return Ok(());
@@ -46,7 +46,7 @@ impl<'a, R: Wait> Ends<'a, R> {
         self.send(bytes)
     }
 
-    /// Has the followers carry out what was sent.
+    /// Has the followers execute what was sent.
     pub(crate) fn flush(&self) -> Result<(), AllocError> {
         let mut bytes = Vec::new(self.alloc);
         bytes.extend_from_slice(&encode(&Frame::Flush))?;
@@ -60,7 +60,7 @@ impl<'a, R: Wait> Ends<'a, R> {
         self.ends = Vec::new(self.alloc);
     }
 
-    // Sends these bytes to each follower. One that is gone is found out by what it gave back.
+    // Sends these bytes to each follower. The comparison finds out whether one is gone.
     fn send(&self, bytes: Vec<u8>) -> Result<(), AllocError> {
         let message = Arc::new(self.alloc, bytes)?;
         for end in &self.ends {

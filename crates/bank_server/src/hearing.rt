@@ -1,4 +1,4 @@
-//! What a client sends, frame by frame.
+//! A client's frames, one after another.
 ghost use Rattle.std.specs.Prelude.{◌≡◌, ◌++◌, ◌∷◌, [], ℕ, Option, List, length, false, IfErr, OnOk, OnErr};
 ghost use Rattle.sb_frames.specs.Streaming.{IsShort};
 ghost use Rattle.sb_frames.specs.Streaming as streaming;
@@ -21,7 +21,7 @@ use sb_text::write_whole;
 use std::alloc::Global;
 use std::io::Write;
 
-/// What is kept of a session between two reads.
+/// What a session keeps between two reads.
 #[derive(Drop)]
 pub(crate) struct Hearing {
     /// The bytes that aren't a whole frame yet.
@@ -33,7 +33,7 @@ pub(crate) struct Hearing {
 }
 
 impl Hearing {
-    /// Before the first byte.
+    /// A session before its first byte.
     pub(crate) fn new(alloc: Global) -> Hearing
         ensures stream { result.stream ≡ streaming.opened }
         ensures waiting { result.waiting.items ≡ [] }
@@ -46,9 +46,9 @@ impl Hearing {
     }
 }
 
-/// Hears the bytes of one read, and deals with each frame that is whole by then.
+/// Hears the bytes of one read, and handles each frame that is whole by then.
 ///
-/// Fails as [`crate::serve_session`], but for reads and the end.
+/// Fails as [`crate::serve_session`] does, except for reads and the end.
 pub(crate) fn hear<W: Write, S: CheckpointStore, C: Crew>(
     bytes: &[u8],
     hearing: &mut Hearing,
@@ -78,7 +78,7 @@ pub(crate) fn hear<W: Write, S: CheckpointStore, C: Crew>(
     primary.offer_rest(crew)
 }
 
-// Deals with each frame that is whole.
+// Handles each frame that is whole.
 fn deal_with_all<W: Write, S: CheckpointStore, C: Crew>(
     hearing: &mut Hearing,
     writer: &mut W,
@@ -110,7 +110,8 @@ fn deal_with_all<W: Write, S: CheckpointStore, C: Crew>(
     }
 }
 
-// Deals with a frame: an ask is numbered, and waits; at a flush all that wait are told.
+// Handles a frame: an ask is numbered, and waits; at a flush the outcomes of all that wait are
+// sent.
 fn deal_with<W: Write, S: CheckpointStore, C: Crew>(
     frame: &Frame,
     hearing: &mut Hearing,
@@ -152,7 +153,7 @@ fn deal_with<W: Write, S: CheckpointStore, C: Crew>(
     }
 }
 
-// Numbers an ask, which waits for a flush then.
+// Numbers an ask, which then waits for a flush.
 fn number<S: CheckpointStore>(
     key: Key,
     call: &Call,
@@ -176,7 +177,7 @@ fn number<S: CheckpointStore>(
     Ok(())
 }
 
-// Has all of the log carried out, and tells the client how the asks that wait ended.
+// Has the whole log executed, and sends the client the outcomes of the asks that wait.
 fn tell<W: Write, S: CheckpointStore, C: Crew>(
     hearing: &mut Hearing,
     writer: &mut W,

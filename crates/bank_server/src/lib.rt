@@ -1,4 +1,4 @@
-//! What the programs do for a bank: an input is run, and its output is a stated function of it.
+//! What the programs do for a bank: they run an input, and the output is a stated function of it.
 #![tactic(auto)]
 
 mod agreement;

@@ -1,4 +1,4 @@
-//! Reading an input, and numbering what it asks.
+//! Reading an input, and numbering its asks.
 ghost use Rattle.std.specs.Prelude.{MatchResult};
 ghost use Rattle.bank_server.specs.Faults.{BlamesText};
 ghost use Rattle.bank_server.specs.Output.{output_of};
@@ -11,18 +11,19 @@ use sb_checkpoint::MemoryStore;
 use sb_rows::{OpeningFault, read_opening};
 use std::alloc::Global;
 
-/// An input that is ready to be carried out.
+/// An input that is ready to be executed.
 #[derive(Drop)]
 pub struct Prepared {
     /// Its log, and node 0 at its opening.
     pub primary: Primary<MemoryStore>,
-    /// How each ask stands in the log, in order.
+    /// The standing of each ask in the log, in order.
     pub standings: Vec<Standing>,
 }
 
 /// Reads an input, and asks for each of its asking lines.
 ///
-/// Fails with [`RunFault::Input`] at the first line at fault, and with [`RunFault::OutOfMemory`].
+/// Fails with [`RunFault::Input`] at the first line at fault, and with [`RunFault::OutOfMemory`] if
+/// memory is refused.
 pub fn prepare(alloc: Global, input: &[u8]) -> Result<Prepared, RunFault>
     ensures { MatchResult result
         (λ prepared. IsPreparedOf input.now prepared)

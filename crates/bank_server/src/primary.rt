@@ -1,4 +1,4 @@
-//! The log and node 0, which carries it out.
+//! The log, and node 0, which executes it.
 ghost use Rattle.std.specs.Prelude.{◌≡◌, ◌≢◌, ◌≤◌, ◌↔◌, [], List, length, false, IfOk, IfErr, IsErrOf, MatchOption, OnOk, OnErr};
 ghost use Rattle.sb_calls.specs.declared.ask.Key.{Key as AnyKey};
 ghost use Rattle.sb_calls.specs.declared.call.Call.{Call as AnyCall};
@@ -34,7 +34,7 @@ use std::alloc::{AllocError, Global};
 use std::marker::Model;
 use std::sync::Wait;
 
-/// The log, and node 0, which has carried out a beginning of it.
+/// The log, and node 0, which has executed a beginning of it.
 #[derive(Drop)]
 pub struct Primary<S: CheckpointStore> {
     alloc: Global,
@@ -61,7 +61,7 @@ impl<S: CheckpointStore> Primary<S> {
         Primary::with_capacity(alloc, opening, store, 0)
     }
 
-    /// The same, with room in the log for so many entries.
+    /// The same, with room in the log for this many entries.
     pub fn with_capacity(
         alloc: Global,
         opening: Opening,
@@ -108,7 +108,7 @@ impl<S: CheckpointStore> Primary<S> {
 
     /// Offers node 0 the entries of the log that it lacks.
     ///
-    /// Fails as [`Primary::settle`].
+    /// Fails as [`Primary::settle`] does.
     pub(crate) fn offer_rest<C: Crew>(&mut self, crew: &mut C) -> Result<(), SessionFault>
         ensures log { self.new.log ≡ self.old.log }
         ensures bank { KeepsBank self.old self.new }
@@ -119,18 +119,18 @@ impl<S: CheckpointStore> Primary<S> {
         Ok(catch_up(&self.log, &mut self.node, crew)?)
     }
 
-    /// Has node 0 carry out all of the log.
+    /// Has node 0 execute the whole log.
     ///
     /// Fails with
-    /// - [`SessionFault::CrewGone`] where the crew leaves something unfinished, which one that keeps no job never
-    ///   does where none was out,
-    /// - [`SessionFault::OutOfMemory`] where memory is refused.
+    /// - [`SessionFault::CrewGone`] if the crew leaves something unfinished, which one that keeps no
+    ///   job never does if none was out,
+    /// - [`SessionFault::OutOfMemory`] if memory is refused.
     ///
-    /// The log stays, and node 0 may have carried out more of it then.
+    /// The log stays, and node 0 may have executed more of it then.
     pub fn settle<C: Crew>(&mut self, crew: &mut C) -> Result<(), SessionFault>
         ensures all { OnOk result (HasAll self.new) }
         ensures log { self.new.log ≡ self.old.log }
-        // It has one number a key.
+        // It has one number for each key.
         ensures one_each { IsLog self.new.log }
         ensures bank { KeepsBank self.old self.new }
         ensures fault { IfErr result IsSettleFault }
@@ -141,14 +141,16 @@ impl<S: CheckpointStore> Primary<S> {
         Ok(settle(node, crew)?)
     }
 
-    /// Has node 0 carry out the whole log, of which it has nothing yet, beside its followers, and gives it back.
+    /// Has node 0 execute the whole log, of which it has nothing yet, together with its followers,
+    /// and gives it back.
     ///
-    /// All names are looked up at once, and the log is let go of before the first entry is submitted, unless followers
-    /// hear of it.
+    /// All names are looked up at once, and the log is dropped before the first entry is submitted,
+    /// unless followers listen.
     ///
     /// Fails with
-    /// - [`CrewFault::CrewGone`] where the crew leaves something unfinished, which one that keeps no job never does,
-    /// - [`CrewFault::OutOfMemory`] where memory is refused.
+    /// - [`CrewFault::CrewGone`] if the crew leaves something unfinished, which one that keeps no job
+    ///   never does,
+    /// - [`CrewFault::OutOfMemory`] if memory is refused.
     pub fn finish<R: Wait, C: Crew>(
         self,
         crew: &mut C,
@@ -156,7 +158,7 @@ impl<S: CheckpointStore> Primary<S> {
     ) -> Result<Box<Replica<S>>, CrewFault>
         requires opened { IsOpened self.node.board }
         ensures run { IfOk result (λ node. RunsLog self node.value) }
-        // The followers were told of all of it.
+        // The whole log was sent to the followers.
         ensures told { OnOk result (length self.log ≤ followers.new.told) }
         ensures stays { followers.new ≡ record followers.old { told = followers.new.told } }
         ensures fault { IfErr result (IsCarryFault C.keeps self.node.board) }
@@ -169,14 +171,15 @@ impl<S: CheckpointStore> Primary<S> {
         Ok(node)
     }
 
-    /// Puts a checkpoint of all that node 0 carried out into its store, reads it back, and answers how many entries of
-    /// the log it is of. After [`Primary::settle`] these are all.
+    /// Puts a checkpoint of everything that node 0 executed into its store, reads it back, and
+    /// answers the checkpoint's length. After [`Primary::settle`] that is the whole log.
     ///
     /// Fails with
-    /// - [`SaveFault::Device`] where a put or a get fails,
-    /// - [`SaveFault::ReadBack`] where what is read back isn't what was put, which an honest store never does,
-    /// - [`SaveFault::OutOfMemory`] where memory is refused,
-    /// - [`SaveFault::Busy`] exactly where node 0 has something unfinished.
+    /// - [`SaveFault::Device`] if a put or a get fails,
+    /// - [`SaveFault::ReadBack`] if what is read back isn't what was put, which never happens with an
+    ///   honest store,
+    /// - [`SaveFault::OutOfMemory`] if memory is refused,
+    /// - [`SaveFault::Busy`] exactly if node 0 has something unfinished.
     ///
     /// The log and the rows stay.
     pub fn save(&mut self) -> Result<u64, SaveFault>
@@ -201,7 +204,8 @@ impl<S: CheckpointStore> Primary<S> {
     }
 }
 
-// An empty log with room for so many entries. It owns nothing else: each way out of a function drops what that owns.
+// An empty log with room for this many entries. The function owns nothing else, so that a `?` has
+// little to drop.
 fn boxed_log(alloc: Global, entries: usize) -> Result<Box<Sequencer>, AllocError>
     ensures { IfOk result (λ log. log.value ≡ opened 1) }
 {
@@ -209,7 +213,8 @@ fn boxed_log(alloc: Global, entries: usize) -> Result<Box<Sequencer>, AllocError
     Ok(Box::new(alloc, log)?)
 }
 
-// The log, where a follower hears of it. Where none does it is let go of, so that the board may take its place in memory.
+// The log, if a follower listens. Otherwise it is dropped, so that the board can take its place in
+// memory.
 fn kept_for<R: Wait>(log: Box<Sequencer>, followers: &Followers<'_, R>) -> Option<Box<Sequencer>>
     ensures { MatchOption result (followers.now.listening ≡ 0) (λ kept. kept ≡ log) }
 {

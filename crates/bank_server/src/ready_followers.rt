@@ -16,8 +16,8 @@ use sb_sequencer::REPLICAS;
 use std::alloc::{AllocError, Global};
 use std::marker::Model;
 
-/// The followers of a bank that aren't started yet, at its opening. Contracts see how many nodes the bank has, node 0
-/// among them, and the followers' replicas.
+/// The followers of a bank that aren't started yet, at its opening. Contracts see the number of
+/// nodes, with node 0, and the followers' replicas.
 #[derive(Drop)]
 pub struct ReadyFollowers {
     pub(crate) nodes: usize,
@@ -42,10 +42,10 @@ impl Model for ReadyFollowers {
 }
 
 impl ReadyFollowers {
-    /// The followers of a bank of so many nodes, each with names and columns of its own, those of a node 0 that has
-    /// carried out nothing yet, and with room for so many entries.
+    /// The followers of a bank of this many nodes. Each has copies of the names and columns of node
+    /// 0, which hasn't executed anything yet, and room for this many entries.
     ///
-    /// Fails where memory is refused.
+    /// Fails if memory is refused.
     pub fn open<S: CheckpointStore>(
         alloc: Global,
         node: &Replica<S>,
@@ -94,7 +94,7 @@ fn open_followers(
     })
 }
 
-// Adds a follower with this replica, and the end of a channel to it.
+// Appends a follower with this replica, and the end of a channel to it.
 fn push_follower(
     alloc: Global,
     replica: Box<Replica<MemoryStore>>,
@@ -116,7 +116,7 @@ fn push_follower(
     Ok(())
 }
 
-// A replica with its own names and columns, and room for so many entries.
+// A replica with its own names and columns, and with room for this many entries.
 fn open_copy(
     alloc: Global,
     id: u8,

@@ -11,8 +11,8 @@ use std::alloc::{AllocError, Global};
 
 /// The ops of a log's calls, in order.
 ///
-/// All names are looked up before the first op is submitted, so that neither the directory nor the queues
-/// push the other out of the processor's caches.
+/// All names are looked up before the first op is submitted, so that the directory and the queues
+/// don't push each other out of the processor's caches.
 pub fn resolve_all(
     alloc: Global,
     log: &Sequencer,

@@ -1,4 +1,4 @@
-//! A whole run: what is written is a stated function of what is read.
+//! A whole run: its output is a stated function of its input.
 ghost use Rattle.std.specs.Prelude.{◌≡◌, ◌≤◌, Ok, IfSome, IfOk, IfErr, OnOk};
 ghost use Rattle.bank_server.specs.Faults.{Writes, Blames, GoesAmong, IsNodesFault, StraysAmong, WritesNothing};
 ghost use Rattle.bank_server.specs.Output.{output_of};
@@ -21,19 +21,21 @@ use std::time::Clock;
 
 /// Reads an opening text and asking lines, and writes the answers, the rows and the total.
 ///
-/// The whole input is read and checked before anything is written. Node 0 carries the log out, and so does each of
-/// the other nodes, the followers, in a thread of its own; node 0 is compared with them before anything is written.
-/// With workers each of node 0's calls is carried out by one of them, between two calls of the gate; without any it is
-/// carried out in place. What is written is the same for every number of nodes and of workers.
+/// The whole input is read and checked before anything is written. Node 0 executes the log, and so
+/// does each of the other nodes, the followers, in a thread of its own. Node 0 is compared with
+/// them before anything is written. With workers, one of them executes each of node 0's calls,
+/// between two calls of the gate; without any, calls are executed in place. The output is the same
+/// for every number of nodes and of workers.
 ///
 /// Fails with
 /// - [`RunFault::Input`] at the first line at fault; nothing was written then,
-/// - [`RunFault::Strayed`] where a follower can't be started, or differs from node 0; nothing was written then,
-/// - [`RunFault::CrewGone`] where a worker can't be started, or the workers left something unfinished; nothing was
+/// - [`RunFault::Strayed`] if a follower can't be started, or differs from node 0; nothing was
 ///   written then,
-/// - [`RunFault::Device`] where a read or a write fails, or the input takes more than
-///   [`sb_text::READS`] reads; a part of the output may be written,
-/// - [`RunFault::OutOfMemory`] where memory is refused.
+/// - [`RunFault::CrewGone`] if a worker can't be started, or the workers left something unfinished;
+///   nothing was written then,
+/// - [`RunFault::Device`] if a read or a write fails, or the input takes more than
+///   [`sb_text::READS`] reads; part of the output may be written then,
+/// - [`RunFault::OutOfMemory`] if memory is refused.
 pub fn run_text<H: Threads + Wait + Clock + Sync, R: Read, W: Write, G: Gate + Sync>(
     rt: &H,
     alloc: Global,
@@ -45,18 +47,18 @@ pub fn run_text<H: Threads + Wait + Clock + Sync, R: Read, W: Write, G: Gate + S
 ) -> Result<(), RunFault>
     requires nodes { (1 ≤ nodes) × (nodes ≤ REPLICAS) }
     requires workers { workers ≤ WORKERS }
-    // No line was at fault, and the output of all that was read is written.
+    // No line was at fault, and the output for the whole input is written.
     ensures done { OnOk result (IfSome (R.remaining reader.old) (λ input.
         Writes (output_of input) (W.contents writer.old) (W.contents writer.new))) }
-    // An input fault is the first of what was read.
+    // A fault of the input is its first one.
     ensures first { IfErr result (λ fault. IfSome (R.remaining reader.old) (λ input.
         Blames fault (output_of input))) }
-    // After it nothing was written.
+    // Nothing was written after a fault of the input.
     ensures unwritten { IfErr result (λ fault.
         WritesNothing fault (W.contents writer.old) (W.contents writer.new)) }
     // Only a follower strays.
     ensures strayed { IfErr result (StraysAmong nodes) }
-    // Without workers none are gone.
+    // Without workers `CrewGone` never comes.
     ensures gone { IfErr result (GoesAmong workers) }
 {
     let input = read_all(alloc, reader)?;
@@ -68,7 +70,7 @@ pub fn run_text<H: Threads + Wait + Clock + Sync, R: Read, W: Write, G: Gate + S
     }
 }
 
-// The output of an input that was prepared, made by so many nodes and workers.
+// The output for a prepared input, made by this many nodes and workers.
 fn output_text<H: Threads + Wait + Clock + Sync, G: Gate + Sync>(
     rt: &H,
     alloc: Global,
@@ -88,7 +90,7 @@ fn output_text<H: Threads + Wait + Clock + Sync, G: Gate + Sync>(
     let entries = primary.log().length() as usize;
     let followers = ReadyFollowers::open(alloc, primary.node(), nodes, entries)?;
     let node = carry_out_log(rt, alloc, primary, followers, workers, gate)?;
-    // The output takes the input's place in memory, whose pages are there already.
+    // The output takes the input's place in memory, whose pages are already mapped.
     let mut output = input;
     output.clear();
     match push_output(&standings, &node, &mut output) {

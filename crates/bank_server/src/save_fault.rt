@@ -9,7 +9,7 @@ use thiserror::Error;
 /// Why a bank isn't saved. The log and the rows are as they were.
 #[derive(Clone, Copy, Debug, PartialEq, Eq, Error)]
 pub enum SaveFault {
-    /// A put or a get of the store failed. It holds wholly the old or wholly the new checkpoint.
+    /// A put or a get of the store failed. It holds the whole old checkpoint or the whole new one.
     #[error("device")]
     Device,
     /// What was read back isn't what was put. An honest store never does that.

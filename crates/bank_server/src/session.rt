@@ -14,21 +14,23 @@ use sb_text::READS;
 use std::alloc::Global;
 use std::io::{ErrorKind, Read, Write};
 
-// How many bytes are asked of a reader at once.
+// How many bytes one read asks for.
 const CHUNK: usize = 65_536;
 
-/// Serves one client, from its first byte to its last: each ask is numbered and offered to node 0, and at each flush
-/// node 0 carries out all of the log and the client is told how each ask since the flush before ended.
+/// Serves one client, from its first byte to its last. Each ask is numbered and offered to node 0.
+/// At each flush node 0 executes the whole log, and the client gets the outcome of each ask since
+/// the previous flush.
 ///
-/// Every whole frame that was read is dealt with before more is read. Asks after the last flush are numbered and
-/// carried out, and their client isn't told.
+/// Every whole frame that was read is handled before the next read. Asks after the last flush are
+/// numbered and executed, but their client gets no outcome.
 ///
 /// Fails with
-/// - [`SessionFault::Frame`] where bytes come that no frame begins with, or the last frame isn't whole,
-/// - [`SessionFault::Unexpected`] where a frame comes that is neither an ask nor a flush,
-/// - [`SessionFault::CrewGone`] where the crew leaves something unfinished,
-/// - [`SessionFault::Device`] where a read or a write fails, or the client takes more than [`READS`] reads,
-/// - [`SessionFault::OutOfMemory`] where memory is refused.
+/// - [`SessionFault::Frame`] if bytes come that no frame begins with, or the last frame isn't whole,
+/// - [`SessionFault::Unexpected`] if a frame comes that is neither an ask nor a flush,
+/// - [`SessionFault::CrewGone`] if the crew leaves something unfinished,
+/// - [`SessionFault::Device`] if a read or a write fails, or the client takes more than [`READS`]
+///   reads,
+/// - [`SessionFault::OutOfMemory`] if memory is refused.
 ///
 /// The log keeps what was numbered by then, and another session can be served.
 pub fn serve_session<R: Read, W: Write, S: CheckpointStore, C: Crew>(
@@ -38,11 +40,13 @@ pub fn serve_session<R: Read, W: Write, S: CheckpointStore, C: Crew>(
     primary: &mut Primary<S>,
     crew: &mut C,
 ) -> Result<(), SessionFault>
-    // All that was read was asks and flushes; the log is that of the session, and its outcomes are written.
+    // Everything that was read was asks and flushes; the log is that of the session, and its
+    // outcomes are written.
     ensures served { OnOk result (IfSome (R.remaining reader.old) (IsServed (opening_of primary.old)
         primary.old.log primary.new.log (W.contents writer.old) (W.contents writer.new))) }
     ensures all { OnOk result (HasAll primary.new) }
-    // After a fault the log is that of a beginning of the session, and the fault came behind it.
+    // After a fault the log is that of the first frames of the session, and the fault came after
+    // them.
     ensures cut_short { IfErr result (λ fault. IfSome (R.remaining reader.old) (λ input.
         IsCutShort (opening_of primary.old) primary.old.log primary.new.log (W.contents writer.old)
         (W.contents writer.new) input fault)) }

@@ -11,12 +11,12 @@ use thiserror::Error;
 /// Why a session ends before its client does. The log keeps what was numbered.
 #[derive(Clone, Copy, Debug, PartialEq, Eq, Error)]
 pub enum SessionFault {
-    /// The client sent bytes that no frame begins with, or ended within a frame. All before it was numbered, and
-    /// what a flush followed was told.
+    /// The client sent bytes that no frame begins with, or ended within a frame. All asks before
+    /// were numbered, and the outcomes of those that a flush followed were sent.
     #[error("bad frame: {0}")]
     Frame(FrameFault),
-    /// The client sent a frame that is neither an ask nor a flush. All before it was numbered, and what a flush
-    /// followed was told.
+    /// The client sent a frame that is neither an ask nor a flush. All asks before were numbered,
+    /// and the outcomes of those that a flush followed were sent.
     #[error("unexpected frame")]
     Unexpected,
     /// The crew left something unfinished.

@@ -1,4 +1,4 @@
-//! Who carries a log out beside node 0: its crew and its followers.
+//! Who executes a log together with node 0: its crew and its followers.
 ghost use Rattle.std.specs.Prelude.{◌≡◌, ℕ, ◌≤◌, ◌<◌, Bool, true, IfOk, IfErr};
 ghost use Rattle.std.specs.Fn.{FnOnceReturnsAtMut};
 ghost use Rattle.bank_server.specs.Faults.{IsNodesFault, IsWorkersFault};
@@ -14,9 +14,9 @@ use std::sync::Wait;
 use std::thread::Threads;
 use std::time::Clock;
 
-/// How many workers a crew has, each in a thread of its own.
+/// A crew's number of workers, each in a thread of its own.
 pub trait Headcount {
-    /// How many.
+    /// The number.
     ghost workers: { Self → ℕ };
 }
 
@@ -28,15 +28,16 @@ impl<'a, R: Wait + Clock, G: Gate> Headcount for BenchCrew<'a, R, G> {
     ghost workers = { λ crew. crew.workers };
 }
 
-/// What is done with node 0's crew, whichever it is, beside its followers.
+/// What is done with node 0's crew, of whatever kind, and its followers.
 pub trait Duty {
-    /// What it comes to.
+    /// The result.
     type Answer: Drop;
 
-    /// What has to hold before.
+    /// What must hold before.
     ghost ready: { Self → Type 0 };
 
-    /// What holds then, of so many nodes, by a crew of so many workers that may keep a job or not.
+    /// What holds afterwards, with this many nodes and a crew of this many workers, which may keep
+    /// a job or not.
     ghost does: { Self → ℕ → ℕ → Bool → Self.Answer → Type 0 };
 
     /// Does it.
@@ -48,13 +49,13 @@ pub trait Duty {
         ensures { does self followers.old.nodes (C.workers crew.old) C.keeps result };
 }
 
-/// Starts the followers, hires so many workers for node 0, and has this done. Without workers node 0 works alone. Once
-/// it is done, all threads have ended.
+/// Starts the followers, hires this many workers for node 0, and has the duty done. Without workers
+/// node 0 works alone. When it is done, all threads have ended.
 ///
 /// Fails, and does nothing, with
-/// - [`RunFault::Strayed`] where a follower can't be started,
-/// - [`RunFault::CrewGone`] where a worker can't be started,
-/// - [`RunFault::OutOfMemory`] where memory is refused.
+/// - [`RunFault::Strayed`] if a follower can't be started,
+/// - [`RunFault::CrewGone`] if a worker can't be started,
+/// - [`RunFault::OutOfMemory`] if memory is refused.
 pub fn with_team<H, G, D>(
     rt: &H,
     alloc: Global,
@@ -70,7 +71,8 @@ where
     requires nodes { followers.nodes ≤ REPLICAS }
     requires workers { workers ≤ WORKERS }
     requires ready { D.ready duty }
-    // It is done by a crew of as many workers as were asked for, and one that may keep a job has some.
+    // The crew that does it has as many workers as the caller wants; one that may keep a job has
+    // some.
     ensures answer { IfOk result (λ answer. (keeps : Bool) × ((keeps ≡ true → 0 < workers)
         × D.does duty followers.nodes workers keeps answer)) }
     ensures fault { IfErr result (IsNodesFault followers.nodes workers) }
@@ -89,7 +91,7 @@ where
     )?
 }
 
-// Has this done beside these followers, by so many workers.
+// Has the duty done with these followers, by this many workers.
 fn by_workers<H, G, D>(
     rt: &H,
     alloc: Global,

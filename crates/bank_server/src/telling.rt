@@ -1,4 +1,4 @@
-//! Telling a client how its asks ended.
+//! Sending a client the outcomes of its asks.
 ghost use Rattle.std.specs.Prelude.{◌≡◌, ◌++◌, ◌∷◌, [], List, length, OnOk};
 ghost use Rattle.std.specs.List.{flat_map};
 ghost use Rattle.sb_calls.specs.declared.ask.Key.{Key as AnyKey};
@@ -20,7 +20,8 @@ use sb_frames::{AskOutcome, Frame, encode};
 use sb_replica::Replica;
 use std::alloc::AllocError;
 
-/// Writes the outcome of each ask, in order, as frames, with the replies of the replica that carried the log out.
+/// Writes the outcome of each ask, in order, as frames, with the replies of the replica that
+/// executed the log.
 pub(crate) fn push_outcomes<S: CheckpointStore>(
     waiting: &[Waiting],
     replica: &Replica<S>,
@@ -43,7 +44,7 @@ pub(crate) fn push_outcomes<S: CheckpointStore>(
     Ok(())
 }
 
-// How an ask ended that stands so in the log.
+// The outcome of an ask with this standing in the log.
 fn outcome_of<S: CheckpointStore>(standing: Standing, replica: &Replica<S>) -> AskOutcome
     requires idle { open_of replica.now.board ≡ 0 }
     requires earlier { replica.now.board.earlier ≡ [] }

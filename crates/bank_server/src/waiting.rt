@@ -2,11 +2,11 @@
 use crate::asking::Standing;
 use sb_calls::Key;
 
-/// An ask that was numbered, whose client isn't told yet.
+/// An ask that was numbered, whose client hasn't got its outcome yet.
 #[derive(Clone, Copy, Debug, PartialEq, Eq)]
 pub struct Waiting {
-    /// The client and its number of the request.
+    /// The client, and its number for the request.
     pub key: Key,
-    /// How the ask stands in the log.
+    /// The standing of the ask in the log.
     pub standing: Standing,
 }

@@ -1,4 +1,4 @@
-//! A whole log, carried out once.
+//! A whole log, executed once.
 ghost use Rattle.std.specs.Prelude.{◌≤◌, IfOk, IfErr};
 ghost use Rattle.bank_server.specs.Execution.{IsOpened};
 ghost use Rattle.bank_server.specs.Faults.{IsNodesFault, IsTeamFault};
@@ -19,7 +19,8 @@ use std::sync::Wait;
 use std::thread::Threads;
 use std::time::Clock;
 
-// Carrying out the log of a node 0 that has nothing of it yet, and comparing it with the followers.
+// The duty to execute the log of a node 0 that has nothing of it yet, and to compare that node with
+// the followers.
 #[derive(Drop)]
 struct WholeLog<S: CheckpointStore> {
     primary: Primary<S>,
@@ -49,14 +50,15 @@ impl<S: CheckpointStore> Duty for WholeLog<S> {
     }
 }
 
-/// Has node 0 carry out the whole log, of which it has nothing yet, by so many workers, and its followers the log
-/// itself, each in a thread of its own, and gives it back once the followers came to the same.
+/// Has node 0, which has nothing of the log yet, execute all of it with this many workers. Its
+/// followers execute the log too, each in a thread of its own. Gives node 0 back once the followers
+/// agree with it.
 ///
 /// Fails with
-/// - [`RunFault::Strayed`] where a follower can't be started, or differs from node 0, as where it began with another
-///   opening,
-/// - [`RunFault::CrewGone`] where a worker can't be started, or the workers left something unfinished,
-/// - [`RunFault::OutOfMemory`] where memory is refused.
+/// - [`RunFault::Strayed`] if a follower can't be started, or differs from node 0, for instance
+///   because it began with another opening,
+/// - [`RunFault::CrewGone`] if a worker can't be started, or the workers left something unfinished,
+/// - [`RunFault::OutOfMemory`] if memory is refused.
 pub fn carry_out_log<H, S, G>(
     rt: &H,
     alloc: Global,
@@ -72,7 +74,7 @@ where
     requires nodes { followers.nodes ≤ REPLICAS }
     requires workers { workers ≤ WORKERS }
     requires opened { IsOpened primary.node.board }
-    // It began as this node 0, carried out the ops of the log, and that is as if its calls had run one by one.
+    // It began as this node 0 and executed the ops of the log, as if its calls were run one by one.
     ensures run { IfOk result (λ node. RunsLog primary node.value) }
     ensures fault { IfErr result (IsNodesFault followers.nodes workers) }
 {

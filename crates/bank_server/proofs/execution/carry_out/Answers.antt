@@ -5,7 +5,7 @@ use Rattle.sb_replica.specs.Replica.{ReplicaOf}
 use Rattle.bank_server.proofs.Boards.{one_by_one}
 use Rattle.bank_server.proofs.execution.carry_out.Goals as goal
 
--- what follows from a fact that holds after `Ok` does too
+-- what follows from a fact that holds after `Ok` holds too
 on_ok : {T E P Q : Type 0} (r : Result T E) → (P → Q) → OnOk r P → OnOk r Q
 on_ok (Ok x) f p = f p
 on_ok (Err e) f p = tt

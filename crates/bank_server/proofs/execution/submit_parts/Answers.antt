@@ -4,7 +4,7 @@ use Rattle.std.proofs.lemmas.Result.{err_from_is_err_and}
 use Rattle.bank_server.proofs.Carried.{fault_behind}
 use Rattle.bank_server.proofs.execution.submit_parts.Goals as goal
 
--- one part more is submitted
+-- one more part is submitted
 next_part : {A : Type 0} (before log new xs : List A) (done size : ℕ) → log ≡ before ++ take done xs
     → new ≡ log ++ take (done + size - done) (drop done xs) → new ≡ before ++ take (done + size) xs
 next_part before log new xs done size is put =

@@ -1,7 +1,7 @@
 use Rattle.std.proofs.Common.{◌≡◌, ◌≤◌, ◌⊎◌, ◌-◌}
 use Rattle.bank_server.proofs.followers.Followers.feed.Given as goal
 
--- only what they were told grows, up to the log's length
+-- only the number of entries that they were sent grows, up to the log's length
 abbrev pub invariant-loop-self : goal.invariant-loop-self
 invariant-loop-self g l = record {
   stays : l.self ≡ record l.fn.self { told = l.self.told };

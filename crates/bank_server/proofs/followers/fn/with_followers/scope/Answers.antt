@@ -1,9 +1,9 @@
--- The closure was called once, on the followers that were started, each of whom hears.
+-- The closure was called once, on the followers that were started, each of which listens.
 use Rattle.std.proofs.Common.{ℕ, refl, ap}
 use Rattle.bank_server.specs.Followers.{FollowersOf}
 use Rattle.bank_server.proofs.followers.fn.with_followers.scope.Goals as goal
 
--- followers of whom so many hear
+-- followers, with this many that listen
 abbrev listening : ℕ → ℕ → FollowersOf
 listening nodes n = record { nodes = nodes; listening = n; told = 0 }
 
