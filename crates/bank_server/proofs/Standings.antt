@@ -182,7 +182,7 @@ standings_after asks ask = ap (λ log. map (standing_of log) asks) (first_asks-p
       | inr full ↦ ap (λ log. map (standing_of log) asks) (log_with-full (first_asks asks) ask full)
     ]
 
--- ---- what an answer comes to
+-- ---- the standing by an answer
 
 pub answered_new : (log : List (Key × Call)) (ask : Key × Call) (n : ℕ) → IsAnswered log ask (Ok (numbers.New n)) → Number n ≡ standing_of (log ++ ask ∷ []) ask
 answered_new log ask n h =

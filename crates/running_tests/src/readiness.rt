@@ -55,7 +55,7 @@ fn what_becomes_ready_is_listed_in_order(rt: HostRuntime) {
             Step::Submit(4, "deposit alice 0.01"),
             Step::Submit(5, "deposit bob 0.01"),
             Step::Submit(6, "deposit carol 0.01"),
-            // The fifth becomes ready before the fourth and while the third is ready, and comes
+            // The fifth becomes ready before the fourth, while the third is ready, and is listed
             // after both.
             Step::Take(1, 2),
             Step::Finish(2, Reply::Done),

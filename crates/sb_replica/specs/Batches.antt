@@ -40,8 +40,8 @@ pub record TakesEntries (names : List (List ℕ)) (old : StreamState) (batch : L
   pub valid : All IsFrame (map entry_frame entries)
   pub handed_out : HandsOutAll old (map entry_frame entries) new
 
--- what ended a batch: nothing (it is full), no whole frame, a frame that isn't an entry, or a fault
--- of the stream
+-- what ended a batch: nothing (its limit was reached), no whole frame, a frame that isn't an entry,
+-- or a fault of the stream
 abbrev pub Ends : StreamState → Result (Option Pause) StreamFault → StreamState → Type 0
 Ends old (Ok None) new = new ≡ old
 Ends old (Ok (Some Short)) new = IsShort old × (new ≡ old)

@@ -144,8 +144,8 @@ impl<S: CheckpointStore> Replica<S> {
         self.log.length()
     }
 
-    /// The reply to a number: from the checkpoint that the replica restarted from, or of an entry
-    /// that finished since. The latter is the reply of the log run one by one from there on.
+    /// The reply to a number: one from the checkpoint that its board was opened on, or that of a
+    /// finished entry. The latter is the reply of the log run one by one from there on.
     #[inline]
     pub fn reply(&self, number: u64) -> Option<Reply>
         ensures value { result ≡ reply_in self.now.board number }

@@ -30,7 +30,7 @@ use Rattle.schedule_player.proofs.HeldEntries.{one_along, moved_along, moved_see
 use Rattle.schedule_player.proofs.Lists.{some_is, none_some}
 use Rattle.schedule_player.proofs.Stages.{set-map, length_stages, undone_in_stages, stages_accepted}
 
--- ---- beside the whole log
+-- ---- compared with the whole log
 
 pub record IsLogAlong (bank : BankOf) (log : LogOf) : Type 0 where
   pub board : IsBoardAlong (held_of bank.opening) (ops_of bank) log.board

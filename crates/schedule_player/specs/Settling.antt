@@ -53,7 +53,7 @@ left_undone world r = undone_at (after_events world (emptying world r)) r
 abbrev pub settling : WorldOf → ℕ → List Event
 settling world r = emptying world r ++ first_works r (left_undone world r)
 
--- no event is needless: before each of these entries the replica isn't idle
+-- and for no longer than it takes: before each of these entries the replica isn't idle
 abbrev pub IsBusyBefore : WorldOf → ℕ → Type 0
 IsBusyBefore world r = (n : ℕ) → n < left_undone world r
     → idle_at (after_events world (emptying world r ++ first_works r n)) r ≡ false

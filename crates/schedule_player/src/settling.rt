@@ -85,8 +85,8 @@ impl World {
     /// It takes no memory and never fails: whatever happened, no replica is stuck.
     pub fn settle(&mut self, replica: u32) -> u32
         requires { replica < length self.old.nodes }
-        // The world moves by these events as the reference machine does, and none of them is
-        // needless.
+        // The world moves by these events as the reference machine does, and by no more entries
+        // than it takes until the replica is idle.
         ensures moves { (notes : List AnyNote) × Plays self.old (settling self.old replica) notes self.new }
         ensures until { IsBusyBefore self.old replica }
         ensures count { result ≡ length (settling self.old replica) }

@@ -11,8 +11,8 @@ use std::alloc::{AllocError, Global};
 
 const OPENING: &[u8] = b"alice 100.00 50.00\nbob 0.00 20.00\ncarol 10.00 0.00\nbegin\n";
 
-// Client 7 asks for alice's balance, pays 5.00 to bob, flushes, asks for the balance again, and
-// flushes.
+// Client 7 asks for alice's balance, deposits 5.00 for bob, flushes, asks for the balance again,
+// and flushes.
 const SENT: &[u8] = b"\x00\x10\x01\x00\x00\x00\x07\x00\x00\x00\x01\x01\x05alice\
 \x00\x16\x01\x00\x00\x00\x07\x00\x00\x00\x02\x02\x03bob\x00\x00\x00\x00\x00\x00\x01\xf4\
 \x00\x01\x06\
