@@ -3,17 +3,17 @@ use Rattle.std.proofs.Common.{◌≡◌, ℕ, ◌+◌, ◌<◌, ◌≤◌, Bool,
 use Rattle.std.specs.List.{prefix_len, position_or_len}
 use Rattle.std.specs.Map.{keys_of, values_of, lookup}
 use Rattle.std.specs.Option.{option_map}
-use Rattle.std.proofs.lemmas.Bool.{and_parts, and_from, eqb-true, eq-eqb, lt-ltb, ltb-false, or_parts, cond-true, cond-false}
+use Rattle.std.proofs.lemmas.Bool.{false_from_ne_true, and_parts, and_from, eqb-true, eq-eqb, lt-ltb, ltb-false, or_parts, cond-true, cond-false}
 use Rattle.std.proofs.lemmas.List.{length-map}
 use Rattle.std.proofs.lemmas.List.Folds.{list_any_none, list_any_at}
 use Rattle.std.proofs.lemmas.List.Quantifiers.{position-Some}
-use Rattle.std.proofs.lemmas.List.Sums.{fails_before_first}
-use Rattle.std.proofs.lemmas.Option.{get_or_from_slice_get, slice_get-get_or, slice_get-map}
+use Rattle.std.proofs.lemmas.List.Sums.{fails_before_first, position_or_len_is}
+use Rattle.std.proofs.lemmas.Option.{slice_get_within, get_or_from_slice_get, slice_get-get_or, slice_get-map}
 use Rattle.indexmap.specs.IndexMap.{insert_entry}
 use Rattle.indexmap.proofs.MapLemmas.{some_index}
 use Rattle.sb_calls.specs.declared.ask.Key.{Key}
 use Rattle.sb_calls.specs.declared.call.Call.{Call}
-use Rattle.sb_sequencer.specs.Numbering.{same_key, has_key, place_of_key}
+use Rattle.sb_sequencer.specs.Numbering.{same_key, has_key, place_of_key, IsLog}
 
 -- keys that the test finds the same are one
 pub same_key_same : (a b : Key) → same_key a b ≡ true → a ≡ b
@@ -108,6 +108,21 @@ entry_from_value log key call place e is =
     let numbered_is : entry.1 ≡ call = ap (λ value. unwrap_or value call) numbered in
     let one : key ≡ entry.0 = same_key_same key entry.0 there.1 in
     at ∙ (λ j. Some (sym one j, numbered_is j))
+
+-- the entry at a place of a log, which has each key once, stands at its key's place
+pub place_from_entry : (log : List (Key × Call)) (key : Key) (call : Call) (place : ℕ) → IsLog log → slice_get log place ≡ Some (key, call)
+    → place_of_key log key ≡ Some place
+place_from_entry log key call place is at =
+    let test = λ (entry : Key × Call). same_key key entry.0 in
+    let within : place < length log = slice_get_within log place (key, call) at in
+    let here : get_or log place (key, call) ≡ (key, call) = get_or_from_slice_get log place (key, call) (key, call) at in
+    let before : (k : ℕ) → k < place → test (get_or log k (key, call)) ≡ false =
+    λ k l. false_from_ne_true _ (λ same.
+        is.different k place (key, call) l within (sym (same_key_same key (get_or log k (key, call)).0 same) ∙ ap (λ (entry : Key × Call). entry.0) (sym here))) in
+    let first : position_or_len test log ≡ place =
+    position_or_len_is test log place (key, call) (omega arith) before (λ _. ap test here ∙ same_key_itself key) in
+    cond-true (nat_lt (position_or_len test log) (length log)) (Some (position_or_len test log)) None (lt-ltb _ _ (omega (arith, first, within)))
+    ∙ ap Some first
 
 -- a map puts a new key last
 pub insert_entry-last : (log : List (Key × Call)) (key : Key) (call : Call) → has_key log key ≡ false
