@@ -84,7 +84,7 @@ IsChain-stays old new first (place ∷ places) (number ∷ numbers) more same ch
       subst (λ (t : Ticket). IsChain new t.next places numbers) (sym here) rest,
     )
 
--- ---- one more ticket behind the last
+-- ---- one more ticket after the last
 
 -- the last ticket gets the place of the new one; the others stay
 pub IsChain_push : (old new : List Ticket) (first head : ℕ) (places numbers : List ℕ) (place number : ℕ)

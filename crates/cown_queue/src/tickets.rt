@@ -10,7 +10,7 @@ use std::mem::size_of;
 // The place that means no ticket.
 const NONE: u32 = u32::MAX;
 
-// A number that waits at a cown, and the place of the ticket behind it.
+// A number that waits at a cown, and the place of the next ticket.
 #[derive(Clone, Copy)]
 struct Ticket {
     number: u64,

@@ -72,7 +72,7 @@ key_of-numbers (suc n) request h = refl
 key_text-append : (key : Key) (rest : List ℕ) → key_text (Some key) ++ rest ≡ codes "ask " ++ (decimal key.client ++ (32 ∷ (decimal key.request ++ 32 ∷ rest)))
 key_text-append key rest = simp append_assoc
 
--- ---- what is read is spelled so
+-- ---- what is read spells the line
 
 -- a call that was read under a key
 under_key_made : (key : Option Key) (read : Result Call CallFault) (made : Asked) → under_key key read ≡ Ok made → (read ≡ Ok made.call) × (key ≡ made.key)
@@ -139,7 +139,7 @@ pub ask_is_spelled : (line : List ℕ) (result : Result Asked CallFault) → res
 ask_is_spelled line (Ok asked) e = line_spells line asked (sym e)
 ask_is_spelled line (Err fault) e = tt
 
--- ---- what is spelled so is read
+-- ---- a line that spells an ask is read
 
 -- a call's spelling doesn't begin with `ask`
 call_without_key : (call : Call) → asked_of (call_line call) ≡ under_key None (call_of (call_line call))

@@ -21,7 +21,7 @@ use Rattle.sb_calls.specs.declared.call.Call.TheVariants.{Balance, DepositChecki
 use Rattle.sb_calls.specs.declared.text.fault.CallFault.{CallFault}
 use Rattle.sb_calls.specs.declared.text.fault.CallFault.TheVariants.{UnknownVerb, BadName}
 
--- ---- what is read is spelled so
+-- ---- what is read spells the line
 
 -- the one of two results that is read
 pub chosen : {T : Type 0} (test : Bool) (first second read : T) → cond test first second ≡ read
@@ -182,7 +182,7 @@ pub read_is_spelled : (line : List ℕ) (result : Result Call CallFault) → res
 read_is_spelled line (Ok call) e = line_spells line call (sym e)
 read_is_spelled line (Err fault) e = tt
 
--- ---- what is spelled so is read
+-- ---- a line that spells a call is read
 
 -- a text whose bytes all pass a test that spaces fail has no spaces
 pub without_spaces : (test : ℕ → Bool) (text : List ℕ) → ((c : ℕ) → test c ≡ true → is_space c ≡ false) → list_all test text ≡ true

@@ -14,7 +14,7 @@ use Rattle.sb_rows.specs.Listing.{row_of, listed, total_of}
 use Rattle.sb_rows.specs.Rows.{Rows}
 use Rattle.sb_calls.specs.Net.{HasNames}
 
--- ---- what stands at a name
+-- ---- the row of a name
 
 -- after a row was written: that row at its name, and the old rows elsewhere
 pub get-insert_name : (rows : Rows) (name : List ℕ) (v : ℤ × ℤ) (q : List ℕ) → get (insert rows name v) q ≡ cond (bytes_eq q name) (Some v) (get rows q)

@@ -15,7 +15,7 @@ use Rattle.sb_checkpoint.specs.Checkpoint.{CheckpointOf, IsSpelled, Layout, Firs
 use Rattle.sb_checkpoint.specs.declared.fault.CheckpointFault.{CheckpointFault}
 use Rattle.sb_checkpoint.specs.declared.fault.CheckpointFault.TheVariants.{BadMagic, Short, WrongCustomers, OutOfRange, NegativeSavings, WrongTotal, WrongOpening, BadReply, Long, OutOfMemory}
 
--- ---- the fields, where they stand
+-- ---- the fields at their places
 
 -- the layout whose magic the first eight bytes are; if there are fewer bytes, the layout whose
 -- magic they begin, and the first layout if they begin both

@@ -74,7 +74,7 @@ three_again {s = s} {t = t} {u = u} F G H make a b c rest v w x =
       H.again c rest x,
     ) refl
 
--- ---- behind a tag
+-- ---- after a tag
 
 -- the tag and the bytes after it are the value's spelling, followed by the rest
 abbrev pub Behind : {Z : Type 0} → (Z → Type 0) → (Z → List ℕ) → ℕ → List ℕ → Z → List ℕ → Type 0

@@ -45,7 +45,7 @@ tagged P tag n first others last e here there =
     (λ test. Goal test) [ true ↦ (λ is found. here (eqb-true tag n is) found) | false ↦ (λ other found. there found) ] in
     both refl e
 
--- the bytes behind a part are bytes
+-- the bytes after a part are bytes
 pub rest_bytes : (bytes front rest : List ℕ) → AreBytes bytes → bytes ≡ front ++ rest → AreBytes rest
 rest_bytes bytes front rest h e =
     let left : drop (length front) bytes ≡ rest = ap (drop (length front)) e ∙ drop_at front rest (length front) refl in

@@ -45,7 +45,7 @@ outcome_frame_at bytes = do
   outcome ← outcome_at request.1
   Ok (Outcome client.0 request.0 outcome.0, outcome.1)
 
--- ---- the body, and what stands before it
+-- ---- the body, and the length before it
 
 -- the fields after a tag
 abbrev pub of_tag : ℕ → List ℕ → Result (Frame × List ℕ) FrameFault

@@ -55,7 +55,7 @@ next_from_bank before c cs h =
       checking = All-part IsWithinLimit (λ x. x.checking) before c cs h.balances.checking;
     }
 
--- ---- what is spelled so is read
+-- ---- a text that spells an opening is read
 
 -- the lines of customers are read as these customers
 customers_from-opening : (before cs : List Customer) (rest : List (List ℕ)) → IsBank (before ++ cs)
@@ -73,7 +73,7 @@ opening_of-opening : (text : List ℕ) (customers : List Customer) (rest : List 
 opening_of-opening text customers rest bank h =
     ap (λ r. r >>= with_consumed text) (ap (customers_from []) h ∙ customers_from-opening [] customers rest bank)
 
--- ---- what is read is spelled so
+-- ---- what is read spells the text
 
 -- the customers that were read from lines, and what the lines are
 record IsRead (before : List Customer) (ls : List (List ℕ)) (customers : List Customer) : Type 0 where

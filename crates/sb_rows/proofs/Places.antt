@@ -22,7 +22,7 @@ none_by_test false n e = refl
 pub first_at : (names : List (List ℕ)) (name : List ℕ) (i : ℕ) → place_of names name ≡ Some i → position_or_len (bytes_eq name) names ≡ i
 first_at names name i e = place_by_test (nat_lt (position_or_len (bytes_eq name) names) (length names)) _ i e
 
--- a name without a place stands at none
+-- a name without a place is at none
 pub first_past : (names : List (List ℕ)) (name : List ℕ) → place_of names name ≡ None → length names ≤ position_or_len (bytes_eq name) names
 first_past names name e =
     ltb-false (position_or_len (bytes_eq name) names) (length names) (none_by_test (nat_lt (position_or_len (bytes_eq name) names) (length names)) _ e)
@@ -47,7 +47,7 @@ has_place names name = by (place_of names name) refl
 pub place_of_within : (names : List (List ℕ)) (name : List ℕ) (i : ℕ) → place_of names name ≡ Some i → i < length names
 place_of_within names name i e = (position-Some (bytes_eq name) names i [] e).0
 
--- a name stands at its place
+-- a name is at its place
 pub place_of_found : (names : List (List ℕ)) (name : List ℕ) (i : ℕ) → place_of names name ≡ Some i → slice_get names i ≡ Some name
 place_of_found names name i e =
     let at = position-Some (bytes_eq name) names i [] e in

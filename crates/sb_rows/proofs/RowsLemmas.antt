@@ -49,7 +49,7 @@ slice_get-set_other (a ∷ as') zero (suc j) x ne = refl
 slice_get-set_other (a ∷ as') (suc i) zero x ne = refl
 slice_get-set_other (a ∷ as') (suc i) (suc j) x ne = slice_get-set_other as' i j x (λ e. ne (ap suc e))
 
--- ---- what stands at a name
+-- ---- the row of a name
 
 -- the pair beside the first name that is equal
 find-zip : {X : Type 0} (names : List (List ℕ)) (vs : List X) (name : List ℕ) → length names ≡ length vs

@@ -53,7 +53,7 @@ line_from_words : (line a b c : List ℕ) → words line ≡ a ∷ b ∷ c ∷ [
 unfolding words
 line_from_words line a b c h = sym (join_with_byte-slice_split 32 line) ∙ ap (join_with_byte 32) h
 
--- ---- what is spelled so is read
+-- ---- a customer's line is read
 
 -- a customer that may come next
 pub record IsNext (before : List Customer) (c : Customer) : Type 0 where
@@ -93,7 +93,7 @@ customer_line-begin before c h = false_from_ne_true _ (λ same.
     let count : length (slice_split is_space (codes "begin")) ≡ 1 = refl in
     omega (arith, ap length three, ap length one, count))
 
--- ---- what is read is spelled so
+-- ---- what is read spells the line
 
 -- the name and the amounts after the last two tests
 amounts_read : (negative many : Bool) (name : List ℕ) (s t : ℤ) (c : Customer)

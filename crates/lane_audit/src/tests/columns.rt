@@ -1,7 +1,7 @@
 //! Columns at the limit, and columns of each length around a lane count.
 use super::*;
 
-// The length of a column, and its sum where each value is at the limit.
+// The length of a column, and its sum if each value is at the limit.
 const SUMS: &[(usize, i64)] = &[
     (0, 0),
     (1, 1_000_000_000_000),
