@@ -93,7 +93,7 @@ abbrev pub paid_first_effect : ℤ → ℤ → ℤ → Reply × List ℤ
 paid_first_effect amount received checking =
     let after = payment amount checking received in (after.0, after.2 ∷ after.1 ∷ [])
 
--- an effect on one, two or three values; any other number of values stays, with the reply NoCustomer
+-- an effect on one, two or three values; any other number of values stays, with reply NoCustomer
 abbrev pub of_one : (ℤ → Reply × List ℤ) → List ℤ → Reply × List ℤ
 of_one effect (v ∷ []) = effect v
 of_one effect held = (replies.NoCustomer, held)

@@ -13,8 +13,8 @@ use sb_rows::Columns;
 use std::alloc::{AllocError, Global};
 use std::marker::Model;
 
-/// The bytes of a checkpoint in the second layout, of a bank with this opening total, in one allocation of their exact
-/// size.
+/// The bytes of a checkpoint in the second layout, of a bank with this opening total, in one
+/// allocation of their exact size.
 pub fn write_checkpoint(
     alloc: Global,
     columns: &Columns,

@@ -9,7 +9,8 @@ use indexmap::IndexSet;
 use std::alloc::{AllocError, Global};
 use std::marker::Model;
 
-/// The customers' names in opening order, all different. A customer's place is the place of its name, from 0.
+/// The customers' names in opening order, all different. A customer's place is the place of its
+/// name, from 0.
 #[derive(Drop)]
 pub struct Directory {
     names: IndexSet<Name>,

@@ -6,8 +6,8 @@ use Rattle.sb_calls.specs.declared.call.Call.{Call}
 use Rattle.sb_calls.specs.declared.reply.Reply.{Reply}
 use Rattle.sb_sequencer.specs.Numbering.{IsLog}
 
--- no replica is beyond the log, and each has a checkpoint length that isn't either; answers are kept
--- only for its calls, and there is room for an answer to each
+-- no replica is beyond the log, and each has a checkpoint length that isn't either; answers are
+-- kept only for its calls, and there is room for an answer to each
 pub record HasRooms (entries : List (Key × Call)) (sizes states : List ℕ)
     (answers : List (Option Reply)) (places : ℕ) : Type 0 where
   pub log : IsLog entries
