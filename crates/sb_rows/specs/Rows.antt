@@ -12,7 +12,7 @@ use Rattle.sb_rows.specs.Directory.{IsDirectory, place_of}
 abbrev pub Rows : Type 0
 Rows = FinMap (slice_cmp nat_cmp) (ℤ × ℤ)
 
--- the rows of columns, which are looked up by the place of a name
+-- the rows of these names: each name with the balances at its place
 unfoldable pub rows_of : List (List ℕ) → Balances → Rows
 rows_of names balances = from_entries (zip names (zip balances.savings balances.checking))
 
