@@ -31,8 +31,8 @@ impl Default for Notice {
 
 /// A crew whose first 64 exchanges are recorded, in order. Nothing is recorded if it is asked and
 /// hands nothing over. Until it has 64 notices, it does what that crew does, and waits where that
-/// one waits. From then on it hands each job back without asking the crew, and what the crew hands
-/// over isn't recorded.
+/// one waits. From then on it hands each job back without giving it to the crew, and what the crew
+/// hands over isn't recorded.
 ///
 /// Contracts see it as the crew and its notices.
 #[derive(Drop)]

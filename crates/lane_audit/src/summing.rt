@@ -8,8 +8,8 @@ use crate::lanes::{LANES, each_fits, with_block};
 use sb_rows::CUSTOMERS;
 use std::simd::prelude::*;
 
-/// The sum of a column. It has at most as many values as a bank has customers, each in the range of
-/// a balance, so the sum fits.
+/// The sum of a column. So that it fits, the column may have at most as many values as a bank has
+/// customers, each in the range of a balance.
 pub fn sum(values: &[i64]) -> i64
     requires few { length values.now ≤ CUSTOMERS }
     requires within { All IsWithinLimit values.now }

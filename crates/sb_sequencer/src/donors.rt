@@ -46,9 +46,10 @@ impl Sequencer {
         donor
     }
 
-    /// The replica from which another gets a state, and the state's length. It is the one that
-    /// keeps a checkpoint of the most of the log, and of more than this replica has; of several,
-    /// the first. `None` if there is none, or if this replica doesn't exist. It allocates nothing.
+    /// The replica from which another gets a state, and the state's length. Of the other replicas
+    /// that keep a checkpoint of more of the log than this one has, it is the one with the most; of
+    /// several, the first. `None` if there is none, or if this replica doesn't exist. It allocates
+    /// nothing.
     pub fn donor(&self, replica: u8) -> Option<(u8, u64)>
         ensures { IsDonor self.now replica result }
     {
