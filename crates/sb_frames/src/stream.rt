@@ -13,8 +13,8 @@ use std::marker::Model;
 /// Takes bytes as they arrive, in pieces of any size, and hands out the frames that they spell.
 ///
 /// It keeps the unread bytes. Read bytes are skipped in place. The rest is moved only if that frees
-/// at least as much as it moves, or if the room doubles. So reading takes time in proportion to the
-/// bytes, however they are cut.
+/// as much as it moves, or if the room doubles. So reading takes time in proportion to the bytes,
+/// however they are cut.
 #[derive(Drop)]
 pub struct Stream {
     buffer: BytesMut,
