@@ -33,7 +33,7 @@ pub(crate) fn next_word(line: &[u8]) -> (&[u8], Option<&[u8]>)
     }
 }
 
-// The same of a line whose spaces are known, and the spaces of what follows.
+// The same by the spaces of the line, and the spaces of what follows.
 #[inline(always)]
 pub(crate) fn next_marked_word(line: &[u8], spaces: u64) -> (&[u8], Option<&[u8]>, u64)
     requires { AreSpacesOf line.now spaces }

@@ -19,7 +19,7 @@ pub struct WrongWords;
 pub struct Words<'a> {
     // The text that they are the words of; where it is none there are none, since each text has a word.
     text: Option<&'a [u8]>,
-    // Where the text has spaces, and none where it's longer than a mask has room for.
+    // The spaces of the text, or none where the line is longer than a mask has room for.
     spaces: Option<u64>,
 }
 
