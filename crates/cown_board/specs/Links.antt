@@ -21,7 +21,7 @@ pub record Stands (place : ℕ) (cowns : List ℕ) (old new : Links) : Type 0 wh
   pub behind : new.ready.behind.items ≡ old.ready.behind.items ++ count_by (is_held old.queues.lists) cowns ∷ []
   pub ready : new.ready.ready.items
       ≡ (if count_by (is_held old.queues.lists) cowns == 0 then old.ready.ready.items ++ place ∷ []
-         else old.ready.ready.items)
+      else old.ready.ready.items)
 
 -- each of these places, once for each time that it stands there, is in front at one cown more; what is in front at
 -- all its cowns then is ready
