@@ -21,7 +21,7 @@ pub record Stands (place : ℕ) (cowns : List ℕ) (old new : Links) : Type 0 wh
   pub behind : new.ready.behind.items ≡ old.ready.behind.items ++ count_by (is_held old.queues.lists) cowns ∷ []
   pub ready : new.ready.ready.items
       ≡ (if count_by (is_held old.queues.lists) cowns == 0 then old.ready.ready.items ++ place ∷ []
-         else old.ready.ready.items)
+      else old.ready.ready.items)
 
 -- each of these places is in front at one more cown for each time that it occurs; a place in front
 -- at all its cowns is then ready

@@ -130,7 +130,8 @@ impl<B: Behaviour> Board<B> {
     {
         self.log.reserve(additional)?;
         self.states.reserve(additional)?;
-        self.links.reserve(self.log.len().saturating_add(additional))
+        self.links
+            .reserve(self.log.len().saturating_add(additional))
     }
 
     /// The board's length: the greatest number so far.
@@ -191,17 +192,12 @@ impl<B: Behaviour> Board<B> {
         if self.base as usize + self.log.len() == LOG_CALLS {
             return Err(SubmitFault::LogFull);
         }
-        let cowns = behaviour.cowns();
         let place = self.log.len() as u64;
         let unfinished = self.unfinished + 1;
         if make_room(&mut self.log, &mut self.states).is_err() {
             return Err(SubmitFault::OutOfMemory);
         }
-        if self
-            .links
-            .submit(place, cowns.as_slice(), unfinished)
-            .is_err()
-        {
+        if self.links.submit(place, behaviour, unfinished).is_err() {
             return Err(SubmitFault::OutOfMemory);
         }
         self.log.push_reserved(behaviour);

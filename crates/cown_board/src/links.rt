@@ -55,15 +55,13 @@ impl Links {
     // for linking, handing out and finishing it is made here. If memory is refused, nothing is
     // lost.
     #[inline(always)]
-    pub(crate) fn submit(
+    pub(crate) fn submit<B: Behaviour>(
         &mut self,
         place: u64,
-        cowns: &[Cown],
+        behaviour: B,
         unfinished: usize,
     ) -> Result<(), AllocError>
-        requires few { length cowns.now ≤ 3 }
-        requires rising { IsRising cowns.now }
-        requires cowns { AreBelow (length self.old.queues.lists) cowns.now }
+        requires cowns { AreBelow (length self.old.queues.lists) (B.touches behaviour) }
         requires place { place < 1000000 }
         requires unfinished { unfinished ≤ 1024 }
         requires counts { self.old.linked ≡ true → vec_len self.old.ready.behind ≡ place }
@@ -75,7 +73,7 @@ impl Links {
         ensures err { OnErr result (Stay self.old self.new) }
         ensures counts_room { OnOk result (place + 1 ≤ vec_capacity self.new.ready.behind) }
         ensures ready_room { OnOk result (unfinished + 3 ≤ deque_capacity self.new.ready.ready) }
-        ensures put { OnOk result (self.old.linked ≡ true → Stands place cowns.now self.old self.new) }
+        ensures put { OnOk result (self.old.linked ≡ true → Stands place (B.touches behaviour) self.old self.new) }
         ensures stay { OnOk result (self.old.linked ≡ false →
             Stay self.old self.new × (unfinished * 3 ≤ self.new.queues.places)) }
     {
@@ -83,9 +81,10 @@ impl Links {
         if !self.linked {
             return self.queues.reserve_places(unfinished * BEHAVIOUR_COWNS);
         }
-        self.queues.reserve(cowns)?;
-        let behind = count_held(&self.queues, cowns);
-        self.queues.append(place, cowns);
+        let cowns = behaviour.cowns();
+        self.queues.reserve(cowns.as_slice())?;
+        let behind = count_held(&self.queues, cowns.as_slice());
+        self.queues.append(place, cowns.as_slice());
         self.ready.push(place, behind);
         Ok(())
     }
