@@ -1,4 +1,5 @@
 //! Names, openings and balances.
+mod borders;
 pub(crate) mod columns;
 mod directories;
 mod names;

@@ -1,4 +1,4 @@
--- At how many of its cowns each behaviour isn't in front, after each change.
+-- The number of cowns at which each behaviour isn't in front, after each change.
 use Rattle.std.proofs.Common.{◌≡◌, ◌≢◌, inl, inr, ℕ, zero, suc, ◌+◌, ◌<◌, ◌≤◌, ℤ, Bool, true, false, not, ◌&&◌, Some, List, [], ◌∷◌, ◌++◌, length, length-append, get_or, drop, refl, sym, ap, ◌∙◌, arith}
 use Rattle.std.specs.Prelude.{◌==◌, if◌then◌else◌, All, count_by, slice_get, slice_set, remove}
 use Rattle.std.proofs.lemmas.Bool.{cases_Bool, cases_eq, cases_order, and_left, and_parts, true≢false, false_from_ne_true}
@@ -24,13 +24,13 @@ use Rattle.cown_board.specs.State.{is_open, is_waiting, open_at, waiting_at}
 use Rattle.cown_board.specs.declared.state.State.{State}
 use Rattle.cown_board.specs.declared.state.State.TheVariants.{Waiting, Out, Finished}
 
--- what stands before the end of a longer list
+-- an element before the end of a longer list
 get_or-before : (xs : List ℕ) (m i d : ℕ) → i < length xs → get_or (xs ++ m ∷ []) i d ≡ get_or xs i d
 get_or-before [] m i d lt = absurd (omega (arith, lt))
 get_or-before (x ∷ xs) m zero d lt = refl
 get_or-before (x ∷ xs) m (suc i) d lt = get_or-before xs m i d (omega (arith, lt))
 
--- of its cowns, at one where it comes to the front it wasn't, and at all others it is where it was
+-- of its cowns: it comes to the front only where it wasn't, and everywhere else nothing changes
 split : (tj tk fo fn : Bool) → (tk ≡ true → fo ≡ false) → (fn ≡ true → tk ≡ true → tj ≡ true) → (tk ≡ false → fn ≡ fo)
     → one (tj && not fo) ≡ one (tj && not fn) + one (tk && fn)
 split tj true true fn was known alike = absurd (true≢false (was refl))
@@ -51,7 +51,7 @@ module _ {B : Type 0} (touches : B → List ℕ) (effect : B → List ℤ → Re
       (queued : QueuesAre touches effect log states old cowns) (appended : Appends (length log) (touches b) old new)
       (within : (k cown : ℕ) → touches_at touches effect log cown k ≡ true → cown < cowns)
       (fits : (cown : ℕ) → is_among cown (touches b) ≡ true → cown < cowns) where
-    -- those before it are in front where they were
+    -- those before it are in front at the same cowns as before
     behind_before : (j : ℕ) → j < length log → behind_of touches (log ++ b ∷ []) new j ≡ behind_of touches log old j
     behind_before j lt =
         ap (λ o. behind_at j new (touched_by touches o)) (slice_get-left log (b ∷ []) j lt)
@@ -61,7 +61,7 @@ module _ {B : Type 0} (touches : B → List ℕ) (effect : B → List ℤ → Re
         ap (λ xs. not (is_first j xs)) (appended.each cown (omega (arith, in_range, queued.one_each)))
         ∙ ap not (first_chosen (is_among cown (touches b)) j (length log) (list_of old cown) (λ e. omega (arith, e, lt))))
 
-    -- and it isn't in front where a cown had a number
+    -- and it isn't in front where a cown already had a number
     behind_last : behind_of touches (log ++ b ∷ []) new (length log) ≡ count_by (is_held old) (touches b)
     behind_last =
         ap (λ o. behind_at (length log) new (touched_by touches o)) (slice_get-right log (b ∷ []) (length log) 0 (omega arith))
@@ -151,7 +151,7 @@ module _ {B : Type 0} (touches : B → List ℕ) (effect : B → List ℤ → Re
     touches_k : (cown : ℕ) → touches_at touches effect log cown k ≡ is_among cown (touches b)
     touches_k cown = ap (λ o. is_among cown (touched_by touches o)) here
 
-    -- who is in front after it is unfinished, declares the cown, and is another
+    -- who is in front afterwards is unfinished, declares the cown, and is another
     front_after : (cown j : ℕ) → cown < cowns → slice_get (list_of new cown) 0 ≡ Some j
         → (j < length log) × (j ≢ k) × (open_at states j ≡ true) × (touches_at touches effect log cown j ≡ true)
     front_after cown j lt first =
@@ -178,7 +178,7 @@ module _ {B : Type 0} (touches : B → List ℕ) (effect : B → List ℤ → Re
           ]
         ]
 
-    -- it is behind at as many cowns fewer as it comes to the front of
+    -- it is behind at fewer cowns, by the number at which it comes to the front
     pub behind_fewer : (j : ℕ) (c : B) → slice_get log j ≡ Some c → j ≢ k → AreBelow cowns (touches c) → AreBelow cowns (touches b)
         → behind_of touches log new j + times j (fronts_of new (touches b)) ≡ behind_of touches log old j
     behind_fewer j c at differs below_j below_k =
@@ -209,14 +209,14 @@ module _ {B : Type 0} (touches : B → List ℕ) (effect : B → List ℤ → Re
     declared j c at = below_from cowns (touches c) (λ cown among. in_range j cown (ap (λ o. is_among cown (touched_by touches o)) at ∙ among))
 
     module _ (behind ready : List ℕ) (counts : CountsAre touches effect log states old behind ready) where
-      -- so of one that waits it is known at how many it stays behind
+      -- so for a waiting one the new count is known
       known_fewer : (j : ℕ) → waiting_at states j ≡ true → behind_of touches log new j + times j (fronts_of new (touches b)) ≡ get_or behind j 0
       known_fewer j waiting =
           let all = waiting_within states j waiting in
           let found = some_at log j (omega (arith, all, same)) in
           behind_fewer j found.0 found.1 (other_than j waiting) (declared j found.0 found.1) (declared k b here) ∙ sym (counts.counted j waiting)
 
-      -- who comes to the front was behind as often
+      -- who comes to the front was behind at least that often
       pub fronts_counted : (j : ℕ) → times j (fronts_of new (touches b)) ≤ get_or behind j 0
       fronts_counted j = elim (cases_Bool (is_among j (fronts_of new (touches b)))) [
         | inl among ↦ (let known = known_fewer j (front_waits j among).1 in omega (arith, known))

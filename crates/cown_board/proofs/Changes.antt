@@ -1,4 +1,4 @@
--- What a board keeps, at each change of it.
+-- The invariant of a board, at each change.
 use Rattle.std.proofs.Common.{◌≡◌, inl, inr, ℕ, suc, ◌+◌, ◌-◌, ◌*◌, ◌<◌, ◌≤◌, ℤ, true, false, Option, Some, List, [], ◌∷◌, ◌++◌, length, length-append, get_or, refl, sym, ap, subst, ◌∙◌, arith, vec_capacity}
 use Rattle.std.specs.Prelude.{◌==◌, count_by, slice_get, slice_set}
 use Rattle.std.specs.VecDeque.{deque_capacity}
@@ -37,7 +37,7 @@ use Rattle.cown_board.specs.declared.state.State.TheVariants.{Waiting, Out, Fini
 
 module _ {B : Type 0} (touches : B → List ℕ) (effect : B → List ℤ → Reply × List ℤ)
     {inside : BoardInside B} (board : IsBoard touches effect inside) where
-  -- one more stands at its cowns, or there is room for it
+  -- one more behaviour is added at its cowns, or there is room for it
   pub links_submitted : (b : B) (new : Links) → AreBelow (length (held_of inside.opening)) (touches b) → new.linked ≡ inside.links.linked
       → (inside.links.linked ≡ true → Stands (length inside.log) (touches b) inside.links new)
       → (inside.links.linked ≡ false → Stay inside.links new × ((inside.unfinished + 1) * 3 ≤ new.queues.places))
@@ -111,7 +111,7 @@ module _ {B : Type 0} (touches : B → List ℕ) (effect : B → List ℤ → Re
     cut = IfSome_then inside.cut board.cut (cut_taken touches effect (held_of inside.opening) inside.base inside.log inside.states k here clear);
   }
 
-  -- the same board, with links that say the same
+  -- the same board, with links that mean the same
   pub IsBoard-linked : (new : Links) → AreLinks touches effect inside.log inside.states inside.unfinished (length (held_of inside.opening)) new
       → IsBoard touches effect (record inside { links = new })
   IsBoard-linked new links = record {
@@ -132,12 +132,12 @@ module _ {B : Type 0} (touches : B → List ℕ) (effect : B → List ℤ → Re
     clear : (j : ℕ) → j < k → conflict_at touches inside.log j k ≡ true → open_at inside.states j ≡ false
     clear = clear_of_out touches effect board.keeps k b here out
 
-    -- where all is linked those that come to the front wait, and it is known at how many cowns they weren't
+    -- if all are linked, those that come to the front wait, and their counts are known
     module _ (linked : inside.links.linked ≡ true) (new : List (List ℕ)) (released : Releases (touches b) inside.links.queues.lists new) where
       all : AllLinked touches effect inside.log inside.states cowns inside.links
       all = board.links.linked linked
 
-      -- it is in front of each of its cowns
+      -- it is in front at each of its cowns
       front : (cown : ℕ) → is_among cown (touches b) ≡ true → slice_get (list_of inside.links.queues.lists cown) 0 ≡ Some k
       front cown among =
           let at_k : touches_at touches effect inside.log cown k ≡ true = ap (λ o. is_among cown (touched_by touches o)) here ∙ among in
@@ -221,7 +221,7 @@ module _ {B : Type 0} (touches : B → List ℕ) (effect : B → List ℤ → Re
               long replied left inside.cut cut noted board.cut;
         }
 
-  -- the same, of lists that were changed in place
+  -- the same, for lists that were changed in place
   pub IsBoard-pushed : (b : B) (log' : List B) (states' : List State) (new : Links) → AreBelow (length (held_of inside.opening)) (touches b)
       → log' ≡ inside.log ++ b ∷ [] → states' ≡ inside.states ++ Waiting ∷ []
       → AreLinks touches effect (inside.log ++ b ∷ []) (inside.states ++ Waiting ∷ []) (inside.unfinished + 1) (length (held_of inside.opening)) new
@@ -231,7 +231,7 @@ module _ {B : Type 0} (touches : B → List ℕ) (effect : B → List ℤ → Re
       rw (is_log, is_states)
       (IsBoard-submitted b new below links (omega (arith, few, board.few_open)) (omega (arith, more, board.based, board.few_numbers)))
 
-  -- no more are ready than unfinished
+  -- at most the unfinished ones are ready
   pub few_ready : inside.links.linked ≡ true → length inside.links.ready.ready.items ≤ inside.unfinished
   few_ready linked =
       let counts = (board.links.linked linked).counts in
@@ -240,11 +240,11 @@ module _ {B : Type 0} (touches : B → List ℕ) (effect : B → List ℤ → Re
       (λ j due. waiting_is_open inside.states j (and_parts (waiting_at inside.states j) (get_or inside.links.ready.behind.items j 0 == 0) due).0) in
       omega (arith, few, ap length counts.listed, board.unfinished)
 
-  -- where nothing is linked none is listed
+  -- if nothing is linked, none is listed
   pub none_listed : inside.links.linked ≡ false → length inside.links.ready.ready.items ≡ 0
   none_listed isnt = ap length (board.links.unlinked isnt).1.ready
 
-  -- as many cowns have queues as there are
+  -- there are as many queues as cowns
   pub one_each : length inside.links.queues.lists ≡ length (held_of inside.opening)
   one_each = elim (cases_Bool inside.links.linked) [
     | inl is ↦ (board.links.linked is).queues.one_each

@@ -1,4 +1,4 @@
--- How many are unfinished.
+-- The number of unfinished behaviours.
 use Rattle.std.proofs.Common.{◌≡◌, inl, inr, ℕ, zero, suc, ◌+◌, ◌≤◌, Bool, true, false, cond, Option, Some, None, List, [], ◌∷◌, ◌++◌, length, refl, ap, ◌∙◌, arith}
 use Rattle.std.specs.Prelude.{slice_get, slice_set, count_by}
 use Rattle.std.proofs.lemmas.Bool.{cases_Bool, false_from_ne_true}
@@ -9,7 +9,7 @@ use Rattle.cown_board.specs.Places.{places}
 use Rattle.cown_board.specs.State.{is_open, state_is}
 use Rattle.cown_board.specs.declared.state.State.{State}
 
--- one, if it is unfinished
+-- 1 if the state is unfinished, else 0
 abbrev pub one_if_open : State → ℕ
 one_if_open s = cond (is_open s) 1 0
 
@@ -22,7 +22,7 @@ count-append (t ∷ states) s =
     count_cons t (states ++ s ∷ []) ∙ ap (λ n. one_if_open t + n) (count-append states s)
     ∙ (let e = count_cons t states in omega (arith, e))
 
--- a changed state counts in place of the one before
+-- a changed state counts in place of the old one
 pub count-set : (states : List State) (k : ℕ) (old new : State) → slice_get states k ≡ Some old
     → count_by is_open (slice_set states k new) + one_if_open old ≡ count_by is_open states + one_if_open new
 count-set [] k old new h = absurd (no_some h)
@@ -53,11 +53,11 @@ counts_none : (states : List State) (k : ℕ) (o : Option State) → count_by is
 counts_none states k None none here = refl
 counts_none states k (Some s) none here = false_from_ne_true (is_open s) (λ unfinished. omega (arith, none, count_some states k s here unfinished))
 
--- where none counts all are finished
+-- if none counts, all are finished
 pub all_finished : (states : List State) (k : ℕ) → count_by is_open states ≡ 0 → state_is is_open (slice_get states k) ≡ false
 all_finished states k none = counts_none states k (slice_get states k) none refl
 
--- where only unfinished ones are so, no more are so than are unfinished
+-- if a test holds only for unfinished ones, it holds for at most that many
 pub few_places : (states : List State) (f : ℕ → Bool) (m : ℕ) → m ≤ length states
     → ((j : ℕ) → f j ≡ true → state_is is_open (slice_get states j) ≡ true) → length (places f m) ≤ count_by is_open states
 few_places states f zero le each = omega arith

@@ -1,4 +1,4 @@
--- How many of a list of cowns are so, counted over all cowns.
+-- How many of a list of cowns pass a test, counted over all cowns.
 use Rattle.std.proofs.Common.{◌≡◌, inl, inr, ℕ, zero, suc, ◌+◌, ◌<◌, Bool, true, false, ◌&&◌, ◌||◌, ◌⊎◌, Some, List, [], ◌∷◌, length, get_or, refl, sym, ap, ◌∙◌, arith}
 use Rattle.std.specs.List.{cons_option}
 use Rattle.std.specs.Prelude.{◌==◌, slice_get, count_by}
@@ -34,7 +34,7 @@ one_place p c (suc m) lt =
       ]
     ]
 
--- one of two, which aren't so together
+-- one of two tests that never hold together
 split_or : (a b q : Bool) → (a ≡ true → b ≡ false) → one ((a || b) && q) ≡ one (a && q) + one (b && q)
 split_or true true q apart = absurd (true≢false (apart refl))
 split_or true false true apart = refl
@@ -43,7 +43,7 @@ split_or false true true apart = refl
 split_or false true false apart = refl
 split_or false false q apart = refl
 
--- a rising list of cowns counts as the cowns that are in it do
+-- a count over a rising list of cowns is the count over all cowns that are in it
 pub count_by-places : (p : ℕ → Bool) (cowns : List ℕ) (n : ℕ) → IsRising cowns → AreBelow n cowns
     → count_by p cowns ≡ length (places (λ x. is_among x cowns && p x) n)
 count_by-places p [] n rising below = sym (length-places_none (λ x. false && p x) n (λ x lt. refl))
@@ -55,7 +55,7 @@ count_by-places p (c ∷ cowns) n rising below =
     (λ x lt. split_or (x == c) (is_among x cowns) (p x) (λ same. is_among-rising c cowns x rising (let e = eqb-true x c same in omega (arith, e)))) in
     omega (arith, all, rest, first, both)
 
--- the fronts of some cowns have a number as often as it is in front at one
+-- a number occurs among the fronts of some cowns once for each cown at which it is in front
 times-list : (xs : List ℕ) (rest : List ℕ) (j : ℕ) → times j (cons_option (slice_get xs 0) rest) ≡ one (is_first j xs) + times j rest
 times-list [] rest j = omega arith
 times-list (x ∷ xs) rest j = count-cons (λ n. n == j) x rest
@@ -68,7 +68,7 @@ times-fronts lists (c ∷ cowns) j =
     let other = count-cons (λ c. is_first j (list_of lists c)) c cowns in
     omega (arith, all, rest, other)
 
--- whatever is among the fronts is in front at one of the cowns
+-- a number among the fronts is in front at one of the cowns
 front_list : (xs : List ℕ) (rest : List ℕ) (j : ℕ) → is_among j (cons_option (slice_get xs 0) rest) ≡ true → (slice_get xs 0 ≡ Some j) ⊎ (is_among j rest ≡ true)
 front_list [] rest j among = inr among
 front_list (x ∷ xs) rest j among = elim (or_cases (j == x) (is_among j rest) among) [
@@ -86,7 +86,7 @@ front_among lists (c ∷ cowns) j among = elim (front_list (list_of lists c) (fr
       (found.0, or_right (found.0 == c) (is_among found.0 cowns) found.1, found.2)
 ]
 
--- what isn't among them doesn't stand there
+-- a number that isn't among them occurs 0 times
 pub times_none : (j : ℕ) (xs : List ℕ) → is_among j xs ≡ false → times j xs ≡ 0
 times_none j [] out = refl
 times_none j (x ∷ xs) out =
@@ -96,7 +96,7 @@ times_none j (x ∷ xs) out =
     let all = count-cons (λ n. n == j) x xs in
     omega (arith, here, rest, all)
 
--- one of a list is among them
+-- an element of a list is among them
 pub is_among-get : (xs : List ℕ) (k d : ℕ) → k < length xs → is_among (get_or xs k d) xs ≡ true
 is_among-get [] k d lt = absurd (omega (arith, lt))
 is_among-get (x ∷ xs) zero d lt = or_left (x == x) (is_among x xs) (eqb-refl x)

@@ -1,4 +1,4 @@
--- What a cut keeps, at each change of a board.
+-- The invariant of a cut, at each change of a board.
 use Rattle.std.proofs.Common.{◌≡◌, inl, inr, ℕ, zero, suc, ◌+◌, ◌-◌, ◌<◌, ◌≤◌, ℤ, true, false, Option, Some, None, List, [], ◌∷◌, ◌++◌, length, length-append, take, refl, sym, ap, subst, ◌∙◌, arith}
 use Rattle.std.specs.Prelude.{IfSome, slice_get, slice_set, option_map}
 use Rattle.std.proofs.Math.Seq.{take-set-lt}
@@ -17,7 +17,7 @@ use Rattle.cown_board.specs.declared.cut.Cut.{Cut}
 use Rattle.cown_board.specs.declared.state.State.{State}
 use Rattle.cown_board.specs.declared.state.State.TheVariants.{Waiting, Out, Finished}
 
--- at a place of a beginning stands what stood there
+-- the front of a list has the same elements
 pub slice_get-take : {A : Type 0} (xs : List A) (n k : ℕ) → k < n → slice_get (take n xs) k ≡ slice_get xs k
 slice_get-take xs zero k lt = absurd (omega (arith, lt))
 slice_get-take [] (suc n) k lt = refl
@@ -33,7 +33,7 @@ noted_number number cowns values (Some old) None noted = absurd noted
 noted_number number cowns values (Some old) (Some new) noted = ap (λ n. Some n) noted.same
 
 module _ {B : Type 0} (touches : B → List ℕ) (effect : B → List ℤ → Reply × List ℤ) (opening : List ℤ) (base : ℕ) (log : List B) (states : List State) where
-  -- what leaves a cut's beginnings as they are leaves the cut
+  -- what leaves a cut's fronts unchanged leaves the cut unchanged
   cut_stays : (log' : List B) (states' : List State) (cut : Cut) → IsCut touches effect opening base log states cut → length log ≤ length log'
       → take (cut.number - base) log' ≡ take (cut.number - base) log → take (cut.number - base) states' ≡ take (cut.number - base) states
       → IsCut touches effect opening base log' states' cut
@@ -52,12 +52,12 @@ module _ {B : Type 0} (touches : B → List ℕ) (effect : B → List ℤ → Re
       (take-append-le (cut.number - base) log (b ∷ []) (omega (arith, kept.within)))
       (take-append-le (cut.number - base) states (Waiting ∷ []) (omega (arith, kept.within, beside)))
 
-  -- what isn't of a cut's beginnings changes nothing of it
+  -- a change after a cut's fronts leaves the cut
   set_after : (k : ℕ) (s : State) (cut : Cut) → cut.number - base ≤ k → IsCut touches effect opening base log states cut
       → IsCut touches effect opening base log (slice_set states k s) cut
   set_after k s cut ge kept = cut_stays log (slice_set states k s) cut kept (omega arith) refl (take-set-le (cut.number - base) states k s ge)
 
-  -- two of a beginning that share a cown share it in the log
+  -- two places of a front that share a cown share it in the whole log
   conflict-take : (n j k : ℕ) → j < k → k < n → conflict_at touches (take n log) j k ≡ conflict_at touches log j k
   conflict-take n j k before lt =
       ap (λ o. share_cown (touched_by touches o) (touched_by touches (slice_get (take n log) k))) (slice_get-take log n j (omega (arith, before, lt)))
@@ -83,7 +83,7 @@ module _ {B : Type 0} (touches : B → List ℕ) (effect : B → List ℤ → Re
       ]
 
   module _ (k : ℕ) (b : B) (here : slice_get log k ≡ Some b) (out : slice_get states k ≡ Some Out) where
-    -- one of a cut that is out counts as unfinished
+    -- a behaviour of a cut that is out counts as unfinished
     pub some_of_cut : (cut : Cut) → IsCut touches effect opening base log states cut → suc (base + k) ≤ cut.number → 1 ≤ cut.unfinished
     some_of_cut cut kept le =
         let n = cut.number - base in

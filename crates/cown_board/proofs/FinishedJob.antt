@@ -1,4 +1,4 @@
--- What comes back and is accepted.
+-- A result that comes back and is accepted.
 use Rattle.std.proofs.Common.{◌≡◌, ◌≢◌, inl, inr, ℕ, suc, ◌+◌, ◌-◌, ◌<◌, ◌≤◌, ℤ, true, false, Option, Some, List, length, get_or, take, refl, sym, ap, subst, ◌∙◌, arith}
 use Rattle.std.specs.Prelude.{IfSome, count_by, slice_get, slice_set, option_map}
 use Rattle.std.specs.VecDeque.{deque_capacity}
@@ -33,14 +33,14 @@ use Rattle.cown_board.specs.declared.state.State.TheVariants.{Out, Finished}
 
 module _ {B : Type 0} (touches : B → List ℕ) (effect : B → List ℤ → Reply × List ℤ)
     {inside : BoardInside B} (board : IsBoard touches effect inside) where
-  -- the cowns of one that is out hold what it was handed out with
+  -- the cowns of a behaviour that is out hold what it was handed out with
   out_inputs : (k : ℕ) (b : B) → slice_get inside.log k ≡ Some b → slice_get inside.states k ≡ Some Out
       → read_cowns (held_of inside.now) (touches b) ≡ inputs_of touches effect (held_after_first touches effect (held_of inside.opening) inside.log k) b
   out_inputs k b here out =
       holds_inputs touches effect board.keeps k (state_here is_open inside.states k Out out) (clear_of_out touches effect board.keeps k b here out) b here
       (let lt = slice_get_within inside.log k b here in omega (arith, lt))
 
-  -- what was tested, as what callers see
+  -- the tests passed, in the terms of what callers see
   abbrev IsOutInside : ℕ → DoneOf B → Type 0
   IsOutInside k done = (slice_get inside.states k ≡ Some Out) × (slice_get inside.log k ≡ Some done.behaviour) ×
       (done.inputs ≡ read_cowns (held_of inside.now) (touches done.behaviour))
@@ -62,7 +62,7 @@ module _ {B : Type 0} (touches : B → List ℕ) (effect : B → List ℤ → Re
     (out.out, out.behaviour, out.inputs ∙ sym (out_inputs k done.behaviour out.behaviour out.out)),
   )
 
-  -- a number that is none of the log's, or isn't out, is refused
+  -- a result is refused if its number isn't in the log, or isn't out
   pub not_numbered : (done : DoneOf B) → ((k : ℕ) → k < length inside.log → done.number ≢ suc (inside.base + k))
       → ¬ IsOutHere touches effect (seen touches effect board) done
   not_numbered done none out = let found = out_to out.0 done out.1 in none out.0 found.1 found.0
@@ -125,7 +125,7 @@ module _ {B : Type 0} (touches : B → List ℕ) (effect : B → List ℤ → Re
         (links_finished touches effect board k done.behaviour tested.1 tested.0 rising reply new same stay released forward wide)
         cut (subst (λ n. AreNoted n (touches done.behaviour) outputs inside.cut cut) numbered noted)
 
-    -- its cowns are those of a cut's columns, and of a cut that has it one at least is unfinished
+    -- its cowns exist in a cut's columns, and a cut that includes it has at least one unfinished
     pub cowns_of_cut : IfSome inside.cut (λ cut. AreBelow (length (held_of cut.columns)) (touches done.behaviour))
     cowns_of_cut = IfSome_then inside.cut board.cut (λ cut kept. rw kept.keeps.cowns_stay (declared_below touches effect board k done.behaviour tested.1))
 
@@ -134,7 +134,7 @@ module _ {B : Type 0} (touches : B → List ℕ) (effect : B → List ℤ → Re
         some_of_cut touches effect (held_of inside.opening) inside.base inside.log inside.states k done.behaviour tested.1 tested.0 cut kept
         (omega (arith, numbered, le)))
 
-    -- what comes to the front was behind there, and there is room for it
+    -- what comes to the front was behind, and there is room for it
     pub fronts_behind : ((b : B) → IsRising (touches b)) → Reply → inside.links.linked ≡ true → (new : List (List ℕ))
         → Releases (touches done.behaviour) inside.links.queues.lists new
         → (j : ℕ) → times j (fronts_of new (touches done.behaviour)) ≤ get_or inside.links.ready.behind.items j 0

@@ -1,4 +1,4 @@
--- A behaviour that is out is finished: what is kept.
+-- A behaviour that is out is finished: the invariant stays.
 use Rattle.std.proofs.Common.{◌≡◌, ◌≢◌, inl, inr, ℕ, suc, ◌-◌, ◌<◌, ◌≤◌, ℤ, pos, true, false, Option, Some, List, length, get_or, take, sym, ap, ◌∙◌, arith}
 use Rattle.std.specs.Prelude.{slice_get, slice_set, option_map, option_and_then}
 use Rattle.std.proofs.lemmas.Bool.{cases_Bool, cases_eq, cases_lt, true≢false, false_from_ne_true}
@@ -47,7 +47,7 @@ module _ {B : Type 0} (touches : B → List ℕ) (effect : B → List ℤ → Re
     open-finished_same : open_at (slice_set states k (Finished reply)) k ≡ false
     open-finished_same = state-set_same is_open states k (Finished reply) lt_states
 
-    -- whoever is unfinished after it was before it, and is another
+    -- whoever is unfinished afterwards was unfinished before, and is another
     still_open : (j : ℕ) → open_at (slice_set states k (Finished reply)) j ≡ true → (j ≢ k) × (open_at states j ≡ true)
     still_open j unfinished =
         let differs : j ≢ k = λ same. true≢false (sym unfinished ∙ ap (open_at (slice_set states k (Finished reply))) same ∙ open-finished_same) in

@@ -18,7 +18,7 @@ pub first_to : (xs : List ℕ) (n : ℕ) → is_first n xs ≡ true → slice_ge
 first_to [] n h = absurd (true≢false (sym h))
 first_to (x ∷ xs) n h = ap (λ y. Some y) (eqb-true x n h)
 
--- one more at the end is first of none but an empty list
+-- another number appended is the first only of a list that was empty
 pub first-append : (j n : ℕ) (xs : List ℕ) → j ≢ n → is_first j (xs ++ n ∷ []) ≡ is_first j xs
 first-append j n [] differs = ne_eqb n j (λ same. differs (sym same))
 first-append j n (x ∷ xs) differs = refl
@@ -27,7 +27,7 @@ pub first_chosen : (b : Bool) (j n : ℕ) (xs : List ℕ) → j ≢ n → is_fir
 first_chosen true j n xs differs = first-append j n xs differs
 first_chosen false j n xs differs = refl
 
--- it is in front of what was empty, and of nothing else
+-- it is in front exactly if the list was empty
 pub first-last : (n : ℕ) (xs : List ℕ) → ((x : ℕ) → slice_get xs 0 ≡ Some x → x ≢ n) → not (is_first n (xs ++ n ∷ [])) ≡ is_some (slice_get xs 0)
 first-last n [] other = not_from_true (n == n) (eqb-refl n)
 first-last n (x ∷ xs) other = not_from_false (x == n) (ne_eqb x n (other x refl))
@@ -35,7 +35,7 @@ first-last n (x ∷ xs) other = not_from_false (x == n) (ne_eqb x n (other x ref
 pub count-cons : (p : ℕ → Bool) (x : ℕ) (xs : List ℕ) → count_by p (x ∷ xs) ≡ one (p x) + count_by p xs
 count-cons p x xs = sum_by-cons (λ y. cond (p y) 1 0) x xs
 
--- where two agree on all of a list they count alike
+-- if two tests agree on all of a list, their counts are equal
 pub count_by-agree : (p q : ℕ → Bool) (xs : List ℕ) → ((x : ℕ) → is_among x xs ≡ true → p x ≡ q x) → count_by p xs ≡ count_by q xs
 count_by-agree p q [] same = refl
 count_by-agree p q (x ∷ xs) same =
@@ -45,7 +45,7 @@ count_by-agree p q (x ∷ xs) same =
     let b = count-cons q x xs in
     omega (arith, here, rest, a, b)
 
--- it is behind at none of these cowns just where it is in front of all
+-- a number is behind at none of these cowns exactly if it is in front at all
 pub none_behind : (n : ℕ) (lists : List (List ℕ)) (cowns : List ℕ) → AreFronts n lists cowns → behind_at n lists cowns ≡ 0
 none_behind n lists [] fronts = refl
 none_behind n lists (c ∷ cowns) fronts =
@@ -65,7 +65,7 @@ fronts_from_none n lists (c ∷ cowns) none =
           absurd (omega (arith, none, all, here))
     ]
 
--- two tests that say the same are one
+-- two tests that imply each other are equal
 pub same_tests : (a b : Bool) → (a ≡ true → b ≡ true) → (b ≡ true → a ≡ true) → a ≡ b
 same_tests true b to from = sym (to refl)
 same_tests false true to from = from refl

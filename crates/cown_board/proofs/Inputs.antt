@@ -28,7 +28,7 @@ module _ {B : Type 0} (touches : B → List ℕ) (effect : B → List ℤ → Re
 
   module _ {opening : List ℤ} {log : List B} {states : List State} {held : List ℤ} (kept : Keeps touches effect opening log states held)
       (k : ℕ) (unfinished : open_at states k ≡ true) (clear : (j : ℕ) → j < k → conflict_at touches log j k ≡ true → open_at states j ≡ false) where
-    -- its cowns are settled up to it
+    -- its cowns are settled up to its place
     pub settled_at : (cown : ℕ) → touches_at touches effect log cown k ≡ true → IsSettled touches effect log states cown k
     settled_at cown among = record {
       before = λ j lt at_j. clear j lt (conflict_from log cown j k at_j among);
@@ -41,7 +41,7 @@ module _ {B : Type 0} (touches : B → List ℕ) (effect : B → List ℤ → Re
       ];
     }
 
-    -- so they hold what the log one by one gives it
+    -- so they hold its inputs in the log run one by one
     pub holds_inputs : (b : B) → slice_get log k ≡ Some b → k ≤ length log
         → read_cowns held (touches b) ≡ inputs_of touches effect (held_after_first touches effect opening log k) b
     holds_inputs b here le = read-agree held (held_after_first touches effect opening log k) (touches b) (λ cown among.

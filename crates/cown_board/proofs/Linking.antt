@@ -1,4 +1,4 @@
--- All that is unfinished is linked, one after the other, as if all of it waited.
+-- All unfinished behaviours are linked, one after the other, as if all of them waited.
 use Rattle.std.proofs.Common.{◌≡◌, ◌≢◌, inl, inr, ℕ, zero, suc, ◌+◌, ◌-◌, ◌<◌, ◌≤◌, ℤ, true, false, ◌&&◌, Some, List, [], ◌∷◌, ◌++◌, length, length-append, get_or, replicate, take, refl, sym, ap, ◌∙◌, subst, arith}
 use Rattle.std.specs.Prelude.{◌==◌, if◌then◌else◌, count_by, slice_get, slice_set, remove}
 use Rattle.std.proofs.lemmas.Bool.{cases_eq, cases_lt, and_left, true≢false}
@@ -26,7 +26,7 @@ use Rattle.cown_board.specs.declared.links.Links.{Links}
 use Rattle.cown_board.specs.declared.state.State.{State}
 use Rattle.cown_board.specs.declared.state.State.TheVariants.{Waiting, Out}
 
--- the states before a place, and so many behind it that wait
+-- the states before a place, followed by this many waiting ones
 abbrev pub as_waiting : List State → ℕ → ℕ → List State
 as_waiting states first more = take first states ++ replicate more Waiting
 
@@ -42,7 +42,7 @@ as_waiting-more states first more next e =
     append_assoc (take first states) (replicate more Waiting) (Waiting ∷ [])
     ∙ ap (λ t. take first states ++ t) (replicate_more more Waiting ∙ ap (λ n. replicate n Waiting) (sym e))
 
--- those before the place are as they are
+-- those before the place are unchanged
 as_before : (states : List State) (first more k : ℕ) → first ≤ length states → k < first → slice_get (as_waiting states first more) k ≡ slice_get states k
 as_before states first more k le lt =
     slice_get-left (take first states) (replicate more Waiting) k (let b = length-take-le first states le in omega (arith, lt, b))
@@ -60,7 +60,7 @@ as_after states first more k le ge lt =
     let b = length-take-le first states le in
     slice_get-right (take first states) (replicate more Waiting) k (k - first) (omega (arith, b, ge)) ∙ replicated more (k - first) (omega (arith, ge, lt))
 
--- where all before a place are finished, none of the states up to it is open
+-- if all before a place are finished, none of the states before it is open
 closed_up_to : (states : List State) (first k : ℕ) → first ≤ length states → ((j : ℕ) → j < first → open_at states j ≡ false)
     → open_at (as_waiting states first 0) k ≡ false
 closed_up_to states first k le before = elim (cases_lt k first) [
@@ -68,12 +68,12 @@ closed_up_to states first k le before = elim (cases_lt k first) [
   | inr ge ↦ state_past is_open (as_waiting states first 0) k (let long = length-as_waiting states first 0 le in omega (arith, long, ge))
 ]
 
--- one more of a list
+-- one more element of a list
 take_next : {A : Type 0} (xs : List A) (k : ℕ) (x : A) → slice_get xs k ≡ Some x → take (k + 1) xs ≡ take k xs ++ x ∷ []
 take_next xs k x h = take_more xs k x (slice_get_within xs k x h) ∙ ap (λ y. take k xs ++ y ∷ []) (get_or_from_slice_get xs k x x h)
 
 module _ {B : Type 0} (touches : B → List ℕ) (effect : B → List ℤ → Reply × List ℤ) where
-  -- states that say the same of each place have the same queues and counts
+  -- states that agree at each place have the same queues and counts
   queues_alike : (log : List B) (old new : List State) (lists : List (List ℕ)) (cowns : ℕ) → ((k : ℕ) → open_at new k ≡ open_at old k)
       → QueuesAre touches effect log old lists cowns → QueuesAre touches effect log new lists cowns
   queues_alike log old new lists cowns same queued = record {
@@ -229,7 +229,7 @@ module _ {B : Type 0} (touches : B → List ℕ) (effect : B → List ℤ → Re
       pub queues_last : QueuesAre touches effect log states links.queues.lists cowns
       queues_last = queues_alike log waiting_all states links.queues.lists cowns open_alike all_waiting.queues
 
-      -- the first one waits as well
+      -- the first one waits too
       pub all_wait : waiting_at states first ≡ true → AllLinked touches effect log states cowns links
       all_wait waits = record {
         queues = queues_last;
@@ -273,7 +273,7 @@ held_none lists cowns none = ap held_in none ∙ held_replicate cowns
     held_replicate (suc n) = held_replicate n
 
 module _ {B : Type 0} (touches : B → List ℕ) (effect : B → List ℤ → Reply × List ℤ) where
-  -- the cowns of each behaviour are cowns
+  -- the cowns of each behaviour exist
   pub declared_below : (log : List B) (cowns : ℕ) → AreCowns touches effect cowns log → (k : ℕ) (b : B) → slice_get log k ≡ Some b → AreBelow cowns (touches b)
   declared_below log cowns in_range k b here =
       below_from cowns (touches b) (λ cown among. in_range k cown (ap (λ o. is_among cown (touched_by touches o)) here ∙ among))

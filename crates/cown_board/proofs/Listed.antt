@@ -1,4 +1,4 @@
--- Where all is linked, the list has the ready ones.
+-- If all are linked, the list has the ready places.
 use Rattle.std.proofs.Common.{◌≡◌, inl, inr, ℕ, ◌+◌, ◌<◌, ◌≤◌, ℤ, true, false, ◌&&◌, Option, Some, None, List, length, get_or, sym, ap, subst, ◌∙◌}
 use Rattle.std.specs.Prelude.{◌==◌, slice_get, slice_set, remove, MatchOption}
 use Rattle.std.specs.VecDeque.{deque_capacity}
@@ -21,7 +21,7 @@ use Rattle.cown_board.specs.declared.state.State.{State}
 use Rattle.cown_board.specs.declared.state.State.TheVariants.{Waiting, Out}
 
 module _ {B : Type 0} (touches : B → List ℕ) (log : List B) (states : List State) where
-  -- what is clear, as a fact
+  -- clear places, as a fact
   pub clear_fact : (k : ℕ) → is_clear_at touches log states k ≡ true → (j : ℕ) → j < k → conflict_at touches log j k ≡ true → open_at states j ≡ false
   clear_fact k clear j lt conflict = false_from_ne_true (open_at states j) (λ still_open.
       both_ways (open_at states j && conflict_at touches log j k)
@@ -34,7 +34,7 @@ module _ {B : Type 0} (touches : B → List ℕ) (log : List B) (states : List S
       let parts = and_parts (open_at states j) (conflict_at touches log j k) both in
       true≢false (sym parts.0 ∙ clear j lt parts.1)))
 
-  -- a place that is ready is one of the log, and waits
+  -- a ready place is in the log, and waits
   pub ready_parts : (index k : ℕ) → slice_get (ready_places touches log states) index ≡ Some k
       → (k < length log) × (slice_get states k ≡ Some Waiting) × (is_clear_at touches log states k ≡ true)
   unfolding ready_places
@@ -45,7 +45,7 @@ module _ {B : Type 0} (touches : B → List ℕ) (log : List B) (states : List S
 
 module _ {B : Type 0} (touches : B → List ℕ) (effect : B → List ℤ → Reply × List ℤ) (log : List B) (states : List State) (cowns : ℕ)
     (links : Links) (all : AllLinked touches effect log states cowns links) (in_range : AreCowns touches effect cowns log) where
-  -- of those that wait the ones behind at no cown are the clear ones
+  -- a waiting place is behind at no cown exactly if it is clear
   none_is_clear : (k : ℕ) (b : B) → slice_get log k ≡ Some b → waiting_at states k ≡ true
       → (behind_of touches log links.queues.lists k == 0) ≡ is_clear_at touches log states k
   none_is_clear k b here waits =
@@ -60,7 +60,7 @@ module _ {B : Type 0} (touches : B → List ℕ) (effect : B → List ℤ → Re
       (fronts_from_clear touches effect log states lists cowns all.queues k b here (waiting_is_open states k waits)
       (clear_fact touches log states k clear) (touches b) (λ cown among. (among, declared cown among)))))
 
-  -- so they are the ready ones
+  -- so the places that are due are the ready ones
   pub due_are_ready : links.ready.ready.items ≡ ready_places touches log states
   unfolding ready_places
   due_are_ready =
@@ -75,7 +75,7 @@ module _ {B : Type 0} (touches : B → List ℕ) (effect : B → List ℤ → Re
             ∙ sym (and_left (waiting_at states j) (is_clear_at touches log states j) not_waiting)
       ])
 
-  -- the list without one of them, which is out
+  -- the list without one place, which is out
   all_taken : (index k : ℕ) (new : Links) → slice_get links.ready.ready.items index ≡ Some k → new.queues.lists ≡ links.queues.lists
       → new.ready.behind.items ≡ links.ready.behind.items → new.ready.ready.items ≡ remove links.ready.ready.items index
       → AllLinked touches effect log (slice_set states k Out) cowns new
@@ -87,7 +87,7 @@ module _ {B : Type 0} (touches : B → List ℕ) (effect : B → List ℤ → Re
             index k parts.1 at all.counts);
       }
 
-  -- what is taken out of the list is ready, and the rest stays linked
+  -- the place taken out of the list is ready, and the others stay linked
   pub taken : (o : Option ℕ) (index unfinished : ℕ) (new : Links) → new.linked ≡ true → new.queues.lists ≡ links.queues.lists
       → new.ready.behind.items ≡ links.ready.behind.items → (0 < unfinished → unfinished + 3 ≤ deque_capacity new.ready.ready)
       → MatchOption o ((length links.ready.ready.items ≤ index) × (new.ready.ready.items ≡ links.ready.ready.items))

@@ -15,7 +15,7 @@ injective h = cc
 pub no_some : {A : Type 0} {x : A} → ◌≡◌ {A = Option A} None (Some x) → ⊥
 no_some h = cc
 
--- there is something at a place below the length
+-- there is an element at a place below the length
 pub some_at : {A : Type 0} (xs : List A) (j : ℕ) → j < length xs → (x : A) × (slice_get xs j ≡ Some x)
 some_at [] j lt = absurd (omega (arith, lt))
 some_at (x ∷ xs) zero lt = (x, refl)
@@ -33,7 +33,7 @@ take_append [] ys (suc k) le = absurd (omega (arith, le))
 take_append (x ∷ xs) ys (suc k) le = ap (λ t. x ∷ t) (take_append xs ys k (omega (arith, le)))
 
 module _ {B : Type 0} (touches : B → List ℕ) (effect : B → List ℤ → Reply × List ℤ) where
-  -- one more of the log
+  -- one more behaviour of the log
   pub after_one_more : (opening : List ℤ) (log : List B) (k : ℕ) (b : B) → slice_get log k ≡ Some b
       → held_after_first touches effect opening log (suc k) ≡ held_after_one touches effect (held_after_first touches effect opening log k) b
   after_one_more opening [] k b h = absurd (no_some h)
@@ -44,7 +44,7 @@ module _ {B : Type 0} (touches : B → List ℕ) (effect : B → List ℤ → Re
       → held_after_first touches effect opening log (suc k) ≡ held_after_first touches effect opening log k
   after_no_more opening log k h = ap (held_after touches effect opening) (take_none log k h)
 
-  -- what comes later changes nothing of what was
+  -- later behaviours don't change what was left before
   pub after-append : (opening : List ℤ) (log more : List B) (k : ℕ) → k ≤ length log
       → held_after_first touches effect opening (log ++ more) k ≡ held_after_first touches effect opening log k
   after-append opening log more k le = ap (held_after touches effect opening) (take_append log more k le)
@@ -54,7 +54,7 @@ module _ {B : Type 0} (touches : B → List ℕ) (effect : B → List ℤ → Re
   length-after opening (b ∷ log) = length-after (held_after_one touches effect opening b) log
       ∙ length-write opening (touches b) (effect b (inputs_of touches effect opening b)).1
 
-  -- a cown that one doesn't declare holds after it what it held
+  -- a cown that a behaviour doesn't declare holds what it held
   untouched_by : (opening : List ℤ) (log : List B) (cown k : ℕ) (o : Option B) → slice_get log k ≡ o → is_among cown (touched_by touches o) ≡ false
       → get_or (held_after_first touches effect opening log (suc k)) cown (pos 0) ≡ get_or (held_after_first touches effect opening log k) cown (pos 0)
   untouched_by opening log cown k None e out = ap (λ held. get_or held cown (pos 0)) (after_no_more opening log k e)
@@ -63,7 +63,7 @@ module _ {B : Type 0} (touches : B → List ℕ) (effect : B → List ℤ → Re
       ap (λ held. get_or held cown (pos 0)) (after_one_more opening log k b e)
       ∙ get-write_other before (touches b) (effect b (inputs_of touches effect before b)).1 cown out
 
-  -- a cown that none from i on below k declares holds after k what it holds after i
+  -- a cown that no behaviour from i to below k declares holds after k what it holds after i
   pub after_untouched : (opening : List ℤ) (log : List B) (cown i n k : ℕ) → k ≡ i + n
       → ((j : ℕ) → i ≤ j → j < k → touches_at touches effect log cown j ≡ false)
       → get_or (held_after_first touches effect opening log k) cown (pos 0) ≡ get_or (held_after_first touches effect opening log i) cown (pos 0)
@@ -75,7 +75,7 @@ module _ {B : Type 0} (touches : B → List ℕ) (effect : B → List ℤ → Re
       untouched_by opening log cown k (slice_get log k) refl (h k (omega (arith, e)) (omega arith))
       ∙ after_untouched opening log cown i n k (omega (arith, e)) (λ j le lt. h j le (omega (arith, lt)))
 
-  -- whatever the log, the cowns hold what they may
+  -- whatever the log, the cowns hold allowed values
   pub AllHeld-after : (keeps : (b : B) (inputs : List ℤ) → AreHeld (touches b) inputs → AreHeld (touches b) (effect b inputs).1)
       → (opening : List ℤ) (log : List B) → AllHeld opening → ((k cown : ℕ) → touches_at touches effect log cown k ≡ true → cown < length opening)
       → AllHeld (held_after touches effect opening log)

@@ -1,4 +1,4 @@
--- Laws of the places at which something is so.
+-- Laws of the places at which a test holds.
 use Rattle.std.proofs.Common.{◌≡◌, ◌≢◌, ◌⊎◌, inl, inr, ℕ, zero, suc, ◌+◌, ◌-◌, ◌<◌, ◌≤◌, Bool, true, false, cond, not, ◌&&◌, Option, Some, List, [], ◌∷◌, ◌++◌, length, length-append, refl, sym, ap, ◌∙◌, arith}
 use Rattle.std.specs.Prelude.{◌==◌, slice_get, insert, remove, if◌then◌else◌}
 use Rattle.std.proofs.lemmas.Bool.{cases_Bool, cases_eq, cases_lt, cases_order, or_from, or_left, or_right, and_parts, and_from, and_left, and_right, not-true, not_from_false, not_from_true, ne_eqb, eq-eqb}
@@ -19,7 +19,7 @@ slice_get-right (x ∷ xs) ys (suc i) j e = slice_get-right xs ys i j (omega (ar
 injective : {A : Type 0} {x y : A} → ◌≡◌ {A = Option A} (Some x) (Some y) → x ≡ y
 injective h = cc
 
--- the place m, where it is so there
+-- the place m, if the test holds there
 abbrev pub last_place : Bool → ℕ → List ℕ
 last_place b m = if b then m ∷ [] else []
 
@@ -43,7 +43,7 @@ chosen false xs n = append_nothing xs
 pub places-false : (f : ℕ → Bool) (m : ℕ) → f m ≡ false → places f (suc m) ≡ places f m
 places-false f m e = ap (λ b. places f m ++ (if b then m ∷ [] else [])) e ∙ append_nothing (places f m)
 
--- where two agree they have the same places
+-- tests that agree have the same places
 pub places-agree : (f g : ℕ → Bool) (m : ℕ) → ((j : ℕ) → j < m → f j ≡ g j) → places f m ≡ places g m
 places-agree f g zero h = refl
 places-agree f g (suc m) h =
@@ -59,7 +59,7 @@ no_length : (xs : List ℕ) → length xs ≡ 0 → xs ≡ []
 no_length [] h = refl
 no_length (x ∷ xs) h = absurd (omega (arith, h))
 
--- what none below says of each
+-- what none_below says about each place
 pub none_below_at : (f : ℕ → Bool) (m j : ℕ) → none_below f m ≡ true → j < m → f j ≡ false
 none_below_at f zero j h lt = absurd (omega (arith, lt))
 none_below_at f (suc m) j h lt =
@@ -74,7 +74,7 @@ none_below_from f zero h = refl
 none_below_from f (suc m) h =
     and_from (none_below f m) (not (f m)) (none_below_from f m (λ j lt. h j (omega (arith, lt)))) (not_from_false (f m) (h m (omega arith)))
 
--- where a place among them stands: among those below m, or m last
+-- the position of a place: among those below m, or m itself at the end
 found_where : (f : ℕ → Bool) (m p k : ℕ) → slice_get (places f (suc m)) p ≡ Some k
     → ((p < length (places f m)) × (slice_get (places f m) p ≡ Some k)) ⊎ ((p ≡ length (places f m)) × (k ≡ m) × (f m ≡ true))
 found_where f m p k h = elim (cases_lt p (length (places f m))) [
@@ -85,7 +85,7 @@ found_where f m p k h = elim (cases_lt p (length (places f m))) [
       inr (omega (arith, past, last.2), last.0, last.1)
 ]
 
--- a place among them is below m, and it is so there
+-- each of the places is below m, and the test holds there
 pub place_is : (f : ℕ → Bool) (m p k : ℕ) → slice_get (places f m) p ≡ Some k → (k < m) × (f k ≡ true)
 place_is f zero p k h = absurd (omega (arith, slice_get_within [] p k h))
 place_is f (suc m) p k h = elim (found_where f m p k h) [
@@ -112,7 +112,7 @@ remove_last xs x p e =
     remove-append_right xs (x ∷ []) (length xs) p refl (omega (arith, e))
     ∙ ap (λ i. xs ++ remove (x ∷ []) i) no_more ∙ append_nothing xs
 
--- without the p-th one
+-- the places without the p-th one
 pub places-remove : (f : ℕ → Bool) (m p k : ℕ) → slice_get (places f m) p ≡ Some k → places (but f k) m ≡ remove (places f m) p
 places-remove f zero p k h = absurd (omega (arith, slice_get_within [] p k h))
 places-remove f (suc m) p k h = elim (found_where f m p k h) [
@@ -127,7 +127,7 @@ places-remove f (suc m) p k h = elim (found_where f m p k h) [
       ∙ sym (ap (λ b. remove (places f m ++ last_place b m) p) last.2 ∙ remove_last (places f m) m p last.0)
 ]
 
--- where there is none below m there is no place
+-- if the test holds nowhere below m, there is no place
 pub places-none : (f : ℕ → Bool) (m : ℕ) → none_below f m ≡ true → places f m ≡ []
 places-none f zero h = refl
 places-none f (suc m) h =
@@ -168,7 +168,7 @@ none_before_first f (suc m) k h = elim (found_where f m 0 k h) [
 
 -- ---- how many places there are
 
--- one, if it is so
+-- 1 if it holds, else 0
 abbrev pub one : Bool → ℕ
 one b = cond b 1 0
 
@@ -179,7 +179,7 @@ length-last_place false m = refl
 pub length-places : (f : ℕ → Bool) (m : ℕ) → length (places f (suc m)) ≡ length (places f m) + one (f m)
 length-places f m = length-append (places f m) (last_place (f m) m) ∙ ap (λ n. length (places f m) + n) (length-last_place (f m) m)
 
--- the same, counted from the first place on
+-- the same, counted from the first place
 pub length-places_first : (f : ℕ → Bool) (m : ℕ) → length (places f (suc m)) ≡ one (f 0) + length (places (λ j. f (suc j)) m)
 length-places_first f zero = let e = length-places f 0 in omega (arith, e)
 length-places_first f (suc m) =
@@ -188,7 +188,7 @@ length-places_first f (suc m) =
     let last = length-places (λ j. f (suc j)) m in
     omega (arith, all, rest, last)
 
--- where one is so just where one of two others is, their places add up to its
+-- if one test holds exactly if one of two others does, its places are as many as theirs together
 pub length-places_add : (f g h : ℕ → Bool) (m : ℕ) → ((j : ℕ) → j < m → one (f j) ≡ one (g j) + one (h j))
     → length (places f m) ≡ length (places g m) + length (places h m)
 length-places_add f g h zero each = refl
@@ -230,7 +230,7 @@ with_place_other f k j differs = elim (cases_Bool (f j)) [
 pub with_place_same : (f : ℕ → Bool) (k j : ℕ) → j ≡ k → with_place f k j ≡ true
 with_place_same f k j same = or_right (f j) (j == k) (eq-eqb j k same)
 
--- it stands behind those before it
+-- an inserted place comes after those before it
 pub places-insert : (f : ℕ → Bool) (m k : ℕ) → k < m → f k ≡ false → places (with_place f k) m ≡ insert (places f m) (length (places f k)) k
 places-insert f zero k lt out = absurd (omega (arith, lt))
 places-insert f (suc m) k lt out = elim (cases_order k m) [
@@ -252,7 +252,7 @@ places-insert f (suc m) k lt out = elim (cases_order k m) [
   ]
 ]
 
--- the first so many of the places are those below k, and the others aren't
+-- the first places, this many, are those below k; the others aren't
 pub place_below : (f : ℕ → Bool) (m k i n : ℕ) → k ≤ m → i < length (places f k) → slice_get (places f m) i ≡ Some n → n < k
 place_below f zero k i n le lt here = absurd (omega (arith, slice_get_within [] i n here))
 place_below f (suc m) k i n le lt here = elim (cases_eq k (suc m)) [

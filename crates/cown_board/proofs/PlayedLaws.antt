@@ -1,4 +1,4 @@
--- A board over many calls.
+-- A board after many calls.
 use Rattle.std.proofs.Common.{◌≡◌, ◌⊎◌, inl, inr, ℕ, suc, ◌+◌, ◌<◌, ◌≤◌, ℤ, true, false, ◌&&◌, Option, Some, None, Ok, Err, List, [], ◌∷◌, ◌++◌, length, length-append, refl, sym, ap, subst, ◌∙◌, arith}
 use Rattle.std.specs.Prelude.{slice_get, slice_set, option_map}
 use Rattle.std.proofs.lemmas.Bool.{cases_eq, cases_lt, and_from, true≢false, false_from_ne_true, and_parts}
@@ -31,7 +31,7 @@ waits_or_out (Some Out) h = inr refl
 waits_or_out (Some (Finished reply)) h = absurd (true≢false (sym h))
 
 module _ {B : Type 0} (touches : B → List ℕ) (effect : B → List ℤ → Reply × List ℤ) where
-  -- what holds after each call
+  -- the invariant after each call
   pub record IsGood (columns : Balances) (earlier : List Reply) (submitted : List B) (board : BoardOf B) : Type 0 where
     pub opening : board.opening ≡ columns
     pub before : board.earlier ≡ earlier
@@ -168,7 +168,7 @@ module _ {B : Type 0} (touches : B → List ℕ) (effect : B → List ℤ → Re
         cut = good.cut;
       }
 
-  -- these calls, and one more
+  -- these calls and one more
   plays_more : (old mid new : BoardOf B) (calls : List (BoardCall B)) (call : BoardCall B) → Plays touches effect old calls mid
       → Makes touches effect mid call new
       → Plays touches effect old (calls ++ call ∷ []) new

@@ -21,7 +21,7 @@ use Rattle.cown_board.specs.declared.state.State.{State}
 use Rattle.cown_board.specs.declared.state.State.TheVariants.{Waiting, Out, Finished}
 
 module _ {B : Type 0} (touches : B → List ℕ) (effect : B → List ℤ → Reply × List ℤ) where
-  -- what the last one of a longer log declares
+  -- what the last behaviour of a longer log declares
   last_touches : (log : List B) (b : B) (cown : ℕ) → touches_at touches effect (log ++ b ∷ []) cown (length log) ≡ is_among cown (touches b)
   last_touches log b cown = ap (λ o. is_among cown (touched_by touches o)) (slice_get-right log (b ∷ []) (length log) 0 (omega arith))
 
@@ -64,7 +64,8 @@ module _ {B : Type 0} (touches : B → List ℕ) (effect : B → List ℤ → Re
         (λ j lt. ap (λ x. x && touches_at touches effect log cown j) (sym (open-taken states k j here)));
   }
 
-  -- an unfinished behaviour that no unfinished one before it shares a cown with is in front at each of its cowns
+  -- an unfinished behaviour is in front at each of its cowns if no unfinished one before it shares
+  -- a cown with it
   pub first_queued : (log : List B) (states : List State) (cown k : ℕ) → k < length log → open_at states k ≡ true → touches_at touches effect log cown k ≡ true
       → ((j : ℕ) → j < k → conflict_at touches log j k ≡ true → open_at states j ≡ false)
       → slice_get (places (is_queued touches effect log states cown) (length log)) 0 ≡ Some k
@@ -101,7 +102,7 @@ module _ {B : Type 0} (touches : B → List ℕ) (effect : B → List ℤ → Re
       | inr later ↦ front_at part cown fronts.1 later
     ]
 
-    -- if it is, no unfinished one before it shares a cown with it
+    -- if it is in front at all of them, no unfinished one before it shares a cown with it
     pub clear_from_fronts : AreFronts k lists (touches b) → ((cown : ℕ) → is_among cown (touches b) ≡ true → cown < cowns)
         → (j : ℕ) → j < k → conflict_at touches log j k ≡ true → open_at states j ≡ false
     clear_from_fronts fronts in_range j lt conflict =

@@ -60,7 +60,7 @@ module _ {B : Type 0} (board : BoardOf B) where
 
 module _ {B : Type 0} (touches : B → List ℕ) (effect : B → List ℤ → Reply × List ℤ)
     {inside : BoardInside B} (board : IsBoard touches effect inside) where
-  -- what a finished behaviour was answered is the log's
+  -- the reply of a finished behaviour is that of the log
   pub reply_is_by_log : (number place : ℕ) (s : State) (answer : Option Reply) → number ≡ suc (inside.base + place) → slice_get inside.states place ≡ Some s
       → answer ≡ finished_reply s
       → IfSome answer (λ reply. length inside.earlier < number

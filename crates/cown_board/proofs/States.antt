@@ -1,4 +1,4 @@
--- The states of a log's behaviours after one of them changed, or one more came.
+-- The states of a log's behaviours after one of them changed, or one more was added.
 use Rattle.std.proofs.Common.{◌≡◌, ◌≢◌, ℕ, zero, suc, ◌<◌, ◌≤◌, Bool, true, false, Option, Some, None, List, [], ◌∷◌, ◌++◌, length, refl, sym, ap, ◌∙◌, inl, inr, arith}
 use Rattle.std.specs.Prelude.{slice_get, slice_set}
 use Rattle.std.proofs.lemmas.Bool.{cases_eq, cases_lt, true≢false}
@@ -21,7 +21,7 @@ slice_get-set_other (y ∷ xs) zero (suc j) x differs = refl
 slice_get-set_other (y ∷ xs) (suc k) zero x differs = refl
 slice_get-set_other (y ∷ xs) (suc k) (suc j) x differs = slice_get-set_other xs k j x (λ same. differs (ap suc same))
 
--- whoever waits is unfinished
+-- a waiting state is unfinished
 waits_open : (o : Option State) → state_is is_waiting o ≡ true → state_is is_open o ≡ true
 waits_open None h = h
 waits_open (Some Waiting) h = refl
@@ -31,7 +31,7 @@ waits_open (Some (Finished reply)) h = absurd (true≢false (sym h))
 pub waiting_is_open : (states : List State) (k : ℕ) → waiting_at states k ≡ true → open_at states k ≡ true
 waiting_is_open states k h = waits_open (slice_get states k) h
 
--- a state that waits
+-- a state that waits is Waiting
 is_that : (o : Option State) → state_is is_waiting o ≡ true → o ≡ Some Waiting
 is_that None h = absurd (true≢false (sym h))
 is_that (Some Waiting) h = refl
@@ -41,7 +41,7 @@ is_that (Some (Finished reply)) h = absurd (true≢false (sym h))
 pub state_waits : (states : List State) (k : ℕ) → waiting_at states k ≡ true → slice_get states k ≡ Some Waiting
 state_waits states k waits = is_that (slice_get states k) waits
 
--- what is so of no state is so at no place past the end
+-- a test that fails on no state fails at places past the end
 pub state_past : (test : State → Bool) (states : List State) (k : ℕ) → length states ≤ k → state_is test (slice_get states k) ≡ false
 state_past test states k past = ap (state_is test) (slice_get_past states k past)
 
@@ -70,7 +70,7 @@ state-append test states s j lt = ap (state_is test) (slice_get-left states (s �
 pub state-last : (test : State → Bool) (states : List State) (s : State) (j : ℕ) → j ≡ length states → state_is test (slice_get (states ++ s ∷ []) j) ≡ test s
 state-last test states s j e = ap (state_is test) (slice_get-right states (s ∷ []) j 0 (omega (arith, e)))
 
--- one that is out waits no more than one that is finished
+-- an out behaviour doesn't wait, and a finished one doesn't either
 pub waiting-finished : (states : List State) (k j : ℕ) (reply : Reply) → slice_get states k ≡ Some Out
     → waiting_at (slice_set states k (Finished reply)) j ≡ waiting_at states j
 waiting-finished states k j reply out = elim (cases_eq j k) [

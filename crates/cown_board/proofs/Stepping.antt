@@ -1,4 +1,4 @@
--- A place that steps forward, and a place that is put into a rising list.
+-- A place that steps forward, and a place that is inserted into a rising list.
 use Rattle.std.proofs.Common.{◌≡◌, ◌≢◌, inl, inr, ℕ, ◌+◌, ◌-◌, ◌<◌, ◌≤◌, Bool, true, false, ◌&&◌, List, length, get_or, set, take, refl, sym, ap, ◌∙◌, arith}
 use Rattle.std.specs.List.Sorted.{IsPartitionedBy, IsPartitionPoint}
 use Rattle.std.specs.Prelude.{◌==◌, insert, nat_lt, slice_get}
@@ -11,7 +11,7 @@ use Rattle.cown_board.specs.Due.{AreDue, is_due, times}
 use Rattle.cown_board.specs.Places.{places, with_place}
 
 module _ (f : ℕ → Bool) (bound place : ℕ) (below : place < bound) (list : List ℕ) (listed : list ≡ places f bound) where
-  -- the places below it stand first
+  -- the places below it come first
   pub partitioned : IsPartitionedBy (λ other. nat_lt other place) list
   partitioned i j d le lt holds =
       let at_j : slice_get (places f bound) j ≡ _ = ap (λ xs. slice_get xs j) (sym listed) ∙ slice_get-get_or list j d lt in
@@ -24,7 +24,7 @@ module _ (f : ℕ → Bool) (bound place : ℕ) (below : place < bound) (list : 
       ] in
       lt-ltb (get_or list i d) place (place_below f bound place i (get_or list i d) (omega (arith, below)) (omega (arith, first, le)) at_i)
 
-  -- so many as there are
+  -- and as many as there are
   point_is : (index : ℕ) → index ≤ length list → IsPartitionPoint (λ other. nat_lt other place ≡ true) (λ other. nat_lt other place ≡ false) list index
       → index ≡ length (places f place)
   point_is index le point = elim (cases_order index (length (places f place))) [
@@ -45,7 +45,7 @@ module _ (f : ℕ → Bool) (bound place : ℕ) (below : place < bound) (list : 
     ]
   ]
 
-  -- put in front of the others it stands where it belongs
+  -- inserted before the others it is in order
   pub put_there : (index : ℕ) (new : List ℕ) → index ≤ length list
       → IsPartitionPoint (λ other. nat_lt other place ≡ true) (λ other. nat_lt other place ≡ false) list index
       → f place ≡ false → new ≡ insert list index place → new ≡ places (with_place f place) bound
@@ -53,7 +53,7 @@ module _ (f : ℕ → Bool) (bound place : ℕ) (below : place < bound) (list : 
       put ∙ ap (λ xs. insert xs index place) listed ∙ ap (λ n. insert (places f bound) n place) (point_is index le point)
       ∙ sym (places-insert f bound place below out)
 
--- only a place of the list is behind
+-- only a place of the list can be behind
 pub behind_within : (behind : List ℕ) (place : ℕ) → 0 < get_or behind place 0 → place < length behind
 behind_within behind place some = elim (cases_lt place (length behind)) [
   | inl lt ↦ lt
@@ -61,11 +61,11 @@ behind_within behind place some = elim (cases_lt place (length behind)) [
 ]
 
 module _ (waits : ℕ → Bool) (behind : List ℕ) (place bound : ℕ) (some : 0 < get_or behind place 0) where
-  -- who is behind isn't due
+  -- a place that is behind isn't due
   pub isnt_due : is_due waits behind place ≡ false
   isnt_due = and_right (waits place) (get_or behind place 0 == 0) (ne_eqb (get_or behind place 0) 0 (λ none. omega (arith, none, some)))
 
-  -- once it is behind at no cown it is
+  -- once it is behind at no cown it is due
   pub due_now : (value : ℕ) (list : List ℕ) → value ≡ 0 → waits place ≡ true → list ≡ places (with_place (is_due waits behind) place) bound
       → AreDue waits (set behind place value) bound list
   due_now value list none waiting put =
@@ -80,7 +80,7 @@ module _ (waits : ℕ → Bool) (behind : List ℕ) (place bound : ℕ) (some : 
             ∙ ap (λ n. waits j && (n == 0)) (sym (get_or-set_other behind place j value 0 differs))
       ])
 
-  -- and before it isn't
+  -- and before that it isn't
   pub not_due_yet : (value : ℕ) (list : List ℕ) → value ≢ 0 → AreDue waits behind bound list → AreDue waits (set behind place value) bound list
   not_due_yet value list more listed =
       listed ∙ places-agree (is_due waits behind) (is_due waits (set behind place value)) bound (λ j _. elim (cases_eq j place) [
@@ -100,7 +100,7 @@ module _ (fronts : List ℕ) (i front : ℕ) (lt : i < length fronts) (is : fron
   one_more : (j : ℕ) → times j (take (i + 1) fronts) ≡ times j (take i fronts) + one (front == j)
   one_more j = sum_by_more (λ n. one (n == j)) fronts i front lt ∙ ap (λ n. times j (take i fronts) + one (n == j)) (sym is)
 
-  -- the next one is behind still
+  -- the next one is still behind
   pub still_behind : ((j : ℕ) → times j fronts ≤ get_or old j 0) → 0 < get_or now front 0
   still_behind counted =
       let more = one_more front in
@@ -110,7 +110,7 @@ module _ (fronts : List ℕ) (i front : ℕ) (lt : i < length fronts) (is : fron
       let enough = counted front in
       omega (arith, more, here, all, before, enough)
 
-  -- and at one cown fewer then
+  -- and behind at one cown fewer afterwards
   pub stepped : 0 < get_or now front 0 → (j : ℕ) → get_or (set now front (get_or now front 0 - 1)) j 0 + times j (take (i + 1) fronts) ≡ get_or old j 0
   stepped some j =
       let more = one_more j in

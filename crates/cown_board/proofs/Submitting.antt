@@ -1,4 +1,4 @@
--- One more behaviour is submitted: what is kept.
+-- One more behaviour is submitted: the invariant stays.
 use Rattle.std.proofs.Common.{◌≡◌, inl, inr, ℕ, ◌+◌, ◌<◌, ◌≤◌, ℤ, pos, true, Some, List, [], ◌∷◌, ◌++◌, length, length-append, get_or, sym, ap, ◌∙◌, arith}
 use Rattle.std.specs.Prelude.{slice_get, option_map}
 use Rattle.std.proofs.lemmas.Bool.{cases_lt, true≢false, false_from_ne_true}
@@ -15,12 +15,12 @@ use Rattle.cown_board.specs.State.{is_waiting, is_open}
 use Rattle.cown_board.specs.declared.state.State.{State}
 use Rattle.cown_board.specs.declared.state.State.TheVariants.{Waiting, Finished}
 
--- one that waits isn't finished
+-- a waiting state isn't a finished one
 pub not_waiting : {reply : Reply} → ◌≡◌ {A = State} Waiting (Finished reply) → ⊥
 not_waiting {reply = reply} h = true≢false (ap is_open h)
 
 module _ {B : Type 0} (touches : B → List ℕ) (effect : B → List ℤ → Reply × List ℤ) where
-  -- those before it declare what they declared
+  -- those before it declare the same cowns
   touches-append : (log : List B) (b : B) (cown k : ℕ) → k < length log
       → touches_at touches effect (log ++ b ∷ []) cown k ≡ touches_at touches effect log cown k
   touches-append log b cown k lt = ap (λ o. is_among cown (touched_by touches o)) (slice_get-left log (b ∷ []) k lt)
@@ -30,7 +30,7 @@ module _ {B : Type 0} (touches : B → List ℕ) (effect : B → List ℤ → Re
       ap (λ o. share_cown (touched_by touches o) (touched_by touches (slice_get (log ++ b ∷ []) k))) (slice_get-left log (b ∷ []) j lt_j)
       ∙ ap (λ o. share_cown (touched_by touches (slice_get log j)) (touched_by touches o)) (slice_get-left log (b ∷ []) k lt_k)
 
-  -- what was settled with one more behaviour was so before it
+  -- a cown that is settled with one more behaviour was settled before it
   settled_old : {opening : List ℤ} {log : List B} {states : List State} {held : List ℤ} → Keeps touches effect opening log states held
       → (b : B) (cown i : ℕ) → IsSettled touches effect (log ++ b ∷ []) (states ++ Waiting ∷ []) cown i → IsSettled touches effect log states cown i
   settled_old {log = log} {states = states} kept b cown i settled = record {

@@ -30,7 +30,7 @@ module _ {B : Type 0} (touches : B → List ℕ) (effect : B → List ℤ → Re
     cut = option_map (λ cut. cut.number) inside.cut;
   }
 
-  -- the cowns of each behaviour are cowns
+  -- the cowns of each behaviour exist
   pub declared_below : (k : ℕ) (b : B) → slice_get inside.log k ≡ Some b → AreBelow (length (held_of inside.opening)) (touches b)
   declared_below k b here = below_from (length (held_of inside.opening)) (touches b) (λ cown among.
       board.keeps.in_range k cown (ap (λ o. is_among cown (touched_by touches o)) here ∙ among))
@@ -41,7 +41,7 @@ module _ {B : Type 0} (touches : B → List ℕ) (effect : B → List ℤ → Re
   pub declared_in_held : (k : ℕ) (b : B) → slice_get inside.log k ≡ Some b → AreBelow (length (held_of inside.now)) (touches b)
   declared_in_held k b here = rw board.keeps.cowns_stay (declared_below k b here)
 
-  -- what is known of a place that is ready
+  -- what is known of a ready place
   pub record IsTakable (k : ℕ) (b : B) : Type 0 where
     pub waits : slice_get inside.states k ≡ Some Waiting
     pub clear : (j : ℕ) → j < k → conflict_at touches inside.log j k ≡ true → open_at inside.states j ≡ false
@@ -62,7 +62,7 @@ module _ {B : Type 0} (touches : B → List ℕ) (effect : B → List ℤ → Re
   pub ready_within : (index k : ℕ) → slice_get (ready_places touches inside.log inside.states) index ≡ Some k → k < length inside.log
   ready_within index k ready = (ready_parts touches inside.log inside.states index k ready).0
 
-  -- what a behaviour's cowns hold after the first k they may hold
+  -- what a behaviour's cowns hold after the first k are allowed values
   pub inputs_held : ((b : B) (inputs : List ℤ) → AreHeld (touches b) inputs → AreHeld (touches b) (effect b inputs).1)
       → (k place : ℕ) (b : B) → slice_get inside.log place ≡ Some b
       → AreHeld (touches b) (inputs_of touches effect (held_after_first touches effect (held_of inside.opening) inside.log k) b)

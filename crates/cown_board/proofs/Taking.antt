@@ -1,4 +1,4 @@
--- A ready behaviour is handed out: what is kept.
+-- A ready behaviour is handed out: the invariant stays.
 use Rattle.std.proofs.Common.{◌≡◌, inl, inr, ℕ, ◌<◌, ℤ, true, false, Some, List, sym, ap, ◌∙◌, arith}
 use Rattle.std.specs.Prelude.{slice_get, slice_set}
 use Rattle.std.proofs.lemmas.Bool.{cases_eq, true≢false}
@@ -22,7 +22,7 @@ open-taken states k j here = elim (cases_eq j k) [
   | inr differs ↦ state-set_other is_open states k j Out differs
 ]
 
--- one that is out isn't finished
+-- an out state isn't a finished one
 pub not_out : {reply : Reply} → ◌≡◌ {A = State} Out (Finished reply) → ⊥
 not_out {reply = reply} h = true≢false (ap is_open h)
 

@@ -1,4 +1,4 @@
--- Where nothing is linked, the first of the unfinished ones is the first that is ready, if it isn't out.
+-- If nothing is linked, the first unfinished behaviour is the first ready one, unless it is out.
 use Rattle.std.proofs.Common.{◌≡◌, inl, inr, ℕ, suc, ◌+◌, ◌-◌, ◌*◌, ◌<◌, ◌≤◌, ℤ, true, false, ◌&&◌, Some, List, [], ◌∷◌, ◌++◌, length, sym, ap, ◌∙◌, subst, arith, vec_capacity}
 use Rattle.std.specs.Prelude.{slice_get, slice_set}
 use Rattle.std.specs.VecDeque.{deque_capacity}
@@ -15,7 +15,7 @@ use Rattle.cown_board.specs.declared.links.Links.{Links}
 use Rattle.cown_board.specs.declared.state.State.{State}
 use Rattle.cown_board.specs.declared.state.State.TheVariants.{Waiting, Out, Finished}
 
--- what isn't unfinished doesn't wait
+-- a finished behaviour doesn't wait
 pub closed_waits_not : (states : List State) (k : ℕ) → open_at states k ≡ false → waiting_at states k ≡ false
 closed_waits_not states k closed = elim (cases_Bool (waiting_at states k)) [
   | inl waits ↦ absurd (true≢false (sym (waiting_is_open states k waits) ∙ closed))
@@ -23,7 +23,7 @@ closed_waits_not states k closed = elim (cases_Bool (waiting_at states k)) [
 ]
 
 module _ {B : Type 0} (touches : B → List ℕ) (log : List B) (states : List State) where
-  -- the first unfinished one is the first ready one, where it waits
+  -- the first unfinished one is the first ready one, if it waits
   pub first_ready : (first : ℕ) → first < length log → ((k : ℕ) → k < first → open_at states k ≡ false) → waiting_at states first ≡ true
       → slice_get (ready_places touches log states) 0 ≡ Some first
   unfolding ready_places
@@ -35,7 +35,7 @@ module _ {B : Type 0} (touches : B → List ℕ) (log : List B) (states : List S
       (none_below_from (is_ready_at touches log states) first (λ j below.
       and_left (waiting_at states j) (is_clear_at touches log states j) (closed_waits_not states j (before j below))))
 
-  -- and where all are finished none is ready
+  -- and if all are finished, none is ready
   pub none_ready : (index : ℕ) → ((k : ℕ) → k < length log → open_at states k ≡ false) → length (ready_places touches log states) ≤ index
   unfolding ready_places
   none_ready index closed =
@@ -82,7 +82,7 @@ none_submitted numbers states first cowns old new long le none stay places count
   counts = counts;
 }
 
--- what is out is the first one
+-- the behaviour that is out is the first one
 out_is_first : (numbers : ℕ) (states : List State) (first cowns k : ℕ) (links : Links) → NoneLinked numbers states first cowns links → k < numbers
     → slice_get states k ≡ Some Out → k ≡ first
 out_is_first numbers states first cowns k links none lt out = elim (cases_order k first) [
@@ -93,7 +93,7 @@ out_is_first numbers states first cowns k links none lt out = elim (cases_order 
   ]
 ]
 
--- it is finished
+-- the first one is finished
 pub none_finished : (numbers : ℕ) (states : List State) (first cowns k : ℕ) (links : Links) (reply : Reply) → numbers ≡ length states
     → NoneLinked numbers states first cowns links → k < numbers → slice_get states k ≡ Some Out
     → NoneLinked numbers (slice_set states k (Finished reply)) (suc first) cowns links
@@ -117,7 +117,7 @@ none_finished numbers states first cowns k links reply long none lt out =
     }
 
 module _ {B : Type 0} (touches : B → List ℕ) (effect : B → List ℤ → Reply × List ℤ) where
-  -- the same links, where no more is known than that there is as much room
+  -- links that mean the same, if at least as much room is known
   pub links_stay : (log : List B) (states : List State) (unfinished cowns : ℕ) (old new : Links) → AreLinks touches effect log states unfinished cowns old
       → new.linked ≡ old.linked → Stay old new → old.queues.places ≤ new.queues.places
       → vec_capacity old.ready.behind ≤ vec_capacity new.ready.behind → deque_capacity old.ready.ready ≤ deque_capacity new.ready.ready
@@ -144,7 +144,7 @@ module _ {B : Type 0} (touches : B → List ℕ) (effect : B → List ℤ → Re
     room = λ some. let r = links.room some in omega (arith, r, room);
   }
 
-  -- the first one is handed out where nothing is linked
+  -- the first one is handed out while nothing is linked
   pub links_first : (log : List B) (states : List State) (unfinished cowns first : ℕ) (links : Links)
       → AreLinks touches effect log states unfinished cowns links → links.linked ≡ false → first ≡ length log - unfinished
       → waiting_at states first ≡ true → AreLinks touches effect log (slice_set states first Out) unfinished cowns links

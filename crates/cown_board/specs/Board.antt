@@ -10,8 +10,8 @@ use Rattle.cown_board.specs.State.{is_open, finished_reply}
 use Rattle.cown_board.specs.declared.state.State.{State}
 use Rattle.cown_board.specs.declared.state.State.TheVariants.{Out, Finished}
 
--- the columns at the opening; the replies to the numbers before it; the behaviours submitted since, and where each is;
--- the length of its cut, where it has one
+-- a board: the columns at the opening; the replies to the numbers before it; the behaviours
+-- submitted since, and the state of each; the length of its cut, if it has one
 pub record BoardOf (B : Type 0) : Type 0 where
   pub opening : Balances
   pub earlier : List Reply
@@ -19,7 +19,7 @@ pub record BoardOf (B : Type 0) : Type 0 where
   pub states : List State
   pub cut : Option ℕ
 
--- the greatest number so far
+-- the length of a board: its greatest number so far
 abbrev pub length_of : {B : Type 0} → BoardOf B → ℕ
 length_of board = length board.earlier + length board.log
 
@@ -27,15 +27,15 @@ length_of board = length board.earlier + length board.log
 abbrev pub number_at : {B : Type 0} → BoardOf B → ℕ → ℕ
 number_at board place = suc (length board.earlier + place)
 
--- how many are unfinished
+-- the number of unfinished behaviours
 abbrev pub open_of : {B : Type 0} → BoardOf B → ℕ
 open_of board = count_by is_open board.states
 
--- how many of those up to a number are unfinished, where the earlier ones are finished
+-- the number of unfinished behaviours up to a number; numbers before the board's are finished
 abbrev pub open_up_to : {B : Type 0} → BoardOf B → ℕ → ℕ
 open_up_to board number = count_by is_open (take (number - length board.earlier) board.states)
 
--- the reply to a number: one that was handed in, or that of a finished behaviour
+-- the reply to a number: one handed in at the opening, or that of a finished behaviour
 unfoldable pub reply_in : {B : Type 0} → BoardOf B → ℕ → Option Reply
 reply_in board number =
     if number == 0 then None
@@ -43,23 +43,24 @@ reply_in board number =
     else option_and_then finished_reply (slice_get board.states (number - 1 - length board.earlier))
 
 module _ {B : Type 0} (touches : B → List ℕ) (effect : B → List ℤ → Reply × List ℤ) where
-  -- what the behaviour at a place is given: what its cowns hold after those before it
+  -- the inputs of the behaviour at a place: what its cowns hold after the behaviours before it
   abbrev pub inputs_at : BoardOf B → ℕ → B → List ℤ
   inputs_at board place behaviour =
       inputs_of touches effect (held_after_first touches effect (held_of board.opening) board.log place) behaviour
 
-  -- it is that of the behaviour at a place, which is out, on its inputs
+  -- the result is that of the behaviour at a place, which is out, on its inputs
   pub record IsOutAt (board : BoardOf B) (done : DoneOf B) (place : ℕ) : Type 0 where
     pub number : done.number ≡ number_at board place
     pub out : slice_get board.states place ≡ Some Out
     pub behaviour : slice_get board.log place ≡ Some done.behaviour
     pub inputs : done.inputs ≡ inputs_at board place done.behaviour
 
-  -- what is handed in is that of a behaviour that is out, on the inputs that it was handed out with
+  -- the result is that of some behaviour that is out, on the inputs that it was handed out with
   abbrev pub IsOutHere : BoardOf B → DoneOf B → Type 0
   IsOutHere board done = (place : ℕ) × IsOutAt board done place
 
-  -- the behaviour at a ready place is handed out, with what its cowns hold, and is out from then on
+  -- the ready behaviour at an index is handed out, with what its cowns hold, and is out from then
+  -- on
   pub record Takes (old : BoardOf B) (index : ℕ) (job : JobOf B) (new : BoardOf B) : Type 0 where
     pub place : ℕ
     pub ready : slice_get (ready_places touches old.log old.states) index ≡ Some place
@@ -68,25 +69,25 @@ module _ {B : Type 0} (touches : B → List ℕ) (effect : B → List ℤ → Re
     pub inputs : job.inputs ≡ inputs_at old place job.behaviour
     pub out : new ≡ record old { states = slice_set old.states place Out }
 
-  -- the behaviour is finished, with the reply that the log run one by one gives its number
+  -- the behaviour is finished, with the reply that its number gets when the log runs one by one
   pub record Finishes (old : BoardOf B) (done : DoneOf B) (reply : Reply) (new : BoardOf B) : Type 0 where
     pub place : ℕ
     pub here : IsOutAt old done place
     pub by_log : reply_by_log touches effect (held_of old.opening) old.log (suc place) ≡ Some reply
     pub finished : new ≡ record old { states = slice_set old.states place (Finished reply) }
 
-  -- columns that hold what the whole log leaves
+  -- the columns hold what the whole log leaves
   abbrev pub IsAfterAll : BoardOf B → Balances → Type 0
   IsAfterAll board columns = held_of columns ≡ held_after touches effect (held_of board.opening) board.log
 
-  -- columns that hold what the log leaves up to a number
+  -- the columns hold what the log leaves up to a number
   abbrev pub IsAfterFirst : BoardOf B → ℕ → Balances → Type 0
   IsAfterFirst board number columns =
       let place = number - length board.earlier in
       held_of columns ≡ held_after_first touches effect (held_of board.opening) board.log place
 
-  -- the columns of a cut: all up to its length are finished, and the columns hold what these leave; where there are no
-  -- columns there is no cut, or something up to its length is unfinished
+  -- the columns of a cut: everything up to its length is finished, and the columns hold what that
+  -- leaves; without columns there is no cut, or something up to its length is unfinished
   abbrev pub AreCut : BoardOf B → Option Balances → Type 0
   AreCut board (Some columns) =
       (number : ℕ) × (board.cut ≡ Some number) × (open_up_to board number ≡ 0) × IsAfterFirst board number columns

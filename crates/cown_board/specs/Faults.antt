@@ -1,4 +1,4 @@
--- The numbers of the faults of a submit, and of a cut.
+-- The numbers of the faults of a submission and of a cut.
 use Rattle.std.specs.Prelude.{ℕ}
 use Rattle.cown_board.specs.declared.board.SubmitFault.{SubmitFault}
 use Rattle.cown_board.specs.declared.board.SubmitFault.TheVariants.{Busy, LogFull, OutOfMemory}

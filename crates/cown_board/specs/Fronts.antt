@@ -3,12 +3,12 @@ use Rattle.std.specs.Prelude.{◌≡◌, ℕ, ◌==◌, Bool, false, not, Some, 
 use Rattle.cown_queue.specs.Queues.{list_of}
 use Rattle.cown_board.specs.Readiness.{touched_by}
 
--- the number is the first one at each of these cowns
+-- the number is the first at each of these cowns
 abbrev pub AreFronts : ℕ → List (List ℕ) → List ℕ → Type 0
 AreFronts number lists [] = Unit {0}
 AreFronts number lists (cown ∷ cowns) = (slice_get (list_of lists cown) 0 ≡ Some number) × AreFronts number lists cowns
 
--- whether the first of a list is this number
+-- the number is the first of a list
 abbrev pub is_first : ℕ → List ℕ → Bool
 is_first number [] = false
 is_first number (n ∷ rest) = n == number
@@ -17,10 +17,10 @@ is_first number (n ∷ rest) = n == number
 abbrev pub behind_at : ℕ → List (List ℕ) → List ℕ → ℕ
 behind_at number lists cowns = count_by (λ cown. not (is_first number (list_of lists cown))) cowns
 
--- at how many of its cowns the behaviour at a place of a log isn't in front
+-- at how many of its cowns the behaviour at a place isn't in front
 abbrev pub behind_of : {B : Type 0} → (B → List ℕ) → List B → List (List ℕ) → ℕ → ℕ
 behind_of touches log lists place = behind_at place lists (touched_by touches (slice_get log place))
 
--- whether a cown's queue has a number
+-- a cown's queue has a number
 abbrev pub is_held : List (List ℕ) → ℕ → Bool
 is_held lists cown = is_some (slice_get (list_of lists cown) 0)

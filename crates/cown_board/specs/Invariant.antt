@@ -1,4 +1,4 @@
--- What a board keeps, whatever is submitted, taken and finished.
+-- The invariant of a board, whatever is submitted, taken and finished.
 use Rattle.std.specs.Prelude.{◌≡◌, ℕ, ◌<◌, ◌≤◌, ◌+◌, ◌-◌, ℤ, pos, Bool, true, false, ◌&&◌, Option, Some, IfSome, List, length, get_or, take, slice_get, option_map, count_by}
 use Rattle.std.specs.VecDeque.{deque_capacity}
 use Rattle.sb_rows.specs.Balances.{Balances}
@@ -19,8 +19,8 @@ use Rattle.cown_board.specs.declared.links.Links.{Links}
 use Rattle.cown_board.specs.declared.state.State.{State}
 use Rattle.cown_board.specs.declared.state.State.TheVariants.{Finished}
 
--- what a board has inside: what its callers see, the columns as they are now, how many numbers there were
--- before it, who waits for whom, how many are unfinished, and the cut
+-- the inside of a board: what its callers see, the columns as they are now, the count of earlier
+-- numbers, the links between behaviours, the number of unfinished ones, and the cut
 pub record BoardInside (B : Type 0) : Type 0 where
   pub opening : Balances
   pub now : Balances
@@ -33,72 +33,73 @@ pub record BoardInside (B : Type 0) : Type 0 where
   pub cut : Option Cut
 
 module _ {B : Type 0} (touches : B → List ℕ) (effect : B → List ℤ → Reply × List ℤ) where
-  -- whether the behaviour at a place declares a cown
+  -- the behaviour at a place declares a cown
   abbrev pub touches_at : List B → ℕ → ℕ → Bool
   touches_at log cown k = is_among cown (touched_by touches (slice_get log k))
 
-  -- of those that declare a cown the ones before k are finished, and the others aren't
+  -- a cown is settled up to k: of the behaviours that declare it, exactly those before k are
+  -- finished
   pub record IsSettled (log : List B) (states : List State) (cown k : ℕ) : Type 0 where
     pub before : (j : ℕ) → j < k → touches_at log cown j ≡ true → open_at states j ≡ false
     pub after : (j : ℕ) → k ≤ j → touches_at log cown j ≡ true → open_at states j ≡ true
 
-  -- what the cowns hold, against the log run one by one
+  -- what the cowns hold agrees with the log run one by one
   pub record Keeps (opening : List ℤ) (log : List B) (states : List State) (held : List ℤ) : Type 0 where
     pub beside : length log ≡ length states
     pub cowns_stay : length held ≡ length opening
     pub opened : AllHeld opening
     pub in_range : (k cown : ℕ) → touches_at log cown k ≡ true → cown < length opening
-    -- of two that share a cown the later one waits until the earlier one is finished
+    -- if two behaviours share a cown, the later one waits until the earlier one is finished
     pub ordered : (j k : ℕ) → j < k → k < length log → open_at states j ≡ true
         → conflict_at touches log j k ≡ true → waiting_at states k ≡ true
-    -- where a cown is settled up to k it holds what the first k leave
+    -- a cown that is settled up to k holds what the first k behaviours leave
     pub settled : (cown k : ℕ) → k ≤ length log → IsSettled log states cown k
         → get_or held cown (pos 0) ≡ get_or (held_after_first touches effect opening log k) cown (pos 0)
     pub replies : (k : ℕ) (reply : Reply) → slice_get states k ≡ Some (Finished reply)
         → option_map (reply_of touches effect (held_after_first touches effect opening log k)) (slice_get log k)
         ≡ Some reply
 
-  -- whether the behaviour at a place is unfinished and declares a cown
+  -- the behaviour at a place is unfinished and declares a cown
   abbrev pub is_queued : List B → List State → ℕ → ℕ → Bool
   is_queued log states cown k = open_at states k && touches_at log cown k
 
-  -- each cown's queue has the places of the unfinished behaviours that declare it
+  -- each cown's queue has the places of the unfinished behaviours that declare it, in order
   pub record QueuesAre (log : List B) (states : List State) (lists : List (List ℕ)) (cowns : ℕ) : Type 0 where
     pub one_each : length lists ≡ cowns
     pub each : (cown : ℕ) → cown < cowns → list_of lists cown ≡ places (is_queued log states cown) (length log)
 
-  -- of each that waits it is known at how many of its cowns it isn't in front, and of those that are in front at
-  -- all there is a list
+  -- each waiting behaviour has its count of cowns at which it isn't in front, and those in front at
+  -- all their cowns are listed
   pub record CountsAre (log : List B) (states : List State) (lists : List (List ℕ)) (behind ready : List ℕ) : Type 0 where
     pub beside : length behind ≡ length log
     pub counted : (k : ℕ) → waiting_at states k ≡ true → get_or behind k 0 ≡ behind_of touches log lists k
     pub listed : AreDue (waiting_at states) behind (length log) ready
 
-  -- what the behaviours of a log declare are cowns
+  -- the behaviours of a log declare only cowns that exist
   abbrev pub AreCowns : ℕ → List B → Type 0
   AreCowns cowns log = (k cown : ℕ) → touches_at log cown k ≡ true → cown < cowns
 
-  -- all that is unfinished is linked
+  -- all unfinished behaviours are linked
   pub record AllLinked (log : List B) (states : List State) (cowns : ℕ) (links : Links) : Type 0 where
     pub queues : QueuesAre log states links.queues.lists cowns
     pub counts : CountsAre log states links.queues.lists links.ready.behind.items links.ready.ready.items
 
-  -- so many are unfinished, the last ones of the log where nothing is linked
+  -- this many behaviours are unfinished; if nothing is linked, they are the last ones of the log
   pub record AreLinks (log : List B) (states : List State) (unfinished cowns : ℕ) (links : Links) : Type 0 where
     pub linked : links.linked ≡ true → AllLinked log states cowns links
     pub unlinked : links.linked ≡ false
         → (unfinished ≤ length log) × NoneLinked (length log) states (length log - unfinished) cowns links
-    -- a finish lets up to three more be ready
+    -- a finish may make up to three more behaviours ready
     pub room : 0 < unfinished → unfinished + 3 ≤ deque_capacity links.ready.ready
 
-  -- a cut keeps what the board would, had it taken no more than the numbers of the cut
+  -- a cut holds what the board would hold if it had taken only the numbers up to the cut
   pub record IsCut (opening : List ℤ) (base : ℕ) (log : List B) (states : List State) (cut : Cut) : Type 0 where
     pub after : base ≤ cut.number
     pub within : cut.number ≤ base + length log
     pub keeps : Keeps opening (take (cut.number - base) log) (take (cut.number - base) states) (held_of cut.columns)
     pub unfinished : cut.unfinished ≡ count_by is_open (take (cut.number - base) states)
 
-  -- all that a board keeps
+  -- everything that a board keeps
   pub record IsBoard (inside : BoardInside B) : Type 0 where
     pub based : length inside.earlier ≡ inside.base
     pub keeps : Keeps (held_of inside.opening) inside.log inside.states (held_of inside.now)

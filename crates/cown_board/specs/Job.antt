@@ -1,14 +1,14 @@
--- What a board hands out, and what comes back.
+-- What a board hands out and takes back.
 use Rattle.std.specs.Prelude.{ℕ, ℤ, List}
 use Rattle.sb_calls.specs.declared.reply.Reply.{Reply}
 
--- a behaviour's number, and what its cowns held
+-- a job: a behaviour, its number, and what its cowns held
 pub record JobOf (B : Type 0) : Type 0 where
   pub number : ℕ
   pub behaviour : B
   pub inputs : List ℤ
 
--- and what it replied, and left in its cowns
+-- the result of a job: also the reply, and what the behaviour left in its cowns
 pub record DoneOf (B : Type 0) : Type 0 where
   pub number : ℕ
   pub behaviour : B

@@ -3,15 +3,15 @@ use Rattle.std.specs.Prelude.{◌≡◌, ℕ, ◌+◌, ◌<◌, ◌≤◌, ℤ, 
 use Rattle.sb_calls.specs.Cowns.{held_of, write_cowns}
 use Rattle.cown_board.specs.declared.cut.Cut.{Cut}
 
--- a behaviour is finished that has this number, and left these values in these cowns: a cut of it has them, and one
--- unfinished fewer; a cut before it stays
+-- the behaviour of this number is finished, and left these values in these cowns: a cut that
+-- includes it gets the values and one unfinished fewer; an earlier cut stays
 pub record IsNoted (finished : ℕ) (cowns : List ℕ) (values : List ℤ) (old new : Cut) : Type 0 where
   pub same : new.number ≡ old.number
   pub written : finished ≤ old.number → held_of new.columns ≡ write_cowns (held_of old.columns) cowns values
   pub fewer : finished ≤ old.number → new.unfinished + 1 ≡ old.unfinished
   pub before : old.number < finished → new ≡ old
 
--- the same where there may be no cut
+-- the same, if there may be no cut
 abbrev pub AreNoted : ℕ → List ℕ → List ℤ → Option Cut → Option Cut → Type 0
 AreNoted finished cowns values None None = Unit {0}
 AreNoted finished cowns values None (Some new) = ⊥

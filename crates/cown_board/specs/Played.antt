@@ -1,4 +1,4 @@
--- What the calls of a board are answered, one after another, and what they leave.
+-- The answers to the calls of a board, one after another, and the board after them.
 use Rattle.std.specs.Prelude.{◌≡◌, ◌≢◌, ◌⊎◌, ℕ, suc, ◌<◌, ◌≤◌, ℤ, true, false, Option, Some, None, Result, Ok, Err, List, [], ◌∷◌, ◌++◌, length, slice_get}
 use Rattle.sb_rows.specs.Balances.{Balances}
 use Rattle.sb_calls.specs.Cowns.{held_of}
@@ -24,7 +24,7 @@ pub data BoardCall (B : Type 0) : Type 0 where
   CutMade : (answer : Result ℕ CutFault) → BoardCall B
   CutDropped : BoardCall B
 
--- what a call puts into the log
+-- the behaviours that a call appends to the log
 abbrev pub put_by : {B : Type 0} → BoardCall B → List B
 put_by (Submitted behaviour (Ok number)) = behaviour ∷ []
 put_by (Submitted behaviour (Err fault)) = []
@@ -42,7 +42,7 @@ abbrev pub opened_with : {B : Type 0} → Balances → List Reply → BoardOf B
 opened_with columns earlier = record { opening = columns; earlier = earlier; log = []; states = []; cut = None }
 
 module _ {B : Type 0} (touches : B → List ℕ) (effect : B → List ℤ → Reply × List ℤ) where
-  -- one call: what its contract says
+  -- the effect of one call, as its contract says
   abbrev pub Makes : BoardOf B → BoardCall B → BoardOf B → Type 0
   Makes old (Submitted behaviour (Ok number)) new =
       (open_of old ≢ OPEN_BEHAVIOURS) × (length_of old ≢ LOG_CALLS) × (number ≡ suc (length_of old))
@@ -62,32 +62,33 @@ module _ {B : Type 0} (touches : B → List ℕ) (effect : B → List ℤ → Re
   Makes old (CutMade (Err NoMemory)) new = (old.cut ≡ None) × (new ≡ old)
   Makes old CutDropped new = new ≡ record old { cut = None }
 
-  -- these calls one after another
+  -- the effect of these calls, one after another
   abbrev pub Plays : BoardOf B → List (BoardCall B) → BoardOf B → Type 0
   Plays old [] new = new ≡ old
   Plays old (call ∷ calls) new = (mid : BoardOf B) × Makes old call mid × Plays mid calls new
 
-  -- a board after these calls on one that was opened with these columns and replies
+  -- what holds of a board after these calls, if it was opened with these columns and replies
   pub record IsTrueToLog (columns : Balances) (earlier : List Reply) (calls : List (BoardCall B))
       (board : BoardOf B) : Type 0 where
     pub opening : board.opening ≡ columns
     pub before : board.earlier ≡ earlier
     pub log : board.log ≡ put_by_all calls
-    -- each finished behaviour has the reply of the log run one by one
+    -- each finished behaviour has its reply from the log run one by one
     pub replies : (k : ℕ) (reply : Reply) → slice_get board.states k ≡ Some (Finished reply)
         → reply_by_log touches effect (held_of columns) board.log (suc k) ≡ Some reply
-    -- the least unfinished one is ready or out
+    -- the first unfinished behaviour is ready or out
     pub least : (k : ℕ) → open_at board.states k ≡ true → ((j : ℕ) → j < k → open_at board.states j ≡ false)
         → (is_ready_at touches board.log board.states k ≡ true) ⊎ (slice_get board.states k ≡ Some Out)
-    -- the length of a cut lies between the number of earlier replies and the board's length
+    -- the length of a cut is between the number of earlier replies and the board's length
     pub cut : (number : ℕ) → board.cut ≡ Some number → (length earlier ≤ number) × (number ≤ length_of board)
 
-  -- whatever was submitted, taken, given back and cut, in whatever order
+  -- the board is true to its log, whatever was submitted, taken, given back and cut, in whatever
+  -- order
   abbrev pub BoardLaw : Type 0
   BoardLaw = (columns : Balances) (earlier : List Reply) (calls : List (BoardCall B)) (board : BoardOf B)
       → Plays (opened_with columns earlier) calls board → IsTrueToLog columns earlier calls board
 
-  -- after any calls, and then this one, the board is true to its log
+  -- if the board is true to its log after some calls, it is after this one too
   pub record StaysTrueToLog (old : BoardOf B) (call : BoardCall B) (new : BoardOf B) : Type 0 where
     pub law : (columns : Balances) (earlier : List Reply) (calls : List (BoardCall B))
         → Plays (opened_with columns earlier) calls old → IsTrueToLog columns earlier (calls ++ call ∷ []) new

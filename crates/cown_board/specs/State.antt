@@ -1,4 +1,4 @@
--- Where a behaviour that was submitted is.
+-- The state of a behaviour that was submitted.
 use Rattle.std.specs.Prelude.{ℕ, Bool, true, false, Option, Some, None, List, slice_get}
 use Rattle.cown_board.specs.declared.state.State.{State}
 use Rattle.cown_board.specs.declared.state.State.TheVariants.{Waiting, Out, Finished}
@@ -14,7 +14,7 @@ is_out Waiting = false
 is_out Out = true
 is_out (Finished reply) = false
 
--- not finished
+-- the state isn't finished
 abbrev pub is_open : State → Bool
 is_open Waiting = true
 is_open Out = true
@@ -25,12 +25,12 @@ finished_reply Waiting = None
 finished_reply Out = None
 finished_reply (Finished reply) = Some reply
 
--- what is so of the state at a place; where there is none, nothing is
+-- the test holds of the state at a place; it fails if there is none
 abbrev pub state_is : (State → Bool) → Option State → Bool
 state_is test None = false
 state_is test (Some state) = test state
 
--- whether the behaviour at a place of a log isn't finished, and whether it waits
+-- the behaviour at a place of a log is unfinished, and it waits
 abbrev pub open_at : List State → ℕ → Bool
 open_at states k = state_is is_open (slice_get states k)
 

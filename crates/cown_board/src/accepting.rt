@@ -1,4 +1,4 @@
-//! Whether what comes back is that of a behaviour that is out.
+//! Whether a result is that of a behaviour that is out.
 ghost use Rattle.std.specs.Prelude.{◌≡◌, ◌≢◌, ◌<◌, ◌+◌, ◌↔◌, ℕ, Some, suc, length, slice_get, IsTrue, MatchOption};
 ghost use Rattle.sb_calls.specs.Cowns.{AreBelow, held_of, read_cowns};
 ghost use Rattle.cown_board.specs.State as spec;
@@ -26,28 +26,30 @@ pub(crate) fn place_of(base: u64, numbers: usize, number: u64) -> Option<u64>
     }
 }
 
-// Whether a state is that of a behaviour that was handed out. For the prover alone: the test gets its clause here.
+// Whether a state is out. For the prover alone: the test gets its clause here.
 fn is_out(state: State) -> bool
     ensures { result ≡ spec.is_out state }
 {
     matches!(state, State::Out)
 }
 
-// Whether two behaviours are one. For the prover alone: here `==` gets its clause from the law `exact`.
+// Whether two behaviours are equal. For the prover alone: here `==` gets its clause from the law
+// `exact`.
 fn same_behaviour<B: Behaviour>(a: B, b: B) -> bool
     ensures { IsTrue result ↔ (a ≡ b) }
 {
     a == b
 }
 
-// Whether these are the same values. For the prover alone: here `==` of slices gets its clause.
+// Whether these values are equal. For the prover alone: here `==` of slices gets its clause.
 fn same_values(a: &[Cents], b: &[Cents]) -> bool
     ensures { IsTrue result ↔ (a.now ≡ b.now) }
 {
     a == b
 }
 
-// Whether the behaviour at a place is out, and what comes back is of this behaviour, on what its cowns hold.
+// Whether the behaviour at a place is out, and the result is of this behaviour, on what its cowns
+// hold.
 pub(crate) fn is_out_at<B: Behaviour>(
     columns: &Columns,
     log: &Vec<B>,

@@ -19,16 +19,16 @@ use std::alloc::{AllocError, Global};
 use std::marker::Model;
 use thiserror::Error;
 
-/// How many behaviours may be unfinished at once.
+/// The greatest number of behaviours that may be unfinished at once.
 pub const OPEN_BEHAVIOURS: usize = 1_024;
 
-/// Why a behaviour wasn't submitted. The board is as it was.
+/// Why a behaviour wasn't submitted. The board stays as it was.
 #[derive(Clone, Copy, Debug, PartialEq, Eq, Error, Drop)]
 pub enum SubmitFault {
-    /// As many behaviours are unfinished as may be.
+    /// The greatest number of behaviours is unfinished.
     #[error("busy")]
     Busy,
-    /// The log has as many numbers as it takes.
+    /// The log has the greatest number of calls.
     #[error("log full")]
     LogFull,
     /// Memory was refused.
@@ -49,10 +49,10 @@ impl SubmitFault {
     }
 }
 
-/// A log of behaviours, of which those are handed out whose cowns are free.
+/// A log of behaviours. It hands out those whose cowns are free.
 ///
-/// It can't carry out a behaviour itself: what a behaviour replies, and leaves in its cowns, it knows from
-/// what comes back alone.
+/// It can't run a behaviour itself. It learns a behaviour's reply, and what the behaviour leaves in
+/// its cowns, only from the result that comes back.
 #[derive(Drop)]
 pub struct Board<B: Behaviour> {
     opening: Columns,
@@ -63,7 +63,7 @@ pub struct Board<B: Behaviour> {
     states: Vec<State>,
     links: Links,
     unfinished: usize,
-    // What a checkpoint is made of, while later numbers run.
+    // The columns for a checkpoint, while later numbers run.
     cut: Option<Cut>,
 }
 
@@ -123,21 +123,22 @@ impl<B: Behaviour> Board<B> {
         })
     }
 
-    /// Makes room for this many behaviours more, so that submitting them moves no others. Where memory is
-    /// refused nothing is lost.
+    /// Makes room for this many more behaviours, so that submitting them moves no others. If memory
+    /// is refused, nothing is lost.
     pub fn reserve(&mut self, additional: usize) -> Result<(), AllocError>
         ensures { self.new ≡ self.old }
     {
         self.log.reserve(additional)?;
         self.states.reserve(additional)?;
-        self.links.reserve(self.log.len().saturating_add(additional))
+        self.links
+            .reserve(self.log.len().saturating_add(additional))
     }
 
-    /// The greatest number so far.
+    /// The board's length: the greatest number so far.
     pub fn length(&self) -> u64
         ensures value { result ≡ length_of self.now }
         ensures few { length_of self.now ≤ LOG_CALLS }
-        // It was opened on the columns of a bank, and each behaviour of the log is somewhere.
+        // It was opened on the columns of a bank, and each behaviour of the log has a state.
         ensures bank { IsBalances self.now.opening }
         ensures beside { length self.now.log ≡ length self.now.states }
     {
@@ -148,13 +149,13 @@ impl<B: Behaviour> Board<B> {
     /// Whether nothing is unfinished.
     pub fn idle(&self) -> bool
         ensures value { IsTrue result ↔ (open_of self.now ≡ 0) }
-        // Each behaviour of the log is somewhere.
+        // Each behaviour of the log has a state.
         ensures beside { length self.now.log ≡ length self.now.states }
     {
         self.unfinished == 0
     }
 
-    /// How many behaviours are unfinished.
+    /// The number of unfinished behaviours.
     #[inline]
     pub fn unfinished(&self) -> usize
         ensures value { result ≡ open_of self.now }
@@ -163,11 +164,11 @@ impl<B: Behaviour> Board<B> {
         self.unfinished
     }
 
-    /// Puts a behaviour last in the log, and answers its number.
+    /// Appends a behaviour to the log, and returns its number.
     ///
-    /// Fails with the first fault that holds, in the order of [`SubmitFault`]'s variants; the board is as it
-    /// was then. All room that handing out and finishing it take is made here.
-    // Inlined, so that a behaviour isn't handed over in memory and read back at once.
+    /// Fails with the first fault that holds, in the order of [`SubmitFault`]'s variants; then the
+    /// board stays as it was. All room for handing it out and finishing it is made here.
+    // Inlined, so that a behaviour isn't passed through memory and read back at once.
     #[inline(always)]
     pub fn submit(&mut self, behaviour: B) -> Result<u64, SubmitFault>
         requires { AreBelow (length (held_of self.old.opening)) (B.touches behaviour) }
@@ -180,7 +181,7 @@ impl<B: Behaviour> Board<B> {
         ensures busy { IsErrOf result SubmitFault.Busy ↔ (open_of self.old ≡ OPEN_BEHAVIOURS) }
         ensures full { IsErrOf result SubmitFault.LogFull ↔
             ((open_of self.old ≢ OPEN_BEHAVIOURS) × (length_of self.old ≡ LOG_CALLS)) }
-        // After any calls, with this one too, the board is true to its log.
+        // If the board is true to its log after some calls, it is after this one too.
         ensures played { MatchResult result
             (λ number. StaysTrueToLog B.touches B.effect self.old (Submitted behaviour (Ok number)) self.new)
             (λ fault. StaysTrueToLog B.touches B.effect self.old (Submitted behaviour (Err fault)) self.new) }
@@ -191,17 +192,12 @@ impl<B: Behaviour> Board<B> {
         if self.base as usize + self.log.len() == LOG_CALLS {
             return Err(SubmitFault::LogFull);
         }
-        let cowns = behaviour.cowns();
         let place = self.log.len() as u64;
         let unfinished = self.unfinished + 1;
         if make_room(&mut self.log, &mut self.states).is_err() {
             return Err(SubmitFault::OutOfMemory);
         }
-        if self
-            .links
-            .submit(place, cowns.as_slice(), unfinished)
-            .is_err()
-        {
+        if self.links.submit(place, behaviour, unfinished).is_err() {
             return Err(SubmitFault::OutOfMemory);
         }
         self.log.push_reserved(behaviour);
@@ -210,15 +206,15 @@ impl<B: Behaviour> Board<B> {
         Ok(self.base + place + 1)
     }
 
-    /// Hands out the ready behaviour that has this many ready ones before it: it is out from then on. `None`,
-    /// and nothing changed, where there is none.
+    /// Hands out the ready behaviour that has this many ready ones before it; it is out from then
+    /// on. Returns `None`, and changes nothing, if there is none.
     ///
     /// A behaviour is ready while it waits and no unfinished one before it shares a cown with it.
     pub fn take_at(&mut self, index: usize) -> Option<Job<B>>
         ensures outcome { MatchOption result
             ((length (ready_places B.touches self.old.log self.old.states) ≤ index) × (self.new ≡ self.old))
             (λ job. Takes B.touches B.effect self.old index job self.new) }
-        // After any calls, with this one too, the board is true to its log.
+        // If the board is true to its log after some calls, it is after this one too.
         ensures played { MatchOption result
             (StaysTrueToLog B.touches B.effect self.old (TakenAt index None) self.new)
             (λ job. StaysTrueToLog B.touches B.effect self.old (TakenAt index (Some job)) self.new) }
@@ -232,15 +228,16 @@ impl<B: Behaviour> Board<B> {
         Some(Job::new(self.base + place + 1, behaviour, inputs))
     }
 
-    /// Takes back what a behaviour did that was handed out: it is finished, its cowns hold what it left, and
-    /// its reply is answered. What isn't that of a behaviour that is out, on the inputs that it was handed out
-    /// with, comes back, and nothing changes.
+    /// Takes back the result of a behaviour that was handed out. The behaviour is then finished,
+    /// its cowns hold what it left, and its reply is returned. Any other result comes back, and
+    /// nothing changes: it must be of a behaviour that is out, on the inputs that it was handed out
+    /// with.
     pub fn finish(&mut self, done: Done<B>) -> Result<Reply, Done<B>>
         ensures accepted { IsOk result ↔ IsOutHere B.touches B.effect self.old done }
         ensures outcome { MatchResult result
             (λ reply. Finishes B.touches B.effect self.old done reply self.new)
             (λ back. (back ≡ done) × (self.new ≡ self.old)) }
-        // After any calls, with this one too, the board is true to its log.
+        // If the board is true to its log after some calls, it is after this one too.
         ensures played { MatchResult result
             (λ reply. StaysTrueToLog B.touches B.effect self.old (Returned done (Ok reply)) self.new)
             (λ back. StaysTrueToLog B.touches B.effect self.old (Returned done (Err back)) self.new) }
@@ -262,12 +259,12 @@ impl<B: Behaviour> Board<B> {
         Ok(reply)
     }
 
-    /// The reply to a number: the one that was handed in for a number before the board's, and else that of a
-    /// finished behaviour.
+    /// The reply to a number: the one handed in at the opening if the number is before the board's,
+    /// else that of a finished behaviour.
     #[inline]
     pub fn reply(&self, number: u64) -> Option<Reply>
         ensures value { result ≡ reply_in self.now number }
-        // It is that of the log run one by one.
+        // It is the reply of the log run one by one.
         ensures by_log { IfSome result (λ reply. length self.now.earlier < number →
             reply_by_log B.touches B.effect (held_of self.now.opening) self.now.log
             (number - length self.now.earlier) ≡ Some reply) }
@@ -280,7 +277,8 @@ impl<B: Behaviour> Board<B> {
         self.states[place as usize].reply()
     }
 
-    /// The columns after the whole log, or `None` while something is unfinished. Fails where memory is refused.
+    /// A copy of the columns after the whole log, or `None` while something is unfinished. Fails if
+    /// memory is refused.
     pub fn columns(&self) -> Result<Option<Columns>, AllocError>
         ensures value { IfOk result (λ columns. MatchOption columns (open_of self.now ≢ 0)
             (λ all. (open_of self.now ≡ 0) × IsAfterAll B.touches B.effect self.now all)) }
@@ -293,7 +291,7 @@ impl<B: Behaviour> Board<B> {
         }
     }
 
-    /// The columns after the whole log, lent, or `None` while something is unfinished.
+    /// The columns after the whole log, or `None` while something is unfinished.
     pub fn settled_columns(&self) -> Option<&Columns>
         ensures value { MatchOption result (open_of self.now ≢ 0)
             (λ columns. (open_of self.now ≡ 0) × IsAfterAll B.touches B.effect self.now columns.now) }
@@ -307,11 +305,12 @@ impl<B: Behaviour> Board<B> {
         }
     }
 
-    /// Makes a cut at the board's length, and answers that: columns that settle once the numbers up to it are
-    /// finished, while later ones run. All room that it takes is made here.
+    /// Makes a cut at the board's length, and returns that length. The cut's columns settle once
+    /// the numbers up to it are finished, while later ones run. All room that it takes is made
+    /// here.
     ///
-    /// Fails with the first fault that holds, in the order of [`CutFault`]'s variants; the board is as it was
-    /// then.
+    /// Fails with the first fault that holds, in the order of [`CutFault`]'s variants; then the
+    /// board stays as it was.
     pub fn cut(&mut self) -> Result<u64, CutFault>
         ensures number { IfOk result (λ number. number ≡ length_of self.old) }
         ensures ok { OnOk result ((self.old.cut ≡ None) ×
@@ -319,7 +318,7 @@ impl<B: Behaviour> Board<B> {
         ensures err { OnErr result (self.new ≡ self.old) }
         ensures pending { (number : ℕ) →
             IsErrOf result (CutFault.Pending number) ↔ (self.old.cut ≡ Some number) }
-        // After any calls, with this one too, the board is true to its log.
+        // If the board is true to its log after some calls, it is after this one too.
         ensures played { StaysTrueToLog B.touches B.effect self.old (CutMade result) self.new }
     {
         let number = self.length();
@@ -337,7 +336,7 @@ impl<B: Behaviour> Board<B> {
         Ok(number)
     }
 
-    /// The length of the cut, where there is one.
+    /// The length of the cut, if there is one.
     pub fn cut_length(&self) -> Option<u64>
         ensures value { result ≡ self.now.cut }
         ensures within { IfSome result (λ number.
@@ -349,8 +348,8 @@ impl<B: Behaviour> Board<B> {
         }
     }
 
-    /// The columns after the numbers up to the cut's length, lent, or `None` while there is no cut, or one of
-    /// these is unfinished.
+    /// The columns after the numbers up to the cut's length, or `None` while there is no cut, or
+    /// one of these is unfinished.
     pub fn cut_columns(&self) -> Option<&Columns>
         ensures value { AreCut B.touches B.effect self.now (option_map (λ columns. columns.now) result) }
         ensures bank { IfSome result (λ columns. IsBalances columns.now) }
@@ -366,17 +365,17 @@ impl<B: Behaviour> Board<B> {
         }
     }
 
-    /// Drops the cut, where there is one.
+    /// Drops the cut, if there is one.
     pub fn drop_cut(&mut self)
         ensures state { self.new ≡ record self.old { cut = None } }
-        // After any calls, with this one too, the board is true to its log.
+        // If the board is true to its log after some calls, it is after this one too.
         ensures played { StaysTrueToLog B.touches B.effect self.old CutDropped self.new }
     {
         self.cut = None;
     }
 }
 
-// Makes room for one behaviour more. Where memory is refused nothing is lost.
+// Makes room for one more behaviour. If memory is refused, nothing is lost.
 #[inline(always)]
 fn make_room<B: Behaviour>(log: &mut Vec<B>, states: &mut Vec<State>) -> Result<(), AllocError>
     ensures log { (log.new.items ≡ log.old.items) × (vec_len log.new ≡ vec_len log.old) }

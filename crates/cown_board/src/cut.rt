@@ -1,4 +1,4 @@
-//! A copy of the columns that settles once the numbers up to one are finished.
+//! A copy of the columns that settles once the numbers up to a length are finished.
 ghost use Rattle.std.specs.Prelude.{◌≡◌, ◌≤◌, length, IfSome};
 ghost use Rattle.sb_calls.specs.Cowns.{AreBelow, AreHeld, held_of};
 ghost use Rattle.cown_board.specs.Faults.{cut_fault_number};
@@ -9,10 +9,10 @@ use sb_calls::{Cown, write_cowns};
 use sb_rows::Columns;
 use thiserror::Error;
 
-/// Why no cut was made. The board is as it was.
+/// Why no cut was made. The board stays as it was.
 #[derive(Clone, Copy, Debug, PartialEq, Eq, Error, Drop)]
 pub enum CutFault {
-    /// There is a cut already, of this length.
+    /// There is a cut already, with this length.
     #[error("pending {0}")]
     Pending(u64),
     /// Memory was refused.
@@ -37,11 +37,11 @@ impl CutFault {
 pub(crate) struct Cut {
     pub(crate) number: u64,
     pub(crate) columns: Columns,
-    // How many up to the number are unfinished.
+    // The number of unfinished behaviours up to the number.
     pub(crate) unfinished: usize,
 }
 
-// The behaviour with this number is finished, and left these values in its cowns.
+// Records that the behaviour of this number is finished, and left these values in its cowns.
 pub(crate) fn note_finished(cut: &mut Option<Cut>, number: u64, cowns: &[Cown], values: &[Cents])
     requires cowns { IfSome cut.old (λ c. AreBelow (length (held_of c.columns)) cowns.now) }
     requires unfinished { IfSome cut.old (λ c. number ≤ c.number → 1 ≤ c.unfinished) }
@@ -51,7 +51,7 @@ pub(crate) fn note_finished(cut: &mut Option<Cut>, number: u64, cowns: &[Cown], 
     let Some(cut) = cut else {
         return;
     };
-    // What comes after the cut isn't part of it.
+    // Numbers after the cut aren't part of it.
     if number <= cut.number {
         write_cowns(&mut cut.columns, cowns, values);
         cut.unfinished -= 1;

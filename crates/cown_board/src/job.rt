@@ -1,4 +1,4 @@
-//! What a board hands out, and what comes back.
+//! What a board hands out and takes back.
 ghost use Rattle.std.specs.Prelude.{◌≡◌};
 ghost use Rattle.sb_calls.specs.Cowns.{AreHeld};
 ghost use Rattle.cown_board.specs.Job.{JobOf, DoneOf};
@@ -8,7 +8,8 @@ use sb_amount::Cents;
 use sb_calls::{BEHAVIOUR_COWNS, Behaviour, Performs, Reply};
 use std::marker::Model;
 
-/// A behaviour that was handed out, with what its cowns hold. Until it is finished nobody else has them.
+/// A behaviour that was handed out, with what its cowns hold. Until it is finished nobody else has
+/// these cowns.
 #[derive(Drop)]
 pub struct Job<B: Behaviour> {
     number: u64,
@@ -49,7 +50,7 @@ impl<B: Behaviour> Job<B> {
 }
 
 impl<B: Performs> Job<B> {
-    /// Carries the behaviour out.
+    /// Runs the behaviour.
     pub fn run(self) -> Done<B>
         ensures job { (result.number ≡ self.number) × (result.behaviour ≡ self.behaviour) ×
             (result.inputs ≡ self.inputs) }
@@ -70,8 +71,8 @@ impl<B: Performs> Job<B> {
     }
 }
 
-/// A behaviour that was carried out. Its reply, and what it leaves in its cowns, are its effect on its
-/// inputs: nothing else can be made into one.
+/// The result of a behaviour that ran. Its reply, and what it leaves in its cowns, are its effect
+/// on its inputs: no other result can be made.
 #[derive(Drop)]
 pub struct Done<B: Behaviour> {
     number: u64,

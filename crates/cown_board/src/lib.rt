@@ -1,4 +1,4 @@
-//! A board that hands out behaviours as their cowns become free, and takes back what they did.
+//! A board that hands out behaviours as their cowns become free, and takes back their results.
 #![tactic(auto)]
 
 mod accepting;

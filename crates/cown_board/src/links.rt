@@ -1,4 +1,4 @@
-//! Who waits for whom among the behaviours of a log.
+//! Which behaviours of a log wait for which.
 ghost use Rattle.std.specs.Prelude.{◌≡◌, ◌+◌, ◌*◌, ◌<◌, ◌≤◌, [], ℕ, true, false, Some, List, length, replicate, get_or, slice_get, slice_set, IfOk, OnOk, OnErr, MatchOption, vec_len, vec_capacity};
 ghost use Rattle.std.specs.VecDeque.{deque_len, deque_capacity};
 ghost use Rattle.sb_calls.specs.Cowns.{AreBelow, IsRising};
@@ -15,10 +15,10 @@ use cown_queue::Queues;
 use sb_calls::{BEHAVIOUR_COWNS, Behaviour, Cown};
 use std::alloc::{AllocError, Global};
 
-// Which of the unfinished behaviours may be handed out.
+// The links between unfinished behaviours, from which the ready ones follow.
 //
-// While they are taken one at a time that is the first of them, and nothing is linked. Once another is asked for
-// all are, and stay so.
+// While the behaviours are taken one at a time, the first unfinished one is next, and nothing is
+// linked. Once another is asked for, all are linked, and stay so.
 #[derive(Drop)]
 pub(crate) struct Links {
     pub(crate) linked: bool,
@@ -28,7 +28,7 @@ pub(crate) struct Links {
 }
 
 impl Links {
-    // Those of an empty log over this many cowns.
+    // The links of an empty log over this many cowns.
     pub(crate) fn open(alloc: Global, cowns: usize) -> Result<Links, AllocError>
         ensures { IfOk result (λ links. (links.linked ≡ false) × (links.queues.lists ≡ replicate cowns []) ×
             (links.ready.behind.items ≡ []) × (links.ready.ready.items ≡ [])) }
@@ -40,7 +40,7 @@ impl Links {
         })
     }
 
-    // Makes room for the counts of a log of this length. Where memory is refused nothing is lost.
+    // Makes room for the counts of a log of this length. If memory is refused, nothing is lost.
     pub(crate) fn reserve(&mut self, numbers: usize) -> Result<(), AllocError>
         ensures linked { self.new.linked ≡ self.old.linked }
         ensures queues { self.new.queues ≡ self.old.queues }
@@ -51,18 +51,17 @@ impl Links {
         self.ready.reserve_counts(numbers)
     }
 
-    // One behaviour more, at this place of the log, where so many are unfinished with it. All room that linking,
-    // handing out and finishing it take is made here. Where memory is refused nothing is lost.
+    // Adds the behaviour at this place of the log, where this many are unfinished with it. All room
+    // for linking, handing out and finishing it is made here. If memory is refused, nothing is
+    // lost.
     #[inline(always)]
-    pub(crate) fn submit(
+    pub(crate) fn submit<B: Behaviour>(
         &mut self,
         place: u64,
-        cowns: &[Cown],
+        behaviour: B,
         unfinished: usize,
     ) -> Result<(), AllocError>
-        requires few { length cowns.now ≤ 3 }
-        requires rising { IsRising cowns.now }
-        requires cowns { AreBelow (length self.old.queues.lists) cowns.now }
+        requires cowns { AreBelow (length self.old.queues.lists) (B.touches behaviour) }
         requires place { place < 1000000 }
         requires unfinished { unfinished ≤ 1024 }
         requires counts { self.old.linked ≡ true → vec_len self.old.ready.behind ≡ place }
@@ -74,7 +73,7 @@ impl Links {
         ensures err { OnErr result (Stay self.old self.new) }
         ensures counts_room { OnOk result (place + 1 ≤ vec_capacity self.new.ready.behind) }
         ensures ready_room { OnOk result (unfinished + 3 ≤ deque_capacity self.new.ready.ready) }
-        ensures put { OnOk result (self.old.linked ≡ true → Stands place cowns.now self.old self.new) }
+        ensures put { OnOk result (self.old.linked ≡ true → Stands place (B.touches behaviour) self.old self.new) }
         ensures stay { OnOk result (self.old.linked ≡ false →
             Stay self.old self.new × (unfinished * 3 ≤ self.new.queues.places)) }
     {
@@ -82,15 +81,16 @@ impl Links {
         if !self.linked {
             return self.queues.reserve_places(unfinished * BEHAVIOUR_COWNS);
         }
-        self.queues.reserve(cowns)?;
-        let behind = count_held(&self.queues, cowns);
-        self.queues.append(place, cowns);
+        let cowns = behaviour.cowns();
+        self.queues.reserve(cowns.as_slice())?;
+        let behind = count_held(&self.queues, cowns.as_slice());
+        self.queues.append(place, cowns.as_slice());
         self.ready.push(place, behind);
         Ok(())
     }
 
-    // Hands out the ready behaviour that has this many ready ones before it, and answers its place. It takes no
-    // memory.
+    // Hands out the ready behaviour that has this many ready ones before it, and returns its place.
+    // It allocates nothing.
     #[inline(always)]
     pub(crate) fn take<B: Behaviour>(
         &mut self,
@@ -127,7 +127,7 @@ impl Links {
         self.ready.take(index)
     }
 
-    // Links all that is unfinished, from this place on.
+    // Links all unfinished behaviours, from this place on.
     #[cold]
     fn link<B: Behaviour>(&mut self, log: &Vec<B>, states: &Vec<State>, first: usize)
         requires some { first < length log.now.items }
@@ -158,8 +158,8 @@ impl Links {
         self.linked = true;
     }
 
-    // The behaviour at this place, which is out and declares these cowns, is finished: those behind it come
-    // forward. It takes no memory.
+    // Finishes the behaviour at this place, which is out and declares these cowns: those behind it
+    // step forward. It allocates nothing.
     #[inline(always)]
     pub(crate) fn finish(&mut self, place: u64, cowns: &[Cown])
         requires few { length cowns.now ≤ 3 }

@@ -8,17 +8,17 @@ use sb_calls::BEHAVIOUR_COWNS;
 use std::alloc::{AllocError, Global};
 use std::collections::VecDeque;
 
-// How far the behaviours of a log are from being ready.
+// How far each behaviour of a log is from being ready.
 #[derive(Drop)]
 pub(crate) struct ReadyList {
-    // For each place of the log, at how many of its cowns the behaviour there isn't in front.
+    // For each place of the log, the number of its cowns at which the behaviour isn't in front.
     pub(crate) behind: Vec<u8>,
-    // The places of those that wait and are in front at all their cowns, in rising order.
+    // The places that wait and are in front at all their cowns, in rising order.
     pub(crate) ready: VecDeque<u64>,
 }
 
 impl ReadyList {
-    // That of an empty log.
+    // The list of an empty log.
     pub(crate) fn new(alloc: Global) -> ReadyList
         ensures behind { result.behind.items ≡ [] }
         ensures ready { result.ready.items ≡ [] }
@@ -29,7 +29,7 @@ impl ReadyList {
         }
     }
 
-    // Makes room for the counts of a log of this length. Where memory is refused nothing is lost.
+    // Makes room for the counts of a log of this length. If memory is refused, nothing is lost.
     pub(crate) fn reserve_counts(&mut self, numbers: usize) -> Result<(), AllocError>
         ensures behind { (self.new.behind.items ≡ self.old.behind.items) ×
             (vec_len self.new.behind ≡ vec_len self.old.behind) }
@@ -41,8 +41,8 @@ impl ReadyList {
         self.behind.reserve(numbers.saturating_sub(counts))
     }
 
-    // Makes room for a log of this length, of which this many are unfinished, and for those that come to the
-    // front of their cowns when one of them is finished. Where memory is refused nothing is lost.
+    // Makes room for a log of this length with this many unfinished behaviours, and for those that
+    // become ready when one of them finishes. If memory is refused, nothing is lost.
     pub(crate) fn reserve(&mut self, numbers: usize, unfinished: usize) -> Result<(), AllocError>
         requires { unfinished ≤ 1024 }
         ensures behind { (self.new.behind.items ≡ self.old.behind.items) ×
@@ -59,7 +59,7 @@ impl ReadyList {
         self.ready.reserve(wanted.saturating_sub(self.ready.len()))
     }
 
-    // A count of 0 for each of this many behaviours, of a log that has no counts yet.
+    // Adds a count of 0 for each of this many behaviours, to a log that has no counts yet.
     pub(crate) fn skip(&mut self, finished: usize)
         requires none { self.old.behind.items ≡ [] }
         requires room { finished ≤ vec_capacity self.old.behind }
@@ -72,7 +72,7 @@ impl ReadyList {
         }
     }
 
-    // One behaviour more, at this place of the log, which isn't in front at so many of its cowns.
+    // Adds the behaviour at this place of the log, which isn't in front at this many of its cowns.
     #[inline(always)]
     pub(crate) fn push(&mut self, place: u64, behind: u8)
         requires behind_room { vec_len self.old.behind < vec_capacity self.old.behind }
@@ -90,7 +90,7 @@ impl ReadyList {
         }
     }
 
-    // Takes the ready place out that has this many ready ones before it.
+    // Removes the ready place that has this many ready ones before it.
     pub(crate) fn take(&mut self, index: usize) -> Option<u64>
         ensures outcome { MatchOption result
             ((length self.old.ready.items ≤ index) × (self.new.ready.items ≡ self.old.ready.items))
@@ -113,7 +113,7 @@ impl ReadyList {
         self.ready.get(index).copied()
     }
 
-    // Takes a ready place out. Where all are run in place it is the first.
+    // Removes a ready place. If all behaviours run in place, it is the first.
     pub(crate) fn remove(&mut self, index: usize)
         requires { index < length self.old.ready.items }
         ensures behind { self.new.behind ≡ self.old.behind }
@@ -127,8 +127,8 @@ impl ReadyList {
         }
     }
 
-    // Each of these waiting places is in front at one cown more, once for each time that it is given. What is in
-    // front at all its cowns then is ready.
+    // Each of these waiting places is in front at one more cown, once for each time that it occurs.
+    // A place in front at all its cowns is then ready.
     pub(crate) fn come_forward(&mut self, fronts: &[u64])
         requires few { length fronts.now ≤ 3 }
         requires behind { (place : ℕ) → times place fronts.now ≤ get_or self.old.behind.items place 0 }
@@ -147,7 +147,7 @@ impl ReadyList {
         }
     }
 
-    // A waiting place is in front at one cown more.
+    // A waiting place is in front at one more cown.
     fn step_forward(&mut self, place: u64)
         requires behind { 0 < get_or self.old.behind.items place 0 }
         requires room { deque_len self.old.ready < deque_capacity self.old.ready }
@@ -168,7 +168,7 @@ impl ReadyList {
     }
 }
 
-// Puts a place into a rising list that hasn't got it.
+// Inserts a place into a rising list that doesn't have it.
 fn put_in_order(list: &mut VecDeque<u64>, place: u64)
     requires { deque_len list.old < deque_capacity list.old }
     ensures items { (f : ℕ → Bool) (bound : ℕ) → place < bound → f place ≡ false →

@@ -1,4 +1,4 @@
-//! What runs behaviours: a board, or what owns one.
+//! What runs behaviours: a board, or an owner of one.
 ghost use Rattle.std.specs.Prelude.{◌≡◌, ◌≤◌, ◌↔◌, length, IsTrue, IsOk, Some, None, Ok, Err, MatchOption, MatchResult};
 ghost use Rattle.sb_calls.specs.Behaviour.{declared_cowns, effect_of};
 ghost use Rattle.sb_calls.specs.declared.op.Op.{Op as AnyOp};
@@ -10,37 +10,37 @@ use crate::board::Board;
 use crate::job::{Done, Job};
 use sb_calls::{Op, Reply};
 
-/// Hands out ops that are ready, and takes back what they did. What it has beside its board stays.
+/// Hands out ready ops, and takes back their results. Whatever it has beside its board stays.
 pub trait Runs {
     /// The board that it owns.
     ghost board: { Self → BoardOf AnyOp };
 
-    /// What it may have beside its board, as names or a store.
+    /// The type of what it has beside its board, such as names or a store.
     ghost Beside: { Type 0 };
 
     /// What it has beside its board.
     ghost beside: { Self → Beside };
 
-    /// Hands out the ready op that has this many ready ones before it, as [`Board::take_at`].
+    /// Hands out the ready op that has this many ready ones before it, as [`Board::take_at`] does.
     fn take_at(&mut self, index: usize) -> Option<Job<Op>>
         ensures outcome { MatchOption result
             ((length (ready_places declared_cowns (board self.old).log (board self.old).states) ≤ index) ×
             (board self.new ≡ board self.old))
             (λ job. Takes declared_cowns effect_of (board self.old) index job (board self.new)) }
-        // After any calls on its board, with this one too, the board is true to its log.
+        // If the board is true to its log after some calls on it, it is after this one too.
         ensures played { MatchOption result
             (StaysTrueToLog declared_cowns effect_of (board self.old) (TakenAt index None) (board self.new))
             (λ job. StaysTrueToLog declared_cowns effect_of (board self.old)
             (TakenAt index (Some job)) (board self.new)) }
         ensures beside { beside self.new ≡ beside self.old };
 
-    /// Takes back what an op did, as [`Board::finish`].
+    /// Takes back the result of an op, as [`Board::finish`] does.
     fn finish(&mut self, done: Done<Op>) -> Result<Reply, Done<Op>>
         ensures accepted { IsOk result ↔ IsOutHere declared_cowns effect_of (board self.old) done }
         ensures outcome { MatchResult result
             (λ reply. Finishes declared_cowns effect_of (board self.old) done reply (board self.new))
             (λ back. (back ≡ done) × (board self.new ≡ board self.old)) }
-        // After any calls on its board, with this one too, the board is true to its log.
+        // If the board is true to its log after some calls on it, it is after this one too.
         ensures played { MatchResult result
             (λ reply. StaysTrueToLog declared_cowns effect_of (board self.old)
             (Returned done (Ok reply)) (board self.new))
@@ -51,11 +51,11 @@ pub trait Runs {
     /// Whether nothing is unfinished.
     fn idle(&self) -> bool
         ensures value { IsTrue result ↔ (open_of (board self.now) ≡ 0) }
-        // Each op of the log is somewhere.
+        // Each op of the log has a state.
         ensures beside { length (board self.now).log ≡ length (board self.now).states };
 }
 
-// Each method is the board's own of that name. Beside it there is nothing.
+// Each method is the board's own of that name. There is nothing beside the board.
 impl Runs for Board<Op> {
     ghost board = { λ board. board };
 

@@ -1,4 +1,4 @@
-//! One turn of whoever works a board.
+//! One turn of whoever works with a board.
 ghost use Rattle.std.specs.Prelude.{[], ◌∷◌, length};
 ghost use Rattle.sb_calls.specs.Cowns.{AreBelow, held_of};
 ghost use Rattle.cown_board.specs.Played.{Plays, Submitted, TakenAt, Returned};
@@ -7,21 +7,21 @@ use crate::board::{Board, SubmitFault};
 use crate::job::{Done, Job};
 use sb_calls::{Behaviour, Reply};
 
-/// What a board answered in a turn.
+/// A board's answers in one turn.
 #[derive(Drop)]
 pub struct Turn<B: Behaviour> {
-    /// To a behaviour that was submitted.
+    /// The answer to the behaviour that was submitted.
     pub submitted: Result<u64, SubmitFault>,
-    /// The first behaviour that was ready then.
+    /// The first behaviour that was ready afterwards.
     pub job: Option<Job<B>>,
-    /// To what came back.
+    /// The answer to the result that came back.
     pub finished: Result<Reply, Done<B>>,
 }
 
-/// Submits a behaviour, takes the first one that is ready, and gives back what was done before.
+/// Submits a behaviour, takes the first ready one, and gives back an earlier result.
 ///
-/// Of a behaviour this needs no more than what it declares: who works a board needn't be able to run what it
-/// hands out.
+/// It needs only what a behaviour declares: whoever works with a board needn't be able to run what
+/// it hands out.
 pub fn take_turn<B: Behaviour>(board: &mut Board<B>, behaviour: B, done: Done<B>) -> Turn<B>
     requires { AreBelow (length (held_of board.old.opening)) (B.touches behaviour) }
     ensures { Plays B.touches B.effect board.old

@@ -1,4 +1,4 @@
--- One chain of tickets: what its places have, and what a change of tickets leaves.
+-- One chain of tickets: what its places hold, and what a change of tickets leaves.
 use Rattle.std.proofs.Common.{◌≡◌, ◌≢◌, ℕ, zero, suc, ◌+◌, ◌<◌, ◌≤◌, if◌then◌else◌, ◌==◌, nat_lt, List, [], ◌∷◌, ◌++◌, length, drop, refl, sym, ap, ap₂, ◌∙◌, subst, arith, eq-eqb, ne_eqb, lt-ltb, le-ltb}
 use Rattle.std.proofs.lemmas.Bool.{cond-true, cond-false}
 use Rattle.std.proofs.lemmas.List.Sums.{sum_by-cons, sum_by_push}
@@ -9,7 +9,7 @@ use Rattle.cown_queue.specs.declared.tickets.Ticket.{Ticket}
 
 -- ---- how often a place is among others
 
--- 1 where two places are one, 0 where they are two
+-- 1 if two places are the same, else 0
 abbrev pub one_if : ℕ → ℕ → ℕ
 one_if other place = if other == place then 1 else 0
 
@@ -41,7 +41,7 @@ last_or_push other (place ∷ places) last = last_or_push place places last
 
 -- ---- what a chain has
 
--- as many numbers as places
+-- a chain has as many numbers as places
 pub IsChain-length : (table : List Ticket) (first : ℕ) (places numbers : List ℕ) → IsChain table first places numbers
     → length places ≡ length numbers
 IsChain-length table first [] [] chain = refl
@@ -50,7 +50,7 @@ IsChain-length table first (place ∷ places) [] chain = absurd chain
 IsChain-length table first (place ∷ places) (number ∷ numbers) chain =
     ap suc (IsChain-length table (ticket_at table place).next places numbers chain.3)
 
--- its numbers are those that are met from its first ticket on
+-- the numbers of a chain are those found from its first ticket on
 pub numbers_from-chain : (table : List Ticket) (steps first : ℕ) (places numbers : List ℕ) → length table ≤ NONE
     → IsChain table first places numbers → length places ≤ steps → numbers_from table steps first ≡ numbers
 numbers_from-chain table zero first [] [] fits chain enough = refl
@@ -66,7 +66,7 @@ numbers_from-chain table (suc steps) first (place ∷ places) (number ∷ number
     ∙ cond-true (nat_lt place (length table)) _ [] (lt-ltb place (length table) chain.1)
     ∙ ap₂ ◌∷◌ chain.2 rest
 
--- a chain whose tickets stay is a chain
+-- a chain whose tickets stay is still a chain
 pub IsChain-stays : (old new : List Ticket) (first : ℕ) (places numbers : List ℕ) → length old ≤ length new
     → ((place : ℕ) → 0 < times place places → ticket_at new place ≡ ticket_at old place) → IsChain old first places numbers
     → IsChain new first places numbers
@@ -84,9 +84,9 @@ IsChain-stays old new first (place ∷ places) (number ∷ numbers) more same ch
       subst (λ (t : Ticket). IsChain new t.next places numbers) (sym here) rest,
     )
 
--- ---- one more ticket behind the last
+-- ---- one more ticket after the last
 
--- the last one gets the place of the new one, and the others stay
+-- the last ticket gets the place of the new one; the others stay
 pub IsChain_push : (old new : List Ticket) (first head : ℕ) (places numbers : List ℕ) (place number : ℕ)
     → length old ≤ length new → place < length new → ticket_at new place ≡ record { number = number; next = NONE }
     → ticket_at new (last_or head places) ≡ record { number = (ticket_at old (last_or head places)).number; next = place }
@@ -127,7 +127,7 @@ pub IsQueue-same : (table : List Ticket) (ends other : Ends) (places others numb
     → places ≡ others → numbers ≡ more → IsQueue table other others more → IsQueue table ends places numbers
 IsQueue-same table ends other places others numbers more e p n queue = rw (e, p, n) queue
 
--- a cown without a last ticket has none
+-- a cown without a last ticket has no tickets
 pub IsQueue-none : (table : List Ticket) (ends : Ends) (places numbers : List ℕ) → IsQueue table ends places numbers
     → ((place : ℕ) → 0 < times place places → place < NONE) → ends.last ≡ NONE → (places ≡ []) × (numbers ≡ [])
 IsQueue-none table ends [] [] queue below e = (refl, refl)
@@ -135,14 +135,14 @@ IsQueue-none table ends [] (number ∷ numbers) queue below e = absurd queue.cha
 IsQueue-none table ends (place ∷ places) numbers queue below e =
     absurd (omega (arith, below (last_or place places) (times-last place places), queue.last))
 
--- and one with a last ticket has it among its own
+-- a last ticket is one of the cown's own
 pub IsQueue-last : (table : List Ticket) (ends : Ends) (places numbers : List ℕ) → IsQueue table ends places numbers → ends.last ≢ NONE
     → 0 < times ends.last places
 IsQueue-last table ends [] numbers queue ne = absurd (ne queue.last)
 IsQueue-last table ends (place ∷ places) numbers queue ne =
     subst (λ last. 0 < times last (place ∷ places)) (sym queue.last) (times-last place places)
 
--- one with numbers has its first one in the table
+-- a cown with numbers has its first ticket in the table
 pub IsQueue-first : (table : List Ticket) (ends : Ends) (places numbers : List ℕ) → IsQueue table ends places numbers → 0 < length numbers
     → ends.first < length table
 IsQueue-first table ends places [] queue held = absurd (omega arith)
@@ -183,7 +183,7 @@ IsQueue-rest table ends head (second ∷ places) (number ∷ more ∷ numbers) n
       last = some (λ e. omega (arith, here, same, e)) ∙ queue.last;
     }
 
--- any cown with numbers has a first ticket, and then others
+-- a cown with numbers has a first ticket, and then the others
 pub IsQueue-parts : (table : List Ticket) (ends : Ends) (places numbers : List ℕ) (next last : ℕ) → IsQueue table ends places numbers
     → 0 < length numbers → ((place : ℕ) → 0 < times place places → place < NONE) → next ≡ (ticket_at table ends.first).next
     → (next ≡ NONE → last ≡ NONE) → (next ≢ NONE → last ≡ ends.last)

@@ -1,4 +1,4 @@
--- Lists by cown, of which some change one after another.
+-- Lists by cown, some of which change one after another.
 use Rattle.std.proofs.Common.{◌≡◌, ◌≢◌, ℕ, zero, suc, ◌+◌, ◌<◌, ◌≤◌, Bool, true, false, ◌||◌, if◌then◌else◌, ◌==◌, List, [], ◌∷◌, ◌++◌, length, get_or, set, take, drop, inl, inr, refl, sym, ap, ◌∙◌, arith, get_or-set_other}
 use Rattle.std.proofs.lemmas.Bool.{cond-false, eqb-true, eqb-false, false≢true, ne_eqb, or_cases, or_from, or_right}
 use Rattle.std.proofs.lemmas.Grind.{get_or-set_at}
@@ -36,7 +36,7 @@ length-changed change [] lists = refl
 length-changed change (cown ∷ cowns) lists =
     length-changed change cowns (set lists cown (change (list_of lists cown))) ∙ length-set lists cown (change (list_of lists cown))
 
--- a change at the first cown, and then at the others: what that makes of a list
+-- a change at the first cown and then at the others, seen at one list
 list_of-change : (change : List ℕ → List ℕ) (first : ℕ) (cowns : List ℕ) (lists : List (List ℕ)) (cown : ℕ) (list : List ℕ) (same : Bool)
     → IsRising (first ∷ cowns) → cown < length lists → (cown == first) ≡ same
     → list
@@ -54,7 +54,7 @@ list_of-change change first cowns lists cown list false rising l e rest =
     ∙ ap (λ list. if is_among cown cowns then change list else list)
     (get_or-set_other lists first cown (change (list_of lists first)) [] (eqb-false cown first e))
 
--- each list of these cowns has changed once, and all others are as they were
+-- each list of these cowns has changed once; all others are as they were
 list_of-changed : (change : List ℕ → List ℕ) (cowns : List ℕ) (lists : List (List ℕ)) (cown : ℕ) → IsRising cowns → cown < length lists
     → list_of (changed change cowns lists) cown ≡ (if is_among cown cowns then change (list_of lists cown) else list_of lists cown)
 list_of-changed change [] lists cown rising l = refl
@@ -73,7 +73,7 @@ pub take-cown : (cowns : List ℕ) (place cown : ℕ) → place < length cowns �
     → take (place + 1) cowns ≡ take place cowns ++ cown ∷ []
 take-cown cowns place cown l e = take_more cowns place cown l ∙ ap (λ n. take place cowns ++ n ∷ []) (sym e)
 
--- the change at one cown, where the others are still to come
+-- the change at one cown, while the others are still to come
 pub changed_more : (change : List ℕ → List ℕ) (cowns : List ℕ) (place cown : ℕ) (now all : List (List ℕ)) → place < length cowns
     → cown ≡ get_or cowns place cown → changed change (drop place cowns) now ≡ all
     → changed change (drop (place + 1) cowns) (set now cown (change (list_of now cown))) ≡ all
@@ -85,7 +85,7 @@ changed_all : (change : List ℕ → List ℕ) (cowns : List ℕ) (done : ℕ) (
     → changed change (drop done cowns) new ≡ changed change cowns old → new ≡ changed change cowns old
 changed_all change cowns done old new l e = ap (λ left. changed change left new) (sym (drop_all done cowns l)) ∙ e
 
--- a number was put last at each
+-- the number was appended at each cown
 pub Appends-changed : (number : ℕ) (cowns : List ℕ) (done : ℕ) (old new : List (List ℕ)) → IsRising cowns → length cowns ≤ done
     → changed (λ list. list ++ number ∷ []) (drop done cowns) new ≡ changed (λ list. list ++ number ∷ []) cowns old
     → Appends number cowns old new
@@ -97,7 +97,7 @@ Appends-changed number cowns done old new rising l e =
       each = λ cown below. ap (λ lists. list_of lists cown) all ∙ list_of-changed add cowns old cown rising below;
     }
 
--- the first number of each was taken away
+-- the first number was removed at each cown
 pub Releases-changed : (cowns : List ℕ) (done : ℕ) (old new : List (List ℕ)) → IsRising cowns → length cowns ≤ done
     → changed (drop 1) (drop done cowns) new ≡ changed (drop 1) cowns old → Releases cowns old new
 Releases-changed cowns done old new rising l e =
@@ -107,7 +107,7 @@ Releases-changed cowns done old new rising l e =
       each = λ cown below. ap (λ lists. list_of lists cown) all ∙ list_of-changed (drop 1) cowns old cown rising below;
     }
 
--- where a number is in front there is one
+-- if a number is in front, there is one
 pub IsInFront-held : (number : ℕ) (cowns : List ℕ) (lists : List (List ℕ)) → IsInFront number cowns lists → (cown : ℕ)
     → is_among cown cowns ≡ true → 0 < length (list_of lists cown)
 IsInFront-held number [] lists front cown among = absurd (false≢true among)
@@ -116,7 +116,7 @@ IsInFront-held number (first ∷ cowns) lists front cown among = elim (or_cases 
   | inr more ↦ IsInFront-held number cowns lists front.1 cown more
 ]
 
--- a change at the first of rising cowns leaves the others what they hold
+-- a change at the first of rising cowns leaves the lists of the others
 pub held-rest : (first : ℕ) (cowns : List ℕ) (lists : List (List ℕ)) (put : List ℕ) → IsRising (first ∷ cowns)
     → ((cown : ℕ) → is_among cown (first ∷ cowns) ≡ true → 0 < length (list_of lists cown)) → (cown : ℕ) → is_among cown cowns ≡ true
     → 0 < length (list_of (set lists first put) cown)

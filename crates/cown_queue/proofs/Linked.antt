@@ -14,7 +14,7 @@ use Rattle.cown_queue.proofs.Chains.{one_if, one_if-same, one_if-other, times-co
 
 -- ---- counts of all chains
 
--- 1 for a place of a table of this length, 0 past it
+-- 1 if the place is within a table of this length, else 0
 abbrev one_below : ℕ → ℕ → ℕ
 one_below place bound = if nat_lt place bound then 1 else 0
 
@@ -48,14 +48,14 @@ one_below-more place bound = elim (cases_lt place bound) [
       | inr ne ↦ omega (arith, one_below-no place bound l, one_if-other bound place ne, one_below-no place (bound + 1) (omega (arith, ne)))
     ]
 
--- a place stands in one chain at most as often as in all
+-- a place occurs in one chain at most as often as in all
 times-chain : (place : ℕ) (chains : List (List ℕ)) (cown : ℕ) → times place (list_of chains cown) ≤ sum_by (times place) chains
 times-chain place chains cown = elim (cases_lt cown (length chains)) [
   | inl l ↦ get_or-le-sum_by (times place) chains cown [] l
   | inr l ↦ let none = ap (times place) (get_or_past chains cown [] l) in omega (arith, none)
 ]
 
--- and in two likewise
+-- and the same for two chains
 times-two : (place : ℕ) (chains : List (List ℕ)) (cown other : ℕ) → other ≢ cown
     → times place (list_of chains cown) + times place (list_of chains other) ≤ sum_by (times place) chains
 times-two place chains cown other ne = elim (cases_lt cown (length chains)) [ inl l ↦ within l | inr l ↦ past l ]
@@ -71,7 +71,7 @@ times-two place chains cown other ne = elim (cases_lt cown (length chains)) [ in
         let none = ap (times place) (get_or_past chains cown [] l) in
         omega (arith, none, times-chain place chains other)
 
--- one list has at most as many numbers as all
+-- one list has at most as many numbers as all lists together
 length-list_of : (lists : List (List ℕ)) (cown : ℕ) → length (list_of lists cown) ≤ held_in lists
 length-list_of lists cown = elim (cases_lt cown (length lists)) [
   | inl l ↦ omega (arith, get_or-le-sum_by length lists cown [] l, sum-map length lists)
@@ -81,7 +81,7 @@ length-list_of lists cown = elim (cases_lt cown (length lists)) [
 -- ---- where places are
 
 module _ {table : List Ticket} {ends : List Ends} {free : List ℕ} {lists : List (List ℕ)} (linked : AreLinked table ends free lists) where
-  -- what is in a chain or free is a place of the table
+  -- a place in a chain, or a free one, is within the table
   within_table : (place : ℕ) → 0 < sum_by (times place) linked.chains + times place free → place < length table
   within_table place some = elim (cases_lt place (length table)) [
     | inl l ↦ l
@@ -91,7 +91,7 @@ module _ {table : List Ticket} {ends : List Ends} {free : List ℕ} {lists : Lis
   in_chain : (cown place : ℕ) → 0 < times place (list_of linked.chains cown) → place < length table
   in_chain cown place among = within_table place (omega (arith, among, times-chain place linked.chains cown))
 
-  -- the place that is taken next
+  -- the place that is taken next is within the table
   pub free_within : (rest : List ℕ) (place : ℕ) → free ≡ rest ++ place ∷ [] → place < length table
   free_within rest place e =
       let here = ap (times place) e in
@@ -101,7 +101,7 @@ module _ {table : List Ticket} {ends : List Ends} {free : List ℕ} {lists : Lis
   pub queue_at : (cown : ℕ) (e : Ends) → e ≡ ends_at ends cown → IsQueue table e (list_of linked.chains cown) (list_of lists cown)
   queue_at cown e read = rw read (linked.each cown)
 
-  -- the places of these ends
+  -- the places of these ends are within the table
   pub last_within : (cown : ℕ) (e : Ends) → e ≡ ends_at ends cown → e.last ≢ NONE → e.last < length table
   last_within cown e read some =
       in_chain cown e.last (IsQueue-last table e (list_of linked.chains cown) (list_of lists cown) (queue_at cown e read) some)
@@ -109,18 +109,18 @@ module _ {table : List Ticket} {ends : List Ends} {free : List ℕ} {lists : Lis
   pub first_within : (cown : ℕ) (e : Ends) → e ≡ ends_at ends cown → 0 < length (list_of lists cown) → e.first < length table
   first_within cown e read held = IsQueue-first table e (list_of linked.chains cown) (list_of lists cown) (queue_at cown e read) held
 
-  -- a list of a cown that is there
+  -- a cown with a list that isn't empty exists
   pub cown_within : (cown : ℕ) → 0 < length (list_of lists cown) → cown < length ends
   cown_within cown some = elim (cases_lt cown (length ends)) [
     | inl l ↦ l
     | inr l ↦ let none = ap length (get_or_past lists cown [] (omega (arith, linked.as_many_lists))) in absurd (omega (arith, none, some))
   ]
 
-  -- where a cown has a number not all places are free
+  -- if a cown has a number, not all places are free
   pub some_held : (cown : ℕ) → 0 < length (list_of lists cown) → length free < length table
   some_held cown some = omega (arith, some, length-list_of lists cown, linked.all)
 
-  -- the lists that are met from the first tickets on
+  -- the lists found from the first tickets on
   pub lists_of-linked : length table ≤ NONE → lists_of table ends ≡ lists
   lists_of-linked fits =
       same_lists (lists_of table ends) lists (length-map ends (λ e. numbers_from table (length table) e.first) ∙ sym linked.as_many_lists) each
@@ -137,7 +137,7 @@ module _ {table : List Ticket} {ends : List Ends} {free : List ℕ} {lists : Lis
           ∙ numbers_from-chain table (length table) (ends_at ends cown).first places (list_of lists cown) fits queue.chain short
           ∙ get_or_default lists cown [] default (omega (arith, within, linked.as_many_lists))
 
-  -- so the tickets are what they are to be
+  -- so the tickets are valid
   pub AreTickets-linked : (capacity : ℕ) → length table ≤ NONE → length table ≤ capacity → AreTickets table ends free capacity
   AreTickets-linked capacity fits room = record {
     linked = subst (AreLinked table ends free) (sym (lists_of-linked fits)) linked;
@@ -147,7 +147,8 @@ module _ {table : List Ticket} {ends : List Ends} {free : List ℕ} {lists : Lis
 
 -- ---- one chain changes
 
--- Where the places of a chain and the free ones are as many as before, each, and only tickets of those changed, all others stay.
+-- If each place occurs as often as before in the cown's chain and the free places together, and
+-- only tickets there changed, all other chains stay.
 linked_change : (old new : List Ticket) (ends : List Ends) (free freed : List ℕ) (lists : List (List ℕ)) (linked : AreLinked old ends free lists)
     (cown : ℕ) (e : Ends) (places numbers : List ℕ) → cown < length ends → length new ≡ length old → IsQueue new e places numbers
     → ((place : ℕ) → times place places + times place freed ≡ times place (list_of linked.chains cown) + times place free)
@@ -251,7 +252,7 @@ linked_more table ends free lists ticket place e linked = record {
   all = omega (arith, linked.all, length_push table ticket, length_push free place);
 }
 
--- the first number at a cown: its ticket was free
+-- the first number at a cown: its ticket takes a free place
 pub linked_first : (table : List Ticket) (ends : List Ends) (free rest : List ℕ) (lists : List (List ℕ)) (cown number place : ℕ) (e : Ends)
     → AreLinked table ends free lists → length table ≤ NONE → cown < length ends → e ≡ ends_at ends cown → free ≡ rest ++ place ∷ []
     → e.last ≡ NONE
@@ -303,7 +304,7 @@ linked_first table ends free rest lists cown number place e linked fits within r
     many : length (number ∷ []) + length rest ≡ length (list_of lists cown) + length free
     many = let before = ap length none.1 in omega (arith, before, ap length takes, length_push rest place)
 
--- one more at a cown with others: the ticket that was last there gets the place of its own
+-- one more number at a cown with others: the last ticket gets the place of the new one
 pub linked_behind : (table : List Ticket) (ends : List Ends) (free rest : List ℕ) (lists : List (List ℕ)) (cown number place before : ℕ) (e : Ends)
     → AreLinked table ends free lists → cown < length ends → e ≡ ends_at ends cown → free ≡ rest ++ place ∷ [] → e.last ≢ NONE
     → before ≡ (ticket_at (set table place (record { number = number; next = NONE })) e.last).number
@@ -343,7 +344,7 @@ linked_behind table ends free rest lists cown number place before e linked withi
     taken : (other : ℕ) → times other free ≡ times other rest + one_if place other
     taken other = ap (times other) takes ∙ times_push other place rest
 
-    -- what is free is in no chain
+    -- a free place is in no chain
     alone : (other : ℕ) → times other chain + times other free ≤ 1
     alone other = omega (arith, times-chain other linked.chains cown, linked.once other, one_below-le other (length table))
 
@@ -381,7 +382,7 @@ linked_behind table ends free rest lists cown number place before e linked withi
     many : length (list ++ number ∷ []) + length rest ≡ length list + length free
     many = omega (arith, length_push list number, ap length takes, length_push rest place)
 
--- the first number of a cown leaves: the place of its ticket is free
+-- the first number of a cown leaves: the place of its ticket becomes free
 pub linked_rest : (table : List Ticket) (ends : List Ends) (free : List ℕ) (lists : List (List ℕ)) (cown next last : ℕ) (e : Ends)
     → AreLinked table ends free lists → length table ≤ NONE → e ≡ ends_at ends cown → 0 < length (list_of lists cown)
     → next ≡ (ticket_at table e.first).next → (next ≡ NONE → last ≡ NONE) → (next ≢ NONE → last ≡ e.last)

@@ -1,4 +1,4 @@
--- What a step on one cown makes of the tickets, from what its reads answered.
+-- What a step on one cown makes of the tickets, from the results of its reads.
 use Rattle.std.proofs.Common.{◌≡◌, ◌≢◌, ℕ, ◌<◌, ◌≤◌, Some, None, List, [], ◌∷◌, ◌++◌, length, replicate, get_or, set, drop, option_map, slice_get, inl, inr, refl, sym, ap, ◌∙◌, subst, arith, lt-ltb, le-ltb}
 use Rattle.std.proofs.lemmas.Bool.{cases_lt, cond-true, cond-false}
 use Rattle.std.proofs.lemmas.List.{get_or-map, get_or_read, length-set}
@@ -10,7 +10,7 @@ use Rattle.cown_queue.specs.declared.tickets.TheConstants.{NONE}
 use Rattle.cown_queue.specs.declared.tickets.Ticket.{Ticket}
 use Rattle.cown_queue.proofs.Linked.{AreTickets-linked, cown_within, first_within, last_within, lists_of-linked, linked_none, linked_first, linked_behind, linked_rest, some_held}
 
--- what a read of a cown's ends answers, and one of a ticket
+-- the results of reading a cown's ends and a ticket
 pub ends_read : (ends : List Ends) (cown : ℕ) (e : Ends) → cown < length ends → e ≡ get_or ends cown e → e ≡ ends_at ends cown
 ends_read ends cown e within read = get_or_read ends cown e within read (record { first = NONE; last = NONE })
 
@@ -62,7 +62,7 @@ front_some table ends cown e ticket within read here seen =
 
 -- ---- the changes
 
--- the tickets are linked once more, and have these lists
+-- the tickets are linked again, and have these lists
 abbrev pub Becomes : List Ticket → List Ends → List ℕ → ℕ → List (List ℕ) → Type 0
 Becomes table ends free capacity lists = AreTickets table ends free capacity × (lists_of table ends ≡ lists)
 
@@ -70,12 +70,12 @@ becomes : (table : List Ticket) (ends : List Ends) (free : List ℕ) (capacity :
     → length table ≤ NONE → length table ≤ capacity → Becomes table ends free capacity lists
 becomes table ends free capacity lists linked fits room = (AreTickets-linked linked capacity fits room, lists_of-linked linked fits)
 
--- also where the parts are known by other names
+-- the same under other names of the parts
 pub Becomes-same : (table : List Ticket) (ends others : List Ends) (free freed : List ℕ) (capacity room : ℕ) (lists : List (List ℕ)) → others ≡ ends
     → freed ≡ free → room ≡ capacity → Becomes table ends free capacity lists → Becomes table others freed room lists
 Becomes-same table ends others free freed capacity room lists e f r new = rw (e, f, r) new
 
--- where these lists were seen, and what was read of a cown's ends is e
+-- given these lists, and the ends e that were read at a cown
 module _ (table : List Ticket) (ends : List Ends) (free : List ℕ) (capacity : ℕ) (tickets : AreTickets table ends free capacity)
     (lists : List (List ℕ)) (seen : lists_of table ends ≡ lists) (cown at : ℕ) (e : Ends) (same : at ≡ cown) (read : e ≡ get_or ends at e) where
   linked : AreLinked table ends free lists
@@ -93,7 +93,7 @@ module _ (table : List Ticket) (ends : List Ends) (free : List ℕ) (capacity : 
   pub last_below : cown < length lists → e.last ≢ NONE → e.last < length table
   last_below within some = last_within linked cown e (ends_are (there within)) some
 
-  -- a ticket leaves, so not all places are free before
+  -- a ticket leaves, so not all places were free
   pub free_below : 0 < length (list_of lists cown) → length free < length table
   free_below held = some_held linked cown held
 

@@ -2,14 +2,14 @@
 use Rattle.std.specs.Prelude.{◌≡◌, ℕ, ◌<◌, if◌then◌else◌, List, [], ◌∷◌, ◌++◌, length, map, sum, get_or, drop, slice_get, filter_map}
 use Rattle.sb_calls.specs.OneByOne.{is_among}
 
--- a list of numbers for each cown, the first one first; the cowns at which there is room for one more; and how
--- many tickets there are places for
+-- the queues as callers see them: a list of numbers for each cown, in order; the cowns with room
+-- for one more; and the number of tickets that there are places for
 pub record CownQueues : Type 0 where
   pub lists : List (List ℕ)
   pub reserved : List ℕ
   pub places : ℕ
 
--- how many numbers all lists hold together
+-- the count of the numbers in all lists together
 abbrev pub held_in : List (List ℕ) → ℕ
 held_in lists = sum (map length lists)
 
@@ -17,7 +17,7 @@ held_in lists = sum (map length lists)
 abbrev pub list_of : List (List ℕ) → ℕ → List ℕ
 list_of lists cown = get_or lists cown []
 
--- the lists of these cowns have the number last; all others are as they were
+-- the number is appended to the lists of these cowns; all other lists stay
 pub record Appends (number : ℕ) (cowns : List ℕ) (old new : List (List ℕ)) : Type 0 where
   pub cowns_stay : length new ≡ length old
   pub each : (cown : ℕ) → cown < length old
@@ -29,12 +29,12 @@ IsInFront number [] lists = Unit {0}
 IsInFront number (cown ∷ cowns) lists =
     ((rest : List ℕ) × (list_of lists cown ≡ number ∷ rest)) × IsInFront number cowns lists
 
--- the lists of these cowns are without their first number; all others are as they were
+-- the first number is removed from the lists of these cowns; all other lists stay
 pub record Releases (cowns : List ℕ) (old new : List (List ℕ)) : Type 0 where
   pub cowns_stay : length new ≡ length old
   pub each : (cown : ℕ) → cown < length old
       → list_of new cown ≡ (if is_among cown cowns then drop 1 (list_of old cown) else list_of old cown)
 
--- the first number of each of these cowns that has one, in the order of the cowns
+-- the first numbers of these cowns, in the order of the cowns; a cown without one is skipped
 abbrev pub fronts_of : List (List ℕ) → List ℕ → List ℕ
 fronts_of lists cowns = filter_map (λ cown. slice_get (list_of lists cown) 0) cowns

@@ -10,11 +10,13 @@ use sb_calls::Cown;
 use std::alloc::{AllocError, Global};
 use std::marker::Model;
 
-/// For each cown the numbers of the behaviours that declare it, the one that was spawned first in front.
+/// A queue for each cown: the numbers of the behaviours that declare it, in the order in which they
+/// were spawned.
 #[derive(Drop)]
 pub struct Queues {
     tickets: Tickets,
-    // The cowns that have room for one number more, if they are there: at least as many places are free.
+    // The cowns that have room for one more number, if they exist. At least this many places are
+    // free.
     reserved: Vec<Cown>,
 }
 
@@ -45,14 +47,15 @@ impl Queues {
         })
     }
 
-    /// How many cowns there are.
+    /// The number of cowns.
     pub fn cowns(&self) -> usize
         ensures { result ≡ length self.now.lists }
     {
         self.tickets.cowns()
     }
 
-    /// How many tickets there are places for: at least one for each number and each reserved cown.
+    /// The number of tickets that there are places for: at least one for each queued number and
+    /// each reserved cown.
     pub fn places(&self) -> usize
         ensures value { result ≡ self.now.places }
         ensures enough { held_in self.now.lists + length self.now.reserved ≤ self.now.places }
@@ -60,10 +63,10 @@ impl Queues {
         self.tickets.places()
     }
 
-    /// Makes room for one number more at these cowns; before, other cowns may have had it. Where memory is
-    /// refused, or a place would no longer fit a `u32`, nothing changes.
+    /// Makes room for one more number at these cowns, and drops the room made for others before. If
+    /// memory is refused, or a place would no longer fit a `u32`, nothing changes.
     ///
-    /// It allocates only where the tickets or the reserved cowns outgrow the memory that they have.
+    /// It allocates only if the tickets or the reserved cowns outgrow the memory that they have.
     pub fn reserve(&mut self, cowns: &[Cown]) -> Result<(), AllocError>
         ensures ok { OnOk result (self.new ≡ record self.old {
           reserved = cowns.now;
@@ -77,10 +80,10 @@ impl Queues {
         Ok(())
     }
 
-    /// Sees to it that there are places for this many numbers more than all lists hold together. Where memory
-    /// is refused, or a place would no longer fit a `u32`, nothing changes.
+    /// Makes places for this many numbers beyond those that all lists hold. If memory is refused,
+    /// or a place would no longer fit a `u32`, nothing changes.
     ///
-    /// It allocates only where the tickets outgrow the memory that they have.
+    /// It allocates only if the tickets outgrow the memory that they have.
     pub fn reserve_places(&mut self, count: usize) -> Result<(), AllocError>
         ensures ok { OnOk result (self.new ≡ record self.old {
           places = max self.old.places (held_in self.old.lists + count);
@@ -90,8 +93,8 @@ impl Queues {
         self.tickets.grow(count)
     }
 
-    /// Puts a number last at the cowns for which room was made. It takes no memory, and no cown has room
-    /// made any more.
+    /// Appends a number to the queues of the cowns for which room was made. It allocates nothing,
+    /// and afterwards no cown has room made.
     pub fn append(&mut self, number: u64, cowns: &[Cown])
         requires reserved { cowns.now ≡ self.old.reserved }
         requires rising { IsRising cowns.now }
@@ -104,8 +107,8 @@ impl Queues {
         self.put(number, cowns);
     }
 
-    /// Puts a number last at cowns for which there are places. It takes no memory, and no cown has room made
-    /// any more.
+    /// Appends a number to the queues of cowns for which there are places. It allocates nothing,
+    /// and afterwards no cown has room made.
     pub fn put(&mut self, number: u64, cowns: &[Cown])
         requires places { held_in self.old.lists + length cowns.now ≤ self.old.places }
         requires rising { IsRising cowns.now }
@@ -121,8 +124,8 @@ impl Queues {
         self.reserved.clear();
     }
 
-    /// Takes a number from the front of these cowns, and answers the new fronts of those that still hold
-    /// one, in order.
+    /// Removes a number from the front of these cowns, and returns the new fronts of those that
+    /// still hold a number, in order.
     pub fn release(&mut self, number: u64, cowns: &[Cown]) -> ArrayVec<u64, 3>
         requires few { length cowns.now ≤ 3 }
         requires rising { IsRising cowns.now }
@@ -136,7 +139,7 @@ impl Queues {
         fronts_at(&self.tickets, cowns)
     }
 
-    /// The number in front at a cown, if it holds one. A cown that isn't there holds none.
+    /// The first number at a cown, if it holds one. A cown that doesn't exist holds none.
     pub fn front(&self, cown: Cown) -> Option<u64>
         ensures { result ≡ slice_get (list_of self.now.lists cown) 0 }
     {
@@ -144,8 +147,8 @@ impl Queues {
     }
 }
 
-// Keeps these cowns and no others, in the memory that there is. They are written where they stay: copied as a
-// whole at once, they would be read back before the queues' first touches are over.
+// Keeps exactly these cowns, in the memory that there is. They are written one by one in place:
+// after a copy in one piece they would be read back before the queues' first accesses end.
 fn keep(kept: &mut Vec<Cown>, cowns: &[Cown])
     requires { length cowns.now ≤ vec_capacity kept.old }
     ensures { kept.new.items ≡ cowns.now }
@@ -156,7 +159,7 @@ fn keep(kept: &mut Vec<Cown>, cowns: &[Cown])
     }
 }
 
-// Puts a number last at each of these cowns.
+// Appends a number to the queue of each of these cowns.
 fn push_each(tickets: &mut Tickets, number: u64, cowns: &[Cown])
     requires rising { IsRising cowns.now }
     requires cowns { AreBelow (length tickets.old.lists) cowns.now }
@@ -170,7 +173,7 @@ fn push_each(tickets: &mut Tickets, number: u64, cowns: &[Cown])
     }
 }
 
-// Takes the first number of each of these cowns away.
+// Removes the first number of each of these cowns.
 fn pop_each(tickets: &mut Tickets, cowns: &[Cown])
     requires rising { IsRising cowns.now }
     requires held { (cown : ℕ) → IsTrue (is_among cown cowns.now) →
@@ -184,7 +187,7 @@ fn pop_each(tickets: &mut Tickets, cowns: &[Cown])
     }
 }
 
-// The first numbers of those of these cowns that hold one, in order.
+// The first numbers of these cowns, in order. A cown that holds none is skipped.
 fn fronts_at(tickets: &Tickets, cowns: &[Cown]) -> ArrayVec<u64, 3>
     requires { length cowns.now ≤ 3 }
     ensures { result.items ≡ fronts_of tickets.now.lists cowns.now }

@@ -8,7 +8,8 @@ use sb_calls::Cown;
 use std::alloc::Global;
 use std::process::Abort;
 
-// Whether a behaviour may declare these: at most three, each above the one before, all of the first `bound`.
+// Whether a behaviour may declare these cowns: at most three, in rising order, all of the first
+// `bound`.
 fn may_declare(cowns: &[Cown], bound: usize) -> bool
     ensures few { IsTrue result → length cowns.now ≤ 3 }
     ensures rising { IsTrue result → IsRising cowns.now }
@@ -50,20 +51,20 @@ fn finish(rt: &impl Abort, queues: &mut Queues, number: u64, cowns: &[Cown]) -> 
     queues.release(number, cowns)
 }
 
-// A number is finished, and then these are in front.
+// Finishes a number, and checks the fronts afterwards.
 fn finishes(rt: &impl Abort, queues: &mut Queues, number: u64, cowns: &[Cown], fronts: &[u64]) {
     let found = finish(rt, queues, number, cowns);
     assert!(rt; found.as_slice() == fronts, "{number}");
 }
 
-// Queues of so many cowns.
+// Queues for this many cowns.
 fn open(rt: &impl Abort, alloc: Global, cowns: usize) -> Box<Queues> {
     let queues = Queues::open(alloc, cowns).expect(rt, "memory");
     assert!(rt; queues.cowns() == cowns);
     Box::new(alloc, queues).expect(rt, "memory")
 }
 
-// The first cowns have these fronts, in order.
+// Checks the fronts of the first cowns, in order.
 fn fronts_are(rt: &impl Abort, queues: &Queues, fronts: &[Option<u64>]) {
     for (front, cown) in fronts.iter().zip(0..) {
         assert!(rt; queues.front(Cown::new(cown)) == *front, "{cown}");
@@ -94,7 +95,7 @@ fn each_cown_is_given_in_the_order_of_spawning(rt: HostRuntime) {
     fronts_are(&rt, &queues, &[Some(1), Some(2), Some(1), None, Some(3)]);
     finishes(&rt, &mut queues, 1, &[a, c], &[2, 3]);
     fronts_are(&rt, &queues, &[Some(2), Some(2), Some(3), None, Some(3)]);
-    // The list of `a` is empty after it.
+    // The list of `a` is empty afterwards.
     finishes(&rt, &mut queues, 2, &[a, b], &[3]);
     fronts_are(&rt, &queues, &[None, Some(3), Some(3), None, Some(3)]);
     finishes(&rt, &mut queues, 3, &[b, c, e], &[5]);
@@ -121,7 +122,7 @@ fn a_cown_that_is_not_there_holds_nothing(rt: HostRuntime) {
     let mut queues = open(&rt, rt.alloc(), 2);
     assert!(rt; queues.front(past).is_none());
     assert!(rt; queues.front(last).is_none());
-    // Room is made where there is a cown, in whatever order they come.
+    // Room is made at each cown that exists, in whatever order they come.
     makes_room(&rt, &mut queues, &[last, b, a, b, past, a]);
     fronts_are(&rt, &queues, &[None; 2]);
     spawn(&rt, &mut queues, 1, &[a, b]);
@@ -136,7 +137,7 @@ fn places_are_made_where_too_few_are_free(rt: HostRuntime) {
     assert!(rt; queues.places() == 0);
     makes_room(&rt, &mut queues, &[a, c]);
     assert!(rt; queues.places() == 2);
-    // These need no more.
+    // No cown needs no more room.
     makes_room(&rt, &mut queues, &[]);
     makes_room(&rt, &mut queues, &[b, c]);
     assert!(rt; queues.places() == 2);
@@ -148,7 +149,7 @@ fn places_are_made_where_too_few_are_free(rt: HostRuntime) {
     assert!(rt; queues.places() == 3);
     spawn(&rt, &mut queues, 3, &[b, c]);
     assert!(rt; queues.places() == 3);
-    // Each cown counts, one that isn't there too.
+    // Each cown counts, even one that doesn't exist.
     makes_room(&rt, &mut queues, &[b, b, Cown::new(usize::MAX)]);
     assert!(rt; queues.places() == 6);
     finishes(&rt, &mut queues, 2, &[b], &[3]);
@@ -161,7 +162,7 @@ fn own_and_last(number: u64) -> [Cown; 2]
     [Cown::new(131 * number as usize), Cown::new(131_071)]
 }
 
-// As many as the greatest bank has.
+// As many cowns as the greatest bank has.
 #[test]
 fn each_of_131072_cowns_has_a_queue(rt: HostRuntime) {
     let last = Cown::new(131_071);
@@ -218,7 +219,7 @@ fn last_ready(rt: &impl Abort, queues: &Queues, waiting: &[u64]) -> Option<u64> 
     None
 }
 
-// The first of the waiting numbers at each cown that a number declares, where there is one.
+// The first waiting number at each cown that a number declares, if there is one.
 fn wanted_after(rt: &impl Abort, waiting: &[u64], number: u64) -> ArrayVec<u64, 5> {
     let mut wanted = ArrayVec::new();
     for cown in &declared(number) {
@@ -241,7 +242,7 @@ fn finish_one(rt: &impl Abort, queues: &mut Queues, waiting: &mut Vec<u64>) {
     assert!(rt; fronts.as_slice() == wanted.as_slice(), "{number}");
 }
 
-// The fronts of the five cowns are those of the numbers that wait.
+// Checks that the fronts of the five cowns are those of the waiting numbers.
 fn fronts_are_first(rt: &impl Abort, queues: &Queues, waiting: &[u64]) {
     for place in 0..5 {
         let cown = Cown::new(place);

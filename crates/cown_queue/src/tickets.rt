@@ -7,10 +7,10 @@ use std::alloc::{AllocError, Global};
 use std::marker::Model;
 use std::mem::size_of;
 
-// The place of no ticket.
+// The place that means no ticket.
 const NONE: u32 = u32::MAX;
 
-// A number that waits at a cown, and the place of the ticket behind it.
+// A number that waits at a cown, and the place of the next ticket.
 #[derive(Clone, Copy)]
 struct Ticket {
     number: u64,
@@ -24,18 +24,19 @@ struct Ends {
     last: u32,
 }
 
-// What a ticket takes, and what an idle cown does.
+// The size of a ticket, and of an idle cown.
 const _: () = prove!(size_of::<Ticket>() == 16);
 
 const _: () = prove!(size_of::<Ends>() == 8);
 
-/// A ticket for each number that waits at a cown. Those of one cown are a chain: each has the place of the next.
+/// A ticket for each number that waits at a cown. The tickets of a cown are a chain: each names the
+/// place of the next.
 #[derive(Drop)]
 pub(crate) struct Tickets {
     table: Vec<Ticket>,
-    // Where the chain of each cown begins and ends: all that an idle cown takes.
+    // The two ends of each cown's chain. An idle cown takes nothing else.
     ends: Vec<Ends>,
-    // The places of the table that are in no chain. There is memory for all places to be here.
+    // The places of the table that are in no chain. The list has memory for all places.
     free: Vec<u32>,
 }
 
@@ -75,14 +76,14 @@ impl Tickets {
         })
     }
 
-    /// How many cowns there are.
+    /// The number of cowns.
     pub(crate) fn cowns(&self) -> usize
         ensures { result ≡ length self.now.lists }
     {
         self.ends.len()
     }
 
-    /// How many places there are: those of the tickets, and the free ones.
+    /// The number of places: those of the tickets and the free ones.
     pub(crate) fn places(&self) -> usize
         ensures value { result ≡ self.now.places }
         ensures all { held_in self.now.lists + self.now.free ≡ self.now.places }
@@ -90,8 +91,8 @@ impl Tickets {
         self.table.len()
     }
 
-    /// Sees to it that this many places are free, or more. Where memory is refused, or a place would no longer
-    /// fit, nothing changes.
+    /// Makes sure that at least this many places are free. If memory is refused, or a place would
+    /// no longer fit, nothing changes.
     pub(crate) fn grow(&mut self, wanted: usize) -> Result<(), AllocError>
         ensures lists { self.new.lists ≡ self.old.lists }
         ensures free { OnOk result (self.new.free ≡ max self.old.free wanted) }
@@ -130,7 +131,7 @@ impl Tickets {
         Ok(())
     }
 
-    /// Puts a number last at a cown. Its ticket takes a free place.
+    /// Appends a number to the queue of a cown. Its ticket takes a free place.
     pub(crate) fn push(&mut self, cown: Cown, number: u64)
         requires cown { cown < length self.old.lists }
         requires free { 0 < self.old.free }
@@ -160,7 +161,7 @@ impl Tickets {
         }
     }
 
-    /// Takes the first number of a cown away. The place of its ticket is free again.
+    /// Removes the first number of a cown. The place of its ticket becomes free.
     pub(crate) fn pop(&mut self, cown: Cown)
         requires { 0 < length (list_of self.old.lists cown) }
         ensures lists { self.new.lists
@@ -175,7 +176,7 @@ impl Tickets {
         self.free.push_reserved(ends.first);
     }
 
-    /// The first number at a cown. A cown that isn't there has none.
+    /// The first number at a cown. A cown that doesn't exist has none.
     pub(crate) fn front(&self, cown: Cown) -> Option<u64>
         ensures { result ≡ slice_get (list_of self.now.lists cown) 0 }
     {

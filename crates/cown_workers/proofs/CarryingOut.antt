@@ -1,4 +1,4 @@
--- A board after an op was handed out, carried out and finished at once.
+-- A board after an op was handed out, executed and finished at once.
 use Rattle.std.proofs.Common.{◌≡◌, ℕ, ◌<◌, ℤ, false, Result, Ok, Err, List, sym, ap, ◌∙◌, arith}
 use Rattle.std.specs.Prelude.{◌↔◌, IsOk, is_ok, MatchResult}
 use Rattle.std.proofs.lemmas.Bool.{true≢false}
@@ -14,7 +14,7 @@ use Rattle.cown_workers.specs.Draining.{Drains, IsOf, NoneOut, RunsInPlace, wait
 pub no_refusal : {A E : Type 0} (answer : Result A E) → IsOk answer → is_ok answer ≡ false → ⊥
 no_refusal answer ok refused = true≢false (sym ok ∙ refused)
 
--- an op was handed out, carried out, and finished
+-- an op was handed out, executed and finished
 pub record CarriesOut (old new : BoardOf Op) : Type 0 where
   pub waiting : waiting_of new < waiting_of old
   pub unfinished : open_of new < open_of old
@@ -22,7 +22,7 @@ pub record CarriesOut (old new : BoardOf Op) : Type 0 where
   pub none_out : NoneOut old → NoneOut new
 
 module _ (touches : Op → List ℕ) (effect : Op → List ℤ → Reply × List ℤ) where
-  -- what the board answers to what it just handed out
+  -- the board's answer to the result of what it just handed out
   pub accepts : {old mid : BoardOf Op} {index : ℕ} {job back : JobOf Op} {done : DoneOf Op} (answer : Result Reply (DoneOf Op))
       → Takes touches effect old index job mid → back ≡ job → IsOf done back → (IsOk answer ↔ IsOutHere touches effect mid done) → IsOk answer
   accepts {old} {mid} {index} {job} {back} {done} answer takes same of accepted =
@@ -49,7 +49,7 @@ module _ (touches : Op → List ℕ) (effect : Op → List ℤ → Reply × List
         none_out = NoneOut-again touches effect takes finishes;
       }
 
--- with its job, where that came back
+-- with its job, if that came back
 pub ran_in_place : {old mid new : BoardOf Op} {job back : JobOf Op} {done : DoneOf Op} (answer : Result Reply (DoneOf Op))
     → Takes declared_cowns effect_of old 0 job mid → back ≡ job → IsOf done back → (IsOk answer ↔ IsOutHere declared_cowns effect_of mid done)
     → MatchResult answer (λ reply. Finishes declared_cowns effect_of mid done reply new) (λ back. (back ≡ done) × (new ≡ mid))

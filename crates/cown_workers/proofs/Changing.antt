@@ -30,7 +30,7 @@ record Changes (old new : BoardOf Op) (k : ℕ) (before after : State) : Type 0 
   pub here : slice_get old.states k ≡ Some before
   pub changed : new ≡ record old { states = slice_set old.states k after }
 
--- and it wasn't finished before
+-- and that state wasn't finished before
 Drains_changed : (old new : BoardOf Op) (k : ℕ) (before after : State) → ((reply : Reply) → before ≢ Finished reply) → Changes old new k before after
     → Drains old new
 Drains_changed old new k before after unfinished c = record {
@@ -57,7 +57,7 @@ out_not_finished : (reply : Reply) → Out ≢ Finished reply
 out_not_finished reply h = cc
 
 module _ (touches : Op → List ℕ) (effect : Op → List ℤ → Reply × List ℤ) where
-  -- what is handed out waited
+  -- the op that is handed out was waiting
   taken_waits : (old : BoardOf Op) (index : ℕ) (job : JobOf Op) (new : BoardOf Op) (takes : Takes touches effect old index job new)
       → slice_get old.states takes.place ≡ Some Waiting
   unfolding ready_places
@@ -82,7 +82,7 @@ module _ (touches : Op → List ℕ) (effect : Op → List ℤ → Reply × List
   Finishes-drains {old} {done} {reply} {new} finishes =
       Drains_changed old new finishes.place Out (Finished reply) out_not_finished (finished_changes old done reply new finishes)
 
-  -- one fewer waits, and as many are unfinished
+  -- one fewer waits, and the same number is unfinished
   pub Takes-counts : {old : BoardOf Op} {index : ℕ} {job : JobOf Op} {new : BoardOf Op} → Takes touches effect old index job new
       → (waiting_of new + 1 ≡ waiting_of old) × (open_of new ≡ open_of old)
   Takes-counts {old} {index} {job} {new} takes =
@@ -93,7 +93,7 @@ module _ (touches : Op → List ℕ) (effect : Op → List ℤ → Reply × List
       let b = count-set is_open old.states takes.place Waiting Out here in
       (omega (arith, waiting, a), omega (arith, unfinished, b))
 
-  -- one fewer is unfinished, and as many wait
+  -- one fewer is unfinished, and the same number waits
   pub Finishes-counts : {old : BoardOf Op} {done : DoneOf Op} {reply : Reply} {new : BoardOf Op} → Finishes touches effect old done reply new
       → (open_of new + 1 ≡ open_of old) × (waiting_of new ≡ waiting_of old)
   Finishes-counts {old} {done} {reply} {new} finishes =
@@ -104,7 +104,7 @@ module _ (touches : Op → List ℕ) (effect : Op → List ℤ → Reply × List
       let b = count-set is_waiting old.states finishes.place Out (Finished reply) here in
       (omega (arith, unfinished, a), omega (arith, waiting, b))
 
-  -- a job that was just handed out is taken back once it is carried out
+  -- the result of a job that was just handed out is accepted
   pub Takes-here : {old : BoardOf Op} {index : ℕ} {job : JobOf Op} {new : BoardOf Op} (done : DoneOf Op) → Takes touches effect old index job new
       → IsOf done job → IsOutHere touches effect new done
   Takes-here {old} {index} {job} {new} done takes (number, behaviour, inputs) = (
@@ -119,7 +119,7 @@ module _ (touches : Op → List ℕ) (effect : Op → List ℤ → Reply × List
     },
   )
 
-  -- where nothing was out, only what was just handed out is
+  -- if nothing was out, only what was just handed out is
   out_is_taken : (old : BoardOf Op) (index : ℕ) (job : JobOf Op) (new : BoardOf Op) (takes : Takes touches effect old index job new) → NoneOut old
       → (j : ℕ) → slice_get new.states j ≡ Some Out → j ≡ takes.place
   out_is_taken old index job new takes none j out = elim (cases_eq j takes.place) [
@@ -127,7 +127,7 @@ module _ (touches : Op → List ℕ) (effect : Op → List ℤ → Reply × List
     | inr differs ↦ absurd (none j (sym (slice_get-set_other old.states takes.place j Out differs) ∙ ap (λ b. slice_get b.states j) (sym takes.out) ∙ out))
   ]
 
-  -- and once that is finished nothing is
+  -- and once that is finished, nothing is out
   pub NoneOut-again : {old : BoardOf Op} {index : ℕ} {job : JobOf Op} {mid : BoardOf Op} {done : DoneOf Op} {reply : Reply} {new : BoardOf Op}
       → Takes touches effect old index job mid → Finishes touches effect mid done reply new → NoneOut old → NoneOut new
   NoneOut-again {old} {index} {job} {mid} {done} {reply} {new} takes finishes none = λ j out.

@@ -14,7 +14,7 @@ use Rattle.cown_workers.proofs.Picking.{crew_with}
 use Rattle.cown_workers.proofs.Stops.{nothing_left}
 use Rattle.cown_workers.specs.BenchCrews.{BenchCrewOf, EndsAtStop, GoesHome, is_stop, picked_with}
 
--- as many that are alike in this, where the others are
+-- two lists with the same images: if all elements of one map to x, so do all of the other
 module _ {A B X : Type 0} (f : A → X) (g : B → X) (x : X) where
   pub all_alike : (xs : List A) (ys : List B) → map f xs ≡ map g ys → All (λ b. g b ≡ x) ys → All (λ a. f a ≡ x) xs
   all_alike xs ys same all = λ k d lt.
@@ -30,7 +30,7 @@ pub one_more_alike : {A B X : Type 0} (f : A → X) (g : B → X) (xs : List A) 
 one_more_alike f g xs ys x y same here =
     map-append f xs (x ∷ []) ∙ ap (λ l. l ++ f x ∷ []) same ∙ ap (λ z. map g ys ++ z ∷ []) here ∙ sym (map-append g ys (y ∷ []))
 
--- one more was taken off a list, and one more put behind another
+-- one more element was taken from a list, and appended to another
 module _ {A : Type 0} where
   pub one_more_taken : (before rest left : List A) (x : A) (all : List A) → left ≡ x ∷ rest → before ++ left ≡ all
       → (before ++ x ∷ []) ++ rest ≡ all
@@ -47,7 +47,7 @@ passes_here bench None workers passes items own theirs = All-same (λ (w : Worke
 passes_here bench (Some hands) workers passes items own theirs =
     All-same (λ (w : WorkerOf). w.bench ≡ bench) passes (hands ∷ workers) items (All-cons (λ (w : WorkerOf). w.bench ≡ bench) hands workers own theirs)
 
--- one who picked nothing changes nothing
+-- a pass without picks changes nothing
 with_nothing : (offered : List WorkOf) (picked : List (List PickOf)) (left : List WorkOf) → IsPartedInto offered picked left
     → IsPartedInto offered ([] ∷ picked) left
 with_nothing offered picked left parted = record {
@@ -63,7 +63,7 @@ with_nothing offered picked left parted = record {
   as_offered = All-cons (AreOffered offered) [] picked (λ k d below. absurd (omega arith)) parted.as_offered;
 }
 
--- what the owner picked comes first, even where it is nothing
+-- the owner's picks come first, even if there are none
 owner_first : (offered : List WorkOf) (hands : Option WorkerOf) (workers : List WorkerOf) (left : List WorkOf)
     → IsPartedInto offered (picked_of (option_to_list hands ++ workers)) left → IsPartedInto offered (picked_with hands ∷ picked_of workers) left
 owner_first offered None workers left parted = with_nothing offered (picked_of workers) left parted

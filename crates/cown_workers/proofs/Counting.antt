@@ -17,7 +17,7 @@ no_some h = cc
 count_cons : (test : State → Bool) (s : State) (states : List State) → count_by test (s ∷ states) ≡ one_if test s + count_by test states
 count_cons test s states = sum_by-cons (one_if test) s states
 
--- a changed state counts in place of the one before
+-- a changed state counts in place of the old one
 pub count-set : (test : State → Bool) (states : List State) (k : ℕ) (old new : State) → slice_get states k ≡ Some old
     → count_by test (slice_set states k new) + one_if test old ≡ count_by test states + one_if test new
 count-set test [] k old new h = absurd (no_some h)
@@ -32,7 +32,7 @@ count-set test (t ∷ states) (suc k) old new h =
     let rest = count-set test states k old new h in
     omega (arith, a, b, rest)
 
--- where it holds at no place, none counts
+-- if the test holds at no place, none counts
 pub count_none : (test : State → Bool) (states : List State) → ((k : ℕ) → state_is test (slice_get states k) ≡ false) → count_by test states ≡ 0
 count_none test [] none = refl
 count_none test (s ∷ states) none =

@@ -13,11 +13,11 @@ module _ {C : Type 0} (acts : C → CrewStep → C → Type 0) where
   ActsAlong-append [] second a b c here more = subst (λ crew. ActsAlong acts crew second c) here more
   ActsAlong-append (step ∷ first) second a b c (mid, here, rest) more = (mid, here, ActsAlong-append first second mid b c rest more)
 
-  -- none
+  -- no exchange
   pub Exchanged-none : (crew : C) (board : BoardOf Op) → Exchanged acts crew crew board board
   Exchanged-none crew board = record { steps = []; crew = refl; board = refl }
 
-  -- one
+  -- one exchange
   pub Exchanged-one : (step : CrewStep) {crew_old crew_new : C} {old new : BoardOf Op} → acts crew_old step crew_new → Exchange old step new
       → Exchanged acts crew_old crew_new old new
   Exchanged-one step {crew_old} {crew_new} {old} {new} acted exchange = record {
@@ -26,7 +26,7 @@ module _ {C : Type 0} (acts : C → CrewStep → C → Type 0) where
     board = (new, exchange, refl);
   }
 
-  -- some, and then some more
+  -- some exchanges, followed by others
   pub Exchanged_trans : {p q r : C} {a b c : BoardOf Op} → Exchanged acts p q a b → Exchanged acts q r b c → Exchanged acts p r a c
   Exchanged_trans {p} {q} {r} {a} {b} {c} first second = record {
     steps = first.steps ++ second.steps;
@@ -34,12 +34,12 @@ module _ {C : Type 0} (acts : C → CrewStep → C → Type 0) where
     board = Exchanges-append first.steps second.steps a b c first.board second.board;
   }
 
-  -- nothing is left after them
+  -- nothing is unfinished after them
   pub drained : {p q : C} {a b : BoardOf Op} → Exchanged acts p q a b → open_of b ≡ 0
       → (steps : List CrewStep) × (ActsAlong acts p steps q × IsDrained a steps b)
   drained exchanged idle = (exchanged.steps, (exchanged.crew, record { exchanges = exchanged.board; idle = idle }))
 
-  -- or one more was in vain
+  -- or the last one was in vain
   pub given_up : {p q r : C} {a b c : BoardOf Op} → Exchanged acts p q a b → (last : CrewStep) → acts q last r → IsInVain b last → c ≡ b
       → (steps : List CrewStep) × (ActsAlong acts p steps r × IsGivenUp a steps c)
   given_up {p} {q} {r} {a} {b} {c} exchanged last acted in_vain same = (

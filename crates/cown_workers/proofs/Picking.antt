@@ -24,7 +24,7 @@ pub picks_itself : (workers : ℕ) (offered : List WorkOf) (before : Option Work
 picks_itself workers offered before hands new old place work view is picks =
     (rw (← view, is), (place, rw (← view, is, picks)))
 
--- where its hands pick nothing, or a `Stop`, the owner does
+-- if its hands pick nothing, or a `Stop`, so does the owner
 pub picks_no_job : (workers : ℕ) (offered : List WorkOf) (before : Option WorkerOf) (hands new : WorkerOf) (old : BenchCrewOf) (result : Option (DoneOf Op))
     → crew_with workers offered before ≡ old → before ≡ Some hands
     → IfNone result ((new ≡ hands) ⊎ ((place : ℕ) × (new ≡ record hands { picked = hands.picked ++ (place, Stop) ∷ [] })))
@@ -34,7 +34,7 @@ picks_no_job workers offered before hands new old None view is (inl same) = inl 
 picks_no_job workers offered before hands new old None view is (inr (place, picks)) =
     inr (picks_itself workers offered before hands new old place Stop view is picks)
 
--- what is made fresh with a bench, and what was taken of it
+-- a pass taken from the fresh passes of a bench has picked nothing
 pub fresh_taken : (bench : BenchId) (old new : List WorkerOf) (taken : Option WorkerOf) → old ≡ new ++ option_to_list taken
     → All (λ pass. pass ≡ record { bench = bench; picked = [] }) old → picked_with taken ≡ []
 fresh_taken bench old new None parted fresh = refl

@@ -19,7 +19,7 @@ empty : (xs : List ℕ) → length xs ≤ 0 → xs ≡ []
 empty [] h = refl
 empty (x ∷ xs) h = absurd (omega (arith, h))
 
--- what neither waits nor is out is finished
+-- a state that neither waits nor is out is finished
 neither : (o : Option State) → (state_is is_waiting o ≡ true → ⊥) → o ≢ Some Out → state_is is_open o ≡ false
 neither None waits out = refl
 neither (Some Waiting) waits out = absurd (waits refl)

@@ -1,4 +1,4 @@
--- Where each worker picked a `Stop` last, nothing is left.
+-- If the last pick of each worker is a `Stop`, nothing is left.
 use Rattle.std.proofs.Common.{◌≡◌, ◌⊎◌, inl, inr, ℕ, zero, suc, ◌+◌, ◌<◌, ◌≤◌, cond, Option, Some, None, List, [], ◌∷◌, ◌++◌, length, drop, replicate, refl, sym, ap, ◌∙◌, append_assoc, length-append, drop_of_length-le, arith}
 use Rattle.std.specs.Prelude.{count_by, sum_by}
 use Rattle.std.specs.List.{All}
@@ -16,11 +16,11 @@ use Rattle.cown_bench.specs.Picks.{WorkOf, PickOf}
 use Rattle.cown_bench.specs.declared.work.Work.TheVariants.{Run, Stop}
 use Rattle.cown_workers.specs.BenchCrews.{EndsAtStop, is_stop}
 
--- a job more is no `Stop` more
+-- one more job isn't one more `Stop`
 pub no_stop_more : (offered : List WorkOf) (job : JobOf Op) → count_by is_stop offered ≡ 0 → count_by is_stop (offered ++ Run job ∷ []) ≡ 0
 no_stop_more offered job none = let more = sum_by_push (λ work. cond (is_stop work) 1 0) offered (Run job) in omega (arith, none, more)
 
--- a `Stop` weighs 1, and a job nothing
+-- a `Stop` weighs 1, and a job 0
 abbrev weight : WorkOf → ℕ
 weight work = cond (is_stop work) 1 0
 
@@ -33,7 +33,7 @@ weighs_one picked (before, place, is) =
     let more = sum_by_push (λ (pick : PickOf). weight pick.1) before (place, Stop) in
     omega (arith, whole, more)
 
--- what was picked with this pass and with others
+-- what was picked with this pass and with the others
 with_others : (pass : WorkerOf) (passes : List WorkerOf)
     → weight_picked weight (picked_of (pass ∷ passes)) ≡ weight_of pass.picked + weight_picked weight (picked_of passes)
 with_others pass passes = sum_by-cons (sum_by (λ (pick : PickOf). weight pick.1)) pass.picked (picked_of passes)
@@ -56,7 +56,7 @@ one_behind : (count : ℕ) → replicate (suc count) Stop ≡ replicate count St
 one_behind zero = refl
 one_behind (suc count) = ap (λ l. Stop ∷ l) (one_behind count)
 
--- what is left behind some of a list that ends with a `Stop` weighs something, or it's nothing
+-- what is left of a list that ends with a `Stop` weighs something, or it is nothing
 end_by : (front : List WorkOf) (count : ℕ) → sum_by weight (drop count (front ++ Stop ∷ [])) ≡ 0 → (length front < count) ⊎ (count ≤ length front)
     → drop count (front ++ Stop ∷ []) ≡ []
 end_by front count nothing (inl past) =

@@ -23,11 +23,11 @@ at_most_one : (one : Option Notice) → length (option_to_list one) ≤ 1
 at_most_one None = omega arith
 at_most_one (Some one) = omega arith
 
--- behind 64 nothing is taken
+-- after 64 notices no more are taken
 full_take : (notices others : List Notice) → length notices ≡ 64 → take 64 (notices ++ others) ≡ notices
 full_take notices others full = subst (λ n. take n (notices ++ others) ≡ notices) full (take-append_seam notices others)
 
--- behind 64 there is no room for one
+-- after 64 notices there is no room for one
 no_room : (notices : List Notice) (one : Notice) (others : List Notice) → 64 ≤ length notices → length (notices ++ one ∷ others) ≤ 64 → ⊥
 no_room notices one others full few = let long = length-append notices (one ∷ others) in omega (arith, long, full, few)
 
@@ -37,7 +37,7 @@ module _ {C : Type 0} (acts : C → CrewStep → C → Type 0) where
   stays (CameBack job) old new unnoted = ap (λ (traced : TracedOf C). traced.notices) unnoted
   stays (HandedOver answer) old new unnoted = unnoted.1
 
-  -- where no more is noted than there is room for, the crew was not passed by
+  -- if no more is recorded than there is room for, the crew wasn't bypassed
   acted_still : (step : CrewStep) (steps : List CrewStep) (old new : TracedOf C) → IsUnnoted acts old step new → 64 ≤ length old.notices
       → length (old.notices ++ notices_of (step ∷ steps)) ≤ 64 → acts old.crew step new.crew
   acted_still (Kept job) steps old new unnoted full few = absurd unnoted
@@ -53,7 +53,7 @@ module _ {C : Type 0} (acts : C → CrewStep → C → Type 0) where
       let longer = not_shorter (notice_of step) (notices_of steps) in
       omega (arith, more, less, longer, few)
 
-  -- one exchange before others, which is noted
+  -- one exchange before others, which is recorded
   when_noted : (step : CrewStep) (steps : List CrewStep) {old mid new : TracedOf C} → IsNoted acts old step mid → AreTraced acts mid steps new
       → AreTraced acts old (step ∷ steps) new
   when_noted step steps {old} {mid} {new} noted after =

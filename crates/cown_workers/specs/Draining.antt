@@ -9,19 +9,19 @@ use Rattle.cown_board.specs.Readiness.{ready_places}
 use Rattle.cown_board.specs.State.{is_waiting}
 use Rattle.cown_board.specs.declared.state.State.TheVariants.{Out, Finished}
 
--- one exchange with a crew: it was given a job, which it kept or which came back; or it was asked, and
--- handed over what was done, if anything
+-- one exchange with a crew: it was given a job, which it kept or which came back; or it was asked,
+-- and handed over a result, if any
 pub data CrewStep : Type 0 where
   Kept : (job : JobOf Op) → CrewStep
   CameBack : (job : JobOf Op) → CrewStep
   HandedOver : (answer : Option (DoneOf Op)) → CrewStep
 
--- a crew did these steps one after another
+-- a crew took these steps one after another
 abbrev pub ActsAlong : {C : Type 0} → (C → CrewStep → C → Type 0) → C → List CrewStep → C → Type 0
 ActsAlong acts old [] new = new ≡ old
 ActsAlong {C} acts old (step ∷ steps) new = (mid : C) × acts old step mid × ActsAlong acts mid steps new
 
--- the steps of a crew of nobody: each job comes back, and nothing is handed over
+-- the steps of a crew without workers: each job comes back, and nothing is handed over
 abbrev pub KeepsNoJob : CrewStep → Type 0
 KeepsNoJob (Kept job) = ⊥
 KeepsNoJob (CameBack job) = Unit {0}
@@ -36,20 +36,20 @@ NoneOut board = (k : ℕ) → slice_get board.states k ≢ Some Out
 abbrev pub NoneReady : BoardOf Op → Type 0
 NoneReady board = length (ready_places declared_cowns board.log board.states) ≤ 0
 
--- how many wait
+-- the number of waiting ops
 abbrev pub waiting_of : BoardOf Op → ℕ
 waiting_of board = count_by is_waiting board.states
 
--- nothing is ready, and something is unfinished: only the crew can go on
+-- nothing is ready, and something is unfinished: only the crew can make progress
 pub record AwaitsCrew (board : BoardOf Op) : Type 0 where
   pub none_ready : NoneReady board
   pub unfinished : open_of board ≢ 0
 
--- what was done is that of a job
+-- the result is that of the job
 abbrev pub IsOf : DoneOf Op → JobOf Op → Type 0
 IsOf done job = (done.number ≡ job.number) × (done.behaviour ≡ job.behaviour) × (done.inputs ≡ job.inputs)
 
--- the first ready op was taken off the board with this job, carried out in place, and finished
+-- the first ready op was taken off the board as this job, executed in place, and finished
 pub record RunsInPlace (old : BoardOf Op) (job : JobOf Op) (new : BoardOf Op) : Type 0 where
   pub taken : BoardOf Op
   pub takes : Takes declared_cowns effect_of old 0 job taken
@@ -58,8 +58,9 @@ pub record RunsInPlace (old : BoardOf Op) (job : JobOf Op) (new : BoardOf Op) : 
   pub reply : Reply
   pub finishes : Finishes declared_cowns effect_of taken done reply new
 
--- the board before and after an exchange. A job that is given is that of the first ready op, which is out
--- where the crew keeps it. The crew is asked only where the board awaits it, and what it hands over is finished.
+-- the board before and after an exchange. A job that is given is that of the first ready op, which
+-- is out if the crew keeps it. The crew is asked only if the board awaits it, and what it hands
+-- over is finished.
 abbrev pub Exchange : BoardOf Op → CrewStep → BoardOf Op → Type 0
 Exchange old (Kept job) new = Takes declared_cowns effect_of old 0 job new
 Exchange old (CameBack job) new = RunsInPlace old job new
@@ -67,24 +68,25 @@ Exchange old (HandedOver None) new = ⊥
 Exchange old (HandedOver (Some done)) new =
     AwaitsCrew old × ((reply : Reply) × Finishes declared_cowns effect_of old done reply new)
 
--- these exchanges one after another
+-- the effect of these exchanges, one after another
 abbrev pub Exchanges : BoardOf Op → List CrewStep → BoardOf Op → Type 0
 Exchanges old [] new = new ≡ old
 Exchanges old (step ∷ steps) new = (mid : BoardOf Op) × Exchange old step mid × Exchanges mid steps new
 
--- an exchange with which no board can go on: it awaits the crew, which hands over nothing, or what isn't out
+-- an exchange after which no board can go on: it awaits the crew, which hands over nothing, or a
+-- result that isn't out
 abbrev pub IsInVain : BoardOf Op → CrewStep → Type 0
 IsInVain board (Kept job) = ⊥
 IsInVain board (CameBack job) = ⊥
 IsInVain board (HandedOver None) = AwaitsCrew board
 IsInVain board (HandedOver (Some done)) = AwaitsCrew board × (¬ IsOutHere declared_cowns effect_of board done)
 
--- all was carried out: these exchanges, and then nothing is unfinished
+-- the board was drained by these exchanges, and nothing is unfinished
 pub record IsDrained (old : BoardOf Op) (steps : List CrewStep) (new : BoardOf Op) : Type 0 where
   pub exchanges : Exchanges old steps new
   pub idle : open_of new ≡ 0
 
--- the crew is gone: exchanges, and then a last one in vain
+-- the crew is gone: exchanges, the last of them in vain
 pub record IsGivenUp (old : BoardOf Op) (steps : List CrewStep) (new : BoardOf Op) : Type 0 where
   pub before : List CrewStep
   pub last : CrewStep
@@ -92,14 +94,15 @@ pub record IsGivenUp (old : BoardOf Op) (steps : List CrewStep) (new : BoardOf O
   pub exchanges : Exchanges old before new
   pub in_vain : IsInVain new last
 
--- what a crew did, and what became of the board by it
+-- what a crew did, and what that did to the board
 pub record Exchanged {C : Type 0} (acts : C → CrewStep → C → Type 0) (before after : C) (old new : BoardOf Op)
     : Type 0 where
   pub steps : List CrewStep
   pub crew : ActsAlong acts before steps after
   pub board : Exchanges old steps new
 
--- the log, what was before it, and the cut stay; what was finished stays finished, with the same reply
+-- the log, what came before it, and the cut stay; what was finished stays finished, with the same
+-- reply
 pub record Drains (old new : BoardOf Op) : Type 0 where
   pub opening : new.opening ≡ old.opening
   pub earlier : new.earlier ≡ old.earlier

@@ -1,4 +1,4 @@
--- What a worker of a crew does in one turn.
+-- One turn of a worker of a crew.
 use Rattle.std.specs.Prelude.{◌≡◌, ℕ, [], ◌∷◌, ◌++◌}
 use Rattle.sb_calls.specs.declared.op.Op.{Op}
 use Rattle.cown_board.specs.Job.{JobOf}
@@ -8,11 +8,12 @@ use Rattle.cown_bench.specs.declared.work.Work.TheVariants.{Run, Stop}
 use Rattle.cown_workers.specs.declared.worker.Turn.{Turn}
 use Rattle.cown_workers.specs.declared.worker.Turn.TheVariants.{Waited, HandedOver, Stopped}
 
--- it picked this Work, at some place
+-- the worker picked this Work, at some place
 abbrev pub Picks : WorkerOf → WorkOf → WorkerOf → Type 0
 Picks old work new = (place : ℕ) × (new ≡ record old { picked = old.picked ++ (place, work) ∷ [] })
 
--- it waited, and picked nothing; or it picked a job, and sent what was done of it; or it picked a `Stop`
+-- a turn: the worker waited and picked nothing; or it picked a job and sent its result; or it
+-- picked a `Stop`
 abbrev pub Takes : WorkerOf → Turn → WorkerOf → Type 0
 Takes old Waited new = new ≡ old
 Takes old (HandedOver sent) new = (job : JobOf Op) × (Picks old (Run job) new × (sent.number ≡ job.number))

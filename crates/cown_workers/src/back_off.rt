@@ -4,29 +4,29 @@ ghost use Rattle.std.specs.Prelude.{◌≤◌};
 use std::time::{Clock, Duration};
 use std::{hint, thread};
 
-// How often it only holds still at first, and for how many turns of a processor: meanwhile the other side runs
-// ahead, and the two don't take turns at the same cache lines.
+// How often it first only spins, and for how many turns of a processor. Meanwhile the other side
+// runs ahead, and the two don't contend for the same cache lines.
 const HOLDS: u32 = 8;
 
 const TURNS: u32 = 32;
 
-// How often it then lets others run, before it sleeps.
+// How often it then yields, before it sleeps.
 const YIELDS: u32 = 64;
 
-// How many microseconds it sleeps at first.
+// The microseconds of its first sleep.
 const SHORTEST: u64 = 1;
 
-// How many it sleeps at most.
+// The microseconds of its longest sleep.
 const LONGEST: u64 = 100;
 
-// Holds still for a moment.
+// Spins for a moment.
 pub(crate) fn hold_still() {
     for _ in 0..TURNS {
         hint::spin_loop();
     }
 }
 
-// Waits longer each time: at first it holds still, then it lets others run, and then it sleeps for moments that grow.
+// Waits longer each time: at first it spins, then it yields, and then it sleeps for growing times.
 #[derive(Drop)]
 pub(crate) struct BackOff {
     holds: u32,
@@ -45,7 +45,7 @@ impl BackOff {
         }
     }
 
-    // Whether it waited as often as it does. It is time to rest then.
+    // Whether it has reached its longest wait. Then it is time to rest.
     pub(crate) fn is_over(&self) -> bool {
         self.micros >= LONGEST
     }

@@ -1,4 +1,4 @@
-//! What wakes workers that rest.
+//! Waking workers that rest.
 ghost use Rattle.std.specs.Prelude.{◌≡◌, ℕ, ◌∷◌, ◌++◌, [], IfNone, IfSome};
 
 use cown_bench::{Bench, Work, WorkerPass};
@@ -8,15 +8,17 @@ use std::sync::Wait;
 use std::sync::atomic::{AtomicUsize, Ordering};
 use std::time::{Clock, Duration};
 
-// How many milliseconds a worker rests at most. No ring is missed, so this is only what one would cost that is lost for
-// a reason that nobody saw; sixteen workers that wake so seldom take next to nothing of a processor.
+// The most milliseconds that a worker rests. No ring is missed, so this only bounds the cost of a
+// ring that is lost for an unknown reason. Sixteen workers that wake this seldom take almost no
+// processor time.
 const LONGEST: u64 = 50;
 
-// A bell that an owner rings when it lays something out for which too few workers are up.
+// A bell that an owner rings when it lays something out and too few workers are up.
 //
-// The owner lays out, then reads how many rest. A worker is counted as resting, then looks at the bench once more, and
-// only then sleeps. All four are steps that every thread sees in one order (`SeqCst`). So either the owner's look comes
-// after the worker was counted, and it rings; or it comes before, and the worker finds what was laid out.
+// The owner lays out, then reads how many rest. A worker is counted as resting, then looks at the
+// bench once more, and only then sleeps. All threads see these four steps in one order (`SeqCst`).
+// So either the owner's look comes after the worker was counted, and it rings; or it comes before,
+// and the worker finds what was laid out.
 #[derive(Drop)]
 pub(crate) struct Bell {
     workers: usize,
@@ -42,20 +44,20 @@ impl Bell {
         self.resting.load(Ordering::SeqCst) == self.workers
     }
 
-    // Wakes a worker, if one rests and fewer are up than there are jobs with the crew. What they are woken for lies on
-    // the bench by now.
+    // Wakes a worker, if one rests and fewer workers are up than there are jobs with the crew. The
+    // jobs are on the bench already.
     pub(crate) fn ring<R: Wait>(&self, rt: &R, jobs: usize) {
-        // No fence stands before this look: each step on the bench is `SeqCst`, as this one is, so it can't come before
-        // the step that laid the job out.
+        // This look needs no fence: each step on the bench is `SeqCst`, as this one is, so it can't
+        // come before the step that laid the job out.
         let resting = self.resting.load(Ordering::SeqCst);
         if resting > 0 && self.workers.saturating_sub(resting) < jobs {
-            // Where it can't be rung once more, each worker has a ring to hear yet.
+            // If the rope is full, each worker still has a ring to hear.
             let _ = self.rope.try_send(rt, ());
         }
     }
 
-    // Picks up what lies on the bench longest. Where nothing does it waits until the bell is rung, or for a while, and
-    // picks nothing.
+    // Picks the first Work on the bench. If there is none, it waits until the bell rings, or for a
+    // while, and picks nothing.
     pub(crate) fn rest<R: Wait + Clock>(
         &self,
         rt: &R,
@@ -68,7 +70,7 @@ impl Bell {
         ensures none { IfNone result (pass.new ≡ pass.old) }
     {
         self.lie_down();
-        // For what was laid out before this worker was counted nobody has rung.
+        // Nobody rang for what was laid out before this worker was counted.
         let work = bench.pick(rt, pass);
         if work.is_none() {
             let _ = self.hears_a_ring(rt);
@@ -77,7 +79,7 @@ impl Bell {
         work
     }
 
-    // A worker is counted as resting.
+    // Counts a worker as resting.
     pub(crate) fn lie_down(&self) {
         self.resting.fetch_add(1, Ordering::SeqCst);
     }
@@ -86,7 +88,7 @@ impl Bell {
         self.resting.fetch_sub(1, Ordering::SeqCst);
     }
 
-    // Waits until the bell is rung, or for a while, and answers whether it was rung.
+    // Waits until the bell rings, or for a while, and returns whether it rang.
     pub(crate) fn hears_a_ring<R: Wait + Clock>(&self, rt: &R) -> bool {
         self.ear
             .recv_timeout(rt, Duration::from_millis(LONGEST))
@@ -94,8 +96,9 @@ impl Bell {
     }
 }
 
-// From outside no look at the bench can be told from another, and no ring from a rest that ends by itself, so both are
-// shown here. That workers are woken at all running_tests shows by public calls.
+// From outside one look at the bench can't be distinguished from another, nor a ring from a rest
+// that ends by itself, so both are tested here. running_tests shows by public calls that workers
+// are woken at all.
 #[cfg(test)]
 mod tests {
     use super::*;
@@ -114,7 +117,8 @@ mod tests {
         assert!(rt; bell.rest(&rt, &bench, &mut pass).is_none());
     }
 
-    // What comes with the ring: how many of two workers rest, with how many jobs it is rung, and whether it wakes one.
+    // How many of two workers rest, with how many jobs the bell is rung, and whether that wakes a
+    // worker.
     const RINGS: [(usize, usize, bool); 5] = [
         (0, 9, false),
         (1, 1, false),

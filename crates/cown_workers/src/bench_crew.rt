@@ -19,21 +19,22 @@ use std::sync::Wait;
 use std::thread::Threads;
 use std::time::Clock;
 
-/// A crew in threads, as the owner of a board has it. What is given lies on a bench until a worker picks it, and comes
-/// back where the bench is full; what is carried out comes in through a channel. Where nothing has come in, `next`
-/// waits, so it is to be asked only while the crew has a job. Under a gate that admits the owner it is one more worker
-/// meanwhile: it carries out a job that nobody picked yet, as long as the bench has fewer workers than it may have.
-/// Contracts see the crew as how many workers it has, whether its owner helps, what it laid out, and what the owner
-/// picked itself.
-// No bound stands on `G` here: with one whose trait has ghost members the check can't state `with_crew`'s bound on `f`.
+/// A crew in threads, as the owner of a board sees it. A job that it is given lies on a bench until
+/// a worker picks it, and comes back if the bench is full. Results arrive through a channel. If
+/// none has arrived, `next` waits, so ask it only while the crew has a job. If the gate admits the
+/// owner and the bench has fewer workers than it may have, the owner is one more worker meanwhile:
+/// it executes jobs that nobody has picked yet. Contracts see the number of the crew's workers,
+/// whether its owner helps, what it laid out, and what the owner picked itself.
+// `G` has no bound here: if its trait has ghost members, the check can't state `with_crew`'s bound
+// on `f`.
 #[derive(Drop)]
 pub struct BenchCrew<'a, R: Wait + Clock, G> {
     desk: Desk<'a, R>,
     gate: &'a G,
-    // What it picks with itself, where it helps.
+    // The owner's own pass, if it helps.
     hands: Option<WorkerPass>,
     staff: Staff,
-    // How many jobs it has, and since when it has some.
+    // The number of jobs with the crew, and since when it has had some.
     jobs: usize,
     burst: Burst,
 }
@@ -62,7 +63,7 @@ impl<'a, R: Wait + Clock, G> Model for BenchCrew<'a, R, G> {
 }
 
 impl<'a, R: Wait + Clock, G: Gate> BenchCrew<'a, R, G> {
-    // A crew that has these workers, and the other passes of their bench.
+    // A crew with these workers, and the other passes of their bench.
     pub(crate) fn new(
         desk: Desk<'a, R>,
         gate: &'a G,
@@ -92,7 +93,8 @@ impl<'a, R: Wait + Clock, G: Gate> BenchCrew<'a, R, G> {
         }
     }
 
-    // What a worker that is up has handed over, if anything. While all rest the bench comes first.
+    // The result that a worker which is up has handed over, if any. While all rest the bench comes
+    // first.
     fn handed_over(&mut self) -> Option<Done<Op>>
         ensures { self.new ≡ self.old }
     {
@@ -103,8 +105,9 @@ impl<'a, R: Wait + Clock, G: Gate> BenchCrew<'a, R, G> {
         self.desk.inbox.try_recv(rt).ok()
     }
 
-    // Carries out what lies on the bench longest, if the owner helps and something lies there. Once that has gone
-    // on for a while it wakes workers for the other jobs; one that rests looks at the bench by itself too, only later.
+    // Executes the first job on the bench, if the owner helps and there is one. After a while of
+    // this it wakes workers for the other jobs. A resting worker looks at the bench by itself too,
+    // but later.
     fn help(&mut self) -> Option<Done<Op>>
         ensures some { IfSome result (λ done. (job : JobOf Op) ×
             PicksItself self.old (Work.Run job) self.new × IsOf done job) }
@@ -185,7 +188,7 @@ impl<'a, R: Wait + Clock, G: Gate> Crew for BenchCrew<'a, R, G> {
     }
 }
 
-// Carries out what lies on a bench longest, if something lies there.
+// Executes the first job on a bench, if there is one.
 fn pick_and_carry_out<R: Wait, G: Gate>(
     rt: &R,
     bench: &Bench,
@@ -200,13 +203,13 @@ fn pick_and_carry_out<R: Wait, G: Gate>(
 {
     match bench.pick(rt, hands)? {
         Work::Run(job) => Some(carry_out(gate, job)),
-        // Nothing is asked of a crew once it goes home.
+        // A crew isn't asked for anything once it goes home.
         Work::Stop => None,
     }
 }
 
-// From outside a ring can't be told from a rest that ends by itself, so who rings is shown here. The worker has a bell
-// of its own, so that each ring of the owner's is there to be heard.
+// From outside a ring can't be distinguished from a rest that ends by itself, so this tests who
+// rings. The worker has a bell of its own, so every ring of the owner's can be heard.
 #[cfg(test)]
 mod tests {
     use super::*;
@@ -224,7 +227,7 @@ mod tests {
 
     const TURNS: u32 = 1_000_000;
 
-    // Holds a job until it is opened, or for so many turns.
+    // Holds a job until the gate is opened, or for a limited number of turns.
     #[derive(Default, Drop)]
     struct Hold {
         came: AtomicBool,
@@ -240,7 +243,7 @@ mod tests {
         fn after(&self, _number: u64) {}
     }
 
-    // Waits for a flag, for so many turns, and answers whether it was set.
+    // Waits for a flag, for a limited number of turns, and returns whether it was set.
     fn comes_true(flag: &AtomicBool) -> bool {
         for _ in 0..TURNS {
             if flag.load(Ordering::SeqCst) {
@@ -251,7 +254,7 @@ mod tests {
         false
     }
 
-    // A staff of this one worker.
+    // A staff with this one worker.
     fn staff_of<'s, E, R: Wait + Clock + Sync + Abort, G: Gate + Sync>(
         scope: &'s Scope<'s, E>,
         rt: &R,
@@ -287,7 +290,7 @@ mod tests {
         hold: &'s Hold,
     }
 
-    // One picks from the bench, the worker.
+    // Only the worker picks from the bench.
     fn rings_for_each_job<'s, E, R: Threads + Wait + Clock + Sync + Abort>(
         scope: &'s Scope<'s, E>,
         rt: &'s R,
@@ -336,7 +339,7 @@ mod tests {
         assert!(rt; bell.hears_a_ring(rt));
     }
 
-    // Two do, the worker, which has a job that is held, and the owner.
+    // The worker, whose job is held, and the owner both pick from the bench.
     fn rings_once_it_was_alone<'s, E, R: Threads + Wait + Clock + Sync + Abort>(
         scope: &'s Scope<'s, E>,
         rt: &'s R,
@@ -382,7 +385,7 @@ mod tests {
         assert!(rt; comes_true(&hold.came));
         gives(rt, alloc, &mut crew);
         gives(rt, alloc, &mut crew);
-        // To listen takes longer than the owner is alone.
+        // Listening takes longer than the owner stays alone.
         assert!(rt; !bell.hears_a_ring(rt));
         assert!(rt; crew.next().is_some());
         assert!(rt; bell.hears_a_ring(rt));
@@ -390,7 +393,7 @@ mod tests {
         crew.close();
     }
 
-    // An owner that helps or only waits, and a worker that rests as the owner's bell has it.
+    // An owner that helps or only waits, and a worker that the owner's bell counts as resting.
     fn with_bench(rt: &(impl Threads + Wait + Clock + Sync + Abort), alloc: Global, helps: bool) {
         let pickers = if helps { 2 } else { 1 };
         let (bench, pass, passes) = Bench::new(alloc, pickers).expect(rt, "memory");

@@ -1,9 +1,9 @@
 //! When an owner wakes its workers.
 use std::time::{Clock, Duration, Instant};
 
-// How many microseconds an owner is at work alone. To wake a worker takes some ten, and what two threads carry out in
-// turn comes and goes between their processors: for a thousand short jobs it doesn't pay. Of long ones the first are late,
-// and a few long ones are carried out one after the other.
+// How many microseconds an owner works alone. Waking a worker takes about ten, and what two threads
+// execute in turn moves between their processors: for a thousand short jobs that doesn't pay. Of
+// long jobs the first are late, and a few of them run one after the other.
 const ALONE: u64 = 500;
 
 // Since when an owner has had jobs with its crew, without a pause.
@@ -22,7 +22,7 @@ impl Burst {
         self.began = Instant::now(rt).ok();
     }
 
-    // Whether the owner has been at work alone for long enough. Where the clock can't tell, it has.
+    // Whether the owner has worked alone for long enough. If the clock fails, it has.
     pub(crate) fn is_long<R: Clock>(&self, rt: &R) -> bool {
         let Some(began) = &self.began else {
             return true;

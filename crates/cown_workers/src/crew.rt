@@ -1,4 +1,4 @@
-//! Who carries ops out.
+//! Executors of ops.
 ghost use Rattle.std.specs.Prelude.{◌≡◌, Bool, false, IfErr, IsErr, MatchResult};
 ghost use Rattle.cown_workers.specs.Draining.{CrewStep, Kept, CameBack, HandedOver};
 
@@ -6,28 +6,29 @@ use cown_board::{Done, Job};
 use sb_calls::Op;
 use thiserror::Error;
 
-/// Something is unfinished, and the crew has nothing more to hand over, or it handed over what the board
-/// refused. What was finished by then stays finished.
+/// Something is unfinished, and the crew has no more results, or handed over one that the board
+/// refused. What was finished before stays finished.
 #[derive(Clone, Copy, Debug, PartialEq, Eq, Error, Drop)]
 #[error("crew gone")]
 pub struct CrewGone;
 
-/// Takes jobs, and hands them over once they are carried out.
+/// Takes jobs, and hands over their results.
 ///
-/// Nothing is said here of when that is, or in which order: whoever owns the board tests what comes back.
+/// The trait doesn't say when, or in which order. The owner of the board tests what comes back.
 pub trait Crew {
     /// Whether a crew of this type may keep a job that it is given.
     ghost keeps: { Bool };
 
-    /// What it may do at one exchange, from what it was before to what it is after. A crew of which nothing
-    /// is to be told says that it always holds.
+    /// What it may do at one exchange, from the state before to the state after. A crew with
+    /// nothing to say lets this always hold.
     ghost acts: { Self → CrewStep → Self → Type 0 };
 
-    /// Whether it may keep a job that it is given. A crew that may not hands each back, and never will keep one.
+    /// Whether it may keep a job that it is given. A crew that may not hands each back, and never
+    /// will keep one.
     fn keeps(&self) -> bool
         ensures { result ≡ keeps };
 
-    /// Gives it a job to carry out. One that it doesn't take comes back as it was.
+    /// Gives it a job to execute. A job that it doesn't take comes back unchanged.
     fn give(&mut self, job: Job<Op>) -> Result<(), Job<Op>>
         ensures same { IfErr result (λ back. back ≡ job) }
         ensures hands_back { keeps ≡ false → IsErr result }
@@ -35,12 +36,12 @@ pub trait Crew {
             (λ kept. acts self.old (Kept job) self.new)
             (λ back. acts self.old (CameBack job) self.new) };
 
-    /// One that is carried out, or `None` where no more comes.
+    /// The next result, or `None` if no more comes.
     fn next(&mut self) -> Option<Done<Op>>
         ensures acts { acts self.old (HandedOver result) self.new };
 }
 
-/// A crew that is lent is a crew, the same one.
+/// A borrowed crew is the crew itself.
 impl<C: Crew> Crew for &mut C {
     ghost keeps = { C.keeps };
 

@@ -6,7 +6,7 @@ ghost use Rattle.cown_workers.specs.declared.crew_fault.CrewFault.TheVariants.{O
 use std::alloc::AllocError;
 use thiserror::Error;
 
-/// Why a crew of threads can't be had.
+/// Why a crew of threads can't be made.
 #[derive(Clone, Copy, Debug, PartialEq, Eq, Error, Drop)]
 pub enum CrewFault {
     /// A thread can't be started.

@@ -1,4 +1,4 @@
-//! Where the owner of a crew lays out for its workers, and takes in what they have done.
+//! The owner's side of the bench and of the channel: it lays out jobs, and takes in results.
 ghost use Rattle.std.specs.Prelude.{◌≡◌, [], ◌∷◌, ◌++◌, replicate};
 
 use crate::bell::Bell;
@@ -19,7 +19,7 @@ pub(crate) struct Desk<'a, R: Wait + Clock> {
 }
 
 impl<'a, R: Wait + Clock> Desk<'a, R> {
-    // Lays out a `Stop` for each of so many workers, and waits until all are gone.
+    // Lays out a `Stop` for each of this many workers, and waits until all are gone.
     pub(crate) fn send_home(mut self, workers: usize) -> OwnerPass
         requires { self.pass.bench ≡ self.bench.now }
         ensures { result ≡ record self.entry.pass {
@@ -47,7 +47,7 @@ impl<'a, R: Wait + Clock> Desk<'a, R> {
         unreachable!()
     }
 
-    // Where the bench is full, what is carried out is taken in, so that no worker waits for room in the channel.
+    // If the bench is full, results are taken in, so that no worker waits for room in the channel.
     fn lay_out_a_stop(&mut self)
         requires { self.old.pass.bench ≡ self.old.bench.now }
         ensures pass { self.new.pass ≡ record self.old.pass {

@@ -1,4 +1,4 @@
-//! Carrying out all that a board has.
+//! Draining a board.
 ghost use Rattle.std.specs.Prelude.{◌≡◌, ◌≢◌, ◌<◌, ◌≤◌, List, true, false, IsOk, OnOk, OnErr, MatchResult};
 ghost use Rattle.cown_board.specs.Board.{open_of};
 ghost use Rattle.cown_workers.specs.Draining.{ActsAlong, AwaitsCrew, CrewStep, Drains, Exchanged, IsDrained, IsGivenUp, IsInVain, NoneOut, NoneReady, waiting_of};
@@ -6,15 +6,15 @@ ghost use Rattle.cown_workers.specs.Draining.{ActsAlong, AwaitsCrew, CrewStep, D
 use crate::crew::{Crew, CrewGone};
 use cown_board::Runs;
 
-/// Gives each ready op to the crew and takes back what is carried out, until nothing is unfinished. An op
-/// that the crew hands back is carried out here. It allocates nothing.
+/// Gives each ready op to the crew and takes back results, until nothing is unfinished. An op that
+/// the crew hands back is executed here. It allocates nothing.
 ///
-/// The first ready op is given first. The crew is asked only once nothing is ready, and each that it hands
-/// over is finished.
+/// The first ready op is given first. The crew is asked only once nothing is ready, and each result
+/// that it hands over is finished.
 ///
-/// Fails where something is unfinished and the crew has nothing more to hand over, or handed over what isn't
-/// out. What was finished by then stays finished, with its reply. A crew that keeps nothing never fails so,
-/// if nothing was out before.
+/// Fails if something is unfinished and the crew has no more results, or handed over one that isn't
+/// out. What was finished before stays finished, with its reply. A crew that keeps no job never
+/// causes this failure, if nothing was out before.
 pub fn drain<R: Runs, C: Crew>(runs: &mut R, crew: &mut C) -> Result<(), CrewGone>
     ensures exchanged { (steps : List CrewStep) × (ActsAlong C.acts crew.old steps crew.new × MatchResult result
         (λ done. IsDrained (R.board runs.old) steps (R.board runs.new))
@@ -34,7 +34,7 @@ pub fn drain<R: Runs, C: Crew>(runs: &mut R, crew: &mut C) -> Result<(), CrewGon
     }
 }
 
-// Gives all that is ready, and what becomes ready by it.
+// Gives everything that is ready, and what becomes ready meanwhile.
 fn give_ready<R: Runs, C: Crew>(runs: &mut R, crew: &mut C)
     ensures exchanged { Exchanged C.acts crew.old crew.new (R.board runs.old) (R.board runs.new) }
     ensures log { Drains (R.board runs.old) (R.board runs.new) }
@@ -46,7 +46,8 @@ fn give_ready<R: Runs, C: Crew>(runs: &mut R, crew: &mut C)
     while give_first(runs, crew) {}
 }
 
-// Gives the first ready op, and answers whether there was one. Where it comes back it is carried out here.
+// Gives the first ready op, and returns whether there was one. If it comes back, it is executed
+// here.
 fn give_first<R: Runs, C: Crew>(runs: &mut R, crew: &mut C) -> bool
     ensures exchanged { Exchanged C.acts crew.old crew.new (R.board runs.old) (R.board runs.new) }
     ensures given { result ≡ true → waiting_of (R.board runs.new) < waiting_of (R.board runs.old) }
@@ -61,13 +62,13 @@ fn give_first<R: Runs, C: Crew>(runs: &mut R, crew: &mut C) -> bool
     };
     if let Err(back) = crew.give(job) {
         let finished = runs.finish(back.run()).is_ok();
-        // It is out since it was taken, on the inputs that it has.
+        // It has been out since it was taken, on the inputs that it has.
         prove!(finished);
     }
     true
 }
 
-// Takes one that is carried out from the crew, and finishes it.
+// Takes a result from the crew, and finishes it.
 fn finish_next<R: Runs, C: Crew>(runs: &mut R, crew: &mut C) -> Result<(), CrewGone>
     requires { AwaitsCrew (R.board runs.old) }
     ensures exchanged { MatchResult result

@@ -1,30 +1,31 @@
-//! Who is told of each job that a crew carries out.
+//! Hooks around each job that a crew executes.
 ghost use Rattle.std.specs.Prelude.{◌≡◌, Bool, true, false};
 ghost use Rattle.cown_workers.specs.Draining.{IsOf};
 
 use cown_board::{Done, Job};
 use sb_calls::Op;
 
-/// Is told by workers, in their threads, of each job that they carry out. It may hold a worker up.
+/// Workers call this in their threads for each job that they execute. It may delay a worker.
 pub trait Gate {
-    /// Whether it may admit the owner of a board. It never does where an impl doesn't say so.
+    /// Whether it may admit the owner of a board. It never does unless an impl says otherwise.
     ghost admits: { Self → Bool } = { λ gate. false };
 
-    /// Whether the owner of a board is one more worker while it waits for its crew. Then it comes through the gate too.
+    /// Whether the owner of a board is one more worker while it waits for its crew. Then the
+    /// owner's jobs pass the gate too.
     fn admits_owner(&self) -> bool
         ensures { result ≡ true → admits self.now ≡ true }
     {
         false
     }
 
-    /// A worker is about to carry out the job with this number.
+    /// A worker is about to execute the job with this number.
     fn before(&self, number: u64);
 
-    /// The worker has carried it out, and has yet to hand it over.
+    /// The worker has executed it, but hasn't handed it over yet.
     fn after(&self, number: u64);
 }
 
-/// The gate that stands open, to the owner too: it does nothing.
+/// The open gate, which admits the owner too. It does nothing.
 #[derive(Clone, Copy, Debug, Default)]
 pub struct OpenGate;
 
@@ -40,7 +41,7 @@ impl Gate for OpenGate {
     fn after(&self, _number: u64) {}
 }
 
-// Carries a job out between the two calls of a gate.
+// Executes a job between the two calls of a gate.
 pub(crate) fn carry_out<G: Gate>(gate: &G, job: Job<Op>) -> Done<Op>
     ensures { IsOf result job }
 {

@@ -19,14 +19,16 @@ use std::thread;
 use std::thread::Threads;
 use std::time::Clock;
 
-/// Hands a crew of this many workers, each in a thread of its own, to `f`. Once `f` has answered and all workers
-/// are gone it answers the same. Under a gate that admits the owner, and with fewer than sixteen workers, `f`'s own
-/// thread carries jobs out too while it waits for one.
+/// Hands a crew of this many workers, each in its own thread, to `f`. Returns what `f` returned,
+/// once all workers are gone. If the gate admits the owner, and there are fewer than sixteen
+/// workers, `f`'s own thread executes jobs too while it waits for a result.
 ///
-/// All that `f` laid out was picked by then, each once, by one worker or by `f`'s own thread; nothing is left.
+/// By then everything that `f` laid out was picked, each once, by one worker or by `f`'s own
+/// thread; nothing is left.
 ///
-/// Fails where memory is refused or a thread can't be started; then `f` isn't called. Each job stands between two
-/// calls of the gate. What `f` gave and didn't take in is carried out and let go.
+/// Fails if memory is refused or a thread can't be started; then `f` isn't called. Each job runs
+/// between two calls of the gate. What `f` gave and didn't take in is executed, and its result is
+/// dropped.
 pub fn with_crew<R, G, T, F>(
     rt: &R,
     alloc: Global,
@@ -74,7 +76,8 @@ where
     )
 }
 
-// How many pick from the bench: the workers, and the owner where the gate admits it and the bench has a pass for it.
+// How many pick from the bench: the workers, and the owner if the gate admits it and the bench has
+// a pass for it.
 fn pickers<G: Gate>(gate: &G, workers: usize) -> usize
     requires { workers ≤ WORKERS }
     ensures enough { workers ≤ result }
@@ -88,7 +91,7 @@ fn pickers<G: Gate>(gate: &G, workers: usize) -> usize
     }
 }
 
-// The last of these passes, where there is one more than this.
+// The last of these passes, if there is one more than this.
 fn take_above(passes: &mut Vec<WorkerPass>, workers: usize) -> Option<WorkerPass>
     requires enough { workers ≤ length passes.old.items }
     requires few { length passes.old.items ≤ workers + 1 }

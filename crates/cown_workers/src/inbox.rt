@@ -1,4 +1,4 @@
-//! How what is carried out comes back to the owner.
+//! How results come back to the owner.
 ghost use Rattle.std.specs.Prelude.{◌≡◌, IfErr, IfOk};
 ghost use Rattle.crossbeam_channel.specs.Claims.{IsSeatAt};
 ghost use Rattle.crossbeam_channel.specs.Ends.{receives_on, sends_on};
@@ -13,16 +13,17 @@ use std::alloc::{AllocError, Global};
 use std::sync::Wait;
 use std::thread;
 
-// How often the owner looks for what is done before it waits: to be woken takes longer than most jobs. At first it
-// holds still between two looks, so that the workers get ahead, and then it lets others run.
+// How often the owner looks for a result before it waits: being woken takes longer than most jobs.
+// At first it spins between two looks, so that the workers get ahead, and then it yields.
 const HOLDS: u32 = 16;
 
 const LOOKS: u32 = 64;
 
-// A pass of the channel, whose rule asks nothing and tells nothing: the channel under a rule is the one without a lock.
+// A pass of the channel under a rule that requires and promises nothing. The channel with a rule is
+// the one without a lock.
 type FreePass = Pass<Done<Op>, ()>;
 
-// One pass more is made of another. There is nothing to know.
+// How one pass becomes two. The rule keeps no state.
 struct OneMore;
 
 impl Split<()> for OneMore {
@@ -39,7 +40,8 @@ pub(crate) struct Outbox {
     ghost tied: { IsSeatAt (sends_on sender) pass },
 }
 
-// Tells that what was done of the job with this number is on its way to the owner. Only `send` makes one.
+// Evidence that the result of the job with this number is on its way to the owner. Only `send`
+// makes one.
 #[derive(Drop)]
 pub(crate) struct Sent {
     number: u64,
@@ -68,14 +70,15 @@ pub(crate) fn open_inbox(alloc: Global) -> Result<(Outbox, Inbox), AllocError> {
 }
 
 impl Outbox {
-    // One end more.
+    // One more end for a worker.
     pub(crate) fn another(&mut self) -> Result<Outbox, AllocError> {
         let sender = self.sender.try_clone()?;
         let pass = self.sender.another::<OneMore>(&mut self.pass);
         Ok(Outbox { sender, pass })
     }
 
-    // Hands over what is done, and waits where the inbox is full. It comes back where the owner is gone.
+    // Hands over a result, and waits while the inbox is full. The result comes back if the owner is
+    // gone.
     pub(crate) fn send<R: Wait>(&mut self, rt: &R, done: Done<Op>) -> Result<Sent, Done<Op>>
         ensures sent { IfOk result (λ sent. sent.number ≡ done.number) }
         ensures back { IfErr result (λ back. back ≡ done) }
@@ -89,12 +92,12 @@ impl Outbox {
 }
 
 impl Inbox {
-    // What comes next, if something is there.
+    // The next result, if there is one already.
     pub(crate) fn try_recv<R: Wait>(&mut self, rt: &R) -> Result<Done<Op>, TryRecvError> {
         self.receiver.try_recv_as::<Free, R>(rt, &mut self.pass)
     }
 
-    // What a worker hands over next, or `None` where all are gone.
+    // The next result of a worker, or `None` if all are gone.
     pub(crate) fn next<R: Wait>(&mut self, rt: &R) -> Option<Done<Op>> {
         for look in 0..LOOKS {
             match self.try_recv(rt) {
@@ -108,7 +111,7 @@ impl Inbox {
     }
 }
 
-// From outside nothing is sent once the owner is gone, so what becomes of it then is shown here.
+// From outside nothing is sent once the owner is gone, so that case is tested here.
 #[cfg(test)]
 mod tests {
     use super::*;

@@ -6,7 +6,7 @@ use crate::crew::Crew;
 use cown_board::{Done, Job};
 use sb_calls::Op;
 
-/// A crew of nobody: each job comes back at once, so that whoever gives it carries it out in place.
+/// A crew without workers: each job comes back at once, so whoever gives it executes it in place.
 #[derive(Clone, Copy, Debug, Default)]
 pub struct InlineCrew;
 

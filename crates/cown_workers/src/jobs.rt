@@ -5,7 +5,7 @@ use sb_rows::read_opening;
 use std::alloc::Global;
 use std::process::Abort;
 
-// A job with the number 1, which looks at nothing.
+// A job with the number 1, which needs no cown.
 pub(crate) fn job(rt: &impl Abort, alloc: Global) -> Job<Op> {
     let opening = read_opening(alloc, b"begin").expect(rt, "an opening");
     let board = Board::open(alloc, opening.columns, 0, Vec::new(alloc));

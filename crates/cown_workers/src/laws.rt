@@ -1,12 +1,12 @@
-//! What a traced crew tells, over every list of exchanges.
+//! What holds for a traced crew after every list of exchanges.
 ghost use Rattle.std.specs.Prelude.{◌≤◌, List, length};
 ghost use Rattle.cown_workers.specs.Draining.{ActsAlong, CrewStep};
 ghost use Rattle.cown_workers.specs.Traces.{AreTraced, TracedOf, Traces};
 
 use crate::crew::Crew;
 
-/// Whatever exchanges there are with a traced crew, its notices are those of the first 64 that have one; and if these
-/// are all, then the crew itself made the same exchanges.
+/// Whatever the exchanges with a traced crew, its notices are those of the first 64 exchanges that
+/// have one. If there are no more, the crew itself made the same exchanges.
 pub fn notices_of_exchanges<C: Crew>()
     ensures { (old new : TracedOf C) (steps : List CrewStep) → length old.notices ≤ 64 →
         ActsAlong (Traces C.acts) old steps new → AreTraced C.acts old steps new }

@@ -1,4 +1,4 @@
-//! Crews that carry ops out, in place or in threads, and the draining of a board by one.
+//! Crews that execute ops, in place or in threads, and the draining of a board by a crew.
 #![tactic(auto)]
 
 mod back_off;

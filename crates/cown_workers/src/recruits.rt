@@ -16,13 +16,13 @@ use std::sync::Wait;
 use std::thread::{Scope, Threads};
 use std::time::Clock;
 
-// All that a crew has but threads. Contracts see it as the crew that it is to be.
+// Everything of a crew but its threads. Contracts see it as the crew that it becomes.
 #[derive(Drop)]
 pub(crate) struct Recruits<'a, R: Wait + Clock, G: Gate> {
     alloc: Global,
     desk: Desk<'a, R>,
     gate: &'a G,
-    // What the owner picks with itself, where it helps.
+    // The owner's own pass, if it helps.
     hands: Option<WorkerPass>,
     workers: Vec<Worker<'a, R, G>>,
 }
@@ -85,7 +85,8 @@ impl<'a, R: Wait + Clock, G: Gate> Recruits<'a, R, G> {
 }
 
 impl<'a, R: Threads + Wait + Clock + Sync, G: Gate + Sync> Recruits<'a, R, G> {
-    // Starts a thread for each worker. Where one can't be made, those that were are sent home and joined.
+    // Starts a thread for each worker. If one can't be started, the others are sent home and
+    // joined.
     pub(crate) fn start<E>(self, scope: &'a Scope<'a, E>) -> Result<BenchCrew<'a, R, G>, CrewFault>
         ensures { IfOk result (λ crew. crew ≡ self.entry) }
     {

@@ -13,7 +13,7 @@ use std::sync::Wait;
 use std::thread::{Promise, PromisedHandle, Scope, Threads};
 use std::time::Clock;
 
-// What the thread of a worker gives back: a pass of this bench, with which a `Stop` was picked last.
+// What a worker's thread returns: a pass of this bench, whose last pick is a `Stop`.
 #[derive(Drop)]
 pub(crate) struct PassOf(pub(crate) Snapshot<Bench>);
 
@@ -26,7 +26,7 @@ impl Promise<WorkerPass> for PassOf {
 
 pub(crate) type WorkerThread = PromisedHandle<WorkerPass, PassOf>;
 
-// The threads of workers, and room for the passes that they give back, and for the owner's.
+// The threads of workers, and room for the passes that they return, and for the owner's.
 #[derive(Drop)]
 pub(crate) struct Staff {
     pub(crate) threads: Vec<WorkerThread>,
@@ -36,7 +36,8 @@ pub(crate) struct Staff {
 }
 
 impl Staff {
-    // Starts a thread for each of these workers. Where one can't be made, the workers that have none are gone.
+    // Starts a thread for each of these workers. If one can't be started, the workers without one
+    // are gone.
     pub(crate) fn start<'s, E, R, G>(
         scope: &'s Scope<'s, E>,
         alloc: Global,
@@ -58,14 +59,15 @@ impl Staff {
         Ok(Staff { threads, passes })
     }
 
-    // How many there are.
+    // The number of threads.
     pub(crate) fn len(&self) -> usize
         ensures { result ≡ length self.now.threads.items }
     {
         self.threads.len()
     }
 
-    // Joins all threads. What the owner picked with comes back first, if it is there, and then a pass from each.
+    // Joins all threads. The owner's pass comes first, if there is one, and then a pass from each
+    // thread.
     pub(crate) fn join<R: Threads>(self, rt: &R, hands: Option<WorkerPass>) -> Vec<WorkerPass>
         ensures { (workers : List WorkerOf) × (result.items ≡ option_to_list hands ++ workers) ×
             (map (λ pass. pass.bench) workers ≡ map (λ thread. thread.promise.0.value) self.threads.items) ×
@@ -77,7 +79,7 @@ impl Staff {
     }
 }
 
-// Starts a thread for each worker, until one can't be made.
+// Starts a thread for each worker, until one can't be started.
 fn start_each<'s, E, R, G>(
     scope: &'s Scope<'s, E>,
     bench: &'s Bench,
@@ -102,7 +104,7 @@ where
     }
 }
 
-// A list that has room, and begins with this pass if it is there.
+// A list that has room, and begins with this pass if there is one.
 fn put_first(mut passes: Vec<WorkerPass>, hands: Option<WorkerPass>) -> Vec<WorkerPass>
     requires empty { passes.items ≡ [] }
     requires room { 1 ≤ vec_capacity passes }
@@ -116,7 +118,7 @@ fn put_first(mut passes: Vec<WorkerPass>, hands: Option<WorkerPass>) -> Vec<Work
     passes
 }
 
-// Joins each thread, and puts what it gives back behind the others.
+// Joins each thread, and appends the pass that it returns.
 fn join_each<R: Threads>(
     rt: &R,
     threads: Vec<WorkerThread>,

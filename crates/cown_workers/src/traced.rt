@@ -1,4 +1,4 @@
-//! A crew whose exchanges are noted.
+//! A crew whose exchanges are recorded.
 ghost use Rattle.std.specs.Prelude.{◌≡◌, []};
 ghost use Rattle.cown_workers.specs.Traces.{Traces};
 
@@ -8,30 +8,31 @@ use cown_board::{Done, Job};
 use sb_calls::Op;
 use std::marker::Model;
 
-// How many exchanges are noted. Contracts have it as a number.
+// The greatest number of notices. Contracts have it as a number.
 const NOTICES: usize = 64;
 
-/// What is noted of an exchange with a crew.
+/// The notice of an exchange with a crew.
 #[derive(Clone, Copy, Debug, PartialEq, Eq)]
 pub enum Notice {
     /// The job with this number was given, and the crew keeps it.
     Given(u64),
     /// The job with this number was given, and came back.
     Back(u64),
-    /// What was done of the job with this number was handed over.
+    /// The result of the job with this number was handed over.
     Came(u64),
 }
 
-/// That of no job, since their numbers begin with 1. It fills the places that no notice has yet.
+/// The notice of no job, since their numbers begin with 1. It fills the places without a notice.
 impl Default for Notice {
     fn default() -> Notice {
         Notice::Given(0)
     }
 }
 
-/// A crew whose exchanges are noted, the first 64 of them, in order. Where it is asked and nothing is handed over
-/// nothing is noted. It does what that crew does, and waits where that one waits, until it has 64 notices. From then
-/// on it hands each job back, of which the crew hears nothing, and what the crew hands over isn't noted.
+/// A crew whose first 64 exchanges are recorded, in order. Nothing is recorded if it is asked and
+/// hands nothing over. Until it has 64 notices, it does what that crew does, and waits where that
+/// one waits. From then on it hands each job back without giving it to the crew, and what the crew
+/// hands over isn't recorded.
 ///
 /// Contracts see it as the crew and its notices.
 #[derive(Drop)]
@@ -49,7 +50,8 @@ impl<C: Crew> Model for Traced<C> {
 }
 
 impl<C: Crew> Traced<C> {
-    /// This crew, of which nothing is noted yet. To lend a crew is enough, as `&mut C` is one too.
+    /// This crew, without any notice yet. A borrowed crew is enough, because `&mut C` is a crew
+    /// too.
     pub fn new(crew: C) -> Traced<C>
         ensures { result ≡ record { crew = crew; notices = [] } }
     {
@@ -59,7 +61,7 @@ impl<C: Crew> Traced<C> {
         }
     }
 
-    /// What was noted, the first exchange first.
+    /// The notices, in order.
     pub fn notices(&self) -> &[Notice]
         ensures { result.now ≡ self.now.notices }
     {

@@ -1,4 +1,4 @@
-//! What each thread of a crew does.
+//! The work of each thread of a crew.
 ghost use Rattle.std.specs.Prelude.{◌≡◌, ℕ, ◌∷◌, ◌++◌, [], IfNone, IfSome};
 ghost use Rattle.cown_workers.specs.BenchCrews.{EndsAtStop};
 ghost use Rattle.cown_workers.specs.Turns.{Takes};
@@ -14,7 +14,7 @@ use std::sync::Wait;
 use std::thread;
 use std::time::Clock;
 
-// Who picks jobs from a bench, carries them out, and hands over what is done.
+// A worker: it picks jobs from a bench, executes them, and hands over the results.
 #[derive(Drop)]
 pub(crate) struct Worker<'a, R: Wait + Clock, G: Gate> {
     pub(crate) rt: &'a R,
@@ -31,14 +31,14 @@ pub(crate) struct Worker<'a, R: Wait + Clock, G: Gate> {
 pub(crate) enum Turn {
     // It picked nothing.
     Waited,
-    // It picked a job, carried it out and handed it over.
+    // It picked a job, executed it and handed its result over.
     HandedOver(Sent),
     // It picked a `Stop`.
     Stopped,
 }
 
 impl<'a, R: Wait + Clock, G: Gate> Worker<'a, R, G> {
-    // Works until it picks a `Stop`. Then it gives its pass back.
+    // Works until it picks a `Stop`. Then it returns its pass.
     pub(crate) fn work(mut self) -> WorkerPass
         ensures bench { result.bench ≡ self.entry.bench.now }
         ensures stopped { EndsAtStop result.picked }
@@ -74,8 +74,8 @@ impl<'a, R: Wait + Clock, G: Gate> Worker<'a, R, G> {
     }
 }
 
-// Picks up what lies on the bench longest. Where nothing does it waits, each time longer, and in the end until the
-// owner rings; then it picks nothing, or what was laid out meanwhile.
+// Picks the first Work on the bench. If there is none, it waits, longer each time, and in the end
+// until the owner rings. Then it picks nothing, or what was laid out meanwhile.
 fn pick_or_wait<R: Wait + Clock>(
     rt: &R,
     bench: &Bench,
@@ -99,14 +99,14 @@ fn pick_or_wait<R: Wait + Clock>(
     None
 }
 
-// Carries a job out, and hands it over.
+// Executes a job, and hands its result over.
 fn serve<R: Wait, G: Gate>(rt: &R, gate: &G, outbox: &mut Outbox, job: Job<Op>) -> Sent
     ensures { result.number ≡ job.number }
 {
     hand_over(rt, outbox, carry_out(gate, job))
 }
 
-// Sends what is done. While it is refused it is tried again.
+// Sends a result. While it is refused, it tries again.
 fn hand_over<R: Wait>(rt: &R, outbox: &mut Outbox, done: Done<Op>) -> Sent
     ensures { result.number ≡ done.number }
 {

@@ -1,4 +1,4 @@
--- How large a bank's total and the changes of its calls are.
+-- The size of a bank's total and of the changes of its calls.
 use Rattle.std.proofs.Common.{◌≡◌, ℕ, zero, suc, ◌+◌, ◌<◌, ◌≤◌, ℤ, pos, ◌+ℤ◌, List, [], ◌∷◌, length, take, get_or, sym, ap, ap₂, ◌∙◌, subst, arith, w64, FitsSigned, to_z, of_z}
 use Rattle.std.proofs.lemmas.Int.{ints, to_z-of_z}
 use Rattle.sb_amount.specs.Limit.{IsWithinLimit}
@@ -73,7 +73,7 @@ net_within (Amalgamate from to) reply h = nothing
 net_within (WriteCheck name amount) reply h = paid_within amount reply h
 net_within (SendPayment from to amount) reply h = nothing
 
--- one more call
+-- one call more
 net_sum-suc : (calls : List Call) (replies : List Reply) (i : ℕ) (d : Call) (e : Reply) → i < length calls → i < length replies
     → net_sum (take i calls) (take i replies) +ℤ net_of (get_or calls i d) (get_or replies i e) ≡ net_sum (take (suc i) calls) (take (suc i) replies)
 net_sum-suc [] replies i d e left right = absurd (omega (arith, left))

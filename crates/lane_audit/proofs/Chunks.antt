@@ -23,7 +23,7 @@ pub joined_more : (blocks : List (List ℤ)) (i : ℕ) → i < length blocks →
 joined_more blocks i inside =
     flat_map_more (λ block. block) [] (take i blocks) (get_or blocks i []) ∙ ap joined (sym (take_more blocks i [] inside))
 
--- what is so of each value of a column is so of those of its blocks
+-- what holds for each value of a column holds for those of its blocks
 fits_chunks : (P : ℤ → Type 0) (n k : ℕ) (xs : List ℤ) → All P xs → Each1 (All P) (first_chunks n k xs)
 fits_chunks P n zero xs fits = tt
 fits_chunks P n (suc k) xs fits = (All-take P n xs fits, fits_chunks P n k (drop n xs) (All-drop P n xs fits))

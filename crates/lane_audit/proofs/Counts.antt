@@ -10,11 +10,11 @@ use Rattle.lane_audit.proofs.Chunks.{joined, joined-first_chunks}
 use lib.Lanes.{zip2, fold_l, sum_l}
 use native.Mathlib.Nat.{mod-add-mod, add-mod-mod, mod-eq_of_lt}
 
--- 1 where a value is below low
+-- 1 if the value is below low, else 0
 abbrev pub one_below : ℤ → ℤ → ℕ
 one_below low value = cond (int_lt value low) 1 0
 
--- the lanes of a vector of counts and a block, as they are after it
+-- the lanes of a vector of counts after a block is counted
 abbrev pub counted : ℤ → List ℕ → List ℤ → List ℕ
 counted low counts xs = zip2 (λ count value. (count + one_below low value) % 2 ^ 64) counts xs
 
@@ -30,7 +30,8 @@ sum-counted low (n ∷ ns) (x ∷ xs) long =
     ∙ add-mod-mod (n + one_below low x) (sum_l ns + count_below xs low) (2 ^ 64)
     ∙ ap (λ m. m % 2 ^ 64) (omega (arith, sum_by-cons (one_below low) x xs))
 
--- the lanes' counts after some blocks: their sum is how many values of the blocks are below, as it wraps
+-- the lanes' counts after some blocks: their sum, which wraps, is the number of the blocks' values
+-- below low
 pub record CountsAre (low : ℤ) (counts : List ℕ) (front : List ℤ) : Type 0 where
   pub lanes : length counts ≡ 8
   pub same : sum_l counts % 2 ^ 64 ≡ count_below front low % 2 ^ 64

@@ -30,14 +30,14 @@ top-either_mask false false = refl
 lt_bits_is : (x y : ℤ) → FitsSigned w64 x → FitsSigned w64 y → lt_bits (of_z w64 x) (of_z w64 y) ≡ int_lt x y
 lt_bits_is x y f g = ap₂ int_lt (to_z-of_z w64 x f) (to_z-of_z w64 y g)
 
--- adding lane by lane is wrapping addition of the values
+-- addition lane by lane is wrapping addition of the values
 pub added_lanes : (xs ys : List ℤ) → map (to_z w64) (zip2 (λ a b. (a + b) % 2 ^ 64) (map (of_z w64) xs) (map (of_z w64) ys)) ≡ zip2 (int_wrapping_add w64) xs ys
 added_lanes [] ys = refl
 added_lanes (x ∷ xs) [] = refl
 added_lanes (x ∷ xs) (y ∷ ys) = ap (λ zs. int_wrapping_add w64 x y ∷ zs) (added_lanes xs ys)
 
 module _ (low : ℤ) (low_fits : FitsSigned w64 low) where
-  -- adding 1 where a mask is set counts the values below
+  -- adding 1 at each lane of a mask counts the values below low
   pub counted_lanes : (counts : List ℕ) (xs : List ℤ) (n : ℕ) → length xs ≡ n → Each1 (FitsSigned w64) xs
       → zip2 (λ a b. (a + b) % 2 ^ 64) counts
       (sel_l (map (top 63) (zip2 (λ a b. mask_of (lt_bits a b)) (map (of_z w64) xs) (replicate n (of_z w64 low)))) (replicate n 1) (replicate n 0))
@@ -50,7 +50,7 @@ module _ (low : ℤ) (low_fits : FitsSigned w64 low) where
       (counted_lanes counts xs n (omega (arith, long)) fits.1)
 
   module _ (high : ℤ) (high_fits : FitsSigned w64 high) where
-    -- the lanes at which one of two masks is set are those outside
+    -- the lanes set in one of two masks are those of values outside
     pub outside_lanes : (xs : List ℤ) (n : ℕ) → length xs ≡ n → Each1 (FitsSigned w64) xs
         → map (top 63) (zip2 bit_or (zip2 (λ a b. mask_of (lt_bits a b)) (map (of_z w64) xs) (replicate n (of_z w64 low)))
         (zip2 (λ a b. mask_of (lt_bits a b)) (replicate n (of_z w64 high)) (map (of_z w64) xs)))
@@ -72,7 +72,7 @@ length-unequal_lanes [] ys = omega arith
 length-unequal_lanes (x ∷ xs) [] = omega arith
 length-unequal_lanes (x ∷ xs) (y ∷ ys) = omega (arith, length-unequal_lanes xs ys)
 
--- where no lane differs, the values are the same, and conversely
+-- if no lane differs, the values are the same; the converse follows
 same_without_unequal : (xs ys : List ℤ) → length xs ≡ length ys → Each1 (FitsSigned w64) xs → Each1 (FitsSigned w64) ys
     → list_any (λ b. b) (unequal_lanes xs ys) ≡ false → xs ≡ ys
 same_without_unequal [] [] long f g none = refl
@@ -95,7 +95,7 @@ doubled n =
       | inr some ↦ ne_eqb (0 + 2 * n) 0 (λ h. some (omega (arith, h))) ∙ sym (ne_eqb n 0 some)
     ]
 
--- a mask has a bit set where a lane is
+-- a mask isn't 0 exactly if a lane is set
 set_by_lane : (bs : List Bool) → not (eqb (mask_l bs) 0) ≡ list_any (λ b. b) bs
 set_by_lane [] = refl
 set_by_lane (true ∷ bs) = not_from_false _ (ne_eqb (1 + 2 * mask_l bs) 0 (λ h. absurd (omega (arith, h))))
@@ -115,11 +115,11 @@ fits_each xs fits = Each1-from_get_or (FitsSigned w64) xs (pos 0) (λ k h. fits 
 pub fits_block : (i n : ℕ) (xs : List ℤ) → All (FitsSigned w64) xs → Each1 (FitsSigned w64) (take n (drop i xs))
 fits_block i n xs fits = Each1-chunk (FitsSigned w64) i n xs (fits_each xs fits)
 
--- a mask of the values that pass a test has a bit set where one passes
+-- a mask of the values that pass a test isn't 0 exactly if one passes
 pub any_mask : (p : ℤ → Bool) (xs : List ℤ) {bs : List Bool} → length xs ≤ 64 → bs ≡ map p xs → not (eqb (mask_l bs % 2 ^ 64) 0) ≡ list_any p xs
 any_mask p xs few is = ap (λ ms. not (eqb (mask_l ms % 2 ^ 64) 0)) is ∙ any_lane (map p xs) (omega (arith, length-map xs p, few)) ∙ list_any-map p xs
 
--- no bit of the lanes that differ is set just where two blocks are the same
+-- the mask of lanes that differ is 0 exactly if the two blocks are the same
 pub same_block : (xs ys : List ℤ) → length xs ≡ 8 → length ys ≡ 8 → Each1 (FitsSigned w64) xs → Each1 (FitsSigned w64) ys
     → (not (not (eqb (mask_l (unequal_lanes xs ys) % 2 ^ 64) 0)) ≡ true) ↔ (xs ≡ ys)
 same_block xs ys left right f g =

@@ -1,4 +1,4 @@
--- Where a test first passes, and what a block adds to a front.
+-- The first place that passes a test, and what a block adds to a front.
 use Rattle.std.proofs.Common.{◌≡◌, ℕ, ◌+◌, ◌-◌, ◌<◌, ◌≤◌, ℤ, pos, Bool, true, false, not, Some, None, List, length, get_or, take, drop, sym, ap, ◌∙◌, arith, inl, inr}
 use Rattle.std.proofs.lemmas.Bool.{both_ways, cases_lt, cond-true, cond-false, false_from_ne_true, lt-ltb, le-ltb, not_from_false, not_from_true}
 use Rattle.std.proofs.lemmas.Bool.Decides.{Decides-int_eq}
@@ -11,7 +11,7 @@ use Rattle.std.specs.Ordering.{int_eq}
 use Rattle.lane_audit.specs.Columns.{first_difference}
 
 module _ {A : Type 0} (p : A → Bool) (xs : List A) (d : A) where
-  -- the first that passes, and that none does
+  -- the first element that passes, and the case that none does
   pub position_at : (i : ℕ) → i < length xs → ((k : ℕ) → k < i → p (get_or xs k d) ≡ false) → p (get_or xs i d) ≡ true → Some i ≡ position p xs
   position_at i inside below here =
       let is = position_or_len_is p xs i d (omega arith) below (λ _. here) in
@@ -50,7 +50,7 @@ module _ (xs ys : List ℤ) (same_length : length xs ≡ length ys) where
 
 -- ---- one more block
 
--- a place in a block stands behind the front
+-- a place in a block is a place after the front
 in_block : (xs : List ℤ) (at k : ℕ) → at ≤ k → k < at + 8 → get_or (take 8 (drop at xs)) (k - at) (pos 0) ≡ get_or xs k (pos 0)
 in_block xs at k from to =
     let back : at + (k - at) ≡ k = omega arith in

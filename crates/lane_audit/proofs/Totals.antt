@@ -18,7 +18,7 @@ pub total-append : (xs ys : List ℤ) → total (xs ++ ys) ≡ total xs +ℤ tot
 total-append [] ys = omega (arith, ints)
 total-append (x ∷ xs) ys = omega (arith, ints, total-append xs ys)
 
--- a value past none of n times the limit
+-- a number within n times the limit, up or down
 pub record IsBounded (n : ℕ) (z : ℤ) : Type 0 where
   pub at_least : neg_ℤ (pos (n * 1000000000000)) ≤ℤ z
   pub at_most : z ≤ℤ pos (n * 1000000000000)
@@ -47,7 +47,7 @@ total-added (x ∷ xs) (y ∷ ys) long = let rest = total-added xs ys (omega (ar
 bounded_more : (n : ℕ) (x y : ℤ) → IsBounded n x → IsWithinLimit y → IsBounded (suc n) (x +ℤ y)
 bounded_more n x y h within = record { at_least = omega (arith, ints, h.at_least, within.at_least); at_most = omega (arith, ints, h.at_most, within.at_most) }
 
--- each of two vectors' sums fits, where the lanes are bounded
+-- each sum of two vectors' lanes fits, if the lanes are bounded
 pub lanes_fit : (n : ℕ) (xs ys : List ℤ) → suc n ≤ 65536 → Each1 (IsBounded n) xs → Each1 IsWithinLimit ys
     → Each2 (λ x y. (FitsSigned w64 x) × (FitsSigned w64 y) × (FitsSigned w64 (x +ℤ y))) xs ys
 lanes_fit n [] ys few f g = tt
@@ -62,7 +62,7 @@ added_bounded n [] ys f g = tt
 added_bounded n (x ∷ xs) [] f g = tt
 added_bounded n (x ∷ xs) (y ∷ ys) f g = (bounded_more n x y f.0 g.0, added_bounded n xs ys f.1 g.1)
 
--- where no lane overflows, adding is exact
+-- if no lane overflows, addition is exact
 pub added_exactly : (xs ys : List ℤ) → Each2 (λ x y. (FitsSigned w64 x) × (FitsSigned w64 y) × (FitsSigned w64 (x +ℤ y))) xs ys
     → zip2 (int_wrapping_add w64) xs ys ≡ zip2 (λ x y. x +ℤ y) xs ys
 added_exactly [] ys fits = refl
@@ -70,7 +70,8 @@ added_exactly (x ∷ xs) [] fits = refl
 added_exactly (x ∷ xs) (y ∷ ys) fits =
     ap₂ (λ z (zs : List ℤ). z ∷ zs) (wrapping_add_is w64 x y fits.0.0 fits.0.1 ∙ int_wrap_fits w64 (x +ℤ y) fits.0.2) (added_exactly xs ys fits.1)
 
--- the lanes' sums after n blocks: none is past n times the limit, and their total is the blocks'
+-- the lanes' sums after n blocks: each is within n times the limit, and their total is that of the
+-- blocks
 pub record SumsAre (n : ℕ) (sums front : List ℤ) : Type 0 where
   pub lanes : length sums ≡ 8
   pub bounded : Each1 (IsBounded n) sums
@@ -95,7 +96,7 @@ fits_from_bounded n (x ∷ xs) few h = (bounded_fits n x few h.0, fits_from_boun
 within_each : (xs : List ℤ) → All IsWithinLimit xs → Each1 IsWithinLimit xs
 within_each xs within = Each1-from_get_or IsWithinLimit xs (pos 0) (λ k h. within k (pos 0) h)
 
--- n for each of these lanes
+-- the bound n for each of these lanes
 bound_of : ℕ → List ℤ → ℕ
 bound_of n [] = 0
 bound_of n (x ∷ xs) = n + bound_of n xs
@@ -112,7 +113,7 @@ sums_bounded n (x ∷ xs) h =
     let rest = sums_bounded n xs h.1 in
     record { at_least = omega (arith, ints, h.0.at_least, rest.at_least); at_most = omega (arith, ints, h.0.at_most, rest.at_most) }
 
--- lanes are themselves when they are read back from their bits
+-- lanes that are read back from their bits are unchanged
 read_back : (xs : List ℤ) → Each1 (FitsSigned w64) xs → map (to_z w64) (map (of_z w64) xs) ≡ xs
 read_back [] fits = refl
 read_back (x ∷ xs) fits = ap₂ (λ z (zs : List ℤ). z ∷ zs) (to_z-of_z w64 x fits.0) (read_back xs fits.1)
@@ -134,7 +135,7 @@ reduce_sum_is n sums front few h =
     ∙ int_wrap_fits w64 (total sums)
     (bounded_fits (bound_of n sums) (total sums) (let small = bound_small n sums few in omega (arith, small, h.lanes)) all) ∙ h.same
 
--- the bits of such lanes
+-- the bits of these lanes
 abbrev pub BitsAre : ℕ → List ℕ → List ℤ → Type 0
 BitsAre n bits front = (sums : List ℤ) × (bits ≡ map (of_z w64) sums) × SumsAre n sums front
 

@@ -1,4 +1,4 @@
--- What a bank may have in all.
+-- The totals that a bank and its calls may have.
 use Rattle.std.specs.Prelude.{◌≡◌, ℕ, ◌*◌, ℤ, pos, neg_ℤ, ◌+ℤ◌, ◌≤ℤ◌}
 use Rattle.sb_amount.specs.Limit.{IsWithinLimit}
 use Rattle.sb_calls.specs.declared.call.Call.{Call}
@@ -6,17 +6,17 @@ use Rattle.sb_calls.specs.declared.call.Call.TheVariants.{Balance, DepositChecki
 use Rattle.sb_rows.specs.Balances.{Balances, IsBalances}
 use Rattle.lane_audit.specs.Columns.{total}
 
--- all savings and checking balances of some bank added up
+-- the number is the sum of all savings and checking balances of some bank
 abbrev pub IsBankTotal : ℤ → Type 0
 IsBankTotal cents =
     (opening : Balances) × IsBalances opening × (cents ≡ total opening.savings +ℤ total opening.checking)
 
--- what n calls may add: each at most the limit and the penalty, up or down
+-- the number is within what n calls may add: each at most the limit and the penalty, up or down
 pub record IsNetOf (n : ℕ) (cents : ℤ) : Type 0 where
   pub at_least : neg_ℤ (pos (n * 1_000_000_000_100)) ≤ℤ cents
   pub at_most : cents ≤ℤ pos (n * 1_000_000_000_100)
 
--- the amount of a call, where it has one, is within the limit
+-- the amount of a call, if it has one, is within the limit
 abbrev pub HasAmountWithin : Call → Type 0
 HasAmountWithin (Balance name) = Unit {0}
 HasAmountWithin (DepositChecking name amount) = IsWithinLimit amount

@@ -1,9 +1,9 @@
--- What is asked of columns of whole numbers.
+-- Sums, differences and ranges of columns of integers.
 use Rattle.std.specs.Prelude.{ℕ, ℤ, pos, ◌+ℤ◌, int_lt, Bool, ◌||◌, not, Option, List, [], ◌∷◌, count_by, position}
 use Rattle.std.specs.List.{zip}
 use Rattle.std.specs.Ordering.{int_eq}
 
--- the values of a column added up, by recursion, since std's sum has no whole numbers below 0
+-- the sum of a column's values, by recursion, because std's sum takes no negative numbers
 abbrev pub total : List ℤ → ℤ
 total [] = pos 0
 total (value ∷ values) = value +ℤ total values
@@ -12,14 +12,14 @@ total (value ∷ values) = value +ℤ total values
 abbrev pub first_difference : List ℤ → List ℤ → Option ℕ
 first_difference left right = position (λ p. not (int_eq p.0 p.1)) (zip left right)
 
--- below low or above high
+-- the value is below low or above high
 abbrev pub is_outside : ℤ → ℤ → ℤ → Bool
 is_outside low high value = int_lt value low || int_lt high value
 
--- the least place whose value is outside, if any
+-- the least place whose value is outside the range, if any
 abbrev pub first_outside : List ℤ → ℤ → ℤ → Option ℕ
 first_outside values low high = position (is_outside low high) values
 
--- how many values are below low
+-- the number of values below low
 abbrev pub count_below : List ℤ → ℤ → ℕ
 count_below values low = count_by (λ value. int_lt value low) values

@@ -1,4 +1,4 @@
-//! The audit: what a bank has, against what its calls and replies say.
+//! The audit: compares a bank's balances with its calls and replies.
 ghost use Rattle.std.specs.Prelude.{◌≡◌, ◌≤◌, ◌+ℤ◌, pos, length};
 ghost use Rattle.sb_calls.specs.Net.{net_of, net_sum};
 ghost use Rattle.lane_audit.specs.Audit.{HasAmountWithin, IsBankTotal, IsNetOf};
@@ -10,18 +10,19 @@ use crate::summing::sum;
 use sb_calls::{Call, LOG_CALLS, Reply, net};
 use sb_rows::Columns;
 
-/// All savings and checking balances of a bank added up, in cents.
+/// The sum of all savings and checking balances of a bank, in cents.
 pub fn bank_total(columns: &Columns) -> i64
     ensures value { result ≡ total columns.now.savings +ℤ total columns.now.checking }
     ensures bank { IsBankTotal result }
 {
-    // Its contract says that all balances are in their ranges, as `sum` asks.
+    // Its contract says that all balances are in their ranges, as `sum` requires.
     let _customers = columns.customers();
     sum(columns.savings()) + sum(columns.checking())
 }
 
-/// Adds up all balances and the net changes of all calls, and counts the overdrawn. Each call stands
-/// beside its reply; `opening_total` is what `bank_total` was before the first of them, in cents.
+/// Sums all balances and the net changes of all calls, and counts the overdrawn balances. Each call
+/// has its reply at the same place. `opening_total` is `bank_total` before the first call, in
+/// cents.
 pub fn audit(columns: &Columns, opening_total: i64, calls: &[Call], replies: &[Reply]) -> Audit
     requires replies { length calls.now ≡ length replies.now }
     requires few { length calls.now ≤ LOG_CALLS }
@@ -37,7 +38,7 @@ pub fn audit(columns: &Columns, opening_total: i64, calls: &[Call], replies: &[R
     }
 }
 
-// What all calls with their replies add to a bank's total.
+// The sum of what all calls, with their replies, add to a bank's total.
 fn net_of_all(calls: &[Call], replies: &[Reply]) -> i64
     requires replies { length calls.now ≡ length replies.now }
     requires few { length calls.now ≤ LOG_CALLS }
@@ -51,7 +52,7 @@ fn net_of_all(calls: &[Call], replies: &[Reply]) -> i64
     added
 }
 
-// What a call with its reply adds, which is no more than the limit and the penalty.
+// What a call, with its reply, adds: at most the limit and the penalty.
 fn net_of_one(call: &Call, reply: Reply) -> i64
     ensures value { result ≡ net_of call.now reply }
     ensures within { IsNetOf 1 result }
@@ -60,7 +61,8 @@ fn net_of_one(call: &Call, reply: Reply) -> i64
     net(call, reply)
 }
 
-// The amount of a call is in its range. For the prover alone, which knows that once it is read.
+// The amount of a call is in its range. For the prover alone, which knows this only once the amount
+// is read.
 fn amount_within(call: &Call)
     ensures { HasAmountWithin call.now }
 {

@@ -1,12 +1,12 @@
-//! What an audit tells.
+//! The result of an audit.
 
-/// What an audit finds, in cents. The books are right where `total` is `expected`.
+/// The result of an audit, in cents. The books balance exactly if `total` is `expected`.
 #[derive(Clone, Copy, Debug, PartialEq, Eq)]
 pub struct Audit {
-    /// All savings and checking balances added up.
+    /// The sum of all savings and checking balances.
     pub total: i64,
-    /// The opening's total and what the calls with their replies add to it.
+    /// The opening's total plus what the calls, with their replies, add to it.
     pub expected: i64,
-    /// How many checking balances are below 0.
+    /// The number of checking balances below 0.
     pub overdrawn: usize,
 }

@@ -1,4 +1,4 @@
-//! How many values of a column are low.
+//! The count of a column's low values.
 ghost use Rattle.std.specs.Prelude.{◌≡◌, ◌%◌, ◌^◌, FitsSigned};
 ghost use Rattle.std.specs.Int.{w64};
 ghost use Rattle.std.specs.List.{All, flat_map};
@@ -7,7 +7,7 @@ ghost use Rattle.lane_audit.specs.Columns.{count_below};
 use crate::lanes::{LANES, each_fits, with_counts};
 use std::simd::prelude::*;
 
-/// How many values of a column are below `low`.
+/// The number of values of a column below `low`.
 pub fn count_below(values: &[i64], low: i64) -> usize
     ensures { result ≡ count_below values.now low }
 {
@@ -22,7 +22,7 @@ pub fn count_below(values: &[i64], low: i64) -> usize
     count
 }
 
-// How many values of all blocks are below `low`. It wraps, as the lanes do.
+// The number of values of all blocks below `low`. It wraps, as the lanes do.
 fn count_in_blocks(blocks: &[[i64; LANES]], low: i64) -> u64
     requires { All (All (FitsSigned w64)) blocks.now }
     ensures { result ≡ count_below (flat_map (λ block. block) blocks.now) low % 2 ^ 64 }

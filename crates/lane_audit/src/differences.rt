@@ -1,10 +1,10 @@
-//! Where two columns differ.
+//! The first difference of two columns.
 ghost use Rattle.std.specs.Prelude.{◌≡◌, ℕ, ◌<◌, ◌≤◌, pos, length, slice_index_or};
 ghost use Rattle.lane_audit.specs.Columns.{first_difference};
 
 use crate::lanes::{LANES, each_fits, is_same_block};
 
-/// The least place at which two columns of one length differ, or `None` where they are equal.
+/// The least place at which two columns of one length differ, or `None` if they are equal.
 pub fn first_difference(left: &[i64], right: &[i64]) -> Option<usize>
     requires { length left.now ≡ length right.now }
     ensures { result ≡ first_difference left.now right.now }
@@ -17,7 +17,7 @@ pub fn first_difference(left: &[i64], right: &[i64]) -> Option<usize>
     None
 }
 
-// A place below which both columns are the same, found block by block.
+// A place below which both columns are the same, found by whole blocks.
 fn same_front(left: &[i64], right: &[i64]) -> usize
     requires { length left.now ≡ length right.now }
     ensures within { result ≤ length left.now }

@@ -1,4 +1,4 @@
-//! One block of eight values, which is one vector.
+//! One block of eight values: one vector.
 ghost use Rattle.std.specs.Prelude.{◌≡◌, ◌+◌, ◌%◌, ◌^◌, ◌≤◌, ◌↔◌, ◌+ℤ◌, int_lt, if◌then◌else◌, length, take, drop, All, IsTrue, FitsSigned};
 ghost use Rattle.std.specs.Int.{w64};
 ghost use Rattle.std.specs.List.{list_any};
@@ -7,10 +7,10 @@ ghost use Rattle.lane_audit.specs.Columns.{is_outside};
 
 use std::simd::prelude::*;
 
-/// How many values a block has.
+/// The number of values in a block.
 pub(crate) const LANES: usize = 8;
 
-// Each lane with the block's value added. No lane overflows.
+// Adds the block's value to each lane. No lane overflows.
 #[inline(always)]
 pub(crate) fn with_block(sums: i64x8, block: &[i64; LANES]) -> i64x8
     requires { Each2
@@ -21,7 +21,7 @@ pub(crate) fn with_block(sums: i64x8, block: &[i64; LANES]) -> i64x8
     sums + i64x8::from_array(*block)
 }
 
-// Each lane with 1 added where the block's value is below `low`; it wraps.
+// Adds 1 to each lane whose value in the block is below `low`. It wraps.
 #[inline(always)]
 pub(crate) fn with_counts(counts: u64x8, block: &[i64; LANES], low: i64) -> u64x8
     requires { All (FitsSigned w64) block.now }
@@ -56,8 +56,9 @@ pub(crate) fn has_outside(values: &[i64], at: usize, low: i64, high: i64) -> boo
     (block.simd_lt(i64x8::splat(low)) | block.simd_gt(i64x8::splat(high))).any()
 }
 
-// Each value fits its type. For the prover alone: it knows that of a signed value only once it is read, and a vector
-// isn't read value by value. The loop does nothing, and the compiler drops it.
+// Each value fits its type. For the prover alone: it knows this of a signed value only once the
+// value is read, and a vector isn't read value by value. The loop does nothing, and the compiler
+// removes it.
 #[inline(always)]
 pub(crate) fn each_fits(values: &[i64])
     ensures { All (FitsSigned w64) values.now }

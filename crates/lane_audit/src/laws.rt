@@ -1,8 +1,8 @@
-//! What the least place at which two columns differ says of them.
+//! What the least place of a difference says about two columns.
 ghost use Rattle.lane_audit.specs.LeastPlaces.{EqualWithout, LeastDifference};
 
-/// Two columns of one length are the same below the first difference and not at it, and without one they
-/// are equal.
+/// Two columns of one length are the same below the first difference and differ at it. Without a
+/// difference they are equal.
 pub fn least_difference()
     ensures found { LeastDifference }
     ensures none { EqualWithout }

@@ -1,4 +1,4 @@
-//! Columns of whole numbers read eight at a time, and the audit of a bank by its columns.
+//! Columns of integers, read eight values at a time, and the audit of a bank by its columns.
 #![tactic(auto)]
 
 mod auditing;

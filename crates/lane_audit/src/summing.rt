@@ -8,8 +8,8 @@ use crate::lanes::{LANES, each_fits, with_block};
 use sb_rows::CUSTOMERS;
 use std::simd::prelude::*;
 
-/// The values of a column added up, which may be no more than a bank has customers and each in the
-/// range of a balance, so that the sum fits.
+/// The sum of a column. So that it fits, the column may have at most as many values as a bank has
+/// customers, each in the range of a balance.
 pub fn sum(values: &[i64]) -> i64
     requires few { length values.now ≤ CUSTOMERS }
     requires within { All IsWithinLimit values.now }
@@ -24,7 +24,7 @@ pub fn sum(values: &[i64]) -> i64
     sum
 }
 
-// The sum of all blocks. No lane overflows on the way.
+// The sum of all blocks. No lane overflows in between.
 fn sum_of_blocks(blocks: &[[i64; LANES]]) -> i64
     requires few { length blocks.now * LANES ≤ CUSTOMERS }
     requires within { All (All IsWithinLimit) blocks.now }

@@ -1,4 +1,5 @@
-//! What no clause says: columns at the limit, columns of each length about a lane's, an audit worked by hand.
+//! What no clause says: columns at the limit, columns of each length around a lane count, and an
+//! audit worked by hand.
 use super::*;
 use sb_amount::LIMIT;
 use sb_rows::CUSTOMERS;
@@ -8,17 +9,17 @@ use std::process::Abort;
 mod audits;
 mod columns;
 
-// A case comes out as it has to.
+// Checks one case.
 fn expect(rt: &impl Abort, holds: bool, case: &str) {
     assert!(rt; holds, "{case}");
 }
 
-// The same of one column among columns of several lengths.
+// Checks one of several columns, named by its length.
 fn expect_at(rt: &impl Abort, holds: bool, length: usize) {
     assert!(rt; holds, "{length}");
 }
 
-// A column of zeros, but for a value at some places.
+// A column of zeros, with another value at some places.
 fn column(rt: &impl Abort, alloc: Global, length: usize, places: &[usize], value: i64) -> Vec<i64> {
     let mut values = Vec::new(alloc);
     for place in 0..length {
@@ -38,7 +39,7 @@ fn sum_of(rt: &impl Abort, values: &[i64]) -> i64 {
     sum(values)
 }
 
-// Where two columns of one length differ first.
+// The first difference of two columns of one length.
 fn difference_of(rt: &impl Abort, left: &[i64], right: &[i64]) -> Option<usize> {
     assert!(rt; left.len() == right.len());
     first_difference(left, right)

@@ -1,4 +1,4 @@
--- What an amalgamation of two customers does, read off the columns.
+-- The effect of an amalgamation of two customers, in terms of the columns.
 use Rattle.std.proofs.Common.{◌≡◌, ◌≢◌, ℕ, ℤ, pos, neg_ℤ, ◌+ℤ◌, true, false, ◌||◌, List, Option, Some, refl, sym, ap, ◌∙◌, arith}
 use Rattle.std.specs.Prelude.{int_lt}
 use Rattle.std.specs.Str.{bytes_eq}
@@ -36,7 +36,7 @@ different_names directory from to p q found_from found_to differs = false_from_n
 
 module _ {directory : List (List ℕ)} {b : Balances} {from to : List ℕ} {p q : ℕ} {s c s_to c_to : ℤ} (giver : HasRow directory b from p s c)
     (taker : HasRow directory b to q s_to c_to) (differs : p ≢ q) where
-  -- one that would pass the limit
+  -- an amalgamation that would pass the limit
   pub performs_amalgamate_over_limit : ¬ IsWithinLimit ((c_to +ℤ s) +ℤ c) → FollowsProcedure directory (Amalgamate from to) b b OverLimit
   performs_amalgamate_over_limit past =
       let row_from = row_is giver in
@@ -45,7 +45,7 @@ module _ {directory : List (List ℕ)} {b : Balances} {from to : List ℕ} {p q 
       let out = past_limit_either ((c_to +ℤ s) +ℤ c) past in
       record { rows = rw (row_from, row_to, names, out) refl; reply = rw (row_from, row_to, names, out) refl; customers = giver.same }
 
-  -- one that is carried out
+  -- an amalgamation that is executed
   pub performs_amalgamate : IsWithinLimit ((c_to +ℤ s) +ℤ c)
       → FollowsProcedure directory (Amalgamate from to) b (with_checking (with_row b p (pos 0) (pos 0)) q ((c_to +ℤ s) +ℤ c)) Done
   performs_amalgamate fits =

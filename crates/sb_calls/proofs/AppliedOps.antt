@@ -1,4 +1,4 @@
--- An op carried out by its cowns.
+-- An op executed over its cowns.
 use Rattle.std.proofs.Common.{◌≡◌, ℕ, ◌*◌, ◌<◌, ◌==◌, nat_lt, Bool, true, false, cond, List, [], ◌∷◌, length, sym, ap, subst, ◌∙◌, arith}
 use Rattle.sb_rows.specs.Balances.{Balances, IsBalances}
 use Rattle.sb_rows.specs.Rows.{SameCustomers}
@@ -34,7 +34,7 @@ checkings_below from to n lt_from lt_to = by (from == to) (nat_lt from to)
     by false true = (omega (arith, lt_from), (omega (arith, lt_to), tt))
     by false false = (omega (arith, lt_to), (omega (arith, lt_from), tt))
 
--- an op at places of customers declares cowns of theirs
+-- an op within the number of customers declares cowns of theirs
 op_below : (n : ℕ) (op : Op) → IsOpWithin n op → AreBelow (2 * n) (declared_cowns op)
 op_below n (Balance place) lt = (omega (arith, lt), (omega (arith, lt), tt))
 op_below n (DepositChecking place amount) lt = (omega (arith, lt), tt)
@@ -49,7 +49,7 @@ pub declared_below : (b : Balances) (op : Op) → length b.savings ≡ length b.
     → AreBelow (length (held_of b)) (declared_cowns op)
 declared_below b op same within = subst (λ n. AreBelow n (declared_cowns op)) (sym (length-held_of b same)) (op_below (length b.savings) op within)
 
--- so the cowns of an op hold what they may
+-- so the cowns of an op hold allowed values
 pub declared_held : (b : Balances) (op : Op) → IsBalances b → IsOpWithin (length b.savings) op
     → AreHeld (declared_cowns op) (read_cowns (held_of b) (declared_cowns op))
 declared_held b op valid within =

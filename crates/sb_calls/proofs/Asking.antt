@@ -1,4 +1,4 @@
--- What is read of an asking line is spelled so, and what is spelled so is read.
+-- What is read from an asking line spells it, and a line that spells an ask is read.
 use Rattle.std.proofs.Common.{◌≡◌, ℕ, zero, suc, ◌≤◌, ◌<◌, ◌^◌, nat_lt, true, false, ◌&&◌, inl, inr, Option, Some, None, Result, Ok, Err, List, [], ◌∷◌, ◌++◌, append_assoc, codes, decimal, refl, sym, ap, subst, ◌∙◌, arith}
 use Rattle.std.specs.Prelude.{IfOk}
 use Rattle.std.specs.Char.{is_ascii_digit}
@@ -35,7 +35,7 @@ number_made text n e =
     let below : digits_value 10 text < 2 ^ 32 = ltb-true (digits_value 10 text) (2 ^ 32) small.1 in
     (sym (decimal-canonical text spelled.0 spelled.1 (omega arith)) ∙ ap decimal tested.1, omega (arith, tested.1))
 
--- the decimal of a number is read as it
+-- the decimal of a number is read as that number
 number_read : (n : ℕ) → n < 2 ^ 32 → read_number (decimal n) ≡ Some n
 unfolding read_number
 number_read n below =
@@ -68,11 +68,11 @@ key_of-numbers : (client request : ℕ) → 1 ≤ client → key_of (Some client
 key_of-numbers zero request h = absurd (omega arith)
 key_of-numbers (suc n) request h = refl
 
--- what stands behind a key's text stands behind its last space
+-- what follows a key's text follows its last space
 key_text-append : (key : Key) (rest : List ℕ) → key_text (Some key) ++ rest ≡ codes "ask " ++ (decimal key.client ++ (32 ∷ (decimal key.request ++ 32 ∷ rest)))
 key_text-append key rest = simp append_assoc
 
--- ---- what is read is spelled so
+-- ---- what is read spells the line
 
 -- a call that was read under a key
 under_key_made : (key : Option Key) (read : Result Call CallFault) (made : Asked) → under_key key read ≡ Ok made → (read ≡ Ok made.call) × (key ≡ made.key)
@@ -87,17 +87,17 @@ with_key_made : (key : Option Key) (rest : List (List ℕ)) (made : Asked) → w
 with_key_made None rest made e = absurd cc
 with_key_made (Some key) rest made e = (key, refl, e)
 
--- what was read under a key and spells a call spells both
+-- what was read under a key, and spells its call, spells the whole
 spells_both : (key : Option Key) (made : Asked) (line : List ℕ) → key ≡ made.key → IsKey key → IsCall made.call → line ≡ key_text key ++ call_line made.call
     → IsAsked made × (line ≡ ask_line made)
 spells_both key made line same valid h e = ((subst IsKey same valid, h), e ∙ ap (λ (k : Option Key). key_text k ++ call_line made.call) same)
 
--- the two numbers of a key and what stands behind them
+-- the two numbers of a key and what follows them
 key_text-numbers : (key : Key) (client request joined rest : List ℕ) → client ≡ decimal key.client → request ≡ decimal key.request → joined ≡ rest
     → codes "ask " ++ (client ++ (32 ∷ (request ++ 32 ∷ joined))) ≡ key_text (Some key) ++ rest
 key_text-numbers key client request joined rest c r j = rw (c, r, j) (sym (key_text-append key rest))
 
--- the words after `ask`, joined behind it
+-- the words after `ask`, joined after it
 keyed_spells : (rest : List (List ℕ)) (made : Asked) → after_ask rest ≡ Ok made → IsAsked made × (join_with_byte 32 (codes "ask" ∷ rest) ≡ ask_line made)
 keyed_spells [] made e = absurd cc
 keyed_spells (client ∷ []) made e = absurd cc
@@ -134,14 +134,14 @@ line_spells line made e =
     let spelled = asked_words_spell (words line) made e in
     (spelled.0, sym (join_with_byte-slice_split 32 line) ∙ spelled.1)
 
--- the same of a result
+-- the same for a result
 pub ask_is_spelled : (line : List ℕ) (result : Result Asked CallFault) → result ≡ asked_of line → IfOk result (λ asked. IsAsked asked × (line ≡ ask_line asked))
 ask_is_spelled line (Ok asked) e = line_spells line asked (sym e)
 ask_is_spelled line (Err fault) e = tt
 
--- ---- what is spelled so is read
+-- ---- a line that spells an ask is read
 
--- a call's spelling does not begin with `ask`
+-- a call's spelling doesn't begin with `ask`
 call_without_key : (call : Call) → asked_of (call_line call) ≡ under_key None (call_of (call_line call))
 unfolding asked_of call_of words
 call_without_key (Balance name) = refl
@@ -160,7 +160,7 @@ words-key key rest h =
     let client = slice_split_at is_space (decimal key.client) 32 (decimal key.request ++ 32 ∷ rest) (number_clear key.client h.1) refl in
     ap (slice_split is_space) (key_text-append key rest) ∙ rw (client, request) refl
 
--- the spelling of what is asked is read as that
+-- the spelling of an ask is read as that ask
 asked_parts : (key : Option Key) (call : Call) → IsKey key → IsCall call → asked_of (key_text key ++ call_line call) ≡ Ok (record { key = key; call = call })
 unfolding asked_of call_of
 asked_parts None call valid h = call_without_key call ∙ ap (under_key None) (spelled_is_read call h)

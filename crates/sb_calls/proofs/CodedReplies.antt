@@ -1,4 +1,4 @@
--- What a code and a total are read as is spelled by them, and what they spell is read again.
+-- A code and a total that are read as a reply spell it, and what they spell is read back.
 use Rattle.std.proofs.Common.{◌≡◌, ℕ, ℤ, pos, true, false, Bool, cond, eqb, Option, Some, None, refl, sym, ap, subst, ◌∙◌, arith, inl, inr}
 use Rattle.std.specs.Ordering.{int_eq}
 use Rattle.std.proofs.lemmas.Bool.{cases_Bool, eqb-true}

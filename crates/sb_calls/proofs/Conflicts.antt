@@ -1,4 +1,4 @@
--- Two calls declare a cown in common exactly where they touch a balance in common.
+-- Two calls share a declared cown exactly if they share a touched balance.
 use Rattle.std.proofs.Common.{◌≡◌, ℕ, Bool, true, false, not, ◌&&◌, inl, inr, Option, Some, None, List, [], ◌∷◌, refl, sym, ap, subst, ◌∙◌, arith}
 use Rattle.std.specs.List.{Contains}
 use Rattle.std.specs.Prelude.{if◌then◌else◌, ◌==◌, option_map, slice_get}
@@ -91,7 +91,7 @@ cown_of_named directory b (Checking name) same there =
 
 -- ---- a cown is that of one balance
 
--- names at one place are one
+-- names at the same place are equal
 one_name : (directory : List (List ℕ)) (n m : List ℕ) (p q : ℕ) → place_of directory n ≡ Some p → place_of directory m ≡ Some q → p ≡ q → n ≡ m
 one_name directory n m p q found_n found_m one =
     let at_p = place_of_found directory n p found_n in

@@ -1,4 +1,4 @@
--- The effect of an op where its case is known.
+-- The effect of an op in each of its cases.
 use Rattle.std.proofs.Common.{◌≡◌, ℕ, ◌<◌, ℤ, pos, neg_ℤ, ◌+ℤ◌, ◌-ℤ◌, ◌≤ℤ◌, Bool, true, false, cond, ◌==◌, List, [], ◌∷◌, get_or, refl, ◌∙◌, arith, to_z, of_z, w64}
 use Rattle.std.specs.Prelude.{int_lt, nat_lt}
 use Rattle.std.proofs.lemmas.Bool.Decides.{nat_tests}
@@ -13,7 +13,7 @@ use Rattle.sb_calls.specs.Procedures.{check_cost}
 use Rattle.sb_calls.specs.declared.reply.Reply.{Reply}
 use Rattle.sb_calls.specs.declared.reply.Reply.TheVariants.{Done, Penalised, OverLimit}
 
--- an amalgamation that is carried out, and one that would pass the limit
+-- an amalgamation that is executed, and one that would pass the limit
 pub giver_first_done : (s c r : ℤ) → IsWithinLimit ((r +ℤ s) +ℤ c) → giver_first_effect s c r ≡ (Done, pos 0 ∷ pos 0 ∷ ((r +ℤ s) +ℤ c) ∷ [])
 giver_first_done s c r fits = rw (within_limit ((r +ℤ s) +ℤ c) fits) refl
 
@@ -34,7 +34,7 @@ cost_bounds s c amount = by (int_lt (s +ℤ c) amount)
     by true = (omega (arith, ints), omega (arith, ints))
     by false = (omega (arith, ints), omega (arith, ints))
 
--- what a check leaves of checking, as 64 bits have it
+-- what a check leaves of checking, in 64 bits
 pub left_of_check : (s c amount v k : ℤ) → IsWithinLimit c → IsWithinLimit amount → v ≡ c → k ≡ check_cost s c amount
     → to_z w64 (of_z w64 (to_z w64 (of_z w64 v) -ℤ to_z w64 (of_z w64 k))) ≡ c -ℤ check_cost s c amount
 left_of_check s c amount v k has asks is costs =
@@ -54,7 +54,7 @@ check_over_limit amount s c within ge past = let lt = past_limit_downwards s c a
 
 -- ---- on what the cowns hold
 
--- an effect on three values is on what was read of them
+-- an effect on three values, applied to the values that were read
 pub on_three : (a b c : ℕ) (effect : ℤ → ℤ → ℤ → Reply × List ℤ) (inputs : List ℤ) (x y z : ℤ) → AreHeld (a ∷ b ∷ c ∷ []) inputs
     → x ≡ get_or inputs 0 x → y ≡ get_or inputs 1 y → z ≡ get_or inputs 2 z → of_three effect inputs ≡ effect x y z
 on_three a b c effect [] x y z held first second third = absurd held
@@ -63,7 +63,7 @@ on_three a b c effect (v ∷ w ∷ []) x y z held first second third = absurd he
 on_three a b c effect (v ∷ w ∷ u ∷ []) x y z held first second third = rw (first, second, third) refl
 on_three a b c effect (v ∷ w ∷ u ∷ t ∷ more) x y z held first second third = absurd held.1.1.1
 
--- an amalgamation where the one that gives stands first, and where the other does
+-- an amalgamation if the giver comes first, and if the taker does
 pub cowns_giver_first : (from to : ℕ) → from < to → cowns_of_two from to ≡ savings_cown from ∷ checking_cown from ∷ checking_cown to ∷ []
 cowns_giver_first from to lt =
     let different : (from == to) ≡ false = grind (arith, nat_tests) in
@@ -88,7 +88,7 @@ effect_taker_first from to inputs lt =
     let after : nat_lt from to ≡ false = grind (arith, nat_tests) in
     rw (different, after) refl
 
--- so it is on what was read of its cowns
+-- so it applies to the values that its cowns were read as
 pub amalgamates_giver_first : (from to : ℕ) (inputs : List ℤ) (x y z : ℤ) → from < to → AreHeld (cowns_of_two from to) inputs
     → x ≡ get_or inputs 0 x → y ≡ get_or inputs 1 y → z ≡ get_or inputs 2 z → effect_of_two from to inputs ≡ giver_first_effect x y z
 amalgamates_giver_first from to inputs x y z lt held first second third =
@@ -105,7 +105,7 @@ amalgamates_taker_first from to inputs x y z lt held first second third =
 
 -- ---- payments
 
--- where the one that pays stands first, and where the other does
+-- if the payer comes first, and if the paid customer does
 pub cowns_payer_first : (from to : ℕ) → from < to → checkings_of_two from to ≡ checking_cown from ∷ checking_cown to ∷ []
 cowns_payer_first from to lt =
     let different : (from == to) ≡ false = grind (arith, nat_tests) in

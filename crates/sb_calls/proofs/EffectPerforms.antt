@@ -1,4 +1,4 @@
--- The effect of an op on what its cowns hold is the procedure of its call.
+-- The effect of an op on what its cowns hold is its call's procedure.
 use Rattle.std.proofs.Common.{◌≡◌, ◌≢◌, ℕ, ◌<◌, ◌≤◌, ℤ, pos, neg_ℤ, ◌≤ℤ◌, ◌+ℤ◌, ◌-ℤ◌, Bool, true, false, cond, ◌⊎◌, inl, inr, Some, List, [], ◌∷◌, get_or, refl, sym, ap, subst, ◌∙◌, arith}
 use Rattle.std.specs.Prelude.{int_lt, slice_set}
 use Rattle.std.proofs.lemmas.Bool.{both_ways, cases_lt, or_parts}
@@ -37,7 +37,7 @@ use Rattle.sb_calls.specs.declared.reply.Reply.TheVariants as replies
 abbrev pub Effects : List (List ℕ) → Call → Balances → List ℕ → Reply × List ℤ → Type 0
 Effects directory call b cowns effect = PerformsByCowns directory call b cowns effect.0 effect.1
 
--- one that leaves what was held
+-- an effect that leaves what was held
 pub effect_leaves : (directory : List (List ℕ)) (call : Call) (b : Balances) (cowns : List ℕ) (reply : Reply) (held : List ℤ)
     → FollowsProcedure directory call b b reply → held ≡ read_cowns (held_of b) cowns
     → Effects directory call b cowns (reply, held)
@@ -158,14 +158,14 @@ held_of-with_row b place s c =
 abbrev amalgamated : Balances → ℕ → ℕ → ℤ → Balances
 amalgamated b p q sum = with_checking (with_row b p (pos 0) (pos 0)) q sum
 
--- the one that gives is written first, and then the one that takes
+-- the giver's cowns are written first, and then the taker's
 written_giver_first : (b : Balances) (p q : ℕ) (sum : ℤ)
     → held_of (amalgamated b p q sum) ≡ slice_set (slice_set (slice_set (held_of b) (savings_cown p) (pos 0)) (checking_cown p) (pos 0)) (checking_cown q) sum
 written_giver_first b p q sum =
     held_of-with_checking (with_row b p (pos 0) (pos 0)) q sum
     ∙ ap (λ (held : List ℤ). slice_set held (checking_cown q) sum) (held_of-with_row b p (pos 0) (pos 0))
 
--- or the other way round: they are other cowns
+-- or the other way round: the cowns are different
 written_taker_first : (b : Balances) (p q : ℕ) (sum : ℤ) → p ≢ q
     → held_of (amalgamated b p q sum) ≡ slice_set (slice_set (slice_set (held_of b) (checking_cown q) sum) (savings_cown p) (pos 0)) (checking_cown p) (pos 0)
 written_taker_first b p q sum differs =
@@ -175,7 +175,7 @@ written_taker_first b p q sum differs =
     ∙ set_comm (slice_set (held_of b) (savings_cown p) (pos 0)) (checking_cown p) (checking_cown q) (pos 0) sum apart
     ∙ ap (λ (held : List ℤ). slice_set held (checking_cown p) (pos 0)) (set_comm (held_of b) (savings_cown p) (checking_cown q) (pos 0) sum other)
 
--- a sum that isn't too much is within the limit, and one that is isn't
+-- a sum that isn't too much is within the limit, and one that is too much isn't
 sum_within : (v : ℤ) → takes_too_much v ≡ false → IsWithinLimit v
 sum_within v e =
     let either = or_parts (int_lt LIMIT v) (int_lt v (neg_ℤ LIMIT)) e in
@@ -226,7 +226,7 @@ module _ {directory : List (List ℕ)} {b : Balances} {from to : List ℕ} {p q 
       subst (λ (l : List ℕ). Effects directory (Amalgamate from to) b l (effect_of_two p q (read_cowns (held_of b) l))) (sym is)
       (subst (λ (held : List ℤ). Effects directory (Amalgamate from to) b cowns (effect_of_two p q held)) e effects)
 
-  -- whoever is first
+  -- whichever comes first
   pub two_effects : Effects directory (Amalgamate from to) b (cowns_of_two p q) (effect_of_two p q (read_cowns (held_of b) (cowns_of_two p q)))
   two_effects = by (cases_lt p q)
     where
@@ -240,14 +240,14 @@ module _ {directory : List (List ℕ)} {b : Balances} {from to : List ℕ} {p q 
 
 -- ---- payments
 
--- the one that pays is written first, and then the one that is paid
+-- the payer's cown is written first, and then the paid customer's
 written_payer_first : (b : Balances) (p q : ℕ) (left received : ℤ)
     → held_of (paid b p q left received) ≡ slice_set (slice_set (held_of b) (checking_cown p) left) (checking_cown q) received
 written_payer_first b p q left received =
     held_of-with_checking (with_checking b p left) q received
     ∙ ap (λ (held : List ℤ). slice_set held (checking_cown q) received) (held_of-with_checking b p left)
 
--- or the other way round: they are other cowns
+-- or the other way round: the cowns are different
 written_paid_first : (b : Balances) (p q : ℕ) (left received : ℤ) → p ≢ q
     → held_of (paid b p q left received) ≡ slice_set (slice_set (held_of b) (checking_cown q) received) (checking_cown p) left
 written_paid_first b p q left received differs =
@@ -302,7 +302,7 @@ module _ {directory : List (List ℕ)} {b : Balances} {from to : List ℕ} {p q 
       subst (λ (l : List ℕ). Effects directory (SendPayment from to amount) b l (payment_effect p q amount (read_cowns (held_of b) l))) (sym is)
       (subst (λ (held : List ℤ). Effects directory (SendPayment from to amount) b cowns (payment_effect p q amount held)) e effects)
 
-  -- whoever is first
+  -- whichever comes first
   pub payment_effects : Effects directory (SendPayment from to amount) b (checkings_of_two p q)
       (payment_effect p q amount (read_cowns (held_of b) (checkings_of_two p q)))
   payment_effects = by (cases_lt p q)
@@ -325,7 +325,7 @@ row_at directory b name place same found =
     let lt = place_of_within directory name place found in
     HasRow-unread directory b name place same found (omega (arith, same.places))
 
--- the effect of an op on what its cowns hold, where it is on these values
+-- the effect of an op on what its cowns hold, if that is these values
 on_values : (directory : List (List ℕ)) (b : Balances) (call : Call) (op : Op) (values : List ℤ) → values ≡ read_cowns (held_of b) (declared_cowns op)
     → Effects directory call b (declared_cowns op) (effect_of op values)
     → Effects directory call b (declared_cowns op) (effect_of op (read_cowns (held_of b) (declared_cowns op)))

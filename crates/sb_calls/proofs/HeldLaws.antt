@@ -13,7 +13,7 @@ use Rattle.sb_calls.specs.OneByOne.{is_among, share_cown}
 pub eqb-refl : (n : ℕ) → (n == n) ≡ true
 eqb-refl n = eq-eqb n n refl
 
--- two lists that have a cown share it, and what is shared is in both
+-- two lists that have a cown share it, and a shared cown is in both
 pub share_from : (cown : ℕ) (xs ys : List ℕ) → is_among cown xs ≡ true → is_among cown ys ≡ true → share_cown xs ys ≡ true
 share_from cown [] ys in_a in_b = absurd (true≢false (sym in_a))
 share_from cown (x ∷ xs) ys in_a in_b = elim (or_cases (cown == x) (is_among cown xs) in_a) [
@@ -35,7 +35,7 @@ length-write held [] values = refl
 length-write held (c ∷ cowns) [] = refl
 length-write held (c ∷ cowns) (v ∷ values) = length-write (slice_set held c v) cowns values ∙ length-set held c v
 
--- a cown that isn't written holds what it held
+-- a cown that isn't written keeps its value
 pub get-write_other : (held : List ℤ) (cowns : List ℕ) (values : List ℤ) (cown : ℕ) → is_among cown cowns ≡ false
     → get_or (write_cowns held cowns values) cown (pos 0) ≡ get_or held cown (pos 0)
 get-write_other held [] values cown out = refl
@@ -45,7 +45,7 @@ get-write_other held (c ∷ cowns) (v ∷ values) cown out =
     get-write_other (slice_set held c v) cowns values cown parts.1
     ∙ get_or-set_other held c cown v (pos 0) (λ same. both_ways (cown == c) parts.0 (eq-eqb cown c same))
 
--- one that is written holds the same, whatever was held before
+-- a written cown holds the same, whatever was held before
 pub get-write_same : (a b : List ℤ) (cowns : List ℕ) (values : List ℤ) (cown : ℕ) → is_among cown cowns ≡ true → length values ≡ length cowns
     → cown < length a → cown < length b
     → get_or (write_cowns a cowns values) cown (pos 0) ≡ get_or (write_cowns b cowns values) cown (pos 0)
@@ -67,7 +67,7 @@ get-write_same a b (c ∷ cowns) (v ∷ values) cown among long lt_a lt_b =
       ]
     ]
 
--- what is read of these cowns depends on them alone
+-- a read of these cowns depends on them alone
 pub read-agree : (a b : List ℤ) (cowns : List ℕ) → ((cown : ℕ) → is_among cown cowns ≡ true → get_or a cown (pos 0) ≡ get_or b cown (pos 0))
     → read_cowns a cowns ≡ read_cowns b cowns
 read-agree a b [] h = refl
@@ -75,7 +75,7 @@ read-agree a b (c ∷ cowns) h =
     ap (λ v. v ∷ read_cowns a cowns) (h c (or_left (c == c) (is_among c cowns) (eqb-refl c)))
     ∙ ap (λ vs. get_or b c (pos 0) ∷ vs) (read-agree a b cowns (λ cown among. h cown (or_right (cown == c) (is_among cown cowns) among)))
 
--- where all cowns hold what they may, so do these
+-- if all cowns hold allowed values, so do these
 pub AreHeld-read : (held : List ℤ) (cowns : List ℕ) → AllHeld held → ((cown : ℕ) → is_among cown cowns ≡ true → cown < length held)
     → AreHeld cowns (read_cowns held cowns)
 AreHeld-read held [] all in_range = tt
@@ -113,7 +113,7 @@ below_among bound (c ∷ cowns) cown below among = elim (or_cases (cown == c) (i
   | inr later ↦ below_among bound cowns cown below.1 later
 ]
 
--- the columns of a bank hold what cowns may
+-- the columns of a bank hold allowed values
 pub AllHeld-balances : (b : Balances) → IsBalances b → AllHeld (held_of b)
 AllHeld-balances b valid cown lt =
     let two = length-held_of b valid.same in

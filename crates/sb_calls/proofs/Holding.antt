@@ -1,4 +1,4 @@
--- Reading and writing a cown is reading and writing a column.
+-- Reading and writing a cown as reading and writing a column.
 use Rattle.std.proofs.Common.{◌≡◌, ◌*◌, ℕ, zero, suc, ℤ, pos, List, [], ◌∷◌, length, get_or, refl, ap, ◌∙◌, arith}
 use Rattle.std.specs.Prelude.{slice_set}
 use Rattle.std.proofs.lemmas.List.{set-get_or}
@@ -6,11 +6,11 @@ use Rattle.sb_rows.specs.Balances.{Balances}
 use Rattle.sb_calls.proofs.Places.{with_savings, with_checking}
 use Rattle.sb_calls.specs.Cowns.{savings_cown, checking_cown, by_cown, held_of, read_cowns, write_cowns}
 
--- the next customer's savings stand two further
+-- the next customer's savings cown is two further
 two_further : (place : ℕ) → savings_cown (suc place) ≡ suc (suc (savings_cown place))
 two_further place = omega arith
 
--- the checking balance stands one further
+-- the checking cown is one further
 one_further : (place : ℕ) → checking_cown place ≡ suc (savings_cown place)
 one_further place = omega arith
 
@@ -72,7 +72,7 @@ pub held_of-with_checking : (b : Balances) (place : ℕ) (v : ℤ) → held_of (
 unfolding held_of
 held_of-with_checking b place v = rw one_further (set-by_cown_checking b.savings b.checking place v)
 
--- what was read and is written back changes nothing
+-- writing back what was read changes nothing
 pub write-read : (held : List ℤ) (cowns : List ℕ) → write_cowns held cowns (read_cowns held cowns) ≡ held
 write-read held [] = refl
 write-read held (cown ∷ cowns) = rw (set-get_or held cown (pos 0)) (write-read held cowns)
@@ -82,7 +82,7 @@ length-by_cown [] checking e = refl
 length-by_cown (s ∷ savings) [] e = absurd (omega arith)
 length-by_cown (s ∷ savings) (c ∷ checking) e = let rest = length-by_cown savings checking (omega (arith, e)) in omega (arith, rest)
 
--- two cowns a customer
+-- there are two cowns for each customer
 pub length-held_of : (b : Balances) → length b.savings ≡ length b.checking → length (held_of b) ≡ 2 * length b.savings
 unfolding held_of
 length-held_of b e = length-by_cown b.savings b.checking e

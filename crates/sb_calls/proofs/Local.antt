@@ -27,12 +27,12 @@ abbrev value_of : BalancePlace → ℤ × ℤ → ℤ
 value_of (Savings name) balances = balances.0
 value_of (Checking name) balances = balances.1
 
--- a balance where the row is known
+-- a balance, if the row is known
 balance_is : (rows : Rows) (place : BalancePlace) (v : ℤ × ℤ) → get rows (name_of place) ≡ Some v → balance_at rows place ≡ Some (value_of place v)
 balance_is rows (Savings name) v e = ap (option_map (λ (balances : ℤ × ℤ). balances.0)) e
 balance_is rows (Checking name) v e = ap (option_map (λ (balances : ℤ × ℤ). balances.1)) e
 
--- a row that is written changes its balances alone
+-- writing a row changes its own balances alone
 balance_at-insert : (rows : Rows) (name : List ℕ) (v : ℤ × ℤ) (place : BalancePlace)
     → balance_at (insert rows name v) place ≡ cond (bytes_eq (name_of place) name) (Some (value_of place v)) (balance_at rows place)
 balance_at-insert rows name v (Savings q) = ap (option_map (λ (balances : ℤ × ℤ). balances.0)) (get-insert_name rows name v q) ∙ by (bytes_eq q name)
@@ -54,18 +54,18 @@ record AreLocal (places : List BalancePlace) (a b : Rows) (on_a on_b : Outcome) 
   others : (place : BalancePlace) → ¬ Contains places place → balance_at on_a.rows place ≡ balance_at a place
 
 module _ {places : List BalancePlace} {a b : Rows} where
-  -- two that leave the rows
+  -- two outcomes that leave the rows
   left_local : (reply : Reply) → AgreeOn places a b → AreLocal places a b (record { rows = a; reply = reply }) (record { rows = b; reply = reply })
   left_local reply agree = record { reply = refl; balances = agree; others = λ place other. refl }
 
-  -- two by the same test
+  -- two outcomes by the same test
   either_local : (test : Bool) (first_a second_a first_b second_b : Outcome) → AreLocal places a b first_a first_b
       → (test ≡ false → AreLocal places a b second_a second_b)
       → AreLocal places a b (cond test first_a second_a) (cond test first_b second_b)
   either_local true first_a second_a first_b second_b first second = first
   either_local false first_a second_a first_b second_b first second = second refl
 
-  -- two that write a row, alike in what is touched and as it was in what isn't
+  -- two outcomes that write a row, which agree on touched balances and leave the others
   written_local : (name : List ℕ) (old on_a on_b : ℤ × ℤ) (reply : Reply) → AgreeOn places a b → get a name ≡ Some old
       → ((place : BalancePlace) → IsOneOf places place → name_of place ≡ name → value_of place on_a ≡ value_of place on_b)
       → ((place : BalancePlace) → ¬ IsOneOf places place → name_of place ≡ name → value_of place on_a ≡ value_of place old)
@@ -91,7 +91,7 @@ module _ {places : List BalancePlace} {a b : Rows} where
 
 -- ---- one customer
 
--- where a name has rows in both or in neither
+-- a name that has rows in both or in neither
 local_one : (a b : Rows) (name : List ℕ) (outcome : Rows → ℤ → ℤ → Outcome) (places : List BalancePlace) → HaveSameNames a b
     → AgreeOn (if has_name a name then places else []) a b
     → ((s c s_b c_b : ℤ) → get a name ≡ Some (s, c) → get b name ≡ Some (s_b, c_b) → AgreeOn places a b
@@ -120,7 +120,7 @@ same_checking a b name s c s_b c_b e_a e_b agree =
 
 -- ---- the procedures of one customer
 
--- where checking alone is touched, it is the first of the list
+-- if checking alone is touched, it is the first of the list
 checking_alone : (name : List ℕ) (place : BalancePlace) → IsOneOf (Checking name ∷ []) place → (v w : ℤ × ℤ) → v.1 ≡ w.1 → value_of place v ≡ value_of place w
 checking_alone name (Savings q) (inl e) v w same = absurd cc
 checking_alone name (Savings q) (inr none) v w same = absurd none
@@ -141,7 +141,7 @@ checking_left : (name : List ℕ) (place : BalancePlace) → ¬ IsOneOf (Savings
 checking_left name (Savings q) other is v w same = absurd (other (inl (ap Savings (sym is))))
 checking_left name (Checking q) other is v w same = same
 
--- where both are touched, none is left
+-- if both are touched, none is left
 none_left : (name : List ℕ) (place : BalancePlace) → ¬ IsOneOf (both_of name) place → name_of place ≡ name → ⊥
 none_left name (Savings q) other is = other (inl (ap Savings (sym is)))
 none_left name (Checking q) other is = other (inr (inl (ap Checking (sym is))))
@@ -172,7 +172,7 @@ paid name amount rows savings checking =
     }
 
 module _ (a b : Rows) (name : List ℕ) (names : HaveSameNames a b) where
-  -- both balances agree where both are touched
+  -- both balances agree if both are touched
   on_both : (outcome : Rows → ℤ → ℤ → Outcome)
       → ((s c : ℤ) → get a name ≡ Some (s, c) → AgreeOn (both_of name) a b → AreLocal (both_of name) a b (outcome a s c) (outcome b s c))
       → AgreeOn (if has_name a name then both_of name else []) a b
@@ -220,16 +220,16 @@ module _ (a b : Rows) (name : List ℕ) (names : HaveSameNames a b) where
 
 -- ---- two customers
 
--- an amalgamation touches all of the one that gives, and the checking of the one that takes
+-- an amalgamation touches both balances of the giver, and the checking of the taker
 abbrev three_of : List ℕ → List ℕ → List BalancePlace
 three_of from to = Savings from ∷ Checking from ∷ Checking to ∷ []
 
--- nothing is left of the one that gives
+-- no balance of the giver is left out
 none_left_of_giver : (from to : List ℕ) (place : BalancePlace) → ¬ IsOneOf (three_of from to) place → name_of place ≡ from → ⊥
 none_left_of_giver from to (Savings q) other is = other (inl (ap Savings (sym is)))
 none_left_of_giver from to (Checking q) other is = other (inr (inl (ap Checking (sym is))))
 
--- of the one that takes, savings are left, and checking alone is touched
+-- of the taker, savings are left, and checking alone is touched
 taker_touched : (from to : List ℕ) (place : BalancePlace) → bytes_eq from to ≡ false → IsOneOf (three_of from to) place → name_of place ≡ to → (v w : ℤ × ℤ)
     → v.1 ≡ w.1 → value_of place v ≡ value_of place w
 taker_touched from to (Savings q) differs (inl e) is v w same =
@@ -263,7 +263,7 @@ moved_local a b from to s c s_to c_to s_to_b sum differs agree is_from is_to =
     (λ place other is. taker_left from to place other is (s_to, sum) (s_to, c_to) refl) in
     record { reply = refl; balances = second.balances; others = λ place other. second.others place other ∙ first.others place other }
 
--- what an amalgamation of two customers that are not one makes of their balances
+-- the effect of an amalgamation of two different customers on their balances
 abbrev amalgamated : List ℕ → List ℕ → Rows → ℤ → ℤ → ℤ → ℤ → Outcome
 amalgamated from to rows savings checking savings_to checking_to =
     if int_lt LIMIT ((checking_to +ℤ savings) +ℤ checking) || int_lt ((checking_to +ℤ savings) +ℤ checking)
@@ -288,12 +288,12 @@ amalgamated_local a b from to s c s_b c_b s_to c_to s_to_b c_to_b differs alike 
     (either_local (int_lt LIMIT sum || int_lt sum (neg_ℤ LIMIT)) _ _ _ _ (left_local replies.OverLimit alike) (λ fits.
     moved_local a b from to s c s_to c_to s_to_b sum differs alike a_from a_to))))
 
--- a call of two customers, by what their names have, and whether they are one
+-- a call of two customers, by the rows of their names, and whether they are the same
 abbrev of_two : (Rows → ℤ → ℤ → ℤ → ℤ → Outcome) → Rows → Bool → Option (ℤ × ℤ) → Option (ℤ × ℤ) → Outcome
 of_two outcome rows one on_from on_to = with_balances rows (λ savings checking. with_balances rows (λ savings_to checking_to.
     if one then record { rows = rows; reply = replies.SameCustomer } else outcome rows savings checking savings_to checking_to) on_to) on_from
 
--- where both names have rows and are not one, it is as local as what it makes of their balances
+-- if both names have rows and are different, the call is as local as its effect on their balances
 local_two : (a b : Rows) (from to : List ℕ) (outcome : Rows → ℤ → ℤ → ℤ → ℤ → Outcome) (places : List BalancePlace) → HaveSameNames a b
     → AgreeOn (if has_name a from && has_name a to && not (bytes_eq from to) then places else []) a b
     → ((s c s_b c_b s_to c_to s_to_b c_to_b : ℤ) → bytes_eq from to ≡ false → AgreeOn places a b → get a from ≡ Some (s, c) → get b from ≡ Some (s_b, c_b)
@@ -366,7 +366,7 @@ paid_over_local a b from to s c s_b s_to c_to s_to_b left sum differs agree is_f
     (λ place other is. savings_of_both_left from to to place (inr (inl refl)) other is (s_to, sum) (s_to, c_to) refl) in
     record { reply = refl; balances = second.balances; others = λ place other. second.others place other ∙ first.others place other }
 
--- what a payment between two customers that are not one makes of their balances
+-- the effect of a payment between two different customers on their balances
 abbrev sent : List ℕ → List ℕ → ℤ → Rows → ℤ → ℤ → ℤ → ℤ → Outcome
 sent from to amount rows savings checking savings_to checking_to =
     if int_lt amount (pos 0) then record { rows = rows; reply = replies.Negative }

@@ -15,21 +15,21 @@ use Rattle.sb_calls.specs.declared.call.Call.TheVariants.{Balance, DepositChecki
 use Rattle.sb_calls.specs.declared.reply.Reply.{Reply}
 use Rattle.sb_calls.specs.declared.reply.Reply.TheVariants.{Shown, Done, Penalised, NoCustomer, SameCustomer, Negative, WouldOverdraw, OverLimit}
 
--- an outcome keeps the names, and its total is that before and what its reply is worth
+-- an outcome keeps the names, and its total is the old one plus the net of its reply
 pub record AddsNet (directory : List (List ℕ)) (rows : Rows) (net : Reply → ℤ) (outcome : Outcome) : Type 0 where
   pub names : HasNames directory outcome.rows
   pub total : total_of (listed directory outcome.rows) ≡ total_of (listed directory rows) +ℤ net outcome.reply
 
--- nothing is added by 0
+-- adding 0 changes nothing
 plus_nothing : (total net : ℤ) → net ≡ pos 0 → total ≡ total +ℤ net
 plus_nothing total net e = omega (arith, ints, e)
 
 module _ {directory : List (List ℕ)} {rows : Rows} (net : Reply → ℤ) (h : HasNames directory rows) where
-  -- an outcome that leaves the rows, with a reply that is worth nothing
+  -- an outcome that leaves the rows, with a reply whose net is 0
   left_as_is : (reply : Reply) → net reply ≡ pos 0 → AddsNet directory rows net (record { rows = rows; reply = reply })
   left_as_is reply none = record { names = h; total = plus_nothing (total_of (listed directory rows)) (net reply) none }
 
-  -- one that replaces a row, with a reply that is worth the difference
+  -- an outcome that replaces a row, with a reply whose net is the difference
   replaced : (name : List ℕ) (s c s_new c_new : ℤ) (reply : Reply) → get rows name ≡ Some (s, c) → net reply ≡ (s_new +ℤ c_new) -ℤ (s +ℤ c)
       → AddsNet directory rows net (record { rows = insert rows name (s_new, c_new); reply = reply })
   replaced name s c s_new c_new reply is worth = record {
@@ -43,7 +43,7 @@ module _ {directory : List (List ℕ)} {rows : Rows} (net : Reply → ℤ) (h : 
   either_adds true first second a b = a
   either_adds false first second a b = b refl
 
-  -- an outcome by what a name has
+  -- an outcome by the row of a name
   with_balances_adds : (name : List ℕ) (outcome : ℤ → ℤ → Outcome) → net NoCustomer ≡ pos 0
       → ((s c : ℤ) → get rows name ≡ Some (s, c) → AddsNet directory rows net (outcome s c))
       → AddsNet directory rows net (with_balances rows outcome (get rows name))
@@ -59,7 +59,7 @@ paid_worth : (s c amount : ℤ) (overdrawn : Bool)
 paid_worth s c amount true = omega (arith, ints)
 paid_worth s c amount false = omega (arith, ints)
 
--- two rows are replaced, and what one gives the other gets, so nothing is added
+-- two rows are replaced, and one gains what the other gives, so nothing is added
 two_replaced : (directory : List (List ℕ)) (rows : Rows) (from to : List ℕ) (s c s_to c_to s_new c_new received : ℤ) → HasNames directory rows
     → get rows from ≡ Some (s, c) → get rows to ≡ Some (s_to, c_to) → bytes_eq from to ≡ false → (s_new +ℤ c_new) +ℤ received ≡ (s +ℤ c) +ℤ c_to
     → AddsNet directory rows (λ reply. pos 0) (record { rows = insert (insert rows from (s_new, c_new)) to (s_to, received); reply = Done })

@@ -13,7 +13,8 @@ use Rattle.sb_calls.specs.Op.{resolved}
 use Rattle.sb_calls.specs.Procedures.{procedure}
 use Rattle.sb_calls.specs.declared.call.Call.{Call}
 
--- what the cowns hold after the first calls of a log is that of balances, whose rows are those after these calls
+-- the cowns hold, after the first calls of a log, the balances whose rows are those after these
+-- calls
 abbrev RowsAfter : List (List ℕ) → Balances → List Call → ℕ → Type 0
 RowsAfter directory b calls k = (after : Balances) × SameCustomers directory after
     × (held_of after ≡ held_after_first declared_cowns effect_of (held_of b) (map (resolved directory) calls) k)
@@ -31,13 +32,13 @@ rows_after_first directory b (call ∷ calls) (suc k) same =
       rest.3 ∙ ap (λ (rows : Rows). rows_after_calls rows calls k) first.performs.rows,
     )
 
--- what stands at a place of a mapped list
+-- the element at a place of a mapped list
 slice_get-map : {X Y : Type 0} (f : X → Y) (xs : List X) (k : ℕ) → slice_get (map f xs) k ≡ option_map f (slice_get xs k)
 slice_get-map f [] k = refl
 slice_get-map f (x ∷ xs) zero = refl
 slice_get-map f (x ∷ xs) (suc k) = slice_get-map f xs k
 
--- the reply to a call, where there is one
+-- the reply to a call, if there is one
 same_reply : (directory : List (List ℕ)) (b : Balances) (call : Option Call) → SameCustomers directory b
     → option_map (reply_of declared_cowns effect_of (held_of b)) (option_map (resolved directory) call)
     ≡ option_map (λ c. (procedure c (rows_of directory b)).reply) call

@@ -21,7 +21,7 @@ HasMissingName directory (calls.SendPayment from to amount) = (place_of director
 abbrev pub IsOfTwo : List ℕ → List ℕ → Call → Type 0
 IsOfTwo from to call = (call ≡ calls.Amalgamate from to) ⊎ ((amount : ℤ) × (call ≡ calls.SendPayment from to amount))
 
--- the call is of the op's kind, and its names stand at the op's places
+-- the call is of the op's kind, and its names are at the op's places
 abbrev pub ComesFrom : List (List ℕ) → Op → Call → Type 0
 ComesFrom directory (Balance place) call = (name : List ℕ) × (call ≡ calls.Balance name) × (place_of directory name ≡ Some place)
 ComesFrom directory (DepositChecking place amount) call = (name : List ℕ) × (call ≡ calls.DepositChecking name amount) × (place_of directory name ≡ Some place)
@@ -38,13 +38,13 @@ ComesFrom directory SameCustomer call =
     (from : List ℕ) × (to : List ℕ) × (place : ℕ) × IsOfTwo from to call × (place_of directory from ≡ Some place)
     × (place_of directory to ≡ Some place)
 
--- an op made at one place, where a place gives a fact of its own and no place another
+-- an op made at one place: a fact that holds with a place, and one that holds without
 made_at_place : (P : Op → Type 0) (op : ℕ → Op) (place : Option ℕ) → ((p : ℕ) → place ≡ Some p → P (op p)) → (place ≡ None → P NoCustomer)
     → P (at_place op place)
 made_at_place P op None there nowhere = nowhere refl
 made_at_place P op (Some p) there nowhere = there p refl
 
--- an op made at two places, likewise
+-- an op made at two places, in the same way
 made_at_two_places : (P : Op → Type 0) (op : ℕ × ℕ → Op) (from to : Option ℕ)
     → ((p q : ℕ) → from ≡ Some p → to ≡ Some q → p ≢ q → P (op (p, q)))
     → ((p : ℕ) → from ≡ Some p → to ≡ Some p → P SameCustomer)
@@ -82,6 +82,6 @@ resolved_from directory (calls.SendPayment from to amount) =
     (λ p found_from found_to. (from, to, p, inr (amount, refl), found_from, found_to))
     (λ missing. missing)
 
--- what an op says of the call that resolves to it
+-- what an op says about the call that resolves to it
 pub comes_from : (directory : List (List ℕ)) (call : Call) (op : Op) → op ≡ resolved directory call → ComesFrom directory op call
 comes_from directory call op e = subst (λ o. ComesFrom directory o call) (sym e) (resolved_from directory call)

@@ -1,4 +1,4 @@
--- What a payment from one customer to another does, read off the columns.
+-- The effect of a payment from one customer to another, in terms of the columns.
 use Rattle.std.proofs.Common.{◌≡◌, ◌≢◌, ℕ, ℤ, pos, ◌+ℤ◌, ◌-ℤ◌, ◌≤ℤ◌, true, false, List, refl, sym, arith}
 use Rattle.std.specs.Prelude.{int_lt}
 use Rattle.std.proofs.lemmas.Int.{ints}
@@ -51,7 +51,7 @@ module _ {directory : List (List ℕ)} {b : Balances} {from to : List ℕ} {p q 
       let names = different_names directory from to p q payer.found taker.found differs in
       record { rows = rw (row_from, row_to, names, ge, enough, past) refl; reply = rw (row_from, row_to, names, ge, enough, past) refl; customers = payer.same }
 
-  -- one that is carried out
+  -- a payment that is executed
   pub performs_payment : int_lt amount (pos 0) ≡ false → int_lt c amount ≡ false → int_lt LIMIT (c_to +ℤ amount) ≡ false
       → FollowsProcedure directory (SendPayment from to amount) b (paid b p q (c -ℤ amount) (c_to +ℤ amount)) Done
   performs_payment ge enough le =

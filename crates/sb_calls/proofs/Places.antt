@@ -1,4 +1,4 @@
--- What stands at the place of a customer.
+-- The row at the place of a customer.
 use Rattle.std.proofs.Common.{◌≡◌, ◌≢◌, ℕ, ◌<◌, ℤ, pos, List, length, get_or, Some, sym, ap, subst, ◌∙◌, arith}
 use Rattle.std.specs.Prelude.{slice_get, slice_set}
 use Rattle.std.specs.FinMap.{get, insert}
@@ -11,7 +11,7 @@ use Rattle.sb_rows.specs.Balances.{Balances, IsSavings}
 use Rattle.sb_rows.specs.Directory.{place_of}
 use Rattle.sb_rows.specs.Rows.{rows_of, with_row, SameCustomers}
 
--- the customer of a name stands at a place, with these balances
+-- the customer of a name is at a place, with these balances
 pub record HasRow (directory : List (List ℕ)) (b : Balances) (name : List ℕ) (place : ℕ) (s c : ℤ) : Type 0 where
   pub same : SameCustomers directory b
   pub found : place_of directory name ≡ Some place
@@ -31,7 +31,7 @@ HasRow-savings directory b name place s same found savings =
       checking = slice_get-get_or b.checking place (pos 0) (omega (arith, same.balances.same));
     }
 
--- a customer of whom nothing was read has both balances
+-- a customer nothing was read of has both balances
 pub HasRow-unread : (directory : List (List ℕ)) (b : Balances) (name : List ℕ) (place : ℕ) → SameCustomers directory b → place_of directory name ≡ Some place
     → place < length b.savings
     → HasRow directory b name place (get_or b.savings place (pos 0)) (get_or b.checking place (pos 0))
@@ -46,7 +46,7 @@ with_savings b place s = record b { savings = slice_set b.savings place s }
 abbrev pub with_checking : Balances → ℕ → ℤ → Balances
 with_checking b place c = record b { checking = slice_set b.checking place c }
 
--- a row in its ranges leaves the customers the same
+-- writing a row in its ranges keeps the customers the same
 pub SameCustomers-with_row : (directory : List (List ℕ)) (b : Balances) (place : ℕ) (s c : ℤ) → SameCustomers directory b → IsSavings s → IsWithinLimit c
     → SameCustomers directory (with_row b place s c)
 SameCustomers-with_row directory b place s c h saved fits = record {
@@ -60,11 +60,11 @@ SameCustomers-with_row directory b place s c h saved fits = record {
   places = length-set b.savings place s ∙ h.places;
 }
 
--- writing back what stands at a place changes nothing
+-- writing back the value at a place changes nothing
 same_set : (xs : List ℤ) (place : ℕ) (x : ℤ) → slice_get xs place ≡ Some x → slice_set xs place x ≡ xs
 same_set xs place x e = ap (slice_set xs place) (sym (get_or_from_slice_get xs place x (pos 0) e)) ∙ set-get_or xs place (pos 0)
 
--- a write at another place leaves what stands at a place
+-- a write at another place leaves the value at a place
 other_set : (xs : List ℤ) (place other : ℕ) (x y : ℤ) → other ≢ place → slice_get xs other ≡ Some y → slice_get (slice_set xs place x) other ≡ Some y
 other_set xs place other x y differs e =
     let lt : other < length xs = slice_get_within xs other y e in
@@ -82,7 +82,7 @@ HasRow-other directory b name place other s c s_new c_new h differs same = recor
   checking = other_set b.checking place other c_new c differs h.checking;
 }
 
--- and so it does where checking alone is written
+-- and so it does if checking alone is written
 pub HasRow-other_checking : (directory : List (List ℕ)) (b : Balances) (name : List ℕ) (place other : ℕ) (s c c_new : ℤ) → HasRow directory b name other s c
     → other ≢ place → SameCustomers directory (with_checking b place c_new)
     → HasRow directory (with_checking b place c_new) name other s c
@@ -110,11 +110,11 @@ module _ {directory : List (List ℕ)} {b : Balances} {name : List ℕ} {place :
       let read = All-get_or IsWithinLimit b.checking place (pos 0) (slice_get_within b.checking place c h.checking) h.same.balances.checking in
       subst IsWithinLimit (get_or_from_slice_get b.checking place c (pos 0) h.checking) read
 
-  -- both balances at the place are those in the row
+  -- writing both balances at the place writes them to the row
   pub rows_of-with_both : (saved amount : ℤ) → rows_of directory (with_row b place saved amount) ≡ insert (rows_of directory b) name (saved, amount)
   rows_of-with_both saved amount = rows_of-with_row directory b name place saved amount h.same h.found
 
-  -- the savings alone are written with the checking balance that is there
+  -- writing the savings alone is writing them with the checking balance that is there
   with_savings_is : (amount : ℤ) → with_savings b place amount ≡ with_row b place amount c
   with_savings_is amount =
       ap (λ (xs : List ℤ). record { savings = slice_set b.savings place amount; checking = xs }) (sym (same_set b.checking place c h.checking))
@@ -124,20 +124,20 @@ module _ {directory : List (List ℕ)} {b : Balances} {name : List ℕ} {place :
   with_checking_is amount =
       ap (λ (xs : List ℤ). record { savings = xs; checking = slice_set b.checking place amount }) (sym (same_set b.savings place s h.savings))
 
-  -- other savings at the place are those in the row
+  -- writing the savings at the place writes them to the row
   pub rows_of-with_savings : (amount : ℤ) → rows_of directory (with_savings b place amount) ≡ insert (rows_of directory b) name (amount, c)
   rows_of-with_savings amount = ap (rows_of directory) (with_savings_is amount) ∙ rows_of-with_both amount c
 
-  -- another checking balance at the place is one in the row
+  -- writing the checking balance at the place writes it to the row
   pub rows_of-with_checking : (amount : ℤ) → rows_of directory (with_checking b place amount) ≡ insert (rows_of directory b) name (s, amount)
   rows_of-with_checking amount = ap (rows_of directory) (with_checking_is amount) ∙ rows_of-with_both s amount
 
-  -- other savings in their range leave the customers the same
+  -- writing savings in their range keeps the customers the same
   pub SameCustomers-with_savings : (amount : ℤ) → IsSavings amount → SameCustomers directory (with_savings b place amount)
   SameCustomers-with_savings amount saved =
       subst (SameCustomers directory) (sym (with_savings_is amount)) (SameCustomers-with_row directory b place amount c h.same saved checking_within)
 
-  -- and so does another checking balance in its range
+  -- and so does writing a checking balance in its range
   pub SameCustomers-with_checking : (amount : ℤ) → IsWithinLimit amount → SameCustomers directory (with_checking b place amount)
   SameCustomers-with_checking amount fits =
       subst (SameCustomers directory) (sym (with_checking_is amount)) (SameCustomers-with_row directory b place s amount h.same savings_within fits)

@@ -1,4 +1,4 @@
--- What the procedures of one customer do, read off the columns.
+-- The effects of the procedures of one customer, in terms of the columns.
 use Rattle.std.proofs.Common.{◌≡◌, ℕ, ℤ, pos, neg_ℤ, ◌+ℤ◌, ◌-ℤ◌, ◌≤ℤ◌, Bool, true, false, cond, List, refl, arith}
 use Rattle.std.specs.Prelude.{int_lt}
 use Rattle.std.proofs.lemmas.Int.{ints, by_lt_z}
@@ -11,16 +11,16 @@ use Rattle.sb_calls.specs.Procedures.{check_cost}
 use Rattle.sb_calls.specs.declared.call.Call.TheVariants.{Balance, DepositChecking, TransactSavings, WriteCheck}
 use Rattle.sb_calls.specs.declared.reply.Reply.TheVariants.{Shown, Done, Penalised, Negative, WouldOverdraw, OverLimit}
 
--- a balance within the limit passes it only upwards, by an amount that is not negative
+-- a balance within the limit can pass it only upwards, by an amount that isn't negative
 past_limit : (c amount : ℤ) → IsWithinLimit c → int_lt amount (pos 0) ≡ false → ¬ IsWithinLimit (c +ℤ amount) → int_lt LIMIT (c +ℤ amount) ≡ true
 past_limit c amount fits ge past =
     by_lt_z LIMIT (c +ℤ amount) (λ lt. grind (arith, ints, lt)) (λ le. absurd (past (record { at_least = omega (arith, ints, fits.at_least); at_most = le })))
 
--- a number that is not negative passes it only upwards
+-- a number that isn't negative can pass it only upwards
 past_limit_upwards : (v : ℤ) → int_lt v (pos 0) ≡ false → ¬ IsWithinLimit v → int_lt LIMIT v ≡ true
 past_limit_upwards v ge past = by_lt_z LIMIT v (λ lt. grind (arith, ints, lt)) (λ le. absurd (past (record { at_least = grind (arith, ints); at_most = le })))
 
--- a check costs its amount at least
+-- a check costs at least its amount
 cost_of_amount : (s c amount : ℤ) → amount ≤ℤ check_cost s c amount
 cost_of_amount s c amount = by (int_lt (s +ℤ c) amount)
   where
@@ -28,7 +28,7 @@ cost_of_amount s c amount = by (int_lt (s +ℤ c) amount)
     by true = omega (arith, ints)
     by false = omega (arith, ints)
 
--- so a balance within the limit passes it only downwards by a check
+-- so by a check a balance within the limit can pass it only downwards
 pub past_limit_downwards : (s c amount : ℤ) → IsWithinLimit c → int_lt amount (pos 0) ≡ false → ¬ IsWithinLimit (c -ℤ check_cost s c amount)
     → int_lt (c -ℤ check_cost s c amount) (neg_ℤ LIMIT) ≡ true
 past_limit_downwards s c amount fits ge past = from (check_cost s c amount) (cost_of_amount s c amount) past
@@ -58,7 +58,7 @@ module _ {directory : List (List ℕ)} {b : Balances} {name : List ℕ} {place :
       let lt = past_limit c amount (checking_within h) ge past in
       record { rows = rw (row, ge, lt) refl; reply = rw (row, ge, lt) refl; customers = h.same }
 
-  -- a deposit that is carried out
+  -- a deposit that is executed
   pub performs_deposit : (amount : ℤ) → int_lt amount (pos 0) ≡ false → IsWithinLimit (c +ℤ amount)
       → FollowsProcedure directory (DepositChecking name amount) b (with_checking b place (c +ℤ amount)) Done
   performs_deposit amount ge fits =
@@ -72,11 +72,11 @@ module _ {directory : List (List ℕ)} {b : Balances} {name : List ℕ} {place :
 
   -- ---- changes of savings
 
-  -- one that would overdraw them
+  -- a change of savings that would overdraw them
   pub performs_overdraft : (amount : ℤ) → int_lt (s +ℤ amount) (pos 0) ≡ true → FollowsProcedure directory (TransactSavings name amount) b b WouldOverdraw
   performs_overdraft amount lt = let row = row_is h in record { rows = rw (row, lt) refl; reply = rw (row, lt) refl; customers = h.same }
 
-  -- one that would pass the limit
+  -- a change of savings that would pass the limit
   pub performs_savings_over_limit : (amount : ℤ) → int_lt (s +ℤ amount) (pos 0) ≡ false → ¬ IsWithinLimit (s +ℤ amount)
       → FollowsProcedure directory (TransactSavings name amount) b b OverLimit
   performs_savings_over_limit amount ge past =
@@ -84,7 +84,7 @@ module _ {directory : List (List ℕ)} {b : Balances} {name : List ℕ} {place :
       let lt = past_limit_upwards (s +ℤ amount) ge past in
       record { rows = rw (row, ge, lt) refl; reply = rw (row, ge, lt) refl; customers = h.same }
 
-  -- one that is carried out
+  -- a change of savings that is executed
   pub performs_savings : (amount : ℤ) → int_lt (s +ℤ amount) (pos 0) ≡ false → IsWithinLimit (s +ℤ amount)
       → FollowsProcedure directory (TransactSavings name amount) b (with_savings b place (s +ℤ amount)) Done
   performs_savings amount ge fits =

@@ -1,4 +1,4 @@
--- Calls of which a name is missing, or whose two customers are one.
+-- Calls with a missing name, or with the same customer twice.
 use Rattle.std.proofs.Common.{◌≡◌, ℕ, ◌<◌, ℤ, true, inl, inr, Option, Some, None, List, length, refl, sym, ap, ◌∙◌, arith}
 use Rattle.std.specs.FinMap.{get}
 use Rattle.std.specs.Str.{bytes_eq}
@@ -19,7 +19,7 @@ use Rattle.sb_calls.specs.declared.op.Op.TheVariants as ops
 use Rattle.sb_calls.specs.declared.reply.Reply.{Reply}
 use Rattle.sb_calls.specs.declared.reply.Reply.TheVariants.{NoCustomer, SameCustomer}
 
--- a procedure that leaves the rows is performed by leaving the columns
+-- a procedure that leaves the rows, as leaving the columns
 pub performs_refusal : (directory : List (List ℕ)) (call : Call) (b : Balances) (reply : Reply) → SameCustomers directory b
     → procedure call (rows_of directory b) ≡ record { rows = rows_of directory b; reply = reply } → FollowsProcedure directory call b b reply
 performs_refusal directory call b reply same e = record {
@@ -28,7 +28,7 @@ performs_refusal directory call b reply same e = record {
   customers = same;
 }
 
--- a call of two customers without the second has no customer, whether or not it has the first
+-- a call of two customers without the second has no customer, whether or not the first exists
 no_second : (outcome : ℤ → ℤ → ℤ → ℤ → Outcome) (from to : List ℕ) (rows : Rows) → get rows to ≡ None
     → with_balances rows (λ savings checking. with_balances rows (outcome savings checking) (get rows to)) (get rows from)
     ≡ record { rows = rows; reply = NoCustomer }

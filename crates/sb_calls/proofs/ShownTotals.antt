@@ -1,4 +1,4 @@
--- What a log run one by one replies has a spelling.
+-- Each reply of a log run one by one has a spelling.
 use Rattle.std.proofs.Common.{◌≡◌, inl, inr, ℕ, zero, suc, ◌<◌, ℤ, pos, ◌+ℤ◌, Bool, true, false, Option, Some, None, List, [], ◌∷◌, length, get_or, take, sym, subst, arith}
 use Rattle.std.specs.Prelude.{◌==◌, nat_lt, neg_ℤ, ◌-ℤ◌, int_lt, if◌then◌else◌, slice_get, option_map}
 use Rattle.std.proofs.lemmas.Bool.{cases_lt}
@@ -108,7 +108,7 @@ paying_replies from to amount inputs = by (from == to) (nat_lt from to)
     by false true = two_replies (payer_first_effect amount) (λ c r. payment_replies amount c r) inputs
     by false false = two_replies (paid_first_effect amount) (λ r c. payment_replies amount c r) inputs
 
--- two balances added up
+-- the sum of two balances
 shown_fits : (place : ℕ) (inputs : List ℤ) → AreHeld (savings_cown place ∷ checking_cown place ∷ []) inputs
     → IsReply (effect_of (Balance place) inputs).0
 shown_fits place [] held = tt
@@ -136,7 +136,7 @@ reply_fits SameCustomer inputs held = tt
 
 -- ---- a log
 
--- where all cowns hold what they may, what is read of any is so too: past the last there is 0
+-- if all cowns hold allowed values, so does every read: past the last cown it is 0
 read_held : (held : List ℤ) (cowns : List ℕ) → AllHeld held → AreHeld cowns (read_cowns held cowns)
 read_held held [] all = tt
 read_held held (c ∷ cowns) all = (
@@ -162,7 +162,7 @@ of_one_op held None reply all e = absurd cc
 of_one_op held (Some op) reply all e =
     subst IsReply (some_is e) (reply_fits op _ (read_held held (declared_cowns op) all))
 
--- each reply of a log, from cowns that hold what they may
+-- each reply of a log, if the cowns hold allowed values at the start
 pub replies_fit : (opening : List ℤ) (log : List Op) (n : ℕ) (reply : Reply) → AllHeld opening
     → reply_by_log declared_cowns effect_of opening log n ≡ Some reply → IsReply reply
 replies_fit opening log zero reply all e = absurd cc

@@ -1,4 +1,4 @@
--- What is read is spelled so, and what is spelled so is read.
+-- What is read spells the line, and what spells a call is read.
 use Rattle.std.proofs.Common.{◌≡◌, ℕ, ℤ, Bool, true, false, not, cond, ◌&&◌, ◌⊎◌, inl, inr, List, [], ◌∷◌, ◌++◌, length, Result, Ok, Err, codes, refl, sym, ap, subst, ◌∙◌, arith}
 use Rattle.std.specs.Prelude.{IfOk, nat_le}
 use Rattle.std.specs.List.{All, list_all, join_with_byte, slice_split}
@@ -21,15 +21,15 @@ use Rattle.sb_calls.specs.declared.call.Call.TheVariants.{Balance, DepositChecki
 use Rattle.sb_calls.specs.declared.text.fault.CallFault.{CallFault}
 use Rattle.sb_calls.specs.declared.text.fault.CallFault.TheVariants.{UnknownVerb, BadName}
 
--- ---- what is read is spelled so
+-- ---- what is read spells the line
 
--- of two results to choose from, the one that is read
+-- the one of two results that is read
 pub chosen : {T : Type 0} (test : Bool) (first second read : T) → cond test first second ≡ read
     → ((test ≡ true) × (first ≡ read)) ⊎ ((test ≡ false) × (second ≡ read))
 chosen true first second read e = inl (refl, e)
 chosen false first second read e = inr (refl, e)
 
--- a call that was read behind a test of its name passed it
+-- a call that was read after a test of its name passed it
 tested : (test : Bool) (call : Result Call CallFault) (made : Call) → cond test call (Err BadName) ≡ Ok made → (test ≡ true) × (call ≡ Ok made)
 tested true call made e = (refl, e)
 tested false call made e = absurd cc
@@ -40,7 +40,7 @@ amount_made : (call : ℤ → Call) (read : Result ℤ MoneyFault) (made : Call)
 amount_made call (Ok amount) made e = (amount, refl, cc)
 amount_made call (Err fault) made e = absurd cc
 
--- a verb that takes a name, where its calls are spelled by it and the name
+-- a verb that takes a name, if its calls are spelled by it and the name
 spells_name : (verb : List ℕ) (call : List ℕ → Call) → ((name : List ℕ) → IsName name → IsCall (call name) × (verb ++ (32 ∷ name) ≡ call_line (call name)))
     → (rest : List (List ℕ)) (made : Call) → of_name call rest ≡ Ok made → IsCall made × (join_with_byte 32 (verb ∷ rest) ≡ call_line made)
 spells_name verb call spelled [] made e = absurd cc
@@ -50,7 +50,7 @@ spells_name verb call spelled (name ∷ []) made e =
     rw is (spelled name passed.0)
 spells_name verb call spelled (a ∷ b ∷ more) made e = absurd cc
 
--- a verb that takes a name and an amount, likewise
+-- a verb that takes a name and an amount, in the same way
 spells_name_and_amount : (verb : List ℕ) (call : List ℕ → ℤ → Call)
     → ((name : List ℕ) (amount : ℤ) → IsName name → IsWithinLimit amount
     → IsCall (call name amount) × (verb ++ (32 ∷ (name ++ (32 ∷ money amount))) ≡ call_line (call name amount)))
@@ -65,7 +65,7 @@ spells_name_and_amount verb call spelled (name ∷ text ∷ []) made e =
     (subst IsCall (sym amount.2) is.0, ap (λ (word : List ℕ). verb ++ (32 ∷ (name ++ (32 ∷ word)))) money_is.0 ∙ is.1 ∙ ap call_line (sym amount.2))
 spells_name_and_amount verb call spelled (a ∷ b ∷ c ∷ more) made e = absurd cc
 
--- a verb that takes two names, likewise
+-- a verb that takes two names, in the same way
 spells_two_names : (verb : List ℕ) (call : List ℕ → List ℕ → Call)
     → ((from to : List ℕ) → IsName from → IsName to → IsCall (call from to) × (verb ++ (32 ∷ (from ++ (32 ∷ to))) ≡ call_line (call from to)))
     → (rest : List (List ℕ)) (made : Call) → of_two_names call rest ≡ Ok made → IsCall made × (join_with_byte 32 (verb ∷ rest) ≡ call_line made)
@@ -78,7 +78,7 @@ spells_two_names verb call spelled (from ∷ to ∷ []) made e =
     rw is (spelled from to both.0 both.1)
 spells_two_names verb call spelled (a ∷ b ∷ c ∷ more) made e = absurd cc
 
--- a verb that takes two names and an amount, likewise
+-- a verb that takes two names and an amount, in the same way
 spells_two_names_and_amount : (verb : List ℕ) (call : List ℕ → List ℕ → ℤ → Call)
     → ((from to : List ℕ) (amount : ℤ) → IsName from → IsName to → IsWithinLimit amount
     → IsCall (call from to amount) × (verb ++ (32 ∷ (from ++ (32 ∷ (to ++ (32 ∷ money amount))))) ≡ call_line (call from to amount)))
@@ -115,7 +115,7 @@ if_savings verb rest = cond (bytes_eq verb (codes "savings")) (of_name_and_amoun
 abbrev if_deposit : List ℕ → List (List ℕ) → Result Call CallFault
 if_deposit verb rest = cond (bytes_eq verb (codes "deposit")) (of_name_and_amount DepositChecking rest) (if_savings verb rest)
 
--- what is read as a call behind one verb or behind the others spells it, where each of the two does
+-- what is read as a call for one verb or for the others spells it, if each of the two does
 spells_either : (verb word : List ℕ) (rest : List (List ℕ)) (first others : Result Call CallFault) (made : Call)
     → cond (bytes_eq verb word) first others ≡ Ok made
     → (first ≡ Ok made → IsCall made × (join_with_byte 32 (word ∷ rest) ≡ call_line made))
@@ -170,21 +170,21 @@ words_spell (verb ∷ rest) made e =
     spells_either verb (codes "balance") rest (of_name Balance rest) (if_deposit verb rest) made e
     (spells_name (codes "balance") Balance (λ name valid. (valid, refl)) rest made) (deposit_spells verb rest made)
 
--- a call that is read off a line is valid, and the line is its spelling
+-- a call that is read from a line is valid, and the line is its spelling
 line_spells : (line : List ℕ) (made : Call) → call_of line ≡ Ok made → IsCall made × (line ≡ call_line made)
 unfolding call_of words
 line_spells line made e =
     let spelled = words_spell (words line) made e in
     (spelled.0, sym (join_with_byte-slice_split 32 line) ∙ spelled.1)
 
--- the same of a result
+-- the same for a result
 pub read_is_spelled : (line : List ℕ) (result : Result Call CallFault) → result ≡ call_of line → IfOk result (λ call. IsCall call × (line ≡ call_line call))
 read_is_spelled line (Ok call) e = line_spells line call (sym e)
 read_is_spelled line (Err fault) e = tt
 
--- ---- what is spelled so is read
+-- ---- a line that spells a call is read
 
--- a text that keeps clear of spaces, by a test that each of its bytes passes
+-- a text whose bytes all pass a test that spaces fail has no spaces
 pub without_spaces : (test : ℕ → Bool) (text : List ℕ) → ((c : ℕ) → test c ≡ true → is_space c ≡ false) → list_all test text ≡ true
     → All (λ c. is_space c ≡ false) text
 without_spaces test [] clear h = All-nil (λ c. is_space c ≡ false)

@@ -1,4 +1,4 @@
--- The total of a bank's rows, where one row is replaced.
+-- The total of a bank's rows after one row is replaced.
 use Rattle.std.proofs.Common.{◌≡◌, ◌≢◌, ℕ, suc, ℤ, ◌+ℤ◌, ◌-ℤ◌, Bool, true, false, cond, Option, Some, is_some, List, [], ◌∷◌, AllPairs, map, refl, sym, ap, ◌∙◌, arith}
 use Rattle.std.specs.FinMap.{get, insert, get-insert}
 use Rattle.std.specs.List.{list_any}
@@ -14,17 +14,17 @@ use Rattle.sb_rows.specs.Listing.{row_of, listed, total_of}
 use Rattle.sb_rows.specs.Rows.{Rows}
 use Rattle.sb_calls.specs.Net.{HasNames}
 
--- ---- what stands at a name
+-- ---- the row of a name
 
--- after a row was written: that row at its name, and the rows before elsewhere
+-- after a row was written: that row at its name, and the old rows elsewhere
 pub get-insert_name : (rows : Rows) (name : List ℕ) (v : ℤ × ℤ) (q : List ℕ) → get (insert rows name v) q ≡ cond (bytes_eq q name) (Some v) (get rows q)
 get-insert_name rows name v q = get-insert nat_list_cmp_total rows name v q ∙ ap (λ t. cond t (Some v) (get rows q)) (is_eq-slice_cmp q name)
 
--- a name differs from another in both orders
+-- if a name differs from another, the other differs from it
 pub other_name : (a b : List ℕ) → bytes_eq a b ≡ false → bytes_eq b a ≡ false
 other_name a b h = false_from_ne_true (bytes_eq b a) (λ same. both_ways (bytes_eq a b) h ((bytes_eq-Decides a b).1 (sym ((bytes_eq-Decides b a).0 same))))
 
--- a name is itself
+-- a name equals itself
 same_name : (name : List ℕ) → bytes_eq name name ≡ true
 same_name name = (bytes_eq-Decides name name).1 refl
 
@@ -39,7 +39,7 @@ first_is_none n ns h =
     list_any_none (bytes_eq n) ns (λ k d lt. false_from_ne_true (bytes_eq n _)
     (λ same. h 0 (suc k) d (omega arith) (omega arith) ((bytes_eq-Decides n _).0 same)))
 
--- a row of another name leaves the total
+-- writing a row of another name leaves the total
 total_without : (ns : List (List ℕ)) (name : List ℕ) (v : ℤ × ℤ) (rows : Rows) → list_any (bytes_eq name) ns ≡ false
     → total_of (map (row_of (insert rows name v)) ns) ≡ total_of (map (row_of rows) ns)
 total_without [] name v rows h = refl
@@ -48,7 +48,7 @@ total_without (n ∷ ns) name v rows h =
     let kept : get (insert rows name v) n ≡ get rows n = get-insert_name rows name v n ∙ ap (λ t. cond t (Some v) (get rows n)) (other_name name n both.0) in
     rw (kept, total_without ns name v rows both.1) refl
 
--- a row of one of the names changes it by the difference
+-- writing a row of one of the names changes the total by the difference
 total_with : (ns : List (List ℕ)) (name : List ℕ) (rows : Rows) (s c s_new c_new : ℤ) → AllPairs (λ a b. a ≢ b) ns → list_any (bytes_eq name) ns ≡ true
     → get rows name ≡ Some (s, c)
     → total_of (map (row_of (insert rows name (s_new, c_new))) ns) ≡ total_of (map (row_of rows) ns) +ℤ ((s_new +ℤ c_new) -ℤ (s +ℤ c))

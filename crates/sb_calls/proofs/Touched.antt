@@ -33,7 +33,7 @@ AreCownsOf directory [] (cown ∷ cowns) = ⊥
 AreCownsOf directory (place ∷ places) [] = ⊥
 AreCownsOf directory (place ∷ places) (cown ∷ cowns) = (cown_of directory place ≡ Some cown) × AreCownsOf directory places cowns
 
--- so a cown is one of them where it is that of one of the balances
+-- so a cown is among them exactly if it is that of one of the balances
 cown_has_place : (directory : List (List ℕ)) (places : List BalancePlace) (cowns : List ℕ) (cown : ℕ) → AreCownsOf directory places cowns → IsOneOf cowns cown
     → (place : BalancePlace) × IsOneOf places place × (cown_of directory place ≡ Some cown)
 cown_has_place directory [] [] cown are one = absurd one
@@ -56,7 +56,7 @@ place_has_cown directory (p ∷ places) (c ∷ cowns) cown place are (inr one) e
 abbrev HaveSame : List BalancePlace → List BalancePlace → Type 0
 HaveSame a b = (place : BalancePlace) → IsOneOf a place ↔ IsOneOf b place
 
--- what a call touches, in any order beside its cowns
+-- what a call touches, in any order, with its cowns
 declares : (directory : List (List ℕ)) (b : Balances) (call : Call) (places : List BalancePlace) (cowns : List ℕ)
     → HaveSame (touched (rows_of directory b) call) places → AreCownsOf directory places cowns → DeclaresTouched directory b call cowns
 declares directory b call places cowns same are cown = (
@@ -66,7 +66,7 @@ declares directory b call places cowns same are cown = (
       ((same at.0).0 (one_from_Contains (touched (rows_of directory b) call) at.0 at.1)) at.2)),
 )
 
--- what a call touches, beside its cowns
+-- what a call touches, with its cowns in order
 declares_in_order : (directory : List (List ℕ)) (b : Balances) (call : Call) (places : List BalancePlace) (cowns : List ℕ)
     → touched (rows_of directory b) call ≡ places → AreCownsOf directory places cowns → DeclaresTouched directory b call cowns
 declares_in_order directory b call places cowns e are = declares directory b call places cowns (rw e (λ place. ((λ one. one), (λ one. one)))) are
@@ -87,7 +87,7 @@ turned a b c place = (to, from)
     from (inr (inr (inl e))) = inr (inl e)
     from (inr (inr (inr none))) = absurd none
 
--- and so has one of two
+-- and so has a list of two
 swapped : (a b : BalancePlace) → HaveSame (a ∷ b ∷ []) (b ∷ a ∷ [])
 swapped a b place = (to a b, to b a)
   where
@@ -121,7 +121,7 @@ checking_at directory name place found = rw found refl
 
 -- ---- calls
 
--- three tests of which the second fails
+-- three tests, if the second fails
 none_of_three : (a c : Bool) → (a && false && c) ≡ false
 none_of_three true c = refl
 none_of_three false c = refl
@@ -151,7 +151,7 @@ two_touched directory b from to p q same found_from found_to differs =
       different_names directory from to p q found_from found_to differs,
     ) refl
 
--- so their cowns are declared, whoever is first
+-- so their cowns are declared, whichever comes first
 two_declared : (directory : List (List ℕ)) (b : Balances) (from to : List ℕ) (p q : ℕ) → SameCustomers directory b → place_of directory from ≡ Some p
     → place_of directory to ≡ Some q → p ≢ q
     → DeclaresTouched directory b (calls.Amalgamate from to) (cowns_of_two p q)
@@ -182,7 +182,7 @@ checkings_touched directory b from to amount p q same found_from found_to differ
       different_names directory from to p q found_from found_to differs,
     ) refl
 
--- so their checking cowns are declared, whoever is first
+-- so their checking cowns are declared, whichever comes first
 checkings_declared : (directory : List (List ℕ)) (b : Balances) (from to : List ℕ) (amount : ℤ) (p q : ℕ) → SameCustomers directory b
     → place_of directory from ≡ Some p → place_of directory to ≡ Some q → p ≢ q
     → DeclaresTouched directory b (calls.SendPayment from to amount) (checkings_of_two p q)
@@ -201,7 +201,7 @@ checkings_declared directory b from to amount p q same found_from found_to diffe
         (rw there (swapped (Checking from) (Checking to)))
         (checking_at directory to q found_to, (checking_at directory from p found_from, tt)))
 
--- a name with itself
+-- a name together with itself
 one_untouched : (directory : List (List ℕ)) (b : Balances) (call : Call) (from to : List ℕ) (place : ℕ) → SameCustomers directory b → IsOfTwo from to call
     → place_of directory from ≡ Some place → place_of directory to ≡ Some place → touched (rows_of directory b) call ≡ []
 one_untouched directory b call from to place same of_two found_from found_to =
@@ -212,7 +212,7 @@ one_untouched directory b call from to place same of_two found_from found_to =
     let there_too = has_name-at directory b to place same found_to in
     elim of_two [ inl is ↦ rw (is, there, there_too, equal) refl | inr paid ↦ rw (paid.1, there, there_too, equal) refl ]
 
--- the cowns of an op are those of what its call touches
+-- an op declares the cowns of what its call touches
 pub declares_touched : (directory : List (List ℕ)) (b : Balances) (call : Call) (op : Op) → SameCustomers directory b → op ≡ resolved directory call
     → DeclaresTouched directory b call (declared_cowns op)
 declares_touched directory b call (Balance place) same e =

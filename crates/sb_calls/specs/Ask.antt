@@ -1,4 +1,4 @@
--- How asking lines are spelled, and what a line is read as.
+-- How asking lines are spelled, and how a line is read.
 use Rattle.std.specs.Prelude.{ℕ, zero, suc, ◌≤◌, ◌<◌, ◌^◌, nat_lt, ◌&&◌, if◌then◌else◌, Option, Some, None, Result, Ok, Err, List, [], ◌∷◌, ◌++◌, decimal, codes}
 use Rattle.std.specs.Char.{is_ascii_digit}
 use Rattle.std.specs.List.{list_all}
@@ -15,45 +15,45 @@ use Rattle.sb_calls.specs.declared.text.fault.CallFault.TheVariants.{WrongWords,
 
 -- ---- how it is spelled
 
--- `ask CLIENT REQUEST ` before the call, where there is a key
+-- `ask CLIENT REQUEST ` before the call, if there is a key
 abbrev pub key_text : Option Key → List ℕ
 key_text None = []
 key_text (Some key) = codes "ask " ++ (decimal key.client ++ (32 ∷ (decimal key.request ++ 32 ∷ [])))
 
--- how a line that asks is spelled
+-- the spelling of an asking line
 abbrev pub ask_line : Asked → List ℕ
 ask_line asked = key_text asked.key ++ call_line asked.call
 
--- the client's number is from 1, and both are below 2^32
+-- the client's number is at least 1, and both numbers are below 2^32
 abbrev pub IsKey : Option Key → Type 0
 IsKey None = Unit {0}
 IsKey (Some key) = (1 ≤ key.client) × (key.client < 2 ^ 32) × (key.request < 2 ^ 32)
 
--- the key is one that a client may send, and the call is one that has a spelling
+-- the key is one that a client may send, and the call has a spelling
 abbrev pub IsAsked : Asked → Type 0
 IsAsked asked = IsKey asked.key × IsCall asked.call
 
 -- ---- what it is read as
 
--- a number below 2^32 in decimal, without leading zeros
+-- the number that a text spells: below 2^32, in decimal, without leading zeros
 unfoldable pub read_number : List ℕ → Option ℕ
 read_number text =
     if list_all is_ascii_digit text && is_canonical text && nat_lt (digits_value 10 text) (2 ^ 32)
     then Some (digits_value 10 text) else None
 
--- the key with these numbers; no client is 0
+-- the key with these numbers; a client is never 0
 abbrev pub key_of : Option ℕ → Option ℕ → Option Key
 key_of None request = None
 key_of (Some zero) request = None
 key_of (Some (suc n)) None = None
 key_of (Some (suc n)) (Some request) = Some (record { client = suc n; request = request })
 
--- a call under a key, if it has one
+-- the call under this key, if there is one
 abbrev pub under_key : Option Key → Result Call CallFault → Result Asked CallFault
 under_key key (Ok call) = Ok (record { key = key; call = call })
 under_key key (Err fault) = Err fault
 
--- the call that these words are, under a key that was read
+-- the call that these words spell, under a key that was read
 abbrev pub with_key : Option Key → List (List ℕ) → Result Asked CallFault
 with_key None rest = Err BadNumber
 with_key (Some key) rest = under_key (Some key) (call_of_words rest)
@@ -69,6 +69,6 @@ asked_of_words [] = under_key None (call_of_words [])
 asked_of_words (verb ∷ rest) =
     if bytes_eq verb (codes "ask") then after_ask rest else under_key None (call_of_words (verb ∷ rest))
 
--- what an asking line says, or its first fault
+-- what an asking line asks, or its first fault
 unfoldable pub asked_of : List ℕ → Result Asked CallFault
 asked_of line = asked_of_words (words line)

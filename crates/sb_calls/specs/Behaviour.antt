@@ -1,4 +1,4 @@
--- What the behaviour of an op declares, and what it does to its cowns.
+-- The cowns that an op declares, and the op's effect on them.
 use Rattle.std.specs.Prelude.{ℕ, ◌==◌, nat_lt, ℤ, pos, neg_ℤ, ◌+ℤ◌, ◌-ℤ◌, int_lt, Bool, ◌||◌, if◌then◌else◌, List, [], ◌∷◌}
 use Rattle.sb_amount.specs.declared.cents.TheConstants.{LIMIT}
 use Rattle.sb_calls.specs.Cowns.{savings_cown, checking_cown}
@@ -10,14 +10,15 @@ use Rattle.sb_calls.specs.declared.reply.Reply.TheVariants as replies
 
 -- ---- the cowns that it declares, in rising order
 
--- all of the one that gives, and the checking of the one that takes; none where they are one
+-- both cowns of the giver and the checking cown of the taker, in rising order; none if the two are
+-- the same
 abbrev pub cowns_of_two : ℕ → ℕ → List ℕ
 cowns_of_two from to =
     if from == to then []
     else if nat_lt from to then savings_cown from ∷ checking_cown from ∷ checking_cown to ∷ []
     else checking_cown to ∷ savings_cown from ∷ checking_cown from ∷ []
 
--- the checking of both; none where they are one
+-- the checking cowns of both customers, in rising order; none if the two are the same
 abbrev pub checkings_of_two : ℕ → ℕ → List ℕ
 checkings_of_two from to =
     if from == to then []
@@ -37,7 +38,7 @@ declared_cowns SameCustomer = []
 
 -- ---- its effect: the reply, and what its cowns hold after it
 
--- a refusal leaves what was held
+-- a deposit on the checking balance; a refusal leaves the value
 abbrev pub deposit_effect : ℤ → ℤ → Reply × List ℤ
 deposit_effect amount checking =
     if int_lt amount (pos 0) then (replies.Negative, checking ∷ [])
@@ -60,11 +61,11 @@ check_effect amount savings checking =
       savings ∷ (checking -ℤ check_cost savings checking amount) ∷ [],
     )
 
--- whether the one that takes would pass the limit
+-- the taker's balance would pass the limit
 abbrev pub takes_too_much : ℤ → Bool
 takes_too_much sum = int_lt LIMIT sum || int_lt sum (neg_ℤ LIMIT)
 
--- the values in the order of the cowns: those of the one that gives first, or the one that takes first
+-- an amalgamation on the values of its cowns, in order: the giver's come first, or the taker's
 abbrev pub giver_first_effect : ℤ → ℤ → ℤ → Reply × List ℤ
 giver_first_effect savings checking received =
     if takes_too_much ((received +ℤ savings) +ℤ checking) then (replies.OverLimit, savings ∷ checking ∷ received ∷ [])
@@ -75,7 +76,7 @@ taker_first_effect received savings checking =
     if takes_too_much ((received +ℤ savings) +ℤ checking) then (replies.OverLimit, received ∷ savings ∷ checking ∷ [])
     else (replies.Done, ((received +ℤ savings) +ℤ checking) ∷ pos 0 ∷ pos 0 ∷ [])
 
--- the reply to a payment, and the balances after it of the one that pays and of the one that is paid
+-- the reply to a payment, and the balances of the payer and of the paid customer after it
 abbrev pub payment : ℤ → ℤ → ℤ → Reply × ℤ × ℤ
 payment amount checking received =
     if int_lt amount (pos 0) then (replies.Negative, checking, received)
@@ -83,7 +84,7 @@ payment amount checking received =
     else if int_lt LIMIT (received +ℤ amount) then (replies.OverLimit, checking, received)
     else (replies.Done, checking -ℤ amount, received +ℤ amount)
 
--- the values in the order of the cowns: that of the one that pays first, or of the one that is paid
+-- a payment on the values of its cowns, in order: the payer's comes first, or the paid customer's
 abbrev pub payer_first_effect : ℤ → ℤ → ℤ → Reply × List ℤ
 payer_first_effect amount checking received =
     let after = payment amount checking received in (after.0, after.1 ∷ after.2 ∷ [])
@@ -92,7 +93,7 @@ abbrev pub paid_first_effect : ℤ → ℤ → ℤ → Reply × List ℤ
 paid_first_effect amount received checking =
     let after = payment amount checking received in (after.0, after.2 ∷ after.1 ∷ [])
 
--- an effect on one, two or three values; on another number of values there is none
+-- an effect on one, two or three values; any other number of values stays, with reply NoCustomer
 abbrev pub of_one : (ℤ → Reply × List ℤ) → List ℤ → Reply × List ℤ
 of_one effect (v ∷ []) = effect v
 of_one effect held = (replies.NoCustomer, held)
@@ -117,7 +118,7 @@ payment_effect from to amount held =
     else if nat_lt from to then of_two (payer_first_effect amount) held
     else of_two (paid_first_effect amount) held
 
--- what an op replies, and what its cowns hold after it, where they held these values
+-- the reply of an op, and what its cowns hold after it, if they held these values
 abbrev pub effect_of : Op → List ℤ → Reply × List ℤ
 effect_of (Balance place) held =
     of_two (λ savings checking. (replies.Shown (savings +ℤ checking), savings ∷ checking ∷ [])) held

@@ -1,4 +1,4 @@
--- What the behaviour of an op keeps.
+-- The laws of an op as a behaviour.
 use Rattle.std.specs.Prelude.{◌≡◌, ◌↔◌, ◌≤◌, ◌==◌, nat_lt, ℕ, ℤ, pos, neg_ℤ, ◌+ℤ◌, ◌-ℤ◌, ◌≤ℤ◌, int_lt, Bool, true, false, ◌&&◌, if◌then◌else◌, refl, List, [], ◌∷◌, length}
 use Rattle.std.specs.Bool.{Decides}
 use Rattle.std.specs.Int.Signed.{le_z_yes}
@@ -21,15 +21,15 @@ use Rattle.sb_calls.specs.declared.reply.Reply.TheVariants as replies
 
 -- ---- comparing
 
--- a place and an amount compare alike where both are one
+-- comparing a place and an amount decides whether both are equal
 place_and_amount : (p q : ℕ) (a b : ℤ) → Decides ((p == q) && int_eq a b) ((p ≡ q) × (a ≡ b))
 place_and_amount p q a b = Decides-and (p == q) (int_eq a b) (Decides-eqb p q) (Decides-int_eq a b)
 
--- and two places likewise
+-- and the same for two places
 two_places : (p q : ℕ × ℕ) → Decides ((p.0 == q.0) && (p.1 == q.1)) ((p.0 ≡ q.0) × (p.1 ≡ q.1))
 two_places p q = Decides-and (p.0 == q.0) (p.1 == q.1) (Decides-eqb p.0 q.0) (Decides-eqb p.1 q.1)
 
--- the kind of an op, its place, its two places and its amount, where it has them
+-- the parts of an op: its kind, its place, its two places and its amount, if it has them
 abbrev kind_of : Op → ℕ
 kind_of (Balance place) = 0
 kind_of (DepositChecking place amount) = 1
@@ -70,11 +70,11 @@ amount_in (SendPayment places amount) = amount
 amount_in NoCustomer = pos 0
 amount_in SameCustomer = pos 0
 
--- an op made of a place and an amount is one with another where both are
+-- ops made of a place and an amount are equal exactly if both parts are
 made_alike : (op : ℕ → ℤ → Op) (p q : ℕ) (a b : ℤ) → (p ≡ q) × (a ≡ b) → op p a ≡ op q b
 made_alike op p q a b e = ap (λ (x : ℕ). op x a) e.0 ∙ ap (op q) e.1
 
--- ops that compare alike are one
+-- ops compare as equal exactly if they are equal
 pub same_op : (a b : Op) → (same.ghosts.eq a b ≡ true) ↔ (a ≡ b)
 same_op (Balance p) (Balance q) =
     Decides-like {P = p ≡ q} {Q = Balance p ≡ Balance q} (p == q) (λ e. ap Balance e) (λ e. ap place_in e)
@@ -104,7 +104,7 @@ same_op a b = ((λ e. absurd (both_ways false refl e)), (λ e. sym (ap (λ op. k
 
 -- ---- declaring
 
--- the cowns of two customers rise, whoever is first
+-- the cowns of two customers rise, whichever comes first
 two_rise : (from to : ℕ) → IsRising (cowns_of_two from to)
 two_rise from to = by (from == to) (nat_lt from to) refl refl
   where
@@ -136,7 +136,7 @@ declared_rise (SendPayment places amount) = checkings_rise places.0 places.1
 declared_rise NoCustomer = tt
 declared_rise SameCustomer = tt
 
--- two customers have three cowns, or none where they are one
+-- two customers have three cowns, or none if they are the same
 few_of_two : (from to : ℕ) → length (cowns_of_two from to) ≤ 3
 few_of_two from to = by (from == to) (nat_lt from to)
   where
@@ -170,7 +170,8 @@ few_declared SameCustomer = lit≤ tt
 
 -- ---- keeping
 
--- an effect on as many values as there are cowns keeps them, if it does so on values that they may hold
+-- an effect on as many values as there are cowns leaves allowed values, if it does so for allowed
+-- values
 of_one_keeps : (a : ℕ) (effect : ℤ → Reply × List ℤ) → ((v : ℤ) → IsHeld a v → AreHeld (a ∷ []) (effect v).1)
     → (inputs : List ℤ) → AreHeld (a ∷ []) inputs → AreHeld (a ∷ []) (of_one effect inputs).1
 of_one_keeps a effect h [] held = absurd held
@@ -213,7 +214,7 @@ savings_held place v ge le =
           λ even. at_least (pos 0) v ge;
     }
 
--- checking that grows may be held, where it isn't over the limit
+-- a checking balance that grows may be held if it isn't over the limit
 received_held : (place : ℕ) (amount checking : ℤ) → IsHeld (checking_cown place) checking
     → int_lt amount (pos 0) ≡ false → int_lt LIMIT (checking +ℤ amount) ≡ false
     → IsHeld (checking_cown place) (checking +ℤ amount)
@@ -323,7 +324,7 @@ two_keep from to inputs = by (from == to) (nat_lt from to)
         of_three_keeps (checking_cown to) (savings_cown from) (checking_cown from) taker_first_effect
         (taker_first_keeps from to) inputs held
 
--- a fact of a payment, where it is one of each of its four outcomes
+-- a fact about a payment that holds for each of its four outcomes
 pub of_payment : (P : Reply × ℤ × ℤ → Type 0) (amount checking received : ℤ)
     → (int_lt amount (pos 0) ≡ true → P (replies.Negative, checking, received))
     → (int_lt amount (pos 0) ≡ false → int_lt checking amount ≡ true → P (replies.WouldOverdraw, checking, received))
@@ -348,7 +349,7 @@ of_payment P amount checking received =
     by false false true below poor past done = past refl refl refl
     by false false false below poor past done = done refl refl refl
 
--- a payment leaves what the two may hold
+-- a payment leaves allowed values to both customers
 payment_keeps : (from to : ℕ) (amount checking received : ℤ) → IsHeld (checking_cown from) checking
     → IsHeld (checking_cown to) received
     → IsHeld (checking_cown from) (payment amount checking received).1

@@ -1,4 +1,4 @@
--- The effect of an op, read as the procedure on the rows.
+-- The effect of an op as the procedure on the rows.
 use Rattle.std.specs.Prelude.{◌≡◌, ◌↔◌, ℕ, ℤ, Option, Some, List, map, option_map}
 use Rattle.std.specs.List.{Contains}
 use Rattle.sb_rows.specs.Balances.{Balances}
@@ -16,27 +16,29 @@ use Rattle.sb_calls.specs.Replies.{IsReply}
 use Rattle.sb_calls.specs.declared.op.Op.{Op}
 use Rattle.sb_calls.specs.declared.reply.Reply.{Reply}
 
--- the cown of a balance, where these are the names by place
+-- the cown of a balance, given the names by place
 abbrev pub cown_of : List (List ℕ) → BalancePlace → Option ℕ
 cown_of directory (Savings name) = option_map savings_cown (place_of directory name)
 cown_of directory (Checking name) = option_map checking_cown (place_of directory name)
 
--- the cowns are those of the balances that the call touches, and no others
+-- the cowns are exactly those of the balances that the call touches
 abbrev pub DeclaresTouched : List (List ℕ) → Balances → Call → List ℕ → Type 0
 DeclaresTouched directory b call cowns =
     (cown : ℕ) → Contains cowns cown
     ↔ ((place : BalancePlace) × Contains (touched (rows_of directory b) call) place
     × (cown_of directory place ≡ Some cown))
 
--- with these outputs written to the declared cowns, the rows are those after the procedure, and the reply is its
+-- once these outputs are written to the declared cowns, the rows are those after the procedure, and
+-- the reply is the procedure's
 pub record PerformsByCowns (directory : List (List ℕ)) (call : Call) (old : Balances) (cowns : List ℕ)
     (answer : Reply) (outputs : List ℤ) : Type 0 where
   pub new : Balances
   pub written : held_of new ≡ write_cowns (held_of old) cowns outputs
   pub performs : FollowsProcedure directory call old new answer
 
--- a log of calls, looked up and run one by one on what the cowns hold: its replies are those of the calls, and what
--- is held after its first k calls are balances of these customers, whose rows are those after the first k calls
+-- a log of calls, looked up and run one by one over the cowns: its replies are those of the calls,
+-- and after its first k calls the cowns hold balances of these customers, whose rows are those
+-- after the first k calls
 pub record RunsAsCalls (directory : List (List ℕ)) (b : Balances) (calls : List Call) : Type 0 where
   pub replies : (n : ℕ)
       → reply_by_log declared_cowns effect_of (held_of b) (map (resolved directory) calls) n
@@ -45,12 +47,12 @@ pub record RunsAsCalls (directory : List (List ℕ)) (b : Balances) (calls : Lis
       × (held_of after ≡ held_after_first declared_cowns effect_of (held_of b) (map (resolved directory) calls) k)
       × (rows_of directory after ≡ rows_after_calls (rows_of directory b) calls k)
 
--- whole logs, run over cowns, are the logs of the procedures on the rows
+-- whole logs that run over cowns agree with the procedures on the rows
 abbrev pub LogsByCowns : Type 0
 LogsByCowns = (directory : List (List ℕ)) (b : Balances) (calls : List Call) → SameCustomers directory b
     → RunsAsCalls directory b calls
 
--- from cowns that hold what they may, each reply of a log has a spelling
+-- each reply of a log has a spelling, if the cowns hold allowed values at the start
 abbrev pub RepliesHaveSpellings : Type 0
 RepliesHaveSpellings = (opening : List ℤ) (log : List Op) (n : ℕ) (reply : Reply) → AllHeld opening
     → reply_by_log declared_cowns effect_of opening log n ≡ Some reply → IsReply reply

@@ -1,4 +1,4 @@
--- How calls are spelled, and what a line is read as.
+-- How calls are spelled, and how a line is read.
 use Rattle.std.specs.Prelude.{ℕ, ℤ, ◌&&◌, if◌then◌else◌, Result, Ok, Err, List, [], ◌∷◌, ◌++◌, codes}
 use Rattle.std.specs.Str.{bytes_eq}
 use Rattle.sb_amount.specs.Limit.{IsWithinLimit}
@@ -14,7 +14,7 @@ use Rattle.sb_calls.specs.declared.text.fault.CallFault.TheVariants.{UnknownVerb
 
 -- ---- how it is spelled
 
--- how a call is spelled
+-- the spelling of a call
 abbrev pub call_line : Call → List ℕ
 call_line (Balance name) = codes "balance " ++ name
 call_line (DepositChecking name amount) = codes "deposit " ++ (name ++ (32 ∷ money amount))
@@ -23,7 +23,7 @@ call_line (Amalgamate from to) = codes "amalgamate " ++ (from ++ (32 ∷ to))
 call_line (WriteCheck name amount) = codes "check " ++ (name ++ (32 ∷ money amount))
 call_line (SendPayment from to amount) = codes "pay " ++ (from ++ (32 ∷ (to ++ (32 ∷ money amount))))
 
--- its names are valid, its amount is within the limit
+-- a call is valid: its names are valid, and its amount is within the limit
 abbrev pub IsCall : Call → Type 0
 IsCall (Balance name) = IsName name
 IsCall (DepositChecking name amount) = IsName name × IsWithinLimit amount

@@ -1,4 +1,4 @@
--- Which calls have to wait for one another.
+-- Which calls must wait for one another.
 use Rattle.std.specs.Prelude.{◌≡◌, ◌↔◌, ℕ, true, List}
 use Rattle.std.specs.List.{Contains}
 use Rattle.sb_rows.specs.Balances.{Balances}
@@ -9,7 +9,7 @@ use Rattle.sb_calls.specs.Op.{resolved}
 use Rattle.sb_calls.specs.Touches.{BalancePlace, touched}
 use Rattle.sb_calls.specs.declared.call.Call.{Call}
 
--- two calls declare a cown in common exactly where they touch a balance in common, told by its customer's name
+-- two calls share a declared cown exactly if they share a touched balance, by its customer's name
 abbrev pub ConflictsByName : Type 0
 ConflictsByName = (directory : List (List ℕ)) (b : Balances) (first second : Call) → SameCustomers directory b
     → (share_cown (declared_cowns (resolved directory first)) (declared_cowns (resolved directory second)) ≡ true)

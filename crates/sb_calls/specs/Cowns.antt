@@ -1,5 +1,5 @@
--- Cowns, and what they hold (When Concurrency Matters, OOPSLA 2023).
--- Cown 2i is the savings and cown 2i + 1 the checking balance of customer i.
+-- Cowns and their values (When Concurrency Matters, OOPSLA 2023). Cown 2i is the savings and cown
+-- 2i + 1 the checking balance of customer i.
 use Rattle.std.specs.Prelude.{◌≡◌, ℕ, ◌<◌, ◌*◌, ◌+◌, ◌%◌, ℤ, pos, ◌≤ℤ◌, List, [], ◌∷◌, length, map, slice_set, get_or}
 use Rattle.sb_amount.specs.Limit.{IsWithinLimit}
 use Rattle.sb_rows.specs.Balances.{Balances}
@@ -12,30 +12,30 @@ savings_cown place = 2 * place
 abbrev pub checking_cown : ℕ → ℕ
 checking_cown place = 2 * place + 1
 
--- a list of cowns, each above the one before (by recursion, since proofs go by its cases)
+-- the cowns rise: each is above the one before (by recursion, because proofs go by its cases)
 abbrev pub IsRising : List ℕ → Type 0
 IsRising [] = Unit {0}
 IsRising (cown ∷ []) = Unit {0}
 IsRising (first ∷ second ∷ more) = (first < second) × IsRising (second ∷ more)
 
--- each is below a bound (by recursion, likewise)
+-- each cown is below a bound (by recursion, for the same reason)
 abbrev pub AreBelow : ℕ → List ℕ → Type 0
 AreBelow bound [] = Unit {0}
 AreBelow bound (cown ∷ cowns) = (cown < bound) × AreBelow bound cowns
 
--- a value that a cown may hold: within the limit, and savings not negative
+-- a value is allowed in a cown: within the limit, and not negative for savings
 pub record IsHeld (cown : ℕ) (value : ℤ) : Type 0 where
   pub within : IsWithinLimit value
   pub not_negative : cown % 2 ≡ 0 → pos 0 ≤ℤ value
 
--- one value for each cown, that it may hold
+-- one allowed value for each cown
 abbrev pub AreHeld : List ℕ → List ℤ → Type 0
 AreHeld [] [] = Unit {0}
 AreHeld [] (value ∷ values) = ⊥
 AreHeld (cown ∷ cowns) [] = ⊥
 AreHeld (cown ∷ cowns) (value ∷ values) = IsHeld cown value × AreHeld cowns values
 
--- each cown holds what it may
+-- each cown holds an allowed value
 abbrev pub AllHeld : List ℤ → Type 0
 AllHeld held = (cown : ℕ) → cown < length held → IsHeld cown (get_or held cown (pos 0))
 
@@ -45,7 +45,7 @@ by_cown [] checking = []
 by_cown (s ∷ savings) [] = []
 by_cown (s ∷ savings) (c ∷ checking) = s ∷ c ∷ by_cown savings checking
 
--- what all cowns hold where the bank has these balances
+-- what all cowns hold if the bank has these balances
 unfoldable pub held_of : Balances → List ℤ
 held_of balances = by_cown balances.savings balances.checking
 
@@ -53,7 +53,7 @@ held_of balances = by_cown balances.savings balances.checking
 abbrev pub read_cowns : List ℤ → List ℕ → List ℤ
 read_cowns held cowns = map (λ cown. get_or held cown (pos 0)) cowns
 
--- what is held after these values were written to these cowns
+-- what the cowns hold after these values were written to these cowns
 abbrev pub write_cowns : List ℤ → List ℕ → List ℤ → List ℤ
 write_cowns held [] values = held
 write_cowns held (cown ∷ cowns) [] = held

@@ -1,4 +1,4 @@
--- A log run one by one.
+-- A log of calls, run one by one.
 use Rattle.std.specs.Prelude.{ℕ, zero, suc, Option, None, List, [], ◌∷◌, take, slice_get}
 use Rattle.std.specs.Option.{option_map}
 use Rattle.sb_rows.specs.Rows.{Rows}
@@ -15,7 +15,7 @@ rows_after (call ∷ log) rows = rows_after log (procedure call rows).rows
 abbrev pub rows_after_calls : Rows → List Call → ℕ → Rows
 rows_after_calls opening log k = rows_after (take k log) opening
 
--- the reply to call n of a log, counted from 1, where there is one
+-- the reply to call n of a log, counted from 1, if there is one
 abbrev pub reply_to : Rows → List Call → ℕ → Option Reply
 reply_to opening log zero = None
 reply_to opening log (suc k) =

@@ -10,7 +10,7 @@ use Rattle.sb_calls.specs.declared.call.Call.TheVariants.{Balance, DepositChecki
 use Rattle.sb_calls.specs.declared.reply.Reply.{Reply}
 use Rattle.sb_calls.specs.declared.reply.Reply.TheVariants.{Shown, Done, Penalised, NoCustomer, SameCustomer, Negative, WouldOverdraw, OverLimit}
 
--- a deposit or a savings call that is done adds its amount
+-- a deposit or a savings call adds its amount if it is done
 abbrev pub net_if_done : ℤ → Reply → ℤ
 net_if_done amount Done = amount
 net_if_done amount (Shown total) = pos 0
@@ -21,7 +21,7 @@ net_if_done amount Negative = pos 0
 net_if_done amount WouldOverdraw = pos 0
 net_if_done amount OverLimit = pos 0
 
--- a check that is paid takes its amount, and the penalty where there is one
+-- a check that is paid takes its amount, and the penalty if there is one
 abbrev pub net_if_paid : ℤ → Reply → ℤ
 net_if_paid amount Done = neg_ℤ amount
 net_if_paid amount Penalised = neg_ℤ (amount +ℤ pos 100)
@@ -41,18 +41,18 @@ net_of (Amalgamate from to) reply = pos 0
 net_of (WriteCheck name amount) reply = net_if_paid amount reply
 net_of (SendPayment from to amount) reply = pos 0
 
--- the net changes of calls with these replies, added up
+-- the sum of the net changes of calls with these replies
 abbrev pub net_sum : List Call → List Reply → ℤ
 net_sum [] replies = pos 0
 net_sum (call ∷ log) [] = pos 0
 net_sum (call ∷ log) (reply ∷ replies) = net_of call reply +ℤ net_sum log replies
 
--- rows of exactly these names
+-- the rows have exactly these names
 pub record HasNames (directory : List (List ℕ)) (rows : Rows) : Type 0 where
   pub names : IsDirectory directory
   pub same : (name : List ℕ) → is_some (get rows name) ≡ is_some (place_of directory name)
 
--- the total after k calls is the opening's, and the net changes of these calls
+-- the total after k calls is the opening's plus the net changes of these calls
 abbrev pub TotalByNet : Type 0
 TotalByNet = (directory : List (List ℕ)) (opening : Rows) (log : List Call) (k : ℕ) → HasNames directory opening
     → total_of (listed directory (rows_after_calls opening log k))

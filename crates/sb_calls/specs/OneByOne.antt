@@ -1,9 +1,9 @@
--- A log of behaviours run one by one, on what the cowns hold.
+-- A log of behaviours, run one by one over the cowns.
 use Rattle.std.specs.Prelude.{ℕ, zero, suc, ℤ, Bool, false, ◌||◌, ◌==◌, Option, None, List, [], ◌∷◌, take, slice_get, option_map}
 use Rattle.sb_calls.specs.Cowns.{read_cowns, write_cowns}
 use Rattle.sb_calls.specs.declared.reply.Reply.{Reply}
 
--- whether a cown is one of these, and whether two lists share one (by recursion, since proofs go by its cases)
+-- a cown is one of these, and two lists share one (by recursion, because proofs go by its cases)
 abbrev pub is_among : ℕ → List ℕ → Bool
 is_among cown [] = false
 is_among cown (c ∷ cowns) = (cown == c) || is_among cown cowns
@@ -12,9 +12,9 @@ abbrev pub share_cown : List ℕ → List ℕ → Bool
 share_cown [] other = false
 share_cown (cown ∷ cowns) other = is_among cown other || share_cown cowns other
 
--- for any kind of behaviours, what they declare and their effect
+-- for any kind of behaviours, given what they declare and their effect
 module _ {B : Type 0} (touches : B → List ℕ) (effect : B → List ℤ → Reply × List ℤ) where
-  -- what a behaviour is given, where the cowns hold this
+  -- the inputs of a behaviour: what its cowns hold
   abbrev pub inputs_of : List ℤ → B → List ℤ
   inputs_of held behaviour = read_cowns held (touches behaviour)
 
@@ -25,16 +25,16 @@ module _ {B : Type 0} (touches : B → List ℕ) (effect : B → List ℤ → Re
   abbrev pub held_after_one : List ℤ → B → List ℤ
   held_after_one held behaviour = write_cowns held (touches behaviour) (effect behaviour (inputs_of held behaviour)).1
 
-  -- what is held after all of a log
+  -- what is held after the whole log
   abbrev pub held_after : List ℤ → List B → List ℤ
   held_after held [] = held
   held_after held (behaviour ∷ log) = held_after (held_after_one held behaviour) log
 
-  -- what is held after the first k of a log
+  -- what is held after the first k behaviours of a log
   abbrev pub held_after_first : List ℤ → List B → ℕ → List ℤ
   held_after_first opening log k = held_after opening (take k log)
 
-  -- the reply to number n of a log, counted from 1, where there is one
+  -- the reply to number n of a log, counted from 1, if there is one
   abbrev pub reply_by_log : List ℤ → List B → ℕ → Option Reply
   reply_by_log opening log zero = None
   reply_by_log opening log (suc k) = option_map (reply_of (held_after_first opening log k)) (slice_get log k)

@@ -1,4 +1,4 @@
--- A call with places for names.
+-- Calls with places in place of names.
 use Rattle.std.specs.Prelude.{ℕ, ◌<◌, ◌==◌, if◌then◌else◌, Option, Some, None, List}
 use Rattle.sb_rows.specs.Directory.{place_of}
 use Rattle.sb_calls.specs.declared.call.Call.{Call}
@@ -11,13 +11,13 @@ abbrev pub at_place : (ℕ → Op) → Option ℕ → Op
 at_place op None = NoCustomer
 at_place op (Some place) = op place
 
--- the op at two places: NoCustomer where one is missing, SameCustomer where they are one
+-- the op at two places: NoCustomer if one is missing, SameCustomer if they are the same
 abbrev pub at_two_places : (ℕ × ℕ → Op) → Option ℕ → Option ℕ → Op
 at_two_places op None to = NoCustomer
 at_two_places op (Some from) None = NoCustomer
 at_two_places op (Some from) (Some to) = if from == to then SameCustomer else op (from, to)
 
--- the op of a call, where these are the names by place
+-- the op of a call, given the names by place
 abbrev pub resolved : List (List ℕ) → Call → Op
 resolved directory (calls.Balance name) = at_place Balance (place_of directory name)
 resolved directory (calls.DepositChecking name amount) =

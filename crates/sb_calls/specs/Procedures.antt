@@ -1,6 +1,6 @@
--- What each procedure does to the rows, and what it replies (SmallBank, ICDE 2008).
--- The exact effects are this project's, and so is the payment.
--- The cases stand in their order: the first that holds counts. A refusal leaves the rows.
+-- What each procedure does to the rows, and its reply (SmallBank, ICDE 2008). The exact effects are
+-- this project's, and so is the payment. The first case that holds counts, in the order given. A
+-- refusal leaves the rows.
 use Rattle.std.specs.Prelude.{ℕ, ℤ, pos, neg_ℤ, ◌+ℤ◌, ◌-ℤ◌, int_lt, ◌||◌, if◌then◌else◌, Option, Some, None, List}
 use Rattle.std.specs.FinMap.{get, insert}
 use Rattle.std.specs.Str.{bytes_eq}
@@ -16,12 +16,12 @@ pub record Outcome : Type 0 where
   pub rows : Rows
   pub reply : Reply
 
--- what happens where the customer has these balances, and NoCustomer where there is none
+-- the outcome for a customer with these balances, or NoCustomer if there is none
 abbrev pub with_balances : Rows → (ℤ → ℤ → Outcome) → Option (ℤ × ℤ) → Outcome
 with_balances rows outcome None = record { rows = rows; reply = NoCustomer }
 with_balances rows outcome (Some balances) = outcome balances.0 balances.1
 
--- shows savings and checking added up
+-- shows the sum of savings and checking
 abbrev pub balance : List ℕ → Rows → Outcome
 balance name rows = with_balances rows (λ savings checking.
     record { rows = rows; reply = Shown (savings +ℤ checking) }) (get rows name)
@@ -40,7 +40,7 @@ transact_savings name amount rows = with_balances rows (λ savings checking.
     else if int_lt LIMIT (savings +ℤ amount) then record { rows = rows; reply = OverLimit }
     else record { rows = insert rows name (savings +ℤ amount, checking); reply = Done }) (get rows name)
 
--- both balances of the first customer go to the checking of the second
+-- moves both balances of the first customer to the checking of the second
 abbrev pub amalgamate : List ℕ → List ℕ → Rows → Outcome
 amalgamate from to rows = with_balances rows (λ savings checking. with_balances rows (λ savings_to checking_to.
     if bytes_eq from to then record { rows = rows; reply = SameCustomer }
@@ -52,12 +52,12 @@ amalgamate from to rows = with_balances rows (λ savings checking. with_balances
       reply = Done;
     }) (get rows to)) (get rows from)
 
--- what a check takes from checking: its amount, and a penalty of 100 cents where savings and checking together are
+-- the cost of a check: its amount, plus a penalty of 100 cents if savings and checking together are
 -- below it
 abbrev pub check_cost : ℤ → ℤ → ℤ → ℤ
 check_cost savings checking amount = if int_lt (savings +ℤ checking) amount then amount +ℤ pos 100 else amount
 
--- checking falls by what the check costs
+-- checking falls by the cost of the check
 abbrev pub write_check : List ℕ → ℤ → Rows → Outcome
 write_check name amount rows = with_balances rows (λ savings checking.
     if int_lt amount (pos 0) then record { rows = rows; reply = Negative }
@@ -68,7 +68,7 @@ write_check name amount rows = with_balances rows (λ savings checking.
       reply = if int_lt (savings +ℤ checking) amount then Penalised else Done;
     }) (get rows name)
 
--- the amount goes from the checking of the first customer to that of the second
+-- moves the amount from the checking of the first customer to that of the second
 abbrev pub send_payment : List ℕ → List ℕ → ℤ → Rows → Outcome
 send_payment from to amount rows = with_balances rows (λ savings checking. with_balances rows (λ savings_to checking_to.
     if bytes_eq from to then record { rows = rows; reply = SameCustomer }

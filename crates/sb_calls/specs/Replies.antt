@@ -1,4 +1,4 @@
--- Replies as bytes have them: a code, and the total that is shown.
+-- Replies as bytes spell them: a code, and the total that is shown.
 use Rattle.std.specs.Prelude.{◌≡◌, ◌↔◌, ℕ, ℤ, pos, neg_ℤ, ◌≤ℤ◌, int_le, ◌==◌, Bool, ◌&&◌, if◌then◌else◌, Option, Some, None, List, ◌∷◌}
 use Rattle.std.specs.Int.{Width, w64, to_be_bytes, cast_unsigned}
 use Rattle.std.specs.Ordering.{int_eq}
@@ -13,7 +13,7 @@ pub record IsTotal (total : ℤ) : Type 0 where
   pub at_least : neg_ℤ TOTAL_LIMIT ≤ℤ total
   pub at_most : total ≤ℤ TOTAL_LIMIT
 
--- a total that is shown lies from -2 LIMIT to 2 LIMIT
+-- a reply is valid: a total that it shows is from -2 LIMIT to 2 LIMIT
 abbrev pub IsReply : Reply → Type 0
 IsReply (Shown total) = IsTotal total
 IsReply Done = Unit {0}
@@ -26,7 +26,7 @@ IsReply OverLimit = Unit {0}
 
 -- ---- their spelling
 
--- a number, the highest byte first
+-- a number, highest byte first
 unfoldable pub number_field : Width → ℕ → List ℕ
 number_field w n = to_be_bytes w n
 
@@ -34,7 +34,7 @@ number_field w n = to_be_bytes w n
 abbrev pub amount_field : ℤ → List ℕ
 amount_field cents = number_field w64 (cast_unsigned w64 cents)
 
--- a reply's code, by its kind
+-- the code of a reply, by its kind
 abbrev pub reply_code : Reply → ℕ
 reply_code (Shown total) = 0
 reply_code Done = 1
@@ -45,7 +45,7 @@ reply_code Negative = 5
 reply_code WouldOverdraw = 6
 reply_code OverLimit = 7
 
--- the total that is shown, else zero
+-- the total that a reply shows, else zero
 abbrev pub shown_total : Reply → ℤ
 shown_total (Shown total) = total
 shown_total Done = pos 0
@@ -56,7 +56,7 @@ shown_total Negative = pos 0
 shown_total WouldOverdraw = pos 0
 shown_total OverLimit = pos 0
 
--- a reply: its code, and its total
+-- a reply: its code, then its total
 abbrev pub reply_field : Reply → List ℕ
 reply_field reply = reply_code reply ∷ amount_field (shown_total reply)
 
@@ -77,14 +77,15 @@ plain_reply code =
     else if code == 7 then Some OverLimit
     else None
 
--- code 0 shows a total in its range, every other code has zero there
+-- the reply with a code and a total: code 0 shows a total in its range; every other code requires
+-- total 0
 unfoldable pub coded : ℕ → ℤ → Option Reply
 coded code total =
     if code == 0 then (if is_total total then Some (Shown total) else None)
     else if int_eq total (pos 0) then plain_reply code
     else None
 
--- they are read as a reply exactly where they spell it
+-- a code and a total are read as a reply exactly if they spell it
 abbrev pub RepliesHaveOneCode : Type 0
 RepliesHaveOneCode = (code : ℕ) (total : ℤ) (reply : Reply)
     → (coded code total ≡ Some reply)

@@ -1,10 +1,10 @@
--- Replies in words.
+-- The texts of replies.
 use Rattle.std.specs.Prelude.{ℕ, List, ◌++◌, codes}
 use Rattle.sb_amount.specs.Money.{money}
 use Rattle.sb_calls.specs.declared.reply.Reply.{Reply}
 use Rattle.sb_calls.specs.declared.reply.Reply.TheVariants.{Shown, Done, Penalised, NoCustomer, SameCustomer, Negative, WouldOverdraw, OverLimit}
 
--- a reply in words
+-- the text of a reply
 abbrev pub reply_text : Reply → List ℕ
 reply_text (Shown total) = codes "shown " ++ money total
 reply_text Done = codes "done"

@@ -1,4 +1,4 @@
--- The balances that a call touches, by name, and that it depends on nothing else.
+-- The balances that a call touches, by name. A call depends on nothing else.
 use Rattle.std.specs.Prelude.{◌≡◌, ℕ, ℤ, Bool, is_some, if◌then◌else◌, ◌&&◌, not, Option, List, [], ◌∷◌, option_map}
 use Rattle.std.specs.FinMap.{get}
 use Rattle.std.specs.List.{Contains}
@@ -13,19 +13,20 @@ pub data BalancePlace : Type 0 where
   Savings : List ℕ → BalancePlace
   Checking : List ℕ → BalancePlace
 
--- the balance at a place, where the rows have the name
+-- the balance at a place, if the rows have the name
 abbrev pub balance_at : Rows → BalancePlace → Option ℤ
 balance_at rows (Savings name) = option_map (λ balances. balances.0) (get rows name)
 balance_at rows (Checking name) = option_map (λ balances. balances.1) (get rows name)
 
--- whether the rows have a name
+-- the rows have a name
 abbrev pub has_name : Rows → List ℕ → Bool
 has_name rows name = is_some (get rows name)
 
 abbrev pub both_of : List ℕ → List BalancePlace
 both_of name = Savings name ∷ Checking name ∷ []
 
--- none where a name isn't in the rows, or two names are one
+-- the balances that a call touches; none if a name isn't in the rows, or if its two names are the
+-- same
 abbrev pub touched : Rows → Call → List BalancePlace
 touched rows (Balance name) = if has_name rows name then both_of name else []
 touched rows (DepositChecking name amount) = if has_name rows name then Checking name ∷ [] else []
@@ -41,17 +42,19 @@ touched rows (SendPayment from to amount) =
 abbrev pub HaveSameNames : Rows → Rows → Type 0
 HaveSameNames a b = (name : List ℕ) → has_name a name ≡ has_name b name
 
--- the same balances at these places
+-- two banks' rows have the same balances at these places
 abbrev pub AgreeOn : List BalancePlace → Rows → Rows → Type 0
 AgreeOn places a b = (place : BalancePlace) → Contains places place → balance_at a place ≡ balance_at b place
 
--- what a call does on rows that agree on what it touches, and what it leaves
+-- on rows that agree on what the call touches, its reply and the touched balances are the same, and
+-- it leaves the other balances
 pub record IsLocal (call : Call) (a b : Rows) : Type 0 where
   pub reply : (procedure call a).reply ≡ (procedure call b).reply
   pub balances : AgreeOn (touched a call) (procedure call a).rows (procedure call b).rows
   pub others : (place : BalancePlace) → ¬ Contains (touched a call) place
       → balance_at (procedure call a).rows place ≡ balance_at a place
 
--- the reply and the new balances of what a call touches depend on these alone, and it leaves all others
+-- between rows with the same names, the reply to a call, and the new balances of what it touches,
+-- depend on these balances alone; it leaves all others
 abbrev pub Locality : Type 0
 Locality = (call : Call) (a b : Rows) → HaveSameNames a b → AgreeOn (touched a call) a b → IsLocal call a b

@@ -1,4 +1,4 @@
-//! A call carried out on the columns.
+//! Executing a call on the columns.
 ghost use Rattle.std.specs.Prelude.{◌≡◌, ℕ, List, length};
 ghost use Rattle.sb_rows.specs.Balances.{IsBalances};
 ghost use Rattle.sb_rows.specs.Rows.{SameCustomers};
@@ -13,18 +13,18 @@ use crate::op::Op;
 use crate::reply::Reply;
 use sb_rows::{CUSTOMERS, Columns};
 
-/// Carries out a call on the balances of its customers, and answers it.
+/// Executes a call on the balances of its customers, and returns its reply.
 ///
 /// A refusal changes nothing.
 pub fn apply(columns: &mut Columns, op: Op) -> Reply
     requires { IsOpWithin (length columns.old.savings) op }
-    // On the rows it is the procedure, whatever the customers are called.
+    // On the rows it is the procedure, for any names of the customers.
     ensures procedure { (directory : List (List ℕ)) (call : Call)
         → SameCustomers directory columns.old → op ≡ resolved directory call
         → FollowsProcedure directory call columns.old columns.new result }
     ensures places { length columns.new.savings ≡ length columns.old.savings }
     ensures ranges { IsBalances columns.new }
-    // Of every op: its effect on what its cowns hold.
+    // For every op: its effect on what its cowns hold.
     ensures effect { let inputs = read_cowns (held_of columns.old) (declared_cowns op) in
         (result ≡ (effect_of op inputs).0)
         × (held_of columns.new
@@ -32,13 +32,13 @@ pub fn apply(columns: &mut Columns, op: Op) -> Reply
 {
     // They are the columns of a bank.
     prove!(columns.customers() <= CUSTOMERS);
-    // Two calls take the op by value: this is the one that the first takes.
+    // Two functions take the op by value; this copy is for the first.
     let declaring = op;
     let cowns = cowns_of(declaring);
     let inputs = by_cown::read_cowns(columns, &cowns);
     let (reply, outputs) = perform(op, &inputs);
     by_cown::write_cowns(columns, &cowns, &outputs);
-    // Whatever was written, they are the columns of a bank.
+    // Whatever was written, these are the columns of a bank.
     prove!(columns.customers() <= CUSTOMERS);
     reply
 }

@@ -1,8 +1,8 @@
-//! A call as a client asks it under a key.
+//! A call as a client asks for it, under a key.
 
 use crate::call::Call;
 
-/// A client's number and its number for a request: each key is numbered once.
+/// A client's number, and the client's own number for a request. Each key is numbered once.
 #[derive(Clone, Copy, Debug, PartialEq, Eq, Hash)]
 pub struct Key {
     /// The client.
@@ -11,10 +11,10 @@ pub struct Key {
     pub request: u32,
 }
 
-/// What an asking line says.
+/// What an asking line asks.
 #[derive(Clone, Copy, Debug, PartialEq, Eq)]
 pub struct Asked {
-    /// The key, where the line has one; its client is not 0.
+    /// The key, if the line has one. Its client is never 0.
     pub key: Option<Key>,
     /// The call.
     pub call: Call,

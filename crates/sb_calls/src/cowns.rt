@@ -1,4 +1,4 @@
-//! Cowns, and what runs over them.
+//! Cowns, and the behaviours that run over them.
 
 mod behaviour;
 pub(crate) mod by_cown;

@@ -1,4 +1,4 @@
-//! What ties a log's replies to its calls, and its rows to their total.
+//! How a log's replies relate to its calls, and its rows to their total.
 ghost use Rattle.std.specs.Prelude.{◌≡◌, ℕ, suc, pos, List, slice_get};
 ghost use Rattle.sb_calls.specs.declared.call.Call.{Call};
 ghost use Rattle.sb_calls.specs.Log.{replies_to, reply_to};
@@ -13,8 +13,9 @@ use crate::call::LOG_CALLS;
 use crate::cowns::{BEHAVIOUR_COWNS, PENALTY};
 use crate::wire_reply::TOTAL_LIMIT;
 
-/// A log takes a million calls, the penalty of a check is 100 cents, a behaviour declares at most 3
-/// cowns, and a total that is shown is at most twice the limit of a balance.
+/// The limits, as numbers: a log takes a million calls, the penalty of a check is 100 cents, a
+/// behaviour declares at most 3 cowns, and a total that is shown is at most twice the limit of a
+/// balance.
 pub fn limits()
     ensures calls { LOG_CALLS ≡ 1000000 }
     ensures penalty { PENALTY ≡ pos 100 }
@@ -22,38 +23,38 @@ pub fn limits()
     ensures total { TOTAL_LIMIT ≡ pos 2000000000000 }
 {}
 
-/// The replies to a log in order are, number by number, the replies to its calls on the rows after
-/// the calls before.
+/// The replies to a log are, number by number, the replies to its calls on the rows after the calls
+/// before.
 pub fn replies_one_by_one()
     ensures { (opening : Rows) (log : List Call) (k : ℕ)
         → slice_get (replies_to opening log) k ≡ reply_to opening log (suc k) }
 {}
 
-/// The bank's total after the first calls of a log is the opening's, and the net changes of these
+/// The bank's total after the first calls of a log is the opening's plus the net changes of these
 /// calls.
 pub fn total_by_net()
     ensures { TotalByNet }
 {}
 
-/// What a call replies, and the new balances of those that it touches, depend on these balances
-/// alone. It leaves all others.
+/// Between rows with the same names, the reply to a call, and the new balances of what it touches,
+/// depend on these balances alone. It leaves all others.
 pub fn calls_are_local()
     ensures { Locality }
 {}
 
 /// A log of calls, looked up and run one by one over their cowns, gives the replies and the rows of
-/// the calls one by one.
+/// the calls run one by one.
 pub fn logs_by_cowns()
     ensures { LogsByCowns }
 {}
 
-/// Each reply of a log run one by one, from balances of a bank, shows no more than two balances come to, so frames and
-/// checkpoints can spell it.
+/// Each reply of a log run one by one, from the balances of a bank, shows at most the sum of two
+/// balances, so frames and checkpoints can spell it.
 pub fn replies_have_spellings()
     ensures { RepliesHaveSpellings }
 {}
 
-/// Two calls declare a cown in common exactly where they touch a balance in common.
+/// Two calls share a declared cown exactly if they share a touched balance.
 pub fn conflicts_by_name()
     ensures { ConflictsByName }
 {}

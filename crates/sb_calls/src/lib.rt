@@ -1,4 +1,4 @@
-//! The calls of SmallBank: how they are spelled, what they do, and what is replied.
+//! The calls of SmallBank: their spelling, their effects and their replies.
 #![tactic(auto)]
 
 mod applying;

@@ -20,7 +20,7 @@ pub fn net(call: &Call, reply: Reply) -> i64
     }
 }
 
-// What a deposit or a change of savings adds: its amount where it is done.
+// What a deposit or a change of savings adds: its amount if it is done.
 fn net_if_done(amount: Cents, reply: Reply) -> i64
     ensures { result ≡ net_if_done amount reply }
 {
@@ -30,7 +30,7 @@ fn net_if_done(amount: Cents, reply: Reply) -> i64
     }
 }
 
-// What a check adds: where it is paid it takes its amount, and the penalty where there is one.
+// What a check adds: if it is paid, it takes its amount, and the penalty if there is one.
 fn net_if_paid(amount: Cents, reply: Reply) -> i64
     ensures { result ≡ net_if_paid amount reply }
 {

@@ -1,4 +1,4 @@
-//! A call with its customers' places in place of their names.
+//! Calls with their customers' places in place of names.
 ghost use Rattle.std.specs.Prelude.{◌≡◌, ◌<◌, ℕ, length, IfOk, IfErr};
 ghost use Rattle.sb_calls.specs.declared.op.Op.{Op as AnyOp};
 ghost use Rattle.sb_rows.specs.Directory.{place_of};
@@ -26,7 +26,7 @@ pub enum Op {
     SendPayment(TwoPlaces, Cents),
     /// A call with a name that isn't in the bank.
     NoCustomer,
-    /// A call of two customers that are one.
+    /// A call whose two customers are the same.
     SameCustomer,
 }
 
@@ -58,7 +58,8 @@ pub fn resolve(directory: &Directory, call: &Call) -> Op
     op.unwrap_or(Op::NoCustomer)
 }
 
-// The places of two customers, or the op that there is without them, whatever call they are for.
+// The places of two customers, or the op for a missing customer or for two that are the same. It
+// serves every call of two customers.
 fn two_places(directory: &Directory, from: &Name, to: &Name) -> Result<TwoPlaces, Op>
     ensures places { IfOk result (λ places. (op : ℕ × ℕ → AnyOp)
         → at_two_places op (place_of directory.now from.now) (place_of directory.now to.now)

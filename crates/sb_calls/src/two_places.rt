@@ -3,7 +3,7 @@ ghost use Rattle.std.specs.Prelude.{◌≡◌, ◌≢◌, SomeIff};
 
 use std::marker::Model;
 
-/// The places of two different customers: one that gives, and one that takes.
+/// The places of two different customers: a giver and a taker.
 #[derive(Clone, Copy, Debug, PartialEq, Eq)]
 pub struct TwoPlaces {
     from: u32,
@@ -23,7 +23,7 @@ impl Model for TwoPlaces {
 }
 
 impl TwoPlaces {
-    /// These two places, or `None` where they are one.
+    /// These two places, or `None` if they are the same.
     pub fn new(from: u32, to: u32) -> Option<TwoPlaces>
         ensures { SomeIff result (from ≢ to) (from, to) }
     {
@@ -34,7 +34,7 @@ impl TwoPlaces {
         }
     }
 
-    /// The place of the customer that gives.
+    /// The place of the giver.
     pub fn from(self) -> u32
         ensures value { result ≡ self.0 }
         ensures different { self.0 ≢ self.1 }
@@ -42,7 +42,7 @@ impl TwoPlaces {
         self.from
     }
 
-    /// The place of the customer that takes.
+    /// The place of the taker.
     pub fn to(self) -> u32
         ensures value { result ≡ self.1 }
         ensures different { self.0 ≢ self.1 }

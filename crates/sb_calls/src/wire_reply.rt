@@ -1,4 +1,4 @@
-//! Replies that stand in frames and checkpoints.
+//! Replies in frames and checkpoints.
 ghost use Rattle.std.specs.Prelude.{◌≡◌, ◌↔◌, IsTrue, SomeIff, IfSome};
 ghost use Rattle.sb_calls.specs.Replies as spec;
 ghost use Rattle.sb_calls.specs.Replies.{IsReply, IsTotal, coded, reply_code, shown_total};
@@ -7,7 +7,7 @@ use crate::reply::Reply;
 use sb_amount::LIMIT;
 use std::marker::Model;
 
-/// The greatest size of a total that is shown, in cents: two balances at the limit.
+/// The greatest size of a shown total, in cents: two balances at the limit.
 pub const TOTAL_LIMIT: i64 = 2 * LIMIT;
 
 // The codes of replies.
@@ -27,8 +27,8 @@ const WOULD_OVERDRAW: u8 = 6;
 
 const OVER_LIMIT: u8 = 7;
 
-/// A reply whose total, if it shows one, lies from `-TOTAL_LIMIT` to `TOTAL_LIMIT`. In bytes it is a code and a
-/// total, which is 0 where none is shown.
+/// A reply whose total, if it shows one, is from `-TOTAL_LIMIT` to `TOTAL_LIMIT`. In bytes it is a
+/// code and a total, which is 0 if the reply shows none.
 #[derive(Clone, Copy, Debug, PartialEq, Eq)]
 pub struct WireReply {
     reply: Reply,
@@ -47,14 +47,14 @@ impl Model for WireReply {
     ghost inverse = { λ v. record { reply = v } };
 }
 
-// Whether a total lies in the range of two balances.
+// Whether a total is in the range of two balances.
 fn is_total(total: i64) -> bool
     ensures { IsTrue result ↔ IsTotal total }
 {
     -TOTAL_LIMIT <= total && total <= TOTAL_LIMIT
 }
 
-// The reply that has a code and shows no total.
+// The reply that has this code and shows no total.
 fn plain_reply(code: u8) -> Option<Reply>
     ensures read { result ≡ spec.plain_reply code }
     ensures valid { IfSome result IsReply }
@@ -87,7 +87,7 @@ fn coded_reply(code: u8, total: i64) -> Option<Reply>
 }
 
 impl Reply {
-    /// The code that it has in bytes, and the total that it shows, else 0.
+    /// Its code in bytes, and the total that it shows, else 0.
     pub fn code_and_total(self) -> (u8, i64)
         ensures code { result.0 ≡ reply_code self }
         ensures total { result.1 ≡ shown_total self }
@@ -106,7 +106,7 @@ impl Reply {
 }
 
 impl WireReply {
-    /// This reply, or `None` where it shows a total past [`TOTAL_LIMIT`].
+    /// This reply, or `None` if it shows a total past [`TOTAL_LIMIT`].
     pub fn new(reply: Reply) -> Option<WireReply>
         ensures { SomeIff result (IsReply reply) reply }
     {
@@ -132,7 +132,7 @@ impl WireReply {
         self.reply.code_and_total()
     }
 
-    /// The reply with this code and total, or `None` where no reply has them.
+    /// The reply with this code and total, or `None` if no reply has them.
     pub fn from_code(code: u8, total: i64) -> Option<WireReply>
         ensures { result ≡ coded code total }
     {

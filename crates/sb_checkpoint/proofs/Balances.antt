@@ -1,4 +1,4 @@
--- Amounts that pass their tests are balances, which pass them and have totals that fit.
+-- Amounts that pass the tests are balances; balances pass them, and their totals fit.
 use Rattle.std.proofs.Common.{◌≡◌, ℕ, ◌*◌, ◌≤◌, ℤ, pos, neg_ℤ, ◌+ℤ◌, ◌≤ℤ◌, [], ◌∷◌, false, w64, List, length, sym, ◌∙◌, arith}
 use Rattle.std.proofs.lemmas.Int.{ints}
 use Rattle.std.specs.List.{AllByRecursion, All, list_any}
@@ -30,7 +30,7 @@ are_balances savings checking n many as_many few fits checking_fits positive = r
 
 -- ---- totals fit
 
--- no more than this many times the limit
+-- the number is within this many times the limit
 record IsBounded (n : ℕ) (v : ℤ) : Type 0 where
   at_least : neg_ℤ (pos (n * 1000000000000)) ≤ℤ v
   at_most : v ≤ℤ pos (n * 1000000000000)

@@ -6,7 +6,7 @@ use Rattle.std.specs.Simd.{first_chunks}
 use Rattle.sb_checkpoint.specs.Checkpoint.{Layout}
 use Rattle.sb_checkpoint.specs.Reading.{amount_of, amounts_at, empty_size, stated_reply, stated_customers, stated_length, stated_replies}
 
--- the first chunks stand in the front
+-- the first chunks are in the front
 first_chunks-take : {X : Type 0} (n k m : ℕ) (xs : List X) → m ≡ k * n → first_chunks n k (take m xs) ≡ first_chunks n k xs
 first_chunks-take n zero m xs is = refl
 first_chunks-take n (suc k) m xs is =
@@ -14,7 +14,7 @@ first_chunks-take n (suc k) m xs is =
     ap₂ ◌∷◌ (take-take n m xs (omega arith))
     (ap (first_chunks n k) (ap (λ j. drop n (take j xs)) whole ∙ drop-take n (k * n) xs) ∙ first_chunks-take n k (k * n) (drop n xs) refl)
 
--- a front of as many elements as some chunks have, in chunks
+-- the chunks of a front are the first chunks of the list
 chunks_of_front : {X : Type 0} (n k m : ℕ) (xs : List X) → 0 < n → m ≡ k * n → m ≤ length xs
     → first_chunks n (length (take m xs) / n) (take m xs) ≡ first_chunks n k xs
 chunks_of_front n k m xs some is within =
@@ -28,7 +28,7 @@ length-first_chunks n (suc k) xs = ap suc (length-first_chunks n k (drop n xs))
 pub length-amounts : (k : ℕ) (bytes : List ℕ) → length (amounts_at k bytes) ≡ k
 length-amounts k bytes = length-map (first_chunks 8 k bytes) amount_of ∙ length-first_chunks 8 k bytes
 
--- as many bytes of each size as were asked for, behind a place
+-- the chunks of a part after a place are the first chunks of everything after it
 pub chunks_behind : (n from count : ℕ) (bytes : List ℕ) → 0 < n → from + n * count ≤ length bytes
     → let part = take ((from + n * count) - from) (drop from bytes) in
     first_chunks n (length part / n) part ≡ first_chunks n count (drop from bytes)

@@ -1,4 +1,4 @@
--- What is read and compared piece by piece.
+-- Bytes that are read and compared piece by piece.
 use Rattle.std.proofs.Common.{◌≡◌, ℕ, List, ◌++◌, Option, Some, None, Result, Ok, Err, Bool, true, false, IfOk, refl, sym, ap, ◌∙◌, append_assoc}
 use Rattle.std.specs.Prelude.{◌≢◌, ◌↔◌, IsTrue, IfSome}
 use Rattle.std.specs.Io.KnownBytes.{Consumes, Keeps}
@@ -8,7 +8,7 @@ use Rattle.std.proofs.lemmas.List.{append_cancel_left}
 use Rattle.sb_checkpoint.specs.Stores.{TellsSame}
 use Rattle.sb_checkpoint.specs.declared.store.StoreFault.{StoreFault}
 
--- a piece that is read behind others
+-- a piece that is read after others
 consumes_more : (old mid new : Option (List ℕ)) (front piece : List ℕ) → Consumes old mid front → Consumes mid new piece
     → Consumes old new (front ++ piece)
 consumes_more None mid new front piece before now = tt
@@ -52,7 +52,7 @@ differs (Some xs) (Some ys) (Some zs) bytes front rest piece read same now other
   (λ held. absurd (other zs (append_cancel_left front rest ys (sym same ∙ sym held ∙ read) ∙ now))),
 )
 
--- whatever is told, something may have been found that it is true of
+-- whatever is answered, something was found that agrees with it
 pub found_so : (told : Result Bool StoreFault) (bytes : List ℕ)
     → IfOk told (λ same. (found : Option (List ℕ)) × TellsSame bytes same found × (⊥ → found ≡ None))
 found_so (Ok true) bytes = (Some bytes, ((λ _. refl), (λ _. refl)), (λ never. absurd never))

@@ -16,12 +16,12 @@ use Rattle.sb_checkpoint.proofs.Taken.{either, head_is, passed, taken}
 abbrev Found : Type 0
 Found = Option CheckpointFault
 
--- none of two faults
+-- neither of two faults was found
 neither_found : (first later : Found) → option_or first later ≡ None → (first ≡ None) × (later ≡ None)
 neither_found None later e = (refl, e)
 neither_found (Some fault) later e = absurd cc
 
--- places that have replies, and these
+-- places that all hold replies, and these replies
 are_replies : (found : List (Option Reply)) → list_any is_no_reply found ≡ false → (replies : List Reply) × (map (λ r. Some r) replies ≡ found)
 are_replies [] all = ([], refl)
 are_replies (None ∷ found) all = absurd cc
@@ -45,7 +45,7 @@ none_missing : (layout : Layout) (bytes : List ℕ) → replies_fault layout byt
 unfolding replies_fault
 none_missing layout bytes e = (passed (list_any is_no_reply (stated_replies layout bytes)) BadReply _ e).0
 
--- what has no fault in its head has a layout
+-- bytes without a fault in the head have a layout
 has_layout : (bytes : List ℕ) (customers : ℕ) → head_fault bytes customers ≡ None → (layout : Layout) × (stated_layout bytes ≡ Some layout)
 unfolding head_fault
 has_layout bytes customers e = which (stated_layout bytes) refl e

@@ -1,4 +1,4 @@
--- Faults that are found one after another.
+-- Faults that are tested one after another.
 use Rattle.std.proofs.Common.{◌≡◌, ℕ, ◌<◌, ◌≤◌, ◌⊎◌, Bool, true, false, cond, ltb, ◌||◌, Option, Some, None, List, [], ◌∷◌, length, get_or, map, refl, sym, ap, ap₂, ◌∙◌, arith, inl, inr}
 use Rattle.std.specs.Prelude.{◌≢◌}
 use Rattle.std.specs.Option.{option_or, option_and_then}
@@ -37,11 +37,11 @@ abbrev pub bad_reply : Bool → Found
 bad_reply test = cond test (Some BadReply) None
 
 module _ (layout : Layout) (bytes : List ℕ) (replies : List Reply) (read : map (λ r. Some r) replies ≡ stated_replies layout bytes) where
-  -- whether there is too much
+  -- whether there are too many replies or too many bytes
   abbrev too_much : Bool
   too_much = ltb LOG_CALLS (stated_length bytes) || ltb (stated_size layout bytes) (length bytes)
 
-  -- where all are replies, there may be too much
+  -- if all are replies, there may still be too much
   replies_then : replies_fault layout bytes ≡ cond too_much (Some Long) None
   unfolding replies_fault
   replies_then =
@@ -64,7 +64,7 @@ module _ (layout : Layout) (bytes : List ℕ) (replies : List Reply) (read : map
 
 -- ---- one after another
 
--- want of memory is no fault of a head
+-- refused memory is no fault of a head
 no_memory_asked : (bytes : List ℕ) (customers : ℕ) (layout : Option Layout) → laid_out_fault layout bytes customers ≢ Some OutOfMemory
 no_memory_asked bytes customers None e = absurd cc
 no_memory_asked bytes customers (Some layout) e = neither _ _ e
@@ -100,7 +100,7 @@ module _ (bytes : List ℕ) (origin : Origin) (layout : Layout) (laid_out : stat
       let later = fault_behind_head bytes origin.opening_total in
       ap (λ (f : Found). option_or f (option_and_then later (stated_layout bytes))) head ∙ ap (option_and_then later) laid_out
 
-  -- a right head, and then a fault or want of memory
+  -- a correct head, and then a fault or refused memory
   refused_by : (fault : CheckpointFault) → IsFaultOf (first_fault bytes origin) fault → IsRefusedBy bytes origin fault
   refused_by BadMagic h = h
   refused_by Short h = h

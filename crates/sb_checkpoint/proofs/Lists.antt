@@ -1,4 +1,4 @@
--- Amounts and replies one behind another: those that are read are spelled so.
+-- Amounts and replies in a row: what is read has the spelling that was there.
 use Rattle.std.proofs.Common.{◌≡◌, ℕ, zero, suc, ◌*◌, ◌<◌, ◌≤◌, List, [], ◌∷◌, ◌++◌, length, take, drop, map, Option, Some, sym, ap, ap₂, ◌∙◌, arith}
 use Rattle.std.proofs.Math.Seq.{take-add}
 use Rattle.std.specs.List.{AllByRecursion, All, flat_map}

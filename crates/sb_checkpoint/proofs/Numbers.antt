@@ -1,4 +1,5 @@
--- Numbers, amounts and replies in bytes: what is read is spelled so, and what is spelled so is read.
+-- Numbers, amounts and replies in bytes: what is read has its spelling there, and a spelling is
+-- read as its value.
 use Rattle.std.proofs.Common.{◌≡◌, ℕ, ◌^◌, ◌<◌, List, ◌∷◌, length, get_or, drop, Some, refl, sym, ap, ap₂, ◌∙◌, arith, inl, inr}
 use Rattle.std.specs.Int.{w32, w64, from_be_bytes}
 use Rattle.std.specs.List.{All}

@@ -1,4 +1,4 @@
--- Whether an element of a list passes, by a first place and by a count.
+-- Whether an element of a list passes a test, by a first place and by a count.
 use Rattle.std.proofs.Common.{◌≡◌, ℕ, ◌+◌, Bool, true, false, cond, ltb, ◌||◌, Some, None, List, [], ◌∷◌, length, get_or, refl, sym, ap, ◌∙◌, zero-add, arith, inl, inr}
 use Rattle.std.specs.Option.{is_some}
 use Rattle.std.specs.List.{All, count_by, list_any, position, position_or_len}
@@ -28,7 +28,7 @@ pub count_any : {A : Type 0} (p : A → Bool) (xs : List A) → ltb 0 (count_by 
 count_any p [] = refl
 count_any p (x ∷ xs) = ap (ltb 0) (sum_by-cons (λ x. cond (p x) 1 0) x xs) ∙ counted (p x) (list_any p xs) (count_by p xs) (count_any p xs)
 
--- where none passes, each fails
+-- if none passes, each fails
 pub each_fails : {A : Type 0} (p : A → Bool) (xs : List A) → list_any p xs ≡ false → All (λ x. p x ≡ false) xs
 each_fails p xs none k d inside =
     let test = p (get_or xs k d) in

@@ -1,4 +1,4 @@
--- A spelling is read as what it spells, and has no fault.
+-- A spelling is read as what it spells, and without a fault.
 use Rattle.std.proofs.Common.{◌≡◌, ℕ, ◌+◌, ◌*◌, ℤ, ◌+ℤ◌, Bool, true, false, not, cond, eqb, ltb, ◌||◌, Option, Some, None, List, [], ◌∷◌, ◌++◌, length, take, drop, get_or, map, refl, sym, subst, ap, ap₂, ◌∙◌, arith}
 use Rattle.std.specs.Prelude.{FitsSigned, nat_eq}
 use Rattle.std.specs.Int.{w32, w64, from_be_bytes}
@@ -22,7 +22,7 @@ use Rattle.sb_checkpoint.proofs.Found.{no_fault, replies_without_fault}
 use Rattle.sb_checkpoint.proofs.Taken.{IsRead, opening_size, with_opening}
 use Rattle.sb_checkpoint.proofs.Walks.{IsAt, step, number32_size, number64_size, number32_again, number64_again, amount_again, amounts_size, amounts_again, replies_size, replies_again}
 
--- what is read of a spelling
+-- what is read from a spelling
 pub record IsReadBack (layout : Layout) (opening_total : ℤ) (bytes : List ℕ) (made : CheckpointOf) : Type 0 where
   pub begins : take 8 bytes ≡ magic layout
   pub count : stated_length bytes ≡ length made.replies

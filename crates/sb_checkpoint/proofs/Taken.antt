@@ -1,4 +1,4 @@
--- Bytes without a fault are a spelling of what is read.
+-- Bytes without a fault are the spelling of what is read.
 use Rattle.std.proofs.Common.{◌≡◌, ℕ, ◌+◌, ◌*◌, ◌<◌, ◌≤◌, ℤ, ◌+ℤ◌, Bool, true, false, not, cond, eqb, ltb, ◌||◌, Option, Some, None, List, ◌++◌, length, take, drop, map, refl, sym, ap, ap₂, ◌∙◌, arith}
 use Rattle.std.proofs.Math.Seq.{take-add}
 use Rattle.std.specs.Prelude.{nat_eq}
@@ -103,19 +103,19 @@ ends layout bytes e =
 
 -- ---- field by field
 
--- a front goes on by a field
+-- a front continues with a field
 goes_on : (bytes : List ℕ) (at n next : ℕ) (front field : List ℕ) → next ≡ at + n → take at bytes ≡ front → take n (drop at bytes) ≡ field
     → take next bytes ≡ front ++ field
 goes_on bytes at n next front field is before here =
     ap (λ m. take m bytes) is ∙ take-add at n bytes ∙ ap₂ (λ (a b : List ℕ). a ++ b) before here
 
--- what is read of bytes
+-- what is read from the bytes
 pub record IsRead (layout : Layout) (bytes : List ℕ) (made : CheckpointOf) : Type 0 where
   pub savings : made.columns.savings ≡ stated_savings bytes
   pub checking : made.columns.checking ≡ stated_checking bytes
   pub replies : map (λ r. Some r) made.replies ≡ stated_replies layout bytes
 
--- the bytes from a place on that a field takes
+-- the bytes of a field from a place on
 part : (bytes : List ℕ) (at n : ℕ) → at + n ≤ length bytes → AreBytes bytes → (length (take n (drop at bytes)) ≡ n) × AreBytes (take n (drop at bytes))
 part bytes at n room are = (
   length-take-le n (drop at bytes) (omega (arith, length-drop at bytes)),
@@ -141,7 +141,7 @@ total_field bytes room are =
     let cells = part bytes (20 + 16 * stated_customers bytes) 8 (omega arith) are in
     sym (amount_spelled (take 8 (drop (20 + 16 * stated_customers bytes) bytes)) cells.0 cells.1)
 
--- how many bytes the opening total has
+-- the size of the opening total in bytes
 abbrev pub opening_size : Layout → ℕ
 opening_size First = 0
 opening_size Second = 8
@@ -211,7 +211,7 @@ module _ (bytes : List ℕ) (customers : ℕ) (layout : Layout) (made : Checkpoi
       let all = goes_on bytes (e + 16 * c) (stated_length bytes * 9) (stated_size layout bytes) _ _ (omega arith) opening (sym replies.1) in
       (replies.0, sym (take_all (stated_size layout bytes) bytes end.1) ∙ all)
 
--- where no fault is found
+-- no fault is found
 pub taken : (bytes : List ℕ) (customers : ℕ) (opening_total : ℤ) (layout : Layout) (made : CheckpointOf) → AreBytes bytes → IsBalances made.columns
     → IsRead layout bytes made → stated_layout bytes ≡ Some layout → head_fault bytes customers ≡ None → balances_fault bytes ≡ None
     → opening_fault layout bytes opening_total ≡ None → replies_fault layout bytes ≡ None → Spells layout opening_total made bytes

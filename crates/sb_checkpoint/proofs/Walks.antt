@@ -1,4 +1,4 @@
--- Bytes that are walked field by field, and amounts and replies that are read again.
+-- Bytes that are walked through field by field, and amounts and replies that are read back.
 use Rattle.std.proofs.Common.{◌≡◌, ℕ, ◌+◌, ◌*◌, ◌^◌, ◌<◌, ◌≤◌, ℤ, List, [], ◌∷◌, ◌++◌, length, take, drop, map, Some, refl, sym, ap, ap₂, ◌∙◌, append_assoc, arith}
 use Rattle.std.specs.Prelude.{FitsSigned}
 use Rattle.std.specs.Int.{w32, w64, from_be_bytes, cast_signed, cast_unsigned}
@@ -15,7 +15,7 @@ use Rattle.sb_checkpoint.specs.Reading.{amount_of, amounts_at, stated_reply}
 
 -- ---- walking
 
--- what stands from a place on
+-- the bytes from a place on
 pub record IsAt (bytes : List ℕ) (at : ℕ) (rest : List ℕ) : Type 0 where
   pub within : at ≤ length bytes
   pub behind : drop at bytes ≡ rest

@@ -1,4 +1,4 @@
--- What a checkpoint is, and how it is spelled.
+-- What a checkpoint is, and how its bytes spell it.
 use Rattle.std.specs.Prelude.{◌≡◌, ℕ, ◌≤◌, ℤ, ◌+ℤ◌, List, [], ◌∷◌, ◌++◌, length}
 use Rattle.std.specs.Int.{w32, w64}
 use Rattle.std.specs.List.{All, flat_map}
@@ -8,23 +8,25 @@ use Rattle.sb_calls.specs.declared.call.TheConstants.{LOG_CALLS}
 use Rattle.sb_calls.specs.declared.reply.Reply.{Reply}
 use Rattle.lane_audit.specs.Columns.{total}
 
--- what an idle replica has: the balances, and the replies to the numbers from 1 on
+-- a checkpoint, the state of an idle replica: the balances, and the replies to the numbers from 1
+-- on
 pub record CheckpointOf : Type 0 where
   pub columns : Balances
   pub replies : List Reply
 
--- the balances are a bank's, and no more replies than a log has calls, each of which has a spelling
+-- a checkpoint is valid: its balances are a bank's, and it has at most as many replies as a log has
+-- calls, each with a spelling
 pub record IsCheckpoint (checkpoint : CheckpointOf) : Type 0 where
   pub balances : IsBalances checkpoint.columns
   pub few : length checkpoint.replies ≤ LOG_CALLS
   pub replies : All IsReply checkpoint.replies
 
--- what a checkpoint is told apart by: how many customers its bank has, and what they had together at the opening
+-- what identifies the bank of a checkpoint: the number of customers, and their total at the opening
 pub record Origin : Type 0 where
   pub customers : ℕ
   pub opening_total : ℤ
 
--- how checkpoints are laid out: the first way is only read, the second keeps the opening total too
+-- the layouts of checkpoints: the first is only read, the second also keeps the opening total
 pub data Layout : Type 0 where
   First : Layout
   Second : Layout
@@ -39,8 +41,8 @@ abbrev pub opening_field : Layout → ℤ → List ℕ
 opening_field First opening_total = []
 opening_field Second opening_total = amount_field opening_total
 
--- the magic, the length, how many customers, all savings, all checking balances, their total, the opening total where
--- the layout has it, and the replies
+-- the bytes of a checkpoint: the magic, the length, the number of customers, all savings, all
+-- checking balances, their total, the opening total if the layout has it, and the replies
 unfoldable pub spelling : Layout → ℤ → CheckpointOf → List ℕ
 spelling layout opening_total checkpoint =
     let columns = checkpoint.columns in
@@ -49,16 +51,16 @@ spelling layout opening_total checkpoint =
     ++ amount_field (total columns.savings +ℤ total columns.checking) ++ opening_field layout opening_total
     ++ flat_map reply_field checkpoint.replies
 
--- the bytes are the spelling of a checkpoint in a layout, of a bank with this opening total
+-- the bytes spell a valid checkpoint in this layout, of a bank with this opening total
 pub record Spells (layout : Layout) (opening_total : ℤ) (checkpoint : CheckpointOf) (bytes : List ℕ) : Type 0 where
   pub valid : IsCheckpoint checkpoint
   pub spelled : bytes ≡ spelling layout opening_total checkpoint
 
--- in one of the two layouts
+-- the bytes spell a checkpoint in one of the two layouts
 abbrev pub IsSpelled : ℤ → CheckpointOf → List ℕ → Type 0
 IsSpelled opening_total checkpoint bytes = (layout : Layout) × Spells layout opening_total checkpoint bytes
 
--- bytes are of one checkpoint, in one layout
+-- bytes spell at most one checkpoint, in one layout
 abbrev pub OneCheckpoint : Type 0
 OneCheckpoint = (k l : Layout) (t u : ℤ) (a b : CheckpointOf) (bytes : List ℕ) → Spells k t a bytes → Spells l u b bytes
     → (k ≡ l) × (a ≡ b)

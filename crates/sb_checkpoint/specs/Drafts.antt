@@ -1,7 +1,7 @@
--- A checkpoint that lacks replies yet, as callers see it.
+-- A checkpoint that still lacks replies, as callers see it.
 use Rattle.std.specs.Prelude.{ℕ, List}
 
--- the bytes so far, and how many replies are missing
+-- the bytes so far, and the number of missing replies
 pub record DraftOf : Type 0 where
   pub bytes : List ℕ
   pub missing : ℕ

@@ -3,7 +3,7 @@ use Rattle.std.specs.Prelude.{ℕ}
 use Rattle.sb_checkpoint.specs.declared.fault.CheckpointFault.{CheckpointFault}
 use Rattle.sb_checkpoint.specs.declared.fault.CheckpointFault.TheVariants.{BadMagic, Short, WrongCustomers, OutOfRange, NegativeSavings, WrongTotal, BadReply, Long, OutOfMemory, WrongOpening}
 
--- the number of a fault of a checkpoint
+-- the number of a checkpoint fault
 abbrev pub checkpoint_fault_number : CheckpointFault → ℕ
 checkpoint_fault_number BadMagic = 1
 checkpoint_fault_number Short = 2

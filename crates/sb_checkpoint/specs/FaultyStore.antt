@@ -6,18 +6,19 @@ use Rattle.sb_checkpoint.specs.declared.faulty_store.Version.{Version}
 use Rattle.sb_checkpoint.specs.declared.faulty_store.Version.TheVariants.{Old, New}
 use Rattle.sb_checkpoint.specs.declared.store.StoreFault.TheVariants.{Device, OutOfMemory}
 
--- its store in memory, which of the calls to come fails (the next is 1; none is 0), and what a put leaves that fails
+-- its store in memory, which call from now on fails (1 is the next, 0 is none), and which bytes a
+-- failing put leaves
 pub record FaultyStoreOf : Type 0 where
   pub inner : MemoryStoreOf
   pub at : ℕ
   pub leaves : Version
 
--- what is held once a put of these bytes failed
+-- what is held after a put of these bytes failed
 abbrev pub left_by : Version → Option (List ℕ) → List ℕ → Option (List ℕ)
 left_by Old held bytes = held
 left_by New held bytes = Some bytes
 
--- the call at which the device fails: it is counted, and beside that a get changes nothing
+-- the call at which the device fails: the failure is counted, and a get changes nothing else
 abbrev pub Fails : FaultyStoreOf → StoreStep → FaultyStoreOf → Type 0
 Fails old (Put bytes (Ok done)) new = ⊥
 Fails old (Put bytes (Err Device)) new = new ≡ record old {
@@ -33,7 +34,8 @@ Fails old (NotGot Device) new =
     new ≡ record old { inner = record old.inner { failures = one_more old.inner.failures }; at = 0 }
 Fails old (NotGot OutOfMemory) new = ⊥
 
--- which call is to fail once this was made; one that memory is refused to isn't counted
+-- the number of the failing call, counted from the next call on; a call that is refused memory
+-- isn't counted
 abbrev pub counted : ℕ → StoreStep → ℕ
 counted at (Put bytes (Ok done)) = at - 1
 counted at (Put bytes (Err Device)) = at - 1
@@ -42,14 +44,15 @@ counted at (Got held) = at - 1
 counted at (NotGot Device) = at - 1
 counted at (NotGot OutOfMemory) = at
 
--- the call whose turn it is fails; every other is that of the store in memory
+-- the call whose turn it is fails; every other call acts on the store in memory
 abbrev pub FaultyActs : FaultyStoreOf → StoreStep → FaultyStoreOf → Type 0
 FaultyActs old step new =
     (old.at ≡ 1 → Fails old step new)
     × (old.at ≢ 1 → MemoryActs old.inner step new.inner
     × (new ≡ record old { inner = new.inner; at = counted old.at step }))
 
--- it holds what its store in memory does, and its device fails where that fails, and once more
+-- it holds what its store in memory holds, and its device fails if that one fails, or at the chosen
+-- call
 abbrev pub faulty_model : StoreModel FaultyStoreOf
 faulty_model = record {
   slot = λ store. store.inner.slot;

@@ -9,8 +9,8 @@ pub record FileStoreOf (P : Type 0) : Type 0 where
   pub file : P
   pub failures : ℕ
 
--- each failure is counted once, and nothing else is. A put is never refused memory, and one that ends well leaves no
--- spare beside an honest file
+-- each failure is counted once, and nothing else is. A put is never refused memory, and a put that
+-- succeeds leaves no spare beside an honest file
 abbrev pub FileActs : {P : Type 0} → (P → Type 0) → (P → Option (List ℕ))
     → FileStoreOf P → StoreStep → FileStoreOf P → Type 0
 FileActs IsHonest spare old (Put bytes (Ok done)) new =

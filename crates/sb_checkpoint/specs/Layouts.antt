@@ -1,4 +1,4 @@
--- The layouts of the code.
+-- The layouts, as the code has them.
 use Rattle.sb_checkpoint.specs.Checkpoint.{Layout, First, Second}
 use Rattle.sb_checkpoint.specs.declared.layout.Layout.{Layout as CodeLayout}
 use Rattle.sb_checkpoint.specs.declared.layout.Layout.TheVariants as code

@@ -11,12 +11,12 @@ pub record MemoryStoreOf : Type 0 where
   pub next : How
   pub failures : ℕ
 
--- one failure more, up to the greatest that can be told
+-- one more failure, up to the greatest number that can be reported
 abbrev pub one_more : ℕ → ℕ
 one_more failures = if failures == 2 ^ 64 - 1 then failures else suc failures
 
--- a put ends as it was told, and the next one well; a get changes nothing, its device never fails, and it wants memory
--- only for what is held
+-- a put ends as planned, and the next one succeeds; a get changes nothing, its device never fails,
+-- and it is refused memory only if something is held
 abbrev pub MemoryActs : MemoryStoreOf → StoreStep → MemoryStoreOf → Type 0
 MemoryActs old (Put bytes (Ok done)) new =
     (old.next ≡ how.Ok) × (new ≡ record old { slot = Some bytes })
@@ -28,7 +28,7 @@ MemoryActs old (Got held) new = (held ≡ old.slot) × (new ≡ old)
 MemoryActs old (NotGot Device) new = ⊥
 MemoryActs old (NotGot OutOfMemory) new = (old.slot ≢ None) × (new ≡ old)
 
--- a store in memory holds what it says
+-- a store in memory holds what its model says
 abbrev pub memory_model : StoreModel MemoryStoreOf
 memory_model = record {
   slot = λ store. store.slot;

@@ -1,4 +1,4 @@
--- What is wrong with bytes that are read as a checkpoint: the first fault that holds.
+-- The fault of bytes that are read as a checkpoint: the first in order.
 use Rattle.std.specs.Prelude.{FitsSigned, ◌≡◌, ℕ, ◌+◌, ◌*◌, ℤ, pos, neg_ℤ, ◌+ℤ◌, ◌<◌, ◌≤◌, int_lt, nat_lt, nat_eq, ◌==◌, Bool, true, false, ◌||◌, not, if◌then◌else◌, Option, Some, None, List, length, take, drop, get_or, map, option_and_then}
 use Rattle.std.specs.Int.{w32, w64, from_be_bytes, cast_signed}
 use Rattle.std.specs.List.{All, list_any, starts_with}
@@ -15,9 +15,10 @@ use Rattle.sb_checkpoint.specs.Checkpoint.{CheckpointOf, IsSpelled, Layout, Firs
 use Rattle.sb_checkpoint.specs.declared.fault.CheckpointFault.{CheckpointFault}
 use Rattle.sb_checkpoint.specs.declared.fault.CheckpointFault.TheVariants.{BadMagic, Short, WrongCustomers, OutOfRange, NegativeSavings, WrongTotal, WrongOpening, BadReply, Long, OutOfMemory}
 
--- ---- the fields, where they stand
+-- ---- the fields at their places
 
--- the layout whose magic the first eight bytes are, or as many as there are begin; the first, where both are begun
+-- the layout whose magic the first eight bytes are; if there are fewer bytes, the layout whose
+-- magic they begin, and the first layout if they begin both
 unfoldable pub stated_layout : List ℕ → Option Layout
 stated_layout bytes =
     if starts_with nat_eq (magic First) (take 8 bytes) then Some First
@@ -27,7 +28,7 @@ stated_layout bytes =
 abbrev pub amount_of : List ℕ → ℤ
 amount_of cells = cast_signed w64 (from_be_bytes w64 cells)
 
--- how many replies the bytes say that they have
+-- the number of replies that the bytes state
 unfoldable pub stated_length : List ℕ → ℕ
 stated_length bytes = from_be_bytes w64 (take 8 (drop 8 bytes))
 
@@ -38,7 +39,7 @@ stated_customers bytes = from_be_bytes w32 (take 4 (drop 16 bytes))
 abbrev pub amounts_at : ℕ → List ℕ → List ℤ
 amounts_at count bytes = map amount_of (first_chunks 8 count bytes)
 
--- as many savings as there are customers, then as many checking balances
+-- the savings come first, one for each customer, then the checking balances
 abbrev pub stated_savings : List ℕ → List ℤ
 stated_savings bytes = amounts_at (stated_customers bytes) (drop 20 bytes)
 
@@ -48,11 +49,11 @@ stated_checking bytes = amounts_at (stated_customers bytes) (drop (20 + 8 * stat
 unfoldable pub stated_total : List ℕ → ℤ
 stated_total bytes = amount_of (take 8 (drop (20 + 16 * stated_customers bytes) bytes))
 
--- behind the total, in the second layout
+-- the opening total, which comes after the total in the second layout
 unfoldable pub stated_opening : List ℕ → ℤ
 stated_opening bytes = amount_of (take 8 (drop (28 + 16 * stated_customers bytes) bytes))
 
--- how many bytes a checkpoint of nobody and nothing has
+-- the number of bytes of a checkpoint without customers and replies
 abbrev pub empty_size : Layout → ℕ
 empty_size First = 28
 empty_size Second = 36
@@ -60,11 +61,11 @@ empty_size Second = 36
 abbrev pub stated_size : Layout → List ℕ → ℕ
 stated_size layout bytes = empty_size layout + 16 * stated_customers bytes + 9 * stated_length bytes
 
--- a code, and a total
+-- the reply with this code and total, if there is one
 unfoldable pub stated_reply : List ℕ → Option Reply
 stated_reply cells = coded (get_or cells 0 0) (amount_of (drop 1 cells))
 
--- each of the replies, where it is one
+-- each stated reply, if it is one
 abbrev pub stated_replies : Layout → List ℕ → List (Option Reply)
 stated_replies layout bytes = map stated_reply
     (first_chunks 9 (stated_length bytes) (drop (empty_size layout + 16 * stated_customers bytes) bytes))
@@ -81,7 +82,7 @@ is_past_limit = is_outside (neg_ℤ LIMIT) LIMIT
 abbrev pub is_negative : ℤ → Bool
 is_negative amount = int_lt amount (pos 0)
 
--- they begin otherwise, end early, or are of another bank
+-- the fault of the head: the bytes begin otherwise, end early, or are of another bank
 abbrev pub laid_out_fault : Option Layout → List ℕ → ℕ → Option CheckpointFault
 laid_out_fault None bytes customers = Some BadMagic
 laid_out_fault (Some layout) bytes customers =
@@ -92,7 +93,7 @@ laid_out_fault (Some layout) bytes customers =
 unfoldable pub head_fault : List ℕ → ℕ → Option CheckpointFault
 head_fault bytes customers = laid_out_fault (stated_layout bytes) bytes customers
 
--- the balances aren't a bank's, or aren't as much in all as is stated
+-- the balances aren't a bank's, or their sum isn't the stated total
 unfoldable pub balances_fault : List ℕ → Option CheckpointFault
 balances_fault bytes =
     let savings = stated_savings bytes in
@@ -102,47 +103,48 @@ balances_fault bytes =
     else if not (int_eq (stated_total bytes) (total savings +ℤ total checking)) then Some WrongTotal
     else None
 
--- the opening total, where the layout has it, isn't the bank's
+-- the opening total isn't the bank's, if the layout has one
 abbrev pub opening_fault : Layout → List ℕ → ℤ → Option CheckpointFault
 opening_fault First bytes opening_total = None
 opening_fault Second bytes opening_total =
     if not (int_eq (stated_opening bytes) opening_total) then Some WrongOpening else None
 
--- what stands in a reply's place is none, or there is too much
+-- a reply isn't valid, or there is too much
 unfoldable pub replies_fault : Layout → List ℕ → Option CheckpointFault
 replies_fault layout bytes =
     if list_any is_no_reply (stated_replies layout bytes) then Some BadReply
     else if nat_lt LOG_CALLS (stated_length bytes) || nat_lt (stated_size layout bytes) (length bytes) then Some Long
     else None
 
--- behind a right head
+-- the first fault after a correct head
 abbrev pub fault_behind_head : List ℕ → ℤ → Layout → Option CheckpointFault
 fault_behind_head bytes opening_total layout = option_or (balances_fault bytes)
     (option_or (opening_fault layout bytes opening_total) (replies_fault layout bytes))
 
--- the first fault that holds, if any
+-- the first fault of the bytes, if any
 unfoldable pub first_fault : List ℕ → Origin → Option CheckpointFault
 first_fault bytes origin = option_or (head_fault bytes origin.customers)
     (option_and_then (fault_behind_head bytes origin.opening_total) (stated_layout bytes))
 
--- a fault that was found, or want of memory in its place
+-- a fault that was found, or refused memory in its place
 abbrev pub IsFaultOf : Option CheckpointFault → CheckpointFault → Type 0
 IsFaultOf found OutOfMemory = Unit {0}
 IsFaultOf found fault = found ≡ Some fault
 
--- why bytes are refused: by the first fault, or, behind a right head, for want of memory
+-- why bytes are refused: by the first fault, or, after a correct head, because memory is refused
 abbrev pub IsRefusedBy : List ℕ → Origin → CheckpointFault → Type 0
 IsRefusedBy bytes origin OutOfMemory = head_fault bytes origin.customers ≡ None
 IsRefusedBy bytes origin fault = first_fault bytes origin ≡ Some fault
 
--- bytes that spell a checkpoint, in either layout, of a bank whose opening total an i64 holds, have no fault
+-- bytes have no fault if they spell a checkpoint, in either layout, of a bank whose opening total
+-- fits an i64
 abbrev pub SpelledIsTaken : Type 0
 SpelledIsTaken = (layout : Layout) (opening_total : ℤ) (checkpoint : CheckpointOf) (bytes : List ℕ)
     → FitsSigned w64 opening_total → Spells layout opening_total checkpoint bytes
     → first_fault bytes (record { customers = length checkpoint.columns.savings; opening_total = opening_total }) ≡ None
 
--- bytes without a fault, read for a bank of so many customers with an opening total that an i64 holds, spell a
--- checkpoint of as many in one of the layouts
+-- bytes without a fault, read for a bank of this many customers with an opening total that fits an
+-- i64, spell a checkpoint of that many customers in one of the layouts
 abbrev pub TakenIsSpelled : Type 0
 TakenIsSpelled = (bytes : List ℕ) (origin : Origin) → All (λ byte. byte < 256) bytes → origin.customers ≤ CUSTOMERS
     → FitsSigned w64 origin.opening_total → first_fault bytes origin ≡ None

@@ -5,7 +5,8 @@ use sb_calls::Reply;
 use sb_rows::Columns;
 use std::marker::Model;
 
-/// What an idle replica has: the balances of all customers, and the replies to the calls so far.
+/// The state of an idle replica: the balances of all customers, and the replies to the calls so
+/// far.
 #[derive(Debug, Drop)]
 pub struct Checkpoint {
     columns: Columns,
@@ -21,7 +22,7 @@ impl Model for Checkpoint {
 }
 
 impl Checkpoint {
-    /// A checkpoint of these balances and replies.
+    /// A checkpoint with these balances and replies.
     pub(crate) fn of(columns: Columns, replies: Vec<Reply>) -> Checkpoint
         ensures { result ≡ record { columns = columns; replies = replies.items } }
     {

@@ -1,4 +1,4 @@
-//! Why bytes are no checkpoint.
+//! The faults of bytes read as a checkpoint.
 ghost use Rattle.std.specs.Prelude.{◌≡◌};
 ghost use Rattle.sb_checkpoint.specs.Faults.{checkpoint_fault_number};
 ghost use Rattle.sb_checkpoint.specs.declared.fault.CheckpointFault.TheVariants.{OutOfMemory};
@@ -6,36 +6,36 @@ ghost use Rattle.sb_checkpoint.specs.declared.fault.CheckpointFault.TheVariants.
 use std::alloc::AllocError;
 use thiserror::Error;
 
-/// Why bytes aren't taken as a checkpoint: the first fault in this order. Memory may be refused in
-/// the place of any fault from `OutOfRange` on.
+/// Why bytes aren't accepted as a checkpoint: the first fault in this order. Memory may be refused
+/// in place of any fault from `OutOfRange` on.
 #[derive(Clone, Copy, Debug, PartialEq, Eq, Error)]
 pub enum CheckpointFault {
-    /// It doesn't begin with the eight bytes of a checkpoint.
+    /// The bytes don't begin with the eight bytes of a checkpoint.
     #[error("bad magic")]
     BadMagic,
-    /// There are fewer bytes than it states.
+    /// There are fewer bytes than the head states.
     #[error("short")]
     Short,
-    /// It is of a bank with another number of customers.
+    /// The checkpoint is of a bank with another number of customers.
     #[error("wrong customers")]
     WrongCustomers,
     /// A balance is past the limit.
     #[error("out of range")]
     OutOfRange,
-    /// Savings are below 0.
+    /// A savings balance is below 0.
     #[error("negative savings")]
     NegativeSavings,
-    /// The total isn't that of its balances.
+    /// The total isn't the sum of the balances.
     #[error("wrong total")]
     WrongTotal,
-    /// It is of a bank with another opening total.
+    /// The checkpoint is of a bank with another opening total.
     #[error("wrong opening")]
     WrongOpening,
     /// A reply's code is above 7, its total is past the range of two balances, or there is a total
-    /// where none is shown.
+    /// in a reply that shows none.
     #[error("bad reply")]
     BadReply,
-    /// There are more replies than a log has calls, or more bytes than it states.
+    /// There are more replies than a log has calls, or more bytes than the head states.
     #[error("long")]
     Long,
     /// Memory was refused; nothing is kept.
@@ -52,7 +52,8 @@ impl From<AllocError> for CheckpointFault {
 }
 
 impl CheckpointFault {
-    /// The number of the fault: that of `WrongOpening` is 10, the others have 1 to 9 in the order of the variants.
+    /// The number of the fault: 10 for `WrongOpening`, and 1 to 9 for the others in the order of
+    /// the variants.
     pub fn number(&self) -> u8
         ensures { result ≡ checkpoint_fault_number self.now }
     {

@@ -8,18 +8,19 @@ use crate::memory_store::MemoryStore;
 use crate::store::{CheckpointStore, StoreFault};
 use std::marker::Model;
 
-/// Which bytes a put leaves at which the device fails.
+/// Which bytes are left by a put at which the device fails.
 #[derive(Clone, Copy, Debug, PartialEq, Eq)]
 pub enum Version {
-    /// Those from before the put.
+    /// The bytes from before the put.
     Old,
-    /// Those that were to be put.
+    /// The bytes of the put.
     New,
 }
 
-/// A store in memory whose device fails at one call. Every other call is the store's in memory.
+/// A store in memory whose device fails at one call. Every other call acts on the store in memory.
 ///
-/// Puts and gets are counted together. One that memory is refused to changes nothing, and isn't counted.
+/// Puts and gets are counted together. A call that is refused memory changes nothing, and isn't
+/// counted.
 #[derive(Drop)]
 pub struct FaultyStore {
     inner: MemoryStore,
@@ -40,8 +41,8 @@ impl Model for FaultyStore {
 }
 
 impl FaultyStore {
-    /// A store over this one, whose device fails at call number `at`, counted from 1; with 0 it never does. Where that
-    /// call is a put, it leaves this version of the bytes.
+    /// A store over this one, whose device fails at call number `at`, counted from 1, or never if
+    /// `at` is 0. If that call is a put, it leaves this version of the bytes.
     pub fn new(inner: MemoryStore, at: u64, leaves: Version) -> FaultyStore
         ensures { result ≡ record { inner = inner; at = at; leaves = leaves } }
     {
@@ -55,14 +56,14 @@ impl FaultyStore {
         &self.inner
     }
 
-    // One call more was made.
+    // Counts one more call.
     fn count(&mut self)
         ensures { self.new ≡ record self.old { at = self.old.at - 1 } }
     {
         self.at = self.at.saturating_sub(1);
     }
 
-    // The device failed at this call.
+    // Counts the failure of the device at this call.
     fn failed(&mut self) -> StoreFault
         ensures fault { result ≡ Device }
         ensures counted { self.new ≡ record self.old {

@@ -1,4 +1,4 @@
-//! The fields of a checkpoint, read where they stand.
+//! The fields of a checkpoint, read in place.
 ghost use Rattle.std.specs.Prelude.{◌≡◌, if◌then◌else◌, ◌+◌, ◌*◌, ◌≤◌, IfOk, IfErr, Some, None, length, map, drop};
 ghost use Rattle.std.specs.List.{list_any};
 ghost use Rattle.sb_checkpoint.specs.Layouts.{layout_of};
@@ -65,7 +65,7 @@ pub(crate) fn stated_opening(bytes: &[u8], customers: usize) -> i64
 
 // ---- balances
 
-// As many amounts as there are customers, from a place on.
+// The amounts from a place on, one for each customer.
 pub(crate) fn read_amounts(
     alloc: Global,
     bytes: &[u8],
@@ -119,7 +119,7 @@ fn read_reply(cells: &[u8; REPLY]) -> Option<Reply>
     Some(reply.reply())
 }
 
-// The replies that stand in these bytes.
+// The replies in these bytes.
 pub(crate) fn replies_of(
     alloc: Global,
     cells: &[[u8; REPLY]],

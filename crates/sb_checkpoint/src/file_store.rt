@@ -8,9 +8,10 @@ use crate::spared::FileWithSpare;
 use crate::store::{CheckpointStore, StoreFault};
 use std::marker::Model;
 
-/// Holds a checkpoint in a file, which each put replaces whole.
+/// Holds a checkpoint in a file, which each put replaces as a whole.
 ///
-/// It is honest where its file is: after a put that fails, the file holds wholly the old or wholly the new bytes.
+/// It is honest if its file is: after a put that fails, the file holds wholly the old or wholly the
+/// new bytes.
 #[derive(Drop)]
 pub struct FileStore<P: FileWithSpare> {
     file: P,
@@ -29,17 +30,18 @@ impl<P: FileWithSpare> Model for FileStore<P> {
 }
 
 impl<P: FileWithSpare> FileStore<P> {
-    /// A store in this file, whose device has not failed yet. The file isn't touched.
+    /// A store in this file. Its device hasn't failed yet. The file isn't touched.
     pub fn new(file: P) -> FileStore<P>
         ensures { result ≡ record { file = file; failures = 0 } }
     {
         FileStore { file, failures: 0 }
     }
 
-    /// Tells whether a put could be made: writes an empty spare and removes it. The checkpoint stays as it is.
+    /// Tests whether a put is possible: writes an empty spare and removes it. The checkpoint stays
+    /// as it is.
     ///
-    /// `Device`, counted as any other, says that the folder isn't there, or that no file can be made, synced and
-    /// removed in it. Memory is never refused.
+    /// Fails with `Device`, which counts like any other failure, if the folder isn't there, or if
+    /// no file can be made, synced and removed in it. Memory is never refused.
     pub fn probe(&mut self) -> Result<(), StoreFault>
         ensures honest { P.IsHonest self.old.file → P.IsHonest self.new.file }
         ensures stays { P.IsHonest self.old.file → P.held self.new.file ≡ P.held self.old.file }
@@ -56,7 +58,7 @@ impl<P: FileWithSpare> FileStore<P> {
         Ok(())
     }
 
-    // The device failed once more.
+    // Counts one more failure of the device.
     fn failed(&mut self) -> StoreFault
         ensures fault { result ≡ Device }
         ensures counted { self.new ≡ record self.old { failures = one_more self.old.failures } }
@@ -82,7 +84,7 @@ impl<P: FileWithSpare> CheckpointStore for FileStore<P> {
         if done.is_ok() {
             return Ok(());
         }
-        // It may not be there, or may not go; the put has failed either way.
+        // The spare may be missing, or may refuse to go. The put has failed either way.
         let _ = self.file.remove_spare();
         Err(self.failed())
     }
@@ -95,7 +97,7 @@ impl<P: FileWithSpare> CheckpointStore for FileStore<P> {
         }
     }
 
-    // A file that can be compared piece by piece needn't be held in memory.
+    // A file that is compared piece by piece needn't be held in memory.
     fn holds(&mut self, bytes: &[u8]) -> Result<bool, StoreFault> {
         let told = self.file.holds(bytes);
         if let Err(StoreFault::Device) = told {

@@ -12,15 +12,17 @@ use std::marker::Model;
 use std::path::PathBuf;
 use std::{fs, io};
 
-// How many reads a file may take; one more counts as a failed read.
+// The most reads that a file may take. One more counts as a failed read.
 const READS: u32 = 1_000_000_000;
 
-// How many bytes are asked of a file at once.
+// The number of bytes to read from a file at once.
 const CHUNK: usize = 65_536;
 
-/// A file in a folder. Its spare is there only during a put or a probe, under the file's name and `.tmp`.
+/// A file in a folder. Its spare exists only during a put or a probe, under the file's name with
+/// `.tmp` appended.
 ///
-/// Nothing is promised of what the two hold: that is up to the system, whose files no contract tells of.
+/// Nothing is promised about what the two hold. That is up to the system, and no contract describes
+/// its files.
 #[derive(Drop)]
 pub struct FolderFile<F: Files + Drop> {
     alloc: Global,
@@ -45,7 +47,7 @@ impl<F: Files + Drop> Model for FolderFile<F> {
 }
 
 impl<F: Files + Drop> FolderFile<F> {
-    /// The file with this name in this folder. Nothing is touched. Fails where memory is refused.
+    /// The file of this name in this folder. Nothing is touched. Fails if memory is refused.
     pub fn new(
         alloc: Global,
         files: F,
@@ -68,7 +70,7 @@ impl<F: Files + Drop> FolderFile<F> {
     }
 }
 
-// Writes these bytes last, and syncs them. A write that was interrupted is made again.
+// Appends these bytes, and syncs them. An interrupted write is repeated.
 fn write_synced<W: Write + OpenFile>(file: &mut W, bytes: &[u8]) -> io::Result<()>
     ensures { OnOk result (Appends (W.contents file.old) (W.contents file.new) bytes.now) }
 {
@@ -76,8 +78,8 @@ fn write_synced<W: Write + OpenFile>(file: &mut W, bytes: &[u8]) -> io::Result<(
     file.sync_all()
 }
 
-// All that a reader gives, with room made for this many bytes at first. A read that was interrupted is made again,
-// and counts as one.
+// All bytes of a reader, with room for this many at first. An interrupted read is repeated, and
+// counts as one.
 fn read_whole<R: Read>(alloc: Global, room: usize, reader: &mut R) -> Result<Vec<u8>, StoreFault>
     ensures { IfOk result (λ bytes. IfSome (R.remaining reader.old) (λ held. bytes.items ≡ held)) }
 {
@@ -104,7 +106,7 @@ fn read_whole<R: Read>(alloc: Global, room: usize, reader: &mut R) -> Result<Vec
     Err(StoreFault::Device)
 }
 
-// Whether a reader gives just these bytes. A read that was interrupted is made again, and counts as one.
+// Whether a reader gives exactly these bytes. An interrupted read is repeated, and counts as one.
 fn gives_just<R: Read>(reader: &mut R, bytes: &[u8]) -> Result<bool, StoreFault>
     ensures { IfOk result (λ same. IfSome (R.remaining reader.old) (λ held. IsTrue same ↔ (held ≡ bytes.now))) }
 {
@@ -132,7 +134,7 @@ impl<F: Files + Drop> FileWithSpare for FolderFile<F> {
 
     ghost spare = { λ file. None };
 
-    // What a file holds is in no contract, so this is told of none.
+    // No contract says what a file holds, so nothing is claimed of it.
     ghost IsHonest = { λ file. ⊥ };
 
     fn write_spare(&mut self, bytes: &[u8]) -> io::Result<()> {
@@ -140,7 +142,7 @@ impl<F: Files + Drop> FileWithSpare for FolderFile<F> {
         write_synced(&mut spare, bytes)
     }
 
-    // The folder is opened first, so that where it can't be the file stays as it is.
+    // The folder is opened first, so that the file stays as it is if that fails.
     fn place_spare(&mut self) -> io::Result<()> {
         let folder = fs::open(&self.files, &self.folder)?;
         fs::rename(&self.files, &self.spare, &self.path)?;
@@ -158,14 +160,14 @@ impl<F: Files + Drop> FileWithSpare for FolderFile<F> {
             Err(error) if error.kind() == ErrorKind::NotFound => return Ok(None),
             Err(_) => return Err(StoreFault::Device),
         };
-        // Where the length can't be told, room is made as the bytes come.
+        // If the length is unknown, room is made as the bytes come.
         let room = file
             .metadata()
             .map_or(0, |metadata| metadata.len() as usize);
         Ok(Some(read_whole(self.alloc, room, &mut file)?))
     }
 
-    // Piece by piece, so that what is read back needn't pass through memory.
+    // The comparison is piece by piece, so the bytes needn't all be in memory.
     fn holds(&mut self, bytes: &[u8]) -> Result<bool, StoreFault> {
         match fs::open(&self.files, &self.path) {
             Ok(mut file) => gives_just(&mut file, bytes),

@@ -1,4 +1,4 @@
-//! What the spelling of checkpoints is.
+//! What holds for the spelling of checkpoints.
 ghost use Rattle.sb_checkpoint.specs.Checkpoint.{OneCheckpoint};
 ghost use Rattle.sb_checkpoint.specs.Reading.{SpelledIsTaken, TakenIsSpelled};
 
@@ -12,8 +12,8 @@ pub fn spelled_is_taken()
     ensures { SpelledIsTaken }
 {}
 
-/// Bytes that are read without a fault spell a checkpoint in one of the layouts, of as many customers as they are read
-/// for.
+/// Bytes that are read without a fault spell a checkpoint in one of the layouts, with as many
+/// customers as they are read for.
 pub fn taken_is_spelled()
     ensures { TakenIsSpelled }
 {}

@@ -1,43 +1,45 @@
-//! How a checkpoint is laid out: where its fields stand, and how many bytes they have.
+//! The layouts of a checkpoint: the places of its fields, and their sizes in bytes.
 ghost use Rattle.std.specs.Prelude.{◌≡◌, option_map};
 ghost use Rattle.sb_checkpoint.specs.Layouts.{layout_of};
 ghost use Rattle.sb_checkpoint.specs.Reading as spec;
 
-/// How checkpoints are laid out: the first way is only read, the second keeps the opening total too.
+/// The layout of a checkpoint. The first is only read, the second also keeps the opening total.
 #[derive(Clone, Copy, Debug, PartialEq, Eq)]
 pub(crate) enum Layout {
     First,
     Second,
 }
 
-/// The eight bytes that a checkpoint begins with in the first layout, and in the second.
+/// The eight bytes at the front of a checkpoint: in the first layout, and in the second.
 pub(crate) const MAGIC_FIRST: [u8; 8] = *b"SBCKPT01";
 
 pub(crate) const MAGIC_SECOND: [u8; 8] = *b"SBCKPT02";
 
-/// Where the length stands, and where the number of customers does.
+/// The places of the length and of the number of customers.
 pub(crate) const LENGTH_AT: usize = 8;
 
 pub(crate) const CUSTOMERS_AT: usize = 16;
 
-/// How many bytes stand before the first balance.
+/// The number of bytes before the first balance.
 pub(crate) const HEAD: usize = 20;
 
-/// How many bytes an amount has, and how many a reply.
+/// The sizes of an amount and of a reply, in bytes.
 pub(crate) const AMOUNT: usize = 8;
 
 pub(crate) const REPLY: usize = 9;
 
-/// How many bytes the balances of one customer have.
+/// The size of one customer's balances, in bytes.
 pub(crate) const BALANCES: usize = 2 * AMOUNT;
 
-/// How many bytes a checkpoint of nobody and nothing has in the first layout, and in the second.
+/// The size of a checkpoint without customers and replies, in bytes: in the first layout, and in
+/// the second.
 pub(crate) const EMPTY_FIRST: usize = HEAD + AMOUNT;
 
 pub(crate) const EMPTY_SECOND: usize = EMPTY_FIRST + AMOUNT;
 
 impl Layout {
-    /// The layout of bytes, by how they begin, however few there are. The beginning of both is taken as the first.
+    /// The layout of bytes, by how they begin, however few there are. Bytes that begin both are
+    /// taken as the first.
     #[tactic(auto, unfolding(crate::specs::Reading::stated_layout))]
     pub(crate) fn of(bytes: &[u8]) -> Option<Layout>
         ensures { option_map layout_of result ≡ spec.stated_layout bytes.now }
@@ -52,7 +54,7 @@ impl Layout {
         }
     }
 
-    /// How many bytes a checkpoint of nobody and nothing has.
+    /// The size of a checkpoint without customers and replies, in bytes.
     pub(crate) fn empty_size(self) -> usize
         ensures { result ≡ spec.empty_size (layout_of self) }
     {

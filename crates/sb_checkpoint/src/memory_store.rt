@@ -1,4 +1,4 @@
-//! A store in memory, whose puts end as they are told to.
+//! A store in memory, whose puts end as planned.
 ghost use Rattle.std.specs.Prelude.{◌≡◌, None, Some, Err, IfOk, MatchResult, OnErr};
 ghost use Rattle.sb_checkpoint.specs.MemoryStore.{memory_model, one_more};
 
@@ -9,15 +9,15 @@ use std::marker::Model;
 /// How a put ends.
 #[derive(Clone, Copy, Debug, PartialEq, Eq)]
 pub enum How {
-    /// The bytes are held.
+    /// It succeeds: the bytes are held.
     Ok,
-    /// The device fails, and the old bytes are left.
+    /// The device fails, and the old bytes stay.
     Old,
-    /// The device fails, and the new bytes are left.
+    /// The device fails, but the new bytes are held.
     New,
 }
 
-/// Holds a checkpoint in memory. Each put ends well unless it is told otherwise.
+/// Holds a checkpoint in memory. Each put succeeds unless planned otherwise.
 #[derive(Drop)]
 pub struct MemoryStore {
     alloc: Global,
@@ -52,7 +52,7 @@ impl MemoryStore {
         }
     }
 
-    /// Says how the next put ends; those after it end well.
+    /// Plans how the next put ends. Those after it succeed.
     pub fn tell(&mut self, how: How)
         ensures { self.new ≡ record self.old { next = how } }
     {
@@ -69,7 +69,7 @@ impl MemoryStore {
         Ok(())
     }
 
-    // The device failed once more.
+    // Counts one more failure of the device.
     pub(crate) fn failed(&mut self) -> StoreFault
         ensures fault { result ≡ StoreFault.Device }
         ensures counted { self.new ≡ record self.old { failures = one_more self.old.failures } }
@@ -91,7 +91,7 @@ fn copied(alloc: Global, bytes: &[u8]) -> Result<Vec<u8>, StoreFault>
     }
 }
 
-// What it is told of is all that it does, so it is honest.
+// Its model describes all that it does, so it is honest.
 impl CheckpointStore for MemoryStore {
     ghost model = { memory_model };
 

@@ -1,4 +1,4 @@
-//! The fields of a checkpoint, put last one by one.
+//! The fields of a checkpoint, appended one by one.
 ghost use Rattle.std.specs.Prelude.{◌≡◌, ◌≤◌, ◌+◌, ◌*◌, ◌++◌, length, vec_len, vec_capacity};
 ghost use Rattle.std.specs.Int.{w32, w64};
 ghost use Rattle.std.specs.List.{flat_map};
@@ -7,7 +7,7 @@ ghost use Rattle.sb_calls.specs.Replies.{number_field, amount_field, reply_field
 use crate::layout::{AMOUNT, REPLY};
 use sb_calls::Reply;
 
-// Puts bytes last, where there is room for them.
+// Appends bytes, for which there is room.
 #[inline]
 pub(crate) fn put(out: &mut Vec<u8>, bytes: &[u8])
     requires { vec_len out.old + length bytes.now ≤ vec_capacity out.old }

@@ -1,4 +1,4 @@
-//! Bytes as checkpoints.
+//! Checkpoints read from bytes.
 ghost use Rattle.std.specs.Prelude.{◌≡◌, ◌+◌, ◌*◌, ◌≤◌, IfOk, OnOk, MatchResult, None, Some, length, map};
 ghost use Rattle.std.specs.List.{list_any};
 ghost use Rattle.sb_rows.specs.Balances.{IsBalances};
@@ -22,7 +22,7 @@ use sb_calls::{LOG_CALLS, Reply};
 use sb_rows::{CUSTOMERS, Columns};
 use std::alloc::Global;
 
-// The layout and how many replies are stated, where the bytes begin as a checkpoint of this many
+// The layout and the stated number of replies, if the bytes begin as a checkpoint of this many
 // customers and don't end early.
 #[tactic(auto, unfolding(crate::specs::Reading::head_fault))]
 fn read_head(bytes: &[u8], customers: usize) -> Result<(Layout, usize), CheckpointFault>
@@ -96,7 +96,7 @@ fn read_columns(alloc: Global, bytes: &[u8], customers: usize) -> Result<Columns
     Ok(columns)
 }
 
-// The opening total, where the layout has it, is the bank's.
+// Checks that the opening total is the bank's, if the layout has one.
 fn check_opening(
     bytes: &[u8],
     layout: Layout,
@@ -116,7 +116,7 @@ fn check_opening(
     Ok(())
 }
 
-// The replies, where nothing stands behind them.
+// The replies, if nothing follows them.
 #[tactic(auto, unfolding(crate::specs::Reading::replies_fault))]
 fn read_replies(
     alloc: Global,
@@ -142,11 +142,11 @@ fn read_replies(
     Ok(replies)
 }
 
-/// Reads a checkpoint of a bank with this many customers and this opening total, in either layout. The first layout has
-/// no opening total, so it is taken with any.
+/// Reads a checkpoint of a bank with this many customers and this opening total, in either layout.
+/// The first layout has no opening total, so any is accepted with it.
 ///
-/// It is refused by the first fault in the order of [`CheckpointFault`]. Memory is taken only once
-/// the bytes begin as such a checkpoint and aren't short.
+/// Fails with the first fault in the order of [`CheckpointFault`]. It allocates only once the bytes
+/// begin as a checkpoint of this bank and aren't short.
 pub fn read_checkpoint(
     alloc: Global,
     bytes: &[u8],

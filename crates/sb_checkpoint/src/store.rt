@@ -5,7 +5,7 @@ ghost use Rattle.sb_checkpoint.specs.Stores.{Compares, StoreDoes, StoreModel, Te
 
 use thiserror::Error;
 
-/// Why a store didn't do what it was asked.
+/// Why a store failed.
 #[derive(Clone, Copy, Debug, PartialEq, Eq, Error, Drop)]
 pub enum StoreFault {
     /// The device failed. After a put the store holds wholly the old or wholly the new bytes.
@@ -30,14 +30,15 @@ impl StoreFault {
 
 /// Holds the bytes that were put last.
 ///
-/// What is told of these bytes is told of an honest store. That a store in memory is honest is proved; of a
-/// file it is a premise.
+/// What its contracts say of these bytes holds for an honest store. That a store in memory is
+/// honest is proved; for a file it is a premise.
 pub trait CheckpointStore: Drop {
-    /// What contracts know of it: the bytes that it holds, whether it is honest, how often its device has failed, and
-    /// what it may do at one call. A store of which nothing more is to be told says that the last always holds.
+    /// What contracts know of it: the bytes that it holds, whether it is honest, how often its
+    /// device has failed, and what it may do at one call. A store with nothing more to say lets the
+    /// last always hold.
     ghost model: { StoreModel Self };
 
-    /// Holds these bytes in place of those before.
+    /// Replaces the bytes that it holds.
     fn put(&mut self, bytes: &[u8]) -> Result<(), StoreFault>
         ensures { StoreDoes model self.old (Put bytes.now result) self.new };
 
@@ -48,7 +49,7 @@ pub trait CheckpointStore: Drop {
             (Got (option_map (λ bytes. bytes.items) held)) self.new)
             (λ fault. StoreDoes model self.old (NotGot fault) self.new) };
 
-    /// Whether it holds just these bytes, as [`CheckpointStore::get`] tells.
+    /// Whether it holds exactly these bytes, as [`CheckpointStore::get`] would return them.
     fn holds(&mut self, bytes: &[u8]) -> Result<bool, StoreFault>
         ensures { MatchResult result
             (λ same. Compares (StoreDoes model) self.old bytes.now same self.new)
@@ -57,12 +58,12 @@ pub trait CheckpointStore: Drop {
         Ok(is_same(&self.get()?, bytes))
     }
 
-    /// How often its device has failed, up to the greatest number that can be told.
+    /// How often its device has failed, up to the greatest number that can be reported.
     fn failures(&self) -> u64
         ensures { result ≡ model.failed self.now };
 }
 
-// Whether just these bytes were found.
+// Whether exactly these bytes were found.
 pub(crate) fn is_same(found: &Option<Vec<u8>>, bytes: &[u8]) -> bool
     ensures { TellsSame bytes.now result (option_map (λ found. found.items) found.now) }
 {

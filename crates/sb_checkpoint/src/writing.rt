@@ -1,4 +1,4 @@
-//! A checkpoint as bytes.
+//! Checkpoints written as bytes.
 ghost use Rattle.std.specs.Prelude.{◌≡◌, ◌≤◌, ◌<◌, ◌-◌, ◌++◌, IfOk, List, length};
 ghost use Rattle.std.specs.List.{All, flat_map};
 ghost use Rattle.sb_calls.specs.Replies.{IsReply, reply_field};
@@ -13,8 +13,8 @@ use sb_rows::Columns;
 use std::alloc::{AllocError, Global};
 use std::marker::Model;
 
-/// The bytes of a checkpoint in the second layout, of a bank with this opening total, in one allocation of their exact
-/// size.
+/// The bytes of a checkpoint in the second layout, of a bank with this opening total, in one
+/// allocation of their exact size.
 pub fn write_checkpoint(
     alloc: Global,
     columns: &Columns,
@@ -33,8 +33,8 @@ pub fn write_checkpoint(
     Ok(draft.finish())
 }
 
-/// The bytes of a checkpoint as far as they are there: some of its replies are missing. So these needn't stand in a
-/// list of their own before they are spelled.
+/// The bytes of a checkpoint that still lacks some of its replies. So the replies needn't be
+/// collected in a list before they are spelled.
 #[derive(Drop)]
 pub struct Draft {
     bytes: Vec<u8>,
@@ -49,13 +49,13 @@ impl Model for Draft {
 
     ghost view = { λ d. record { bytes = d.bytes.items; missing = d.missing } };
 
-    // There is room for those that are missing.
+    // There is room for the missing replies.
     ghost invariant = { λ d. vec_len d.bytes + 9 * d.missing ≤ vec_capacity d.bytes };
 }
 
 impl Draft {
-    /// The checkpoint of these balances and of so many replies, which are all missing, in the second layout, of a bank
-    /// with this opening total. All memory is taken here.
+    /// Begins the checkpoint of these balances and of this many replies, which are all missing. It
+    /// is in the second layout, of a bank with this opening total. All memory is allocated here.
     pub fn begin(
         alloc: Global,
         columns: &Columns,
@@ -64,7 +64,7 @@ impl Draft {
     ) -> Result<Draft, AllocError>
         requires few { replies ≤ LOG_CALLS }
         ensures missing { IfOk result (λ draft. draft.missing ≡ replies) }
-        // Behind it all of them make a checkpoint.
+        // Followed by all replies, the bytes make a checkpoint.
         ensures begins { IfOk result (λ draft. (all : List AnyReply) → length all ≡ replies → All IsReply all
             → Spells Second opening_total (record { columns = columns.now; replies = all })
             (draft.bytes ++ flat_map reply_field all)) }
@@ -85,7 +85,7 @@ impl Draft {
         })
     }
 
-    /// Puts the next reply.
+    /// Appends the next reply.
     #[inline]
     pub fn push(&mut self, reply: Reply)
         requires missing { 0 < self.old.missing }
@@ -98,7 +98,7 @@ impl Draft {
         self.missing -= 1;
     }
 
-    /// What is there.
+    /// The bytes so far.
     pub fn finish(self) -> Vec<u8>
         ensures { result.items ≡ self.bytes }
     {

@@ -1,4 +1,4 @@
--- Bodies, read and spelled.
+-- Bodies, decoded and spelled.
 use Rattle.std.proofs.Common.{◌≡◌, ℕ, ◌^◌, ◌<◌, cond, eqb, List, [], ◌∷◌, ◌++◌, length, Result, Ok, Err, refl, sym, ap, subst, ◌∙◌}
 use Rattle.std.specs.Int.{w32, w64}
 use Rattle.std.proofs.lemmas.Bool.{eqb-true}
@@ -47,7 +47,7 @@ entry_takes tag bytes frame rest are is e =
     let t = two_take number64 call Entry bytes frame rest are e in
     is_behind IsFrame body tag 2 bytes (number_field w64 t.0 ++ call_field t.1) rest frame (Entry t.0 t.1) is t.4 t.5 (t.2, t.3) refl
 
--- a frame of a replica's number and a length
+-- a frame with a replica's number and a length
 replica_and_length_takes : (tag n : ℕ) (make : ℕ → ℕ → Frame)
     → ((replica size : ℕ) → replica < 2 ^ 8 → size < 2 ^ 64
     → IsFrame (make replica size) × (body (make replica size) ≡ n ∷ replica ∷ number_field w64 size))
@@ -119,7 +119,7 @@ tagged_again (Outcome client request o) rest v = three_again number32 number32 o
 tagged_again Flush rest v = refl
 tagged_again (Have replica size) rest v = two_again byte number64 Have replica size rest v.0 v.1
 
--- what is read as a body is one, and a body is read as its frame
+-- what is decoded as a body spells it, and a body's spelling is decoded as its frame
 pub frame_takes : (bytes : List ℕ) (frame : Frame) → AreBytes bytes → frame_of bytes ≡ Ok frame → IsFrame frame × (bytes ≡ body frame)
 unfolding frame_of
 frame_takes bytes frame are e =

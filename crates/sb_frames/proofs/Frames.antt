@@ -1,4 +1,4 @@
--- What is decoded is spelled so, and what is spelled so is decoded, whatever follows it.
+-- What is decoded spells a frame, and what spells a frame is decoded as it, whatever follows.
 use Rattle.std.proofs.Common.{◌≡◌, ℕ, ◌+◌, ◌<◌, ◌≤◌, Bool, true, false, cond, eqb, ltb, ◌||◌, List, ◌++◌, length, take, drop, Result, Ok, Err, refl, sym, ap, subst, ◌∙◌, append_assoc, arith}
 use Rattle.std.specs.Int.{w16, to_be_bytes, from_be_bytes}
 use Rattle.std.specs.Prelude.{IfOk}
@@ -27,7 +27,7 @@ unfolding stated_length
 front_spells bytes are long =
     be_bytes_2 (take 2 bytes) _ (length-take-le 2 bytes long) (each_byte (take 2 bytes) (All-take (λ byte. byte < 256) 2 bytes are)) refl
 
--- a frame whose body has a stated length
+-- a frame whose body has a given length
 with_length_takes : (size : ℕ) (bytes : List ℕ) (frame : Frame) (k : ℕ) → AreBytes bytes → with_length size bytes ≡ Ok (frame, k)
     → (k ≡ 2 + size) × (2 + size ≤ length bytes) × IsFrame frame × (take size (drop 2 bytes) ≡ body frame)
 unfolding with_length
@@ -115,7 +115,7 @@ spelled_is_found bytes frame k long h =
 
 -- ---- more bytes
 
--- a test for too few bytes, and what is read where there are enough, before and after more of them
+-- a test for too few bytes, and what is read if there are enough, before and after more bytes
 settled : {A : Type 0} (test after : Bool) (read more : Result A FrameFault) → (cond test (Err Short) read ≡ Err Short → ⊥) → (test ≡ false → after ≡ false)
     → (test ≡ false → (read ≡ Err Short → ⊥) → more ≡ read) → cond after (Err Short) more ≡ cond test (Err Short) read
 settled true after read more whole h k = absurd (whole refl)
@@ -146,7 +146,7 @@ with_length_settled size bytes more two whole =
     (still_enough bytes more (2 + size))
     (λ h read. ap (λ (xs : List ℕ). frame_of xs >>= out) (same h)))
 
--- what bytes are decoded as stays so when more come, unless they are short
+-- the decoding of bytes stays the same when more bytes follow, unless they are short
 pub decoded_settled : (bytes more : List ℕ) → (decoded bytes ≡ Err Short → ⊥) → decoded (bytes ++ more) ≡ decoded bytes
 unfolding decoded stated_length
 decoded_settled bytes more whole =

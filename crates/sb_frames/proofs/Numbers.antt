@@ -1,4 +1,4 @@
--- What is read as a number is its spelling, and its spelling is read as the number.
+-- A number that is read has its spelling there, and its spelling is read as the number.
 use Rattle.std.proofs.Common.{◌≡◌, ℕ, ◌^◌, ◌<◌, ℤ, false, ltb, List, ◌++◌, length, get_or, take, drop, Result, Ok, refl, sym, ap, subst, ◌∙◌, arith, inl, inr}
 use Rattle.std.specs.Int.{Width, w32, w64, byte_len, from_be_bytes, to_be_bytes, cast_signed, cast_unsigned}
 use Rattle.std.specs.Prelude.{FitsSigned}
@@ -45,7 +45,7 @@ bytes_again n text rest len =
 
 -- ---- numbers
 
--- what the two numbers of bytes have in common
+-- what holds for both widths of numbers
 record IsWide (w : Width) (limit : ℕ) : Type 0 where
   size : (n : ℕ) → length (to_be_bytes w n) ≡ byte_len w
   back : (cells : List ℕ) → length cells ≡ byte_len w → AreBytes cells → to_be_bytes w (from_be_bytes w cells) ≡ cells

@@ -52,7 +52,7 @@ code_takes code total reply e =
     let is = coded_takes code total reply (found (coded code total) BadReply reply e) in
     (is.valid, ap (λ k. k ∷ amount_field total) is.code_is ∙ ap (λ t. reply_code reply ∷ amount_field t) is.total_is)
 
--- the code and the total that something is made of
+-- the code and the total from which a value is made
 nine_take : {A : Type 0} (next : ℕ → ℤ → List ℕ → Result A FrameFault) (bytes : List ℕ) (last : A) → AreBytes bytes
     → (byte_at bytes >>= λ code. signed_at code.1 >>= λ total. next code.0 total.0 total.1) ≡ Ok last
     → (code : ℕ) × (total : ℤ) × (left : List ℕ) × (bytes ≡ code ∷ (amount_field total ++ left)) × (next code total left ≡ Ok last)

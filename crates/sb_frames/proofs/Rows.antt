@@ -1,4 +1,4 @@
--- Fields in a row, of which something is made.
+-- Fields in a row, from which a value is made.
 use Rattle.std.proofs.Common.{◌≡◌, ℕ, List, ◌∷◌, ◌++◌, Result, Ok, refl, sym, ap, subst, ◌∙◌, append_assoc}
 use Rattle.sb_frames.specs.Reading.{◌>>=◌}
 use Rattle.sb_frames.specs.Streaming.{AreBytes}
@@ -6,17 +6,17 @@ use Rattle.sb_frames.specs.declared.fault.FrameFault.{FrameFault}
 use Rattle.sb_frames.proofs.Numbers.{IsField}
 use Rattle.sb_frames.proofs.Steps.{first_step, same_value, rest_bytes}
 
--- what was made, and the bytes behind it
+-- the value that was made, and the bytes after it
 abbrev pub made : {Z : Type 0} → Z → List ℕ → Result (Z × List ℕ) FrameFault
 made value rest = Ok (value, rest)
 
--- one value, and the same bytes behind it
+-- one value, and the same bytes after it
 pub parts : {Z : Type 0} (x z : Z) (left rest : List ℕ) → made x left ≡ made z rest → (z ≡ x) × (left ≡ rest)
 parts {Z = Z} x z left rest e =
     let same = same_value (x, left) (z, rest) e in
     (ap (λ (p : Z × List ℕ). p.0) (sym same), ap (λ (p : Z × List ℕ). p.1) same)
 
--- two parts, one behind the other
+-- two parts, one after the other
 joined : (bytes front behind back rest : List ℕ) → bytes ≡ front ++ behind → behind ≡ back ++ rest → bytes ≡ (front ++ back) ++ rest
 joined bytes front behind back rest e d = e ∙ ap (λ (xs : List ℕ). front ++ xs) d ∙ sym (append_assoc front back rest)
 
@@ -74,9 +74,9 @@ three_again {s = s} {t = t} {u = u} F G H make a b c rest v w x =
       H.again c rest x,
     ) refl
 
--- ---- behind a tag
+-- ---- after a tag
 
--- the tag and the bytes behind it are the value's spelling, and the rest
+-- the tag and the bytes after it are the value's spelling, followed by the rest
 abbrev pub Behind : {Z : Type 0} → (Z → Type 0) → (Z → List ℕ) → ℕ → List ℕ → Z → List ℕ → Type 0
 Behind Valid spell tag bytes z rest = Valid z × (tag ∷ bytes ≡ spell z ++ rest)
 

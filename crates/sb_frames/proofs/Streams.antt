@@ -1,4 +1,4 @@
--- The frames of a stream are those of its bytes, whatever calls there were.
+-- The frames of a stream are those of its bytes, whatever the calls were.
 use Rattle.std.proofs.Common.{◌≡◌, ℕ, ◌<◌, Bool, true, false, Option, List, [], ◌∷◌, ◌++◌, take, drop, Result, Ok, Err, refl, sym, ap, subst, ◌∙◌, append_assoc}
 use Rattle.std.specs.List.{AllByRecursion, flat_map}
 use Rattle.std.proofs.lemmas.List.{append-nil, take-append-drop}
@@ -14,7 +14,8 @@ use Rattle.sb_frames.specs.declared.fault.StreamFault.TheVariants.{Bad, Failed, 
 use Rattle.sb_frames.specs.declared.frame.Frame.{Frame}
 use Rattle.sb_frames.proofs.Frames.{decoded_takes, spelling_is}
 
--- what a call put in stands behind the unread bytes, and what it handed out stood before those that are left
+-- what a call put in comes after the unread bytes, and what it handed out came before those that
+-- remain
 record Keeps (old : List ℕ) (taken : List ℕ) (given : List Frame) (new : List ℕ) : Type 0 where
   valid : AllByRecursion IsFrame given
   whole : old ++ taken ≡ flat_map spelling given ++ new
@@ -40,7 +41,7 @@ After = Result (Option Frame) StreamFault × StreamState
 same_after : (old : List ℕ) (p q : After) → p ≡ q → Keeps old [] (frames_given (Next q.0)) q.1.unread → Keeps old [] (frames_given (Next p.0)) p.1.unread
 same_after old p q e h = subst (λ (x : After). Keeps old [] (frames_given (Next x.0)) x.1.unread) (sym e) h
 
--- what decoding gives, handed out
+-- the decoding is handed out
 by_keeps : (unread : List ℕ) (read : Result (Frame × ℕ) FrameFault) → AreBytes unread → decoded unread ≡ read
     → Keeps unread [] (frames_given (Next (next_by read unread).0)) (next_by read unread).1.unread
 by_keeps unread (Ok found) are e =

@@ -30,7 +30,7 @@ two_names_and_amount_at call bytes = do
   amount ← amount_at to.1
   Ok (call from.0 to.0 amount.0, amount.1)
 
--- what stands behind a kind
+-- the call after a kind's byte, and the bytes after it
 abbrev pub of_kind : ℕ → List ℕ → Result (Call × List ℕ) FrameFault
 of_kind kind bytes =
     if kind == 1 then one_name_at Balance bytes
@@ -41,7 +41,7 @@ of_kind kind bytes =
     else if kind == 6 then two_names_and_amount_at SendPayment bytes
     else Err UnknownTag
 
--- a call: its kind, its names, and its amount where it has one
+-- a call: its kind, its names, and its amount if it has one
 unfoldable pub call_at : List ℕ → Result (Call × List ℕ) FrameFault
 call_at bytes = do
   kind ← byte_at bytes

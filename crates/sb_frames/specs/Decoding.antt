@@ -1,4 +1,4 @@
--- What bytes are decoded as: the first frame and how many bytes it takes, or the fault.
+-- How bytes are decoded: the first frame and the number of bytes it takes, or the fault.
 use Rattle.std.specs.Prelude.{ℕ, ◌+◌, nat_lt, ◌==◌, ◌||◌, if◌then◌else◌, Result, Ok, Err, List, length, take, drop}
 use Rattle.std.specs.Int.{w16, w32, w64, from_be_bytes}
 use Rattle.sb_frames.specs.Calls.{call_at}
@@ -25,7 +25,7 @@ entry_at bytes = do
   call ← call_at number.1
   Ok (Entry number.0 call.0, call.1)
 
--- a frame of a replica's number and a length
+-- a frame with a replica's number and a length
 unfoldable pub replica_and_length_at : (ℕ → ℕ → Frame) → List ℕ → Result (Frame × List ℕ) FrameFault
 replica_and_length_at frame bytes = do
   replica ← byte_at bytes
@@ -45,9 +45,9 @@ outcome_frame_at bytes = do
   outcome ← outcome_at request.1
   Ok (Outcome client.0 request.0 outcome.0, outcome.1)
 
--- ---- the body, and what stands before it
+-- ---- the body, and the length before it
 
--- what stands behind a tag
+-- the fields after a tag
 abbrev pub of_tag : ℕ → List ℕ → Result (Frame × List ℕ) FrameFault
 of_tag tag bytes =
     if tag == 1 then ask_at bytes
@@ -59,19 +59,19 @@ of_tag tag bytes =
     else if tag == 7 then replica_and_length_at Have bytes
     else Err UnknownTag
 
--- a tag, and its fields
+-- a tag and its fields
 unfoldable pub tagged_at : List ℕ → Result (Frame × List ℕ) FrameFault
 tagged_at bytes = do
   tag ← byte_at bytes
   of_tag tag.0 tag.1
 
--- all of a body: nothing stands after the fields
+-- a whole body: nothing follows the fields
 unfoldable pub frame_of : List ℕ → Result Frame FrameFault
 frame_of bytes = do
   frame ← tagged_at bytes
   if length frame.1 == 0 then Ok frame.0 else Err BadLength
 
--- the length that the first two bytes state
+-- the body length that the first two bytes state
 unfoldable pub stated_length : List ℕ → ℕ
 stated_length bytes = from_be_bytes w16 (take 2 bytes)
 
@@ -82,6 +82,6 @@ with_length size bytes =
     else if nat_lt (length bytes) (2 + size) then Err Short
     else frame_of (take size (drop 2 bytes)) >>= λ frame. Ok (frame, 2 + size)
 
--- the frame that bytes begin with, and how many bytes it takes
+-- the frame at the front of the bytes, and the number of bytes it takes, or the first fault
 unfoldable pub decoded : List ℕ → Result (Frame × ℕ) FrameFault
 decoded bytes = if nat_lt (length bytes) 2 then Err Short else with_length (stated_length bytes) bytes

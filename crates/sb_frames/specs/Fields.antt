@@ -1,4 +1,5 @@
--- How the fields of a frame are spelled. Numbers, amounts and replies are spelled as sb_calls says, in its Replies.
+-- How the fields of a frame are spelled. Numbers, amounts and replies are spelled as sb_calls
+-- defines, in its Replies.
 use Rattle.std.specs.Prelude.{ℕ, pos, List, ◌∷◌, ◌++◌, length}
 use Rattle.sb_calls.specs.Replies.{amount_field, reply_field}
 use Rattle.sb_calls.specs.declared.call.Call.{Call}
@@ -6,11 +7,11 @@ use Rattle.sb_calls.specs.declared.call.Call.TheVariants.{Balance, DepositChecki
 use Rattle.sb_frames.specs.declared.frame.AskOutcome.{AskOutcome}
 use Rattle.sb_frames.specs.declared.frame.AskOutcome.TheVariants.{Replied, Mismatch, LogFull}
 
--- a name: its length, and its bytes
+-- a name: its length, then its bytes
 abbrev pub name_field : List ℕ → List ℕ
 name_field name = length name ∷ name
 
--- a call: its kind, its names, and its amount where it has one
+-- a call: its kind, its names, and its amount if it has one
 abbrev pub call_field : Call → List ℕ
 call_field (Balance name) = 1 ∷ name_field name
 call_field (DepositChecking name amount) = 2 ∷ (name_field name ++ amount_field amount)
@@ -23,7 +24,7 @@ call_field (SendPayment from to amount) = 6 ∷ (name_field from ++ (name_field 
 abbrev pub no_reply_field : List ℕ
 no_reply_field = 0 ∷ amount_field (pos 0)
 
--- how an ask ended: its status, and the reply
+-- the result of an ask: its status, then the reply
 abbrev pub outcome_field : AskOutcome → List ℕ
 outcome_field (Replied reply) = 0 ∷ reply_field reply
 outcome_field Mismatch = 1 ∷ no_reply_field

@@ -9,13 +9,13 @@ use Rattle.sb_frames.specs.declared.frame.AskOutcome.TheVariants.{Replied, Misma
 use Rattle.sb_frames.specs.declared.frame.Frame.{Frame}
 use Rattle.sb_frames.specs.declared.frame.Frame.TheVariants.{Ask, Entry, Ack, Answer, Outcome, Flush, Have}
 
--- its reply, if it has one, is a reply
+-- if the outcome has a reply, it is a valid one
 abbrev pub IsOutcome : AskOutcome → Type 0
 IsOutcome (Replied reply) = IsReply reply
 IsOutcome Mismatch = Unit {0}
 IsOutcome LogFull = Unit {0}
 
--- its numbers fit their widths, its call is a call, its reply is a reply
+-- a frame is valid: its numbers fit their widths, its call is valid, its reply is valid
 abbrev pub IsFrame : Frame → Type 0
 IsFrame (Ask client request call) = (client < 2 ^ 32) × (request < 2 ^ 32) × IsCall call
 IsFrame (Entry number call) = (number < 2 ^ 64) × IsCall call
@@ -25,7 +25,7 @@ IsFrame (Outcome client request outcome) = (client < 2 ^ 32) × (request < 2 ^ 3
 IsFrame Flush = Unit {0}
 IsFrame (Have replica size) = (replica < 2 ^ 8) × (size < 2 ^ 64)
 
--- the tag, and the fields in order
+-- a frame's body: the tag, then the fields in order
 abbrev pub body : Frame → List ℕ
 body (Ask client request call) = 1 ∷ (number_field w32 client ++ (number_field w32 request ++ call_field call))
 body (Entry number call) = 2 ∷ (number_field w64 number ++ call_field call)
@@ -36,11 +36,11 @@ body (Outcome client request outcome) =
 body Flush = 6 ∷ []
 body (Have replica size) = 7 ∷ replica ∷ number_field w64 size
 
--- the length of the body in two bytes, and the body
+-- a frame's bytes: the length of the body in two bytes, then the body
 unfoldable pub spelling : Frame → List ℕ
 spelling frame = to_be_bytes w16 (length (body frame)) ++ body frame
 
--- the bytes are the one spelling of a frame
+-- the frame is valid, and the bytes are its one spelling
 pub record Spells (frame : Frame) (bytes : List ℕ) : Type 0 where
   pub valid : IsFrame frame
   pub spelled : bytes ≡ to_be_bytes w16 (length (body frame)) ++ body frame

@@ -1,4 +1,4 @@
--- Replies, and how an ask ended, read from the left.
+-- Replies, and the results of asks, read from the left.
 use Rattle.std.specs.Prelude.{ℕ, ℤ, pos, ◌==◌, ◌&&◌, if◌then◌else◌, Result, Ok, Err, List}
 use Rattle.std.specs.Option.{ok_or}
 use Rattle.std.specs.Ordering.{int_eq}
@@ -10,11 +10,11 @@ use Rattle.sb_frames.specs.declared.fault.FrameFault.TheVariants.{BadReply, BadS
 use Rattle.sb_frames.specs.declared.frame.AskOutcome.{AskOutcome}
 use Rattle.sb_frames.specs.declared.frame.AskOutcome.TheVariants.{Replied, Mismatch, LogFull}
 
--- the reply that a code and a total are read as
+-- the reply with a code and a total, or the fault
 abbrev pub of_code : ℕ → ℤ → Result Reply FrameFault
 of_code code total = ok_or (coded code total) BadReply
 
--- a reply is one field of nine bytes, and none of it is looked at before they are all there
+-- a reply is one field of nine bytes; all of them must be there before any is examined
 unfoldable pub reply_at : List ℕ → Result (Reply × List ℕ) FrameFault
 reply_at bytes = do
   code ← byte_at bytes
@@ -34,7 +34,7 @@ replied_at bytes = do
   reply ← reply_at bytes
   Ok (Replied reply.0, reply.1)
 
--- what stands behind a status
+-- the outcome after a status byte
 abbrev pub of_status : ℕ → List ℕ → Result (AskOutcome × List ℕ) FrameFault
 of_status status bytes =
     if status == 0 then replied_at bytes
@@ -42,7 +42,7 @@ of_status status bytes =
     else if status == 2 then no_reply_at LogFull bytes
     else Err BadStatus
 
--- how an ask ended: its status, and the reply
+-- the result of an ask: its status, then the reply
 unfoldable pub outcome_at : List ℕ → Result (AskOutcome × List ℕ) FrameFault
 outcome_at bytes = do
   status ← byte_at bytes

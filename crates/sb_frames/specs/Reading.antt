@@ -1,4 +1,4 @@
--- Fields read from the left: the value and the bytes behind it, or the fault.
+-- Fields read from the left: the value and the bytes after it, or the fault.
 use Rattle.std.specs.Prelude.{◌≡◌, ℕ, ℤ, neg_ℤ, int_le, nat_lt, ◌==◌, Bool, ◌&&◌, ◌||◌, if◌then◌else◌, Result, Ok, Err, List, [], ◌∷◌, length, take, drop}
 use Rattle.std.specs.Borrow.{Bor}
 use Rattle.std.specs.Int.{Width, w64, byte_len, from_be_bytes, cast_signed}
@@ -8,18 +8,18 @@ use Rattle.sb_rows.specs.declared.name.TheConstants.{NAME_BYTES}
 use Rattle.sb_frames.specs.declared.fault.FrameFault.{FrameFault}
 use Rattle.sb_frames.specs.declared.fault.FrameFault.TheVariants.{BadLength, BadName, BadAmount}
 
--- go on behind what was read; the first fault counts
+-- reads on after what was read; the first fault counts
 infixl 10 ◌>>=◌
 abbrev pub ◌>>=◌ : {A B : Type 0} → Result A FrameFault → (A → Result B FrameFault) → Result B FrameFault
 (Ok read) >>= next = next read
 (Err fault) >>= next = Err fault
 
--- a reader's answer, with the bytes that it leaves, is what is read
+-- a reader's answer, with the bytes that it leaves, is the reading of its bytes
 abbrev pub TakesField : {A : Type 0} → Result A FrameFault → List ℕ → Result (A × List ℕ) FrameFault → Type 0
 TakesField (Ok value) rest read = read ≡ Ok (value, rest)
 TakesField (Err fault) rest read = read ≡ Err fault
 
--- the same where the value is bytes in place
+-- the same for a value of bytes in place
 abbrev pub TakesBytes : Result (Bor (List ℕ)) FrameFault → List ℕ → Result (List ℕ × List ℕ) FrameFault → Type 0
 TakesBytes (Ok bytes) rest read = read ≡ Ok (bytes.now, rest)
 TakesBytes (Err fault) rest read = read ≡ Err fault
@@ -42,7 +42,7 @@ signed_at bytes = do
   number ← number_at w64 bytes
   Ok (cast_signed w64 number.0, number.1)
 
--- from -limit to limit
+-- the amount is from -limit to limit
 abbrev pub is_within : ℤ → ℤ → Bool
 is_within limit cents = int_le (neg_ℤ limit) cents && int_le cents limit
 
@@ -51,7 +51,7 @@ amount_at bytes = do
   cents ← signed_at bytes
   if is_within LIMIT cents.0 then Ok cents else Err BadAmount
 
--- a name's length is looked at before its bytes
+-- a name: its length is examined before its bytes
 unfoldable pub name_at : List ℕ → Result (List ℕ × List ℕ) FrameFault
 name_at bytes = do
   size ← byte_at bytes

@@ -1,4 +1,4 @@
--- A stream of frames: what each call does to it, and what many calls do.
+-- A stream of frames: what one call does to it, and what many calls do.
 use Rattle.std.specs.Prelude.{◌≡◌, ◌≢◌, ℕ, ◌<◌, Bool, true, false, if◌then◌else◌, Option, Some, None, Result, Ok, Err, List, [], ◌∷◌, ◌++◌, drop}
 use Rattle.std.specs.List.{All, flat_map}
 use Rattle.sb_frames.specs.Decoding.{decoded}
@@ -9,12 +9,12 @@ use Rattle.sb_frames.specs.declared.fault.StreamFault.{StreamFault}
 use Rattle.sb_frames.specs.declared.fault.StreamFault.TheVariants.{Bad, Failed, OutOfMemory}
 use Rattle.sb_frames.specs.declared.frame.Frame.{Frame}
 
--- the bytes that were fed and not yet read as frames, and whether a frame was at fault
+-- a stream: the bytes that were fed and not yet read as frames, and whether a frame was faulty
 pub record StreamState : Type 0 where
   pub unread : List ℕ
   pub failed : Bool
 
--- before any call
+-- a stream before any call
 abbrev pub opened : StreamState
 opened = record { unread = []; failed = false }
 
@@ -29,29 +29,29 @@ AreBytes bytes = All (λ byte. byte < 256) bytes
 
 -- ---- what a call does
 
--- what feeding bytes may be answered, and what it leaves
+-- what feeding bytes may answer, and the stream after it
 abbrev pub Feeds : StreamState → List ℕ → Result (Unit {0}) StreamFault → StreamState → Type 0
--- the bytes go to the end
+-- the bytes are appended
 Feeds old bytes (Ok done) new = (old.failed ≡ false) × (new ≡ record { unread = old.unread ++ bytes; failed = false })
--- a stream that failed takes none
+-- a failed stream takes no bytes
 Feeds old bytes (Err Failed) new = (old.failed ≡ true) × (new ≡ old)
 -- memory may be refused
 Feeds old bytes (Err OutOfMemory) new = (old.failed ≡ false) × (new ≡ old)
 Feeds old bytes (Err (Bad fault)) new = ⊥
 
--- the next frame by what decoding the unread bytes gives, and what is left of them
+-- the next frame, from the decoding of the unread bytes, and the stream after it
 abbrev pub next_by : Result (Frame × ℕ) FrameFault → List ℕ → Result (Option Frame) StreamFault × StreamState
 next_by (Ok found) unread = (Ok (Some found.0), record { unread = drop found.1 unread; failed = false })
--- less than a whole frame so far
+-- less than a whole frame is there so far
 next_by (Err Short) unread = (Ok None, record { unread = unread; failed = false })
--- no frame begins so: the stream fails from then on
+-- no frame begins with these bytes: the stream has failed from then on
 next_by (Err fault) unread = (Err (Bad fault), record { unread = unread; failed = true })
 
--- what asking for the next frame is answered, and what it leaves
+-- the answer to a call for the next frame, and the stream after it
 abbrev pub next_of : StreamState → Result (Option Frame) StreamFault × StreamState
 next_of old = if old.failed then (Err Failed, old) else next_by (decoded old.unread) old.unread
 
--- a frame is handed out, and the bytes that were passed over are its spelling
+-- the frame is handed out, and the bytes passed over are its spelling
 pub record HandsOut (old : StreamState) (frame : Frame) (new : StreamState) : Type 0 where
   pub valid : IsFrame frame
   pub spelled : (bytes : List ℕ) × Spells frame bytes × (old.unread ≡ bytes ++ new.unread)
@@ -61,15 +61,15 @@ pub record HandsOut (old : StreamState) (frame : Frame) (new : StreamState) : Ty
 abbrev pub IsShort : StreamState → Type 0
 IsShort state = (state.failed ≡ false) × (decoded state.unread ≡ Err Short)
 
--- why no frame is handed out
+-- the reason why no frame is handed out
 abbrev pub FailsBy : StreamState → StreamFault → Type 0
--- the unread bytes begin with no frame, however they go on
+-- no frame begins with the unread bytes, whatever follows them
 FailsBy old (Bad fault) = (old.failed ≡ false) × (decoded old.unread ≡ Err fault) × (fault ≢ Short)
--- a frame was at fault before
+-- an earlier frame was faulty
 FailsBy old Failed = old.failed ≡ true
 FailsBy old OutOfMemory = ⊥
 
--- one call; what is fed are bytes
+-- the effect of one call; fed values are bytes
 abbrev pub Step : StreamState → StreamCall → StreamState → Type 0
 Step old (Fed bytes answer) new = AreBytes bytes × Feeds old bytes answer new
 Step old (Next answer) new = (answer, new) ≡ next_of old
@@ -94,8 +94,8 @@ frames_given (Next (Ok (Some frame))) = frame ∷ []
 frames_given (Next (Ok None)) = []
 frames_given (Next (Err fault)) = []
 
--- whatever calls there were, however the bytes were cut: the bytes that went in are the spellings of the
--- frames that came out, in order, and then the unread bytes
+-- whatever the calls were and however the bytes were cut: the bytes that went in are the spellings
+-- of the frames that came out, in order, and then the unread bytes
 abbrev pub FramesOfBytes : Type 0
 FramesOfBytes = (calls : List StreamCall) (end : StreamState) → StepsTo opened calls end
     → let given = flat_map frames_given calls in

@@ -1,4 +1,4 @@
-//! Bytes as frames.
+//! Frames decoded from bytes.
 ghost use Rattle.std.specs.Prelude.{◌≡◌, ◌≢◌, ℕ, ◌≤◌, List, ◌++◌, Ok, Err, IfOk, length, take};
 ghost use Rattle.sb_frames.specs.Decoding as spec;
 ghost use Rattle.sb_frames.specs.Decoding.{decoded};
@@ -92,8 +92,8 @@ fn read_have(fields: &mut Fields) -> Result<Frame, FrameFault>
     })
 }
 
-// The frame, by its tag. This and what it leads to are inlined: a frame handed from one to the next would be copied
-// each time.
+// The frame, by its tag. This function and those it calls are inlined: otherwise each would copy
+// the frame that it hands on.
 #[inline]
 #[tactic(auto, unfolding(crate::specs::Decoding::tagged_at))]
 fn read_tagged(fields: &mut Fields) -> Result<Frame, FrameFault>
@@ -111,7 +111,7 @@ fn read_tagged(fields: &mut Fields) -> Result<Frame, FrameFault>
     }
 }
 
-// The frame that a body is, with nothing after its fields.
+// The frame of a body. Nothing may follow its fields.
 #[inline]
 #[tactic(auto, unfolding(crate::specs::Decoding::frame_of))]
 fn frame_of(body: &[u8]) -> Result<Frame, FrameFault>
@@ -126,7 +126,7 @@ fn frame_of(body: &[u8]) -> Result<Frame, FrameFault>
     }
 }
 
-// The length of the body that the first two bytes state.
+// The body length that the first two bytes state.
 fn stated_length(bytes: &[u8]) -> usize
     requires { LENGTH_BYTES ≤ length bytes.now }
     ensures { result ≡ spec.stated_length bytes.now }
@@ -134,7 +134,7 @@ fn stated_length(bytes: &[u8]) -> usize
     usize::from(BigEndian::read_u16(bytes))
 }
 
-// The frame whose body has this length, behind the two bytes that state it.
+// The frame whose body has this length, after the two bytes that state it.
 #[inline]
 #[tactic(auto, unfolding(crate::specs::Decoding::with_length))]
 fn with_length(size: usize, bytes: &[u8]) -> Result<(Frame, usize), FrameFault>
@@ -152,7 +152,7 @@ fn with_length(size: usize, bytes: &[u8]) -> Result<(Frame, usize), FrameFault>
     Ok((frame, end))
 }
 
-// The frame, by the order of the faults.
+// The frame, with the faults tested in order.
 #[inline]
 #[tactic(auto, unfolding(crate::specs::Decoding::decoded))]
 fn first_frame(bytes: &[u8]) -> Result<(Frame, usize), FrameFault>
@@ -164,22 +164,22 @@ fn first_frame(bytes: &[u8]) -> Result<(Frame, usize), FrameFault>
     with_length(stated_length(bytes), bytes)
 }
 
-/// The frame that bytes begin with, and how many bytes it takes. Bytes after it aren't looked at, and no
-/// memory is taken.
+/// The frame at the front of the bytes, and the number of bytes it takes. Bytes after it aren't
+/// examined. It allocates nothing.
 ///
-/// Fails with the first fault of the bytes from the left. With [`FrameFault::Short`] the bytes may be the
-/// beginning of a frame; with any other fault they are no frame's, whatever bytes follow.
+/// Fails with the first fault from the left. With [`FrameFault::Short`] the bytes may be the
+/// beginning of a frame. With any other fault no frame begins with them, whatever bytes follow.
 #[inline]
 pub fn decode(bytes: &[u8]) -> Result<(Frame, usize), FrameFault>
-    // What is decoded is spelled so.
+    // Bytes that are decoded as a frame spell it.
     ensures spelled { IfOk result (λ found.
         (found.1 ≤ length bytes.now) × Spells found.0 (take found.1 bytes.now)) }
-    // What is spelled so is decoded, whatever follows it.
+    // Bytes that spell a frame are decoded as it, whatever follows them.
     ensures taken { (frame : AnyFrame) (k : ℕ) → k ≤ length bytes.now
         → Spells frame (take k bytes.now) → result ≡ Ok (frame, k) }
-    // Which fault it is.
+    // The frame and its size, or the fault, exactly.
     ensures exact { result ≡ decoded bytes.now }
-    // More bytes change nothing, unless these were too few.
+    // More bytes change nothing, unless there were too few.
     ensures settled { (more : List ℕ) → result ≢ Err FrameFault.Short
         → decoded (bytes.now ++ more) ≡ result }
 {

@@ -1,4 +1,4 @@
-//! Frames as bytes.
+//! Frames encoded as bytes.
 ghost use Rattle.std.specs.Prelude.{◌≡◌, ◌≤◌, length};
 ghost use Rattle.sb_frames.specs.Grammar as grammar;
 ghost use Rattle.sb_frames.specs.Grammar.{IsFrame, Spells};
@@ -57,7 +57,7 @@ fn body_of(frame: &Frame) -> Body
     body
 }
 
-/// The bytes of a frame: the length of its body, its tag and its fields. It takes no memory.
+/// The bytes of a frame: the length of its body, its tag and its fields. It allocates nothing.
 pub fn encode(frame: &Frame) -> ArrayVec<u8, MAX_FRAME>
     ensures { Spells frame.now result.items }
 {

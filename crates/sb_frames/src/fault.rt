@@ -1,29 +1,29 @@
-//! What is wrong with bytes.
+//! The faults of bytes.
 ghost use Rattle.std.specs.Prelude.{◌≡◌};
 ghost use Rattle.sb_frames.specs.Faults.{frame_fault_number, stream_fault_number};
 
 use thiserror::Error;
 
-/// Why bytes don't begin with a frame: the first fault from the left.
+/// Why no frame is at the front of the bytes: the first fault from the left.
 #[derive(Clone, Copy, Debug, PartialEq, Eq, Error)]
 pub enum FrameFault {
-    /// There are fewer bytes than a whole frame has. With more of them it may be one.
+    /// There are fewer bytes than a whole frame has. With more bytes there may be a frame.
     #[error("short")]
     Short,
-    /// The stated length is 0 or above 64, or it isn't that of the fields.
+    /// The stated length is 0 or above 64, or the fields have another length.
     #[error("bad length")]
     BadLength,
-    /// The tag is no frame's, or the kind is no call's.
+    /// No frame has this tag, or no call has this kind.
     #[error("unknown tag")]
     UnknownTag,
-    /// A name hasn't 1 to 20 bytes, or one of them is none of `a` to `z`, `0` to `9` and `_`.
+    /// A name doesn't have 1 to 20 bytes, or has a byte other than `a` to `z`, `0` to `9` and `_`.
     #[error("bad name")]
     BadName,
     /// An amount is past the limit of amounts.
     #[error("bad amount")]
     BadAmount,
     /// A reply's code is above 7, its total is past twice the limit of amounts, or there is a total
-    /// where none is shown.
+    /// in a reply that shows none.
     #[error("bad reply")]
     BadReply,
     /// A status is above 2.
@@ -48,13 +48,13 @@ impl FrameFault {
     }
 }
 
-/// Why a stream takes no bytes or gives no frame.
+/// Why a stream takes no bytes or hands out no frame.
 #[derive(Clone, Copy, Debug, PartialEq, Eq, Error)]
 pub enum StreamFault {
-    /// The unread bytes don't begin with a frame, however they go on. The stream fails from then on.
+    /// No frame begins with the unread bytes, whatever follows them. The stream fails from then on.
     #[error("bad frame: {0}")]
     Bad(FrameFault),
-    /// A frame was at fault before. Nothing changes.
+    /// An earlier frame was faulty. Nothing changes.
     #[error("failed")]
     Failed,
     /// Memory was refused. Nothing changes.

@@ -9,8 +9,8 @@ use sb_amount::Cents;
 use sb_rows::{NAME_BYTES, Name};
 use std::marker::Model;
 
-/// The fields of a body that aren't read yet. Each reader takes its field from the front, or fails; a
-/// reader that failed isn't read on.
+/// The unread fields of a body. Each reader takes its field from the front, or fails. After a
+/// reader fails, nothing more is read.
 #[derive(Drop)]
 pub(crate) struct Fields<'a> {
     bytes: &'a [u8],
@@ -31,7 +31,7 @@ impl<'a> Fields<'a> {
         Fields { bytes: body }
     }
 
-    /// Whether all is read.
+    /// Whether everything is read.
     pub(crate) fn is_empty(&self) -> bool
         ensures { result ≡ (length self.now == 0) }
     {
@@ -51,7 +51,7 @@ impl<'a> Fields<'a> {
         }
     }
 
-    // This many bytes.
+    // The next bytes, this many.
     #[inline]
     #[tactic(auto, unfolding(crate::specs::Reading::bytes_at))]
     fn bytes(&mut self, count: usize) -> Result<&'a [u8], FrameFault>

@@ -1,4 +1,4 @@
-//! What the grammar and the stream are.
+//! What holds for the grammar and for streams.
 ghost use Rattle.std.specs.Prelude.{◌≡◌, ℕ, List, ◌++◌, Ok, length};
 ghost use Rattle.sb_frames.specs.Decoding.{decoded};
 ghost use Rattle.sb_frames.specs.Grammar.{Spells};
@@ -13,22 +13,22 @@ pub fn limits()
     ensures frame { MAX_FRAME ≡ 66 }
 {}
 
-/// No spelling begins another, and each is of one frame: bytes that begin with a spelling begin with no
-/// other, and say one frame.
+/// No spelling is the beginning of another, and each is of one frame: bytes that begin with one
+/// spelling begin with no other, and spell one frame.
 pub fn one_spelling()
     ensures { (f g : AnyFrame) (a b x y : List ℕ) → Spells f a → Spells g b
         → a ++ x ≡ b ++ y → (f ≡ g) × (a ≡ b) }
 {}
 
-/// Bytes that begin with a frame's spelling are decoded as that frame, and take as many bytes as the
-/// spelling has.
+/// Bytes that begin with a frame's spelling are decoded as that frame, and it takes exactly the
+/// bytes of the spelling.
 pub fn spelled_is_decoded()
     ensures { (frame : AnyFrame) (front rest : List ℕ) → Spells frame front
         → decoded (front ++ rest) ≡ Ok (frame, length front) }
 {}
 
 /// After any calls on a new stream, the bytes that it took are the spellings of the frames that it
-/// handed out, in order, and then its unread bytes, however the bytes were cut.
+/// handed out, in order, and then its unread bytes. This holds however the bytes were cut.
 pub fn frames_of_bytes()
     ensures { FramesOfBytes }
 {}

@@ -1,4 +1,4 @@
-//! Frames of the wire: how they are spelled, and how a stream of bytes is read as frames.
+//! Frames of the wire: how they are spelled, and how frames are read from a stream of bytes.
 #![tactic(auto)]
 
 mod call;

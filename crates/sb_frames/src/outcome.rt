@@ -1,4 +1,4 @@
-//! Replies in a frame, by their code, and how an ask ended, by its status.
+//! Replies in a frame, by their code, and the results of asks, by their status.
 ghost use Rattle.sb_frames.specs.Outcomes as spec;
 ghost use Rattle.sb_frames.specs.Reading.{TakesField};
 
@@ -23,7 +23,7 @@ pub(crate) fn read_reply(fields: &mut Fields) -> Result<WireReply, FrameFault>
     WireReply::from_code(code, total).ok_or(FrameFault::BadReply)
 }
 
-// The outcome, behind which zeros stand in place of a reply.
+// The outcome without a reply. Zeros follow it in place of the reply.
 #[tactic(auto, unfolding(crate::specs::Outcomes::no_reply_at))]
 fn read_no_reply(outcome: AskOutcome, fields: &mut Fields) -> Result<AskOutcome, FrameFault>
     ensures { TakesField result fields.new (spec.no_reply_at outcome fields.old) }

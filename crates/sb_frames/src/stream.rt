@@ -10,11 +10,11 @@ use bytes::BytesMut;
 use std::alloc::Global;
 use std::marker::Model;
 
-/// Takes bytes as they come, in any pieces, and hands out the frames that they spell.
+/// Takes bytes as they arrive, in pieces of any size, and hands out the frames that they spell.
 ///
-/// It keeps the bytes that aren't read yet. What was read is passed over in place; the rest is moved only
-/// where that frees as much as it moves, or where the room doubles. So reading takes time in proportion
-/// to the bytes, however they are cut.
+/// It keeps the unread bytes. Read bytes are skipped in place. The rest is moved only if that frees
+/// as much as it moves, or if the room doubles. So reading takes time in proportion to the bytes,
+/// however they are cut.
 #[derive(Drop)]
 pub struct Stream {
     buffer: BytesMut,
@@ -30,7 +30,7 @@ impl Model for Stream {
 }
 
 impl Stream {
-    /// A stream that no bytes came to. It takes no memory before the first ones.
+    /// A stream that has had no bytes. It allocates nothing before the first ones.
     pub fn new(alloc: Global) -> Stream
         ensures { result ≡ opened }
     {
@@ -40,10 +40,10 @@ impl Stream {
         }
     }
 
-    /// Takes the next bytes of the stream.
+    /// Appends the next bytes of the stream.
     ///
-    /// Fails with [`StreamFault::Failed`] where a frame was at fault before, and with
-    /// [`StreamFault::OutOfMemory`] where memory is refused. The stream is as before after each fault.
+    /// Fails with [`StreamFault::Failed`] if an earlier frame was faulty, and with
+    /// [`StreamFault::OutOfMemory`] if memory is refused. Each fault leaves the stream as it was.
     pub fn feed(&mut self, bytes: &[u8]) -> Result<(), StreamFault>
         ensures state { Feeds self.old bytes.now result self.new }
         ensures step { Step self.old (Fed bytes.now result) self.new }
@@ -57,19 +57,20 @@ impl Stream {
         }
     }
 
-    /// The next frame, or `None` where less than a whole frame is unread. It takes no memory.
+    /// The next frame, or `None` if less than a whole frame is unread. It allocates nothing.
     ///
-    /// Fails with [`StreamFault::Bad`] where the unread bytes begin with no frame, however they go on.
-    /// From then on the stream has failed: it fails with [`StreamFault::Failed`], and nothing changes.
+    /// Fails with [`StreamFault::Bad`] if no frame begins with the unread bytes, whatever follows
+    /// them. From then on the stream has failed: it fails with [`StreamFault::Failed`], and nothing
+    /// changes.
     #[inline]
     pub fn next(&mut self) -> Result<Option<Frame>, StreamFault>
         ensures state { (result, self.new) ≡ next_of self.old }
         ensures step { Step self.old (Next result) self.new }
-        // What the stream passed over is the frame's spelling.
+        // The bytes that the stream skipped are the frame's spelling.
         ensures frame { IfOk result (λ next. IfSome next (λ frame. HandsOut self.old frame self.new)) }
-        // Nothing changes where there is none yet.
+        // Nothing changes if there is no frame yet.
         ensures short { IfOk result (λ next. IfNone next (IsShort self.old × (self.new ≡ self.old))) }
-        // Each fault comes exactly where it says; memory is never refused.
+        // Each fault comes exactly if its reason holds; memory is never refused.
         ensures fault { (fault : AnyStreamFault) → (result ≡ Err fault) ↔ FailsBy self.old fault }
         // After a fault the stream has failed, and its unread bytes stay.
         ensures failed { OnErr result (self.new ≡ record self.old { failed = true }) }
@@ -90,7 +91,8 @@ impl Stream {
         }
     }
 
-    /// Whether the bytes so far are whole frames, and all were handed out. It takes no memory.
+    /// Whether the bytes so far are whole frames, and all of them were handed out. It allocates
+    /// nothing.
     pub fn ended(&self) -> bool
         ensures { IsTrue result ↔ ((self.now.unread ≡ []) × (self.now.failed ≡ false)) }
     {

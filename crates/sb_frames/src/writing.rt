@@ -1,4 +1,4 @@
-//! Fields written at the end of a body.
+//! Fields appended to a body.
 ghost use Rattle.std.specs.Prelude.{◌≡◌, ◌+◌, ◌≤◌, ◌∷◌, ◌++◌, length};
 ghost use Rattle.std.specs.Int.{w64};
 ghost use Rattle.sb_amount.specs.Limit.{IsWithinLimit};
@@ -21,9 +21,9 @@ use sb_rows::{NAME_BYTES, Name};
 /// A frame's tag and fields.
 pub(crate) type Body = ArrayVec<u8, MAX_BODY>;
 
-// How many bytes each field takes at most: a name with its length, cents, a call of a name and an amount
-// with its kind, any call (two names and an amount are the most), a reply with its code, an outcome with its status, and
-// a replica's number and a length behind their tag.
+// The greatest size of each field in bytes: a name with its length, cents, a call of a name and an
+// amount with its kind, any call (the longest has two names and an amount), a reply with its code,
+// an outcome with its status, and a replica's number and a length with their tag.
 const NAME_FIELD: usize = 1 + NAME_BYTES;
 
 const AMOUNT_FIELD: usize = 8;
@@ -38,7 +38,7 @@ const OUTCOME_FIELD: usize = 1 + REPLY_FIELD;
 
 const REPLICA_AND_LENGTH: usize = 2 + 8;
 
-/// Puts bytes last.
+/// Appends bytes.
 #[inline]
 pub(crate) fn put(body: &mut Body, bytes: &[u8])
     requires { length body.old.items + length bytes.now ≤ MAX_BODY }
@@ -57,7 +57,7 @@ pub(crate) fn put_replica_and_length(body: &mut Body, tag: u8, replica: u8, size
     put(body, &size.to_be_bytes());
 }
 
-// At most `NAME_FIELD` bytes.
+// Appends at most `NAME_FIELD` bytes.
 #[inline]
 fn put_name(body: &mut Body, name: &Name)
     requires { length body.old.items + NAME_FIELD ≤ MAX_BODY }
@@ -79,7 +79,7 @@ fn put_cents(body: &mut Body, cents: i64)
     put(body, &cents.to_be_bytes());
 }
 
-// A call of a kind that takes a name and an amount.
+// A call whose kind takes a name and an amount.
 #[inline]
 fn put_name_and_amount(body: &mut Body, kind: u8, name: &Name, amount: Cents)
     requires { length body.old.items + NAME_AND_AMOUNT ≤ MAX_BODY }
@@ -92,7 +92,7 @@ fn put_name_and_amount(body: &mut Body, kind: u8, name: &Name, amount: Cents)
     put_cents(body, amount.value());
 }
 
-/// At most `CALL_FIELD` bytes.
+/// Appends at most `CALL_FIELD` bytes.
 #[inline]
 pub(crate) fn put_call(body: &mut Body, call: &Call)
     requires { length body.old.items + CALL_FIELD ≤ MAX_BODY }

@@ -1,4 +1,4 @@
--- What the line of a customer is read as, test by test.
+-- How the line of a customer is read, test by test.
 use Rattle.std.proofs.Common.{◌≡◌, ℕ, Bool, true, false, not, if◌then◌else◌, Some, None, is_some, Result, Err, List, [], ◌∷◌, length, bytes_eq, sym, ap, ◌∙◌}
 use Rattle.std.specs.List.{list_any}
 use Rattle.std.proofs.lemmas.List.{length-map}
@@ -26,11 +26,11 @@ fault_first true false rest fault h = cc
 
 module _ (before : List Customer) (names : List (List ℕ)) (same : names_of before ≡ names) (ws : List (List ℕ)) (word savings checking : List ℕ)
     (three : ws ≡ word ∷ savings ∷ checking ∷ []) where
-  -- the name stood before where it has a place
+  -- the name is known exactly if it has a place
   known : list_any (bytes_eq word) (names_of before) ≡ is_some (place_of names word)
   known = ap (list_any (bytes_eq word)) same ∙ sym (has_place names word)
 
-  -- the first word is no new name
+  -- the first word isn't a new name
   pub customer_of-bad_name : (fault : LineFault) → name_fault names word ≡ Some fault → customer_of before ws ≡ Err fault
   customer_of-bad_name fault h = rw (three, known) (fault_first (is_name word) (is_some (place_of names word)) _ fault h)
 

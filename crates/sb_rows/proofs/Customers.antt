@@ -8,7 +8,7 @@ use Rattle.sb_rows.specs.Rows.{SameCustomers}
 abbrev columns : List ℤ → List ℤ → Balances
 columns savings checking = record { savings = savings; checking = checking }
 
--- the names, the savings and the checking balances of customers that were made of them
+-- the names, the savings and the checking balances that customers were made from
 names_back : (ns : List (List ℕ)) (ss cs : List ℤ) → length ss ≡ length ns → length ss ≡ length cs → names_of (customers_of ns (columns ss cs)) ≡ ns
 names_back [] ss cs h k = refl
 names_back (n ∷ ns) [] cs h k = absurd (omega arith)
@@ -44,7 +44,7 @@ pushed (n ∷ ns) (x ∷ ss) [] name s c h k = absurd (omega arith)
 pushed (n ∷ ns) (x ∷ ss) (y ∷ cs) name s c h k =
     ap (λ l. record { name = n; savings = x; checking = y } ∷ l) (pushed ns ss cs name s c (omega arith) (omega arith))
 
--- they have these names
+-- the customers made from names and balances have these names
 pub names_of-customers_of : (names : List (List ℕ)) (b : Balances) → SameCustomers names b → names_of (customers_of names b) ≡ names
 names_of-customers_of names b h = names_back names b.savings b.checking h.places h.balances.same
 
@@ -55,11 +55,11 @@ balances_of-customers_of names b h i = record {
   checking = checking_back names b.savings b.checking h.places h.balances.same i;
 }
 
--- there are as many as names
+-- there are as many customers as names
 pub length-customers_of : (names : List (List ℕ)) (b : Balances) → SameCustomers names b → length (customers_of names b) ≡ length names
 length-customers_of names b h = sym (length-map (customers_of names b) (λ c. c.name)) ∙ ap length (names_of-customers_of names b h)
 
--- one more name and one more balance in each column are one more customer
+-- appending a name and a balance to each column appends one customer
 pub customers_of-push : (names : List (List ℕ)) (b : Balances) (name : List ℕ) (s c : ℤ) → SameCustomers names b
     → customers_of (names ++ name ∷ []) (record { savings = b.savings ++ s ∷ []; checking = b.checking ++ c ∷ [] })
     ≡ customers_of names b ++ record { name = name; savings = s; checking = c } ∷ []

@@ -1,4 +1,4 @@
--- What the mask of a line's spaces says of its first word.
+-- What the mask of a line's spaces says about its first word.
 use Rattle.std.proofs.Common.{◌≡◌, ℕ, suc, ◌+◌, ◌*◌, ◌/◌, ◌^◌, ◌<◌, Bool, true, false, not, cond, List, [], ◌∷◌, length, take, drop, sym, ap, ◌∙◌, arith, length-drop, drop-drop}
 use Rattle.std.proofs.lemmas.Simd.{leading_from_mask_l, trailing_mask_l}
 use Rattle.std.specs.Int.{w64, trailing_zeros}
@@ -8,7 +8,7 @@ use Rattle.sb_rows.proofs.Parting.{words-at, words-one}
 use Rattle.sb_rows.specs.Text.{words, is_space}
 use Rattle.sb_rows.specs.Spaces.{spaces_of, AreSpacesOf}
 
--- where a bit is set, one stands in the line
+-- if a bit is set, the line has a space
 set_in : (b : Bool) (cs : List ℕ) → (0 < spaces_of cs → position_or_len is_space cs < length cs)
     → 0 < cond b 1 0 + 2 * spaces_of cs → cond (not b) (1 + position_or_len is_space cs) 0 < suc (length cs)
 set_in true cs rest some = omega arith

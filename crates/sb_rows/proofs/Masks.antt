@@ -1,4 +1,4 @@
--- The mask of a line's spaces: of its parts, and how large it is.
+-- The mask of a line's spaces: the masks of its parts, and how large it is.
 use Rattle.std.proofs.Common.{◌≡◌, ℕ, suc, ◌+◌, ◌*◌, ◌/◌, ◌^◌, ◌<◌, ◌≤◌, Bool, List, [], ◌∷◌, ◌++◌, map, length, take, drop, sym, ap, ◌∙◌, arith, pow-suc, mul_assoc, take-append-drop, length-take-le}
 use Rattle.std.proofs.Math.Pow.{pow_mono}
 use Rattle.std.proofs.lemmas.List.{length-map, map-append}
@@ -21,7 +21,7 @@ pub spaces_below : (n : ℕ) (line : List ℕ) → length line ≤ n → spaces_
 spaces_below n line few =
     omega (arith, mask_l-lt (map is_space line), pow_mono {i = length (map is_space line)} {j = n} (omega (arith, length-map line is_space)))
 
--- a line is parted at n
+-- the mask of a line that is split at n
 pub spaces_parted : (n : ℕ) (line : List ℕ) → n ≤ length line → spaces_of line ≡ spaces_of (drop n line) * 2 ^ n + spaces_of (take n line)
 spaces_parted n line within =
     let front = map is_space (take n line) in
@@ -29,7 +29,7 @@ spaces_parted n line within =
     ap spaces_of (sym (take-append-drop n line)) ∙ ap mask_l (map-append is_space (take n line) (drop n line))
     ∙ mask_l-append front (map is_space (drop n line)) ∙ ap (λ k. spaces_of (drop n line) * 2 ^ k + spaces_of (take n line)) sizes
 
--- the mask of what stands from n on
+-- the mask of the line from n on
 pub spaces_behind : (n : ℕ) (line : List ℕ) → n ≤ length line → spaces_of line / 2 ^ n ≡ spaces_of (drop n line)
 spaces_behind n line within =
     ap (λ m. m / 2 ^ n) (spaces_parted n line within)

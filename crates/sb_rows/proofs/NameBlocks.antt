@@ -1,4 +1,4 @@
--- A block of a text in lanes, and whether each of them passes a test.
+-- A block of a text in lanes, and whether each lane passes a test.
 use Rattle.std.proofs.Common.{◌≡◌, ℕ, suc, ◌+◌, ◌*◌, ◌-◌, ◌^◌, ◌%◌, ◌≤◌, eqb, Bool, true, false, ◌&&◌, List, [], ◌∷◌, map, length, take, drop, Fits, w8, refl, sym, ap, ap₂, ◌∙◌, arith, inl, inr, pow-suc, take-append-drop, length-drop}
 use Rattle.std.proofs.lemmas.Bool.{agree_below, agree_below_at, and_left, and_right, and_parts, cases_eq, eq-eqb, ne_eqb}
 use Rattle.std.proofs.Math.Seq.{take-add}
@@ -11,7 +11,7 @@ use lib.Lanes.{Each1, mask_l, top}
 doubled : (n : ℕ) → 2 ^ suc n ≡ 2 * 2 ^ n
 doubled n = omega (arith, pow-suc 2 n)
 
--- a mask has all bits set just where each lane is set
+-- a mask has all bits set exactly if each lane is set
 all_set : (bs : List Bool) → eqb (mask_l bs) (2 ^ length bs - 1) ≡ list_all (λ b. b) bs
 all_set [] = refl
 all_set (true ∷ bs) =
@@ -29,7 +29,7 @@ agree_on : (p q : ℕ → Bool) → agree_below p q 256 ≡ true → (xs : List 
 agree_on p q same [] fits = refl
 agree_on p q same (x ∷ xs) fits = ap₂ (λ a b. a && b) (agree_below_at p q 256 x same fits.0.fits) (agree_on p q same xs fits.1)
 
--- eight lanes that were computed from a block, each set where its byte passes the test
+-- eight lanes computed from a block, each set exactly if its byte passes the test
 pub all_lanes : (q : ℕ → Bool) (v : List ℕ) → length v ≡ 8 → Each1 (Fits w8) v → (f : ℕ → ℕ) {z : List ℕ} → z ≡ map f v
     → agree_below (λ x. top 7 (f x)) q 256 ≡ true → eqb (mask_l (map (top 7) z) % 2 ^ 64) 255 ≡ list_all q v
 all_lanes q v long fits f lanes same =
@@ -40,14 +40,14 @@ all_lanes q v long fits f lanes same =
     ∙ all_set (map stops v) ∙ list_all-map (λ b. b) stops v ∙ agree_on stops q same v fits
 
 module _ (q : ℕ → Bool) (xs : List ℕ) where
-  -- a text is as its parts
+  -- a text passes exactly if its parts do
   parts : (n : ℕ) → list_all q xs ≡ (list_all q (take n xs) && list_all q (drop n xs))
   parts n = sym (ap (list_all q) (take-append-drop n xs)) ∙ list_all-append q (take n xs) (drop n xs)
 
   front : (n m : ℕ) → list_all q (take (n + m) xs) ≡ (list_all q (take n xs) && list_all q (take m (drop n xs)))
   front n m = ap (list_all q) (take-add n m xs) ∙ list_all-append q (take n xs) (take m (drop n xs))
 
-  -- a block that fails fails its text
+  -- if a block fails, its text fails
   pub block_fails : (at : ℕ) → list_all q (take 8 (drop at xs)) ≡ false → list_all q xs ≡ false
   block_fails at fails = parts (at + 8) ∙ and_left _ _ (front at 8 ∙ and_right _ _ fails)
 
@@ -55,7 +55,7 @@ module _ (q : ℕ → Bool) (xs : List ℕ) where
   pub block_passes : (at : ℕ) → list_all q (take at xs) ≡ true → list_all q (take 8 (drop at xs)) ≡ true → list_all q (take (at + 8) xs) ≡ true
   block_passes at before block = front at 8 ∙ ap₂ (λ a b. a && b) before block
 
-  -- the last block decides, where what stands before it passes
+  -- the last block decides if everything before it passes
   pub last_block : (at : ℕ) → 8 ≤ length xs → length xs ≤ at + 8 → list_all q (take at xs) ≡ true
       → list_all q (take 8 (drop (length xs - 8) xs)) ≡ list_all q xs
   last_block at long seen passes =

@@ -13,7 +13,7 @@ name_fits text h =
     let sizes = (and_parts (nat_le 1 (length text) && nat_le (length text) NAME_BYTES) (list_all is_name_byte text) h).0 in
     leb-true (length text) NAME_BYTES (and_parts (nat_le 1 (length text)) (nat_le (length text) NAME_BYTES) sizes).1
 
--- a name that was copied over the front of empty cells is stored
+-- a name copied over the front of empty cells is stored
 pub stored : (text : List ℕ) → IsName text → IsStored (text ++ drop (length text) (replicate NAME_BYTES 0)) (length text)
 stored text h =
     let fits = name_fits text h in

@@ -1,4 +1,4 @@
--- What a text opens with is read, and what is read is what it opens with.
+-- The opening at the front of a text is read, and what is read is that opening.
 use Rattle.std.proofs.Common.{◌≡◌, ℕ, ◌+◌, ◌≢◌, Bool, true, false, Result, Ok, Err, IfOk, MatchResult, List, [], ◌∷◌, ◌++◌, map, length, drop, get_or, codes, All, AllPairs, bytes_eq, refl, sym, ap, subst, subst₂, ◌∙◌, arith, append_assoc, append-nil, length-append}
 use Rattle.std.specs.List.{list_any}
 use Rattle.std.specs.Cmp.Lexicographic.{bytes_decides}
@@ -27,23 +27,23 @@ use Rattle.sb_rows.proofs.TextsLeft.{lines-after_lines, drop-bytes_of_lines}
 
 -- ---- customers of a bank may come one after another
 
--- what holds of each element holds of the one in between
+-- what holds for each element holds for the one in between
 All-seam : {X : Type 0} (P : X → Type 0) (xs : List X) (y : X) (ys : List X) → All P (xs ++ y ∷ ys) → P y
 All-seam P xs y ys h = subst P (get_or-append_seam xs y ys y) (h (length xs) y (omega (arith, length-append xs (y ∷ ys))))
 
--- of a list of which a part is shown by f
+-- the same for the images of the elements
 All-part : {X : Type 0} (P : X → Type 0) (f : Customer → X) (before : List Customer) (c : Customer) (cs : List Customer)
     → All P (map f (before ++ c ∷ cs)) → P (f c)
 All-part P f before c cs h = All-seam P (map f before) (f c) (map f cs) (rw map-append at h)
 
--- of different names each is new behind those before it
+-- if names are different, each is new after those before it
 new_among : (names : List (List ℕ)) (name : List ℕ) (more : List (List ℕ)) → AllPairs (λ a b. a ≢ b) (names ++ name ∷ more)
     → list_any (bytes_eq name) names ≡ false
 new_among names name more h = list_any_none (bytes_eq name) names (λ k d l. false_from_ne_true _ (λ same.
     h k (length names) d l (omega (arith, length-append names (name ∷ more)))
     (get_or-append names (name ∷ more) d k l ∙ sym ((bytes_decides name (get_or names k d)).0 same) ∙ sym (get_or-append_seam names name more d))))
 
--- a customer of a bank may come behind those before it
+-- a customer of a bank may come after those before it
 next_from_bank : (before : List Customer) (c : Customer) (cs : List Customer) → IsBank (before ++ c ∷ cs) → IsNext before c
 next_from_bank before c cs h =
     let split = map-append (λ (x : Customer). x.name) before (c ∷ cs) in
@@ -55,9 +55,9 @@ next_from_bank before c cs h =
       checking = All-part IsWithinLimit (λ x. x.checking) before c cs h.balances.checking;
     }
 
--- ---- what is spelled so is read
+-- ---- a text that spells an opening is read
 
--- the lines of customers are read as these
+-- the lines of customers are read as these customers
 customers_from-opening : (before cs : List Customer) (rest : List (List ℕ)) → IsBank (before ++ cs)
     → customers_from before (opening_lines cs ++ rest) ≡ Ok (before ++ cs)
 customers_from-opening before [] rest bank = customers_from-begin before (codes "begin") rest refl ∙ ap Ok (sym (append-nil before))
@@ -67,13 +67,13 @@ customers_from-opening before (c ∷ cs) rest bank =
     customers_from-more before (customer_line c) (opening_lines cs ++ rest) c (customer_line-begin before c next) (customer_of-customer_line before c next)
     ∙ customers_from-opening (before ++ c ∷ []) cs rest (subst IsBank (sym order) bank) ∙ ap Ok order
 
--- what a text says where it is spelled so
+-- what a text says if it spells an opening
 opening_of-opening : (text : List ℕ) (customers : List Customer) (rest : List (List ℕ)) → IsBank customers → lines text ≡ opening_lines customers ++ rest
     → opening_of text ≡ Ok (record { names = names_of customers; balances = balances_of customers; consumed = bytes_of_lines (length customers + 1) text })
 opening_of-opening text customers rest bank h =
     ap (λ r. r >>= with_consumed text) (ap (customers_from []) h ∙ customers_from-opening [] customers rest bank)
 
--- ---- what is read is spelled so
+-- ---- what is read spells the text
 
 -- the customers that were read from lines, and what the lines are
 record IsRead (before : List Customer) (ls : List (List ℕ)) (customers : List Customer) : Type 0 where
@@ -82,7 +82,7 @@ record IsRead (before : List Customer) (ls : List (List ℕ)) (customers : List 
   all : customers ≡ before ++ more
   spelled : ls ≡ opening_lines more ++ rest
 
--- one line more, where what is read from the lines after it is known
+-- one more line, if the reading of the lines after it is known
 read_line : (before : List Customer) (line : List ℕ) (ls : List (List ℕ)) (customers : List Customer)
     → ((after : List Customer) → customers_from after ls ≡ Ok customers → IsRead after ls customers) → customers_from before (line ∷ ls) ≡ Ok customers
     → (b : Bool) (r : Result Customer LineFault) → bytes_eq line (codes "begin") ≡ b → customer_of before (words line) ≡ r → IsRead before (line ∷ ls) customers
@@ -100,7 +100,7 @@ read_line before line ls customers further h false (Ok c) e k =
     }
 read_line before line ls customers further h false (Err fault) e k = let stopped = customers_from-fault before line ls fault e k in cc
 
--- what is read says what the lines are
+-- what is read determines the lines
 IsRead-from : (before : List Customer) (ls : List (List ℕ)) (customers : List Customer) → customers_from before ls ≡ Ok customers → IsRead before ls customers
 IsRead-from before [] customers h = let none = customers_from-nil before in cc
 IsRead-from before (line ∷ ls) customers h =
@@ -111,12 +111,12 @@ customers_back : (customers : List Customer) → customers_of (names_of customer
 customers_back [] = refl
 customers_back (c ∷ cs) = ap (λ l. c ∷ l) (customers_back cs)
 
--- a line a customer, and `begin`
+-- one line for each customer, and `begin`
 length-opening_lines : (customers : List Customer) → length (opening_lines customers) ≡ length customers + 1
 length-opening_lines customers =
     length-append (map customer_line customers) (codes "begin" ∷ []) ∙ ap (λ n. n + 1) (length-map customers customer_line)
 
--- the lines that were read, and where the text goes on
+-- the lines that were read, and where the text goes on after them
 lines-opening : (text : List ℕ) (customers : List Customer) → customers_from [] (lines text) ≡ Ok customers
     → lines text ≡ opening_lines customers ++ lines (drop (bytes_of_lines (length customers + 1) text) text)
 lines-opening text customers h =
@@ -127,11 +127,11 @@ lines-opening text customers h =
     ∙ lines-after_lines text (opening_lines customers) got.rest spelled in
     spelled ∙ ap (λ ls. opening_lines customers ++ ls) (sym there)
 
--- a text opens with these customers, and goes on behind these bytes
+-- a text begins with the opening of these customers, and goes on after these bytes
 abbrev IsSpelled : List ℕ → List Customer → ℕ → Type 0
 IsSpelled text customers consumed = lines text ≡ opening_lines customers ++ lines (drop consumed text)
 
--- what a text says, it spells
+-- a text spells what it says
 spelled_from_read : (text : List ℕ) (names : List (List ℕ)) (b : Balances) (consumed : ℕ) (r : Result (List Customer) (ℕ × LineFault))
     → customers_from [] (lines text) ≡ r → opening_of text ≡ Ok (record { names = names; balances = b; consumed = consumed })
     → IsSpelled text (customers_of names b) consumed
@@ -146,7 +146,7 @@ spelled_from_read text names b consumed (Err fault) e h =
     let result : ◌≡◌ {A = Result OpeningText (ℕ × LineFault)} (Err fault) (Ok (record { names = names; balances = b; consumed = consumed })) =
     sym (ap (λ r. r >>= with_consumed text) e) ∙ h in cc
 
--- names and balances of the same customers are those of a bank
+-- names and balances of the same customers make a bank
 IsBank-customers_of : (names : List (List ℕ)) (b : Balances) → SameCustomers names b → IsBank (customers_of names b)
 IsBank-customers_of names b h = record {
   names = subst IsDirectory (sym (names_of-customers_of names b h)) h.names;
@@ -155,7 +155,7 @@ IsBank-customers_of names b h = record {
 
 -- ---- what a reader answers that is exact
 
--- what it reads is spelled so
+-- what is read spells the text
 pub Reads-spelled : (text : List ℕ) (r : Result Opening OpeningFault) → Reads r (opening_of text)
     → IfOk r (λ o. IsBank (customers_of o.directory o.columns) × IsSpelled text (customers_of o.directory o.columns) o.consumed)
 Reads-spelled text (Ok o) h = (
@@ -164,7 +164,7 @@ Reads-spelled text (Ok o) h = (
 )
 Reads-spelled text (Err fault) h = tt
 
--- what is spelled so it reads, unless memory runs out
+-- a text that spells an opening is read, unless memory is refused
 pub Reads-taken : (text : List ℕ) (r : Result Opening OpeningFault) → Reads r (opening_of text)
     → (customers : List Customer) (rest : List (List ℕ)) → IsBank customers → lines text ≡ opening_lines customers ++ rest
     → MatchResult r (λ o. (o.directory ≡ names_of customers) × (o.columns ≡ balances_of customers)) (λ fault. fault ≡ OutOfMemory)

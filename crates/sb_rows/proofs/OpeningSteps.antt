@@ -18,13 +18,13 @@ pub customers_from-begin : (before : List Customer) (line : List ℕ) (ls : List
 unfolding customers_from
 customers_from-begin before line ls h = rw h
 
--- a line of a customer is one customer more
+-- a customer's line adds one customer
 pub customers_from-more : (before : List Customer) (line : List ℕ) (ls : List (List ℕ)) (customer : Customer) → bytes_eq line (codes "begin") ≡ false
     → customer_of before (words line) ≡ Ok customer → customers_from before (line ∷ ls) ≡ customers_from (before ++ customer ∷ []) ls
 unfolding customers_from
 customers_from-more before line ls customer h is = rw (h, is)
 
--- a line at fault ends the reading
+-- a faulty line ends the reading
 pub customers_from-fault : (before : List Customer) (line : List ℕ) (ls : List (List ℕ)) (fault : LineFault) → bytes_eq line (codes "begin") ≡ false
     → customer_of before (words line) ≡ Err fault → customers_from before (line ∷ ls) ≡ Err (length before + 1, fault)
 unfolding customers_from
@@ -42,7 +42,7 @@ after_lines-next (suc n) text = after_lines-next n (after_line text)
 
 -- ---- the whole opening
 
--- what goes on with the customers
+-- adds the bytes taken to the customers
 abbrev pub with_consumed : List ℕ → List Customer → Result OpeningText (ℕ × LineFault)
 with_consumed text customers =
     Ok (record { names = names_of customers; balances = balances_of customers; consumed = bytes_of_lines (length customers + 1) text })
@@ -57,12 +57,12 @@ opening_of-ok text names b consumed h e at =
     ap (λ r. r >>= with_consumed text) e
     ∙ (λ i. Ok (record { names = names_of-customers_of names b h i; balances = balances_of-customers_of names b h i; consumed = at_byte i }))
 
--- a line was at fault
+-- a line was faulty
 pub opening_of-fault : (text : List ℕ) (number : ℕ) (fault : LineFault) → customers_from [] (lines text) ≡ Err (number, fault)
     → opening_of text ≡ Err (number, fault)
 opening_of-fault text number fault e = ap (λ r. r >>= with_consumed text) e
 
--- what stopped at a line stops the reading
+-- a fault at a line is the fault of the reading
 pub Reads-fault : (text : List ℕ) (before after : List Customer) (line : List ℕ) (ls : List (List ℕ)) (fault : OpeningFault)
     → bytes_eq line (codes "begin") ≡ false → customers_from [] (lines text) ≡ customers_from before (line ∷ ls)
     → Adds before line after (Err fault) → Reads (Err fault) (opening_of text)

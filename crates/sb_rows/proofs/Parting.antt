@@ -1,4 +1,4 @@
--- How a text is parted at the first byte that a search found.
+-- How a text is split at the first byte that a search found.
 use Rattle.std.proofs.Common.{◌≡◌, ℕ, suc, ◌+◌, ◌-◌, ◌<◌, Bool, true, false, Some, None, List, [], ◌∷◌, length, take, drop, refl, ap, ◌∙◌, arith, ne_eqb}
 use Rattle.std.specs.List.{slice_split, position_or_len}
 use Rattle.std.proofs.lemmas.Grind.{common_steps}
@@ -24,7 +24,7 @@ found_first test bytes k h =
     let within : k < length bytes = h.0.high in
     position_or_len_is test bytes k 0 (omega arith) (λ j l. not_true _ (h.0.before j (omega arith) l)) (λ l. h.1)
 
--- a list of which no byte passes is one piece
+-- a list in which no byte passes is one piece
 split_whole : (test : ℕ → Bool) (bytes : List ℕ) → position_or_len test bytes ≡ length bytes → slice_split test bytes ≡ bytes ∷ []
 split_whole test bytes e =
     slice_split_none test bytes (All-from_get_or (λ x. test x ≡ false) bytes 0 (λ i l. fails_before_first test bytes i 0 (rw e l)))
@@ -38,7 +38,7 @@ split_first test bytes k l e = rw (← e) (slice_split_first test bytes 0 (rw e 
 pub to_end : {X : Type 0} (xs : List X) (k : ℕ) → take (length xs - k) (drop k xs) ≡ drop k xs
 to_end xs k = grind (arith, common_steps)
 
--- where a piece follows, the first one stays
+-- the first piece stays if another follows
 keeps_first : (x : List ℕ) (pieces : List (List ℕ)) (n : ℕ) → length pieces ≡ n + 1
     → without_empty_last (x ∷ pieces) ≡ x ∷ without_empty_last pieces
 keeps_first x [] n h = absurd (omega arith)
@@ -58,16 +58,16 @@ unfolding lines
 lines-one [] e l = absurd (omega arith)
 lines-one (x ∷ xs) e l = ap without_empty_last (split_whole is_line_feed (x ∷ xs) e) ∙ rw (ne_eqb (suc (length xs)) 0 (λ z. omega arith)) refl
 
--- the same of what a search found
+-- the same for what a search found
 pub lines-first : (text : List ℕ) (k : ℕ) → IsFirstByte is_line_feed text (Some k)
     → lines text ≡ take k text ∷ lines (drop (k + 1) text)
 lines-first text k h = lines-at text k h.0.high (found_first is_line_feed text k h)
 
--- and where it found nothing
+-- and if it found nothing
 pub lines-whole : (text : List ℕ) → IsFirstByte is_line_feed text None → 0 < length text → lines text ≡ text ∷ []
 lines-whole text h l = lines-one text (nothing_found is_line_feed text h) l
 
--- no text has no lines
+-- an empty text has no lines
 pub lines-nil : (text : List ℕ) → length text ≡ 0 → lines text ≡ []
 unfolding lines
 lines-nil [] h = refl
@@ -79,16 +79,16 @@ pub words-at : (line : List ℕ) (k : ℕ) → k < length line → position_or_l
 unfolding words
 words-at line k l e = split_first is_space line k l e
 
--- a line without one is one word
+-- a line without a space is one word
 pub words-one : (line : List ℕ) → position_or_len is_space line ≡ length line → words line ≡ line ∷ []
 unfolding words
 words-one line e = split_whole is_space line e
 
--- the same of what a search found
+-- the same for what a search found
 pub words-first : (line : List ℕ) (k : ℕ) → IsFirstByte is_space line (Some k)
     → words line ≡ take k line ∷ words (drop (k + 1) line)
 words-first line k h = words-at line k h.0.high (found_first is_space line k h)
 
--- and where it found nothing
+-- and if it found nothing
 pub words-whole : (line : List ℕ) → IsFirstByte is_space line None → words line ≡ line ∷ []
 words-whole line h = words-one line (nothing_found is_space line h)

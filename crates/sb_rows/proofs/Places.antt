@@ -9,7 +9,7 @@ use Rattle.std.proofs.lemmas.List.Sums.{fails_before_first, position_or_len_is}
 use Rattle.std.proofs.lemmas.Option.{slice_get-get_or, get_or_from_slice_get, slice_get_within}
 use Rattle.sb_rows.specs.Directory.{IsDirectory, place_of}
 
--- what the test of a place tells
+-- what the test of a place says
 place_by_test : (b : Bool) (n i : ℕ) → cond b (Some n) None ≡ Some i → n ≡ i
 place_by_test true n i e = cc
 place_by_test false n i e = cc
@@ -22,18 +22,18 @@ none_by_test false n e = refl
 pub first_at : (names : List (List ℕ)) (name : List ℕ) (i : ℕ) → place_of names name ≡ Some i → position_or_len (bytes_eq name) names ≡ i
 first_at names name i e = place_by_test (nat_lt (position_or_len (bytes_eq name) names) (length names)) _ i e
 
--- a name without a place stands at none
+-- a name without a place is at none
 pub first_past : (names : List (List ℕ)) (name : List ℕ) → place_of names name ≡ None → length names ≤ position_or_len (bytes_eq name) names
 first_past names name e =
     ltb-false (position_or_len (bytes_eq name) names) (length names) (none_by_test (nat_lt (position_or_len (bytes_eq name) names) (length names)) _ e)
 
--- so it is none of the names
+-- so no name in the list is equal to it
 pub absent_from_place : (names : List (List ℕ)) (name : List ℕ) → place_of names name ≡ None → All (λ other. bytes_eq name other ≡ false) names
 absent_from_place names name e k d l =
     let past = first_past names name e in
     fails_before_first (bytes_eq name) names k d (omega arith)
 
--- a name has a place where it is one of the names
+-- a name has a place exactly if it is one of the names
 pub has_place : (names : List (List ℕ)) (name : List ℕ) → is_some (place_of names name) ≡ list_any (bytes_eq name) names
 has_place names name = by (place_of names name) refl
   where
@@ -43,17 +43,17 @@ has_place names name = by (place_of names name) refl
         let at = position-Some (bytes_eq name) names i [] e in
         sym (list_any_at (bytes_eq name) names i [] at.0 at.1)
 
--- a place is one of a name
+-- the place of a name is within the list
 pub place_of_within : (names : List (List ℕ)) (name : List ℕ) (i : ℕ) → place_of names name ≡ Some i → i < length names
 place_of_within names name i e = (position-Some (bytes_eq name) names i [] e).0
 
--- a name stands at its place
+-- a name is at its place
 pub place_of_found : (names : List (List ℕ)) (name : List ℕ) (i : ℕ) → place_of names name ≡ Some i → slice_get names i ≡ Some name
 place_of_found names name i e =
     let at = position-Some (bytes_eq name) names i [] e in
     slice_get-get_or names i [] at.0 ∙ ap Some (sym ((bytes_decides name (get_or names i [])).0 at.1))
 
--- the place at which a name stands is its place
+-- a place that holds a name is that name's place
 pub place_of_at : (names : List (List ℕ)) (i : ℕ) (name : List ℕ) → IsDirectory names → slice_get names i ≡ Some name → place_of names name ≡ Some i
 place_of_at names i name h e =
     let within : i < length names = slice_get_within names i name e in

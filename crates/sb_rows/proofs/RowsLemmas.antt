@@ -35,13 +35,13 @@ zip-set (a ∷ as') [] (suc i) x y = refl
 zip-set (a ∷ as') (b ∷ bs) zero x y = refl
 zip-set (a ∷ as') (b ∷ bs) (suc i) x y = ap (λ es. (a, b) ∷ es) (zip-set as' bs i x y)
 
--- a write is read where it went
+-- a read at the place of a write finds the written element
 slice_get-set_same : {A : Type 0} (xs : List A) (i : ℕ) (x : A) → i < length xs → slice_get (set xs i x) i ≡ Some x
 slice_get-set_same [] i x l = absurd (omega arith)
 slice_get-set_same (a ∷ as') zero x l = refl
 slice_get-set_same (a ∷ as') (suc i) x l = slice_get-set_same as' i x (omega arith)
 
--- and nowhere else
+-- a read at another place finds the old one
 slice_get-set_other : {A : Type 0} (xs : List A) (i j : ℕ) (x : A) → (j ≡ i → ⊥) → slice_get (set xs i x) j ≡ slice_get xs j
 slice_get-set_other [] i j x ne = refl
 slice_get-set_other (a ∷ as') zero zero x ne = absurd (ne refl)
@@ -49,7 +49,7 @@ slice_get-set_other (a ∷ as') zero (suc j) x ne = refl
 slice_get-set_other (a ∷ as') (suc i) zero x ne = refl
 slice_get-set_other (a ∷ as') (suc i) (suc j) x ne = slice_get-set_other as' i j x (λ e. ne (ap suc e))
 
--- ---- what stands at a name
+-- ---- the row of a name
 
 -- the pair beside the first name that is equal
 find-zip : {X : Type 0} (names : List (List ℕ)) (vs : List X) (name : List ℕ) → length names ≡ length vs
@@ -73,11 +73,11 @@ find-zip {X} (n ∷ ns) (v ∷ vs) name h =
 abbrev pairs : Balances → List (ℤ × ℤ)
 pairs b = zip b.savings b.checking
 
--- there are as many as names
+-- there are as many pairs as names
 length-pairs : (names : List (List ℕ)) (b : Balances) → SameCustomers names b → length names ≡ length (pairs b)
 length-pairs names b h = omega (arith, length-zip b.savings b.checking, h.places, h.balances.same)
 
--- a name has the pair that stands first at it
+-- a name has the pair at its first place
 rows_found : (names : List (List ℕ)) (b : Balances) (name : List ℕ) → length names ≡ length (pairs b)
     → get (rows_of names b) name ≡ slice_get (pairs b) (position_or_len (bytes_eq name) names)
 unfolding rows_of
@@ -96,7 +96,7 @@ get-rows_of_absent names b name h none =
     let past = first_past names name none in
     rows_found names b name same ∙ slice_get_past (pairs b) (position_or_len (bytes_eq name) names) (omega arith)
 
--- what a name finds among the pairs after a write at the place of a name
+-- what a name finds among the pairs after a write at a name's place
 find_after : (names : List (List ℕ)) (vs : List (ℤ × ℤ)) (name : List ℕ) (place : ℕ) (v : ℤ × ℤ) (q : List ℕ)
     → length names ≡ length vs → place_of names name ≡ Some place
     → slice_get (set vs place v) (position_or_len (bytes_eq q) names) ≡ cond (bytes_eq q name) (Some v) (slice_get vs (position_or_len (bytes_eq q) names))

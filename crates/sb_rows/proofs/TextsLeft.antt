@@ -38,7 +38,7 @@ after_lines-drop (suc n) text =
           ∙ drop-drop (position_or_len is_line_feed rest + 1) before.0 text,
     )
 
--- an end of a list begins where its length says
+-- the end of a list is determined by its length
 drop_back : (k : ℕ) (xs : List ℕ) → drop (length xs - length (drop k xs)) xs ≡ drop k xs
 drop_back k xs =
     elim (cases_lt k (length xs)) [
@@ -47,7 +47,7 @@ drop_back k xs =
           drop_of_length-le xs back ∙ sym (drop_of_length-le xs l)
     ]
 
--- it goes on behind the bytes of the lines
+-- the text after some lines starts after their bytes
 pub drop-bytes_of_lines : (n : ℕ) (text : List ℕ) → drop (bytes_of_lines n text) text ≡ after_lines n text
 drop-bytes_of_lines n text =
     let ends = after_lines-drop n text in

@@ -4,17 +4,17 @@ use Rattle.std.specs.List.{All}
 use Rattle.sb_amount.specs.Limit.{IsWithinLimit}
 use Rattle.sb_rows.specs.declared.columns.TheConstants.{CUSTOMERS}
 
--- one savings and one checking balance a customer, in cents
+-- the balances of customers: savings and checking by place, in cents
 pub record Balances : Type 0 where
   pub savings : List ℤ
   pub checking : List ℤ
 
--- not negative, and within the limit
+-- a savings balance: not negative, and within the limit
 pub record IsSavings (v : ℤ) : Type 0 where
   pub not_negative : pos 0 ≤ℤ v
   pub within : IsWithinLimit v
 
--- as many of one as of the other, and each in its range
+-- both columns have one length, and each balance is in its range
 pub record IsBalances (b : Balances) : Type 0 where
   pub same : length b.savings ≡ length b.checking
   pub few : length b.savings ≤ CUSTOMERS

@@ -18,13 +18,14 @@ names_of customers = map (λ c. c.name) customers
 abbrev pub balances_of : List Customer → Balances
 balances_of customers = record { savings = map (λ c. c.savings) customers; checking = map (λ c. c.checking) customers }
 
--- the customers with these names and balances, by place
+-- the customers that have these names and balances, by place
 abbrev pub customers_of : List (List ℕ) → Balances → List Customer
 customers_of names balances =
     map (λ e. record { name = e.0; savings = e.1.0; checking = e.1.1 })
     (zip names (zip balances.savings balances.checking))
 
--- customers that a bank may have: valid names, all different, at most 65,536; balances in their ranges
+-- the customers that a bank may have: valid names, all different, at most 65,536; balances in their
+-- ranges
 pub record IsBank (customers : List Customer) : Type 0 where
   pub names : IsDirectory (names_of customers)
   pub balances : IsBalances (balances_of customers)

@@ -15,7 +15,7 @@ line_fault_number NegativeSavings = 5
 line_fault_number TooMany = 6
 line_fault_number NoBegin = 7
 
--- the number of a fault of an opening: that of its line, or that of memory
+-- the number of a fault of an opening: that of its line's fault, or that of refused memory
 abbrev pub opening_fault_number : OpeningFault → ℕ
 opening_fault_number (Line line fault) = line_fault_number fault
 opening_fault_number OutOfMemory = 8

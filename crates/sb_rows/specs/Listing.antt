@@ -5,7 +5,7 @@ use Rattle.std.specs.FinMap.{get}
 use Rattle.sb_rows.specs.Customer.{Customer}
 use Rattle.sb_rows.specs.Rows.{Rows}
 
--- a customer with the balances that the rows have for its name
+-- a customer with the balances that the rows hold for its name
 abbrev pub row_of : Rows → List ℕ → Customer
 row_of rows name =
     let balances = unwrap_or (get rows name) (pos 0, pos 0) in
@@ -15,7 +15,8 @@ row_of rows name =
 unfoldable pub listed : List (List ℕ) → Rows → List Customer
 listed names rows = map (row_of rows) names
 
--- all balances of these customers added up, by recursion, since std's sum has no whole numbers below 0
+-- the sum of all balances of these customers, by recursion, because std's sum takes no negative
+-- numbers
 abbrev pub total_of : List Customer → ℤ
 total_of [] = pos 0
 total_of (customer ∷ customers) = (customer.savings +ℤ customer.checking) +ℤ total_of customers

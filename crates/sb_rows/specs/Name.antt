@@ -6,11 +6,11 @@ use Rattle.std.specs.Str.{bytes_eq}
 use Rattle.std.proofs.Common.{sym, ap, ◌∙◌, arith, length-take-le, take-append-drop}
 use Rattle.sb_rows.specs.declared.name.TheConstants.{NAME_BYTES}
 
--- `a` to `z`, `0` to `9` or `_`
+-- the byte is `a` to `z`, `0` to `9` or `_`
 abbrev pub is_name_byte : ℕ → Bool
 is_name_byte c = (nat_le 97 c && nat_le c 122) || (nat_le 48 c && nat_le c 57) || (c == 95)
 
--- 1 to 20 such bytes
+-- the text is 1 to 20 name bytes
 abbrev pub is_name : List ℕ → Bool
 is_name text = nat_le 1 (length text) && nat_le (length text) NAME_BYTES && list_all is_name_byte text
 
@@ -18,14 +18,14 @@ is_name text = nat_le 1 (length text) && nat_le (length text) NAME_BYTES && list
 abbrev pub IsName : List ℕ → Type 0
 IsName text = IsTrue (is_name text)
 
--- the cells hold a name of this length, and zeros after it
+-- the cells hold a name of this length, with zeros after it
 pub record IsStored (cells : List ℕ) (size : ℕ) : Type 0 where
   pub all : length cells ≡ NAME_BYTES
   pub within : size ≤ NAME_BYTES
   pub valid : IsName (take size cells)
   pub zeros : drop size cells ≡ replicate (NAME_BYTES - size) 0
 
--- the cells and the length of a name that is stored, from its text
+-- the cells and the length of a stored name, from its text
 pub stored_back : (cells : List ℕ) (size : ℕ) → IsStored cells size
     → (take size cells ++ replicate (NAME_BYTES - length (take size cells)) 0 ≡ cells)
     × (length (take size cells) ≡ size)
@@ -36,6 +36,6 @@ stored_back cells size h =
       same,
     )
 
--- equal names are hashed alike
+-- equal names have equal hashes
 pub same_hash_input : (x y : List ℕ) → IsTrue (bytes_eq x y) → x ∷ [] ≡ y ∷ []
 same_hash_input x y h = ap (λ name. name ∷ []) ((bytes_decides x y).0 h)

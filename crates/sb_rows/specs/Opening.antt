@@ -19,13 +19,13 @@ use Rattle.sb_rows.specs.declared.fault.LineFault.TheVariants.{BadLine, BadName,
 abbrev pub customer_line : Customer → List ℕ
 customer_line c = c.name ++ ((32 ∷ money c.savings) ++ (32 ∷ money c.checking))
 
--- a line a customer, and then `begin`
+-- one line for each customer, and then `begin`
 abbrev pub opening_lines : List Customer → List (List ℕ)
 opening_lines customers = map customer_line customers ++ codes "begin" ∷ []
 
 -- ---- what it is read as
 
--- the value goes on to f, and a fault stays
+-- passes a value on to f; a fault stays
 infixl 10 ◌>>=◌
 abbrev pub ◌>>=◌ : {A B E : Type 0} → Result A E → (A → Result B E) → Result B E
 (Ok x) >>= f = f x
@@ -36,7 +36,7 @@ abbrev pub at_line : {A E : Type 0} → ℕ → Result A E → Result A (ℕ × 
 at_line n (Ok x) = Ok x
 at_line n (Err e) = Err (n, e)
 
--- the customer with these amounts, where n customers stand before it
+-- the customer with these amounts, if n customers come before it
 abbrev pub with_amounts : ℕ → List ℕ → Result ℤ MoneyFault → Result ℤ MoneyFault → Result Customer LineFault
 with_amounts n name (Ok savings) (Ok checking) =
     if int_lt savings (pos 0) then Err NegativeSavings
@@ -45,7 +45,8 @@ with_amounts n name (Ok savings) (Ok checking) =
 with_amounts n name (Ok savings) (Err fault) = Err BadMoney
 with_amounts n name (Err fault) checking = Err BadMoney
 
--- the customer of a line with these words, or the first fault; before are the customers of the lines before it
+-- the customer of a line with these words, or its first fault; `before` are the customers of the
+-- lines before it
 abbrev pub customer_of : List Customer → List (List ℕ) → Result Customer LineFault
 customer_of before (name ∷ savings ∷ checking ∷ []) =
     if not (is_name name) then Err BadName
@@ -56,7 +57,8 @@ customer_of before (a ∷ []) = Err BadLine
 customer_of before (a ∷ b ∷ []) = Err BadLine
 customer_of before (a ∷ b ∷ c ∷ d ∷ more) = Err BadLine
 
--- the customers of the lines up to `begin`, after those before, or the first line at fault with its fault
+-- the customers of the lines up to `begin`, after those before, or the first faulty line with its
+-- fault
 unfoldable pub customers_from : List Customer → List (List ℕ) → Result (List Customer) (ℕ × LineFault)
 customers_from before [] = Err (length before + 1, NoBegin)
 customers_from before (line ∷ ls) =
@@ -64,13 +66,13 @@ customers_from before (line ∷ ls) =
     else (at_line (length before + 1) (customer_of before (words line)) >>= λ customer.
     customers_from (before ++ customer ∷ []) ls)
 
--- the names, the balances, and how many bytes the opening takes
+-- what an opening says: the names, the balances, and the number of bytes it takes
 pub record OpeningText : Type 0 where
   pub names : List (List ℕ)
   pub balances : Balances
   pub consumed : ℕ
 
--- what a text opens with, or its first line at fault with its fault
+-- the opening at the front of a text, or the first faulty line with its fault
 abbrev pub opening_of : List ℕ → Result OpeningText (ℕ × LineFault)
 opening_of text = customers_from [] (lines text) >>= λ customers.
     Ok (record {

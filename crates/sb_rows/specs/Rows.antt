@@ -1,4 +1,5 @@
--- A bank's rows: a finite map from names to pairs of balances, and how columns and a directory give them.
+-- A bank's rows: a finite map from names to pairs of balances, and how it follows from columns and
+-- a directory.
 use Rattle.std.specs.Prelude.{◌≡◌, ℕ, ℤ, Some, None, List, length, slice_get, slice_set}
 use Rattle.std.specs.List.{zip}
 use Rattle.std.specs.Ordering.{nat_cmp}
@@ -11,15 +12,15 @@ use Rattle.sb_rows.specs.Directory.{IsDirectory, place_of}
 abbrev pub Rows : Type 0
 Rows = FinMap (slice_cmp nat_cmp) (ℤ × ℤ)
 
--- columns by place, read through the names in opening order
+-- the rows of these names: each name with the balances at its place
 unfoldable pub rows_of : List (List ℕ) → Balances → Rows
 rows_of names balances = from_entries (zip names (zip balances.savings balances.checking))
 
--- the balances with s and c at a place
+-- the balances after s and c are written at a place
 abbrev pub with_row : Balances → ℕ → ℤ → ℤ → Balances
 with_row b place s c = record { savings = slice_set b.savings place s; checking = slice_set b.checking place c }
 
--- names and balances of the same customers
+-- the names and the balances are of the same customers
 pub record SameCustomers (directory : List (List ℕ)) (b : Balances) : Type 0 where
   pub names : IsDirectory directory
   pub balances : IsBalances b

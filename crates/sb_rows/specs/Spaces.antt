@@ -4,15 +4,15 @@ use Rattle.std.specs.Simd.Lanes.{mask_l}
 use Rattle.sb_rows.specs.Text.{is_space}
 use Rattle.sb_rows.specs.declared.spaces.TheConstants.{MASK_BYTES}
 
--- bit k is set where byte k of a line is a space
+-- a number whose bit k is set exactly if byte k of the line is a space
 abbrev pub spaces_of : List ℕ → ℕ
 spaces_of line = mask_l (map is_space line)
 
--- a line is short enough for a mask, and this is its mask
+-- the line is short enough for a mask, and this is its mask
 pub record AreSpacesOf (line : List ℕ) (mask : ℕ) : Type 0 where
   pub short : length line ≤ MASK_BYTES
   pub mask_is : mask ≡ spaces_of line
 
--- where there are a line and a mask, this is its mask
+-- if there are a line and a mask, this is the line's mask
 abbrev pub AreSpacesLeft : Option (List ℕ) → Option ℕ → Type 0
 AreSpacesLeft line mask = IfSome line (λ bytes. IfSome mask (λ bits. AreSpacesOf bytes bits))

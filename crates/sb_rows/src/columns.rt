@@ -6,7 +6,7 @@ use sb_amount::Cents;
 use std::alloc::{AllocError, Global};
 use std::marker::Model;
 
-/// How many customers a bank has at most.
+/// The greatest number of customers that a bank has.
 pub const CUSTOMERS: usize = 65_536;
 
 /// The savings and checking balances of all customers by place, in cents.
@@ -37,7 +37,7 @@ impl Columns {
         }
     }
 
-    /// The columns that these balances are, in cents.
+    /// The columns with these balances, in cents.
     pub fn from_parts(savings: Vec<i64>, checking: Vec<i64>) -> Columns
         requires { IsBalances (record { savings = savings.items; checking = checking.items }) }
         ensures { result ≡ record { savings = savings.items; checking = checking.items } }
@@ -45,7 +45,7 @@ impl Columns {
         Columns { savings, checking }
     }
 
-    /// How many customers there are.
+    /// The number of customers.
     #[inline]
     pub fn customers(&self) -> usize
         ensures value { result ≡ length self.now.savings }
@@ -108,7 +108,7 @@ impl Columns {
         self.checking[place as usize] = amount.value();
     }
 
-    /// Puts the balances of one more customer last. Where memory is refused nothing changes.
+    /// Appends the balances of one more customer. If memory is refused, nothing changes.
     pub fn push(&mut self, savings: Cents, checking: Cents) -> Result<(), AllocError>
         requires room { length self.old.savings < CUSTOMERS }
         requires not_negative { pos 0 ≤ℤ savings }
@@ -126,7 +126,7 @@ impl Columns {
         Ok(())
     }
 
-    /// The same balances once more.
+    /// A copy of the balances.
     pub fn copy(&self) -> Result<Columns, AllocError>
         ensures { IfOk result (λ copy. copy ≡ self.now) }
     {

@@ -15,7 +15,7 @@ use crate::name::Name;
 use crate::words::Words;
 use sb_amount::Cents;
 
-// What the line of a customer says.
+// The parts of a customer's line.
 #[derive(Clone, Copy)]
 pub(crate) struct CustomerLine {
     pub(crate) name: Name,
@@ -47,7 +47,7 @@ fn read_name(before: &Directory, word: &[u8]) -> Result<Name, LineFault>
     Ok(name)
 }
 
-// The savings and the checking balance of the customer at a place.
+// The savings and the checking balance of the customer at a place, as two texts say them.
 fn read_amounts(place: usize, savings: &[u8], checking: &[u8]) -> Result<(Cents, Cents), LineFault>
     ensures exact { (name : List ℕ)
         → let read = with_amounts place name (read_money savings.now) (read_money checking.now) in
@@ -68,7 +68,8 @@ fn read_amounts(place: usize, savings: &[u8], checking: &[u8]) -> Result<(Cents,
     Ok((savings, checking))
 }
 
-// The customer of a line, or the line's first fault, where the customers of the lines before it are known.
+// The customer of a line, or the line's first fault, if `before` has the names of the lines before
+// it.
 pub(crate) fn read_customer(before: &Directory, line: &[u8]) -> Result<CustomerLine, LineFault>
     ensures exact { (customers : List Customer) → names_of customers ≡ before.now
         → MatchResult result

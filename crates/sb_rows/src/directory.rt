@@ -1,4 +1,4 @@
-//! Which customer has which place.
+//! The directory: which place each customer has.
 ghost use Rattle.std.specs.Prelude.{◌≡◌, ◌<◌, [], ◌∷◌, ◌++◌, ◌↔◌, length, None, slice_get, IsTrue, IfOk, OnOk, OnErr};
 ghost use Rattle.sb_rows.specs.Directory.{IsDirectory, place_of};
 ghost use Rattle.sb_rows.specs.declared.columns.TheConstants.{CUSTOMERS};
@@ -9,7 +9,8 @@ use indexmap::IndexSet;
 use std::alloc::{AllocError, Global};
 use std::marker::Model;
 
-/// The customers' names in opening order, all different. A customer's place is the place of its name, from 0.
+/// The customers' names in opening order, all different. A customer's place is the place of its
+/// name, from 0.
 #[derive(Drop)]
 pub struct Directory {
     names: IndexSet<Name>,
@@ -36,7 +37,7 @@ impl Directory {
         }
     }
 
-    /// How many names there are.
+    /// The number of names.
     #[inline]
     pub fn len(&self) -> usize
         ensures value { result ≡ length self.now }
@@ -45,14 +46,14 @@ impl Directory {
         self.names.len()
     }
 
-    /// Whether there are none.
+    /// Whether there are no names.
     pub fn is_empty(&self) -> bool
         ensures { IsTrue result ↔ (self.now ≡ []) }
     {
         self.names.is_empty()
     }
 
-    /// The place of a name, or `None` where the directory hasn't got it.
+    /// The place of a name, or `None` if the directory doesn't have it.
     #[inline]
     pub fn place(&self, name: &Name) -> Option<u32>
         ensures { result ≡ place_of self.now name.now }
@@ -61,7 +62,7 @@ impl Directory {
         Some(place as u32)
     }
 
-    /// The name at a place, or `None` where there is no such place.
+    /// The name at a place, or `None` if there is no such place.
     #[inline]
     pub fn name(&self, place: u32) -> Option<Name>
         ensures { result ≡ slice_get self.now place }
@@ -69,7 +70,7 @@ impl Directory {
         self.names.get_index(place as usize).copied()
     }
 
-    /// Puts a new name last. Where memory is refused nothing changes.
+    /// Appends a new name. If memory is refused, nothing changes.
     pub fn push(&mut self, name: Name) -> Result<(), AllocError>
         requires new { place_of self.old name ≡ None }
         requires room { length self.old < CUSTOMERS }
@@ -77,13 +78,13 @@ impl Directory {
         ensures err { OnErr result (self.new ≡ self.old) }
         ensures valid { IsDirectory self.new }
     {
-        // Each name is valid, as its text says.
+        // Each name is valid, by the contract of `text`.
         let _valid = name.text();
         self.names.insert(name)?;
         Ok(())
     }
 
-    /// The same names once more.
+    /// A copy of the names.
     pub fn copy(&self) -> Result<Directory, AllocError>
         ensures { IfOk result (λ copy. copy ≡ self.now) }
     {

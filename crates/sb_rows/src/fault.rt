@@ -8,28 +8,28 @@ use crate::words::WrongWords;
 use std::alloc::AllocError;
 use thiserror::Error;
 
-/// What is wrong with a line of an opening text: the first fault in this order.
+/// The fault of a line in an opening text: the first in this order.
 #[derive(Clone, Copy, Debug, PartialEq, Eq, Error)]
 pub enum LineFault {
-    /// The line hasn't three words.
+    /// The line doesn't have three words.
     #[error("bad line")]
     BadLine,
-    /// The first word is no name.
+    /// The first word isn't a valid name.
     #[error("bad name")]
     BadName,
-    /// The name stood on a line before.
+    /// An earlier line has the same name.
     #[error("double name")]
     DoubleName,
-    /// One of the amounts is no money text.
+    /// An amount isn't valid money text.
     #[error("bad money")]
     BadMoney,
     /// The savings are below 0.
     #[error("negative savings")]
     NegativeSavings,
-    /// It is one customer more than a bank has.
+    /// It would be one more customer than a bank may have.
     #[error("too many customers")]
     TooMany,
-    /// The text has no line `begin`; the fault is at the line after the last.
+    /// The text has no line `begin`. The fault's line is the one after the last.
     #[error("no begin")]
     NoBegin,
 }
@@ -62,12 +62,12 @@ impl LineFault {
 /// Why an opening text is refused.
 #[derive(Clone, Copy, Debug, PartialEq, Eq, Error)]
 pub enum OpeningFault {
-    /// The first line at fault, numbered from 1, and its fault.
+    /// The first faulty line, numbered from 1, and its fault.
     #[error("line {line}: {fault}")]
     Line {
         /// The number of the line.
         line: usize,
-        /// What is wrong with it.
+        /// The line's fault.
         fault: LineFault,
     },
     /// Memory was refused; nothing is kept.
@@ -84,7 +84,7 @@ impl From<AllocError> for OpeningFault {
 }
 
 impl OpeningFault {
-    /// The number of the fault: 1 to 7 for the faults of a line, 8 for want of memory.
+    /// The number of the fault: 1 to 7 for a line's fault, 8 for refused memory.
     pub fn number(&self) -> u8
         ensures { result ≡ opening_fault_number self.now }
     {

@@ -1,4 +1,4 @@
-//! The limits, and what ties the columns to the rows.
+//! The limits, and how the columns relate to the rows.
 ghost use Rattle.std.specs.Prelude.{◌≡◌};
 ghost use Rattle.sb_rows.specs.Rows.{ReadsByPlace, AbsentWithoutPlace, WritesByPlace};
 
@@ -11,7 +11,7 @@ pub fn limits()
     ensures name { NAME_BYTES ≡ 20 }
 {}
 
-/// Columns by place, read through the directory, are the rows: a name at a place has the balances
+/// Columns by place, read through the directory, are the rows. A name at a place has the balances
 /// there, any other name has none, and writing both balances at a place replaces that name's row.
 pub fn rows_by_place()
     ensures read { ReadsByPlace }

@@ -16,9 +16,10 @@ pub const NAME_BYTES: usize = 20;
 /// The name of a customer: 1 to 20 bytes of `a` to `z`, `0` to `9` and `_`.
 #[derive(Clone, Copy, Debug)]
 pub struct Name {
-    // The length stands first, where a refusal's one byte would: so the bytes are copied as one piece.
+    // The length comes first, at the place of a refusal's one byte, so that the bytes are copied as
+    // one piece.
     len: u8,
-    // The text, and zeros after it.
+    // The text, with zeros after it.
     bytes: [u8; NAME_BYTES],
 }
 
@@ -40,7 +41,7 @@ impl Model for Name {
         record { bytes = back.0 i; len = back.1 i } };
 }
 
-// Whether a text is a name.
+// Whether a text is a valid name.
 fn is_name(text: &[u8]) -> bool
     ensures { result ≡ spec.is_name text.now }
 {
@@ -48,7 +49,7 @@ fn is_name(text: &[u8]) -> bool
 }
 
 impl Name {
-    /// The name with this text, or `None` where the text is no name.
+    /// The name with this text, or `None` if the text isn't a valid name.
     pub fn new(text: &[u8]) -> Option<Name>
         ensures { SomeIff result (IsName text.now) text.now }
     {

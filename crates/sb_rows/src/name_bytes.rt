@@ -1,14 +1,14 @@
-//! Which bytes may stand in a name, looked at eight at a time.
+//! Which bytes may be in a name, tested eight at a time.
 ghost use Rattle.std.specs.Prelude.{◌≡◌, ◌+◌, ◌≤◌, length, take, drop};
 ghost use Rattle.std.specs.List.{list_all};
 ghost use Rattle.sb_rows.specs.Name as spec;
 
 use std::simd::prelude::*;
 
-// How many bytes a block has. Most names have one or two blocks.
+// The number of bytes in a block. Most names have one or two blocks.
 const LANES: usize = 8;
 
-// Whether a byte may stand in a name. Most are letters, so these are tested first.
+// Whether a byte may be in a name. Most are letters, so these are tested first.
 #[inline(always)]
 fn is_name_byte(byte: u8) -> bool
     ensures { result ≡ spec.is_name_byte byte }
@@ -16,7 +16,7 @@ fn is_name_byte(byte: u8) -> bool
     byte.is_ascii_lowercase() || byte.is_ascii_digit() || byte == b'_'
 }
 
-/// Whether each byte of a text may. The last block overlaps the one before.
+/// Whether each byte of a text may be in a name. The last block overlaps the one before.
 #[inline]
 pub(crate) fn are_name_bytes(text: &[u8]) -> bool
     ensures { result ≡ list_all spec.is_name_byte text.now }
@@ -34,7 +34,7 @@ pub(crate) fn are_name_bytes(text: &[u8]) -> bool
     is_name_block(text, text.len() - LANES)
 }
 
-// Whether each byte of the block at a place may.
+// Whether each byte of the block at a place may be in a name.
 #[inline(always)]
 fn is_name_block(text: &[u8], at: usize) -> bool
     requires { at + LANES ≤ length text.now }

@@ -11,7 +11,7 @@ pub struct Opening {
     pub directory: Directory,
     /// Their balances.
     pub columns: Columns,
-    /// How many bytes the opening takes: what follows the line `begin` begins there.
+    /// The number of bytes that the opening takes. The text after the line `begin` starts there.
     pub consumed: usize,
     ghost same_customers: { SameCustomers directory columns },
 }

@@ -1,4 +1,4 @@
-//! The opening text: a line `NAME SAVINGS CHECKING` a customer, then the line `begin`.
+//! The opening text: a line `NAME SAVINGS CHECKING` for each customer, then the line `begin`.
 ghost use Rattle.std.specs.Prelude.{◌≡◌, ℕ, ◌≤◌, List, ◌++◌, length, drop, IfOk, MatchResult};
 ghost use Rattle.sb_rows.specs.Customer.{Customer, IsBank, names_of, balances_of, customers_of};
 ghost use Rattle.sb_rows.specs.Opening.{opening_lines, opening_of};
@@ -14,7 +14,7 @@ use crate::opening::Opening;
 use crate::text::next_line;
 use std::alloc::Global;
 
-// Puts the customer of a line behind those of the lines before it.
+// Adds the customer of a line after those of the lines before it.
 fn add_customer(
     directory: &mut Directory,
     columns: &mut Columns,
@@ -40,7 +40,7 @@ fn add_customer(
     Ok(())
 }
 
-// What the text opens with, or the first line at fault.
+// The opening at the front of a text, or the first faulty line.
 fn read_lines(alloc: Global, text: &[u8]) -> Result<Opening, OpeningFault>
     ensures exact { Reads result (opening_of text.now) }
     ensures within { IfOk result (λ o. o.consumed ≤ length text.now) }
@@ -67,14 +67,14 @@ fn read_lines(alloc: Global, text: &[u8]) -> Result<Opening, OpeningFault>
 
 /// Reads the opening at the front of a text.
 ///
-/// Fails with the first line at fault and its first fault, in the order of [`crate::LineFault`]'s
-/// variants; a text without the line `begin` is at fault at the line after its last.
+/// Fails with the first faulty line and its first fault, in the order of [`crate::LineFault`]'s
+/// variants. If the text has no line `begin`, the fault's line is the one after the last.
 pub fn read_opening(alloc: Global, text: &[u8]) -> Result<Opening, OpeningFault>
-    // What is read is spelled so, and the text goes on behind the bytes that it takes.
+    // The text begins with the opening that is read, and goes on after the bytes that it takes.
     ensures spelled { IfOk result (λ o.
         IsBank (customers_of o.directory o.columns)
         × (lines text.now ≡ opening_lines (customers_of o.directory o.columns) ++ lines (drop o.consumed text.now))) }
-    // What is spelled so is read, unless memory runs out.
+    // A text that spells an opening is read, unless memory is refused.
     ensures taken { (customers : List Customer) (rest : List (List ℕ)) → IsBank customers
         → lines text.now ≡ opening_lines customers ++ rest
         → MatchResult result

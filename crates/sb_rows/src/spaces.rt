@@ -1,16 +1,17 @@
-//! Where a line has spaces, looked for in 16 bytes at a time.
+//! The spaces of a line, searched 16 bytes at a time.
 ghost use Rattle.std.specs.Prelude.{◌≡◌, ◌+◌, ◌≤◌, length, take, drop};
 ghost use Rattle.sb_rows.specs.Spaces.{spaces_of};
 
 use std::simd::prelude::*;
 
-// How many bytes a block has.
+// The number of bytes in a block.
 const LANES: usize = 16;
 
-/// The longest line whose spaces a mask has room for.
+/// The longest line whose spaces fit into a mask.
 pub(crate) const MASK_BYTES: usize = 64;
 
-/// The spaces of a line: bit k is set where byte k is one. The last block is read from the line's end.
+/// The spaces of a line: bit k is set exactly if byte k is a space. The last block is read from the
+/// line's end.
 #[inline]
 pub(crate) fn spaces_of(line: &[u8]) -> u64
     requires { length line.now ≤ MASK_BYTES }

@@ -1,4 +1,4 @@
-//! How a text is parted into lines, and a line into words.
+//! How a text is split into lines, and a line into words.
 ghost use Rattle.std.specs.Prelude.{◌≡◌, ◌<◌, [], ◌∷◌, length, MatchOption, IfSome};
 ghost use Rattle.std.specs.Option.{option_map};
 ghost use Rattle.sb_rows.specs.Spaces.{AreSpacesOf};
@@ -8,7 +8,8 @@ use memchr::memchr;
 
 /// The first line of a text and the text after it, or `None` at the end of the text.
 ///
-/// A text is parted into lines at each line feed; a last piece without one is a line unless it is empty.
+/// A text is split into lines at each line feed. A last piece without one is a line unless it is
+/// empty.
 #[inline]
 pub fn next_line(text: &[u8]) -> Option<(&[u8], &[u8])>
     ensures line { MatchOption result (lines text.now ≡ []) (λ next. lines text.now ≡ next.0.now ∷ lines next.1.now) }
@@ -33,7 +34,7 @@ pub(crate) fn next_word(line: &[u8]) -> (&[u8], Option<&[u8]>)
     }
 }
 
-// The same of a line whose spaces are known, and the spaces of what follows.
+// The same for a line whose spaces are known, together with the spaces of what follows.
 #[inline(always)]
 pub(crate) fn next_marked_word(line: &[u8], spaces: u64) -> (&[u8], Option<&[u8]>, u64)
     requires { AreSpacesOf line.now spaces }

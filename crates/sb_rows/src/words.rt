@@ -7,19 +7,20 @@ use crate::text::{next_marked_word, next_word};
 use std::marker::Model;
 use thiserror::Error;
 
-/// A word that is asked for isn't there, or more words are left than are asked for.
+/// A requested word isn't there, or more words are left than were requested.
 #[derive(Clone, Copy, Debug, PartialEq, Eq, Error)]
 #[error("wrong words")]
 pub struct WrongWords;
 
 /// The words of a line that aren't taken yet.
 ///
-/// A line is parted into words at each single space, so two spaces make an empty word.
+/// A line is split into words at each single space, so two spaces make an empty word.
 #[derive(Drop)]
 pub struct Words<'a> {
-    // The text that they are the words of; where it is none there are none, since each text has a word.
+    // The text whose words these are. `None` means that no word is left, since each text has at
+    // least one.
     text: Option<&'a [u8]>,
-    // Where the text has spaces, and none where it's longer than a mask has room for.
+    // The spaces of the text, or `None` if it is too long for a mask.
     spaces: Option<u64>,
 }
 
@@ -53,7 +54,7 @@ impl<'a> Words<'a> {
         }
     }
 
-    /// Takes the next word, or gives `None` where none is left.
+    /// Takes the next word, or returns `None` if none is left.
     #[inline]
     pub fn next(&mut self) -> Option<&'a [u8]>
         ensures { MatchOption result
@@ -73,7 +74,7 @@ impl<'a> Words<'a> {
         Some(word)
     }
 
-    /// Takes the next word, which has to be there. Where it isn't, none is left then either.
+    /// Takes the next word. Fails if there is none; then none is left either.
     #[inline]
     pub fn word(&mut self) -> Result<&'a [u8], WrongWords>
         ensures { MatchResult result
@@ -83,7 +84,7 @@ impl<'a> Words<'a> {
         self.next().ok_or(WrongWords)
     }
 
-    /// The one word that is left. Fails where there is none, or more than one.
+    /// The one word that is left. Fails if there is none, or more than one.
     #[inline]
     pub fn last(mut self) -> Result<&'a [u8], WrongWords>
         ensures { MatchResult result

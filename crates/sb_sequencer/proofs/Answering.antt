@@ -43,7 +43,7 @@ padded-again some places kept l m = elim (cases_lt some (length kept)) [ inl h �
         ap (λ n. padded some kept ++ replicate (places - n) None) (length-padded some kept h)
         ∙ sym (padded-padded some places kept h m)
 
--- what is put at a place that is filled stands there among all places
+-- an answer put at a filled place is at that place among all places
 padded-set : (places place : ℕ) (filled : List (Option Reply)) (answer : Option Reply) → place < length filled
     → padded places (slice_set filled place answer) ≡ slice_set (padded places filled) place answer
 padded-set places place filled answer l =
@@ -112,7 +112,7 @@ flatten-append [] places place = none_added places place
 flatten-append (answer ∷ kept) places zero = refl
 flatten-append (answer ∷ kept) places (suc place) = flatten-append kept places place
 
--- a place that isn't filled keeps none
+-- a place that isn't filled has no answer
 pub flatten-padded : (places : ℕ) (kept : List (Option Reply)) (place : ℕ)
     → option_flatten (slice_get (padded places kept) place) ≡ option_flatten (slice_get kept place)
 flatten-padded places kept place = flatten-append kept (places - length kept) place

@@ -58,13 +58,13 @@ asked_state old new recorded checkpoints kept after ask (Err fault) few e same =
   answers = padded (length (e j)) (same j);
 }
 
--- where the log stays, so does all
+-- if the log stays, so does everything
 pub asked_stays : (s : SequencerOf) (ask : Key × Call) (result : Result Numbered AskFault) → LogAfter s.log ask result s.log → s ≡ after_ask s ask result
 asked_stays s ask (Ok (New n)) e = absurd (omega (arith, ap length e, length_push s.log ask))
 asked_stays s ask (Ok (Repeat n)) e = refl
 asked_stays s ask (Err fault) e = refl
 
--- a sequencer with its rooms is one
+-- a sequencer with its rooms is valid
 pub rooms_sequencer : (log : List (Key × Call)) (recorded checkpoints : List ℕ) (kept : List (Option Reply)) (room : ℕ)
     → HasRooms log recorded checkpoints kept room
     → IsSequencer (record { log = log; recorded = recorded; checkpoints = checkpoints; answers = padded (length log) kept })

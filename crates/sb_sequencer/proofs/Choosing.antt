@@ -8,11 +8,11 @@ use Rattle.sb_sequencer.specs.Sequencer.{SequencerOf}
 same_at : (sizes : List ℕ) (place one other : ℕ) → slice_get sizes place ≡ Some one → slice_get sizes place ≡ Some other → one ≡ other
 same_at sizes place one other is also = sym (get_or_from_slice_get sizes place one 0 is) ∙ get_or_from_slice_get sizes place other 0 also
 
--- each of the first checkpoints, other than one replica's own, is of less than a bound
+-- each of the first checkpoints, except one replica's own, is below a bound
 abbrev pub AllBelow : List ℕ → ℕ → ℕ → ℕ → Type 0
 AllBelow sizes replica before bound = (other more : ℕ) → other < before → other ≢ replica → slice_get sizes other ≡ Some more → more < bound
 
--- the donor is the first one with the most; without one the most is what the replica has
+-- the donor is the first with the most; without a donor, the most is what the replica has
 abbrev pub HasMost : List ℕ → ℕ → ℕ → ℕ → Option (ℕ × ℕ) → Type 0
 HasMost sizes replica floor most None = most ≡ floor
 HasMost sizes replica floor most (Some (donor, size)) =
@@ -23,7 +23,7 @@ pub record IsDonorBefore (sizes : List ℕ) (replica floor before most : ℕ) (d
   pub below : AllBelow sizes replica before (suc most)
   pub has : HasMost sizes replica floor most donor
 
--- told by equal numbers
+-- the donor, by equal numbers
 pub donor_is : (sizes : List ℕ) (replica floor before most largest : ℕ) (donor chosen : Option (ℕ × ℕ))
     → IsDonorBefore sizes replica floor before most donor → largest ≡ most → chosen ≡ donor → IsDonorBefore sizes replica floor before largest chosen
 donor_is sizes replica floor before most largest donor chosen is same also =
@@ -31,7 +31,7 @@ donor_is sizes replica floor before most largest donor chosen is same also =
     (subst (λ (found : Option (ℕ × ℕ)). IsDonorBefore sizes replica floor before most found) (sym also) is)
 
 module _ (sizes : List ℕ) (replica floor before most : ℕ) (donor : Option (ℕ × ℕ)) (is : IsDonorBefore sizes replica floor before most donor) where
-  -- one with more takes the donor's place
+  -- one with more replaces the donor
   pub donor_with_more : (size : ℕ) → before ≢ replica → slice_get sizes before ≡ Some size → most < size
       → IsDonorBefore sizes replica floor (before + 1) size (Some (before, size))
   donor_with_more size other here more = record {
@@ -52,7 +52,7 @@ module _ (sizes : List ℕ) (replica floor before most : ℕ) (donor : Option (�
     );
   }
 
-  -- the replica's own, and one with no more, leaves it
+  -- the replica's own, and one without more, leaves the donor
   pub donor_stays : ((size : ℕ) → before ≢ replica → slice_get sizes before ≡ Some size → size ≤ most)
       → IsDonorBefore sizes replica floor (before + 1) most donor
   donor_stays no_more = record {

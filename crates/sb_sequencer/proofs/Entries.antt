@@ -37,7 +37,7 @@ entries-at log before frame e =
     entries_from-at 1 before log frame
     (ap (λ n. option_map (λ ask. Entry n ask.1) (slice_get log before)) number ∙ sym (entry_of-fused (suc before) (slice_get log before)) ∙ e)
 
--- an entry more of those after some
+-- one more entry of those after some
 pub take_entries-push : (log : List (Key × Call)) (size before : ℕ) (frame : Frame) → size ≤ before → entry_of log (before + 1) ≡ Some frame
     → take (before + 1 - size) (drop size (entries log)) ≡ take (before - size) (drop size (entries log)) ++ frame ∷ []
 take_entries-push log size before frame l e =
@@ -53,7 +53,7 @@ take_entries-push log size before frame l e =
     get_or-drop size (entries log) done frame ∙ ap (λ k. get_or (entries log) k frame) there ∙ get_or_from_slice_get (entries log) before frame frame at in
     ap (λ n. take n rest) more ∙ take-suc rest done frame left ∙ ap (λ x. take done rest ++ x ∷ []) last
 
--- so many as there are, at most 16
+-- as many as there are, at most 16
 pub take_entries-all : (log : List (Key × Call)) (size before : ℕ) → before ≤ size + 16 → before ≤ length log
     → (size + 16 ≤ before) ⊎ (length log ≤ before) → take (before - size) (drop size (entries log)) ≡ entries_after log size
 unfolding entries_after

@@ -7,12 +7,12 @@ use Rattle.sb_calls.specs.declared.call.Call.{Call}
 use Rattle.sb_sequencer.specs.Numbering.{same_key, has_key, firsts_after}
 use Rattle.sb_sequencer.proofs.Keys.{same_key_same}
 
--- what is put behind a list that may have one more in front
+-- what is appended to a list that may have one more in front
 behind_choice : {X : Type 0} (skips : Bool) (x : X) (xs ys zs : List X) → xs ≡ ys ++ zs → cond skips xs (x ∷ xs) ≡ cond skips ys (x ∷ ys) ++ zs
 behind_choice true x xs ys zs e = e
 behind_choice false x xs ys zs e = ap (λ rest. x ∷ rest) e
 
--- one more ask goes last, where its key stands in neither list
+-- one more ask is appended, if its key occurs in neither list
 pub firsts_after-push : (before asks : List (Key × Call)) (ask : Key × Call)
     → firsts_after before (asks ++ ask ∷ []) ≡ firsts_after before asks ++ (if has_key (before ++ asks) ask.0 then [] else ask ∷ [])
 firsts_after-push before [] ask = ap (λ known. if has_key known ask.0 then [] else ask ∷ []) (sym (append-nil before))
@@ -21,7 +21,7 @@ firsts_after-push before (first ∷ asks) ask =
     (firsts_after-push (before ++ first ∷ []) asks ask
     ∙ ap (λ known. firsts_after (before ++ first ∷ []) asks ++ (if has_key known ask.0 then [] else ask ∷ [])) (append_assoc before (first ∷ []) asks))
 
--- a key that stands among these asks already makes none more known
+-- a key that already occurs among these asks makes no other key known
 known_twice : (before : List (Key × Call)) (again key : Key) (rest : Bool) → has_key before again ≡ true
     → (has_key before key || rest) ≡ (has_key before key || (same_key key again || rest))
 known_twice before again key rest known = by (same_key key again) refl
@@ -32,7 +32,8 @@ known_twice before again key rest known = by (same_key key again) refl
         or_left (has_key before key) rest there ∙ sym (or_left (has_key before key) (same_key key again || rest) there)
     by false e = ap (λ same. has_key before key || (same || rest)) (sym e)
 
--- where the first of some asks is put before the others' first ones, unless its key is known, each key is known as before
+-- if the first of some asks is put before the others' first ones, unless its key is known, the same
+-- keys are known as before
 has_key-first : (before firsts asks : List (Key × Call)) (first : Key × Call) (key : Key)
     → has_key (before ++ first ∷ [] ++ firsts) key ≡ has_key (before ++ first ∷ [] ++ asks) key
     → has_key (before ++ cond (has_key before first.0) firsts (first ∷ firsts)) key ≡ has_key (before ++ first ∷ asks) key
@@ -51,7 +52,7 @@ has_key-first before firsts asks first key h = by (has_key before first.0) refl
         ∙ all
     by false e = all
 
--- the first asks have the keys of all
+-- the first asks have all keys
 pub has_key-firsts_after : (before asks : List (Key × Call)) (key : Key) → has_key (before ++ firsts_after before asks) key ≡ has_key (before ++ asks) key
 has_key-firsts_after before [] key = refl
 has_key-firsts_after before (first ∷ asks) key =

@@ -20,7 +20,7 @@ use Rattle.sb_sequencer.proofs.Keys.{same_key_itself, absent_from_place, has_key
 step : ℕ → List (Key × Call) → Key × Call → List (Key × Call)
 step room log ask = if has_key log ask.0 || nat_le room (length log) then log else log ++ ask ∷ []
 
--- a key that the log has leaves it
+-- a key that is in the log leaves the log
 step-known : (room : ℕ) (log : List (Key × Call)) (ask : Key × Call) → has_key log ask.0 ≡ true → step room log ask ≡ log
 unfolding step
 step-known room log ask e = cond-true _ log (log ++ ask ∷ []) (or_left (has_key log ask.0) (nat_le room (length log)) e)
@@ -31,14 +31,14 @@ unfolding step
 step-full room log ask l =
     cond-true _ log (log ++ ask ∷ []) (or_right (has_key log ask.0) (nat_le room (length log)) (le-leb room (length log) l))
 
--- else the ask goes last
+-- otherwise the ask is appended
 step-new : (room : ℕ) (log : List (Key × Call)) (ask : Key × Call) → has_key log ask.0 ≡ false → length log < room
     → step room log ask ≡ log ++ ask ∷ []
 unfolding step
 step-new room log ask e l =
     cond-false _ log (log ++ ask ∷ []) (or_from (has_key log ask.0) (nat_le room (length log)) e (lt-leb room (length log) l))
 
--- the cut of the first asks after one more is the step of their cut
+-- the front of the first asks, after one more ask, is the step of their front
 take-step : (room : ℕ) (firsts : List (Key × Call)) (ask : Key × Call)
     → take room (firsts ++ (if has_key firsts ask.0 then [] else ask ∷ [])) ≡ step room (take room firsts) ask
 take-step room firsts ask = elim (cases_lt (length firsts) room) [ inl l ↦ below l | inr l ↦ full l ]
@@ -65,7 +65,7 @@ take-step room firsts ask = elim (cases_lt (length firsts) room) [ inl l ↦ bel
             ∙ sym (step-new room firsts ask e l)
             ∙ ap (λ log. step room log ask) (sym (whole l))
 
--- so the first asks, at most a number of them, step with each ask
+-- so the first asks, up to a number of them, step with each ask
 take_firsts-push : (room : ℕ) (asks : List (Key × Call)) (ask : Key × Call)
     → take room (firsts_after [] (asks ++ ask ∷ [])) ≡ step room (take room (firsts_after [] asks)) ask
 take_firsts-push room asks ask =
@@ -79,7 +79,7 @@ pub first_asks-push : (asks : List (Key × Call)) (ask : Key × Call) → first_
 unfolding first_asks log_with step
 first_asks-push = take_firsts-push LOG_CALLS
 
--- asked one by one after some, the asks leave the first of all
+-- asks that come one by one after some leave the first asks of all
 log_after-first_asks : (done asks : List (Key × Call)) → log_after (first_asks done) asks ≡ first_asks (done ++ asks)
 log_after-first_asks done [] = ap first_asks (sym (append-nil done))
 log_after-first_asks done (ask ∷ asks) =
@@ -87,7 +87,7 @@ log_after-first_asks done (ask ∷ asks) =
     ∙ log_after-first_asks (done ++ ask ∷ []) asks
     ∙ ap first_asks (append_assoc done (ask ∷ []) asks)
 
--- asked one by one from an empty log, the asks leave the first of each key
+-- asks that come one by one from an empty log leave the first ask of each key
 pub log_after-empty : (asks : List (Key × Call)) → log_after [] asks ≡ first_asks asks
 unfolding first_asks
 log_after-empty asks = log_after-first_asks [] asks
@@ -102,13 +102,13 @@ pub log_with-full : (log : List (Key × Call)) (ask : Key × Call) → LOG_CALLS
 unfolding log_with step
 log_with-full = step-full LOG_CALLS
 
--- a key without a place goes last while there is room
+-- a key without a place is appended while there is room
 pub log_with-new : (log : List (Key × Call)) (ask : Key × Call) → place_of_key log ask.0 ≡ None → length log < LOG_CALLS
     → log_with log ask ≡ log ++ ask ∷ []
 unfolding log_with step
 log_with-new log ask e = step-new LOG_CALLS log ask (has_key-place log ask.0 ∙ ap is_some e)
 
--- and the log stays one
+-- and the log stays valid
 pub IsLog-push : (log : List (Key × Call)) (ask : Key × Call) → IsLog log → place_of_key log ask.0 ≡ None → length log < LOG_CALLS
     → IsLog (log ++ ask ∷ [])
 IsLog-push log ask h new room = record {
@@ -118,7 +118,7 @@ IsLog-push log ask h new room = record {
       (ap (same_key ask.0) e ∙ same_key_itself ask.0));
 }
 
--- so what an ask is answered and leaves is the log's step, unless memory is refused
+-- so the answer to an ask, and the log after it, are the log's step, unless memory is refused
 pub log_with-answered : (old new : List (Key × Call)) (ask : Key × Call) (result : Result Numbered AskFault) → IsAnswered old ask result
     → LogAfter old ask result new → result ≢ Err OutOfMemory → new ≡ log_with old ask
 log_with-answered old new ask (Ok (New n)) h e _ = e ∙ sym (log_with-new old ask h.0 h.1)
@@ -127,14 +127,14 @@ log_with-answered old new ask (Err (Mismatch n)) h e _ = e ∙ sym (log_with-kno
 log_with-answered old new ask (Err LogFull) h e _ = e ∙ sym (log_with-full old ask h.1)
 log_with-answered old new ask (Err OutOfMemory) h e other = absurd (other refl)
 
--- and what it leaves is a log
+-- and the log after it is valid
 pub IsLog-answered : (old new : List (Key × Call)) (ask : Key × Call) (result : Result Numbered AskFault) → IsLog old → IsAnswered old ask result
     → LogAfter old ask result new → IsLog new
 IsLog-answered old new ask (Ok (New n)) is h e = subst IsLog (sym e) (IsLog-push old ask is h.0 h.1)
 IsLog-answered old new ask (Ok (Repeat n)) is h e = subst IsLog (sym e) is
 IsLog-answered old new ask (Err fault) is h e = subst IsLog (sym e) is
 
--- where the log steps, it is the first asks with this one
+-- if the log steps, it is the first asks with this one
 pub Numbers-from_step : (asks old new : List (Key × Call)) (ask : Key × Call) (result : Result Numbered AskFault)
     → (result ≢ Err OutOfMemory → new ≡ log_with old ask) → Numbers asks old ask result new
 Numbers-from_step asks old new ask (Ok numbered) h = λ e. h (λ other. cc) ∙ ap (λ log. log_with log ask) e ∙ sym (first_asks-push asks ask)

@@ -1,4 +1,4 @@
--- Answers by place, with none yet at the places behind them.
+-- Answers by place, followed by places without an answer.
 use Rattle.std.proofs.Common.{◌≡◌, ℕ, ◌+◌, ◌-◌, ◌<◌, ◌≤◌, Option, Some, None, List, [], ◌∷◌, ◌++◌, length, replicate, slice_get, slice_set, get_or, refl, sym, ap, ◌∙◌, arith, append-nil, append_assoc, length-append}
 use Rattle.std.proofs.lemmas.List.{length-replicate, replicate_more, replicate-append-replicate}
 use Rattle.std.proofs.lemmas.Option.{slice_get_read}
@@ -9,7 +9,7 @@ use Rattle.sb_sequencer.specs.Sequencer.{padded}
 use Rattle.sb_sequencer.specs.declared.note.AnswerNote.{AnswerNote}
 use Rattle.sb_sequencer.specs.declared.note.AnswerNote.TheVariants.{Kept, Repeat, Odd, Unknown}
 
--- where all places have one, none is added
+-- if all places are filled, none is added
 pub padded-full : (places : ℕ) (kept : List (Option Reply)) → places ≤ length kept → padded places kept ≡ kept
 padded-full places kept l =
     let none : places - length kept ≡ 0 = omega (arith, l) in
@@ -20,7 +20,7 @@ length-padded places kept l =
     let none : Option Reply = None in
     omega (arith, l, length-append kept (replicate (places - length kept) None), length-replicate (places - length kept) none)
 
--- a place more has none
+-- one more place has no answer
 pub padded-push : (places : ℕ) (kept : List (Option Reply)) → length kept ≤ places → padded (places + 1) kept ≡ padded places kept ++ None ∷ []
 padded-push places kept l =
     let more : places + 1 - length kept ≡ places - length kept + 1 = omega (arith, l) in
@@ -28,7 +28,7 @@ padded-push places kept l =
     ∙ ap (λ rest. kept ++ rest) (sym (replicate_more (places - length kept) None))
     ∙ sym (append_assoc kept (replicate (places - length kept) None) (None ∷ []))
 
--- places that were added are as those that are not there
+-- padding twice is padding once
 pub padded-padded : (some places : ℕ) (kept : List (Option Reply)) → length kept ≤ some → some ≤ places
     → padded places kept ≡ padded some kept ++ replicate (places - some) None
 padded-padded some places kept l m =
@@ -37,12 +37,12 @@ padded-padded some places kept l m =
     ∙ ap (λ rest. kept ++ rest) (sym (replicate-append-replicate (some - length kept) (places - some) None))
     ∙ sym (append_assoc kept (replicate (some - length kept) None) (replicate (places - some) None))
 
--- the place behind a list is the one that goes last
+-- the place after a list is that of the appended element
 slice_get-last : {X : Type 0} (xs : List X) (x : X) → slice_get (xs ++ x ∷ []) (length xs) ≡ Some x
 slice_get-last [] x = refl
 slice_get-last (first ∷ xs) x = slice_get-last xs x
 
--- an answer at a place that had none takes the place that is added
+-- an answer at a place without one takes an added place
 pub keeping_first : (place : ℕ) (kept : List (Option Reply)) (answer : Option Reply) → length kept ≤ place
     → (slice_get (padded (place + 1) kept) place ≡ Some None) × (padded place kept ++ answer ∷ [] ≡ slice_set (padded (place + 1) kept) place answer)
 keeping_first place kept answer l =
@@ -52,7 +52,7 @@ keeping_first place kept answer l =
       sym (set-append_seam (padded place kept) None [] answer) ∙ (λ j. slice_set (sym more j) (at j) answer),
     )
 
--- at a place that is filled stands what is read there
+-- a filled place holds what is read there
 pub keeping_again : (place : ℕ) (kept : List (Option Reply)) (found answer : Option Reply) → place < length kept → found ≡ get_or kept place found
     → found ≡ answer → (slice_get (padded (place + 1) kept) place ≡ Some answer) × (kept ≡ padded (place + 1) kept)
 keeping_again place kept found answer l e is =

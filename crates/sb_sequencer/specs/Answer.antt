@@ -1,4 +1,4 @@
--- What an ask is answered, and what it does to the log.
+-- The answer to an ask, and its effect on the log.
 use Rattle.std.specs.Prelude.{◌≡◌, ◌≢◌, ℕ, ◌+◌, ◌<◌, ◌≤◌, Some, None, Result, Ok, Err, List, [], ◌∷◌, ◌++◌, length, slice_get}
 use Rattle.sb_calls.specs.declared.ask.Key.{Key}
 use Rattle.sb_calls.specs.declared.call.Call.{Call}
@@ -13,24 +13,24 @@ use Rattle.sb_calls.specs.declared.call.TheConstants.{LOG_CALLS}
 abbrev pub IsAnswered : List (Key × Call) → Key × Call → Result Numbered AskFault → Type 0
 -- a new key gets the next number
 IsAnswered log ask (Ok (New n)) = (place_of_key log ask.0 ≡ None) × (length log < LOG_CALLS) × (n ≡ length log + 1)
--- a key that has a number keeps it, where the call is the same
+-- a key that has a number keeps it, if the call is the same
 IsAnswered log ask (Ok (Repeat n)) =
     (k : ℕ) × (place_of_key log ask.0 ≡ Some k) × (n ≡ k + 1) × (slice_get log k ≡ Some ask)
 IsAnswered log ask (Err (Mismatch n)) =
     (k : ℕ) × (place_of_key log ask.0 ≡ Some k) × (n ≡ k + 1) × (slice_get log k ≢ Some ask)
 -- a new key at a full log
 IsAnswered log ask (Err LogFull) = (place_of_key log ask.0 ≡ None) × (LOG_CALLS ≤ length log)
--- memory may run out for a new key alone
+-- memory may be refused for a new key only
 IsAnswered log ask (Err OutOfMemory) = (place_of_key log ask.0 ≡ None) × (length log < LOG_CALLS)
 
--- only a new number changes the log: the ask goes last
+-- only a new number changes the log: the ask is appended
 abbrev pub LogAfter : List (Key × Call) → Key × Call → Result Numbered AskFault → List (Key × Call) → Type 0
 LogAfter old ask (Ok (New n)) new = new ≡ old ++ ask ∷ []
 LogAfter old ask (Ok (Repeat n)) new = new ≡ old
 LogAfter old ask (Err fault) new = new ≡ old
 
--- after asks whose first ones are the log, the log is the first ones of these and this; an ask that is
--- refused for memory doesn't count
+-- if the log is the first asks of these, then after this ask it is the first asks of these and this
+-- one; an ask that is refused memory doesn't count
 abbrev pub Numbers : List (Key × Call) → List (Key × Call) → Key × Call → Result Numbered AskFault
     → List (Key × Call) → Type 0
 Numbers asks old ask (Ok numbered) new = old ≡ first_asks asks → new ≡ first_asks (asks ++ ask ∷ [])

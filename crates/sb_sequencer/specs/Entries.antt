@@ -1,4 +1,4 @@
--- The log's entries, and those that are sent again to a replica.
+-- The entries of the log, and those that are resent to a replica.
 use Rattle.std.specs.Prelude.{ℕ, suc, Option, Some, None, List, [], ◌∷◌, take, drop, slice_get}
 use Rattle.std.specs.Option.{option_map}
 use Rattle.sb_calls.specs.declared.ask.Key.{Key}
@@ -13,7 +13,7 @@ use Rattle.sb_sequencer.specs.declared.sequencer.TheConstants.{RESEND}
 abbrev pub entry_of : List (Key × Call) → ℕ → Option Frame
 entry_of log n = option_map (Entry n) (call_at log n)
 
--- an entry for each ask, the first with this number
+-- an entry for each ask, numbered from this number on
 abbrev pub entries_from : ℕ → List (Key × Call) → List Frame
 entries_from n [] = []
 entries_from n (ask ∷ asks) = Entry n ask.1 ∷ entries_from (suc n) asks
@@ -22,15 +22,15 @@ entries_from n (ask ∷ asks) = Entry n ask.1 ∷ entries_from (suc n) asks
 abbrev pub entries : List (Key × Call) → List Frame
 entries log = entries_from 1 log
 
--- the entries after so many, at most 16
+-- the entries after this length, at most 16
 unfoldable pub entries_after : List (Key × Call) → ℕ → List Frame
 entries_after log size = take RESEND (drop size (entries log))
 
--- the entries after the length that a replica recorded, if it is one
+-- the entries after the recorded length of a replica, if there is such a replica
 abbrev pub after_recorded : List (Key × Call) → Option ℕ → List Frame
 after_recorded log (Some size) = entries_after log size
 after_recorded log None = []
 
--- what a replica is sent again
+-- the entries that are resent to a replica
 abbrev pub resent : SequencerOf → ℕ → List Frame
 resent s replica = after_recorded s.log (slice_get s.recorded replica)

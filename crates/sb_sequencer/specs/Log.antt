@@ -5,7 +5,7 @@ use Rattle.sb_calls.specs.declared.call.Call.{Call}
 use Rattle.sb_sequencer.specs.Numbering.{has_key}
 use Rattle.sb_calls.specs.declared.call.TheConstants.{LOG_CALLS}
 
--- a new key goes last while there is room, and else the log stays
+-- the log after one more ask: a new key is appended while there is room; otherwise the log stays
 unfoldable pub log_with : List (Key × Call) → Key × Call → List (Key × Call)
 log_with log ask = if has_key log ask.0 || nat_le LOG_CALLS (length log) then log else log ++ ask ∷ []
 

@@ -1,4 +1,4 @@
--- What a sequencer hears of the replicas: how it is noted, and what it changes.
+-- What a sequencer hears from the replicas: the note on it, and its effect.
 use Rattle.std.specs.Prelude.{◌≡◌, ◌≢◌, ℕ, zero, suc, ◌-◌, nat_lt, nat_le, Bool, ◌&&◌, if◌then◌else◌, Option, Some, None, length, slice_get, slice_set}
 use Rattle.std.specs.Option.{option_and_then, option_flatten}
 use Rattle.sb_calls.specs.declared.ask.Key.{Key}
@@ -12,17 +12,17 @@ use Rattle.sb_sequencer.specs.declared.note.HaveNote.TheVariants as haves
 use Rattle.sb_sequencer.specs.declared.note.AnswerNote.{AnswerNote}
 use Rattle.sb_sequencer.specs.declared.note.AnswerNote.TheVariants as answers
 
--- a length counts that is a known replica's, and not beyond the log
+-- a length counts if the replica exists and the log is at least as long
 abbrev pub counts : SequencerOf → ℕ → ℕ → Bool
 counts s replica size = nat_lt replica (length s.recorded) && nat_le size (length s.log)
 
 -- ---- how much of the log a replica has
 
--- how an acknowledgement is noted
+-- the note on an acknowledgement
 abbrev pub hears_ack : SequencerOf → ℕ → ℕ → AckNote
 hears_ack s replica size = if counts s replica size then acks.Recorded else acks.Odd
 
--- what is recorded takes the place of what was
+-- a recorded length replaces the old one
 abbrev pub recording : SequencerOf → ℕ → ℕ → AckNote → SequencerOf
 recording s replica size acks.Recorded = record s { recorded = slice_set s.recorded replica size }
 recording s replica size acks.Odd = s
@@ -33,40 +33,40 @@ after_ack s replica size = recording s replica size (hears_ack s replica size)
 
 -- ---- the length of the checkpoint that a replica keeps
 
--- how the length of a checkpoint is noted
+-- the note on a checkpoint's length
 abbrev pub hears_have : SequencerOf → ℕ → ℕ → HaveNote
 hears_have s replica size = if counts s replica size then haves.Recorded else haves.Odd
 
--- what is recorded takes the place of what was
+-- a recorded length replaces the old one
 abbrev pub recording_have : SequencerOf → ℕ → ℕ → HaveNote → SequencerOf
 recording_have s replica size haves.Recorded = record s { checkpoints = slice_set s.checkpoints replica size }
 recording_have s replica size haves.Odd = s
 
--- the sequencer after it heard how long a checkpoint is
+-- the sequencer after it heard the length of a replica's checkpoint
 abbrev pub after_have : SequencerOf → ℕ → ℕ → SequencerOf
 after_have s replica size = recording_have s replica size (hears_have s replica size)
 
 -- ---- what a call was answered
 
--- what is kept for a number, counted from 1, where the log has it
+-- what is kept for a number, counted from 1, if the log has it
 abbrev pub kept_at : SequencerOf → ℕ → Option (Option Reply)
 kept_at s zero = None
 kept_at s (suc place) = slice_get s.answers place
 
--- the first answer for a number is kept, and each further one is compared with it
+-- the first answer to a number is kept, and each further answer is compared with it
 abbrev pub IsAnswerNote : SequencerOf → ℕ → Reply → AnswerNote → Type 0
 IsAnswerNote s n reply answers.Kept = kept_at s n ≡ Some None
 IsAnswerNote s n reply answers.Repeat = kept_at s n ≡ Some (Some reply)
 IsAnswerNote s n reply answers.Odd = (first : Reply) × (kept_at s n ≡ Some (Some first)) × (first ≢ reply)
 IsAnswerNote s n reply answers.Unknown = kept_at s n ≡ None
 
--- only an answer that is kept changes anything
+-- only an answer that is kept changes the sequencer
 abbrev pub after_answer : SequencerOf → ℕ → Reply → AnswerNote → SequencerOf
 after_answer s n reply answers.Kept = record s { answers = slice_set s.answers (n - 1) (Some reply) }
 after_answer s n reply answers.Repeat = s
 after_answer s n reply answers.Odd = s
 after_answer s n reply answers.Unknown = s
 
--- the answer for the number of a key, where it has one
+-- the answer to the number of a key, if it has one
 abbrev pub answer_of : SequencerOf → Key → Option Reply
 answer_of s key = option_and_then (λ place. option_flatten (slice_get s.answers place)) (place_of_key s.log key)

@@ -9,18 +9,18 @@ use Rattle.sb_calls.specs.declared.call.TheConstants.{LOG_CALLS}
 abbrev pub same_key : Key → Key → Bool
 same_key a b = (a.client == b.client) && (a.request == b.request)
 
--- whether one of these asks has the key
+-- one of these asks has the key
 abbrev pub has_key : List (Key × Call) → Key → Bool
 has_key asks key = list_any (λ ask. same_key key ask.0) asks
 
--- of these asks, those whose key stands nowhere earlier; before are the asks before these
+-- those of these asks whose key doesn't occur earlier, either here or in the asks before them
 abbrev pub firsts_after : List (Key × Call) → List (Key × Call) → List (Key × Call)
 firsts_after before [] = []
 firsts_after before (ask ∷ asks) =
     if has_key before ask.0 then firsts_after (before ++ ask ∷ []) asks
     else ask ∷ firsts_after (before ++ ask ∷ []) asks
 
--- the log: the first asks of each key, in order, at most 1,000,000
+-- the log: the first ask of each key, in order, at most 1,000,000 of them
 unfoldable pub first_asks : List (Key × Call) → List (Key × Call)
 first_asks asks = take LOG_CALLS (firsts_after [] asks)
 
@@ -37,7 +37,7 @@ abbrev pub call_at : List (Key × Call) → ℕ → Option Call
 call_at log zero = None
 call_at log (suc k) = option_map (λ entry. entry.1) (slice_get log k)
 
--- keys are all different, and no more calls than a log takes
+-- a log is valid: its keys are all different, and it has at most as many calls as a log takes
 pub record IsLog (log : List (Key × Call)) : Type 0 where
   pub few : length log ≤ LOG_CALLS
   pub different : AllPairs (λ a b. a.0 ≢ b.0) log

@@ -1,4 +1,4 @@
--- What a sequencer has room for.
+-- The room that a sequencer has.
 use Rattle.std.specs.Prelude.{◌≡◌, ℕ, ◌≤◌, Option, List, length}
 use Rattle.std.specs.List.{All}
 use Rattle.sb_calls.specs.declared.ask.Key.{Key}
@@ -6,8 +6,8 @@ use Rattle.sb_calls.specs.declared.call.Call.{Call}
 use Rattle.sb_calls.specs.declared.reply.Reply.{Reply}
 use Rattle.sb_sequencer.specs.Numbering.{IsLog}
 
--- no replica is beyond the log, and none of as many checkpoints; answers are kept for its calls alone,
--- and there is room for one to each
+-- no replica is beyond the log, and each has a checkpoint length that isn't either; answers are
+-- kept only for its calls, and there is room for an answer to each
 pub record HasRooms (entries : List (Key × Call)) (sizes states : List ℕ)
     (answers : List (Option Reply)) (places : ℕ) : Type 0 where
   pub log : IsLog entries

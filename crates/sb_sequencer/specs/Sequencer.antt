@@ -1,4 +1,4 @@
--- A sequencer: its log, and what it heard of the replicas.
+-- A sequencer: its log, and what it heard from the replicas.
 use Rattle.std.specs.Prelude.{◌≡◌, ℕ, ◌-◌, ◌≤◌, Option, None, List, [], ◌∷◌, ◌++◌, length, replicate, Result, Ok, Err}
 use Rattle.std.specs.List.{All}
 use Rattle.sb_calls.specs.declared.ask.Key.{Key}
@@ -9,15 +9,15 @@ use Rattle.sb_sequencer.specs.declared.answer.AskFault.{AskFault}
 use Rattle.sb_sequencer.specs.declared.answer.Numbered.{Numbered}
 use Rattle.sb_sequencer.specs.declared.answer.Numbered.TheVariants.{New, Repeat}
 
--- the log, the lengths last heard of each replica and of its checkpoint, and the answer kept for each
--- number, if any
+-- a sequencer: the log, the lengths last heard of each replica and of its checkpoint, and the
+-- answer kept for each number, if any
 pub record SequencerOf : Type 0 where
   pub log : List (Key × Call)
   pub recorded : List ℕ
   pub checkpoints : List ℕ
   pub answers : List (Option Reply)
 
--- a sequencer for so many replicas with an empty log
+-- a sequencer for this many replicas, with an empty log
 abbrev pub opened : ℕ → SequencerOf
 opened nodes = record {
   log = [];
@@ -26,8 +26,8 @@ opened nodes = record {
   answers = [];
 }
 
--- one place for an answer for each call, and a length of a checkpoint for each replica; no replica and
--- no checkpoint was heard of beyond the log
+-- a sequencer is valid: it has one place for an answer for each call, and one checkpoint length for
+-- each replica; no replica and no checkpoint is beyond the log
 pub record IsSequencer (s : SequencerOf) : Type 0 where
   pub log : IsLog s.log
   pub answers : length s.answers ≡ length s.log
@@ -35,12 +35,13 @@ pub record IsSequencer (s : SequencerOf) : Type 0 where
   pub each : length s.checkpoints ≡ length s.recorded
   pub checkpoints : All (λ size. size ≤ length s.log) s.checkpoints
 
--- only a new number changes it: the ask goes last, and nothing is kept for it yet
+-- the sequencer after an ask: only a new number changes it; then the ask is appended, and no answer
+-- is kept for it yet
 abbrev pub after_ask : SequencerOf → Key × Call → Result Numbered AskFault → SequencerOf
 after_ask s ask (Ok (New n)) = record s { log = s.log ++ ask ∷ []; answers = s.answers ++ None ∷ [] }
 after_ask s ask (Ok (Repeat n)) = s
 after_ask s ask (Err fault) = s
 
--- the answers by place, and none yet at the places behind them
+-- the answers by place, followed by places without an answer
 abbrev pub padded : ℕ → List (Option Reply) → List (Option Reply)
 padded places kept = kept ++ replicate (places - length kept) None

@@ -1,4 +1,4 @@
-//! What an ask is answered.
+//! The answer to an ask.
 ghost use Rattle.std.specs.Prelude.{◌≡◌};
 ghost use Rattle.sb_sequencer.specs.Fault.{ask_fault_number};
 
@@ -9,14 +9,14 @@ use thiserror::Error;
 pub enum Numbered {
     /// The key was new, and the call got this number.
     New(u64),
-    /// The key has this number already, with the same call.
+    /// The key already has this number, with the same call.
     Repeat(u64),
 }
 
-/// Why a request gets no number. The log is as before.
+/// Why a request gets no number. The log stays as it was.
 #[derive(Clone, Copy, Debug, PartialEq, Eq, Error)]
 pub enum AskFault {
-    /// The key has this number already, with another call.
+    /// The key already has this number, with another call.
     #[error("mismatch {0}")]
     Mismatch(u64),
     /// The key is new, and the log takes no more calls.

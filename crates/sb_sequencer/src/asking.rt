@@ -1,4 +1,4 @@
-//! How an ask is answered by the log, and numbered in it.
+//! How the log answers an ask, and numbers it.
 ghost use Rattle.std.specs.Prelude.{◌≡◌, ◌<◌, ◌≤◌, ◌↔◌, Some, length, List, slice_get, IsTrue, vec_capacity};
 ghost use Rattle.sb_calls.specs.declared.ask.Key.{Key as AnyKey};
 ghost use Rattle.sb_calls.specs.declared.call.Call.{Call as AnyCall};
@@ -11,14 +11,14 @@ use indexmap::IndexMap;
 use indexmap::map::Entry;
 use sb_calls::{Call, Key, LOG_CALLS, Reply};
 
-// Whether two calls are the same call. For the prover alone: here `==` gets its clause.
+// Whether two calls are equal. For the prover alone: here `==` gets its clause.
 fn same_call(a: &Call, b: &Call) -> bool
     ensures { IsTrue result ↔ (a.now ≡ b.now) }
 {
     a == b
 }
 
-// What a key comes to that stands at this place of a log with this call.
+// The answer to an ask whose key is at this place of a log, with this call.
 pub(crate) fn answered(place: usize, numbered: &Call, call: &Call) -> Result<Numbered, AskFault>
     requires { place < LOG_CALLS }
     ensures answer { (log : List (AnyKey × AnyCall)) (key : AnyKey) → place_of_key log key ≡ Some place
@@ -33,8 +33,8 @@ pub(crate) fn answered(place: usize, numbered: &Call, call: &Call) -> Result<Num
     }
 }
 
-// Answers an ask at a log that takes one more call: by one search, and a new key goes last, once there is
-// room for an answer to it.
+// Answers an ask at a log that takes one more call. It searches once, and appends a new key once
+// there is room for an answer to it.
 pub(crate) fn ask_with_room(
     log: &mut IndexMap<Key, Call>,
     kept: &mut Vec<Option<Reply>>,

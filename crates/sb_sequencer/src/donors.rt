@@ -1,4 +1,5 @@
-//! The checkpoints that replicas keep, and from whom one gets a state in place of entries.
+//! The checkpoints that replicas keep, and from which replica another gets a state in place of
+//! entries.
 ghost use Rattle.std.specs.Prelude.{◌≡◌, Some, slice_get};
 ghost use Rattle.sb_sequencer.specs.Donors.{IsDonor};
 ghost use Rattle.sb_sequencer.specs.Notes.{after_have, hears_have};
@@ -7,8 +8,8 @@ use crate::note::HaveNote;
 use crate::sequencer::Sequencer;
 
 impl Sequencer {
-    /// Notes that a replica keeps a checkpoint of this length. The last length that was heard counts,
-    /// also one below that before. It takes no memory.
+    /// Notes that a replica keeps a checkpoint of this length. The last length heard counts, even
+    /// if it is below the one before. It allocates nothing.
     pub fn on_have(&mut self, replica: u8, length: u64) -> HaveNote
         ensures note { result ≡ hears_have self.old replica length }
         ensures state { self.new ≡ after_have self.old replica length }
@@ -25,7 +26,7 @@ impl Sequencer {
         }
     }
 
-    // The donor for a replica that has so much of the log.
+    // The donor for a replica that has this much of the log.
     fn donor_above(&self, replica: u8, length: u64) -> Option<(u8, u64)>
         requires { slice_get self.now.recorded replica ≡ Some length }
         ensures { IsDonor self.now replica result }
@@ -36,7 +37,7 @@ impl Sequencer {
         for place in 0..checkpoints.len() {
             let other = place as u8;
             let size = checkpoints[place];
-            // Of several with the same length the first one stays.
+            // Of several with the same length, the first stays.
             if other != replica && size > most {
                 most = size;
                 donor = Some((other, size));
@@ -45,9 +46,10 @@ impl Sequencer {
         donor
     }
 
-    /// The replica that another one gets a state from, and the state's length: of the other replicas
-    /// that keep a checkpoint of more of the log than this one has, the one with the most; of several
-    /// the first. `None` where there is none, or no such replica. It takes no memory.
+    /// The replica from which another gets a state, and the state's length. Of the other replicas
+    /// that keep a checkpoint of more of the log than this one has, it is the one with the most; of
+    /// several, the first. `None` if there is none, or if this replica doesn't exist. It allocates
+    /// nothing.
     pub fn donor(&self, replica: u8) -> Option<(u8, u64)>
         ensures { IsDonor self.now replica result }
     {

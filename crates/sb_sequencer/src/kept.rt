@@ -8,8 +8,8 @@ use crate::note::AnswerNote;
 use sb_calls::Reply;
 use std::alloc::AllocError;
 
-// Makes room for answers at so many places. Nothing is written there, so that room without an answer
-// costs no memory of the machine's.
+// Makes room for answers at this many places. Nothing is written there, so room without an answer
+// takes no memory of the machine.
 pub(crate) fn make_room(kept: &mut Vec<Option<Reply>>, places: usize) -> Result<(), AllocError>
     requires { length kept.old.items ≤ places }
     ensures items { kept.new.items ≡ kept.old.items }
@@ -19,7 +19,7 @@ pub(crate) fn make_room(kept: &mut Vec<Option<Reply>>, places: usize) -> Result<
     kept.reserve(places - kept.len())
 }
 
-// Fills the places up to so many with no answer.
+// Fills the places up to this many without an answer.
 fn fill(kept: &mut Vec<Option<Reply>>, places: usize)
     requires few { length kept.old.items ≤ places }
     requires room { places ≤ vec_capacity kept.old }
@@ -31,7 +31,7 @@ fn fill(kept: &mut Vec<Option<Reply>>, places: usize)
     }
 }
 
-// How a further answer is noted, by the first.
+// The note on a further answer, compared with the first.
 fn compared(first: Reply, further: Reply) -> AnswerNote
     ensures { IsCompared first further result }
 {
@@ -42,7 +42,7 @@ fn compared(first: Reply, further: Reply) -> AnswerNote
     }
 }
 
-// Keeps an answer at a place, unless one is kept there.
+// Keeps an answer at a place, unless there is one already.
 pub(crate) fn keep(kept: &mut Vec<Option<Reply>>, place: usize, reply: Reply) -> AnswerNote
     requires { place < vec_capacity kept.old }
     ensures items { IsKept (padded (place + 1) kept.old.items) place reply result kept.new.items }
@@ -62,7 +62,7 @@ pub(crate) fn keep(kept: &mut Vec<Option<Reply>>, place: usize, reply: Reply) ->
     }
 }
 
-// What is kept at a place.
+// The answer that is kept at a place.
 pub(crate) fn kept_at(kept: &[Option<Reply>], place: usize) -> Option<Reply>
     ensures { result ≡ option_flatten (slice_get kept.now place) }
 {

@@ -1,4 +1,4 @@
-//! What the log is after many asks, and the limits.
+//! What holds for the log after many asks, and the limits.
 ghost use Rattle.std.specs.Prelude.{◌≡◌, List, []};
 ghost use Rattle.sb_calls.specs.declared.ask.Key.{Key as AnyKey};
 ghost use Rattle.sb_calls.specs.declared.call.Call.{Call as AnyCall};
@@ -13,8 +13,8 @@ pub fn limits()
     ensures resend { RESEND ≡ 16 }
 {}
 
-/// Asked one by one from an empty log, a list of asks leaves the first ask of each key, in order, as
-/// many as a log takes.
+/// Asks that come one by one, from an empty log on, leave the first ask of each key, in order, up
+/// to the greatest number of calls in a log.
 pub fn numbering()
     ensures { (asks : List (AnyKey × AnyCall)) → log_after [] asks ≡ first_asks asks }
 {}

@@ -1,4 +1,5 @@
-//! The sequencer: numbers clients' requests into one log, and remembers what the replicas tell of it.
+//! The sequencer: it numbers clients' requests into one log, and remembers what it hears from the
+//! replicas.
 #![tactic(auto)]
 
 mod answer;

@@ -1,29 +1,29 @@
-//! How the sequencer notes what it hears of the replicas.
+//! The notes on what the sequencer hears from the replicas.
 
-/// How an acknowledgement is noted.
+/// The note on an acknowledgement.
 #[derive(Clone, Copy, Debug, PartialEq, Eq)]
 pub enum AckNote {
-    /// The length is what the replica has of the log.
+    /// The replica has this length of the log.
     Recorded,
-    /// There is no such replica, or the log isn't so long. Nothing changed.
+    /// There is no such replica, or the log isn't that long. Nothing changed.
     Odd,
 }
 
-/// How it is noted that a replica keeps a checkpoint.
+/// The note on the length of a replica's checkpoint.
 #[derive(Clone, Copy, Debug, PartialEq, Eq)]
 pub enum HaveNote {
-    /// The length is that of the checkpoint that the replica keeps.
+    /// The replica keeps a checkpoint of this length.
     Recorded,
-    /// There is no such replica, or the log isn't so long. Nothing changed.
+    /// There is no such replica, or the log isn't that long. Nothing changed.
     Odd,
 }
 
-/// How the answer to a call is noted.
+/// The note on the answer to a call.
 #[derive(Clone, Copy, Debug, PartialEq, Eq)]
 pub enum AnswerNote {
     /// It is the first for its number, and is kept.
     Kept,
-    /// It is the one that is kept.
+    /// It is the same as the one that is kept.
     Repeat,
     /// Another one is kept for its number, and stays.
     Odd,

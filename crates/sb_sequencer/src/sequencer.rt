@@ -1,4 +1,4 @@
-//! The log of numbered requests, and what was heard of the replicas.
+//! The log of numbered requests, and what was heard from the replicas.
 ghost use Rattle.std.specs.Prelude.{◌≡◌, ◌≢◌, ◌-◌, ◌≤◌, ◌↔◌, length, replicate, slice_get, List, Err, IfSome, IsTrue, IfOk};
 ghost use Rattle.std.specs.Option.{option_copied};
 ghost use Rattle.sb_calls.specs.declared.ask.Key.{Key as AnyKey};
@@ -21,20 +21,21 @@ use sb_frames::{AskOutcome, Frame};
 use std::alloc::{AllocError, Global};
 use std::marker::Model;
 
-/// How many replicas a sequencer has at most.
+/// The greatest number of replicas of a sequencer.
 pub const REPLICAS: usize = 16;
 
-/// How many entries are sent again to a replica at most.
+/// The greatest number of entries that are resent to a replica at once.
 pub const RESEND: usize = 16;
 
-/// Numbers clients' requests into one log: each key once, in the order of first asks. It remembers how
-/// much of the log each replica has, of how much each keeps a checkpoint, and what each call was answered.
+/// Numbers clients' requests into one log: each key once, in the order of first asks. It remembers
+/// how much of the log each replica has, how much of it each replica's checkpoint has, and the
+/// answer to each call.
 #[derive(Drop)]
 pub struct Sequencer {
     log: IndexMap<Key, Call>,
     recorded: ArrayVec<u64, REPLICAS>,
     pub(crate) checkpoints: ArrayVec<u64, REPLICAS>,
-    // There is room for an answer to each call, and it is filled as far as an answer was kept.
+    // There is room for an answer to each call. It is filled up to the last kept answer.
     kept: Vec<Option<Reply>>,
 }
 
@@ -56,7 +57,7 @@ impl Model for Sequencer {
         (vec_capacity s.kept) };
 }
 
-// So many lengths of 0.
+// This many lengths of 0.
 fn zeros(count: usize) -> ArrayVec<u64, REPLICAS>
     requires { count ≤ REPLICAS }
     ensures { result.items ≡ replicate count 0 }
@@ -69,7 +70,7 @@ fn zeros(count: usize) -> ArrayVec<u64, REPLICAS>
 }
 
 impl Sequencer {
-    /// A sequencer for so many replicas with an empty log.
+    /// A sequencer for this many replicas, with an empty log.
     pub fn open(alloc: Global, nodes: usize) -> Sequencer
         requires { nodes ≤ REPLICAS }
         ensures { result ≡ opened nodes }
@@ -82,8 +83,8 @@ impl Sequencer {
         }
     }
 
-    /// A sequencer for so many replicas with an empty log that takes this many calls before it needs more
-    /// memory. Fails where memory is refused.
+    /// A sequencer for this many replicas, with an empty log that takes this many calls before it
+    /// needs more memory. Fails if memory is refused.
     pub fn with_capacity(alloc: Global, nodes: usize, calls: usize) -> Result<Sequencer, AllocError>
         requires { nodes ≤ REPLICAS }
         ensures { IfOk result (λ sequencer. sequencer ≡ opened nodes) }
@@ -96,7 +97,7 @@ impl Sequencer {
         })
     }
 
-    /// How many calls have a number.
+    /// The number of calls in the log.
     pub fn length(&self) -> u64
         ensures value { result ≡ length self.now.log }
         ensures valid { IsLog self.now.log }
@@ -104,7 +105,7 @@ impl Sequencer {
         self.log.len() as u64
     }
 
-    /// The call with this number, counted from 1, or `None` where there is none.
+    /// The call with this number, counted from 1, or `None` if there is none.
     pub fn call(&self, number: u64) -> Option<&Call>
         ensures { option_copied result ≡ call_at self.now.log number }
     {
@@ -120,7 +121,8 @@ impl Sequencer {
         self.log.len() >= LOG_CALLS
     }
 
-    // Answers an ask at a full log: the number that its key has, or that the log takes no more.
+    // Answers an ask at a full log: with the number that its key has, or that the log takes no
+    // more.
     fn ask_full(&self, key: Key, call: &Call) -> Result<Numbered, AskFault>
         requires { LOG_CALLS ≤ length self.now.log }
         ensures answer { IsAnswered self.now.log (key, call.now) result }
@@ -132,26 +134,27 @@ impl Sequencer {
         }
     }
 
-    /// Numbers a request, or tells the number that it has already.
+    /// Numbers a request, or returns the number that it already has.
     ///
     /// Fails with
-    /// - [`AskFault::Mismatch`] where the key has a number with another call,
-    /// - [`AskFault::LogFull`] where the key is new and the log has [`LOG_CALLS`] calls,
-    /// - [`AskFault::OutOfMemory`] where the key is new and memory is refused.
+    /// - [`AskFault::Mismatch`] if the key has a number with another call,
+    /// - [`AskFault::LogFull`] if the key is new and the log has [`LOG_CALLS`] calls,
+    /// - [`AskFault::OutOfMemory`] if the key is new and memory is refused.
     ///
-    /// Nothing changes with a repeat and with each fault.
+    /// A repeat changes nothing, and neither does a fault.
     pub fn ask(&mut self, client: u32, request: u32, call: &Call) -> Result<Numbered, AskFault>
-        // By the log as it was.
+        // The answer, by the log as it was.
         ensures answer { IsAnswered self.old.log (record { client = client; request = request }, call.now) result }
         // Only a new number changes the log.
         ensures log { LogAfter self.old.log (record { client = client; request = request }, call.now)
             result self.new.log }
-        // And with it there is a place for its answer. What the replicas have of the log stays.
+        // With a new number there is a place for its answer. What the replicas have of the log
+        // stays.
         ensures state { self.new ≡ after_ask self.old (record { client = client; request = request }, call.now) result }
-        // Unless memory is refused, the log is the one that this ask makes of it.
+        // Unless memory is refused, the log takes one step with this ask.
         ensures step { result ≢ Err AskFault.OutOfMemory
             → self.new.log ≡ log_with self.old.log (record { client = client; request = request }, call.now) }
-        // Whatever was asked before, the log is the first asks of each key.
+        // Whatever was asked before, the log is the first ask of each key.
         ensures numbering { (asks : List (AnyKey × AnyCall))
             → Numbers asks self.old.log (record { client = client; request = request }, call.now) result self.new.log }
         ensures valid { IsSequencer self.new }
@@ -163,7 +166,7 @@ impl Sequencer {
         ask_with_room(&mut self.log, &mut self.kept, key, call)
     }
 
-    /// The number that a key has in the log, or `None` where it has none.
+    /// The number that a key has in the log, or `None` if it has none.
     #[inline]
     pub fn number_of(&self, client: u32, request: u32) -> Option<u64>
         ensures { result ≡ number_of self.now.log (record { client = client; request = request }) }
@@ -172,10 +175,10 @@ impl Sequencer {
         Some(place as u64 + 1)
     }
 
-    /// Asks as [`Sequencer::ask`], and looks first at this number, under which the key is expected: where it stands
-    /// there, the log isn't searched.
+    /// Asks as [`Sequencer::ask`] does, but first looks at this number, under which the key is
+    /// expected. If the key is there, the log isn't searched.
     ///
-    /// Any number may be expected; where the key doesn't stand there, the log is searched.
+    /// Any number may be expected. If the key isn't there, the log is searched.
     pub fn ask_expecting(
         &mut self,
         expected: Option<u64>,
@@ -199,7 +202,7 @@ impl Sequencer {
         }
     }
 
-    // What an ask comes to whose key stands under this number, or `None` where it doesn't stand there.
+    // The answer to an ask whose key has this number, or `None` if the key doesn't have it.
     fn answer_under(
         &self,
         number: Option<u64>,
@@ -219,7 +222,7 @@ impl Sequencer {
         }
     }
 
-    /// The entry with this number, counted from 1, or `None` where there is none.
+    /// The entry with this number, counted from 1, or `None` if there is none.
     pub fn entry(&self, number: u64) -> Option<Frame>
         ensures { result ≡ entry_of self.now.log number }
     {
@@ -230,8 +233,8 @@ impl Sequencer {
         })
     }
 
-    /// The entries that a replica lacks, at most [`RESEND`], from the first one after what it has. None where
-    /// there is no such replica.
+    /// The entries that a replica lacks, at most [`RESEND`], from the first one after what it has.
+    /// There are none if no such replica exists.
     pub fn resend(&self, replica: u8) -> ArrayVec<Frame, RESEND>
         ensures { result.items ≡ resent self.now replica }
     {
@@ -249,12 +252,12 @@ impl Sequencer {
         self.recorded.as_slice().get(replica as usize).copied()
     }
 
-    // The entries after so many, at most `RESEND`.
+    // The entries after this length, at most `RESEND`.
     fn entries_after(&self, size: u64) -> ArrayVec<Frame, RESEND>
         requires { size ≤ length self.now.log }
         ensures { result.items ≡ entries_after self.now.log size }
     {
-        // The checker goes through what a frame is made of, and has to be told the types.
+        // The checker follows the parts of a frame, and needs their types here.
         let _parts: Option<(Call, AskOutcome, WireReply)> = None;
         let mut entries = ArrayVec::new();
         let end = self.length().min(size + RESEND as u64);
@@ -264,7 +267,7 @@ impl Sequencer {
         entries
     }
 
-    /// Notes that a replica has the log up to a length. A length may also be below the one before.
+    /// Notes that a replica has the log up to a length. A length may be below the one before.
     pub fn on_ack(&mut self, replica: u8, length: u64) -> AckNote
         ensures note { result ≡ hears_ack self.old replica length }
         ensures state { self.new ≡ after_ack self.old replica length }
@@ -281,7 +284,8 @@ impl Sequencer {
         }
     }
 
-    /// Notes what the call with this number is replied. The first reply is kept for good. It takes no memory.
+    /// Notes the reply to the call with this number. The first reply is kept for good. It allocates
+    /// nothing.
     pub fn on_answer(&mut self, number: u64, reply: Reply) -> AnswerNote
         ensures note { IsAnswerNote self.old number reply result }
         ensures state { self.new ≡ after_answer self.old number reply result }
@@ -295,7 +299,8 @@ impl Sequencer {
         keep(&mut self.kept, place as usize, reply)
     }
 
-    /// The reply that is kept for a request, or `None` where none came yet or the request has no number.
+    /// The reply that is kept for a request, or `None` if none has come yet or the request has no
+    /// number.
     pub fn answer_of(&self, client: u32, request: u32) -> Option<Reply>
         ensures { result ≡ answer_of self.now (record { client = client; request = request }) }
     {

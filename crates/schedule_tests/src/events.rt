@@ -238,10 +238,10 @@ fn names_the_first_fault_of_a_line_of_states(rt: HostRuntime) {
 #[test]
 fn names_the_fault_of_a_call(rt: HostRuntime) {
     let unknown = EventFault::Call(CallFault::UnknownVerb);
-    are_at_fault(&rt, &["ask 1 1", "ask 1 1 ", "ask 1 1 pay"], unknown);
+    are_at_fault(&rt, &["ask 1 1", "ask 1 1 ", "ask 1 1 send"], unknown);
     are_at_fault(
         &rt,
-        &["ask 1 1 balance"],
+        &["ask 1 1 balance", "ask 1 1 pay a b"],
         EventFault::Call(CallFault::WrongWords),
     );
     are_at_fault(

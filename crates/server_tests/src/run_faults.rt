@@ -63,7 +63,7 @@ const CALLS: &[(&str, usize, CallFault, &str)] = &[
         "line 2: unknown verb",
     ),
     (
-        "begin\npay bob 1.00\n",
+        "begin\nsend bob 1.00\n",
         2,
         CallFault::UnknownVerb,
         "line 2: unknown verb",

@@ -115,7 +115,8 @@ fn five_calls_one_by_one(rt: HostRuntime) {
 fn payments_from_checking_to_checking(rt: HostRuntime) {
     let calls = b"pay bob alice 20.00\npay alice bob 70.01\npay bob carol 0.01\npay zed zed 1.00\n\
           pay bob bob -1.00\npay alice bob -0.01\n";
-    let output = b"1 done\n2 would overdraw\n3 would overdraw\n4 no customer\n5 same customer\n6 negative\n\
+    let output =
+        b"1 done\n2 would overdraw\n3 would overdraw\n4 no customer\n5 same customer\n6 negative\n\
           alice 100.00 70.00\nbob 0.00 0.00\ncarol 10.00 0.00\ntotal 180.00\n";
     expect_after_opening(&rt, rt.alloc(), calls, output);
 }

@@ -46,7 +46,7 @@ fn audit_of(rt: &impl Abort, opening: &Columns, now: &Columns) -> (i64, Audit) {
     (before, audit(now, before, &calls, &replies))
 }
 
-// The bank of this text is audited so.
+// Checks the audit of the bank with this text.
 fn expect_audit(rt: &impl Abort, alloc: Global, text: &str, wanted: Audit) {
     let opening = columns_of(rt, alloc, OPENING);
     let now = columns_of(rt, alloc, text);

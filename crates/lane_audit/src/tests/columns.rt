@@ -1,7 +1,7 @@
-//! Columns at the limit, and of each length about a lane's.
+//! Columns at the limit, and columns of each length around a lane count.
 use super::*;
 
-// The length of a column, and its sum where each value is at the limit.
+// The length of a column, and its sum if each value is at the limit.
 const SUMS: &[(usize, i64)] = &[
     (0, 0),
     (1, 1_000_000_000_000),
@@ -11,7 +11,7 @@ const SUMS: &[(usize, i64)] = &[
     (65_536, 65_536_000_000_000_000),
 ];
 
-// A column of so many of this value.
+// A column of this many equal values.
 fn same(rt: &impl Abort, alloc: Global, length: usize, value: i64) -> Vec<i64> {
     let mut values = Vec::new(alloc);
     for _ in 0..length {
@@ -36,7 +36,7 @@ fn expect_difference(rt: &impl Abort, left: &[i64], right: &[i64], wanted: Optio
     expect_at(rt, difference_of(rt, left, right) == wanted, left.len());
 }
 
-// Two columns of one length differ at the last place alone.
+// Checks two columns of one length that differ at the last place only.
 fn expect_last(rt: &impl Abort, alloc: Global, length: usize, wanted: Option<usize>) {
     let left = same(rt, alloc, length, LIMIT);
     let mut right = same(rt, alloc, length, LIMIT);
@@ -57,7 +57,7 @@ fn a_difference_at_the_last_place(rt: HostRuntime) {
     expect_last(&rt, rt.alloc(), 65_536, Some(65_535));
 }
 
-// A column of zeros differs from one that is other at this place and at the last.
+// Checks a column of zeros against one that differs at this place and at the last.
 fn expect_first(rt: &impl Abort, alloc: Global, zeros: &[i64], place: usize) {
     let last = zeros.len().saturating_sub(1);
     let other = column(rt, alloc, zeros.len(), &[place, last], 1);
@@ -75,7 +75,7 @@ fn the_first_of_two_differences(rt: HostRuntime) {
     }
 }
 
-// A column has so many values below 0, the first at this place, and this sum.
+// Checks that a column has this many values below 0, the first of them at this place, and this sum.
 fn expect_below(rt: &impl Abort, values: &[i64], first: Option<usize>, below: usize, sum: i64) {
     expect_at(rt, first_outside(values, 0, 5) == first, values.len());
     expect_at(rt, count_below(values, 0) == below, values.len());
@@ -95,7 +95,7 @@ fn one_value_below_0(rt: HostRuntime) {
 
 const VALUES: &[i64] = &[0, 5, 3, 6, -1, 0, 0, 0, 0, 0];
 
-// The ends of a range, and the first place of a value outside.
+// The ends of a range, and the first place of a value outside it.
 const OUTSIDE: &[(i64, i64, Option<usize>)] = &[
     (-1, 6, None),
     (0, 6, Some(4)),
@@ -107,7 +107,7 @@ const OUTSIDE: &[(i64, i64, Option<usize>)] = &[
     (i64::MIN, -1, Some(0)),
 ];
 
-// A bound, and how many values are below.
+// A bound, and the number of values below it.
 const BELOW: &[(i64, usize)] = &[(-1, 0), (0, 1), (1, 7), (6, 9), (7, 10), (i64::MIN, 0)];
 
 #[test]

@@ -1,4 +1,4 @@
-//! What runs over declared cowns.
+//! Behaviours over declared cowns.
 ghost use Rattle.std.specs.Prelude.{◌≡◌, ◌≤◌, ◌↔◌, ℕ, ℤ, true, List, length};
 ghost use Rattle.sb_calls.specs.Cowns.{IsRising, AreHeld};
 ghost use Rattle.sb_calls.specs.declared.reply.Reply.{Reply as AnyReply};
@@ -8,42 +8,43 @@ use crate::reply::Reply;
 use arrayvec::ArrayVec;
 use sb_amount::Cents;
 
-/// How many cowns a behaviour declares at most: both of one customer's, and one of another's.
+/// The greatest number of cowns that a behaviour declares: both of one customer, and one of
+/// another.
 pub const BEHAVIOUR_COWNS: usize = 3;
 
-/// What is spawned over a set of cowns and has these alone while it runs (When Concurrency Matters,
-/// OOPSLA 2023).
+/// A task over a set of cowns, which it has alone while it runs (When Concurrency Matters, OOPSLA
+/// 2023).
 ///
-/// Whoever holds one can tell which cowns it needs, and not what it does to them: that stands in
-/// the contracts alone.
+/// This trait says which cowns a behaviour needs. What the behaviour does to them stands in the
+/// contracts alone.
 pub trait Behaviour: Copy + Eq {
     /// The numbers of the cowns that it declares.
     ghost touches: { Self → List ℕ };
 
-    /// The reply, and what its cowns hold after it, by what they held before.
+    /// Its reply, and what its cowns hold after it, from what they held before.
     ghost effect: { Self → List ℤ → AnyReply × List ℤ };
 
     /// The cowns that it declares, in rising order.
     fn cowns(self) -> ArrayVec<Cown, BEHAVIOUR_COWNS>
         ensures { result.items ≡ touches self };
 
-    /// The declared cowns rise, so each stands once.
+    /// The declared cowns rise, so each occurs once.
     ghost rising: { (behaviour : Self) → IsRising (touches behaviour) };
 
     ghost few: { (behaviour : Self) → length (touches behaviour) ≤ 3 };
 
-    /// What it leaves in its cowns they may hold.
+    /// It leaves allowed values in its cowns.
     ghost keeps: { (behaviour : Self) (inputs : List ℤ) → AreHeld (touches behaviour) inputs
         → AreHeld (touches behaviour) (effect behaviour inputs).1 };
 
-    /// Behaviours that compare alike are one.
+    /// Behaviours compare as equal exactly if they are equal.
     ghost exact: { (a b : Self) → (Self.eq a b ≡ true) ↔ (a ≡ b) };
 }
 
-/// A behaviour that can be carried out.
+/// A behaviour that can run.
 pub trait Performs: Behaviour {
-    /// The reply, and what its cowns hold after it, both in the order of the cowns. It changes
-    /// nothing itself.
+    /// The reply, and what its cowns hold after it. Inputs and results are in the order of the
+    /// cowns. It changes nothing itself.
     fn perform(self, inputs: &[Cents]) -> (Reply, ArrayVec<Cents, BEHAVIOUR_COWNS>)
         requires { AreHeld (Self.touches self) inputs.now }
         ensures reply { result.0 ≡ (Self.effect self inputs.now).0 }

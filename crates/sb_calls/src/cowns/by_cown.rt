@@ -8,7 +8,7 @@ use arrayvec::ArrayVec;
 use sb_amount::Cents;
 use sb_rows::{CUSTOMERS, Columns};
 
-/// What these cowns hold, in their order.
+/// What these cowns hold, in the same order.
 pub fn read_cowns(columns: &Columns, cowns: &[Cown]) -> ArrayVec<Cents, BEHAVIOUR_COWNS>
     requires few { length cowns.now ≤ 3 }
     requires cowns { AreBelow (length (held_of columns.now)) cowns.now }
@@ -21,7 +21,7 @@ pub fn read_cowns(columns: &Columns, cowns: &[Cown]) -> ArrayVec<Cents, BEHAVIOU
     values
 }
 
-/// Replaces what these cowns hold, each by the value beside it.
+/// Replaces what these cowns hold. Each gets the value at its own position.
 pub fn write_cowns(columns: &mut Columns, cowns: &[Cown], values: &[Cents])
     requires cowns { AreBelow (length (held_of columns.old)) cowns.now }
     requires values { AreHeld cowns.now values.now }

@@ -1,10 +1,10 @@
-//! The only way to a balance.
+//! Cowns: the only access to a balance.
 ghost use Rattle.std.specs.Prelude.{◌≡◌};
 ghost use Rattle.sb_calls.specs.Cowns.{savings_cown, checking_cown};
 
 use std::marker::Model;
 
-/// The only way to the balance that it protects (When Concurrency Matters, OOPSLA 2023).
+/// The only access to the balance that it protects (When Concurrency Matters, OOPSLA 2023).
 ///
 /// Cown `2i` is the savings and cown `2i + 1` the checking balance of the customer at place `i`.
 #[derive(Clone, Copy, Debug, Default, PartialEq, Eq)]

@@ -10,13 +10,13 @@ use crate::reply::Reply;
 use arrayvec::ArrayVec;
 use sb_amount::Cents;
 
-/// What a check costs more where savings and checking together are below its amount, in cents.
+/// The penalty of a check if savings and checking together are below its amount, in cents.
 pub const PENALTY: i64 = 100;
 
-// What a call replies, and what its cowns hold after it.
+// The reply to a call, and what its cowns hold after it.
 pub(crate) type Effect = (Reply, ArrayVec<Cents, BEHAVIOUR_COWNS>);
 
-// A reply, and one value that is left.
+// A reply and one resulting value.
 fn leaving_one(reply: Reply, value: Cents) -> Effect
     ensures reply { result.0 ≡ reply }
     ensures outputs { result.1.items ≡ value ∷ [] }
@@ -26,7 +26,7 @@ fn leaving_one(reply: Reply, value: Cents) -> Effect
     (reply, values)
 }
 
-// A reply, and two values that are left.
+// A reply and two resulting values.
 fn leaving_two(reply: Reply, first: Cents, second: Cents) -> Effect
     ensures reply { result.0 ≡ reply }
     ensures outputs { result.1.items ≡ first ∷ second ∷ [] }
@@ -37,7 +37,7 @@ fn leaving_two(reply: Reply, first: Cents, second: Cents) -> Effect
     (reply, values)
 }
 
-// A reply, and three values that are left.
+// A reply and three resulting values.
 fn leaving_three(reply: Reply, first: Cents, second: Cents, third: Cents) -> Effect
     ensures reply { result.0 ≡ reply }
     ensures outputs { result.1.items ≡ first ∷ second ∷ third ∷ [] }
@@ -49,7 +49,7 @@ fn leaving_three(reply: Reply, first: Cents, second: Cents, third: Cents) -> Eff
     (reply, values)
 }
 
-// Shows savings and checking added up.
+// Shows the sum of savings and checking.
 pub(crate) fn show(savings: Cents, checking: Cents) -> Effect
     ensures reply { result.0 ≡ replies.Shown (savings +ℤ checking) }
     ensures outputs { result.1.items ≡ savings ∷ checking ∷ [] }
@@ -91,7 +91,7 @@ pub(crate) fn change_savings(amount: Cents, savings: Cents) -> Effect
     }
 }
 
-// Takes what a check costs from checking.
+// Takes the cost of a check from checking.
 pub(crate) fn pay_check(amount: Cents, savings: Cents, checking: Cents) -> Effect
     ensures reply { result.0 ≡ (check_effect amount savings checking).0 }
     ensures outputs { result.1.items ≡ (check_effect amount savings checking).1 }
@@ -106,7 +106,7 @@ pub(crate) fn pay_check(amount: Cents, savings: Cents, checking: Cents) -> Effec
     }
 }
 
-// What a check takes from checking, and what is replied where it is paid.
+// The cost of a check, and the reply if it is paid.
 fn cost_of_check(savings: Cents, checking: Cents, amount: Cents) -> (i64, Reply)
     ensures cost { result.0 ≡ check_cost savings checking amount }
     ensures reply { result.1
@@ -120,7 +120,7 @@ fn cost_of_check(savings: Cents, checking: Cents, amount: Cents) -> (i64, Reply)
     }
 }
 
-// All that two customers put together, or `None` where that is past the limit.
+// The sum of the three balances, or `None` if it is past the limit.
 fn all_of(received: Cents, savings: Cents, checking: Cents) -> Option<Cents>
     ensures { let sum = (received +ℤ savings) +ℤ checking in
         SomeIff result (IsWithinLimit sum) sum }
@@ -128,14 +128,14 @@ fn all_of(received: Cents, savings: Cents, checking: Cents) -> Option<Cents>
     Cents::new(received.value() + savings.value() + checking.value())
 }
 
-// What is left where all was given away.
+// The balance after everything was given away.
 fn nothing() -> Cents
     ensures { result ≡ pos 0 }
 {
     Cents::new(0).unwrap()
 }
 
-// Moves all of one customer to another, where the one that gives stands first.
+// Moves both balances of the giver to the taker. The giver's cowns come first.
 pub(crate) fn amalgamate_giver_first(savings: Cents, checking: Cents, received: Cents) -> Effect
     ensures reply { result.0 ≡ (giver_first_effect savings checking received).0 }
     ensures outputs { result.1.items ≡ (giver_first_effect savings checking received).1 }
@@ -146,7 +146,7 @@ pub(crate) fn amalgamate_giver_first(savings: Cents, checking: Cents, received: 
     }
 }
 
-// Moves all of one customer to another, where the one that takes stands first.
+// Moves both balances of the giver to the taker. The taker's cown comes first.
 pub(crate) fn amalgamate_taker_first(received: Cents, savings: Cents, checking: Cents) -> Effect
     ensures reply { result.0 ≡ (taker_first_effect received savings checking).0 }
     ensures outputs { result.1.items ≡ (taker_first_effect received savings checking).1 }
@@ -157,7 +157,7 @@ pub(crate) fn amalgamate_taker_first(received: Cents, savings: Cents, checking: 
     }
 }
 
-// What a payment replies, and the balances after it of the one that pays and of the one that is paid.
+// The reply to a payment, and the balances of the payer and of the paid customer after it.
 fn payment(amount: Cents, checking: Cents, received: Cents) -> (Reply, Cents, Cents)
     ensures reply { result.0 ≡ (payment amount checking received).0 }
     ensures checking { result.1 ≡ (payment amount checking received).1 }
@@ -175,7 +175,7 @@ fn payment(amount: Cents, checking: Cents, received: Cents) -> (Reply, Cents, Ce
     }
 }
 
-// What is left of a balance where no more than all of it is taken.
+// The rest of a balance after at most all of it is taken.
 fn what_is_left(balance: Cents, amount: Cents) -> Cents
     requires taken { pos 0 ≤ℤ amount }
     requires enough { amount ≤ℤ balance }
@@ -184,7 +184,7 @@ fn what_is_left(balance: Cents, amount: Cents) -> Cents
     Cents::new(balance.value() - amount.value()).unwrap()
 }
 
-// Pays from one checking balance to another, where the one that pays stands first.
+// Pays from one checking balance to another. The payer's cown comes first.
 pub(crate) fn pay_payer_first(amount: Cents, checking: Cents, received: Cents) -> Effect
     ensures reply { result.0 ≡ (payer_first_effect amount checking received).0 }
     ensures outputs { result.1.items ≡ (payer_first_effect amount checking received).1 }
@@ -193,7 +193,7 @@ pub(crate) fn pay_payer_first(amount: Cents, checking: Cents, received: Cents) -
     leaving_two(reply, checking, received)
 }
 
-// Pays from one checking balance to another, where the one that is paid stands first.
+// Pays from one checking balance to another. The paid customer's cown comes first.
 pub(crate) fn pay_paid_first(amount: Cents, received: Cents, checking: Cents) -> Effect
     ensures reply { result.0 ≡ (paid_first_effect amount received checking).0 }
     ensures outputs { result.1.items ≡ (paid_first_effect amount received checking).1 }

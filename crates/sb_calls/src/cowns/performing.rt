@@ -1,4 +1,4 @@
-//! An op as a behaviour: the cowns that it declares, and what it does to them.
+//! An op as a behaviour: the cowns that it declares, and its effect on them.
 ghost use Rattle.std.specs.Prelude.{◌≡◌, ℕ, List};
 ghost use Rattle.sb_rows.specs.Balances.{Balances};
 ghost use Rattle.sb_rows.specs.Rows.{SameCustomers};
@@ -20,8 +20,8 @@ use crate::two_places::TwoPlaces;
 use arrayvec::ArrayVec;
 use sb_amount::Cents;
 
-/// The cowns of the balances that a call touches, in rising order: none where a name isn't in the
-/// bank, or two names are one.
+/// The cowns of the balances that a call touches, in rising order. There are none if a name isn't
+/// in the bank, or if its two names are the same.
 pub fn cowns_of(op: Op) -> ArrayVec<Cown, BEHAVIOUR_COWNS>
     ensures value { result.items ≡ declared_cowns op }
     ensures touched { (directory : List (List ℕ)) (b : Balances) (call : Call)
@@ -50,7 +50,7 @@ fn declared_by(op: Op) -> ArrayVec<Cown, BEHAVIOUR_COWNS>
     cowns
 }
 
-// All of the customer that gives, and the checking balance of the one that takes.
+// Both cowns of the giver, and the checking cown of the taker.
 fn cowns_of_places(places: TwoPlaces) -> ArrayVec<Cown, BEHAVIOUR_COWNS>
     ensures { result.items ≡ cowns_of_two places.0 places.1 }
 {
@@ -69,7 +69,7 @@ fn cowns_of_places(places: TwoPlaces) -> ArrayVec<Cown, BEHAVIOUR_COWNS>
     cowns
 }
 
-// The checking balances of both customers.
+// The checking cowns of both customers.
 fn checkings_of_places(places: TwoPlaces) -> ArrayVec<Cown, BEHAVIOUR_COWNS>
     ensures { result.items ≡ checkings_of_two places.0 places.1 }
 {
@@ -86,15 +86,15 @@ fn checkings_of_places(places: TwoPlaces) -> ArrayVec<Cown, BEHAVIOUR_COWNS>
     cowns
 }
 
-/// What a call replies, and what its cowns hold after it, where they hold these inputs: both in the
-/// order of [`cowns_of`].
+/// The reply to a call, and what its cowns hold after it, if they hold these inputs. Both are in
+/// the order of [`cowns_of`].
 ///
-/// A refusal leaves what they held.
+/// A refusal leaves the inputs.
 pub fn perform(op: Op, inputs: &[Cents]) -> (Reply, ArrayVec<Cents, BEHAVIOUR_COWNS>)
     requires { AreHeld (declared_cowns op) inputs.now }
     ensures reply { result.0 ≡ (effect_of op inputs.now).0 }
     ensures outputs { result.1.items ≡ (effect_of op inputs.now).1 }
-    // On all rows whose declared cowns hold these inputs it is the procedure.
+    // It is the procedure on all rows whose declared cowns hold these inputs.
     ensures procedure { (directory : List (List ℕ)) (b : Balances) (call : Call)
         → SameCustomers directory b → op ≡ resolved directory call
         → read_cowns (held_of b) (declared_cowns op) ≡ inputs.now
@@ -121,7 +121,7 @@ fn effect_on(op: Op, inputs: &[Cents]) -> Effect
     }
 }
 
-// Moves all of one customer to another, by the order of their cowns.
+// Moves both balances of one customer to another, in the order of their cowns.
 fn amalgamate(places: TwoPlaces, inputs: &[Cents]) -> Effect
     requires { AreHeld (cowns_of_two places.0 places.1) inputs.now }
     ensures reply { result.0 ≡ (effect_of_two places.0 places.1 inputs.now).0 }
@@ -137,7 +137,7 @@ fn amalgamate(places: TwoPlaces, inputs: &[Cents]) -> Effect
     }
 }
 
-// Moves an amount from one checking balance to another, by the order of their cowns.
+// Moves an amount from one checking balance to another, in the order of their cowns.
 fn send_payment(places: TwoPlaces, amount: Cents, inputs: &[Cents]) -> Effect
     requires { AreHeld (checkings_of_two places.0 places.1) inputs.now }
     ensures reply { result.0 ≡ (payment_effect places.0 places.1 amount inputs.now).0 }

@@ -10,25 +10,25 @@ use super::reading::{call_with, read_call_words};
 use crate::ask::{Asked, Key};
 use sb_rows::Words;
 
-/// What an asking line says.
+/// What an asking line asks.
 ///
-/// Fails with the first fault of the line: where its first word is `ask`, `WrongWords` if there are
-/// fewer than three words, `BadNumber` if one of the two numbers is none (the client's is from 1,
-/// both are below 2^32, in decimal without leading zeros), and then the faults of the call that is
-/// left.
+/// Fails with the first fault of the line. If its first word is `ask`: with `WrongWords` if there
+/// are fewer than three words, with `BadNumber` if one of the two numbers isn't valid (the client's
+/// is at least 1, both are below 2^32, in decimal without leading zeros), and then with the faults
+/// of the call that follows.
 pub fn read_ask(line: &[u8]) -> Result<Asked, CallFault>
-    // What is read is spelled so.
+    // A line that is read spells what it asks.
     ensures spelled { IfOk result (λ asked. IsAsked asked × (line.now ≡ ask_line asked)) }
-    // What is spelled so is read.
+    // A line that spells an ask is read.
     ensures taken { (asked : AnyAsked) → IsAsked asked → line.now ≡ ask_line asked
         → result ≡ Ok asked }
-    // Which fault it is.
+    // The result, exactly.
     ensures exact { result ≡ asked_of line.now }
 {
     asked_of(Words::of(line))
 }
 
-// What the words of a line say.
+// What the words of a line ask.
 fn asked_of(mut words: Words) -> Result<Asked, CallFault>
     ensures { result ≡ asked_of_words words.entry }
 {
@@ -40,7 +40,7 @@ fn asked_of(mut words: Words) -> Result<Asked, CallFault>
     Ok(Asked { key: None, call })
 }
 
-// What the words after `ask` say: the two numbers, and the call that they are the key of.
+// What the words after `ask` ask: the two numbers of the key, and the call under it.
 fn keyed(mut words: Words) -> Result<Asked, CallFault>
     ensures { result ≡ after_ask words.entry }
 {
@@ -53,7 +53,7 @@ fn keyed(mut words: Words) -> Result<Asked, CallFault>
     })
 }
 
-// The key with these two numbers; no client is 0.
+// The key with these two numbers. A client is never 0.
 fn key_of(client: &[u8], request: &[u8]) -> Option<Key>
     ensures { result ≡ key_of (spec.read_number client.now) (spec.read_number request.now) }
 {

@@ -1,4 +1,4 @@
-//! Why a line is no call.
+//! Why a line isn't a call.
 ghost use Rattle.std.specs.Prelude.{◌≡◌};
 ghost use Rattle.sb_calls.specs.declared.text.fault.CallFault.TheVariants as faults;
 ghost use Rattle.sb_calls.specs.Faults.{call_fault_number};
@@ -6,22 +6,22 @@ ghost use Rattle.sb_calls.specs.Faults.{call_fault_number};
 use sb_rows::WrongWords;
 use thiserror::Error;
 
-/// What is wrong with a line that is no call: the first fault in this order.
+/// The fault of a line that isn't a call: the first in this order.
 #[derive(Clone, Copy, Debug, PartialEq, Eq, Error)]
 pub enum CallFault {
-    /// The first word is no procedure's.
+    /// The first word names no procedure.
     #[error("unknown verb")]
     UnknownVerb,
     /// The procedure takes another number of words.
     #[error("wrong words")]
     WrongWords,
-    /// A word in a name's place is no name.
+    /// A word in the place of a name isn't a valid name.
     #[error("bad name")]
     BadName,
-    /// A word in an amount's place is no money text.
+    /// A word in the place of an amount isn't valid money text.
     #[error("bad money")]
     BadMoney,
-    /// A word in a client's or a request's place is no such number.
+    /// A word in the place of a client's or a request's number isn't a valid number.
     #[error("bad number")]
     BadNumber,
 }

@@ -4,8 +4,8 @@ ghost use Rattle.sb_calls.specs.Ask as spec;
 
 use sb_amount::is_canonical;
 
-/// The number that a text is, or `None` where the text isn't a number below 2^32 in decimal without
-/// leading zeros.
+/// The number that a text spells, or `None` if the text isn't a number below 2^32 in decimal
+/// without leading zeros.
 #[tactic(auto, unfolding(crate::specs::Ask::read_number))]
 pub fn read_number(text: &[u8]) -> Option<u32>
     ensures { result ≡ spec.read_number text.now }

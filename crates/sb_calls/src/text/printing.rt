@@ -1,4 +1,4 @@
-//! Replies in words.
+//! Replies as text.
 ghost use Rattle.std.specs.Prelude.{◌≡◌};
 ghost use Rattle.sb_calls.specs.Reply.{reply_text};
 
@@ -6,7 +6,7 @@ use crate::reply::Reply;
 use arrayvec::ArrayString;
 use sb_amount::print_total;
 
-/// The reply in words, as `shown 150.00` or `no customer`.
+/// The text of a reply, such as `shown 150.00` or `no customer`.
 pub fn print_reply(reply: Reply) -> ArrayString<32>
     ensures { result.bytes ≡ reply_text reply }
 {

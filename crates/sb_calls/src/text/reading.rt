@@ -16,19 +16,19 @@ use sb_rows::{Name, Words};
 ///
 /// Fails with the first fault of the line, in the order of [`CallFault`]'s variants.
 pub fn read_call(line: &[u8]) -> Result<Call, CallFault>
-    // What is read is spelled so.
+    // A line that is read spells the call.
     ensures spelled { IfOk result (λ call. IsCall call × (line.now ≡ call_line call)) }
-    // What is spelled so is read.
+    // A line that spells a call is read.
     ensures taken { (call : AnyCall) → IsCall call → line.now ≡ call_line call → result ≡ Ok call }
-    // Which fault it is.
+    // The result, exactly.
     ensures exact { result ≡ call_of line.now }
 {
     read_call_words(Words::of(line))
 }
 
-/// The call that the words that are left on a line spell, all of them.
+/// The call that all remaining words of a line spell.
 ///
-/// Fails as [`read_call`] does, and with `UnknownVerb` where no word is left.
+/// Fails as [`read_call`] does, and with `UnknownVerb` if no word is left.
 pub fn read_call_words(mut words: Words) -> Result<Call, CallFault>
     ensures { result ≡ call_of_words words.entry }
 {
@@ -36,7 +36,7 @@ pub fn read_call_words(mut words: Words) -> Result<Call, CallFault>
     call_with(verb, words)
 }
 
-// The call with a verb, and the words after the verb.
+// The call with a verb and the words after it.
 pub(crate) fn call_with(verb: &[u8], words: Words) -> Result<Call, CallFault>
     ensures { result ≡ call_of_words (verb.now ∷ words.entry) }
 {
@@ -66,7 +66,7 @@ pub(crate) fn call_with(verb: &[u8], words: Words) -> Result<Call, CallFault>
     Err(CallFault::UnknownVerb)
 }
 
-// The one name that is left, whatever call it is for.
+// The one remaining name. It serves every call that takes a name.
 #[inline]
 fn one_name(words: Words) -> Result<Name, CallFault>
     ensures { (call : List ℕ → AnyCall)
@@ -76,7 +76,7 @@ fn one_name(words: Words) -> Result<Name, CallFault>
     name_of(name)
 }
 
-// The name and the amount that are left, whatever call they are for.
+// The remaining name and amount. It serves every call that takes both.
 #[inline]
 fn name_and_amount(mut words: Words) -> Result<(Name, Cents), CallFault>
     ensures { (call : List ℕ → ℤ → AnyCall)
@@ -87,7 +87,7 @@ fn name_and_amount(mut words: Words) -> Result<(Name, Cents), CallFault>
     Ok((name_of(name)?, amount_of(amount)?))
 }
 
-// The two names that are left, whatever call they are for.
+// The two remaining names. It serves every call that takes two names.
 #[inline]
 fn two_names(mut words: Words) -> Result<(Name, Name), CallFault>
     ensures { (call : List ℕ → List ℕ → AnyCall)
@@ -98,7 +98,7 @@ fn two_names(mut words: Words) -> Result<(Name, Name), CallFault>
     Ok((name_of(from)?, name_of(to)?))
 }
 
-// The two names and the amount that are left, whatever call they are for.
+// The remaining two names and amount. It serves every call that takes all three.
 #[inline]
 fn two_names_and_amount(mut words: Words) -> Result<(Name, Name, Cents), CallFault>
     ensures { (call : List ℕ → List ℕ → ℤ → AnyCall)
@@ -109,7 +109,7 @@ fn two_names_and_amount(mut words: Words) -> Result<(Name, Name, Cents), CallFau
     Ok((name_of(from)?, name_of(to)?, amount_of(amount)?))
 }
 
-// The name that a word is.
+// The name that a word spells.
 #[inline]
 fn name_of(word: &[u8]) -> Result<Name, CallFault>
     ensures { result ≡ if is_name word.now then Ok word.now else Err CallFault.BadName }
@@ -117,7 +117,7 @@ fn name_of(word: &[u8]) -> Result<Name, CallFault>
     Name::new(word).ok_or(CallFault::BadName)
 }
 
-// The amount that a word is.
+// The amount that a word spells.
 #[inline]
 fn amount_of(word: &[u8]) -> Result<Cents, CallFault>
     ensures { (call : ℤ → AnyCall)

@@ -8,7 +8,7 @@ front-is : (list : List ℕ) (number : ℕ) → slice_get list 0 ≡ Some number
 front-is [] number e = cc
 front-is (first ∷ rest) number e = let same : first ≡ number = cc in (rest, ap (λ n. n ∷ rest) same)
 
--- one cown more at which the number is in front
+-- one more cown at which the number is in front
 IsInFront-push : (number : ℕ) (cowns : List ℕ) (cown : ℕ) (lists : List (List ℕ)) → IsInFront number cowns lists
     → slice_get (list_of lists cown) 0 ≡ Some number → IsInFront number (cowns ++ cown ∷ []) lists
 IsInFront-push number [] cown lists front e = (front-is (list_of lists cown) number e, tt)

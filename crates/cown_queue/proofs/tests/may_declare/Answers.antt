@@ -3,7 +3,7 @@ use Rattle.sb_calls.specs.Cowns.{AreBelow, IsRising}
 use Rattle.cown_queue.proofs.Changes.{take-cown}
 use Rattle.cown_queue.proofs.tests.may_declare.Goals as goal
 
--- one cown more below a bound
+-- one more cown below a bound
 AreBelow-push : (bound : ℕ) (cowns : List ℕ) (cown : ℕ) → AreBelow bound cowns → cown < bound → AreBelow bound (cowns ++ cown ∷ [])
 AreBelow-push bound [] cown below l = (l, tt)
 AreBelow-push bound (first ∷ cowns) cown below l = (below.0, AreBelow-push bound cowns cown below.1 l)
@@ -13,7 +13,7 @@ AreBelow-more : (low high : ℕ) (cowns : List ℕ) → low ≤ high → AreBelo
 AreBelow-more low high [] l below = tt
 AreBelow-more low high (cown ∷ cowns) l below = (omega (arith, below.0), AreBelow-more low high cowns l below.1)
 
--- a cown above all others goes last
+-- a cown above all others comes last
 IsRising-push : (cowns : List ℕ) (cown : ℕ) → IsRising cowns → AreBelow cown cowns → IsRising (cowns ++ cown ∷ [])
 IsRising-push [] cown rising below = tt
 IsRising-push (first ∷ []) cown rising below = (below.0, tt)

@@ -1,4 +1,4 @@
--- Where the crew keeps nothing and nothing was out, nothing is unfinished once nothing is ready.
+-- If the crew keeps nothing and nothing was out, nothing is unfinished once nothing is ready.
 use Rattle.std.proofs.Common.{◌≡◌, sym, ◌∙◌}
 use Rattle.std.proofs.lemmas.Bool.{true≢false}
 use Rattle.std.proofs.lemmas.Result.{err_from_is_err_and}

@@ -1,4 +1,4 @@
--- What was just handed out, and comes back, is finished at once.
+-- An op that was just handed out and comes back is finished at once.
 use Rattle.std.proofs.Common.{sym, ◌∙◌, arith}
 use Rattle.sb_calls.specs.Behaviour.{declared_cowns, effect_of}
 use Rattle.cown_workers.proofs.CarryingOut.{CarriesOut, accepts, carried, no_refusal, ran_in_place}

@@ -1,4 +1,4 @@
--- One more gave its pass back.
+-- One more thread returned its pass.
 use Rattle.std.proofs.Common.{[], ◌∷◌, ◌++◌, arith}
 use Rattle.std.proofs.lemmas.List.Elements.{All-push}
 use Rattle.std.specs.Vec.Iter.{into_iter_items}

@@ -1,4 +1,4 @@
--- Each thread so far gave a pass of the bench that it promised, whose last pick is a `Stop`.
+-- Each thread so far returned a pass of the bench that it promised, whose last pick is a `Stop`.
 use Rattle.std.proofs.Common.{◌≡◌, ◌+◌, ◌≤◌, List, ◌++◌, length, map, vec_capacity}
 use Rattle.std.specs.Vec.Iter.{into_iter_items}
 use Rattle.std.specs.List.{All}

@@ -1,4 +1,4 @@
--- Each thread is that of a worker at the bench.
+-- Each thread belongs to a worker at the bench.
 use Rattle.std.proofs.Common.{◌≡◌, ◌≤◌, ◌++◌, length, vec_capacity}
 use Rattle.std.specs.Prelude.{All}
 use Rattle.std.specs.Vec.Iter.{into_iter_items}

@@ -1,4 +1,4 @@
--- What is unsent is what was done.
+-- What is unsent is the result.
 use Rattle.std.proofs.Common.{◌≡◌}
 use Rattle.cown_workers.proofs.worker.hand_over.Given as goal
 

@@ -27,7 +27,7 @@ write_cowns-requires-clause-values c =
     let outputs : c.deref-4.result.now ≡ (effect_of c.args.op inputs).1 = cc in
     rw (cowns, outputs) (effect_keeps c.args.op inputs (declared_held c.args.columns.now c.args.op c.customers.ensures.valid c.requires))
 
--- what is held after it
+-- what is held afterwards
 written : (c : goal.Else-prove-2) → let inputs = read_cowns (held_of c.args.columns.now) (declared_cowns c.args.op) in
     held_of c.write_cowns.new.columns ≡ write_cowns (held_of c.args.columns.now) (declared_cowns c.args.op) (effect_of c.args.op inputs).1
 written c = cc

@@ -1,4 +1,4 @@
--- Two bytes, the highest first, are one number in std's words and in byteorder's.
+-- Two bytes, the highest first, are the same number for std and for byteorder.
 use Rattle.std.proofs.Common.{arith, lit<}
 use Rattle.std.proofs.lemmas.List.{get_or-take}
 use Rattle.sb_frames.specs.Decoding.{stated_length}

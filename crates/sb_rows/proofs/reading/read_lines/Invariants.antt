@@ -5,7 +5,7 @@ use Rattle.sb_rows.specs.Rows.{SameCustomers}
 use Rattle.sb_rows.specs.Text.{lines, after_lines}
 use Rattle.sb_rows.proofs.reading.read_lines.Given as goal
 
--- the lines so far are those of the customers so far, and the rest is still to be read
+-- the lines so far are those of the customers so far; the rest is unread
 abbrev pub invariant-loop-line : goal.invariant-loop-line
 invariant-loop-line l = record {
   same : SameCustomers l.directory l.columns;

@@ -36,7 +36,7 @@ returns-else-is_err-clause-answer c =
     let last : c.index-calls.result ≡ length log = c.index-calls.ensures ∙ ap length same in
     (absent_from_map log c.args.key absent, c.requires.calls, ap (λ n. n + 1) last)
 
--- no memory for its answer
+-- refused memory for its answer
 pub returns-then-is_err-clause-answer : goal.returns-then-is_err-clause-answer
 unfolding entry_value
 returns-then-is_err-clause-answer c =
@@ -54,6 +54,6 @@ returns-else-is_err-clause-log c =
     (ap (λ e. (map_with_value e c.args.call.now).entries) (sym is) ∙ c.in-Ok-Vacant.ensures.update.1 c.args.call.now) in
     search rules
 
--- no memory for a new key
+-- refused memory for a new key
 pub returns-in-Err-clause-answer : goal.returns-in-Err-clause-answer
 returns-in-Err-clause-answer c = (absent_from_map c.args.log.now.entries c.args.key c.in-Err.ensures.absent, c.requires.calls)

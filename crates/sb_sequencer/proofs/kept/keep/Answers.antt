@@ -2,7 +2,7 @@ use Rattle.std.proofs.Common.{◌<◌, [], ◌∷◌, ◌++◌, length, slice_se
 use Rattle.sb_sequencer.proofs.Padding.{keeping_first, keeping_again, keeping_compared}
 use Rattle.sb_sequencer.proofs.kept.keep.Goals as goal
 
--- nothing was kept so far up
+-- nothing was kept that far up
 pub returns-then-len-place-clause-items : goal.returns-then-len-place-clause-items
 returns-then-len-place-clause-items c =
     let first = keeping_first c.args.place c.args.kept.now.items (Some c.args.reply) (omega (arith, c.len.ensures, c.if-len-place.true)) in

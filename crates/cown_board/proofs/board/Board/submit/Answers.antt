@@ -22,11 +22,10 @@ invariant_of-self-2 g c =
     let room = c.make_room.ensures in
     let links = c.self.inside.links in
     let new = c.submit.new.self in
-    let declared : c.as_slice.result.now ≡ touches c.args.behaviour = c.as_slice.ensures.value ∙ c.cowns-cowns.ensures in
     let place : c.len-place.result ≡ length c.self.inside.log.items = omega (arith, c.len-place.ensures, room.log.1, c.self.inside.log.ok) in
     let below : AreBelow (length (held_of c.self.inside.opening)) (touches c.args.behaviour) =
     subst (λ (v : BoardOf g.row.B.Denot). AreBelow (length (held_of v.opening)) (touches c.args.behaviour)) (sym c.self.view_is) c.requires in
-    let put : links.linked ≡ true → Stands c.len-place.result c.as_slice.result.now links new = search rules in
+    let put : links.linked ≡ true → Stands c.len-place.result (touches c.args.behaviour) links new = search rules in
     let stay : links.linked ≡ false → Stay links new × ((c.self.inside.unfinished + 1) * 3 ≤ new.queues.places) = search rules in
     let counts : c.len-place.result + 1 ≤ vec_capacity new.ready.behind = search rules in
     let wide : c.self.inside.unfinished + 1 + 3 ≤ deque_capacity new.ready.ready = search rules in
@@ -34,7 +33,7 @@ invariant_of-self-2 g c =
     (c.push_reserved.ensures.items ∙ ap (λ (xs : List g.row.B.Denot). xs ++ c.args.behaviour ∷ []) room.log.0)
     (c.push_reserved-2.ensures.items ∙ ap (λ xs. xs ++ Waiting ∷ []) room.states.0)
     (links_submitted touches effect c.self.invariant c.args.behaviour new below c.submit.ensures.linked
-    (λ is. subst (λ n. Stands n (touches c.args.behaviour) links new) place (subst (λ cs. Stands c.len-place.result cs links new) declared (put is)))
+    (λ is. subst (λ n. Stands n (touches c.args.behaviour) links new) place (put is))
     stay (omega (arith, counts, place)) wide)
     c.if-self-eq-OPEN_BEHAVIOURS.false
     (λ full. c.if-self-len-eq-LOG_CALLS.false (omega (arith, full, c.len.ensures, c.self.inside.log.ok)))

@@ -1,4 +1,4 @@
--- the ones so far are linked, as if all of them from the first on waited
+-- the behaviours so far are linked, as if all from the first on waited
 use Rattle.std.proofs.Common.{◌≡◌, ◌+◌, ◌-◌, ◌*◌, ◌≤◌, length, take, vec_capacity}
 use Rattle.std.specs.VecDeque.{deque_len, deque_capacity}
 use Rattle.cown_queue.specs.Queues.{held_in}

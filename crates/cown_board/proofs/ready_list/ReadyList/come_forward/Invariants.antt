@@ -4,7 +4,7 @@ use Rattle.std.specs.VecDeque.{deque_len, deque_capacity}
 use Rattle.cown_board.specs.Due.{AreDue, times}
 use Rattle.cown_board.proofs.ready_list.ReadyList.come_forward.Given as goal
 
--- those so far have stepped forward
+-- the places so far have stepped forward
 abbrev pub invariant-loop-place : goal.invariant-loop-place
 invariant-loop-place l = record {
   beside : length l.self.behind.items ≡ length l.fn.self.behind.items;

@@ -24,7 +24,7 @@ push_reserved-requires c =
     c.index-ends.ensures c.requires in
     omega (arith, fewer, c.self.inside.free.ok)
 
--- the tickets after it
+-- the tickets after a number is removed
 pops : (c : After-push_reserved)
     → Becomes c.self.inside.table.items
     (set c.self.inside.ends.items c.number-2.result (record { first = c.index.result.now.next; last = c.if-next.last }))

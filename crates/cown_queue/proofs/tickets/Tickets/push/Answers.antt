@@ -21,7 +21,7 @@ index_mut-requires c =
     let below = free_within c.self.invariant.linked c.take_last-place.new.self.items c.take_last-place.result c.take_last-place.ensures.items in
     omega (arith, below, c.self.inside.table.ok)
 
--- the tickets after it, where it is the first at its cown
+-- the tickets after a number is appended, if it is the first at its cown
 pushes : (c : After-index_mut-then-ends)
     → Becomes (set c.self.inside.table.items c.take_last-place.result (record { number = c.args.number; next = NONE }))
     (set c.self.inside.ends.items c.number-then-ends.result (record { first = c.take_last-place.result; last = c.take_last-place.result }))
@@ -50,7 +50,7 @@ pub index_mut-requires-else-ends : goal.index_mut-requires-else-ends
 index_mut-requires-else-ends c =
     let below = last (goal.at.index_mut-requires-else-ends c).After-index-ends c.if-ends.false in omega (arith, below, c.self.inside.table.ok)
 
--- where others are before it
+-- the same if others are before it
 pushes_behind : (c : After-index_mut-else-ends-2) → c.index-ends.result.now.last < length c.self.inside.table.items
     → Becomes
     (set (set c.self.inside.table.items c.take_last-place.result (record { number = c.args.number; next = NONE })) c.index-ends.result.now.last

@@ -1,4 +1,4 @@
--- What is picked with its hands is picked by the owner.
+-- A pick with its hands is a pick of the owner.
 use Rattle.cown_workers.proofs.Picking.{picks_itself, picks_no_job}
 use Rattle.std.proofs.lemmas.Option.{IfSome_then}
 use Rattle.cown_workers.proofs.bench_crew.BenchCrew.help.Goals as goal

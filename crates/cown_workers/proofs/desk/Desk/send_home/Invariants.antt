@@ -1,4 +1,4 @@
--- So many are laid out so far.
+-- This many are laid out so far.
 use Rattle.std.proofs.Common.{◌≡◌, ◌++◌, replicate}
 use Rattle.cown_bench.specs.declared.work.Work.TheVariants.{Stop}
 use Rattle.cown_workers.proofs.desk.Desk.send_home.Given as goal

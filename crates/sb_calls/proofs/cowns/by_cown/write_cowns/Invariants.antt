@@ -2,7 +2,7 @@ use Rattle.std.proofs.Common.{◌≡◌, length, drop}
 use Rattle.sb_calls.specs.Cowns.{AreBelow, AreHeld, held_of, write_cowns}
 use Rattle.sb_calls.proofs.cowns.by_cown.write_cowns.Given as goal
 
--- what is left to write leads where writing all does
+-- writing the rest leads to the same as writing everything
 abbrev pub invariant-loop-place : goal.invariant-loop-place
 invariant-loop-place l = record {
   told : write_cowns (held_of l.columns) (drop l.place l.cowns) (drop l.place l.values) ≡ write_cowns (held_of l.fn.columns) l.cowns l.values;

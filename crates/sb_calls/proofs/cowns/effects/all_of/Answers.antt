@@ -4,7 +4,7 @@ use Rattle.std.specs.Option.{SomeIff}
 use Rattle.sb_amount.specs.Limit.{IsWithinLimit}
 use Rattle.sb_calls.proofs.cowns.effects.all_of.Goals as goal
 
--- three amounts added up, as 64 bits have them
+-- the sum of three amounts, in 64 bits
 sum_of_three : (r s c u v w : ℤ) → IsWithinLimit r → IsWithinLimit s → IsWithinLimit c → u ≡ r → v ≡ s → w ≡ c
     → to_z w64 (of_z w64 (to_z w64 (of_z w64 (to_z w64 (of_z w64 u) +ℤ to_z w64 (of_z w64 v))) +ℤ to_z w64 (of_z w64 w))) ≡ (r +ℤ s) +ℤ c
 sum_of_three r s c u v w first second third is_r is_s is_c =

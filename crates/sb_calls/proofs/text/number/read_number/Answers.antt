@@ -1,4 +1,4 @@
--- A digit makes the number ten times as large and adds its value.
+-- A digit multiplies the number by ten and adds its value.
 use Rattle.std.proofs.Common.{◌≡◌, true, get_or, take, sym, ◌∙◌, arith}
 use Rattle.std.specs.Char.{is_ascii_digit}
 use Rattle.std.specs.List.{list_all}

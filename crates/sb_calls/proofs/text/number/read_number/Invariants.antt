@@ -4,7 +4,7 @@ use Rattle.std.specs.List.{list_all}
 use Rattle.std.specs.Str.Parse.{digits_value}
 use Rattle.sb_calls.proofs.text.number.read_number.Given as goal
 
--- the bytes so far are digits, and what they spell, up to the greatest `u64`
+-- the bytes so far are digits, and the number is what they spell, capped at the greatest `u64`
 abbrev pub invariant-loop-byte : goal.invariant-loop-byte
 invariant-loop-byte l = record {
   digits : list_all is_ascii_digit (take l.byte-index l.text) ≡ true;

@@ -9,7 +9,7 @@ use Rattle.sb_checkpoint.proofs.layout.Layout.of.Goals as goal
 none : Option Layout
 none = None
 
--- by whether the front goes on as each magic does
+-- by whether the front continues as each magic does
 by_front : (bytes : List ℕ) (front : ℕ) (first second : Bool) → front ≡ min 8 (length bytes)
     → first ≡ starts_with nat_eq (magic First) (take front bytes) → second ≡ starts_with nat_eq (magic Second) (take front bytes)
     → cond first (Some First) (cond second (Some Second) none) ≡ stated_layout bytes

@@ -8,7 +8,7 @@ use Rattle.sb_calls.specs.declared.call.TheConstants.{LOG_CALLS}
 use Rattle.sb_checkpoint.specs.Checkpoint.{Second, magic, spelling}
 use Rattle.sb_checkpoint.proofs.writing.Draft.begin.Goals as goal
 
--- what was written goes on by a field
+-- what was written continues with a field
 goes_on : (whole front wanted field wanted_field : List ℕ) → whole ≡ front ++ field → front ≡ wanted → field ≡ wanted_field
     → whole ≡ wanted ++ wanted_field
 goes_on whole front wanted field wanted_field is same same_field = is ∙ ap₂ (λ (xs ys : List ℕ). xs ++ ys) same same_field

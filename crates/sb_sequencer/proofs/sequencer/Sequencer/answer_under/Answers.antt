@@ -5,7 +5,7 @@ use Rattle.sb_sequencer.specs.Numbering.{IsLog}
 use Rattle.sb_sequencer.proofs.Keys.{place_from_entry}
 use Rattle.sb_sequencer.proofs.sequencer.Sequencer.answer_under.Goals as goal
 
--- the key stands at the place
+-- the key is at the place
 pub returns-then-found-key-2-clause-answer : goal.returns-then-found-key-2-clause-answer
 returns-then-found-key-2-clause-answer c =
     let log = c.args.self.now.log in
