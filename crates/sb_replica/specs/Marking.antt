@@ -46,7 +46,7 @@ module _ {S : Type 0} (does : S → StoreStep → S → Type 0) where
   PutsBytes old bytes new = (puts : Puts old (Ok tt) new) × (puts.bytes ≡ bytes)
 
   -- a marked entry is unfinished and nothing changes; or the store failed; or memory was refused,
-  -- by the store or before it was used
+  -- to the store or before it was used
   abbrev pub IsMarkFaultOf : ReplicaOf S → MarkFault → ReplicaOf S → Type 0
   IsMarkFaultOf old mark.Busy new = (open_of (up_to_cut old.board) ≢ 0) × (new ≡ old)
   IsMarkFaultOf old mark.Device new = Puts old (Err Device) new

@@ -33,7 +33,8 @@ abbrev pub stage_is : (Stage → Bool) → Option Stage → Bool
 stage_is test None = false
 stage_is test (Some stage) = test stage
 
--- an entry may run if it waits and no undone entry before it touches a balance that it touches
+-- an entry may run exactly if it waits, and no undone entry before it touches a balance that it
+-- touches
 abbrev pub may_run : BankOf → List Stage → ℕ → Bool
 may_run bank stages k =
     stage_is waits (slice_get stages k)
