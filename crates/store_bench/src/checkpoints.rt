@@ -17,7 +17,7 @@ use std::time::{Clock, Duration, Instant};
 /// Each customer's savings and checking balance.
 pub(crate) const BALANCES: &str = "1000.25 -200.75";
 
-/// Writes a checkpoint of the greatest size this often. The result is its size and the sum of its
+/// Writes a checkpoint of the greatest size this often. The result is its size and a sum over its
 /// bytes.
 pub fn write(clock: &impl Clock, alloc: Global, count: u32) -> Result<Measured, Fault>
     ensures { IfOk result (λ measured. measured.length ≡ size_of CUSTOMERS LOG_CALLS) }
