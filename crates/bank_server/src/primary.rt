@@ -122,8 +122,8 @@ impl<S: CheckpointStore> Primary<S> {
     /// Has node 0 execute the whole log.
     ///
     /// Fails with
-    /// - [`SessionFault::CrewGone`] if the crew leaves something unfinished, which one that keeps no
-    ///   job never does if none was out,
+    /// - [`SessionFault::CrewGone`] if the crew leaves something unfinished, which one that keeps
+    ///   no job never does if none was out,
     /// - [`SessionFault::OutOfMemory`] if memory is refused.
     ///
     /// The log stays, and node 0 may have executed more of it then.
@@ -148,8 +148,8 @@ impl<S: CheckpointStore> Primary<S> {
     /// unless followers listen.
     ///
     /// Fails with
-    /// - [`CrewFault::CrewGone`] if the crew leaves something unfinished, which one that keeps no job
-    ///   never does,
+    /// - [`CrewFault::CrewGone`] if the crew leaves something unfinished, which one that keeps no
+    ///   job never does,
     /// - [`CrewFault::OutOfMemory`] if memory is refused.
     pub fn finish<R: Wait, C: Crew>(
         self,
@@ -176,8 +176,8 @@ impl<S: CheckpointStore> Primary<S> {
     ///
     /// Fails with
     /// - [`SaveFault::Device`] if a put or a get fails,
-    /// - [`SaveFault::ReadBack`] if what is read back isn't what was put, which never happens with an
-    ///   honest store,
+    /// - [`SaveFault::ReadBack`] if what is read back isn't what was put, which never happens with
+    ///   an honest store,
     /// - [`SaveFault::OutOfMemory`] if memory is refused,
     /// - [`SaveFault::Busy`] exactly if node 0 has something unfinished.
     ///

@@ -25,7 +25,8 @@ const CHUNK: usize = 65_536;
 /// numbered and executed, but their client gets no outcome.
 ///
 /// Fails with
-/// - [`SessionFault::Frame`] if bytes come that no frame begins with, or the last frame isn't whole,
+/// - [`SessionFault::Frame`] if bytes come that no frame begins with, or the last frame isn't
+///   whole,
 /// - [`SessionFault::Unexpected`] if a frame comes that is neither an ask nor a flush,
 /// - [`SessionFault::CrewGone`] if the crew leaves something unfinished,
 /// - [`SessionFault::Device`] if a read or a write fails, or the client takes more than [`READS`]

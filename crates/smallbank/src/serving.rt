@@ -55,8 +55,9 @@ pub struct Served<S: CheckpointStore, W> {
 /// served.
 ///
 /// Fails with
-/// - [`ServeFault::Run`] if a follower can't be started or differs from node 0, the crew is gone, no
-///   client can be let in, a write to the writer or the store's device fails, or memory is refused,
+/// - [`ServeFault::Run`] if a follower can't be started or differs from node 0, the crew is gone,
+///   no client can be let in, a write to the writer or the store's device fails, or memory is
+///   refused,
 /// - [`ServeFault::ReadBack`] if the store doesn't give back what was put.
 ///
 /// After a fault the rows aren't printed.

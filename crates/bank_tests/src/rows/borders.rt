@@ -3,15 +3,15 @@ use sb_rows::{Name, Words};
 use std::alloc::Global;
 use std::process::Abort;
 
-// A case of this length, with something at this place, comes out as it has to.
+// Checks one case of this length, with something at this place.
 fn expect_at(rt: &impl Abort, holds: bool, length: usize, place: usize) {
     assert!(rt; holds, "{length} {place}");
 }
 
-// Bytes that are no spaces, some of them a bit away from one.
+// Bytes that aren't spaces; some differ from one by a bit.
 const NO_SPACES: &[u8] = &[b'a', 0xa0, b'!', 0x1f, 0xff, b'0', 0x60];
 
-// A line of this length with spaces at these places alone.
+// A line of this length, with spaces only at these places.
 fn line_of(rt: &impl Abort, alloc: Global, length: usize, spaces: &[usize]) -> Vec<u8> {
     let mut line = Vec::new(alloc);
     for place in 0..length {
@@ -22,7 +22,7 @@ fn line_of(rt: &impl Abort, alloc: Global, length: usize, spaces: &[usize]) -> V
     line
 }
 
-// A line has the words that std splits it into.
+// Checks that a line has the words that std splits it into.
 fn expect_split(rt: &impl Abort, line: &[u8], place: usize) {
     let mut words = Words::of(line);
     for wanted in line.split(|byte| *byte == b' ') {
@@ -31,7 +31,8 @@ fn expect_split(rt: &impl Abort, line: &[u8], place: usize) {
     expect_at(rt, words.next().is_none(), line.len(), place);
 }
 
-// Lines of this length with a space at each place, alone, before another, and between the first and the last byte.
+// Checks lines of this length with a space at each place: alone, before another, and between the
+// first and the last byte.
 fn expect_splits(rt: &impl Abort, alloc: Global, length: usize) {
     expect_split(rt, line_of(rt, alloc, length, &[]).as_slice(), length);
     for place in 0..length {
@@ -56,7 +57,7 @@ fn spaces_at_each_place(rt: HostRuntime) {
     }
 }
 
-// A text of this length is a name with these bytes at a place, and no name with any other there.
+// Checks which bytes at a place make a text of this length a name, and which don't.
 fn expect_name_bytes(rt: &impl Abort, length: usize, place: usize) {
     assert!(rt; place < 21);
     assert!(rt; length <= 21);
