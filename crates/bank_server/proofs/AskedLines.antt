@@ -28,12 +28,12 @@ pub asks_from-fault : (first : ℕ) (before : List Asked) (line : List ℕ) (ls 
 unfolding asks_from
 asks_from-fault first before line ls fault e = ap (λ r. at_line (first + length before) r >>= λ a. asks_from first (before ++ a ∷ []) ls) e
 
--- with no line left those before are all
+-- if no line is left, those before are all
 pub asks_from-end : (first : ℕ) (before : List Asked) → asks_from first before [] ≡ Ok before
 unfolding asks_from
 asks_from-end first before = refl
 
--- the lines under their keys, with one more
+-- the lines with their keys, and one more
 pub keyed-push : (asks : List Asked) (asked : Asked) (running : ℕ) (log : List (Key × Call)) → IsAfter asks running log
     → keyed (asks ++ asked ∷ []) ≡ keyed asks ++ (key_of_line running asked.key, asked.call) ∷ []
 keyed-push asks asked running log after =
@@ -53,7 +53,7 @@ map_push : {A B : Type 0} (f : A → B) (xs : List A) (x : A) → map f (xs ++ x
 map_push f [] x = refl
 map_push f (y ∷ xs) x = ap (λ rest. f y ∷ rest) (map_push f xs x)
 
--- the standings with one more
+-- the standings, with one more
 pub standings_push : (asks : List Asked) (asked : Asked) (running : ℕ) (log new : List (Key × Call)) (standings : List Standing) (standing : Standing)
     → IsAfter asks running log
     → new ≡ first_asks (keyed asks ++ (key_of_line running asked.key, asked.call) ∷ []) → standing ≡ standing_of new (key_of_line running asked.key, asked.call)
@@ -70,7 +70,7 @@ pub log_of-nil : log_of [] ≡ []
 unfolding first_asks
 log_of-nil = refl
 
--- the running number grows by one at most
+-- the running number grows by at most one
 pub running_after_le : (running : ℕ) (key : Option Key) → running_after running key ≤ running + 1
 running_after_le running None = omega arith
 running_after_le running (Some key) = omega arith

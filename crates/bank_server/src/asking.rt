@@ -108,7 +108,7 @@ fn next_running(running: u64, key: Option<Key>) -> u64
     }
 }
 
-// Asks for one line, where the next line without a key has this running number.
+// Asks for one line, if the next line without a key has this running number.
 fn ask<S: CheckpointStore>(
     primary: &mut Primary<S>,
     running: u64,
@@ -126,9 +126,9 @@ fn ask<S: CheckpointStore>(
     }
 }
 
-/// Asks for a call under a key, and answers how the ask stands in the log.
+/// Asks for a call under a key, and answers the standing of the ask in the log.
 ///
-/// Fails where memory is refused; nothing changes then.
+/// Fails if memory is refused; nothing changes then.
 pub(crate) fn ask_key(
     sequencer: &mut Sequencer,
     key: Key,
@@ -150,7 +150,7 @@ pub(crate) fn ask_key(
     }
 }
 
-// The key of a line, or `None` where the running number passes what a request can be.
+// The key of a line, or `None` if the running number is beyond what a request can be.
 fn key_of(running: u64, key: Option<Key>) -> Option<Key>
     ensures { MatchOption result
         ((key ≡ None) × (2 ^ 32 ≤ running))

@@ -170,7 +170,7 @@ fn number<S: CheckpointStore>(
     ensures err { OnErr result (primary.new.log ≡ primary.old.log) }
     ensures fault { IfErr result (λ fault. fault ≡ faults.OutOfMemory) }
 {
-    // Its place is there before it has a number.
+    // Its place is reserved before it has a number.
     waiting.reserve(1)?;
     let standing = primary.ask(key, call)?;
     waiting.push_reserved(Waiting { key, standing });

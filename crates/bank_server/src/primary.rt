@@ -92,9 +92,9 @@ impl<S: CheckpointStore> Primary<S> {
         &self.node
     }
 
-    /// Asks for a call under a key, and answers how the ask stands in the log.
+    /// Asks for a call under a key, and answers the standing of the ask in the log.
     ///
-    /// Fails where memory is refused; nothing changes then.
+    /// Fails if memory is refused; nothing changes then.
     pub(crate) fn ask(&mut self, key: Key, call: &Call) -> Result<Standing, AllocError>
         ensures asked { IfOk result (λ standing. (asks : List (AnyKey × AnyCall)) → self.old.log ≡ first_asks asks
             → AsksOne asks (key, call.now) self.new.log standing) }

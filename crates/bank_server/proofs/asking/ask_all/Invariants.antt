@@ -7,7 +7,7 @@ use Rattle.bank_server.specs.Input.{asks_from}
 use Rattle.bank_server.specs.Standing.{standing_of}
 use Rattle.bank_server.proofs.asking.ask_all.Given as goal
 
--- there are the asks so far: with those of what is left they are all, and the log and the standings
+-- these are the asks so far: with those of what is left they are all, and the log and the standings
 -- are theirs
 abbrev pub invariant-loop-line : goal.invariant-loop-line
 invariant-loop-line g l = (asks : List Asked) × record {
