@@ -1,5 +1,5 @@
 -- A sequencer after one more ask.
-use Rattle.std.proofs.Common.{◌≡◌, ℕ, ◌≤◌, Option, None, Result, Ok, Err, List, [], ◌∷◌, ◌++◌, length, refl, ap, ◌∙◌, arith}
+use Rattle.std.proofs.Common.{◌≡◌, ℕ, ◌≤◌, Option, None, Result, Ok, Err, List, [], ◌∷◌, ◌++◌, length, ap, ◌∙◌, arith}
 use Rattle.std.proofs.lemmas.List.{length_push}
 use Rattle.sb_calls.specs.declared.ask.Key.{Key}
 use Rattle.sb_calls.specs.declared.call.Call.{Call}
@@ -58,13 +58,7 @@ asked_state old new recorded checkpoints kept after ask (Err fault) few e same =
   answers = padded (length (e j)) (same j);
 }
 
--- if the log stays, so does everything
-pub asked_stays : (s : SequencerOf) (ask : Key × Call) (result : Result Numbered AskFault) → LogAfter s.log ask result s.log → s ≡ after_ask s ask result
-asked_stays s ask (Ok (New n)) e = absurd (omega (arith, ap length e, length_push s.log ask))
-asked_stays s ask (Ok (Repeat n)) e = refl
-asked_stays s ask (Err fault) e = refl
-
--- a sequencer with its rooms is valid
+-- a sequencer with its rooms is one
 pub rooms_sequencer : (log : List (Key × Call)) (recorded checkpoints : List ℕ) (kept : List (Option Reply)) (room : ℕ)
     → HasRooms log recorded checkpoints kept room
     → IsSequencer (record { log = log; recorded = recorded; checkpoints = checkpoints; answers = padded (length log) kept })

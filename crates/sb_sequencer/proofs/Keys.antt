@@ -1,21 +1,21 @@
--- Keys by value, and the place of a key.
+-- Keys by value, and where one stands.
 use Rattle.std.proofs.Common.{◌≡◌, ℕ, ◌+◌, ◌<◌, ◌≤◌, Bool, true, false, true≢false, not, cond, nat_lt, Option, Some, None, is_some, unwrap_or, get_or, All, List, [], ◌∷◌, ◌++◌, length, map, position, slice_get, refl, sym, ap, ◌∙◌, arith}
 use Rattle.std.specs.List.{prefix_len, position_or_len}
 use Rattle.std.specs.Map.{keys_of, values_of, lookup}
 use Rattle.std.specs.Option.{option_map}
-use Rattle.std.proofs.lemmas.Bool.{false_from_ne_true, and_parts, and_from, eqb-true, eq-eqb, lt-ltb, ltb-false, or_parts, cond-true, cond-false}
+use Rattle.std.proofs.lemmas.Bool.{and_parts, and_from, eqb-true, eq-eqb, lt-ltb, ltb-false, or_parts, cond-true, cond-false}
 use Rattle.std.proofs.lemmas.List.{length-map}
 use Rattle.std.proofs.lemmas.List.Folds.{list_any_none, list_any_at}
 use Rattle.std.proofs.lemmas.List.Quantifiers.{position-Some}
-use Rattle.std.proofs.lemmas.List.Sums.{fails_before_first, position_or_len_is}
-use Rattle.std.proofs.lemmas.Option.{slice_get_within, get_or_from_slice_get, slice_get-get_or, slice_get-map}
+use Rattle.std.proofs.lemmas.List.Sums.{fails_before_first}
+use Rattle.std.proofs.lemmas.Option.{get_or_from_slice_get, slice_get-get_or, slice_get-map}
 use Rattle.indexmap.specs.IndexMap.{insert_entry}
 use Rattle.indexmap.proofs.MapLemmas.{some_index}
 use Rattle.sb_calls.specs.declared.ask.Key.{Key}
 use Rattle.sb_calls.specs.declared.call.Call.{Call}
-use Rattle.sb_sequencer.specs.Numbering.{same_key, has_key, place_of_key, IsLog}
+use Rattle.sb_sequencer.specs.Numbering.{same_key, has_key, place_of_key}
 
--- keys that the test finds equal are equal
+-- keys that the test finds the same are one
 pub same_key_same : (a b : Key) → same_key a b ≡ true → a ≡ b
 same_key_same a b e =
     let parts = and_parts _ _ e in
@@ -23,16 +23,16 @@ same_key_same a b e =
     let request : a.request ≡ b.request = eqb-true a.request b.request parts.1 in
     λ j. record { client = client j; request = request j }
 
--- and each key equals itself
+-- and each key is the same as itself
 pub same_key_itself : (a : Key) → same_key a a ≡ true
 same_key_itself a = and_from _ _ (eq-eqb a.client a.client refl) (eq-eqb a.request a.request refl)
 
--- a test of each element's image passes as far as the test does over the images
+-- a test of each element's image passes as far as the test passes over the images
 prefix_len-map : {X Y : Type 0} (f : X → Y) (test : Y → Bool) (xs : List X) → prefix_len test (map f xs) ≡ prefix_len (λ x. test (f x)) xs
 prefix_len-map f test [] = refl
 prefix_len-map f test (x ∷ xs) = ap (λ n. cond (test (f x)) (1 + n) 0) (prefix_len-map f test xs)
 
--- a key has the same place among the keys as its entry in the log
+-- a key stands among the keys where its entry stands
 place_of_key-keys : (log : List (Key × Call)) (key : Key) → position (same_key key) (keys_of log) ≡ place_of_key log key
 place_of_key-keys log key =
     λ j. let n = prefix_len-map (λ entry. entry.0) (λ other. not (same_key key other)) log j in
@@ -44,7 +44,7 @@ pub place_from_map : (entries log : List (Key × Call)) (key : Key) (found : Opt
 place_from_map entries log key found same is =
     ap (λ xs. place_of_key xs key) (sym same) ∙ sym (place_of_key-keys entries key) ∙ sym is
 
--- the index that a map gives a key, if it is within the log, is the key's place
+-- the index that a map gives a key, where it is within the log, is the key's place
 pub place_from_index : (log : List (Key × Call)) (key : Key) (place : ℕ) → place ≡ position_or_len (same_key key) (keys_of log) → place < length log
     → place_of_key log key ≡ Some place
 place_from_index log key place is within =
@@ -62,19 +62,19 @@ pub absent_from_map : (log : List (Key × Call)) (key : Key) → lookup (same_ke
 absent_from_map log key e =
     sym (place_of_key-keys log key) ∙ none_if_not_some _ (some_index (same_key key) log ∙ ap is_some e)
 
--- what the test of a place says
+-- what the test of a place tells
 none_by_test : (b : Bool) (n : ℕ) → cond b (Some n) None ≡ None → b ≡ false
 none_by_test true n e = cc
 none_by_test false n e = refl
 
--- a key without a place belongs to no entry
+-- a key without a place is that of no entry
 pub absent_from_place : (log : List (Key × Call)) (key : Key) → place_of_key log key ≡ None → All (λ entry. same_key key entry.0 ≡ false) log
 absent_from_place log key e k d l =
     let test = λ (entry : Key × Call). same_key key entry.0 in
     let past : length log ≤ position_or_len test log = ltb-false _ _ (none_by_test (nat_lt (position_or_len test log) (length log)) _ e) in
     fails_before_first test log k d (omega arith)
 
--- the log has a key exactly if the key has a place
+-- a key stands in the log where it has a place
 pub has_key-place : (log : List (Key × Call)) (key : Key) → has_key log key ≡ is_some (place_of_key log key)
 has_key-place [] key = refl
 has_key-place (first ∷ rest) key = by (place_of_key (first ∷ rest) key) refl
@@ -85,7 +85,7 @@ has_key-place (first ∷ rest) key = by (place_of_key (first ∷ rest) key) refl
         let there = position-Some (λ entry. same_key key entry.0) (first ∷ rest) place first e in
         list_any_at (λ entry. same_key key entry.0) (first ∷ rest) place first there.0 there.1
 
--- the entry that a map finds for a key is at the key's place, and has the key
+-- the entry that a map finds for a key stands at the key's place, and has the key
 pub entry_from_map : (entries log : List (Key × Call)) (key stored : Key) (call : Call) (place : ℕ) → entries ≡ log
     → Some place ≡ position (same_key key) (keys_of entries) → slice_get entries place ≡ Some (stored, call)
     → (place_of_key log key ≡ Some place) × (slice_get log place ≡ Some (key, call))
@@ -109,22 +109,7 @@ entry_from_value log key call place e is =
     let one : key ≡ entry.0 = same_key_same key entry.0 there.1 in
     at ∙ (λ j. Some (sym one j, numbered_is j))
 
--- the entry at a place of a log, which has each key once, is at its key's place
-pub place_from_entry : (log : List (Key × Call)) (key : Key) (call : Call) (place : ℕ) → IsLog log → slice_get log place ≡ Some (key, call)
-    → place_of_key log key ≡ Some place
-place_from_entry log key call place is at =
-    let test = λ (entry : Key × Call). same_key key entry.0 in
-    let within : place < length log = slice_get_within log place (key, call) at in
-    let here : get_or log place (key, call) ≡ (key, call) = get_or_from_slice_get log place (key, call) (key, call) at in
-    let before : (k : ℕ) → k < place → test (get_or log k (key, call)) ≡ false =
-    λ k l. false_from_ne_true _ (λ same.
-        is.different k place (key, call) l within (sym (same_key_same key (get_or log k (key, call)).0 same) ∙ ap (λ (entry : Key × Call). entry.0) (sym here))) in
-    let first : position_or_len test log ≡ place =
-    position_or_len_is test log place (key, call) (omega arith) before (λ _. ap test here ∙ same_key_itself key) in
-    cond-true (nat_lt (position_or_len test log) (length log)) (Some (position_or_len test log)) None (lt-ltb _ _ (omega (arith, first, within)))
-    ∙ ap Some first
-
--- a map appends a new key
+-- a map puts a new key last
 pub insert_entry-last : (log : List (Key × Call)) (key : Key) (call : Call) → has_key log key ≡ false
     → insert_entry same_key log key call ≡ log ++ (key, call) ∷ []
 insert_entry-last [] key call e = refl
@@ -132,7 +117,7 @@ insert_entry-last (entry ∷ log) key call e =
     let parts = or_parts (same_key key entry.0) (has_key log key) e in
     cond-false (same_key key entry.0) _ _ parts.0 ∙ ap (λ rest. entry ∷ rest) (insert_entry-last log key call parts.1)
 
--- also if it holds the log as its entries
+-- also where it holds the log as its entries
 pub pushed_in_map : (entries after log : List (Key × Call)) (key : Key) (call : Call) → entries ≡ log → place_of_key log key ≡ None
     → after ≡ insert_entry same_key entries key call → after ≡ log ++ (key, call) ∷ []
 pushed_in_map entries after log key call same new is =

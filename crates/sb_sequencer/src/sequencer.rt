@@ -7,7 +7,7 @@ ghost use Rattle.sb_sequencer.specs.Answer.{IsAnswered, LogAfter, Numbers};
 ghost use Rattle.sb_sequencer.specs.Entries.{entries_after, entry_of, resent};
 ghost use Rattle.sb_sequencer.specs.Log.{log_with};
 ghost use Rattle.sb_sequencer.specs.Notes.{IsAnswerNote, after_ack, after_answer, answer_of, hears_ack};
-ghost use Rattle.sb_sequencer.specs.Numbering.{IsLog, call_at, number_of};
+ghost use Rattle.sb_sequencer.specs.Numbering.{IsLog, call_at};
 ghost use Rattle.sb_sequencer.specs.Sequencer.{IsSequencer, after_ask, opened};
 
 use crate::answer::{AskFault, Numbered};
@@ -165,63 +165,6 @@ impl Sequencer {
         }
         ask_with_room(&mut self.log, &mut self.kept, key, call)
     }
-
-    /// The number that a key has in the log, or `None` if it has none.
-    #[inline]
-    pub fn number_of(&self, client: u32, request: u32) -> Option<u64>
-        ensures { result ≡ number_of self.now.log (record { client = client; request = request }) }
-    {
-        let place = self.log.get_index_of(&Key { client, request })?;
-        Some(place as u64 + 1)
-    }
-
-    /// Asks as [`Sequencer::ask`] does, but first looks at this number, under which the key is
-    /// expected. If the key is there, the log isn't searched.
-    ///
-    /// Any number may be expected. If the key isn't there, the log is searched.
-    pub fn ask_expecting(
-        &mut self,
-        expected: Option<u64>,
-        client: u32,
-        request: u32,
-        call: &Call,
-    ) -> Result<Numbered, AskFault>
-        ensures answer { IsAnswered self.old.log (record { client = client; request = request }, call.now) result }
-        ensures log { LogAfter self.old.log (record { client = client; request = request }, call.now)
-            result self.new.log }
-        ensures state { self.new ≡ after_ask self.old (record { client = client; request = request }, call.now) result }
-        ensures step { result ≢ Err AskFault.OutOfMemory
-            → self.new.log ≡ log_with self.old.log (record { client = client; request = request }, call.now) }
-        ensures numbering { (asks : List (AnyKey × AnyCall))
-            → Numbers asks self.old.log (record { client = client; request = request }, call.now) result self.new.log }
-        ensures valid { IsSequencer self.new }
-    {
-        match self.answer_under(expected, Key { client, request }, call) {
-            Some(answer) => answer,
-            None => self.ask(client, request, call),
-        }
-    }
-
-    // The answer to an ask whose key has this number, or `None` if the key doesn't have it.
-    fn answer_under(
-        &self,
-        number: Option<u64>,
-        key: Key,
-        call: &Call,
-    ) -> Option<Result<Numbered, AskFault>>
-        ensures answer { IfSome result (λ answer. IsAnswered self.now.log (key, call.now) answer) }
-        ensures log { IfSome result (λ answer. LogAfter self.now.log (key, call.now) answer self.now.log) }
-        ensures valid { IfSome result (λ answer. IsSequencer self.now) }
-    {
-        let place = number?.checked_sub(1)? as usize;
-        let (found, numbered) = self.log.get_index(place)?;
-        if found.client == key.client && found.request == key.request {
-            Some(answered(place, numbered, call))
-        } else {
-            None
-        }
-    }
-
     /// The entry with this number, counted from 1, or `None` if there is none.
     pub fn entry(&self, number: u64) -> Option<Frame>
         ensures { result ≡ entry_of self.now.log number }
