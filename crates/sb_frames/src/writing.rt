@@ -22,8 +22,8 @@ use sb_rows::{NAME_BYTES, Name};
 pub(crate) type Body = ArrayVec<u8, MAX_BODY>;
 
 // How many bytes each field takes at most: a name with its length, cents, a call of a name and an amount
-// with its kind, any call (two names and an amount are the most), a reply with its code, an outcome with its status, and
-// a replica's number and a length behind their tag.
+// with its kind, any call (two names and an amount are the most), a reply with its code, an outcome with its
+// status, and a replica's number and a length behind their tag.
 const NAME_FIELD: usize = 1 + NAME_BYTES;
 
 const AMOUNT_FIELD: usize = 8;
