@@ -1,7 +1,7 @@
 -- A code and a total that are read as a reply spell it, and what they spell is read back.
-use Rattle.std.proofs.Common.{◌≡◌, ℕ, ℤ, pos, true, false, Bool, cond, eqb, Option, Some, None, refl, sym, ap, subst, ◌∙◌, arith, inl, inr}
+use Rattle.std.proofs.Common.{◌≡◌, ℕ, ℤ, pos, true, false, Bool, cond, eqb, Option, Some, None, refl, sym, subst, ◌∙◌, arith}
 use Rattle.std.specs.Ordering.{int_eq}
-use Rattle.std.proofs.lemmas.Bool.{cases_Bool, eqb-true}
+use Rattle.std.proofs.lemmas.Bool.{eqb-true}
 use Rattle.std.proofs.lemmas.Bool.Decides.{Decides-int_eq}
 use Rattle.std.proofs.lemmas.Int.{ints}
 use Rattle.sb_calls.specs.Replies.{IsTotal, IsReply, reply_code, shown_total, is_total, plain_reply, coded}

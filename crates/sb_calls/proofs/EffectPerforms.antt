@@ -19,7 +19,7 @@ use Rattle.sb_calls.proofs.Payments.{paid, performs_payment_negative, performs_p
 use Rattle.sb_calls.proofs.Places.{HasRow, HasRow-unread, with_savings, with_checking, checking_within}
 use Rattle.sb_calls.proofs.Procedures.{performs_balance, performs_negative, performs_over_limit, performs_deposit, performs_overdraft, performs_savings_over_limit, performs_savings, performs_check_negative, performs_check_over_limit, performs_check}
 use Rattle.sb_calls.proofs.Refusals.{performs_no_customer, performs_same_customer}
-use Rattle.sb_calls.specs.Behaviour.{cowns_of_two, checkings_of_two, declared_cowns, deposit_effect, savings_effect, check_effect, takes_too_much, giver_first_effect, taker_first_effect, payment, payer_first_effect, paid_first_effect, effect_of_two, payment_effect, effect_of}
+use Rattle.sb_calls.specs.Behaviour.{cowns_of_two, checkings_of_two, declared_cowns, deposit_effect, savings_effect, check_effect, takes_too_much, giver_first_effect, taker_first_effect, payer_first_effect, paid_first_effect, effect_of_two, payment_effect, effect_of}
 use Rattle.sb_calls.specs.BehaviourLaws.{of_payment}
 use Rattle.sb_calls.specs.ByCowns.{PerformsByCowns}
 use Rattle.sb_calls.specs.Cowns.{savings_cown, checking_cown, held_of, read_cowns, write_cowns}

@@ -1,5 +1,5 @@
 -- Each reply of a log run one by one has a spelling.
-use Rattle.std.proofs.Common.{◌≡◌, inl, inr, ℕ, zero, suc, ◌<◌, ℤ, pos, ◌+ℤ◌, Bool, true, false, Option, Some, None, List, [], ◌∷◌, length, get_or, take, sym, subst, arith}
+use Rattle.std.proofs.Common.{◌≡◌, inl, inr, ℕ, zero, suc, ℤ, pos, ◌+ℤ◌, Bool, true, false, Option, Some, None, List, [], ◌∷◌, length, take, sym, subst, arith}
 use Rattle.std.specs.Prelude.{◌==◌, nat_lt, neg_ℤ, ◌-ℤ◌, int_lt, if◌then◌else◌, slice_get, option_map}
 use Rattle.std.proofs.lemmas.Bool.{cases_lt}
 use Rattle.std.proofs.lemmas.Int.{ints}
@@ -7,10 +7,10 @@ use Rattle.std.proofs.lemmas.List.{get_or_past}
 use Rattle.sb_amount.specs.declared.cents.TheConstants.{LIMIT}
 use Rattle.sb_calls.specs.Behaviour.{declared_cowns, effect_of, of_one, of_two, of_three, deposit_effect, savings_effect, check_effect, takes_too_much, giver_first_effect, taker_first_effect, payment, payer_first_effect, paid_first_effect, effect_of_two, payment_effect}
 use Rattle.sb_calls.specs.BehaviourLaws.{effect_keeps, nothing_held, of_payment}
-use Rattle.sb_calls.specs.Cowns.{AllHeld, AreHeld, IsHeld, read_cowns, write_cowns, savings_cown, checking_cown}
-use Rattle.sb_calls.specs.OneByOne.{held_after, held_after_first, held_after_one, inputs_of, reply_of, reply_by_log}
+use Rattle.sb_calls.specs.Cowns.{AllHeld, AreHeld, IsHeld, read_cowns, savings_cown, checking_cown}
+use Rattle.sb_calls.specs.OneByOne.{held_after, held_after_first, held_after_one, reply_of, reply_by_log}
 use Rattle.sb_calls.specs.Procedures.{check_cost}
-use Rattle.sb_calls.specs.Replies.{IsReply, IsTotal}
+use Rattle.sb_calls.specs.Replies.{IsReply}
 use Rattle.sb_calls.specs.declared.op.Op.{Op}
 use Rattle.sb_calls.specs.declared.op.Op.TheVariants.{Balance, DepositChecking, TransactSavings, Amalgamate, WriteCheck, SendPayment, NoCustomer, SameCustomer}
 use Rattle.sb_calls.specs.declared.reply.Reply.{Reply}

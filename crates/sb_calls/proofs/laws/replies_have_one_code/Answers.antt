@@ -1,4 +1,4 @@
-use Rattle.std.proofs.Common.{sym, subst, ap, ◌∙◌}
+use Rattle.std.proofs.Common.{ap, ◌∙◌}
 use Rattle.sb_calls.specs.Replies.{coded, reply_code}
 use Rattle.sb_calls.proofs.CodedReplies.{coded_takes, coded_again}
 use Rattle.sb_calls.proofs.laws.replies_have_one_code.Goals as goal
