@@ -30,7 +30,11 @@ fn bytes_that_are_no_checkpoint_of_the_bank(rt: HostRuntime) {
     // One of a bank that opened with a cent less.
     let opening = "000000000000464f";
     let fields = [SECOND_HEAD, SAVINGS, CHECKING, TOTAL, opening, REPLIES];
-    is_refused(&rt, &super::bytes(&rt, &fields), CheckpointFault::WrongOpening);
+    is_refused(
+        &rt,
+        &super::bytes(&rt, &fields),
+        CheckpointFault::WrongOpening,
+    );
 }
 
 // A checkpoint in the first layout is gone back to; the next mark puts it in the second.
