@@ -136,8 +136,21 @@ fn then_the_opening_total(rt: HostRuntime) {
     for opening_total in [18_001, 17_999, -18_000, 0, i64::MIN, i64::MAX] {
         let origin = (3, opening_total);
         for replies in [REPLIES, CODE_8, "00"] {
-            let fields = [SECOND_HEAD, SAVINGS, CHECKING, TOTAL, OPENING, replies, REPLIES];
-            is_refused(&rt, &bytes(&rt, &fields), origin, CheckpointFault::WrongOpening);
+            let fields = [
+                SECOND_HEAD,
+                SAVINGS,
+                CHECKING,
+                TOTAL,
+                OPENING,
+                replies,
+                REPLIES,
+            ];
+            is_refused(
+                &rt,
+                &bytes(&rt, &fields),
+                origin,
+                CheckpointFault::WrongOpening,
+            );
         }
         // The first layout doesn't have one.
         assert!(&rt; fault_of(&rt, &bytes(&rt, &FIRST), origin).is_none());

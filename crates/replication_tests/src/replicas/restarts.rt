@@ -30,7 +30,11 @@ fn bytes_that_are_no_checkpoint_of_the_bank(rt: HostRuntime) {
     // A checkpoint of a bank whose opening total is one cent less.
     let opening = "000000000000464f";
     let fields = [SECOND_HEAD, SAVINGS, CHECKING, TOTAL, opening, REPLIES];
-    is_refused(&rt, &super::bytes(&rt, &fields), CheckpointFault::WrongOpening);
+    is_refused(
+        &rt,
+        &super::bytes(&rt, &fields),
+        CheckpointFault::WrongOpening,
+    );
 }
 
 // A restart goes back to a checkpoint in the first layout; the next mark puts it in the second.

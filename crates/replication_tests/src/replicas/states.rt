@@ -1,7 +1,9 @@
 //! States: the checkpoint of one replica, adopted by another.
 use super::marks::{AFTER_A_DEPOSIT, AFTER_FIVE_CALLS};
 use super::*;
-use crate::checkpoints::{CHECKING, FIRST, FIRST_HEAD, OPENING, REPLIES, SAVINGS, SECOND_HEAD, TOTAL};
+use crate::checkpoints::{
+    CHECKING, FIRST, FIRST_HEAD, OPENING, REPLIES, SAVINGS, SECOND_HEAD, TOTAL,
+};
 
 // The first 128 bytes of the checkpoint after five calls.
 const SHORT: [&str; 6] = [

@@ -132,7 +132,10 @@ fn what_is_put_is_got(rt: HostRuntime) {
 
 #[test]
 fn a_checkpoint_of_a_full_bank(rt: HostRuntime) {
-    let bytes = write_checkpoint(rt.alloc(), &full_bank(&rt), 0, &[]).expect(&rt, "memory for bytes");
+    let bytes = write_checkpoint(rt.alloc(), &full_bank(&rt), 0, &[]).expect(
+        &rt,
+        "memory for bytes",
+    );
     plays_on_two(
         &rt,
         &rt,
