@@ -55,7 +55,8 @@ module _ {B : Type 0} (touches : B → List ℕ) (effect : B → List ℤ → Re
             let all = board.links.linked was in
             let stands = put was in
             record {
-              queues = queues_submitted touches effect inside.log inside.states b inside.links.queues.lists new.queues.lists cowns beside all.queues stands.lists;
+              queues = queues_submitted touches effect inside.log inside.states b inside.links.queues.lists new.queues.lists cowns beside all.queues
+                  stands.lists;
               counts = rw (stands.behind, stands.ready) (counts_submitted touches effect inside.log inside.states b inside.links.queues.lists
                   new.queues.lists cowns beside all.queues stands.lists board.keeps.in_range fits inside.links.ready.behind.items
                   inside.links.ready.ready.items held refl all.counts);
