@@ -76,11 +76,7 @@ pub(crate) fn written(alloc: Global) -> Result<(Vec<u8>, i64), Fault>
 }
 
 #[tactic(auto, using(crate::proofs::Sizes::is_full))]
-fn write_once(
-    alloc: Global,
-    columns: &Columns,
-    replies: &[Reply],
-) -> Result<(Vec<u8>, i64), Fault>
+fn write_once(alloc: Global, columns: &Columns, replies: &[Reply]) -> Result<(Vec<u8>, i64), Fault>
     requires full { length replies.now ≡ LOG_CALLS }
     requires valid { All IsReply replies.now }
     ensures { IfOk result (λ made. SpellsFull made.1 made.0.items) }
