@@ -1,11 +1,12 @@
 -- A bank after its sessions.
-use Rattle.std.proofs.Common.{◌≡◌, ℕ, ◌+◌, Bool, true, false, refl, sym, ap, subst, ◌∙◌, arith}
+use Rattle.std.proofs.Common.{◌≡◌, ℕ, ◌+◌, ℤ, Bool, true, false, refl, sym, ap, subst, ◌∙◌, arith}
+use Rattle.sb_rows.specs.Balances.{Balances}
 use Rattle.sb_calls.specs.Behaviour.{declared_cowns, effect_of}
 use Rattle.cown_board.specs.Board.{BoardOf, IsAfterAll, open_of}
 use Rattle.sb_calls.specs.declared.op.Op.{Op}
 use Rattle.sb_checkpoint.specs.Checkpoint.{Second, Spells}
 use Rattle.sb_checkpoint.specs.Stores.{StoreDoes, StoreModel}
-use Rattle.sb_replica.specs.Replica.{BesideOf, replies_held}
+use Rattle.sb_replica.specs.Replica.{BesideOf, origin_of, replies_held}
 use Rattle.sb_sequencer.specs.Numbering.{IsLog}
 use Rattle.bank_server.specs.Primary.{HasAll, KeepsBank, PrimaryOf}
 use Rattle.bank_server.specs.Saving.{HoldsCheckpoint, Saves}
@@ -84,23 +85,30 @@ module _ {S : Type 0} (model : StoreModel S) where
       let log : new.log ≡ old.log = ap (λ (p : PrimaryOf S). p.log) stays in
       let names : new.node.names ≡ old.node.names = ap (λ (p : PrimaryOf S). p.node.names) stays in
       let board : new.node.board ≡ old.node.board = ap (λ (p : PrimaryOf S). p.node.board) stays in
+      let opening : new.node.opening ≡ old.node.opening = ap (λ (p : PrimaryOf S). p.node.opening) stays in
       record {
         bank = record { names = names; opening = ap (λ (b : BoardOf Op). b.opening) board };
         one_each = subst IsLog (sym log) one_each;
         all = subst HasAll (sym stays) all;
         kept = record {
           honest = λ honest. saves.does_so.honest (saves.puts.put.honest honest);
-          held = λ s some honest. here board (held honest);
+          held = λ s some honest. here board opening (held honest);
           stays = λ s. absurd (false_true (sym s));
         };
       }
     where
-      here : new.node.board ≡ old.node.board → HoldsCheckpoint model.slot old.node new.node → HoldsCheckpoint model.slot new.node new.node
-      here board held = record {
+      total_at : Balances → ℤ
+      total_at opening = (origin_of (record old.node { opening = opening })).opening_total
+
+      here : new.node.board ≡ old.node.board → new.node.opening ≡ old.node.opening → HoldsCheckpoint model.slot old.node new.node
+          → HoldsCheckpoint model.slot new.node new.node
+      here board opening held = record {
         idle = subst (λ (b : BoardOf Op). open_of b ≡ 0) (sym board) held.idle;
         columns = held.columns;
         after = subst (λ (b : BoardOf Op). IsAfterAll declared_cowns effect_of b held.columns) (sym board) held.after;
         bytes = held.bytes;
-        spelled = subst (λ (b : BoardOf Op). Spells Second _ (record { columns = held.columns; replies = replies_held b }) held.bytes) (sym board) held.spelled;
+        spelled = subst (λ (o : Balances). Spells Second (total_at o) (record { columns = held.columns; replies = replies_held new.node.board }) held.bytes)
+            (sym opening) (subst (λ (b : BoardOf Op). Spells Second (total_at old.node.opening)
+            (record { columns = held.columns; replies = replies_held b }) held.bytes) (sym board) held.spelled);
         holds = held.holds;
       }
