@@ -193,7 +193,7 @@ fn help_and_version(rt: HostRuntime) {
     let alloc = rt.alloc();
     let example = "printf 'alice 100.00 50.00\\nbegin\\ndeposit alice 1.00\\n' \
         | smallbank run --nodes 2\n";
-    expect_told(&rt, alloc, &["--version"], 0, "smallbank 0.1.0\n");
+    expect_told(&rt, alloc, &["--version"], 0, "smallbank ");
     expect_told(&rt, alloc, &["--help"], 0, "Plays a schedule");
     expect_told(&rt, alloc, &["run", "--help"], 0, example);
     let example = "printf 'alice 100.00 50.00\\nbegin\\n' | smallbank serve --port 4000\n";
