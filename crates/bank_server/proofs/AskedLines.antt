@@ -1,52 +1,52 @@
 -- What lines ask, one line at a time.
 use Rattle.std.proofs.Common.{◌≡◌, ℕ, ◌+◌, ◌≤◌, Option, Some, None, Ok, Err, List, [], ◌∷◌, ◌++◌, length, map, refl, sym, ap, ◌∙◌, arith}
 use Rattle.sb_rows.specs.Opening.{◌>>=◌, at_line}
-use Rattle.sb_calls.specs.Ask.{asked_of, IsKey}
-use Rattle.sb_calls.specs.declared.ask.Asked.{Asked}
+use Rattle.sb_calls.specs.Ask.{ask_line_of, IsKey}
+use Rattle.sb_calls.specs.declared.ask.AskLine.{AskLine}
 use Rattle.sb_calls.specs.declared.ask.Key.{Key}
 use Rattle.sb_calls.specs.declared.call.Call.{Call}
 use Rattle.sb_calls.specs.declared.text.fault.CallFault.{CallFault}
 use Rattle.sb_sequencer.specs.Numbering.{first_asks}
-use Rattle.bank_server.specs.Asking.{IsAfter}
-use Rattle.bank_server.specs.Asks.{keyed, key_of_line, running_after}
+use Rattle.bank_server.specs.inner.AskSteps.{IsAfterAsks}
+use Rattle.bank_server.specs.Asks.{asks_with_keys, key_of_line, running_after}
 use Rattle.bank_server.specs.Input.{asks_from}
 use Rattle.bank_server.specs.Standing.{standing_of}
-use Rattle.bank_server.specs.Output.{log_of}
+use Rattle.bank_server.specs.Output.{log_of_asks}
 use Rattle.bank_server.specs.declared.asking.Standing.{Standing}
-use Rattle.bank_server.proofs.Keyed.{keyed_from-push, running_from-push, HaveKeys-push}
+use Rattle.bank_server.proofs.LineKeys.{asks_with_keys_from-push, running_from-push, HaveKeys-push}
 use Rattle.bank_server.proofs.Standings.{standings_after}
 
 -- a line without a fault is asked last
-pub asks_from-line : (first : ℕ) (before : List Asked) (line : List ℕ) (ls : List (List ℕ)) (asked : Asked) → asked_of line ≡ Ok asked
+pub asks_from-line : (first : ℕ) (before : List AskLine) (line : List ℕ) (ls : List (List ℕ)) (asked : AskLine) → ask_line_of line ≡ Ok asked
     → asks_from first before (line ∷ ls) ≡ asks_from first (before ++ asked ∷ []) ls
 unfolding asks_from
 asks_from-line first before line ls asked e = ap (λ r. at_line (first + length before) r >>= λ a. asks_from first (before ++ a ∷ []) ls) e
 
 -- a line at fault ends them
-pub asks_from-fault : (first : ℕ) (before : List Asked) (line : List ℕ) (ls : List (List ℕ)) (fault : CallFault) → asked_of line ≡ Err fault
+pub asks_from-fault : (first : ℕ) (before : List AskLine) (line : List ℕ) (ls : List (List ℕ)) (fault : CallFault) → ask_line_of line ≡ Err fault
     → asks_from first before (line ∷ ls) ≡ Err (first + length before, fault)
 unfolding asks_from
 asks_from-fault first before line ls fault e = ap (λ r. at_line (first + length before) r >>= λ a. asks_from first (before ++ a ∷ []) ls) e
 
 -- if no line is left, those before are all
-pub asks_from-end : (first : ℕ) (before : List Asked) → asks_from first before [] ≡ Ok before
+pub asks_from-end : (first : ℕ) (before : List AskLine) → asks_from first before [] ≡ Ok before
 unfolding asks_from
 asks_from-end first before = refl
 
 -- the lines with their keys, and one more
-pub keyed-push : (asks : List Asked) (asked : Asked) (running : ℕ) (log : List (Key × Call)) → IsAfter asks running log
-    → keyed (asks ++ asked ∷ []) ≡ keyed asks ++ (key_of_line running asked.key, asked.call) ∷ []
-keyed-push asks asked running log after =
-    keyed_from-push 1 asks asked ∙ ap (λ n. keyed asks ++ (key_of_line n asked.key, asked.call) ∷ []) (sym after.running_is)
+pub asks_with_keys-push : (asks : List AskLine) (asked : AskLine) (running : ℕ) (log : List (Key × Call)) → IsAfterAsks asks running log
+    → asks_with_keys (asks ++ asked ∷ []) ≡ asks_with_keys asks ++ (key_of_line running asked.key, asked.call) ∷ []
+asks_with_keys-push asks asked running log after =
+    asks_with_keys_from-push 1 asks asked ∙ ap (λ n. asks_with_keys asks ++ (key_of_line n asked.key, asked.call) ∷ []) (sym after.running_is)
 
 -- the state after one more line
-pub after_push : (asks : List Asked) (asked : Asked) (running next : ℕ) (log new : List (Key × Call)) → IsAfter asks running log → IsKey asked.key
-    → next ≡ running_after running asked.key → new ≡ first_asks (keyed asks ++ (key_of_line running asked.key, asked.call) ∷ [])
-    → IsAfter (asks ++ asked ∷ []) next new
+pub after_push : (asks : List AskLine) (asked : AskLine) (running next : ℕ) (log new : List (Key × Call)) → IsAfterAsks asks running log → IsKey asked.key
+    → next ≡ running_after running asked.key → new ≡ first_asks (asks_with_keys asks ++ (key_of_line running asked.key, asked.call) ∷ [])
+    → IsAfterAsks (asks ++ asked ∷ []) next new
 after_push asks asked running next log new after key e h = record {
   keys = HaveKeys-push asks asked after.keys key;
   running_is = e ∙ ap (λ n. running_after n asked.key) after.running_is ∙ sym (running_from-push 1 asks asked);
-  log_is = h ∙ ap first_asks (sym (keyed-push asks asked running log after));
+  log_is = h ∙ ap first_asks (sym (asks_with_keys-push asks asked running log after));
 }
 
 map_push : {A B : Type 0} (f : A → B) (xs : List A) (x : A) → map f (xs ++ x ∷ []) ≡ map f xs ++ f x ∷ []
@@ -54,21 +54,21 @@ map_push f [] x = refl
 map_push f (y ∷ xs) x = ap (λ rest. f y ∷ rest) (map_push f xs x)
 
 -- the standings, with one more
-pub standings_push : (asks : List Asked) (asked : Asked) (running : ℕ) (log new : List (Key × Call)) (standings : List Standing) (standing : Standing)
-    → IsAfter asks running log
-    → new ≡ first_asks (keyed asks ++ (key_of_line running asked.key, asked.call) ∷ []) → standing ≡ standing_of new (key_of_line running asked.key, asked.call)
-    → standings ≡ map (standing_of log) (keyed asks) → standings ++ standing ∷ [] ≡ map (standing_of new) (keyed (asks ++ asked ∷ []))
+pub standings_push : (asks : List AskLine) (asked : AskLine) (running : ℕ) (log new : List (Key × Call)) (standings : List Standing) (standing : Standing)
+    → IsAfterAsks asks running log
+    → new ≡ first_asks (asks_with_keys asks ++ (key_of_line running asked.key, asked.call) ∷ []) → standing ≡ standing_of new (key_of_line running asked.key, asked.call)
+    → standings ≡ map (standing_of log) (asks_with_keys asks) → standings ++ standing ∷ [] ≡ map (standing_of new) (asks_with_keys (asks ++ asked ∷ []))
 standings_push asks asked running log new standings standing after h e told =
     let ask : Key × Call = (key_of_line running asked.key, asked.call) in
-    let before : standings ≡ map (standing_of new) (keyed asks) =
-    told ∙ ap (λ l. map (standing_of l) (keyed asks)) after.log_is ∙ sym (standings_after (keyed asks) ask)
-    ∙ ap (λ l. map (standing_of l) (keyed asks)) (sym h) in
-    (λ j. before j ++ e j ∷ []) ∙ sym (map_push (standing_of new) (keyed asks) ask) ∙ ap (map (standing_of new)) (sym (keyed-push asks asked running log after))
+    let before : standings ≡ map (standing_of new) (asks_with_keys asks) =
+    told ∙ ap (λ l. map (standing_of l) (asks_with_keys asks)) after.log_is ∙ sym (standings_after (asks_with_keys asks) ask)
+    ∙ ap (λ l. map (standing_of l) (asks_with_keys asks)) (sym h) in
+    (λ j. before j ++ e j ∷ []) ∙ sym (map_push (standing_of new) (asks_with_keys asks) ask) ∙ ap (map (standing_of new)) (sym (asks_with_keys-push asks asked running log after))
 
 -- before any line the log is empty
-pub log_of-nil : log_of [] ≡ []
+pub log_of_asks-nil : log_of_asks [] ≡ []
 unfolding first_asks
-log_of-nil = refl
+log_of_asks-nil = refl
 
 -- the running number grows by at most one
 pub running_after_le : (running : ℕ) (key : Option Key) → running_after running key ≤ running + 1

@@ -5,28 +5,29 @@ use Rattle.std.proofs.lemmas.Bool.{cases_lt, true≢false, lt-leb, ne_eqb}
 use Rattle.std.proofs.lemmas.List.{length-map, take_all}
 use Rattle.sb_rows.specs.Balances.{Balances, IsBalances}
 use Rattle.sb_rows.specs.Rows.{Rows, SameCustomers, rows_of}
-use Rattle.sb_calls.proofs.Holding.{held_of-injective}
+use Rattle.sb_calls.proofs.CownColumns.{contents_of-injective}
 use Rattle.sb_calls.specs.Behaviour.{declared_cowns, effect_of}
-use Rattle.sb_calls.proofs.Log.{slice_get-replies_to}
-use Rattle.sb_calls.proofs.OneByOneRuns.{log_by_cowns}
-use Rattle.sb_calls.specs.Cowns.{held_of}
+use Rattle.sb_calls.proofs.LogReplies.{slice_get-replies_to}
+use Rattle.sb_calls.proofs.SerialRuns.{log_by_cowns}
+use Rattle.sb_calls.specs.Cowns.{contents_of}
 use Rattle.sb_calls.specs.Log.{replies_to, rows_after}
-use Rattle.sb_calls.specs.OneByOne.{reply_by_log, held_after}
-use Rattle.sb_calls.specs.Op.{resolved}
+use Rattle.sb_calls.specs.SerialRun.{reply_by_log, contents_after}
+use Rattle.sb_calls.specs.Op.{op_of}
 use Rattle.sb_calls.specs.Procedures.{procedure}
 use Rattle.sb_calls.specs.declared.ask.Key.{Key}
 use Rattle.sb_calls.specs.declared.call.Call.{Call}
 use Rattle.sb_calls.specs.declared.op.Op.{Op}
 use Rattle.sb_calls.specs.declared.reply.Reply.{Reply}
-use Rattle.cown_board.proofs.Counts.{all_finished}
-use Rattle.cown_board.specs.Board.{BoardOf, open_of, reply_in, IsAfterAll}
-use Rattle.cown_board.specs.State.{is_open, state_is, finished_reply}
+use Rattle.cown_board.proofs.UnfinishedCounts.{all_finished}
+use Rattle.cown_board.specs.Board.{BoardOf, unfinished_of, reply_in, IsAfterAll}
+use Rattle.cown_board.specs.State.{is_unfinished, state_is, finished_reply}
 use Rattle.cown_board.specs.declared.state.State.{State}
 use Rattle.cown_board.specs.declared.state.State.TheVariants.{Waiting, Out, Finished}
-use Rattle.cown_workers.specs.Draining.{NoneOut, Drains}
-use Rattle.sb_sequencer.specs.Numbering.{call_at}
-use Rattle.sb_replica_log.specs.Offers.{accepted}
-use Rattle.bank_server.specs.Execution.{ArePut, IsCarriedOut, IsOneByOne, Tells}
+use Rattle.cown_workers.specs.Draining.{HasNoneOut, PreservesLog}
+use Rattle.sb_sequencer.specs.Numbering.{call_of_number}
+use Rattle.sb_replica_log.specs.Offers.{board_with_entry}
+use Rattle.bank_server.specs.inner.Appends.{AppendsOps}
+use Rattle.bank_server.specs.Execution.{IsWholeLog, IsOneByOne, HasReplies}
 use Rattle.bank_server.specs.Output.{calls_of}
 
 none_is_some : {A : Type 0} {x : A} → ◌≡◌ {A = Option A} None (Some x) → ⊥
@@ -59,8 +60,8 @@ unfolding waits
 waits_not_out h = ap waits h
 
 -- if nothing is unfinished nothing is out
-pub idle_none_out : (board : BoardOf Op) → open_of board ≡ 0 → NoneOut board
-idle_none_out board idle k out = true≢false (sym (ap (state_is is_open) out) ∙ all_finished board.states k idle)
+pub idle_none_out : (board : BoardOf Op) → unfinished_of board ≡ 0 → HasNoneOut board
+idle_none_out board idle k out = true≢false (sym (ap (state_is is_unfinished) out) ∙ all_finished board.states k idle)
 
 -- one more that waits isn't out
 pub none_out_more : (states : List State) → ((k : ℕ) → slice_get states k ≢ Some Out) → (k : ℕ) → slice_get (states ++ Waiting ∷ []) k ≢ Some Out
@@ -69,32 +70,32 @@ none_out_more [] none (suc k) h = absurd (no_out h)
 none_out_more (s ∷ states) none zero h = none 0 h
 none_out_more (s ∷ states) none (suc k) h = none_out_more states (λ j. none (suc j)) k h
 
-pub put_after : (op : Op) (old new : BoardOf Op) → new ≡ accepted old op → ArePut (op ∷ []) old new
+pub put_after : (op : Op) (old new : BoardOf Op) → new ≡ board_with_entry old op → AppendsOps (op ∷ []) old new
 put_after op old new is = record {
   opening = ap (λ (b : BoardOf Op). b.opening) is;
-  earlier = ap (λ (b : BoardOf Op). b.earlier) is;
+  base_replies = ap (λ (b : BoardOf Op). b.base_replies) is;
   log = ap (λ (b : BoardOf Op). b.log) is;
   cut = ap (λ (b : BoardOf Op). b.cut) is;
-  none_out = λ none. subst NoneOut (sym is) (none_out_more old.states none);
+  none_out = λ none. subst HasNoneOut (sym is) (none_out_more old.states none);
 }
 
 -- the same if the unfinished ones were executed in between
-pub put_after_run : (op : Op) (old mid new : BoardOf Op) → Drains old mid → NoneOut mid → new ≡ accepted mid op → ArePut (op ∷ []) old new
+pub put_after_run : (op : Op) (old mid new : BoardOf Op) → PreservesLog old mid → HasNoneOut mid → new ≡ board_with_entry mid op → AppendsOps (op ∷ []) old new
 put_after_run op old mid new drained none put =
     let made = put_after op mid new put in
     record {
       opening = made.opening ∙ drained.opening;
-      earlier = made.earlier ∙ drained.earlier;
+      base_replies = made.base_replies ∙ drained.base_replies;
       log = made.log ∙ ap (λ l. l ++ op ∷ []) drained.log;
       cut = made.cut ∙ drained.cut;
       none_out = λ before. made.none_out none;
     }
 
 -- a board that stayed as it was executed nothing
-pub drains_same : (old new : BoardOf Op) → new ≡ old → Drains old new
+pub drains_same : (old new : BoardOf Op) → new ≡ old → PreservesLog old new
 drains_same old new is = record {
   opening = ap (λ (b : BoardOf Op). b.opening) is;
-  earlier = ap (λ (b : BoardOf Op). b.earlier) is;
+  base_replies = ap (λ (b : BoardOf Op). b.base_replies) is;
   log = ap (λ (b : BoardOf Op). b.log) is;
   cut = ap (λ (b : BoardOf Op). b.cut) is;
   finished = λ k reply at. ap (λ (b : BoardOf Op). slice_get b.states k) is ∙ at;
@@ -102,7 +103,7 @@ drains_same old new is = record {
 
 -- ---- the log so far
 
-call_here : (log : List (Key × Call)) (k : ℕ) (call : Call) → call_at log (suc k) ≡ Some call → (entry : Key × Call) × (slice_get log k ≡ Some entry)
+call_here : (log : List (Key × Call)) (k : ℕ) (call : Call) → call_of_number log (suc k) ≡ Some call → (entry : Key × Call) × (slice_get log k ≡ Some entry)
     × (entry.1 ≡ call)
 call_here [] k call h = absurd (no_call h)
 call_here (entry ∷ log) zero call h = (entry, refl, some_call h)
@@ -113,11 +114,11 @@ take_one_more [] k x h = absurd (none_is_some h)
 take_one_more (y ∷ xs) zero x h = ap (λ z. z ∷ []) (some_is h)
 take_one_more (y ∷ xs) (suc k) x h = ap (λ t. y ∷ t) (take_one_more xs k x h)
 
-pub one_more_call : (f : Call → Op) (log : List (Key × Call)) (k : ℕ) (call : Call) → call_at log (k + 1) ≡ Some call
+pub one_more_call : (f : Call → Op) (log : List (Key × Call)) (k : ℕ) (call : Call) → call_of_number log (k + 1) ≡ Some call
     → map f (calls_of (take (k + 1) log)) ≡ map f (calls_of (take k log)) ++ f call ∷ []
 one_more_call f log k call h =
     let next : k + 1 ≡ suc k = omega arith in
-    let found = call_here log k call (ap (call_at log) (sym next) ∙ h) in
+    let found = call_here log k call (ap (call_of_number log) (sym next) ∙ h) in
     ap (λ n. map f (calls_of (take n log))) next
     ∙ ap (λ l. map f (calls_of l)) (take_one_more log k found.0 found.1)
     ∙ map_more f (take k log) found.0
@@ -125,7 +126,7 @@ one_more_call f log k call h =
 
 -- ---- the replies
 
-finished_some : (states : List State) (k : ℕ) → k < length states → state_is is_open (slice_get states k) ≡ false
+finished_some : (states : List State) (k : ℕ) → k < length states → state_is is_unfinished (slice_get states k) ≡ false
     → IsSome (option_and_then finished_reply (slice_get states k))
 finished_some [] k lt closed = absurd (omega (arith, lt))
 finished_some (Waiting ∷ states) zero lt closed = absurd (true≢false closed)
@@ -134,15 +135,15 @@ finished_some (Finished reply ∷ states) zero lt closed = refl
 finished_some (s ∷ states) (suc k) lt closed = finished_some states k (omega (arith, lt)) closed
 
 -- the reply to a number is that of the state at its place
-reply_at : (board : BoardOf Op) (k : ℕ) → board.earlier ≡ [] → reply_in board (k + 1) ≡ option_and_then finished_reply (slice_get board.states k)
+reply_at : (board : BoardOf Op) (k : ℕ) → board.base_replies ≡ [] → reply_in board (k + 1) ≡ option_and_then finished_reply (slice_get board.states k)
 unfolding reply_in
 reply_at board k none =
-    let after : (nat_le (k + 1) (length board.earlier)) ≡ false = lt-leb (k + 1) (length board.earlier) (omega (arith, ap length none)) in
+    let after : (nat_le (k + 1) (length board.base_replies)) ≡ false = lt-leb (k + 1) (length board.base_replies) (omega (arith, ap length none)) in
     let differs : ((k + 1) == 0) ≡ false = ne_eqb (k + 1) 0 (λ same. omega (arith, same)) in
-    let at : k + 1 - 1 - length board.earlier ≡ k = omega (arith, ap length none) in
-    ap (λ b. if b then None else (if nat_le (k + 1) (length board.earlier) then slice_get board.earlier (k + 1 - 1) else option_and_then finished_reply
-    (slice_get board.states (k + 1 - 1 - length board.earlier)))) differs
-    ∙ ap (λ b. if b then slice_get board.earlier (k + 1 - 1) else option_and_then finished_reply (slice_get board.states (k + 1 - 1 - length board.earlier)))
+    let at : k + 1 - 1 - length board.base_replies ≡ k = omega (arith, ap length none) in
+    ap (λ b. if b then None else (if nat_le (k + 1) (length board.base_replies) then slice_get board.base_replies (k + 1 - 1) else option_and_then finished_reply
+    (slice_get board.states (k + 1 - 1 - length board.base_replies)))) differs
+    ∙ ap (λ b. if b then slice_get board.base_replies (k + 1 - 1) else option_and_then finished_reply (slice_get board.states (k + 1 - 1 - length board.base_replies)))
     after
     ∙ ap (λ n. option_and_then finished_reply (slice_get board.states n)) at
 
@@ -159,53 +160,53 @@ length-replies rows [] = refl
 length-replies rows (call ∷ calls) = ap suc (length-replies (procedure call rows).rows calls)
 
 pub all_replies : (directory : List (List ℕ)) (b : Balances) (calls : List Call) (board : BoardOf Op) → SameCustomers directory b → board.opening ≡ b
-    → board.log ≡ map (resolved directory) calls
-    → open_of board ≡ 0 → board.earlier ≡ [] → Tells board (replies_to (rows_of directory b) calls)
-all_replies directory b calls board same opening log idle earlier =
+    → board.log ≡ map (op_of directory) calls
+    → unfinished_of board ≡ 0 → board.base_replies ≡ [] → HasReplies board (replies_to (rows_of directory b) calls)
+all_replies directory b calls board same opening log idle base_replies =
     let run = log_by_cowns directory b calls same in
-    let long : length board.log ≡ length calls = ap length log ∙ length-map calls (resolved directory) in
+    let long : length board.log ≡ length calls = ap length log ∙ length-map calls (op_of directory) in
     record {
       idle = idle;
-      earlier = earlier;
+      base_replies = base_replies;
       all = length-replies (rows_of directory b) calls ∙ sym long;
       each = λ k lt. sym (
-          ap (λ (opening : Balances). reply_by_log declared_cowns effect_of (held_of opening) board.log (suc k)) opening
-          ∙ ap (λ l. reply_by_log declared_cowns effect_of (held_of b) l (suc k)) log
+          ap (λ (opening : Balances). reply_by_log declared_cowns effect_of (contents_of opening) board.log (suc k)) opening
+          ∙ ap (λ l. reply_by_log declared_cowns effect_of (contents_of b) l (suc k)) log
           ∙ run.replies (suc k) ∙ sym (slice_get-replies_to (rows_of directory b) calls k));
     }
 
 -- the columns of an idle board are those after the whole log
 pub all_rows : (directory : List (List ℕ)) (b c : Balances) (calls : List Call) (board : BoardOf Op) → SameCustomers directory b → IsBalances c
-    → board.opening ≡ b → board.log ≡ map (resolved directory) calls
+    → board.opening ≡ b → board.log ≡ map (op_of directory) calls
     → IsAfterAll declared_cowns effect_of board c → SameCustomers directory c × (rows_of directory c ≡ rows_after calls (rows_of directory b))
 all_rows directory b c calls board same valid opening log after =
     let run = (log_by_cowns directory b calls same).rows (length calls) in
-    let held : held_of c ≡ held_of run.0 =
-    after ∙ ap (λ (o : Balances). held_after declared_cowns effect_of (held_of o) board.log) opening
-    ∙ ap (held_after declared_cowns effect_of (held_of b))
-    (log ∙ sym (take_all (length calls) (map (resolved directory) calls) (omega (arith, length-map calls (resolved directory)))))
+    let held : contents_of c ≡ contents_of run.0 =
+    after ∙ ap (λ (o : Balances). contents_after declared_cowns effect_of (contents_of o) board.log) opening
+    ∙ ap (contents_after declared_cowns effect_of (contents_of b))
+    (log ∙ sym (take_all (length calls) (map (op_of directory) calls) (omega (arith, length-map calls (op_of directory)))))
     ∙ sym run.2 in
-    let is : c ≡ run.0 = held_of-injective c run.0 valid.same run.1.balances.same held in (
+    let is : c ≡ run.0 = contents_of-injective c run.0 valid.same run.1.balances.same held in (
       subst (SameCustomers directory) (sym is) run.1,
       ap (rows_of directory) is ∙ run.3 ∙ ap (λ l. rows_after l (rows_of directory b)) (take_all (length calls) calls (omega arith)),
     )
 
-told_here : (board : BoardOf Op) (place : ℕ) (answer : Option Reply) (reply : Reply) → board.earlier ≡ [] → answer ≡ Some reply
-    → IfSome answer (λ r. length board.earlier < place + 1
-    → reply_by_log declared_cowns effect_of (held_of board.opening) board.log (place + 1 - length board.earlier) ≡ Some r)
-    → Some reply ≡ reply_by_log declared_cowns effect_of (held_of board.opening) board.log (suc place)
+told_here : (board : BoardOf Op) (place : ℕ) (answer : Option Reply) (reply : Reply) → board.base_replies ≡ [] → answer ≡ Some reply
+    → IfSome answer (λ r. length board.base_replies < place + 1
+    → reply_by_log declared_cowns effect_of (contents_of board.opening) board.log (place + 1 - length board.base_replies) ≡ Some r)
+    → Some reply ≡ reply_by_log declared_cowns effect_of (contents_of board.opening) board.log (suc place)
 told_here board place answer reply none is told =
     let known = subst (λ (o : Option Reply). IfSome o
-    (λ r. length board.earlier < place + 1
-    → reply_by_log declared_cowns effect_of (held_of board.opening) board.log (place + 1 - length board.earlier) ≡ Some r)) is told in
-    let at : place + 1 - length board.earlier ≡ suc place = omega (arith, ap length none) in
-    sym (known (omega (arith, ap length none))) ∙ ap (reply_by_log declared_cowns effect_of (held_of board.opening) board.log) at
+    (λ r. length board.base_replies < place + 1
+    → reply_by_log declared_cowns effect_of (contents_of board.opening) board.log (place + 1 - length board.base_replies) ≡ Some r)) is told in
+    let at : place + 1 - length board.base_replies ≡ suc place = omega (arith, ap length none) in
+    sym (known (omega (arith, ap length none))) ∙ ap (reply_by_log declared_cowns effect_of (contents_of board.opening) board.log) at
 
 -- what a board replies is the reply of the log run one by one
-pub told_at : (board : BoardOf Op) (replies : List Reply) (place : ℕ) (answer : Option Reply) → Tells board replies → length board.log ≡ length board.states
+pub told_at : (board : BoardOf Op) (replies : List Reply) (place : ℕ) (answer : Option Reply) → HasReplies board replies → length board.log ≡ length board.states
     → answer ≡ reply_in board (place + 1)
-    → IfSome answer (λ r. length board.earlier < place + 1
-    → reply_by_log declared_cowns effect_of (held_of board.opening) board.log (place + 1 - length board.earlier) ≡ Some r)
+    → IfSome answer (λ r. length board.base_replies < place + 1
+    → reply_by_log declared_cowns effect_of (contents_of board.opening) board.log (place + 1 - length board.base_replies) ≡ Some r)
     → answer ≡ slice_get replies place
 told_at board replies place answer tells beside is told = elim (cases_lt place (length board.log)) [
   | inl lt ↦ by answer refl (subst IsSome (sym state)
@@ -215,14 +216,14 @@ told_at board replies place answer tells beside is told = elim (cases_lt place (
 ]
   where
     state : answer ≡ option_and_then finished_reply (slice_get board.states place)
-    state = is ∙ reply_at board place tells.earlier
+    state = is ∙ reply_at board place tells.base_replies
 
     by : (o : Option Reply) → answer ≡ o → IsSome answer → place < length board.log → answer ≡ slice_get replies place
     by None none some lt = absurd (true≢false (sym (subst IsSome none some)))
-    by (Some reply) found some lt = found ∙ told_here board place answer reply tells.earlier found told ∙ sym (tells.each place lt)
+    by (Some reply) found some lt = found ∙ told_here board place answer reply tells.base_replies found told ∙ sym (tells.each place lt)
 
 -- an idle board has a reply to each number of its log
-pub some_reply : (board : BoardOf Op) (number : ℕ) (answer : Option Reply) → open_of board ≡ 0 → board.earlier ≡ [] → length board.log ≡ length board.states
+pub some_reply : (board : BoardOf Op) (number : ℕ) (answer : Option Reply) → unfinished_of board ≡ 0 → board.base_replies ≡ [] → length board.log ≡ length board.states
     → 0 < number → number ≤ length board.log → answer ≡ reply_in board number → IsSome answer
 some_reply board number answer idle none beside counted few is =
     let place : ℕ = number - 1 in
@@ -231,23 +232,23 @@ some_reply board number answer idle none beside counted few is =
     subst IsSome (sym state) (finished_some board.states place (omega (arith, beside)) (all_finished board.states place idle))
 
 -- and it is that of the log run one by one
-pub told_of : (board : BoardOf Op) (replies : List Reply) (number : ℕ) (answer : Option Reply) → Tells board replies → length board.log ≡ length board.states
+pub told_of : (board : BoardOf Op) (replies : List Reply) (number : ℕ) (answer : Option Reply) → HasReplies board replies → length board.log ≡ length board.states
     → 0 < number
     → answer ≡ reply_in board number
-    → IfSome answer (λ r. length board.earlier < number
-    → reply_by_log declared_cowns effect_of (held_of board.opening) board.log (number - length board.earlier) ≡ Some r)
+    → IfSome answer (λ r. length board.base_replies < number
+    → reply_by_log declared_cowns effect_of (contents_of board.opening) board.log (number - length board.base_replies) ≡ Some r)
     → answer ≡ slice_get replies (number - 1)
 told_of board replies number answer tells beside counted is told =
     let next : number ≡ number - 1 + 1 = omega arith in
     told_at board replies (number - 1) answer tells beside (is ∙ ap (reply_in board) next)
     (subst (λ (n : ℕ). IfSome answer
-    (λ r. length board.earlier < n → reply_by_log declared_cowns effect_of (held_of board.opening) board.log (n - length board.earlier) ≡ Some r)) next
+    (λ r. length board.base_replies < n → reply_by_log declared_cowns effect_of (contents_of board.opening) board.log (n - length board.base_replies) ≡ Some r)) next
     told)
 
 -- executed ops are the calls with these ops, run one by one
 pub one_by_one : (directory : List (List ℕ)) (b : Balances) (calls : List Call) (ops : List Op) (board : BoardOf Op) → SameCustomers directory b
-    → board.opening ≡ b → IsCarriedOut ops board → ops ≡ map (resolved directory) calls → IsOneByOne directory calls b board
+    → board.opening ≡ b → IsWholeLog ops board → ops ≡ map (op_of directory) calls → IsOneByOne directory calls b board
 one_by_one directory b calls ops board same opening carried is = record {
-  replies = all_replies directory b calls board same opening (carried.log ∙ is) carried.idle carried.earlier;
+  replies = all_replies directory b calls board same opening (carried.log ∙ is) carried.idle carried.base_replies;
   rows = λ c valid after. all_rows directory b c calls board same valid opening (carried.log ∙ is) after;
 }

@@ -4,18 +4,18 @@ use Rattle.std.proofs.lemmas.Bool.{lt-leb, le-ltb, ne_eqb}
 use Rattle.std.specs.Prelude.{◌||◌, nat_lt, ◌==◌, if◌then◌else◌}
 use Rattle.sb_calls.specs.declared.call.TheConstants.{LOG_CALLS}
 use Rattle.sb_calls.specs.declared.op.Op.{Op}
-use Rattle.cown_board.specs.Board.{BoardOf, length_of, open_of}
+use Rattle.cown_board.specs.Board.{BoardOf, length_of, unfinished_of}
 use Rattle.cown_board.specs.declared.board.TheConstants.{OPEN_BEHAVIOURS}
-use Rattle.sb_replica_log.specs.Offers.{offered}
+use Rattle.sb_replica_log.specs.Offers.{offer_answer}
 use Rattle.sb_replica_log.specs.declared.offered.Offered.TheVariants.{Next, Repeat, Gap, Held, Busy}
 use Rattle.sb_replica_log.specs.declared.replica_log.TheConstants.{HELD_ENTRIES}
 
 -- the number after the log's last one is taken, unless the board is full
 pub next_offered : (board : BoardOf Op) (number : ℕ) → number ≡ length_of board + 1 → length_of board < LOG_CALLS
-    → offered board number ≡ (if open_of board == OPEN_BEHAVIOURS then Busy (length_of board) else Next)
+    → offer_answer board number ≡ (if unfinished_of board == OPEN_BEHAVIOURS then Busy (length_of board) else Next)
 next_offered board number is room =
     let size = length_of board in
-    let next = if open_of board == OPEN_BEHAVIOURS then Busy size else Next in
+    let next = if unfinished_of board == OPEN_BEHAVIOURS then Busy size else Next in
     ap (λ b. if b then Repeat else if nat_lt (size + HELD_ENTRIES) number || nat_lt LOG_CALLS number then Gap size
     else if nat_lt (suc size) number then Held number else next) (lt-leb number size (omega (arith, is)))
     ∙ ap (λ b. if b || nat_lt LOG_CALLS number then Gap size else if nat_lt (suc size) number then Held number else next)
@@ -25,7 +25,7 @@ next_offered board number is room =
 
 -- if nothing is unfinished it is taken
 pub next_taken : (board : BoardOf Op) (number : ℕ) → number ≡ length_of board + 1
-    → length_of board < LOG_CALLS → open_of board ≡ 0 → offered board number ≡ Next
+    → length_of board < LOG_CALLS → unfinished_of board ≡ 0 → offer_answer board number ≡ Next
 next_taken board number is room idle =
     next_offered board number is room
-    ∙ ap (λ b. if b then Busy (length_of board) else Next) (ne_eqb (open_of board) OPEN_BEHAVIOURS (λ same. omega (arith, same, idle)))
+    ∙ ap (λ b. if b then Busy (length_of board) else Next) (ne_eqb (unfinished_of board) OPEN_BEHAVIOURS (λ same. omega (arith, same, idle)))

@@ -11,12 +11,12 @@ use Rattle.sb_calls.specs.declared.ask.Key.{Key}
 use Rattle.sb_calls.specs.declared.call.Call.{Call}
 use Rattle.sb_calls.specs.declared.call.TheConstants.{LOG_CALLS}
 use Rattle.sb_calls.specs.declared.reply.Reply.{Reply}
-use Rattle.sb_sequencer.proofs.Logs.{first_asks-push}
+use Rattle.sb_sequencer.proofs.LogSteps.{first_asks-push}
 use Rattle.sb_sequencer.specs.Log.{log_with}
-use Rattle.sb_sequencer.specs.Numbering.{first_asks, has_key, place_of_key, same_key}
+use Rattle.sb_sequencer.specs.Numbering.{first_asks, has_key, index_of_key, same_key}
 use Rattle.bank_server.specs.Output.{calls_of}
-use Rattle.bank_server.specs.Place.{waiting_in}
-use Rattle.bank_server.specs.Session.{outcome_by, outcome_of, replied}
+use Rattle.bank_server.specs.inner.SessionSteps.{pending_ask}
+use Rattle.bank_server.specs.Session.{outcome_by, outcome_of, outcome_of_reply}
 use Rattle.bank_server.specs.Standing.{numbered_standing, same_call, standing_at, standing_of}
 use Rattle.bank_server.specs.declared.asking.Standing.{Standing}
 use Rattle.bank_server.specs.declared.asking.Standing.TheVariants.{Number, Mismatch, LogFull}
@@ -65,9 +65,9 @@ by_entry k n call None is = absurd (full_is_none is)
 by_entry k n call (Some entry) is = by_test k n (same_call entry.1 call) is
 
 pub number_of_log : (log : List (Key × Call)) (ask : Key × Call) (n : ℕ) → standing_of log ask ≡ Number n → n - 1 < length log
-number_of_log log ask n = by (place_of_key log ask.0) refl
+number_of_log log ask n = by (index_of_key log ask.0) refl
   where
-    by : (place : Option ℕ) → place_of_key log ask.0 ≡ place → standing_at log ask.1 place ≡ Number n → n - 1 < length log
+    by : (place : Option ℕ) → index_of_key log ask.0 ≡ place → standing_at log ask.1 place ≡ Number n → n - 1 < length log
     by None e is = absurd (full_is_none is)
     by (Some k) e is =
         let within = (position-Some (λ (other : Key × Call). same_key ask.0 other.0) log k ask e).0 in
@@ -81,9 +81,9 @@ told_so : (opening : Rows) (log : List (Key × Call)) (entry : Key × Call) (key
 told_so opening log entry key (Number n) among =
     let more = replies_push opening (calls_of log) entry.1 in
     let size : length (replies_to opening (calls_of log)) ≡ length log = length-replies opening (calls_of log) ∙ length-map log (λ e. e.1) in
-    ap (λ calls. replied key (slice_get (replies_to opening calls) (n - 1))) (calls_push log entry)
-    ∙ ap (λ replies. replied key (slice_get replies (n - 1))) more.1
-    ∙ ap (replied key) (get_kept (replies_to opening (calls_of log)) (more.0 ∷ []) (n - 1) (omega (arith, size, among n refl)))
+    ap (λ calls. outcome_of_reply key (slice_get (replies_to opening calls) (n - 1))) (calls_push log entry)
+    ∙ ap (λ replies. outcome_of_reply key (slice_get replies (n - 1))) more.1
+    ∙ ap (outcome_of_reply key) (get_kept (replies_to opening (calls_of log)) (more.0 ∷ []) (n - 1) (omega (arith, size, among n refl)))
 told_so opening log entry key (Mismatch n) among = refl
 told_so opening log entry key LogFull among = refl
 
@@ -140,7 +140,7 @@ outcomes_same opening asks more (ask ∷ told) e =
     λ j. ended_as_before opening asks more ask first j ++ outcomes_same opening asks more told (ap (drop 1) e) j
 
 pub waiting_same : (old new : List (Key × Call)) (untold : List (Key × Call)) → map (standing_of new) untold ≡ map (standing_of old) untold
-    → map (waiting_in new) untold ≡ map (waiting_in old) untold
+    → map (pending_ask new) untold ≡ map (pending_ask old) untold
 waiting_same old new [] e = refl
 waiting_same old new (ask ∷ untold) e =
     let first : standing_of new ask ≡ standing_of old ask = some_is (ap (λ l. slice_get l 0) e) in

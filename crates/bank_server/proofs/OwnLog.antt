@@ -62,4 +62,4 @@ own_log log is = take_all LOG_CALLS (firsts_after [] log) few ∙ same
     same = all_first [] log (λ k d lt. refl) is.different
 
     few : length (firsts_after [] log) ≤ LOG_CALLS
-    few = subst (λ (l : List (Key × Call)). length l ≤ LOG_CALLS) (sym same) is.few
+    few = subst (λ (l : List (Key × Call)). length l ≤ LOG_CALLS) (sym same) is.limit

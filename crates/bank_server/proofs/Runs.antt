@@ -3,27 +3,27 @@ use Rattle.std.proofs.Common.{◌≡◌, ℕ, Ok, List, length, map, refl, sym, 
 use Rattle.std.specs.List.{All}
 use Rattle.sb_rows.specs.Rows.{SameCustomers}
 use Rattle.sb_rows.specs.declared.opening.Opening.{Opening}
-use Rattle.sb_replica.specs.Replica.{BesideOf, ReplicaOf, beside_of}
+use Rattle.sb_replica.specs.Replica.{RestOf, ReplicaOf, rest_of}
 use Rattle.sb_checkpoint.specs.declared.memory_store.MemoryStore.{MemoryStore}
 use Rattle.sb_calls.specs.declared.op.Op.{Op}
 use Rattle.sb_rows.specs.Balances.{Balances}
-use Rattle.bank_server.specs.Execution.{IsCarriedOut, IsOpened}
+use Rattle.bank_server.specs.Execution.{IsWholeLog, HasNoEntries}
 use Rattle.bank_server.specs.Output.{calls_of, output_of}
-use Rattle.bank_server.specs.Prepared.{IsPreparedOf, output_after}
-use Rattle.bank_server.specs.Primary.{PrimaryOf, RunsLog, opened_node, ops_of}
-use Rattle.bank_server.specs.Standing.{StandsAmong}
-use Rattle.bank_server.specs.declared.preparing.Prepared.{Prepared}
+use Rattle.bank_server.specs.PreparedInput.{IsPreparedInputOf, output_after}
+use Rattle.bank_server.specs.Primary.{PrimaryOf, RunsLog, node_at_opening, log_ops}
+use Rattle.bank_server.specs.Standing.{IsStandingWithin}
+use Rattle.bank_server.specs.declared.prepared_input.PreparedInput.{PreparedInput}
 use Rattle.bank_server.proofs.Boards.{one_by_one}
-use Rattle.bank_server.proofs.Carried.{length-ops}
-use Rattle.sb_calls.specs.Op.{resolved}
+use Rattle.bank_server.proofs.LogOps.{length-ops}
+use Rattle.sb_calls.specs.Op.{op_of}
 
-module _ (text : List ℕ) (prepared : Prepared) (replica : ReplicaOf MemoryStore) (ready : IsPreparedOf text prepared)
+module _ (text : List ℕ) (prepared : PreparedInput) (replica : ReplicaOf MemoryStore) (ready : IsPreparedInputOf text prepared)
     (run : RunsLog prepared.primary replica) where
   -- the standing of each ask is among its calls
-  pub among : All (StandsAmong (length replica.board.log)) prepared.standings.items
+  pub among : All (IsStandingWithin (length replica.board.log)) prepared.standings.items
   among =
       let primary = prepared.primary in
-      subst (λ (n : ℕ). All (StandsAmong n) prepared.standings.items) (sym (ap length run.log_is ∙ length-ops (resolved primary.node.names) primary.log))
+      subst (λ (n : ℕ). All (IsStandingWithin n) prepared.standings.items) (sym (ap length run.log_is ∙ length-ops (op_of primary.node.names) primary.log))
       ready.among
 
   -- the output is what it makes of them
@@ -36,23 +36,23 @@ module _ (text : List ℕ) (prepared : Prepared) (replica : ReplicaOf MemoryStor
       ∙ ap (λ b. Ok (output_after replica.names b calls prepared.standings.items)) (sym run.opening_is)
 
 -- an input is prepared once its asks have standings in a log, and node 0 is as it was opened
-pub prepared_at : (text : List ℕ) (prepared : Prepared) (opening : Opening) (store : MemoryStore)
-    → prepared.primary.node ≡ opened_node opening store → SameCustomers opening.directory opening.columns
-    → All (StandsAmong (length prepared.primary.log)) prepared.standings.items
+pub prepared_at : (text : List ℕ) (prepared : PreparedInput) (opening : Opening) (store : MemoryStore)
+    → prepared.primary.node ≡ node_at_opening opening store → SameCustomers opening.directory opening.columns
+    → All (IsStandingWithin (length prepared.primary.log)) prepared.standings.items
     → output_of text ≡ Ok (output_after opening.directory opening.columns (calls_of prepared.primary.log) prepared.standings.items)
-    → IsPreparedOf text prepared
+    → IsPreparedInputOf text prepared
 prepared_at text prepared opening store is same among output =
-    let opened : ReplicaOf MemoryStore → Type 0 = λ node. SameCustomers node.names node.board.opening × IsOpened node.board
+    let opened : ReplicaOf MemoryStore → Type 0 = λ node. SameCustomers node.names node.board.opening × HasNoEntries node.board
     × (output_of text ≡ Ok (output_after node.names node.board.opening (calls_of prepared.primary.log) prepared.standings.items)) in
-    let at = subst opened (sym is) (same, record { earlier = refl; log = refl; states = refl }, output) in
+    let at = subst opened (sym is) (same, record { base_replies = refl; log = refl; states = refl }, output) in
     record { customers = at.0; opened = at.1; among = among; output = at.2 }
 
 -- a node that began with a bank's names and balances and executed the ops of its log ran the log
 pub runs_log : {S : Type 0} (primary : PrimaryOf S) (lent new : ReplicaOf S) (ops : List Op) → lent ≡ primary.node
-    → SameCustomers primary.node.names primary.node.board.opening → ops ≡ ops_of primary.node.names primary.log → IsCarriedOut ops new.board
-    → new.board.opening ≡ lent.board.opening → beside_of new ≡ beside_of lent → RunsLog primary new
+    → SameCustomers primary.node.names primary.node.board.opening → ops ≡ log_ops primary.node.names primary.log → IsWholeLog ops new.board
+    → new.board.opening ≡ lent.board.opening → rest_of new ≡ rest_of lent → RunsLog primary new
 runs_log {S} primary lent new ops at same is carried opening beside =
-    let names : new.names ≡ primary.node.names = ap (λ (b : BesideOf S). b.names) beside ∙ ap (λ (r : ReplicaOf S). r.names) at in
+    let names : new.names ≡ primary.node.names = ap (λ (b : RestOf S). b.names) beside ∙ ap (λ (r : ReplicaOf S). r.names) at in
     let began : new.board.opening ≡ primary.node.board.opening = opening ∙ ap (λ (r : ReplicaOf S). r.board.opening) at in
     let calls = calls_of primary.log in
     let here : SameCustomers new.names new.board.opening = subst (λ (d : List (List ℕ)). SameCustomers d new.board.opening) (sym names)
@@ -62,5 +62,5 @@ runs_log {S} primary lent new ops at same is carried opening beside =
       opening_is = began;
       log_is = carried.log ∙ is;
       one_by_one = one_by_one new.names new.board.opening calls ops new.board here refl carried
-          (is ∙ ap (λ (d : List (List ℕ)). map (resolved d) calls) (sym names));
+          (is ∙ ap (λ (d : List (List ℕ)). map (op_of d) calls) (sym names));
     }

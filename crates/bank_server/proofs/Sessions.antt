@@ -8,24 +8,25 @@ use Rattle.std.proofs.lemmas.List.Elements.{All-nil}
 use Rattle.sb_rows.specs.Rows.{Rows}
 use Rattle.sb_calls.specs.declared.ask.Key.{Key}
 use Rattle.sb_calls.specs.declared.call.Call.{Call}
-use Rattle.sb_frames.specs.Decoding.{decoded}
+use Rattle.sb_frames.specs.Decoding.{decode_result}
 use Rattle.sb_frames.specs.Grammar.{spelling}
 use Rattle.sb_frames.specs.Streaming.{IsShort, StreamState}
 use Rattle.sb_frames.specs.declared.frame.Frame as frames
 use Rattle.sb_sequencer.specs.Numbering.{IsLog, first_asks}
-use Rattle.bank_server.specs.Place.{Comes, Hears, IsLeftAt, Place, Stops}
-use Rattle.bank_server.specs.Served.{IsAt, IsCutShort, IsServed, IsTold, IsToldBefore}
-use Rattle.bank_server.specs.Session.{IsClients, log_of_session, outcomes_of}
-use Rattle.bank_server.specs.SessionFaults.{IsEndFault, IsSettleFault}
+use Rattle.bank_server.specs.inner.SessionSteps.{Reaches, HandlesBytes, IsStateAfterFault, SessionState, Stops}
+use Rattle.bank_server.specs.SessionResults.{IsFaultAt, ServesUntilFault, ServesSession, WritesOutcomes, WritesOutcomesBefore}
+use Rattle.bank_server.specs.Session.{IsFromClient, log_of_session, outcomes_of}
+use Rattle.bank_server.specs.inner.FlushFaults.{IsEndFault}
+use Rattle.bank_server.specs.SessionFaults.{IsSettleFault}
 use Rattle.bank_server.specs.declared.session_fault.SessionFault.{SessionFault}
 use Rattle.bank_server.specs.declared.session_fault.SessionFault.TheVariants.{Frame, Unexpected, CrewGone, Device, OutOfMemory}
 use Rattle.bank_server.proofs.OwnLog.{own_log}
 
 -- these bytes were frames that led from a log to here, and then what is unread
-pub record Heard (opening : Rows) (before : List (Key × Call)) (start : Option (List ℕ)) (bytes : List ℕ) (at : Place) (unread : List ℕ)
+pub record ReadsTo (opening : Rows) (before : List (Key × Call)) (start : Option (List ℕ)) (bytes : List ℕ) (at : SessionState) (unread : List ℕ)
     : Type 0 where
   pub frames : List frames.Frame
-  pub comes : Comes opening before start frames at
+  pub comes : Reaches opening before start frames at
   pub bytes_are : bytes ≡ flat_map spelling frames ++ unread
 
 -- ---- on the way
@@ -39,14 +40,14 @@ pub nothing_asked : (before : List (Key × Call)) → IsLog before → log_of_se
 nothing_asked before is = ap first_asks (append-nil before) ∙ own_log before is
 
 -- before the first byte
-pub heard_nothing : (opening : Rows) (before : List (Key × Call)) (start : Option (List ℕ)) (at : Place) → IsLog before → at.log ≡ before
-    → at.waiting ≡ [] → at.written ≡ start → Heard opening before start [] at []
-heard_nothing opening before start at is log waiting written = record {
+pub heard_nothing : (opening : Rows) (before : List (Key × Call)) (start : Option (List ℕ)) (at : SessionState) → IsLog before → at.log ≡ before
+    → at.pending ≡ [] → at.written ≡ start → ReadsTo opening before start [] at []
+heard_nothing opening before start at is log pending written = record {
   frames = [];
   comes = record {
-    clients = All-nil IsClients;
+    clients = All-nil IsFromClient;
     log_is = log ∙ sym (nothing_asked before is);
-    waiting_are = waiting;
+    pending_are = pending;
     written = subst (λ (w : Option (List ℕ)). Appends start w []) (sym written) (appends_nothing start);
   };
   bytes_are = refl;
@@ -60,80 +61,80 @@ further bytes chunk unread left frames more bytes_are read =
     ∙ ap (λ (l : List ℕ). l ++ left) (sym (flat_map-append spelling frames more))
 
 -- one more read
-pub heard_more : (opening : Rows) (before : List (Key × Call)) (start : Option (List ℕ)) (bytes chunk : List ℕ) (mid : Place) (unread : List ℕ)
-    (new : Place) (left : List ℕ) → Heard opening before start bytes mid unread → Hears opening mid (unread ++ chunk) new left
-    → Heard opening before start (bytes ++ chunk) new left
-heard_more opening before start bytes chunk mid unread new left heard hears = record {
-  frames = heard.frames ++ hears.more;
-  comes = hears.leads before start heard.frames heard.comes;
-  bytes_are = further bytes chunk unread left heard.frames hears.more heard.bytes_are hears.read;
+pub heard_more : (opening : Rows) (before : List (Key × Call)) (start : Option (List ℕ)) (bytes chunk : List ℕ) (mid : SessionState) (unread : List ℕ)
+    (new : SessionState) (left : List ℕ) → ReadsTo opening before start bytes mid unread → HandlesBytes opening mid (unread ++ chunk) new left
+    → ReadsTo opening before start (bytes ++ chunk) new left
+heard_more opening before start bytes chunk mid unread new left heard handles = record {
+  frames = heard.frames ++ handles.more;
+  comes = handles.leads before start heard.frames heard.comes;
+  bytes_are = further bytes chunk unread left heard.frames handles.more heard.bytes_are handles.read;
 }
 
 -- ---- the end
 
-told_at : (opening : Rows) (before : List (Key × Call)) (start : Option (List ℕ)) (frames : List frames.Frame) (at : Place) (log : List (Key × Call))
-    → log ≡ at.log → Comes opening before start frames at → IsTold opening before frames log start at.written
+told_at : (opening : Rows) (before : List (Key × Call)) (start : Option (List ℕ)) (frames : List frames.Frame) (at : SessionState) (log : List (Key × Call))
+    → log ≡ at.log → Reaches opening before start frames at → WritesOutcomes opening before frames log start at.written
 told_at opening before start frames at log same came = record {
   log_is = same ∙ came.log_is;
   written = subst (λ (l : List (Key × Call)). Appends start at.written (flat_map spelling (outcomes_of opening l frames))) (sym same) came.written;
 }
 
-pub served : (opening : Rows) (before : List (Key × Call)) (start : Option (List ℕ)) (input : List ℕ) (at : Place) (unread : List ℕ)
-    (log : List (Key × Call)) → Heard opening before start input at unread → unread ≡ [] → log ≡ at.log
-    → IsServed opening before log start at.written input
+pub served : (opening : Rows) (before : List (Key × Call)) (start : Option (List ℕ)) (input : List ℕ) (at : SessionState) (unread : List ℕ)
+    (log : List (Key × Call)) → ReadsTo opening before start input at unread → unread ≡ [] → log ≡ at.log
+    → ServesSession opening before log start at.written input
 served opening before start input at unread log heard all same = record {
   frames = heard.frames;
   clients = heard.comes.clients;
   input_is = heard.bytes_are ∙ ap (λ (l : List ℕ). flat_map spelling heard.frames ++ l) all ∙ append-nil (flat_map spelling heard.frames);
-  told = told_at opening before start heard.frames at log same heard.comes;
+  outcomes = told_at opening before start heard.frames at log same heard.comes;
 }
 
 -- ---- faults
 
 told_before : (fault : SessionFault) (opening : Rows) (before : List (Key × Call)) (start : Option (List ℕ)) (frames : List frames.Frame)
-    (there new : Place) → Comes opening before start frames there → IsLeftAt fault there new
-    → IsToldBefore fault opening before frames new.log start new.written
+    (there new : SessionState) → Reaches opening before start frames there → IsStateAfterFault fault there new
+    → WritesOutcomesBefore fault opening before frames new.log start new.written
 told_before (Frame fault) opening before start frames there new came left =
-    told_at opening before start frames new new.log refl (subst (Comes opening before start frames) (sym left) came)
+    told_at opening before start frames new new.log refl (subst (Reaches opening before start frames) (sym left) came)
 told_before Unexpected opening before start frames there new came left =
-    told_at opening before start frames new new.log refl (subst (Comes opening before start frames) (sym left) came)
+    told_at opening before start frames new new.log refl (subst (Reaches opening before start frames) (sym left) came)
 told_before CrewGone opening before start frames there new came left = left ∙ came.log_is
 told_before Device opening before start frames there new came left = left ∙ came.log_is
 told_before OutOfMemory opening before start frames there new came left = left ∙ came.log_is
 
 -- a fault within a read
-pub stopped : (opening : Rows) (before : List (Key × Call)) (start : Option (List ℕ)) (bytes chunk behind input : List ℕ) (mid : Place)
-    (unread : List ℕ) (new : Place) (fault : SessionFault) → Heard opening before start bytes mid unread → Stops opening mid (unread ++ chunk) fault new
-    → input ≡ (bytes ++ chunk) ++ behind → IsCutShort opening before new.log start new.written input fault
+pub stopped : (opening : Rows) (before : List (Key × Call)) (start : Option (List ℕ)) (bytes chunk behind input : List ℕ) (mid : SessionState)
+    (unread : List ℕ) (new : SessionState) (fault : SessionFault) → ReadsTo opening before start bytes mid unread → Stops opening mid (unread ++ chunk) fault new
+    → input ≡ (bytes ++ chunk) ++ behind → ServesUntilFault opening before new.log start new.written input fault
 stopped opening before start bytes chunk behind input mid unread new fault heard stops input_is = record {
   frames = on.frames;
   clients = on.comes.clients;
   rest = stops.rest ++ behind;
   input_is = input_is ∙ ap (λ (l : List ℕ). l ++ behind) on.bytes_are ∙ append_assoc (flat_map spelling on.frames) stops.rest behind;
   at = stops.at behind;
-  told = told_before fault opening before start on.frames stops.there new on.comes stops.left;
+  outcomes = told_before fault opening before start on.frames stops.there new on.comes stops.left;
 }
   where
-    on : Heard opening before start (bytes ++ chunk) stops.there stops.rest
-    on = heard_more opening before start bytes chunk mid unread stops.there stops.rest heard stops.hears
+    on : ReadsTo opening before start (bytes ++ chunk) stops.there stops.rest
+    on = heard_more opening before start bytes chunk mid unread stops.there stops.rest heard stops.handles
 
 -- a fault between two reads, or at the end
-pub ended : (opening : Rows) (before : List (Key × Call)) (start : Option (List ℕ)) (bytes behind input : List ℕ) (at : Place) (unread : List ℕ)
-    (new : Place) (fault : SessionFault) → Heard opening before start bytes at unread → input ≡ bytes ++ behind → IsAt fault (unread ++ behind)
-    → IsLeftAt fault at new → IsCutShort opening before new.log start new.written input fault
+pub ended : (opening : Rows) (before : List (Key × Call)) (start : Option (List ℕ)) (bytes behind input : List ℕ) (at : SessionState) (unread : List ℕ)
+    (new : SessionState) (fault : SessionFault) → ReadsTo opening before start bytes at unread → input ≡ bytes ++ behind → IsFaultAt fault (unread ++ behind)
+    → IsStateAfterFault fault at new → ServesUntilFault opening before new.log start new.written input fault
 ended opening before start bytes behind input at unread new fault heard input_is is_at left = record {
   frames = heard.frames;
   clients = heard.comes.clients;
   rest = unread ++ behind;
   input_is = input_is ∙ ap (λ (l : List ℕ). l ++ behind) heard.bytes_are ∙ append_assoc (flat_map spelling heard.frames) unread behind;
   at = is_at;
-  told = told_before fault opening before start heard.frames at new heard.comes left;
+  outcomes = told_before fault opening before start heard.frames at new heard.comes left;
 }
 
 -- the fault that says that the last frame isn't whole
-pub end_at : (fault : SessionFault) (stream : StreamState) → IsShort stream → IsEndFault stream fault → IsAt fault (stream.unread ++ [])
+pub end_at : (fault : SessionFault) (stream : StreamState) → IsShort stream → IsEndFault stream fault → IsFaultAt fault (stream.unread ++ [])
 end_at (Frame fault) stream short is =
-    subst (λ (rest : List ℕ). (decoded rest ≡ Err fault) × (rest ≢ [])) (sym (append-nil stream.unread))
+    subst (λ (rest : List ℕ). (decode_result rest ≡ Err fault) × (rest ≢ [])) (sym (append-nil stream.unread))
     (short.1 ∙ ap Err (sym is.0), some is.1)
   where
     some : (stream.unread ≢ []) ⊎ (stream.failed ≡ true) → stream.unread ≢ []
@@ -145,22 +146,22 @@ end_at Device stream short is = absurd is
 end_at OutOfMemory stream short is = tt
 
 -- at the end nothing was written, and the log stays
-pub end_left : (fault : SessionFault) (stream : StreamState) (at new : Place) → IsEndFault stream fault → new ≡ at → IsLeftAt fault at new
+pub end_left : (fault : SessionFault) (stream : StreamState) (at new : SessionState) → IsEndFault stream fault → new ≡ at → IsStateAfterFault fault at new
 end_left (Frame fault) stream at new is same = same
 end_left Unexpected stream at new is same = same
-end_left CrewGone stream at new is same = ap (λ (p : Place). p.log) same
-end_left Device stream at new is same = ap (λ (p : Place). p.log) same
-end_left OutOfMemory stream at new is same = ap (λ (p : Place). p.log) same
+end_left CrewGone stream at new is same = ap (λ (p : SessionState). p.log) same
+end_left Device stream at new is same = ap (λ (p : SessionState). p.log) same
+end_left OutOfMemory stream at new is same = ap (λ (p : SessionState). p.log) same
 
 -- a log that can't be executed at first
-pub settle_at : (fault : SessionFault) (rest : List ℕ) → IsSettleFault fault → IsAt fault rest
+pub settle_at : (fault : SessionFault) (rest : List ℕ) → IsSettleFault fault → IsFaultAt fault rest
 settle_at (Frame fault) rest is = absurd is
 settle_at Unexpected rest is = absurd is
 settle_at CrewGone rest is = tt
 settle_at Device rest is = absurd is
 settle_at OutOfMemory rest is = tt
 
-pub settle_left : (fault : SessionFault) (at new : Place) → IsSettleFault fault → new.log ≡ at.log → IsLeftAt fault at new
+pub settle_left : (fault : SessionFault) (at new : SessionState) → IsSettleFault fault → new.log ≡ at.log → IsStateAfterFault fault at new
 settle_left (Frame fault) at new is same = absurd is
 settle_left Unexpected at new is same = absurd is
 settle_left CrewGone at new is same = same

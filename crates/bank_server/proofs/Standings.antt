@@ -17,16 +17,16 @@ use Rattle.std.proofs.Math.Seq.{get_or-append_seam}
 use Rattle.sb_calls.specs.declared.ask.Key.{Key}
 use Rattle.sb_calls.specs.declared.call.Call.{Call}
 use Rattle.sb_calls.specs.declared.call.Call.TheVariants.{Balance, DepositChecking, TransactSavings, Amalgamate, WriteCheck, SendPayment}
-use Rattle.sb_sequencer.proofs.Firsts.{has_key-firsts_after}
-use Rattle.sb_sequencer.proofs.Keys.{same_key_same, same_key_itself, absent_from_place, has_key-place}
-use Rattle.sb_sequencer.proofs.Logs.{first_asks-push, log_with-known, log_with-full, log_with-new}
-use Rattle.sb_sequencer.specs.Answer.{IsAnswered}
+use Rattle.sb_sequencer.proofs.FirstAsks.{has_key-firsts_after}
+use Rattle.sb_sequencer.proofs.Keys.{same_key_same, same_key_itself, absent_without_index, has_key-place}
+use Rattle.sb_sequencer.proofs.LogSteps.{first_asks-push, log_with-known, log_with-full, log_with-new}
+use Rattle.sb_sequencer.specs.Answer.{AnswersAsk}
 use Rattle.sb_sequencer.specs.Log.{log_with}
-use Rattle.sb_sequencer.specs.Numbering.{same_key, has_key, firsts_after, first_asks, place_of_key}
+use Rattle.sb_sequencer.specs.Numbering.{same_key, has_key, firsts_after, first_asks, index_of_key}
 use Rattle.sb_sequencer.specs.declared.answer.AskFault.TheVariants as faults
 use Rattle.sb_sequencer.specs.declared.answer.Numbered.TheVariants as numbers
 use Rattle.sb_calls.specs.declared.call.TheConstants.{LOG_CALLS}
-use Rattle.bank_server.specs.Standing.{StandsAmong, same_call, numbered_standing, standing_at, standing_of}
+use Rattle.bank_server.specs.Standing.{IsStandingWithin, same_call, numbered_standing, standing_at, standing_of}
 use Rattle.bank_server.specs.declared.asking.Standing.TheVariants.{Number, Mismatch, LogFull}
 
 -- ---- calls
@@ -75,7 +75,7 @@ standing_other n call entry other =
 -- ---- places in a log that grows
 
 -- a key keeps its place
-place_kept : (log : List (Key × Call)) (entry : Key × Call) (key : Key) (k : ℕ) → place_of_key log key ≡ Some k → place_of_key (log ++ entry ∷ []) key ≡ Some k
+place_kept : (log : List (Key × Call)) (entry : Key × Call) (key : Key) (k : ℕ) → index_of_key log key ≡ Some k → index_of_key (log ++ entry ∷ []) key ≡ Some k
 place_kept log entry key k e =
     let test = λ (ask : Key × Call). same_key key ask.0 in
     let at = position-Some test log k entry e in
@@ -87,11 +87,11 @@ place_kept log entry key k e =
     ∙ cond-true (nat_lt k (length (log ++ entry ∷ []))) (Some k) None (lt-ltb k (length (log ++ entry ∷ [])) (omega (arith, longer, at.0)))
 
 -- a new key has the last place
-place_new : (log : List (Key × Call)) (entry : Key × Call) → place_of_key log entry.0 ≡ None → place_of_key (log ++ entry ∷ []) entry.0 ≡ Some (length log)
+place_new : (log : List (Key × Call)) (entry : Key × Call) → index_of_key log entry.0 ≡ None → index_of_key (log ++ entry ∷ []) entry.0 ≡ Some (length log)
 place_new log entry e =
     let test = λ (ask : Key × Call). same_key entry.0 ask.0 in
     let longer = length_push log entry in
-    let absent = absent_from_place log entry.0 e in
+    let absent = absent_without_index log entry.0 e in
     let first : position_or_len test (log ++ entry ∷ []) ≡ length log = position_or_len_is test (log ++ entry ∷ []) (length log) entry (omega (arith, longer))
     (λ j l. ap test (get_or_append_left log (entry ∷ []) entry j l) ∙ absent j entry l)
     (λ l. ap test (get_or-append_seam log entry [] entry) ∙ same_key_itself entry.0) in
@@ -111,7 +111,7 @@ entry_new log entry = slice_get-get_or (log ++ entry ∷ []) (length log) entry 
 -- ---- standings in a log that grows
 
 -- an ask whose key has a number keeps its standing
-standing_kept : (log : List (Key × Call)) (entry ask : Key × Call) (k : ℕ) → place_of_key log ask.0 ≡ Some k
+standing_kept : (log : List (Key × Call)) (entry ask : Key × Call) (k : ℕ) → index_of_key log ask.0 ≡ Some k
     → standing_of (log ++ entry ∷ []) ask ≡ standing_of log ask
 standing_kept log entry ask k e =
     let within = (position-Some (λ (other : Key × Call). same_key ask.0 other.0) log k entry e).0 in
@@ -123,9 +123,9 @@ none_is_true : is_some {T = ℕ} None ≡ true → ⊥
 none_is_true e = cc
 
 standing_known : (log : List (Key × Call)) (entry ask : Key × Call) → has_key log ask.0 ≡ true → standing_of (log ++ entry ∷ []) ask ≡ standing_of log ask
-standing_known log entry ask known = by (place_of_key log ask.0) refl
+standing_known log entry ask known = by (index_of_key log ask.0) refl
   where
-    by : (place : Option ℕ) → place_of_key log ask.0 ≡ place → standing_of (log ++ entry ∷ []) ask ≡ standing_of log ask
+    by : (place : Option ℕ) → index_of_key log ask.0 ≡ place → standing_of (log ++ entry ∷ []) ask ≡ standing_of log ask
     by None e = absurd (none_is_true (sym (has_key-place log ask.0 ∙ ap is_some e) ∙ known))
     by (Some k) e = standing_kept log entry ask k e
 
@@ -171,9 +171,9 @@ log_has asks (ask ∷ rest) l h = (has_key-first_asks asks ask.0 l ∙ h.0, log_
 -- one more ask leaves the standings of those before
 pub standings_after : (asks : List (Key × Call)) (ask : Key × Call)
     → map (standing_of (first_asks (asks ++ ask ∷ []))) asks ≡ map (standing_of (first_asks asks)) asks
-standings_after asks ask = ap (λ log. map (standing_of log) asks) (first_asks-push asks ask) ∙ by (place_of_key (first_asks asks) ask.0) refl
+standings_after asks ask = ap (λ log. map (standing_of log) asks) (first_asks-push asks ask) ∙ by (index_of_key (first_asks asks) ask.0) refl
   where
-    by : (place : Option ℕ) → place_of_key (first_asks asks) ask.0 ≡ place
+    by : (place : Option ℕ) → index_of_key (first_asks asks) ask.0 ≡ place
         → map (standing_of (log_with (first_asks asks) ask)) asks ≡ map (standing_of (first_asks asks)) asks
     by (Some k) e = ap (λ log. map (standing_of log) asks) (log_with-known (first_asks asks) ask k e)
     by None e = elim (cases_lt (length (first_asks asks)) LOG_CALLS) [
@@ -184,16 +184,16 @@ standings_after asks ask = ap (λ log. map (standing_of log) asks) (first_asks-p
 
 -- ---- the standing by an answer
 
-pub answered_new : (log : List (Key × Call)) (ask : Key × Call) (n : ℕ) → IsAnswered log ask (Ok (numbers.New n)) → Number n ≡ standing_of (log ++ ask ∷ []) ask
+pub answered_new : (log : List (Key × Call)) (ask : Key × Call) (n : ℕ) → AnswersAsk log ask (Ok (numbers.New n)) → Number n ≡ standing_of (log ++ ask ∷ []) ask
 answered_new log ask n h =
     ap Number h.2 ∙ sym (standing_same (length log + 1) ask)
     ∙ sym (ap (standing_at (log ++ ask ∷ []) ask.1) (place_new log ask h.0) ∙ ap (numbered_standing (length log + 1) ask.1) (entry_new log ask))
 
-pub answered_repeat : (log : List (Key × Call)) (ask : Key × Call) (n : ℕ) → IsAnswered log ask (Ok (numbers.Repeat n)) → Number n ≡ standing_of log ask
+pub answered_repeat : (log : List (Key × Call)) (ask : Key × Call) (n : ℕ) → AnswersAsk log ask (Ok (numbers.Repeat n)) → Number n ≡ standing_of log ask
 answered_repeat log ask n h =
     ap Number h.2 ∙ sym (standing_same (h.0 + 1) ask) ∙ sym (ap (standing_at log ask.1) h.1 ∙ ap (numbered_standing (h.0 + 1) ask.1) h.3)
 
-pub answered_mismatch : (log : List (Key × Call)) (ask : Key × Call) (n : ℕ) → IsAnswered log ask (Err (faults.Mismatch n)) → Mismatch n ≡ standing_of log ask
+pub answered_mismatch : (log : List (Key × Call)) (ask : Key × Call) (n : ℕ) → AnswersAsk log ask (Err (faults.Mismatch n)) → Mismatch n ≡ standing_of log ask
 answered_mismatch log ask n h =
     let at = position-Some (λ (other : Key × Call). same_key ask.0 other.0) log h.0 ask h.1 in
     let entry = get_or log h.0 ask in
@@ -202,26 +202,26 @@ answered_mismatch log ask n h =
     ap Mismatch h.2 ∙ sym (standing_other (h.0 + 1) ask.1 entry (λ e. h.3 (stands ∙ (λ j. Some (sym key j, e j)))))
     ∙ sym (ap (standing_at log ask.1) h.1 ∙ ap (numbered_standing (h.0 + 1) ask.1) stands)
 
-pub answered_full : (log : List (Key × Call)) (ask : Key × Call) → place_of_key log ask.0 ≡ None → LogFull ≡ standing_of log ask
+pub answered_full : (log : List (Key × Call)) (ask : Key × Call) → index_of_key log ask.0 ≡ None → LogFull ≡ standing_of log ask
 answered_full log ask e = sym (ap (standing_at log ask.1) e)
 
 -- ---- numbers of the log
 
-among_by_test : (n calls : ℕ) (same : Bool) → n ≤ calls → StandsAmong calls (if same then Number n else Mismatch n)
+among_by_test : (n calls : ℕ) (same : Bool) → n ≤ calls → IsStandingWithin calls (if same then Number n else Mismatch n)
 among_by_test n calls true le = le
 among_by_test n calls false le = le
 
-among_at : (n calls : ℕ) (call : Call) (entry : Option (Key × Call)) → n ≤ calls → StandsAmong calls (numbered_standing n call entry)
+among_at : (n calls : ℕ) (call : Call) (entry : Option (Key × Call)) → n ≤ calls → IsStandingWithin calls (numbered_standing n call entry)
 among_at n calls call None le = tt
 among_at n calls call (Some entry) le = among_by_test n calls (same_call entry.1 call) le
 
-pub stands_among : (log : List (Key × Call)) (ask : Key × Call) → StandsAmong (length log) (standing_of log ask)
-stands_among log ask = by (place_of_key log ask.0) refl
+pub stands_among : (log : List (Key × Call)) (ask : Key × Call) → IsStandingWithin (length log) (standing_of log ask)
+stands_among log ask = by (index_of_key log ask.0) refl
   where
-    by : (place : Option ℕ) → place_of_key log ask.0 ≡ place → StandsAmong (length log) (standing_at log ask.1 place)
+    by : (place : Option ℕ) → index_of_key log ask.0 ≡ place → IsStandingWithin (length log) (standing_at log ask.1 place)
     by None e = tt
     by (Some k) e = among_at (k + 1) (length log) ask.1 (slice_get log k)
         (omega (arith, (position-Some (λ (other : Key × Call). same_key ask.0 other.0) log k ask e).0))
 
-pub all_among : (log asks : List (Key × Call)) → All (StandsAmong (length log)) (map (standing_of log) asks)
-all_among log asks = All-map (StandsAmong (length log)) (standing_of log) asks (λ k d lt. stands_among log (slice_index_or asks k d))
+pub all_among : (log asks : List (Key × Call)) → All (IsStandingWithin (length log)) (map (standing_of log) asks)
+all_among log asks = All-map (IsStandingWithin (length log)) (standing_of log) asks (λ k d lt. stands_among log (slice_index_or asks k d))

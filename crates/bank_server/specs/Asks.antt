@@ -1,6 +1,6 @@
 -- The keys of asking lines.
 use Rattle.std.specs.Prelude.{ℕ, ◌+◌, Option, Some, None, List, [], ◌∷◌}
-use Rattle.sb_calls.specs.declared.ask.Asked.{Asked}
+use Rattle.sb_calls.specs.declared.ask.AskLine.{AskLine}
 use Rattle.sb_calls.specs.declared.ask.Key.{Key}
 use Rattle.sb_calls.specs.declared.call.Call.{Call}
 
@@ -15,16 +15,11 @@ running_after running None = running + 1
 running_after running (Some key) = running
 
 -- the asks with their keys, if the next line without a key has this running number
-abbrev pub keyed_from : ℕ → List Asked → List (Key × Call)
-keyed_from running [] = []
-keyed_from running (asked ∷ asks) =
-    (key_of_line running asked.key, asked.call) ∷ keyed_from (running_after running asked.key) asks
-
--- the running number after all of these asks
-abbrev pub running_from : ℕ → List Asked → ℕ
-running_from running [] = running
-running_from running (asked ∷ asks) = running_from (running_after running asked.key) asks
+abbrev pub asks_with_keys_from : ℕ → List AskLine → List (Key × Call)
+asks_with_keys_from running [] = []
+asks_with_keys_from running (asked ∷ asks) =
+    (key_of_line running asked.key, asked.call) ∷ asks_with_keys_from (running_after running asked.key) asks
 
 -- the asks with their keys, in order
-abbrev pub keyed : List Asked → List (Key × Call)
-keyed asks = keyed_from 1 asks
+abbrev pub asks_with_keys : List AskLine → List (Key × Call)
+asks_with_keys asks = asks_with_keys_from 1 asks

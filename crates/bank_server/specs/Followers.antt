@@ -2,7 +2,7 @@
 use Rattle.std.specs.Prelude.{◌≡◌, ℕ, List, []}
 use Rattle.sb_rows.specs.Balances.{Balances}
 use Rattle.sb_checkpoint.specs.declared.memory_store.MemoryStore.{MemoryStore}
-use Rattle.cown_board.specs.Played.{opened_with}
+use Rattle.cown_board.specs.BoardCalls.{board_at_opening}
 use Rattle.sb_replica.specs.Replica.{ReplicaOf}
 use Rattle.sb_replica_log.specs.Log.{none_held}
 
@@ -16,7 +16,7 @@ pub record ReadyFollowersOf : Type 0 where
 pub record IsAtOpening {S : Type 0} (names : List (List ℕ)) (opening : Balances) (replica : ReplicaOf S) : Type 0 where
   pub names_are : replica.names ≡ names
   pub opening_is : replica.opening ≡ opening
-  pub board : replica.board ≡ opened_with opening []
+  pub board : replica.board ≡ board_at_opening opening []
   pub held : replica.held ≡ none_held
 
 -- the number of nodes, with node 0; the number of followers that listen, 0 once they were compared;
@@ -24,4 +24,4 @@ pub record IsAtOpening {S : Type 0} (names : List (List ℕ)) (opening : Balance
 pub record FollowersOf : Type 0 where
   pub nodes : ℕ
   pub listening : ℕ
-  pub told : ℕ
+  pub sent : ℕ

@@ -1,61 +1,62 @@
 -- The log, and node 0, which executes it.
 use Rattle.std.specs.Prelude.{◌≡◌, ℕ, None, List, [], ◌++◌, map}
 use Rattle.sb_rows.specs.Rows.{Rows, SameCustomers, rows_of}
-use Rattle.sb_calls.specs.Op.{resolved}
+use Rattle.sb_calls.specs.Op.{op_of}
 use Rattle.sb_calls.specs.declared.ask.Key.{Key}
 use Rattle.sb_calls.specs.declared.call.Call.{Call}
 use Rattle.sb_calls.specs.declared.op.Op.{Op}
 use Rattle.sb_rows.specs.declared.opening.Opening.{Opening}
 use Rattle.cown_board.specs.Board.{BoardOf}
-use Rattle.cown_board.specs.Played.{opened_with}
+use Rattle.cown_board.specs.BoardCalls.{board_at_opening}
 use Rattle.sb_replica_log.specs.Log.{none_held}
-use Rattle.sb_replica.specs.Replica.{ReplicaOf, beside_of}
+use Rattle.sb_replica.specs.Replica.{ReplicaOf, rest_of}
 use Rattle.sb_sequencer.specs.Numbering.{IsLog}
-use Rattle.bank_server.specs.Execution.{IsCarriedOut, IsOneByOne}
+use Rattle.bank_server.specs.Execution.{IsWholeLog, IsOneByOne}
 use Rattle.bank_server.specs.Output.{calls_of}
 
 -- the ops of a log's calls, by these names
-abbrev pub ops_of : List (List ℕ) → List (Key × Call) → List Op
-ops_of names log = map (resolved names) (calls_of log)
+abbrev pub log_ops : List (List ℕ) → List (Key × Call) → List Op
+log_ops names log = map (op_of names) (calls_of log)
 
 -- the board has a beginning of these ops, nothing came before it, and it has no cut
-pub record IsBehind (ops : List Op) (board : BoardOf Op) : Type 0 where
-  pub earlier : board.earlier ≡ []
+pub record HasPrefixOf (ops : List Op) (board : BoardOf Op) : Type 0 where
+  pub base_replies : board.base_replies ≡ []
   pub uncut : board.cut ≡ None
   pub begins : (rest : List Op) × (ops ≡ board.log ++ rest)
 
+-- the log, and the replica that is node 0
 pub record PrimaryOf (S : Type 0) : Type 0 where
   pub log : List (Key × Call)
   pub node : ReplicaOf S
 
 -- node 0 at an opening, with nothing of the log
-abbrev pub opened_node : {S : Type 0} → Opening → S → ReplicaOf S
-opened_node opening store = record {
+abbrev pub node_at_opening : {S : Type 0} → Opening → S → ReplicaOf S
+node_at_opening opening store = record {
   id = 0;
   names = opening.directory;
   opening = opening.columns;
-  board = opened_with opening.columns [];
+  board = board_at_opening opening.columns [];
   held = none_held;
   store = store;
 }
 
 -- the rows on which the log is executed
-abbrev pub opening_of : {S : Type 0} → PrimaryOf S → Rows
-opening_of primary = rows_of primary.node.names primary.node.board.opening
+abbrev pub opening_rows_of : {S : Type 0} → PrimaryOf S → Rows
+opening_rows_of primary = rows_of primary.node.names primary.node.board.opening
 
 -- what always holds of the log and node 0
 pub record IsPrimary {S : Type 0} (primary : PrimaryOf S) : Type 0 where
   pub log : IsLog primary.log
   pub customers : SameCustomers primary.node.names primary.node.board.opening
-  pub behind : IsBehind (ops_of primary.node.names primary.log) primary.node.board
+  pub behind : HasPrefixOf (log_ops primary.node.names primary.log) primary.node.board
 
 -- node 0 has executed the whole log
-abbrev pub HasAll : {S : Type 0} → PrimaryOf S → Type 0
-HasAll primary = IsCarriedOut (ops_of primary.node.names primary.log) primary.node.board
+abbrev pub HasWholeLog : {S : Type 0} → PrimaryOf S → Type 0
+HasWholeLog primary = IsWholeLog (log_ops primary.node.names primary.log) primary.node.board
 
 -- node 0 keeps its identity, its names and its store, over the same opening
-pub record KeepsBank {S : Type 0} (old new : PrimaryOf S) : Type 0 where
-  pub beside : beside_of new.node ≡ beside_of old.node
+pub record PreservesBank {S : Type 0} (old new : PrimaryOf S) : Type 0 where
+  pub rest : rest_of new.node ≡ rest_of old.node
   pub opening : new.node.board.opening ≡ old.node.board.opening
 
 -- a node with the names and the opening of node 0 executed this bank's log, as if its calls were
@@ -63,5 +64,5 @@ pub record KeepsBank {S : Type 0} (old new : PrimaryOf S) : Type 0 where
 pub record RunsLog {S : Type 0} (primary : PrimaryOf S) (node : ReplicaOf S) : Type 0 where
   pub names_are : node.names ≡ primary.node.names
   pub opening_is : node.board.opening ≡ primary.node.board.opening
-  pub log_is : node.board.log ≡ ops_of primary.node.names primary.log
+  pub log_is : node.board.log ≡ log_ops primary.node.names primary.log
   pub one_by_one : IsOneByOne node.names (calls_of primary.log) node.board.opening node.board

@@ -16,14 +16,14 @@ use Rattle.bank_server.specs.declared.asking.Standing.{Standing}
 use Rattle.bank_server.specs.declared.asking.Standing.TheVariants.{Number, Mismatch, LogFull}
 
 -- a client sends asks and flushes, and nothing else
-abbrev pub IsClients : Frame → Type 0
-IsClients (Ask client request call) = Unit {0}
-IsClients (Entry number call) = ⊥
-IsClients (Ack replica size) = ⊥
-IsClients (Answer number reply) = ⊥
-IsClients (Outcome client request outcome) = ⊥
-IsClients Flush = Unit {0}
-IsClients (Have replica size) = ⊥
+abbrev pub IsFromClient : Frame → Type 0
+IsFromClient (Ask client request call) = Unit {0}
+IsFromClient (Entry number call) = ⊥
+IsFromClient (Ack replica size) = ⊥
+IsFromClient (Answer number reply) = ⊥
+IsFromClient (Outcome client request outcome) = ⊥
+IsFromClient Flush = Unit {0}
+IsFromClient (Have replica size) = ⊥
 
 abbrev pub is_flush : Frame → Bool
 is_flush (Ask client request call) = false
@@ -35,36 +35,36 @@ is_flush Flush = true
 is_flush (Have replica size) = false
 
 -- the ask in a frame, if it is one
-abbrev pub ask_in : Frame → List (Key × Call)
-ask_in (Ask client request call) = (record { client = client; request = request }, call) ∷ []
-ask_in (Entry number call) = []
-ask_in (Ack replica size) = []
-ask_in (Answer number reply) = []
-ask_in (Outcome client request outcome) = []
-ask_in Flush = []
-ask_in (Have replica size) = []
+abbrev pub ask_of_frame : Frame → List (Key × Call)
+ask_of_frame (Ask client request call) = (record { client = client; request = request }, call) ∷ []
+ask_of_frame (Entry number call) = []
+ask_of_frame (Ack replica size) = []
+ask_of_frame (Answer number reply) = []
+ask_of_frame (Outcome client request outcome) = []
+ask_of_frame Flush = []
+ask_of_frame (Have replica size) = []
 
 -- the asks in these frames, in order
 abbrev pub asks_in : List Frame → List (Key × Call)
-asks_in frames = flat_map ask_in frames
+asks_in frames = flat_map ask_of_frame frames
 
 -- the asks that a flush follows: the client gets their outcomes
-abbrev pub told_in : List Frame → List (Key × Call)
-told_in [] = []
-told_in (frame ∷ frames) = if list_any is_flush frames then ask_in frame ++ told_in frames else []
+abbrev pub flushed_asks : List Frame → List (Key × Call)
+flushed_asks [] = []
+flushed_asks (frame ∷ frames) = if list_any is_flush frames then ask_of_frame frame ++ flushed_asks frames else []
 
 -- the log after a session: the first ask of each key, among those before and then the session's
 abbrev pub log_of_session : List (Key × Call) → List Frame → List (Key × Call)
 log_of_session before frames = first_asks (before ++ asks_in frames)
 
 -- the outcome of a call that was run, with this reply
-abbrev pub replied : Key → Option Reply → List Frame
-replied key None = []
-replied key (Some reply) = Outcome key.client key.request (ended.Replied reply) ∷ []
+abbrev pub outcome_of_reply : Key → Option Reply → List Frame
+outcome_of_reply key None = []
+outcome_of_reply key (Some reply) = Outcome key.client key.request (ended.Replied reply) ∷ []
 
 -- the outcome of an ask, by its standing in a log with these replies
 abbrev pub outcome_by : List Reply → Key → Standing → List Frame
-outcome_by replies key (Number n) = replied key (slice_get replies (n - 1))
+outcome_by replies key (Number n) = outcome_of_reply key (slice_get replies (n - 1))
 outcome_by replies key (Mismatch n) = Outcome key.client key.request ended.Mismatch ∷ []
 outcome_by replies key LogFull = Outcome key.client key.request ended.LogFull ∷ []
 
@@ -74,4 +74,4 @@ outcome_of opening log ask = outcome_by (replies_to opening (calls_of log)) ask.
 
 -- what a client gets in a session: the outcome of each ask that a flush follows, in order
 abbrev pub outcomes_of : Rows → List (Key × Call) → List Frame → List Frame
-outcomes_of opening log frames = flat_map (outcome_of opening log) (told_in frames)
+outcomes_of opening log frames = flat_map (outcome_of opening log) (flushed_asks frames)

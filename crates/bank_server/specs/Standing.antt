@@ -2,12 +2,12 @@
 use Rattle.std.specs.Prelude.{ℕ, ◌≤◌, ◌+◌, ◌-◌, Bool, false, ◌&&◌, if◌then◌else◌, Option, Some, None, List, [], ◌∷◌, ◌++◌, slice_get, decimal, codes}
 use Rattle.std.specs.Ordering.{int_eq}
 use Rattle.std.specs.Str.{bytes_eq}
-use Rattle.sb_calls.specs.Reply.{reply_text}
+use Rattle.sb_calls.specs.ReplyText.{reply_text}
 use Rattle.sb_calls.specs.declared.ask.Key.{Key}
 use Rattle.sb_calls.specs.declared.call.Call.{Call}
 use Rattle.sb_calls.specs.declared.call.Call.TheVariants.{Balance, DepositChecking, TransactSavings, Amalgamate, WriteCheck, SendPayment}
 use Rattle.sb_calls.specs.declared.reply.Reply.{Reply}
-use Rattle.sb_sequencer.specs.Numbering.{place_of_key}
+use Rattle.sb_sequencer.specs.Numbering.{index_of_key}
 use Rattle.bank_server.specs.declared.asking.Standing.{Standing}
 use Rattle.bank_server.specs.declared.asking.Standing.TheVariants.{Number, Mismatch, LogFull}
 
@@ -34,7 +34,7 @@ standing_at log call (Some k) = numbered_standing (k + 1) call (slice_get log k)
 -- the number of its key if the call is the same, and otherwise a mismatch; if its key has no
 -- number, the log is full
 abbrev pub standing_of : List (Key × Call) → Key × Call → Standing
-standing_of log ask = standing_at log ask.1 (place_of_key log ask.0)
+standing_of log ask = standing_at log ask.1 (index_of_key log ask.0)
 
 -- N REPLY, for a number with this reply
 abbrev pub reply_line : ℕ → Option Reply → List ℕ
@@ -49,7 +49,7 @@ standing_line replies (Mismatch n) = codes "mismatch " ++ decimal n
 standing_line replies LogFull = codes "log full"
 
 -- the number in the standing, if there is one, is at most this
-abbrev pub StandsAmong : ℕ → Standing → Type 0
-StandsAmong calls (Number n) = n ≤ calls
-StandsAmong calls (Mismatch n) = n ≤ calls
-StandsAmong calls LogFull = Unit {0}
+abbrev pub IsStandingWithin : ℕ → Standing → Type 0
+IsStandingWithin calls (Number n) = n ≤ calls
+IsStandingWithin calls (Mismatch n) = n ≤ calls
+IsStandingWithin calls LogFull = Unit {0}

@@ -1,6 +1,6 @@
 //! Comparing two replicas.
 ghost use Rattle.std.specs.Prelude.{◌≡◌, ◌↔◌, ℕ, IsTrue, IsOk, IfOk};
-ghost use Rattle.cown_board.specs.Board.{length_of, open_of, reply_in};
+ghost use Rattle.cown_board.specs.Board.{length_of, unfinished_of, reply_in};
 ghost use Rattle.bank_server.specs.Agreement.{Agrees};
 
 use cown_board::Runs;
@@ -20,13 +20,13 @@ pub fn agree<S: CheckpointStore, T: CheckpointStore>(
     ensures answered { IsOk result }
     ensures value { IfOk result (λ same. IsTrue same ↔ Agrees first.now.board second.now.board) }
 {
-    let Some(one) = first.settled_columns() else {
+    let Some(one) = first.final_columns() else {
         return Ok(false);
     };
-    let Some(other) = second.settled_columns() else {
+    let Some(other) = second.final_columns() else {
         return Ok(false);
     };
-    Ok(is_same_bank(one, other) && is_same_told(first, second))
+    Ok(is_same_bank(one, other) && has_same_replies(first, second))
 }
 
 // Whether two banks' columns are equal.
@@ -50,11 +50,11 @@ fn is_same_column(left: &[i64], right: &[i64]) -> bool
 }
 
 // Whether two idle replicas have equally many numbers, and the same reply to each.
-fn is_same_told<S: CheckpointStore, T: CheckpointStore>(
+fn has_same_replies<S: CheckpointStore, T: CheckpointStore>(
     first: &Replica<S>,
     second: &Replica<T>,
 ) -> bool
-    requires idle { (open_of first.now.board ≡ 0) × (open_of second.now.board ≡ 0) }
+    requires idle { (unfinished_of first.now.board ≡ 0) × (unfinished_of second.now.board ≡ 0) }
     ensures { IsTrue result ↔ ((length_of first.now.board ≡ length_of second.now.board)
         × ((number : ℕ) → reply_in first.now.board number ≡ reply_in second.now.board number)) }
 {
@@ -64,8 +64,8 @@ fn is_same_told<S: CheckpointStore, T: CheckpointStore>(
     if first.length() != second.length() {
         return false;
     }
-    for place in 0..first.length() {
-        if !is_same_reply(first.reply(place + 1), second.reply(place + 1)) {
+    for index in 0..first.length() {
+        if !is_same_reply(first.reply(index + 1), second.reply(index + 1)) {
             return false;
         }
     }

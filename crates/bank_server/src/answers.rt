@@ -5,10 +5,10 @@ ghost use Rattle.sb_rows.specs.Text.{unlines};
 ghost use Rattle.sb_calls.specs.Replies.{IsReply};
 ghost use Rattle.sb_calls.specs.declared.call.Call.{Call as AnyCall};
 ghost use Rattle.sb_calls.specs.declared.reply.Reply.{Reply as AnyReply};
-ghost use Rattle.cown_board.specs.Board.{open_of};
-ghost use Rattle.bank_server.specs.Execution.{IsOneByOne, Tells};
-ghost use Rattle.bank_server.specs.Prepared.{output_after};
-ghost use Rattle.bank_server.specs.Standing.{StandsAmong, standing_line, reply_line};
+ghost use Rattle.cown_board.specs.Board.{unfinished_of};
+ghost use Rattle.bank_server.specs.Execution.{IsOneByOne, HasReplies};
+ghost use Rattle.bank_server.specs.PreparedInput.{output_after};
+ghost use Rattle.bank_server.specs.Standing.{IsStandingWithin, standing_line, reply_line};
 
 use crate::asking::Standing;
 use crate::log_number::LogNumber;
@@ -29,7 +29,7 @@ pub fn push_output<S: CheckpointStore>(
 ) -> Result<(), AllocError>
     requires ran { (calls : List AnyCall)
         × IsOneByOne replica.now.names calls replica.now.board.opening replica.now.board }
-    requires numbers { All (StandsAmong (length replica.now.board.log)) standings.now }
+    requires numbers { All (IsStandingWithin (length replica.now.board.log)) standings.now }
     ensures { (calls : List AnyCall)
         → IsOneByOne replica.now.names calls replica.now.board.opening replica.now.board
         → OnOk result (out.new.items ≡ out.old.items
@@ -37,7 +37,7 @@ pub fn push_output<S: CheckpointStore>(
 {
     push_answers(standings, replica, out)?;
     // Nothing is unfinished.
-    let columns = replica.settled_columns().unwrap();
+    let columns = replica.final_columns().unwrap();
     list_rows(replica.directory(), columns, out)?;
     Ok(())
 }
@@ -49,10 +49,10 @@ pub fn push_answers<S: CheckpointStore>(
     replica: &Replica<S>,
     out: &mut Vec<u8>,
 ) -> Result<(), AllocError>
-    requires idle { open_of replica.now.board ≡ 0 }
-    requires earlier { replica.now.board.earlier ≡ [] }
-    requires numbers { All (StandsAmong (length replica.now.board.log)) standings.now }
-    ensures { (replies : List AnyReply) → Tells replica.now.board replies
+    requires idle { unfinished_of replica.now.board ≡ 0 }
+    requires earlier { replica.now.board.base_replies ≡ [] }
+    requires numbers { All (IsStandingWithin (length replica.now.board.log)) standings.now }
+    ensures { (replies : List AnyReply) → HasReplies replica.now.board replies
         → OnOk result (out.new.items
         ≡ out.old.items ++ unlines (map (standing_line replies) standings.now)) }
 {
@@ -68,10 +68,10 @@ fn push_answer<S: CheckpointStore>(
     replica: &Replica<S>,
     out: &mut Vec<u8>,
 ) -> Result<(), AllocError>
-    requires idle { open_of replica.now.board ≡ 0 }
-    requires earlier { replica.now.board.earlier ≡ [] }
-    requires number { StandsAmong (length replica.now.board.log) standing }
-    ensures { (replies : List AnyReply) → Tells replica.now.board replies
+    requires idle { unfinished_of replica.now.board ≡ 0 }
+    requires earlier { replica.now.board.base_replies ≡ [] }
+    requires number { IsStandingWithin (length replica.now.board.log) standing }
+    ensures { (replies : List AnyReply) → HasReplies replica.now.board replies
         → OnOk result (out.new.items ≡ out.old.items ++ standing_line replies standing ++ 10 ∷ []) }
 {
     match standing {
@@ -85,10 +85,10 @@ fn push_answer<S: CheckpointStore>(
 
 /// The reply of a replica to a number of its log.
 pub(crate) fn reply_to<S: CheckpointStore>(replica: &Replica<S>, number: LogNumber) -> Reply
-    requires idle { open_of replica.now.board ≡ 0 }
-    requires earlier { replica.now.board.earlier ≡ [] }
+    requires idle { unfinished_of replica.now.board ≡ 0 }
+    requires earlier { replica.now.board.base_replies ≡ [] }
     requires number { number ≤ length replica.now.board.log }
-    ensures value { (replies : List AnyReply) → Tells replica.now.board replies
+    ensures value { (replies : List AnyReply) → HasReplies replica.now.board replies
         → slice_get replies (number - 1) ≡ Some result }
     ensures valid { IsReply result }
 {

@@ -2,20 +2,21 @@
 ghost use Rattle.std.specs.Prelude.{◌≡◌, ◌+◌, ◌<◌, ◌≤◌, ◌^◌, None, List, [], length, IfOk, OnErr, MatchOption, MatchResult};
 ghost use Rattle.sb_rows.specs.Text.{lines};
 ghost use Rattle.sb_calls.specs.Ask.{IsKey};
-ghost use Rattle.sb_calls.specs.declared.ask.Asked.{Asked as AnyAsked};
+ghost use Rattle.sb_calls.specs.declared.ask.AskLine.{AskLine as AnyAskLine};
 ghost use Rattle.sb_calls.specs.declared.ask.Key.{Key as AnyKey};
 ghost use Rattle.sb_calls.specs.declared.call.Call.{Call as AnyCall};
 ghost use Rattle.sb_sequencer.specs.Numbering.{IsLog, first_asks};
-ghost use Rattle.bank_server.specs.Asking.{IsAsking, IsAfter, IsOfLog, AsksLine, AsksOne, GoesOn, standing_of_answer};
+ghost use Rattle.bank_server.specs.AskResults.{LinesGiveStandings, standing_of_answer};
+ghost use Rattle.bank_server.specs.inner.AskSteps.{IsAfterAsks, HasLogNumber, AddsLineAsk, AddsAsk, ExtendsLog};
 ghost use Rattle.bank_server.specs.Asks.{key_of_line, running_after};
-ghost use Rattle.bank_server.specs.Faults.{BlamesText};
+ghost use Rattle.bank_server.specs.Faults.{IsTextFaultOf};
 ghost use Rattle.bank_server.specs.Input.{asks_from, in_call};
-ghost use Rattle.bank_server.specs.Standing.{StandsAmong};
+ghost use Rattle.bank_server.specs.Standing.{IsStandingWithin};
 
 use crate::fault::{InputFault, RunFault};
 use crate::log_number::LogNumber;
 use crate::primary::Primary;
-use sb_calls::{Asked, Call, Key, LOG_CALLS, read_ask};
+use sb_calls::{AskLine, Call, Key, LOG_CALLS, read_ask};
 use sb_checkpoint::CheckpointStore;
 use sb_rows::next_line;
 use sb_sequencer::{AskFault, Numbered, Sequencer};
@@ -54,8 +55,8 @@ pub fn ask_lines<S: CheckpointStore>(
     requires line { first_line + length text.now < 2 ^ 64 }
     requires log { primary.old.log ≡ [] }
     ensures asked { MatchResult result
-        (λ standings. IsAsking (asks_from first_line [] (lines text.now)) primary.new.log standings.items)
-        (λ fault. BlamesText fault (in_call (asks_from first_line [] (lines text.now)))) }
+        (λ standings. LinesGiveStandings (asks_from first_line [] (lines text.now)) primary.new.log standings.items)
+        (λ fault. IsTextFaultOf fault (in_call (asks_from first_line [] (lines text.now)))) }
     ensures node { primary.new.node ≡ primary.old.node }
 {
     let mut standings = Vec::with_capacity(alloc, usual_lines(text.len()))?;
@@ -74,8 +75,8 @@ fn ask_all<S: CheckpointStore>(
     requires log { primary.old.log ≡ [] }
     requires standings { standings.old.items ≡ [] }
     ensures asked { MatchResult result
-        (λ done. IsAsking (asks_from first_line [] (lines text.now)) primary.new.log standings.new.items)
-        (λ fault. BlamesText fault (in_call (asks_from first_line [] (lines text.now)))) }
+        (λ done. LinesGiveStandings (asks_from first_line [] (lines text.now)) primary.new.log standings.new.items)
+        (λ fault. IsTextFaultOf fault (in_call (asks_from first_line [] (lines text.now)))) }
     ensures node { primary.new.node ≡ primary.old.node }
 {
     let mut running = 1u64;
@@ -112,11 +113,11 @@ fn next_running(running: u64, key: Option<Key>) -> u64
 fn ask<S: CheckpointStore>(
     primary: &mut Primary<S>,
     running: u64,
-    asked: &Asked,
+    asked: &AskLine,
 ) -> Result<Standing, RunFault>
     requires { IsKey asked.now.key }
-    ensures asked { (asks : List AnyAsked) → IsAfter asks running primary.old.log
-        → AsksLine asks running asked.now primary.new.log result }
+    ensures asked { (asks : List AnyAskLine) → IsAfterAsks asks running primary.old.log
+        → AddsLineAsk asks running asked.now primary.new.log result }
     ensures node { primary.new.node ≡ primary.old.node }
 {
     match key_of(running, asked.key) {
@@ -135,9 +136,9 @@ pub(crate) fn ask_key(
     call: &Call,
 ) -> Result<Standing, AllocError>
     ensures asked { IfOk result (λ standing. (asks : List (AnyKey × AnyCall)) → sequencer.old.log ≡ first_asks asks
-        → AsksOne asks (key, call.now) sequencer.new.log standing) }
-    ensures among { IfOk result (StandsAmong (length sequencer.new.log)) }
-    ensures log { IfOk result (λ standing. GoesOn sequencer.old.log sequencer.new.log) }
+        → AddsAsk asks (key, call.now) sequencer.new.log standing) }
+    ensures among { IfOk result (IsStandingWithin (length sequencer.new.log)) }
+    ensures log { IfOk result (λ standing. ExtendsLog sequencer.old.log sequencer.new.log) }
     ensures valid { IsLog sequencer.new.log }
     ensures err { OnErr result (sequencer.new ≡ sequencer.old) }
 {
@@ -167,7 +168,7 @@ fn key_of(running: u64, key: Option<Key>) -> Option<Key>
 
 // The standing of an ask with this answer of the sequencer, or `None` if memory was refused.
 fn standing_of(answer: Result<Numbered, AskFault>) -> Option<Standing>
-    requires { IsOfLog answer }
+    requires { HasLogNumber answer }
     ensures { result ≡ standing_of_answer answer }
 {
     match answer {

@@ -1,6 +1,6 @@
 //! A replica in a box.
 ghost use Rattle.std.specs.Prelude.{◌≡◌, [], length, IfOk};
-ghost use Rattle.cown_board.specs.Played.{opened_with};
+ghost use Rattle.cown_board.specs.BoardCalls.{board_at_opening};
 ghost use Rattle.sb_replica_log.specs.Log.{none_held};
 
 use sb_checkpoint::CheckpointStore;
@@ -21,7 +21,7 @@ pub(crate) fn open_boxed<S: CheckpointStore>(
       id = id;
       names = directory;
       opening = opening;
-      board = opened_with opening [];
+      board = board_at_opening opening [];
       held = none_held;
       store = store;
     }) }

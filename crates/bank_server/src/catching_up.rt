@@ -2,10 +2,10 @@
 ghost use Rattle.std.specs.Prelude.{◌≡◌, false, OnOk, IfErr};
 ghost use Rattle.sb_rows.specs.Rows.{SameCustomers};
 ghost use Rattle.cown_board.specs.Board.{length_of};
-ghost use Rattle.cown_workers.specs.Draining.{NoneOut};
-ghost use Rattle.sb_replica.specs.Replica.{beside_of};
-ghost use Rattle.bank_server.specs.Faults.{IsCarryFault};
-ghost use Rattle.bank_server.specs.Primary.{IsBehind, ops_of};
+ghost use Rattle.cown_workers.specs.Draining.{HasNoneOut};
+ghost use Rattle.sb_replica.specs.Replica.{rest_of};
+ghost use Rattle.bank_server.specs.Faults.{IsExecutionFault};
+ghost use Rattle.bank_server.specs.Primary.{HasPrefixOf, log_ops};
 
 use crate::execution::submit;
 use cown_workers::{Crew, CrewFault};
@@ -24,13 +24,13 @@ pub(crate) fn catch_up<S: CheckpointStore, C: Crew>(
     node: &mut Replica<S>,
     crew: &mut C,
 ) -> Result<(), CrewFault>
-    requires behind { IsBehind (ops_of node.old.names log.now.log) node.old.board }
-    ensures behind { IsBehind (ops_of node.old.names log.now.log) node.new.board }
-    ensures whole { OnOk result (node.new.board.log ≡ ops_of node.old.names log.now.log) }
+    requires behind { HasPrefixOf (log_ops node.old.names log.now.log) node.old.board }
+    ensures behind { HasPrefixOf (log_ops node.old.names log.now.log) node.new.board }
+    ensures whole { OnOk result (node.new.board.log ≡ log_ops node.old.names log.now.log) }
     ensures opening { node.new.board.opening ≡ node.old.board.opening }
-    ensures beside { beside_of node.new ≡ beside_of node.old }
-    ensures none_out { OnOk result (NoneOut node.old.board → NoneOut node.new.board) }
-    ensures fault { IfErr result (IsCarryFault C.keeps node.old.board) }
+    ensures rest { rest_of node.new ≡ rest_of node.old }
+    ensures none_out { OnOk result (HasNoneOut node.old.board → HasNoneOut node.new.board) }
+    ensures fault { IfErr result (IsExecutionFault C.keeps node.old.board) }
 {
     for number in node.length() + 1..log.length() + 1 {
         let call = log.call(number).unwrap();

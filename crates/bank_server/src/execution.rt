@@ -1,13 +1,14 @@
 //! Executing the ops of a log on a replica.
 ghost use Rattle.std.specs.Prelude.{◌≡◌, ◌≢◌, ◌≤◌, ◌<◌, ◌+◌, List, [], ◌∷◌, false, length, map, IfErr, IfNone, OnOk, OnErr};
 ghost use Rattle.sb_rows.specs.Rows.{SameCustomers};
-ghost use Rattle.sb_calls.specs.Op.{IsOpWithin, resolved};
+ghost use Rattle.sb_calls.specs.Op.{IsOpWithin, op_of};
 ghost use Rattle.sb_calls.specs.declared.call.Call.{Call as AnyCall};
-ghost use Rattle.cown_board.specs.Board.{length_of, open_of};
-ghost use Rattle.cown_workers.specs.Draining.{Drains, NoneOut};
-ghost use Rattle.sb_replica.specs.Replica.{beside_of};
-ghost use Rattle.bank_server.specs.Execution.{ArePut, AreWithin, IsCarriedOut, IsOneByOne, IsOpened};
-ghost use Rattle.bank_server.specs.Faults.{IsCarryFault};
+ghost use Rattle.cown_board.specs.Board.{length_of, unfinished_of};
+ghost use Rattle.cown_workers.specs.Draining.{PreservesLog, HasNoneOut};
+ghost use Rattle.sb_replica.specs.Replica.{rest_of};
+ghost use Rattle.bank_server.specs.inner.Appends.{AppendsOps};
+ghost use Rattle.bank_server.specs.Execution.{AreOpsWithin, IsWholeLog, IsOneByOne, HasNoEntries};
+ghost use Rattle.bank_server.specs.Faults.{IsExecutionFault};
 
 use crate::followers::Followers;
 use cown_workers::{Crew, CrewFault, CrewGone, drain};
@@ -36,21 +37,21 @@ pub(crate) fn carry_out<S: CheckpointStore, C: Crew, R: Wait>(
     crew: &mut C,
     followers: &mut Followers<'_, R>,
 ) -> Result<(), CrewFault>
-    requires opened { IsOpened replica.old.board }
-    requires few { length ops.now ≤ LOG_CALLS }
-    requires within { AreWithin (length replica.old.names) ops.now }
-    requires heard { IfNone log (followers.old.listening ≡ 0) }
-    ensures finished { OnOk result (IsCarriedOut ops.now replica.new.board) }
+    requires opened { HasNoEntries replica.old.board }
+    requires limit { length ops.now ≤ LOG_CALLS }
+    requires within { AreOpsWithin (length replica.old.names) ops.now }
+    requires log_given { IfNone log (followers.old.listening ≡ 0) }
+    ensures finished { OnOk result (IsWholeLog ops.now replica.new.board) }
     ensures opening { OnOk result (replica.new.board.opening ≡ replica.old.board.opening) }
     // If these are the ops of calls, the result is as if the calls were executed one by one.
     ensures one_by_one { OnOk result ((calls : List AnyCall)
         → SameCustomers replica.old.names replica.old.board.opening
-        → ops.now ≡ map (resolved replica.old.names) calls
+        → ops.now ≡ map (op_of replica.old.names) calls
         → IsOneByOne replica.old.names calls replica.old.board.opening replica.new.board) }
-    ensures beside { beside_of replica.new ≡ beside_of replica.old }
-    ensures told { OnOk result (length ops.now ≤ followers.new.told) }
-    ensures stays { followers.new ≡ record followers.old { told = followers.new.told } }
-    ensures fault { IfErr result (IsCarryFault C.keeps replica.old.board) }
+    ensures rest { rest_of replica.new ≡ rest_of replica.old }
+    ensures sent { OnOk result (length ops.now ≤ followers.new.sent) }
+    ensures unchanged { followers.new ≡ record followers.old { sent = followers.new.sent } }
+    ensures fault { IfErr result (IsExecutionFault C.keeps replica.old.board) }
 {
     replica.reserve(ops.len())?;
     submit_parts(ops, log, replica, crew, followers)?;
@@ -66,19 +67,19 @@ fn submit_parts<S: CheckpointStore, C: Crew, R: Wait>(
     crew: &mut C,
     followers: &mut Followers<'_, R>,
 ) -> Result<(), CrewFault>
-    requires few { length_of replica.old.board + length ops.now ≤ LOG_CALLS }
-    requires within { AreWithin (length replica.old.names) ops.now }
-    requires heard { IfNone log (followers.old.listening ≡ 0) }
-    ensures put { OnOk result (ArePut ops.now replica.old.board replica.new.board) }
-    ensures beside { beside_of replica.new ≡ beside_of replica.old }
-    ensures told { OnOk result (length ops.now ≤ followers.new.told) }
-    ensures stays { followers.new ≡ record followers.old { told = followers.new.told } }
-    ensures fault { IfErr result (IsCarryFault C.keeps replica.old.board) }
+    requires limit { length_of replica.old.board + length ops.now ≤ LOG_CALLS }
+    requires within { AreOpsWithin (length replica.old.names) ops.now }
+    requires log_given { IfNone log (followers.old.listening ≡ 0) }
+    ensures put { OnOk result (AppendsOps ops.now replica.old.board replica.new.board) }
+    ensures rest { rest_of replica.new ≡ rest_of replica.old }
+    ensures sent { OnOk result (length ops.now ≤ followers.new.sent) }
+    ensures unchanged { followers.new ≡ record followers.old { sent = followers.new.sent } }
+    ensures fault { IfErr result (IsExecutionFault C.keeps replica.old.board) }
 {
     let mut done = 0;
     while done < ops.len() {
         let end = done + PART.min(ops.len() - done);
-        followers.tell(log, end)?;
+        followers.send_up_to(log, end)?;
         submit_all(&ops[done..end], replica, crew)?;
         done = end;
     }
@@ -93,11 +94,11 @@ pub(crate) fn submit_all<S: CheckpointStore, C: Crew>(
     replica: &mut Replica<S>,
     crew: &mut C,
 ) -> Result<(), CrewFault>
-    requires few { length_of replica.old.board + length ops.now ≤ LOG_CALLS }
-    requires within { AreWithin (length replica.old.names) ops.now }
-    ensures put { OnOk result (ArePut ops.now replica.old.board replica.new.board) }
-    ensures beside { beside_of replica.new ≡ beside_of replica.old }
-    ensures fault { IfErr result (IsCarryFault C.keeps replica.old.board) }
+    requires limit { length_of replica.old.board + length ops.now ≤ LOG_CALLS }
+    requires within { AreOpsWithin (length replica.old.names) ops.now }
+    ensures put { OnOk result (AppendsOps ops.now replica.old.board replica.new.board) }
+    ensures rest { rest_of replica.new ≡ rest_of replica.old }
+    ensures fault { IfErr result (IsExecutionFault C.keeps replica.old.board) }
 {
     for op in ops {
         submit(op, replica, crew)?;
@@ -115,11 +116,11 @@ pub(crate) fn submit<S: CheckpointStore, C: Crew>(
 ) -> Result<(), CrewFault>
     requires room { length_of replica.old.board < LOG_CALLS }
     requires within { IsOpWithin (length replica.old.names) op.now }
-    ensures put { OnOk result (ArePut (op.now ∷ []) replica.old.board replica.new.board) }
+    ensures put { OnOk result (AppendsOps (op.now ∷ []) replica.old.board replica.new.board) }
     // After a fault the log is as it was.
-    ensures err { OnErr result (Drains replica.old.board replica.new.board) }
-    ensures beside { beside_of replica.new ≡ beside_of replica.old }
-    ensures fault { IfErr result (IsCarryFault C.keeps replica.old.board) }
+    ensures err { OnErr result (PreservesLog replica.old.board replica.new.board) }
+    ensures rest { rest_of replica.new ≡ rest_of replica.old }
+    ensures fault { IfErr result (IsExecutionFault C.keeps replica.old.board) }
 {
     let number = replica.length() + 1;
     match replica.offer_entry(number, *op)? {
@@ -141,10 +142,10 @@ pub(crate) fn settle<S: CheckpointStore, C: Crew>(
     replica: &mut Replica<S>,
     crew: &mut C,
 ) -> Result<(), CrewFault>
-    ensures idle { OnOk result (open_of replica.new.board ≡ 0) }
-    ensures log { Drains replica.old.board replica.new.board }
-    ensures beside { beside_of replica.new ≡ beside_of replica.old }
-    ensures fault { IfErr result (IsCarryFault C.keeps replica.old.board) }
+    ensures idle { OnOk result (unfinished_of replica.new.board ≡ 0) }
+    ensures log { PreservesLog replica.old.board replica.new.board }
+    ensures rest { rest_of replica.new ≡ rest_of replica.old }
+    ensures fault { IfErr result (IsExecutionFault C.keeps replica.old.board) }
 {
     match drain(replica, crew) {
         Ok(()) => Ok(()),

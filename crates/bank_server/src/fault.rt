@@ -1,6 +1,7 @@
 //! Why a run ends without its output.
 ghost use Rattle.std.specs.Prelude.{◌≡◌};
-ghost use Rattle.bank_server.specs.Faults.{fault_number, of_crew_fault, of_read_fault};
+ghost use Rattle.bank_server.specs.Faults.{run_fault_number};
+ghost use Rattle.bank_server.specs.inner.RunFaults.{run_of_crew_fault, run_of_read_fault};
 ghost use Rattle.bank_server.specs.declared.fault.RunFault.TheVariants.{OutOfMemory};
 
 use cown_workers::CrewFault;
@@ -49,7 +50,7 @@ pub enum RunFault {
 impl RunFault {
     /// The number of the fault.
     pub fn number(&self) -> u8
-        ensures { result ≡ fault_number self.now }
+        ensures { result ≡ run_fault_number self.now }
     {
         match self {
             RunFault::Input { .. } => 1,
@@ -62,7 +63,7 @@ impl RunFault {
 }
 
 impl From<ReadFault> for RunFault {
-    ghost from_gives = { λ read fault. fault ≡ of_read_fault read };
+    ghost from_gives = { λ read fault. fault ≡ run_of_read_fault read };
 
     fn from(read: ReadFault) -> RunFault {
         match read {
@@ -73,7 +74,7 @@ impl From<ReadFault> for RunFault {
 }
 
 impl From<CrewFault> for RunFault {
-    ghost from_gives = { λ crew fault. fault ≡ of_crew_fault crew };
+    ghost from_gives = { λ crew fault. fault ≡ run_of_crew_fault crew };
 
     fn from(crew: CrewFault) -> RunFault {
         match crew {

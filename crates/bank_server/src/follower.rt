@@ -1,6 +1,6 @@
 //! A replica in a thread of its own, fed with the frames of the log.
 ghost use Rattle.std.specs.Prelude.{IfSome};
-ghost use Rattle.bank_server.specs.Following.{HearsMessage, HearsRest, RunsAll};
+ghost use Rattle.bank_server.specs.inner.FollowerTurns.{HandlesMessage, HandlesRest, RunsAll};
 
 use crate::frames::Message;
 use cown_workers::{InlineCrew, drain};
@@ -19,14 +19,14 @@ pub(crate) struct Follower {
 }
 
 impl Follower {
-    /// Hears the frames that come, and gives the replica back once no more come. It stops early,
+    /// Handles the frames that come, and gives the replica back once no more come. It stops early,
     /// with what it has by then, if memory is refused or bytes aren't a frame.
     pub(crate) fn follow<R: Wait>(mut self, rt: &R) -> Box<Replica<MemoryStore>> {
         for _ in rt.forever() {
             let Ok(message) = self.inbox.recv(rt) else {
                 break;
             };
-            if hear_message(rt, &mut self.replica, &mut self.stream, &message).is_none() {
+            if handle_message(rt, &mut self.replica, &mut self.stream, &message).is_none() {
                 break;
             }
         }
@@ -34,28 +34,32 @@ impl Follower {
     }
 }
 
-// Hears the frames of a message, each as the bytes that spell it.
-fn hear_message<R: Wait>(
+// Handles the frames of a message, each as the bytes that spell it.
+fn handle_message<R: Wait>(
     rt: &R,
     replica: &mut Replica<MemoryStore>,
     stream: &mut Stream,
     bytes: &[u8],
 ) -> Option<()>
-    ensures { IfSome result (λ done. HearsMessage (record { replica = replica.old; stream = stream.old }) bytes.now
+    ensures { IfSome result (λ done. HandlesMessage (record { replica = replica.old; stream = stream.old }) bytes.now
         (record { replica = replica.new; stream = stream.new })) }
 {
     stream.feed(bytes).ok()?;
-    hear_rest(rt, replica, stream)
+    handle_rest(rt, replica, stream)
 }
 
-// Hears all whole frames of a stream. When the board is full, and at the log's end, everything
+// Handles all whole frames of a stream. When the board is full, and at the log's end, everything
 // unfinished is executed.
-fn hear_rest<R: Wait>(rt: &R, replica: &mut Replica<MemoryStore>, stream: &mut Stream) -> Option<()>
-    ensures { IfSome result (λ done. HearsRest (record { replica = replica.old; stream = stream.old })
+fn handle_rest<R: Wait>(
+    rt: &R,
+    replica: &mut Replica<MemoryStore>,
+    stream: &mut Stream,
+) -> Option<()>
+    ensures { IfSome result (λ done. HandlesRest (record { replica = replica.old; stream = stream.old })
         (record { replica = replica.new; stream = stream.new })) }
 {
     for _ in rt.forever() {
-        match replica.hear_stream(stream).ok()? {
+        match replica.receive_stream(stream).ok()? {
             Pause::Short => return Some(()),
             Pause::Busy | Pause::Other(Frame::Flush) => carry_out_all(replica)?,
             // Nothing else is sent to a follower.

@@ -6,7 +6,7 @@ ghost use Rattle.bank_server.specs.Faults.{IsFollowersFault};
 use crate::execution::PART;
 use crate::fault::RunFault;
 use crate::follower_threads::{FollowerThreads, compare, start};
-use crate::frames::Ends;
+use crate::frames::FollowerChannels;
 use crate::ready_followers::ReadyFollowers;
 use sb_checkpoint::CheckpointStore;
 use sb_replica::Replica;
@@ -17,14 +17,14 @@ use std::sync::Wait;
 use std::thread::Threads;
 use std::{mem, thread};
 
-/// The followers of node 0, each in a thread of its own, which hear the log as frames. Contracts
+/// The followers of node 0, each in a thread of its own, which receive the log as frames. Contracts
 /// see the number of nodes, the number of followers that listen, and the number of entries of the
 /// log that they were sent.
 #[derive(Drop)]
 pub struct Followers<'a, R: Wait> {
     nodes: usize,
-    told: usize,
-    ends: Ends<'a, R>,
+    sent: usize,
+    senders: FollowerChannels<'a, R>,
     threads: FollowerThreads,
 }
 
@@ -36,8 +36,8 @@ impl<'a, R: Wait> Model for Followers<'a, R> {
 
     ghost view = { λ f. record {
       nodes = f.nodes;
-      listening = length f.ends.ends.items;
-      told = f.told;
+      listening = length f.senders.senders.items;
+      sent = f.sent;
     } };
 }
 
@@ -46,7 +46,7 @@ impl<'a, R: Wait> Followers<'a, R> {
     pub fn is_empty(&self) -> bool
         ensures { IsTrue result ↔ (self.now.listening ≡ 0) }
     {
-        self.ends.is_empty()
+        self.senders.is_empty()
     }
 
     /// Sends the followers the entries of the log that they don't have yet, and has them execute
@@ -54,28 +54,32 @@ impl<'a, R: Wait> Followers<'a, R> {
     ///
     /// Fails if memory is refused. [`Followers::compare`] finds out whether a follower is gone.
     pub fn feed(&mut self, log: &Sequencer) -> Result<(), AllocError>
-        ensures told { OnOk result (self.new.told ≡ max self.old.told (length log.now.log)) }
-        ensures stays { self.new ≡ record self.old { told = self.new.told } }
+        ensures sent { OnOk result (self.new.sent ≡ max self.old.sent (length log.now.log)) }
+        ensures unchanged { self.new ≡ record self.old { sent = self.new.sent } }
     {
         let length = log.length() as usize;
-        while self.told < length {
-            let end = self.told + PART.min(length - self.told);
-            self.tell(Some(log), end)?;
+        while self.sent < length {
+            let end = self.sent + PART.min(length - self.sent);
+            self.send_up_to(Some(log), end)?;
         }
         self.flush()
     }
 
     // Sends them the entries up to this number that they don't have yet. Without listeners no log
     // is needed.
-    pub(crate) fn tell(&mut self, log: Option<&Sequencer>, end: usize) -> Result<(), AllocError>
-        requires heard { IfNone log (self.old.listening ≡ 0) }
-        ensures told { OnOk result (self.new ≡ record self.old { told = end }) }
+    pub(crate) fn send_up_to(
+        &mut self,
+        log: Option<&Sequencer>,
+        end: usize,
+    ) -> Result<(), AllocError>
+        requires log_given { IfNone log (self.old.listening ≡ 0) }
+        ensures sent { OnOk result (self.new ≡ record self.old { sent = end }) }
         ensures err { OnErr result (self.new ≡ self.old) }
     {
         if let Some(log) = log {
-            self.ends.part(log, self.told, end)?;
+            self.senders.send_part(log, self.sent, end)?;
         }
-        self.told = end;
+        self.sent = end;
         Ok(())
     }
 
@@ -83,7 +87,7 @@ impl<'a, R: Wait> Followers<'a, R> {
     pub(crate) fn flush(&mut self) -> Result<(), AllocError>
         ensures { self.new ≡ self.old }
     {
-        self.ends.flush()
+        self.senders.flush()
     }
 
     /// Compares node 0 with each follower, once that has executed everything that it was sent. No
@@ -98,9 +102,9 @@ impl<'a, R: Wait> Followers<'a, R> {
         ensures fault { IfErr result (IsFollowersFault self.old.nodes) }
         ensures closed { self.new ≡ record self.old { listening = 0 } }
     {
-        // A thread ends with its channel.
-        self.ends.close();
-        let threads = mem::replace(&mut self.threads, Vec::new(self.ends.alloc));
+        // A thread stops with its channel.
+        self.senders.close();
+        let threads = mem::replace(&mut self.threads, Vec::new(self.senders.alloc));
         compare(rt, node, threads, self.nodes)
     }
 }
@@ -122,31 +126,31 @@ where
     requires callable { F.IsAlwaysCallable f }
     ensures answer { IfOk result (λ answer. (after : _) ×
         FnOnceReturnsAtMut F.FnOnce f
-        (record { nodes = ready.nodes; listening = ready.nodes - 1; told = 0 }) answer after) }
+        (record { nodes = ready.nodes; listening = ready.nodes - 1; sent = 0 }) answer after) }
     ensures fault { IfErr result (IsFollowersFault ready.nodes) }
 {
     let ReadyFollowers {
         nodes,
-        ends,
+        senders,
         followers,
     } = ready;
-    let ends = Ends { rt, alloc, ends };
+    let senders = FollowerChannels { rt, alloc, senders };
     thread::scope(
         thread::scope_env(),
         rt,
         move |scope| -> Result<T, RunFault>
             requires callable { F.IsAlwaysCallable f }
-            requires ends { length ends.ends.items ≡ nodes - 1 }
+            requires senders { length senders.senders.items ≡ nodes - 1 }
             ensures answer { IfOk result (λ answer. (after : _) ×
                 FnOnceReturnsAtMut F.FnOnce f
-                (record { nodes = nodes; listening = nodes - 1; told = 0 }) answer after) }
+                (record { nodes = nodes; listening = nodes - 1; sent = 0 }) answer after) }
             ensures fault { IfErr result (IsFollowersFault nodes) }
         {
             let threads = start(scope, rt, alloc, followers, nodes)?;
             let mut followers = Followers {
                 nodes,
-                told: 0,
-                ends,
+                sent: 0,
+                senders,
                 threads,
             };
             Ok(f(&mut followers))

@@ -10,36 +10,41 @@ use std::sync::{Arc, Wait};
 /// How many messages may wait for a follower.
 pub(crate) const MESSAGES: usize = 4;
 
-// The usual number of bytes in the frames of a part.
+// The usual number of bytes in the frames of as many entries as are sent at once.
 const USUAL_PART: usize = 1 << 16;
 
 /// Some whole frames, which all followers share.
 pub(crate) type Message = Arc<Vec<u8>, Global>;
 
-/// The ends of the channels to the followers.
+/// The sending halves of the channels to the followers.
 #[derive(Drop)]
-pub(crate) struct Ends<'a, R: Wait> {
+pub(crate) struct FollowerChannels<'a, R: Wait> {
     pub(crate) rt: &'a R,
     pub(crate) alloc: Global,
-    pub(crate) ends: Vec<Sender<Message>>,
+    pub(crate) senders: Vec<Sender<Message>>,
 }
 
-impl<'a, R: Wait> Ends<'a, R> {
+impl<'a, R: Wait> FollowerChannels<'a, R> {
     /// Whether there are none.
     pub(crate) fn is_empty(&self) -> bool
-        ensures { IsTrue result ↔ (length self.now.ends.items ≡ 0) }
+        ensures { IsTrue result ↔ (length self.now.senders.items ≡ 0) }
     {
-        self.ends.is_empty()
+        self.senders.is_empty()
     }
 
     /// Sends the entries of a log with the numbers from `from` + 1 to `to`.
-    pub(crate) fn part(&self, log: &Sequencer, from: usize, to: usize) -> Result<(), AllocError> {
-        if self.ends.is_empty() {
+    pub(crate) fn send_part(
+        &self,
+        log: &Sequencer,
+        from: usize,
+        to: usize,
+    ) -> Result<(), AllocError> {
+        if self.senders.is_empty() {
             return Ok(());
         }
         let mut bytes = Vec::with_capacity(self.alloc, USUAL_PART)?;
-        for place in from..to {
-            if let Some(entry) = log.entry(place as u64 + 1) {
+        for index in from..to {
+            if let Some(entry) = log.entry(index as u64 + 1) {
                 bytes.extend_from_slice(&encode(&entry))?;
             }
         }
@@ -55,15 +60,15 @@ impl<'a, R: Wait> Ends<'a, R> {
 
     /// Sends nothing more.
     pub(crate) fn close(&mut self)
-        ensures { self.new.ends.items ≡ [] }
+        ensures { self.new.senders.items ≡ [] }
     {
-        self.ends = Vec::new(self.alloc);
+        self.senders = Vec::new(self.alloc);
     }
 
     // Sends these bytes to each follower. The comparison finds out whether one is gone.
     fn send(&self, bytes: Vec<u8>) -> Result<(), AllocError> {
         let message = Arc::new(self.alloc, bytes)?;
-        for end in &self.ends {
+        for end in &self.senders {
             let _ = end.send(self.rt, Arc::try_clone(&message)?);
         }
         Ok(())

@@ -2,19 +2,19 @@
 ghost use Rattle.std.specs.Prelude.{◌≡◌, ◌≢◌, ◌≤◌, ◌↔◌, [], List, length, false, IfOk, IfErr, IsErrOf, MatchOption, OnOk, OnErr};
 ghost use Rattle.sb_calls.specs.declared.ask.Key.{Key as AnyKey};
 ghost use Rattle.sb_calls.specs.declared.call.Call.{Call as AnyCall};
-ghost use Rattle.cown_board.specs.Board.{length_of, open_of};
-ghost use Rattle.cown_workers.specs.Draining.{NoneOut};
+ghost use Rattle.cown_board.specs.Board.{length_of, unfinished_of};
+ghost use Rattle.cown_workers.specs.Draining.{HasNoneOut};
 ghost use Rattle.sb_checkpoint.specs.Stores.{StoreDoes};
-ghost use Rattle.sb_replica.specs.Replica.{beside_of};
+ghost use Rattle.sb_replica.specs.Replica.{rest_of};
 ghost use Rattle.sb_sequencer.specs.Numbering.{IsLog, first_asks};
-ghost use Rattle.sb_sequencer.specs.Sequencer.{opened};
-ghost use Rattle.bank_server.specs.Asking.{AsksOne};
-ghost use Rattle.bank_server.specs.Execution.{IsOpened};
-ghost use Rattle.bank_server.specs.Faults.{IsCarryFault};
-ghost use Rattle.bank_server.specs.Primary.{HasAll, IsPrimary, KeepsBank, RunsLog, opened_node};
-ghost use Rattle.bank_server.specs.Saving.{HoldsCheckpoint, IsSaveFaultOf, Saves};
+ghost use Rattle.sb_sequencer.specs.Sequencer.{empty_sequencer};
+ghost use Rattle.bank_server.specs.inner.AskSteps.{AddsAsk};
+ghost use Rattle.bank_server.specs.Execution.{HasNoEntries};
+ghost use Rattle.bank_server.specs.Faults.{IsExecutionFault};
+ghost use Rattle.bank_server.specs.Primary.{HasWholeLog, IsPrimary, PreservesBank, RunsLog, node_at_opening};
+ghost use Rattle.bank_server.specs.Saving.{StoresCheckpoint, IsSaveFaultOf, Saves};
 ghost use Rattle.bank_server.specs.SessionFaults.{IsSettleFault, LosesCrew};
-ghost use Rattle.bank_server.specs.Standing.{StandsAmong};
+ghost use Rattle.bank_server.specs.Standing.{IsStandingWithin};
 
 use crate::asking::{Standing, ask_key};
 use crate::boxed_replica::open_boxed;
@@ -56,7 +56,7 @@ impl<S: CheckpointStore> Primary<S> {
     /// An empty log, and node 0 at this opening. The store isn't touched.
     pub fn open(alloc: Global, opening: Opening, store: S) -> Result<Primary<S>, AllocError>
         ensures log { IfOk result (λ primary. primary.log ≡ []) }
-        ensures node { IfOk result (λ primary. primary.node ≡ opened_node opening store) }
+        ensures node { IfOk result (λ primary. primary.node ≡ node_at_opening opening store) }
     {
         Primary::with_capacity(alloc, opening, store, 0)
     }
@@ -69,7 +69,7 @@ impl<S: CheckpointStore> Primary<S> {
         entries: usize,
     ) -> Result<Primary<S>, AllocError>
         ensures log { IfOk result (λ primary. primary.log ≡ []) }
-        ensures node { IfOk result (λ primary. primary.node ≡ opened_node opening store) }
+        ensures node { IfOk result (λ primary. primary.node ≡ node_at_opening opening store) }
     {
         let log = boxed_log(alloc, entries.min(LOG_CALLS))?;
         let node = open_boxed(alloc, 0, opening.directory, opening.columns, store)?;
@@ -97,8 +97,8 @@ impl<S: CheckpointStore> Primary<S> {
     /// Fails if memory is refused; nothing changes then.
     pub(crate) fn ask(&mut self, key: Key, call: &Call) -> Result<Standing, AllocError>
         ensures asked { IfOk result (λ standing. (asks : List (AnyKey × AnyCall)) → self.old.log ≡ first_asks asks
-            → AsksOne asks (key, call.now) self.new.log standing) }
-        ensures among { IfOk result (StandsAmong (length self.new.log)) }
+            → AddsAsk asks (key, call.now) self.new.log standing) }
+        ensures among { IfOk result (IsStandingWithin (length self.new.log)) }
         ensures grows { length self.old.log ≤ length self.new.log }
         ensures node { self.new.node ≡ self.old.node }
         ensures err { OnErr result (self.new ≡ self.old) }
@@ -111,10 +111,10 @@ impl<S: CheckpointStore> Primary<S> {
     /// Fails as [`Primary::settle`] does.
     pub(crate) fn offer_rest<C: Crew>(&mut self, crew: &mut C) -> Result<(), SessionFault>
         ensures log { self.new.log ≡ self.old.log }
-        ensures bank { KeepsBank self.old self.new }
-        ensures none_out { OnOk result (NoneOut self.old.node.board → NoneOut self.new.node.board) }
+        ensures bank { PreservesBank self.old self.new }
+        ensures none_out { OnOk result (HasNoneOut self.old.node.board → HasNoneOut self.new.node.board) }
         ensures fault { IfErr result IsSettleFault }
-        ensures gone { IfErr result (LosesCrew C.keeps self.old.node.board) }
+        ensures crew_lost { IfErr result (LosesCrew C.keeps self.old.node.board) }
     {
         Ok(catch_up(&self.log, &mut self.node, crew)?)
     }
@@ -128,13 +128,13 @@ impl<S: CheckpointStore> Primary<S> {
     ///
     /// The log stays, and node 0 may have executed more of it then.
     pub fn settle<C: Crew>(&mut self, crew: &mut C) -> Result<(), SessionFault>
-        ensures all { OnOk result (HasAll self.new) }
+        ensures whole_log { OnOk result (HasWholeLog self.new) }
         ensures log { self.new.log ≡ self.old.log }
         // It has one number for each key.
         ensures one_each { IsLog self.new.log }
-        ensures bank { KeepsBank self.old self.new }
+        ensures bank { PreservesBank self.old self.new }
         ensures fault { IfErr result IsSettleFault }
-        ensures gone { IfErr result (LosesCrew C.keeps self.old.node.board) }
+        ensures crew_lost { IfErr result (LosesCrew C.keeps self.old.node.board) }
     {
         let node = &mut *self.node;
         catch_up(&self.log, node, crew)?;
@@ -156,17 +156,17 @@ impl<S: CheckpointStore> Primary<S> {
         crew: &mut C,
         followers: &mut Followers<'_, R>,
     ) -> Result<Box<Replica<S>>, CrewFault>
-        requires opened { IsOpened self.node.board }
+        requires no_entries { HasNoEntries self.node.board }
         ensures run { IfOk result (λ node. RunsLog self node.value) }
         // The whole log was sent to the followers.
-        ensures told { OnOk result (length self.log ≤ followers.new.told) }
-        ensures stays { followers.new ≡ record followers.old { told = followers.new.told } }
-        ensures fault { IfErr result (IsCarryFault C.keeps self.node.board) }
+        ensures sent { OnOk result (length self.log ≤ followers.new.sent) }
+        ensures unchanged { followers.new ≡ record followers.old { sent = followers.new.sent } }
+        ensures fault { IfErr result (IsExecutionFault C.keeps self.node.board) }
     {
         let Primary { alloc, log, node } = self;
         let mut node = node;
         let ops = resolve_all(alloc, &log, node.directory())?;
-        let log = kept_for(log, followers);
+        let log = log_for_followers(log, followers);
         carry_out(&ops, log.as_deref(), &mut node, crew, followers)?;
         Ok(node)
     }
@@ -186,17 +186,17 @@ impl<S: CheckpointStore> Primary<S> {
         ensures saved { OnOk result (Saves (StoreDoes S.model) self.old.node self.new.node) }
         ensures size { IfOk result (λ size. size ≡ length_of self.old.node.board) }
         // An honest store holds the checkpoint then.
-        ensures held { OnOk result (S.model.IsHonest self.old.node.store
-            → HoldsCheckpoint S.model.slot self.old.node self.new.node) }
+        ensures stored { OnOk result (S.model.IsHonest self.old.node.store
+            → StoresCheckpoint S.model.slot self.old.node self.new.node) }
         ensures fault { IfErr result (λ fault. IsSaveFaultOf (StoreDoes S.model)
             self.old.node fault self.new.node) }
-        ensures busy { IsErrOf result SaveFault.Busy ↔ (open_of self.old.node.board ≢ 0) }
+        ensures busy { IsErrOf result SaveFault.Busy ↔ (unfinished_of self.old.node.board ≢ 0) }
         ensures honest { S.model.IsHonest self.old.node.store → ¬ IsErrOf result SaveFault.ReadBack }
-        ensures stays { self.new ≡ record self.old { node = record self.old.node { store = self.new.node.store } } }
+        ensures unchanged { self.new ≡ record self.old { node = record self.old.node { store = self.new.node.store } } }
     {
         let node = &mut *self.node;
         let put = node.put_checkpoint()?;
-        let same = node.store_holds(&put)?;
+        let same = node.store_has_content(&put)?;
         if !same {
             return Err(SaveFault::ReadBack);
         }
@@ -207,7 +207,7 @@ impl<S: CheckpointStore> Primary<S> {
 // An empty log with room for this many entries. The function owns nothing else, so that a `?` has
 // little to drop.
 fn boxed_log(alloc: Global, entries: usize) -> Result<Box<Sequencer>, AllocError>
-    ensures { IfOk result (λ log. log.value ≡ opened 1) }
+    ensures { IfOk result (λ log. log.value ≡ empty_sequencer 1) }
 {
     let log = Sequencer::with_capacity(alloc, 1, entries)?;
     Ok(Box::new(alloc, log)?)
@@ -215,7 +215,10 @@ fn boxed_log(alloc: Global, entries: usize) -> Result<Box<Sequencer>, AllocError
 
 // The log, if a follower listens. Otherwise it is dropped, so that the board can take its place in
 // memory.
-fn kept_for<R: Wait>(log: Box<Sequencer>, followers: &Followers<'_, R>) -> Option<Box<Sequencer>>
+fn log_for_followers<R: Wait>(
+    log: Box<Sequencer>,
+    followers: &Followers<'_, R>,
+) -> Option<Box<Sequencer>>
     ensures { MatchOption result (followers.now.listening ≡ 0) (λ kept. kept ≡ log) }
 {
     if followers.is_empty() {

@@ -1,7 +1,7 @@
 //! Followers that aren't started yet.
 ghost use Rattle.std.specs.Prelude.{◌≡◌, ◌+◌, ◌-◌, ◌≤◌, [], ◌∷◌, ◌++◌, All, length, IfOk, OnOk};
 ghost use Rattle.sb_rows.specs.Rows.{SameCustomers};
-ghost use Rattle.bank_server.specs.Execution.{IsOpened};
+ghost use Rattle.bank_server.specs.Execution.{HasNoEntries};
 ghost use Rattle.bank_server.specs.Followers.{IsAtOpening};
 
 use crate::boxed_replica::open_boxed;
@@ -21,7 +21,7 @@ use std::marker::Model;
 #[derive(Drop)]
 pub struct ReadyFollowers {
     pub(crate) nodes: usize,
-    pub(crate) ends: Vec<Sender<Message>>,
+    pub(crate) senders: Vec<Sender<Message>>,
     pub(crate) followers: Vec<Follower>,
 }
 
@@ -37,7 +37,7 @@ impl Model for ReadyFollowers {
     } };
 
     // One for each node but node 0, and a channel to each.
-    ghost invariant = { λ ready. (length ready.ends.items ≡ ready.nodes - 1)
+    ghost invariant = { λ ready. (length ready.senders.items ≡ ready.nodes - 1)
         × (length ready.followers.items ≡ ready.nodes - 1) };
 }
 
@@ -52,8 +52,8 @@ impl ReadyFollowers {
         nodes: usize,
         entries: usize,
     ) -> Result<ReadyFollowers, AllocError>
-        requires few { nodes ≤ REPLICAS }
-        requires opened { IsOpened node.now.board }
+        requires limit { nodes ≤ REPLICAS }
+        requires opened { HasNoEntries node.now.board }
         requires customers { SameCustomers node.now.names node.now.board.opening }
         ensures nodes { IfOk result (λ ready. ready.nodes ≡ nodes) }
         // One for each node but node 0, at its opening.
@@ -62,7 +62,7 @@ impl ReadyFollowers {
             ready.replicas) }
     {
         // Nothing is unfinished.
-        let columns = node.settled_columns().unwrap();
+        let columns = node.final_columns().unwrap();
         open_followers(alloc, node.directory(), columns, nodes, entries)
     }
 }
@@ -75,21 +75,21 @@ fn open_followers(
     nodes: usize,
     entries: usize,
 ) -> Result<ReadyFollowers, AllocError>
-    requires few { nodes ≤ REPLICAS }
+    requires limit { nodes ≤ REPLICAS }
     requires customers { length columns.now.savings ≡ length directory.now }
     ensures nodes { IfOk result (λ ready. ready.nodes ≡ nodes) }
     ensures as_many { IfOk result (λ ready. length ready.replicas ≡ nodes - 1) }
     ensures opened { IfOk result (λ ready. All (IsAtOpening directory.now columns.now) ready.replicas) }
 {
-    let mut ends = Vec::new(alloc);
+    let mut senders = Vec::new(alloc);
     let mut followers = Vec::new(alloc);
     for id in 1..nodes {
         let replica = open_copy(alloc, id as u8, directory, columns, entries)?;
-        push_follower(alloc, replica, &mut ends, &mut followers)?;
+        push_follower(alloc, replica, &mut senders, &mut followers)?;
     }
     Ok(ReadyFollowers {
         nodes,
-        ends,
+        senders,
         followers,
     })
 }
@@ -98,16 +98,16 @@ fn open_followers(
 fn push_follower(
     alloc: Global,
     replica: Box<Replica<MemoryStore>>,
-    ends: &mut Vec<Sender<Message>>,
+    senders: &mut Vec<Sender<Message>>,
     followers: &mut Vec<Follower>,
 ) -> Result<(), AllocError>
-    ensures ends { OnOk result (length ends.new.items ≡ length ends.old.items + 1) }
+    ensures senders { OnOk result (length senders.new.items ≡ length senders.old.items + 1) }
     ensures follower { OnOk result ((follower : _) × (follower.replica ≡ replica)
         × (followers.new.items ≡ followers.old.items ++ follower ∷ [])) }
 {
     let (end, inbox) = bounded(alloc, MESSAGES)?;
     let stream = Stream::new(alloc);
-    ends.push(end)?;
+    senders.push(end)?;
     followers.push(Follower {
         replica,
         stream,

@@ -1,7 +1,7 @@
 //! Looking up the names of a whole log.
 ghost use Rattle.std.specs.Prelude.{◌≡◌, ◌≤◌, length, map, IfOk};
-ghost use Rattle.sb_calls.specs.Op.{resolved};
-ghost use Rattle.bank_server.specs.Execution.{AreWithin};
+ghost use Rattle.sb_calls.specs.Op.{op_of};
+ghost use Rattle.bank_server.specs.Execution.{AreOpsWithin};
 ghost use Rattle.bank_server.specs.Output.{calls_of};
 
 use sb_calls::{LOG_CALLS, Op, resolve};
@@ -18,13 +18,13 @@ pub fn resolve_all(
     log: &Sequencer,
     directory: &Directory,
 ) -> Result<Vec<Op>, AllocError>
-    ensures value { IfOk result (λ ops. ops.items ≡ map (resolved directory.now) (calls_of log.now.log)) }
-    ensures few { IfOk result (λ ops. length ops.items ≤ LOG_CALLS) }
-    ensures within { IfOk result (λ ops. AreWithin (length directory.now) ops.items) }
+    ensures value { IfOk result (λ ops. ops.items ≡ map (op_of directory.now) (calls_of log.now.log)) }
+    ensures limit { IfOk result (λ ops. length ops.items ≤ LOG_CALLS) }
+    ensures within { IfOk result (λ ops. AreOpsWithin (length directory.now) ops.items) }
 {
     let mut ops = Vec::with_capacity(alloc, log.length() as usize)?;
-    for place in 0..log.length() {
-        let call = log.call(place + 1).unwrap();
+    for index in 0..log.length() {
+        let call = log.call(index + 1).unwrap();
         ops.push(resolve(directory, call))?;
     }
     Ok(ops)

@@ -1,12 +1,12 @@
 //! A whole run: its output is a stated function of its input.
 ghost use Rattle.std.specs.Prelude.{◌≡◌, ◌≤◌, Ok, IfSome, IfOk, IfErr, OnOk};
-ghost use Rattle.bank_server.specs.Faults.{Writes, Blames, GoesAmong, IsNodesFault, StraysAmong, WritesNothing};
+ghost use Rattle.bank_server.specs.Faults.{Writes, IsFirstInputFault, LosesWorkers, IsNodesFault, StraysAmong, LeavesOutput};
 ghost use Rattle.bank_server.specs.Output.{output_of};
-ghost use Rattle.bank_server.specs.Prepared.{IsPreparedOf};
+ghost use Rattle.bank_server.specs.PreparedInput.{IsPreparedInputOf};
 
 use crate::answers::push_output;
 use crate::fault::RunFault;
-use crate::preparing::{Prepared, prepare};
+use crate::prepared_input::{PreparedInput, prepare};
 use crate::ready_followers::ReadyFollowers;
 use crate::whole_log::carry_out_log;
 use cown_bench::WORKERS;
@@ -52,14 +52,14 @@ pub fn run_text<H: Threads + Wait + Clock + Sync, R: Read, W: Write, G: Gate + S
         Writes (output_of input) (W.contents writer.old) (W.contents writer.new))) }
     // A fault of the input is its first one.
     ensures first { IfErr result (λ fault. IfSome (R.remaining reader.old) (λ input.
-        Blames fault (output_of input))) }
+        IsFirstInputFault fault (output_of input))) }
     // Nothing was written after a fault of the input.
     ensures unwritten { IfErr result (λ fault.
-        WritesNothing fault (W.contents writer.old) (W.contents writer.new)) }
+        LeavesOutput fault (W.contents writer.old) (W.contents writer.new)) }
     // Only a follower strays.
     ensures strayed { IfErr result (StraysAmong nodes) }
     // Without workers `CrewGone` never comes.
-    ensures gone { IfErr result (GoesAmong workers) }
+    ensures crew_lost { IfErr result (LosesWorkers workers) }
 {
     let input = read_all(alloc, reader)?;
     let prepared = prepare(alloc, &input)?;
@@ -74,19 +74,19 @@ pub fn run_text<H: Threads + Wait + Clock + Sync, R: Read, W: Write, G: Gate + S
 fn output_text<H: Threads + Wait + Clock + Sync, G: Gate + Sync>(
     rt: &H,
     alloc: Global,
-    prepared: Prepared,
+    prepared: PreparedInput,
     input: Vec<u8>,
     nodes: usize,
     workers: usize,
     gate: &G,
 ) -> Result<Vec<u8>, RunFault>
-    requires prepared { IsPreparedOf input.items prepared }
+    requires prepared { IsPreparedInputOf input.items prepared }
     requires nodes { nodes ≤ REPLICAS }
     requires workers { workers ≤ WORKERS }
     ensures value { IfOk result (λ output. output_of input.items ≡ Ok output.items) }
     ensures fault { IfErr result (IsNodesFault nodes workers) }
 {
-    let Prepared { primary, standings } = prepared;
+    let PreparedInput { primary, standings } = prepared;
     let entries = primary.log().length() as usize;
     let followers = ReadyFollowers::open(alloc, primary.node(), nodes, entries)?;
     let node = carry_out_log(rt, alloc, primary, followers, workers, gate)?;

@@ -1,6 +1,7 @@
 //! Why a bank isn't saved.
 ghost use Rattle.std.specs.Prelude.{◌≡◌};
-ghost use Rattle.bank_server.specs.Saving.{save_fault_number, save_of_mark_fault, save_of_store_fault};
+ghost use Rattle.bank_server.specs.Saving.{save_fault_number};
+ghost use Rattle.bank_server.specs.inner.SaveFaults.{save_of_mark_fault, save_of_store_fault};
 
 use sb_checkpoint::StoreFault;
 use sb_replica::MarkFault;

@@ -1,10 +1,11 @@
 //! A client's session.
 ghost use Rattle.std.specs.Prelude.{◌≡◌, [], false, IfErr, IfSome, OnOk};
-ghost use Rattle.bank_server.specs.Primary.{HasAll, KeepsBank, opening_of};
-ghost use Rattle.bank_server.specs.SessionFaults.{IsEndFault, LosesCrew};
-ghost use Rattle.bank_server.specs.Served.{IsServed, IsCutShort};
+ghost use Rattle.bank_server.specs.Primary.{HasWholeLog, PreservesBank, opening_rows_of};
+ghost use Rattle.bank_server.specs.inner.FlushFaults.{IsEndFault};
+ghost use Rattle.bank_server.specs.SessionFaults.{LosesCrew};
+ghost use Rattle.bank_server.specs.SessionResults.{ServesSession, ServesUntilFault};
 
-use crate::hearing::{Hearing, hear};
+use crate::buffers::{SessionBuffers, handle_bytes};
 use crate::primary::Primary;
 use crate::session_fault::SessionFault;
 use cown_workers::Crew;
@@ -43,24 +44,24 @@ pub fn serve_session<R: Read, W: Write, S: CheckpointStore, C: Crew>(
 ) -> Result<(), SessionFault>
     // Everything that was read was asks and flushes; the log is that of the session, and its
     // outcomes are written.
-    ensures served { OnOk result (IfSome (R.remaining reader.old) (IsServed (opening_of primary.old)
+    ensures served { OnOk result (IfSome (R.remaining reader.old) (ServesSession (opening_rows_of primary.old)
         primary.old.log primary.new.log (W.contents writer.old) (W.contents writer.new))) }
-    ensures all { OnOk result (HasAll primary.new) }
+    ensures whole_log { OnOk result (HasWholeLog primary.new) }
     // After a fault the log is that of the first frames of the session, and the fault came after
     // them.
     ensures cut_short { IfErr result (λ fault. IfSome (R.remaining reader.old) (λ input.
-        IsCutShort (opening_of primary.old) primary.old.log primary.new.log (W.contents writer.old)
+        ServesUntilFault (opening_rows_of primary.old) primary.old.log primary.new.log (W.contents writer.old)
         (W.contents writer.new) input fault)) }
-    ensures bank { KeepsBank primary.old primary.new }
-    ensures gone { IfErr result (LosesCrew C.keeps primary.old.node.board) }
+    ensures bank { PreservesBank primary.old primary.new }
+    ensures crew_lost { IfErr result (LosesCrew C.keeps primary.old.node.board) }
 {
     primary.settle(crew)?;
-    let mut hearing = Hearing::new(alloc);
+    let mut buffers = SessionBuffers::new(alloc);
     let mut chunk = [0u8; CHUNK];
     for _ in 0..READS {
         match reader.read(&mut chunk) {
-            Ok(0) => return end(&hearing, primary, crew),
-            Ok(count) => hear(&chunk[..count], &mut hearing, writer, primary, crew)?,
+            Ok(0) => return end(&buffers, primary, crew),
+            Ok(count) => handle_bytes(&chunk[..count], &mut buffers, writer, primary, crew)?,
             Err(error) => {
                 if error.kind() != ErrorKind::Interrupted {
                     return Err(SessionFault::Device);
@@ -73,18 +74,18 @@ pub fn serve_session<R: Read, W: Write, S: CheckpointStore, C: Crew>(
 
 // Ends a session at the end of what its client sent.
 fn end<S: CheckpointStore, C: Crew>(
-    hearing: &Hearing,
+    buffers: &SessionBuffers,
     primary: &mut Primary<S>,
     crew: &mut C,
 ) -> Result<(), SessionFault>
-    ensures whole { OnOk result (hearing.now.stream.unread ≡ []) }
-    ensures all { OnOk result (HasAll primary.new) }
+    ensures whole { OnOk result (buffers.now.stream.unread ≡ []) }
+    ensures whole_log { OnOk result (HasWholeLog primary.new) }
     ensures log { primary.new.log ≡ primary.old.log }
-    ensures fault { IfErr result (IsEndFault hearing.now.stream) }
-    ensures bank { KeepsBank primary.old primary.new }
-    ensures gone { IfErr result (LosesCrew C.keeps primary.old.node.board) }
+    ensures fault { IfErr result (IsEndFault buffers.now.stream) }
+    ensures bank { PreservesBank primary.old primary.new }
+    ensures crew_lost { IfErr result (LosesCrew C.keeps primary.old.node.board) }
 {
-    if !hearing.stream.ended() {
+    if !buffers.stream.ended() {
         return Err(SessionFault::Frame(FrameFault::Short));
     }
     primary.settle(crew)

@@ -1,6 +1,7 @@
 //! Why a session ends before its client does.
 ghost use Rattle.std.specs.Prelude.{◌≡◌};
-ghost use Rattle.bank_server.specs.SessionFaults.{session_fault_number, session_of_crew_fault};
+ghost use Rattle.bank_server.specs.SessionFaults.{session_fault_number};
+ghost use Rattle.bank_server.specs.inner.FlushFaults.{session_of_crew_fault};
 ghost use Rattle.bank_server.specs.declared.session_fault.SessionFault.TheVariants.{OutOfMemory};
 
 use cown_workers::CrewFault;

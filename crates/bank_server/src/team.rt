@@ -1,7 +1,8 @@
 //! Who executes a log together with node 0: its crew and its followers.
 ghost use Rattle.std.specs.Prelude.{◌≡◌, ℕ, ◌≤◌, ◌<◌, Bool, true, IfOk, IfErr};
 ghost use Rattle.std.specs.Fn.{FnOnceReturnsAtMut};
-ghost use Rattle.bank_server.specs.Faults.{IsNodesFault, IsWorkersFault};
+ghost use Rattle.bank_server.specs.Faults.{IsNodesFault};
+ghost use Rattle.bank_server.specs.inner.RunFaults.{IsWorkersFault};
 
 use crate::fault::RunFault;
 use crate::followers::{Followers, with_followers};
@@ -15,16 +16,16 @@ use std::thread::Threads;
 use std::time::Clock;
 
 /// A crew's number of workers, each in a thread of its own.
-pub trait Headcount {
+pub trait WorkerCount {
     /// The number.
     ghost workers: { Self → ℕ };
 }
 
-impl Headcount for InlineCrew {
+impl WorkerCount for InlineCrew {
     ghost workers = { λ crew. 0 };
 }
 
-impl<'a, R: Wait + Clock, G: Gate> Headcount for BenchCrew<'a, R, G> {
+impl<'a, R: Wait + Clock, G: Gate> WorkerCount for BenchCrew<'a, R, G> {
     ghost workers = { λ crew. crew.workers };
 }
 
@@ -44,7 +45,7 @@ pub trait Duty {
     fn carry_out<R, C>(self, rt: &R, followers: &mut Followers<'_, R>, crew: &mut C) -> Self::Answer
     where
         R: Threads + Wait + Clock,
-        C: Crew + Headcount,
+        C: Crew + WorkerCount,
         requires { ready self }
         ensures { does self followers.old.nodes (C.workers crew.old) C.keeps result };
 }

@@ -1,14 +1,15 @@
 //! A whole log, executed once.
 ghost use Rattle.std.specs.Prelude.{◌≤◌, IfOk, IfErr};
-ghost use Rattle.bank_server.specs.Execution.{IsOpened};
-ghost use Rattle.bank_server.specs.Faults.{IsNodesFault, IsTeamFault};
+ghost use Rattle.bank_server.specs.Execution.{HasNoEntries};
+ghost use Rattle.bank_server.specs.Faults.{IsNodesFault};
+ghost use Rattle.bank_server.specs.inner.RunFaults.{IsTeamFault};
 ghost use Rattle.bank_server.specs.Primary.{RunsLog};
 
 use crate::fault::RunFault;
 use crate::followers::Followers;
 use crate::primary::Primary;
 use crate::ready_followers::ReadyFollowers;
-use crate::team::{Duty, Headcount, with_team};
+use crate::team::{Duty, WorkerCount, with_team};
 use cown_bench::WORKERS;
 use cown_workers::{Crew, Gate};
 use sb_checkpoint::CheckpointStore;
@@ -29,7 +30,7 @@ struct WholeLog<S: CheckpointStore> {
 impl<S: CheckpointStore> Duty for WholeLog<S> {
     type Answer = Result<Box<Replica<S>>, RunFault>;
 
-    ghost ready = { λ duty. IsOpened duty.primary.node.board };
+    ghost ready = { λ duty. HasNoEntries duty.primary.node.board };
 
     ghost does = { λ duty nodes workers keeps answer. IfOk answer (λ node. RunsLog duty.primary node.value)
         × IfErr answer (IsTeamFault nodes keeps) };
@@ -42,7 +43,7 @@ impl<S: CheckpointStore> Duty for WholeLog<S> {
     ) -> Result<Box<Replica<S>>, RunFault>
     where
         R: Threads + Wait + Clock,
-        C: Crew + Headcount,
+        C: Crew + WorkerCount,
     {
         let node = self.primary.finish(crew, followers)?;
         followers.compare(rt, &node)?;
@@ -73,7 +74,7 @@ where
     G: Gate + Sync,
     requires nodes { followers.nodes ≤ REPLICAS }
     requires workers { workers ≤ WORKERS }
-    requires opened { IsOpened primary.node.board }
+    requires opened { HasNoEntries primary.node.board }
     // It began as this node 0 and executed the ops of the log, as if its calls were run one by one.
     ensures run { IfOk result (λ node. RunsLog primary node.value) }
     ensures fault { IfErr result (IsNodesFault followers.nodes workers) }

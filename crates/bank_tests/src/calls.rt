@@ -1,8 +1,8 @@
 //! Calls, the replies to them, and the cowns that they declare.
-mod answers;
 mod ask_lines;
 mod bank;
 mod call_lines;
+mod call_sequences;
 mod cowns;
 mod effects;
 mod nets;

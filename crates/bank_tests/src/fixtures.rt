@@ -32,7 +32,7 @@ pub(crate) fn cents(rt: &impl Abort, number: i64) -> Cents
 }
 
 /// The opening that a text without a fault spells.
-pub(crate) fn opened(rt: &impl Abort, alloc: Global, text: &str) -> Box<Opening> {
+pub(crate) fn valid_opening(rt: &impl Abort, alloc: Global, text: &str) -> Box<Opening> {
     let opening = read_opening(alloc, text.as_bytes()).expect(rt, "an opening");
     Box::new(alloc, opening).expect(rt, "memory for a box")
 }

@@ -1,5 +1,5 @@
 //! Names, openings and balances.
-mod borders;
+mod block_edges;
 pub(crate) mod columns;
 mod directories;
 mod names;

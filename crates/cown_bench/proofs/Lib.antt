@@ -1,6 +1,6 @@
-mod Moves
-mod Numbered
-mod Passing
+mod DrainLaws
+mod EnumeratedLists
+mod PassViewLaws
 mod PickLists
+mod RuleSteps
 mod Sums
-mod TakingOut

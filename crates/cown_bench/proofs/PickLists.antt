@@ -5,8 +5,8 @@ use Rattle.std.proofs.lemmas.List.Elements.{All-nil, All-cons, All-head, All-tai
 use Rattle.std.proofs.lemmas.List.Quantifiers.{all_pairs_push}
 use Rattle.std.proofs.lemmas.List.Sums.{sum_by-cons, sum_by_push}
 use Rattle.std.proofs.lemmas.Option.{none-some, slice_get_within}
-use Rattle.cown_bench.specs.BenchRule.{ArePicks}
-use Rattle.cown_bench.specs.Parting.{AreOffered}
+use Rattle.cown_bench.specs.inner.BenchRule.{ArePicks}
+use Rattle.cown_bench.specs.OfferedWorks.{AreOffered}
 use Rattle.cown_bench.specs.Picks.{WorkOf, PickOf}
 
 slice_get-front : {A : Type 0} (xs ys : List A) (k : ℕ) (x : A) → slice_get xs k ≡ Some x → slice_get (xs ++ ys) k ≡ Some x
@@ -42,24 +42,24 @@ module _ (taken : List WorkOf) where
   }
 
 -- lists of picks; the first is the pass's own
-module _ (taken : List WorkOf) (own : List PickOf) (told : List (List PickOf)) (are : All (ArePicks taken) (own ∷ told)) where
+module _ (taken : List WorkOf) (own : List PickOf) (absorbed : List (List PickOf)) (are : All (ArePicks taken) (own ∷ absorbed)) where
   pub own_picks : ArePicks taken own
-  own_picks = All-head (ArePicks taken) own told are
+  own_picks = All-head (ArePicks taken) own absorbed are
 
-  pub told_picks : All (ArePicks taken) told
-  told_picks = All-tail (ArePicks taken) own told are
+  pub told_picks : All (ArePicks taken) absorbed
+  told_picks = All-tail (ArePicks taken) own absorbed are
 
-  pub lists-longer : (more : List WorkOf) → All (ArePicks (taken ++ more)) (own ∷ told)
-  lists-longer more = All-weaker (ArePicks taken) (ArePicks (taken ++ more)) (ArePicks-longer taken more) (own ∷ told) are
+  pub lists-longer : (more : List WorkOf) → All (ArePicks (taken ++ more)) (own ∷ absorbed)
+  lists-longer more = All-weaker (ArePicks taken) (ArePicks (taken ++ more)) (ArePicks-longer taken more) (own ∷ absorbed) are
 
-  pub lists-pick : (work : WorkOf) → All (ArePicks (taken ++ work ∷ [])) ((own ++ (length taken, work) ∷ []) ∷ told)
+  pub lists-pick : (work : WorkOf) → All (ArePicks (taken ++ work ∷ [])) ((own ++ (length taken, work) ∷ []) ∷ absorbed)
   lists-pick work =
-      All-cons (ArePicks (taken ++ work ∷ [])) (own ++ (length taken, work) ∷ []) told (ArePicks-push taken work own own_picks)
-      (All-weaker (ArePicks taken) (ArePicks (taken ++ work ∷ [])) (ArePicks-longer taken (work ∷ [])) told told_picks)
+      All-cons (ArePicks (taken ++ work ∷ [])) (own ++ (length taken, work) ∷ []) absorbed (ArePicks-push taken work own own_picks)
+      (All-weaker (ArePicks taken) (ArePicks (taken ++ work ∷ [])) (ArePicks-longer taken (work ∷ [])) absorbed told_picks)
 
-  pub lists-told : (other : List PickOf) → ArePicks taken other → All (ArePicks taken) (own ∷ (told ++ other ∷ []))
-  lists-told other theirs =
-      All-cons (ArePicks taken) own (told ++ other ∷ []) own_picks (All-push (ArePicks taken) told other told_picks theirs)
+  pub lists-absorbed : (other : List PickOf) → ArePicks taken other → All (ArePicks taken) (own ∷ (absorbed ++ other ∷ []))
+  lists-absorbed other theirs =
+      All-cons (ArePicks taken) own (absorbed ++ other ∷ []) own_picks (All-push (ArePicks taken) absorbed other told_picks theirs)
 
 -- nothing was picked
 pub lists-nil : (taken : List WorkOf) → All (ArePicks taken) ([] ∷ [])
@@ -67,15 +67,15 @@ lists-nil taken = All-cons (ArePicks taken) [] [] (ArePicks-nil taken) (All-nil 
 
 -- what lists of picks weigh
 module _ (weight : PickOf → ℕ) where
-  pub weight-own : (own : List PickOf) (told : List (List PickOf)) → sum_by (sum_by weight) (own ∷ told) ≡ sum_by weight own + sum_by (sum_by weight) told
-  weight-own own told = sum_by-cons (sum_by weight) own told
+  pub weight-own : (own : List PickOf) (absorbed : List (List PickOf)) → sum_by (sum_by weight) (own ∷ absorbed) ≡ sum_by weight own + sum_by (sum_by weight) absorbed
+  weight-own own absorbed = sum_by-cons (sum_by weight) own absorbed
 
-  pub weight-pick : (own : List PickOf) (pick : PickOf) (told : List (List PickOf))
-      → sum_by (sum_by weight) ((own ++ pick ∷ []) ∷ told) ≡ sum_by (sum_by weight) (own ∷ told) + weight pick
-  weight-pick own pick told =
-      omega (arith, weight-own (own ++ pick ∷ []) told, weight-own own told, sum_by_push weight own pick)
+  pub weight-pick : (own : List PickOf) (pick : PickOf) (absorbed : List (List PickOf))
+      → sum_by (sum_by weight) ((own ++ pick ∷ []) ∷ absorbed) ≡ sum_by (sum_by weight) (own ∷ absorbed) + weight pick
+  weight-pick own pick absorbed =
+      omega (arith, weight-own (own ++ pick ∷ []) absorbed, weight-own own absorbed, sum_by_push weight own pick)
 
-  pub weight-told : (told : List (List PickOf)) (other : List PickOf)
-      → sum_by (sum_by weight) ([] ∷ (told ++ other ∷ [])) ≡ sum_by (sum_by weight) ([] ∷ told) + sum_by (sum_by weight) (other ∷ [])
-  weight-told told other =
-      omega (arith, weight-own [] (told ++ other ∷ []), weight-own [] told, weight-own other [], sum_by_push (sum_by weight) told other)
+  pub weight-absorbed : (absorbed : List (List PickOf)) (other : List PickOf)
+      → sum_by (sum_by weight) ([] ∷ (absorbed ++ other ∷ [])) ≡ sum_by (sum_by weight) ([] ∷ absorbed) + sum_by (sum_by weight) (other ∷ [])
+  weight-absorbed absorbed other =
+      omega (arith, weight-own [] (absorbed ++ other ∷ []), weight-own [] absorbed, weight-own other [], sum_by_push (sum_by weight) absorbed other)

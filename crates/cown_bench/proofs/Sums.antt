@@ -16,15 +16,15 @@ module _ {A : Type 0} where
   -- the sum after a change of one
   pub sum_by-changed : (f : A → ℕ) (l : List A) (i : ℕ) (a b : A) → get_elem? l i ≡ some a → sum_by f (set l i b) + f a ≡ sum_by f l + f b
   sum_by-changed f l i a b here =
-      let place = at_place l i a a here in
-      subst (λ (x : A). sum_by f (set l i b) + f x ≡ sum_by f l + f b) place.1 (sum_by-set f l i b a place.0)
+      let position = at_place l i a a here in
+      subst (λ (x : A). sum_by f (set l i b) + f x ≡ sum_by f l + f b) position.1 (sum_by-set f l i b a position.0)
 
   -- each is 0 if the sum is
   each_none : (p : A → ℕ) (l : List A) (i : ℕ) (a : A) → sum_by p l ≡ 0 → get_elem? l i ≡ some a → p a ≡ 0
   each_none p l i a none here =
-      let place = at_place l i a a here in
-      let most : p (get_or l i a) ≤ sum_by p l = get_or-le-sum_by p l i a place.0 in
-      let same : p (get_or l i a) ≡ p a = ap p place.1 in
+      let position = at_place l i a a here in
+      let most : p (get_or l i a) ≤ sum_by p l = get_or-le-sum_by p l i a position.0 in
+      let same : p (get_or l i a) ≡ p a = ap p position.1 in
       omega (arith, most, same, none)
 
   -- if p is 0 at each, and f is 0 wherever p is, f is 0 in all

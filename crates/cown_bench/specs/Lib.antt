@@ -1,5 +1,4 @@
 pub mod BenchPasses
-pub mod BenchRule
-pub mod Parting
+pub mod OfferedWorks
 pub mod Picks
-pub mod Views
+pub mod inner

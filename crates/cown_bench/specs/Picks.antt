@@ -7,6 +7,6 @@ use Rattle.cown_bench.specs.declared.work.Work.{Work}
 abbrev pub WorkOf : Type 0
 WorkOf = Work
 
--- what was picked: its place in what was offered, counted from 0, and the Work
+-- what was picked: its position in what was offered, counted from 0, and the Work
 abbrev pub PickOf : Type 0
 PickOf = ℕ × WorkOf

@@ -1,13 +1,13 @@
 //! The bench.
 ghost use Rattle.std.specs.Prelude.{◌≡◌, ℕ, ◌≤◌, [], ◌∷◌, ◌++◌, All, length, IfErr, IfNone, IfOk, IfSome, OnErr, OnOk};
 ghost use Rattle.cown_bench.specs.BenchPasses.{picked_of};
-ghost use Rattle.cown_bench.specs.Parting.{IsPartedInto, WeighAlike};
+ghost use Rattle.cown_bench.specs.OfferedWorks.{IsSplitInto, WeighAlike};
 
 use crate::draining::drain;
 use crate::passes::{OwnerPass, WorkerPass};
 use crate::rule::{Offers, Picks, Queue};
 use crate::work::Work;
-use crate::worker_passes::{cut, gather};
+use crate::worker_passes::{absorb_passes, split_passes};
 use cown_board::OPEN_BEHAVIOURS;
 use std::alloc::{AllocError, Global};
 use std::marker::Model;
@@ -30,13 +30,13 @@ pub struct Bench {
 impl Model for Bench {
     ghost use Rattle.crossbeam_queue.specs.Passes.{ruled_capacity};
     ghost use Rattle.cown_bench.specs.BenchPasses.{BenchId};
-    ghost use Rattle.cown_bench.specs.Views.{HoldsAll};
+    ghost use Rattle.cown_bench.specs.inner.PassViews.{HasBenchCapacity};
 
     ghost Value = { BenchId };
 
     ghost view = { λ b. b.queue.table.shared.table_id };
 
-    ghost invariant = { λ b. HoldsAll (ruled_capacity b.queue) };
+    ghost invariant = { λ b. HasBenchCapacity (ruled_capacity b.queue) };
 }
 
 impl Bench {
@@ -46,8 +46,8 @@ impl Bench {
         alloc: Global,
         workers: usize,
     ) -> Result<(Bench, OwnerPass, Vec<WorkerPass>), AllocError>
-        requires some { 1 ≤ workers }
-        requires few { workers ≤ WORKERS }
+        requires positive { 1 ≤ workers }
+        requires limit { workers ≤ WORKERS }
         ensures owner { IfOk result (λ made. made.1 ≡
             record { bench = made.0; workers = workers; offered = [] }) }
         ensures passes { IfOk result (λ made. All (λ pass. pass ≡
@@ -57,7 +57,7 @@ impl Bench {
         let left = Vec::with_capacity(alloc, BENCH_CAPACITY)?;
         let mut passes = Vec::with_capacity(alloc, workers)?;
         let (queue, mut pass) = Queue::ruled(alloc, BENCH_CAPACITY)?;
-        cut(&queue, &mut pass, workers, &mut passes);
+        split_passes(&queue, &mut pass, workers, &mut passes);
         Ok((Bench { queue }, OwnerPass { pass, left }, passes))
     }
 
@@ -76,9 +76,9 @@ impl Bench {
     /// Picks the Work that has lain there longest, or answers `None` if nothing lies there.
     pub fn pick<R: Wait>(&self, rt: &R, pass: &mut WorkerPass) -> Option<Work>
         requires { pass.old.bench ≡ self.now }
-        ensures some { IfSome result (λ work. (place : ℕ) × (pass.new ≡
-            record pass.old { picked = pass.old.picked ++ (place, work) ∷ [] })) }
-        ensures none { IfNone result (pass.new ≡ pass.old) }
+        ensures picked { IfSome result (λ work. (position : ℕ) × (pass.new ≡
+            record pass.old { picked = pass.old.picked ++ (position, work) ∷ [] })) }
+        ensures unchanged { IfNone result (pass.new ≡ pass.old) }
     {
         self.queue.pop_as::<Picks, R>(rt, &mut pass.pass)
     }
@@ -89,12 +89,12 @@ impl Bench {
     pub fn close<R: Wait>(&self, rt: &R, owner: OwnerPass, workers: Vec<WorkerPass>) -> Vec<Work>
         requires owner { owner.bench ≡ self.now }
         requires workers { All (λ worker. worker.bench ≡ self.now) workers.items }
-        requires all { length workers.items ≡ owner.workers }
-        ensures parted { IsPartedInto owner.offered (picked_of workers.items) result.items }
+        requires worker_count { length workers.items ≡ owner.workers }
+        ensures split { IsSplitInto owner.offered (picked_of workers.items) result.items }
         // So any sum over all that was offered is the same over what was picked and what is left.
         ensures weights { WeighAlike owner.offered (picked_of workers.items) result.items }
     {
-        let (pass, left) = gather(&self.queue, owner, workers);
+        let (pass, left) = absorb_passes(&self.queue, owner, workers);
         drain(rt, &self.queue, pass, left)
     }
 }

@@ -1,11 +1,11 @@
 //! What nobody picked.
 ghost use Rattle.std.specs.Prelude.{◌≡◌, ◌≤◌, [], vec_capacity};
 ghost use Rattle.crossbeam_queue.specs.Passes.{IsPassOf, view};
-ghost use Rattle.cown_bench.specs.Parting.{IsPartedInto, WeighAlike};
-ghost use Rattle.cown_bench.specs.Views.{all_parts, owner_view};
+ghost use Rattle.cown_bench.specs.OfferedWorks.{IsSplitInto, WeighAlike};
+ghost use Rattle.cown_bench.specs.inner.PassViews.{all_parts, owner_view};
 ghost use Rattle.cown_bench.specs.declared.bench.TheConstants.{BENCH_CAPACITY};
 
-use crate::known::Known;
+use crate::pass_history::PassHistory;
 use crate::rule::{Drains, Queue};
 use crate::work::Work;
 use crossbeam_queue::Pass;
@@ -15,15 +15,15 @@ use std::sync::Wait;
 pub(crate) fn drain<R: Wait>(
     rt: &R,
     queue: &Queue,
-    mut pass: Pass<Work, Known>,
+    mut pass: Pass<Work, PassHistory>,
     mut left: Vec<Work>,
 ) -> Vec<Work>
     requires queue { IsPassOf queue.now pass }
-    requires all { view pass ≡ owner_view all_parts (view pass).offered (view pass).told [] }
+    requires complete { view pass ≡ owner_view all_parts (view pass).offered (view pass).absorbed [] }
     requires empty { left.items ≡ [] }
     requires room { BENCH_CAPACITY ≤ vec_capacity left }
-    ensures parted { IsPartedInto (view pass).offered (view pass).told result.items }
-    ensures weights { WeighAlike (view pass).offered (view pass).told result.items }
+    ensures split { IsSplitInto (view pass).offered (view pass).absorbed result.items }
+    ensures weights { WeighAlike (view pass).offered (view pass).absorbed result.items }
 {
     loop {
         let Some(work) = queue.pop_as::<Drains, R>(rt, &mut pass) else {

@@ -4,8 +4,8 @@
 
 mod bench;
 mod draining;
-mod known;
 mod laws;
+mod pass_history;
 mod passes;
 mod rule;
 mod work;

@@ -1,5 +1,5 @@
 //! The passes of a bench.
-use crate::known::Known;
+use crate::pass_history::PassHistory;
 use crate::work::Work;
 use crossbeam_queue::Pass;
 use std::marker::Model;
@@ -8,7 +8,7 @@ use std::marker::Model;
 /// contracts know what it offered.
 #[derive(Drop)]
 pub struct OwnerPass {
-    pub(crate) pass: Pass<Work, Known>,
+    pub(crate) pass: Pass<Work, PassHistory>,
     // Room for what nobody picked.
     pub(crate) left: Vec<Work>,
 }
@@ -19,7 +19,7 @@ impl Model for OwnerPass {
     ghost Value = { OwnerOf };
 
     ghost use Rattle.std.specs.Prelude.{vec_capacity};
-    ghost use Rattle.cown_bench.specs.Views.{HasRoom, IsOwner, owner_of};
+    ghost use Rattle.cown_bench.specs.inner.PassViews.{HasRoom, IsOwner, owner_of};
 
     ghost view = { λ p. owner_of p.pass };
 
@@ -30,7 +30,7 @@ impl Model for OwnerPass {
 /// picked.
 #[derive(Drop)]
 pub struct WorkerPass {
-    pub(crate) pass: Pass<Work, Known>,
+    pub(crate) pass: Pass<Work, PassHistory>,
 }
 
 impl Model for WorkerPass {
@@ -38,7 +38,7 @@ impl Model for WorkerPass {
 
     ghost Value = { WorkerOf };
 
-    ghost use Rattle.cown_bench.specs.Views.{IsWorker, worker_of};
+    ghost use Rattle.cown_bench.specs.inner.PassViews.{IsWorker, worker_of};
 
     ghost view = { λ p. worker_of p.pass };
 

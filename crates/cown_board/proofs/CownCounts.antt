@@ -3,22 +3,22 @@ use Rattle.std.proofs.Common.{◌≡◌, inl, inr, ℕ, zero, suc, ◌+◌, ◌<
 use Rattle.std.specs.List.{cons_option}
 use Rattle.std.specs.Prelude.{◌==◌, slice_get, count_by}
 use Rattle.std.proofs.lemmas.Bool.{cases_order, and_left, eqb-true, eq-eqb, ne_eqb, or_cases, or_left, or_parts, or_right, eqb-false, true≢false}
-use Rattle.sb_calls.proofs.HeldLaws.{eqb-refl}
+use Rattle.sb_calls.proofs.CownContents.{eqb-refl}
 use Rattle.sb_calls.specs.Cowns.{AreBelow, IsRising}
-use Rattle.sb_calls.specs.OneByOne.{is_among}
-use Rattle.cown_queue.proofs.Changes.{IsRising-rest, is_among-rising}
+use Rattle.sb_calls.specs.SerialRun.{is_among}
+use Rattle.cown_queue.proofs.ListChanges.{IsRising-rest, is_among-rising}
 use Rattle.cown_queue.specs.Queues.{fronts_of, list_of}
 use Rattle.cown_board.proofs.FrontLaws.{count-cons}
-use Rattle.cown_board.proofs.PlacesLaws.{one, length-places, length-places_add, length-places_none}
-use Rattle.cown_board.specs.Due.{times}
-use Rattle.cown_board.specs.Fronts.{is_first}
-use Rattle.cown_board.specs.Places.{places}
+use Rattle.cown_board.proofs.PositionLaws.{one, length-positions, length-places_add, length-places_none}
+use Rattle.cown_board.specs.inner.DuePositions.{occurrences}
+use Rattle.cown_board.specs.inner.Fronts.{is_first}
+use Rattle.cown_board.specs.Positions.{positions}
 
 -- one place alone
-one_place : (p : ℕ → Bool) (c n : ℕ) → c < n → length (places (λ x. (x == c) && p x) n) ≡ one (p c)
+one_place : (p : ℕ → Bool) (c n : ℕ) → c < n → length (positions (λ x. (x == c) && p x) n) ≡ one (p c)
 one_place p c zero lt = absurd (omega (arith, lt))
 one_place p c (suc m) lt =
-    let all = length-places (λ x. (x == c) && p x) m in
+    let all = length-positions (λ x. (x == c) && p x) m in
     elim (cases_order c m) [
       | inl same ↦
           let before = length-places_none (λ x. (x == c) && p x) m (λ x below. and_left (x == c) (p x) (ne_eqb x c (λ e. omega (arith, e, same, below)))) in
@@ -44,27 +44,27 @@ split_or false true false apart = refl
 split_or false false q apart = refl
 
 -- a count over a rising list of cowns is the count over all cowns that are in it
-pub count_by-places : (p : ℕ → Bool) (cowns : List ℕ) (n : ℕ) → IsRising cowns → AreBelow n cowns
-    → count_by p cowns ≡ length (places (λ x. is_among x cowns && p x) n)
-count_by-places p [] n rising below = sym (length-places_none (λ x. false && p x) n (λ x lt. refl))
-count_by-places p (c ∷ cowns) n rising below =
+pub count_by-positions : (p : ℕ → Bool) (cowns : List ℕ) (n : ℕ) → IsRising cowns → AreBelow n cowns
+    → count_by p cowns ≡ length (positions (λ x. is_among x cowns && p x) n)
+count_by-positions p [] n rising below = sym (length-places_none (λ x. false && p x) n (λ x lt. refl))
+count_by-positions p (c ∷ cowns) n rising below =
     let all = count-cons p c cowns in
-    let rest = count_by-places p cowns n (IsRising-rest c cowns rising) below.1 in
+    let rest = count_by-positions p cowns n (IsRising-rest c cowns rising) below.1 in
     let first = one_place p c n below.0 in
     let both = length-places_add (λ x. ((x == c) || is_among x cowns) && p x) (λ x. (x == c) && p x) (λ x. is_among x cowns && p x) n
     (λ x lt. split_or (x == c) (is_among x cowns) (p x) (λ same. is_among-rising c cowns x rising (let e = eqb-true x c same in omega (arith, e)))) in
     omega (arith, all, rest, first, both)
 
 -- a number occurs among the fronts of some cowns once for each cown at which it is in front
-times-list : (xs : List ℕ) (rest : List ℕ) (j : ℕ) → times j (cons_option (slice_get xs 0) rest) ≡ one (is_first j xs) + times j rest
+times-list : (xs : List ℕ) (rest : List ℕ) (j : ℕ) → occurrences j (cons_option (slice_get xs 0) rest) ≡ one (is_first j xs) + occurrences j rest
 times-list [] rest j = omega arith
 times-list (x ∷ xs) rest j = count-cons (λ n. n == j) x rest
 
-pub times-fronts : (lists : List (List ℕ)) (cowns : List ℕ) (j : ℕ) → times j (fronts_of lists cowns) ≡ count_by (λ c. is_first j (list_of lists c)) cowns
-times-fronts lists [] j = refl
-times-fronts lists (c ∷ cowns) j =
+pub occurrences-fronts : (lists : List (List ℕ)) (cowns : List ℕ) (j : ℕ) → occurrences j (fronts_of lists cowns) ≡ count_by (λ c. is_first j (list_of lists c)) cowns
+occurrences-fronts lists [] j = refl
+occurrences-fronts lists (c ∷ cowns) j =
     let all = times-list (list_of lists c) (fronts_of lists cowns) j in
-    let rest = times-fronts lists cowns j in
+    let rest = occurrences-fronts lists cowns j in
     let other = count-cons (λ c. is_first j (list_of lists c)) c cowns in
     omega (arith, all, rest, other)
 
@@ -87,7 +87,7 @@ front_among lists (c ∷ cowns) j among = elim (front_list (list_of lists c) (fr
 ]
 
 -- a number that isn't among them occurs 0 times
-pub times_none : (j : ℕ) (xs : List ℕ) → is_among j xs ≡ false → times j xs ≡ 0
+pub times_none : (j : ℕ) (xs : List ℕ) → is_among j xs ≡ false → occurrences j xs ≡ 0
 times_none j [] out = refl
 times_none j (x ∷ xs) out =
     let parts = or_parts (j == x) (is_among j xs) out in

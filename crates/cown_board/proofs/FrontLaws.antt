@@ -3,12 +3,12 @@ use Rattle.std.proofs.Common.{◌≡◌, ◌≢◌, ℕ, ◌+◌, Bool, true, fa
 use Rattle.std.specs.Prelude.{◌==◌, if◌then◌else◌, slice_get, is_some, count_by}
 use Rattle.std.proofs.lemmas.Bool.{cases_Bool, eqb-true, eq-eqb, ne_eqb, not_from_false, not_from_true, or_left, or_right, true≢false}
 use Rattle.std.proofs.lemmas.List.Sums.{sum_by-cons}
-use Rattle.sb_calls.proofs.HeldLaws.{eqb-refl}
-use Rattle.sb_calls.specs.OneByOne.{is_among}
+use Rattle.sb_calls.proofs.CownContents.{eqb-refl}
+use Rattle.sb_calls.specs.SerialRun.{is_among}
 use Rattle.cown_queue.specs.Queues.{list_of}
 use Rattle.cown_board.proofs.LogLaws.{injective, no_some}
-use Rattle.cown_board.proofs.PlacesLaws.{one}
-use Rattle.cown_board.specs.Fronts.{AreFronts, behind_at, is_first}
+use Rattle.cown_board.proofs.PositionLaws.{one}
+use Rattle.cown_board.specs.inner.Fronts.{AreFronts, behind_at, is_first}
 
 pub first_from : (xs : List ℕ) (n : ℕ) → slice_get xs 0 ≡ Some n → is_first n xs ≡ true
 first_from [] n h = absurd (no_some h)

@@ -1,27 +1,27 @@
-mod AllFinished
-mod Behind
-mod Changes
-pub mod Counts
+mod BehindCounts
+mod BoardCallLaws
+mod BoardSteps
+mod CallContracts
+mod CallEffects
 mod CownCounts
 mod CownLists
-pub mod Cuts
-mod FinishedJob
-mod Finishing
+pub mod CutInvariant
+mod FinishInvariant
+mod FinishedLogs
 mod FrontLaws
-mod Inputs
-mod Linking
-mod Listed
-mod LogLaws
-mod MadeCalls
-mod Opening
-pub mod PlacesLaws
-mod PlayedCalls
-mod PlayedLaws
-mod Queued
+mod JobFinish
+mod JobTake
+mod LinkInvariant
+pub mod LogLaws
+mod OpenInvariant
+pub mod PositionLaws
+mod QueueChanges
+mod ReadyInputs
+mod ReadyListLaws
+mod ReadyListSteps
 mod Replies
-pub mod States
-mod Stepping
-mod Submitting
-mod TakenJob
-pub mod Taking
-mod Unlinked
+pub mod StateChanges
+mod SubmitInvariant
+pub mod TakeInvariant
+pub mod UnfinishedCounts
+mod UnlinkedBoards

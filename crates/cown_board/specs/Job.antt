@@ -2,7 +2,7 @@
 use Rattle.std.specs.Prelude.{ℕ, ℤ, List}
 use Rattle.sb_calls.specs.declared.reply.Reply.{Reply}
 
--- a job: a behaviour, its number, and what its cowns held
+-- a job: a behaviour, its number, and the contents of its cowns
 pub record JobOf (B : Type 0) : Type 0 where
   pub number : ℕ
   pub behaviour : B

@@ -1,12 +1,8 @@
 pub mod Board
-pub mod Due
+pub mod BoardCalls
 pub mod Faults
-pub mod Fronts
-pub mod Invariant
 pub mod Job
-pub mod Links
-pub mod Noted
-pub mod Places
-pub mod Played
+pub mod Positions
 pub mod Readiness
 pub mod State
+pub mod inner

@@ -9,30 +9,22 @@ is_waiting Waiting = true
 is_waiting Out = false
 is_waiting (Finished reply) = false
 
-abbrev pub is_out : State → Bool
-is_out Waiting = false
-is_out Out = true
-is_out (Finished reply) = false
-
 -- the state isn't finished
-abbrev pub is_open : State → Bool
-is_open Waiting = true
-is_open Out = true
-is_open (Finished reply) = false
+abbrev pub is_unfinished : State → Bool
+is_unfinished Waiting = true
+is_unfinished Out = true
+is_unfinished (Finished reply) = false
 
 abbrev pub finished_reply : State → Option Reply
 finished_reply Waiting = None
 finished_reply Out = None
 finished_reply (Finished reply) = Some reply
 
--- the test holds of the state at a place; it fails if there is none
+-- the test holds of the state at a position; it fails if there is none
 abbrev pub state_is : (State → Bool) → Option State → Bool
 state_is test None = false
 state_is test (Some state) = test state
 
--- the behaviour at a place of a log is unfinished, and it waits
-abbrev pub open_at : List State → ℕ → Bool
-open_at states k = state_is is_open (slice_get states k)
-
-abbrev pub waiting_at : List State → ℕ → Bool
-waiting_at states k = state_is is_waiting (slice_get states k)
+-- the behaviour at a position of a log is unfinished, and it waits
+abbrev pub unfinished_at : List State → ℕ → Bool
+unfinished_at states k = state_is is_unfinished (slice_get states k)

@@ -1,15 +1,15 @@
 //! The board.
 ghost use Rattle.std.specs.Prelude.{◌≡◌, ◌≢◌, ◌↔◌, ◌<◌, ◌≤◌, ◌+◌, ◌-◌, ◌++◌, [], ◌∷◌, suc, length, slice_get, option_map, ℕ, IsTrue, IfOk, IfSome, OnOk, OnErr, IsErrOf, IsOk, Some, None, Ok, Err, MatchOption, MatchResult, vec_len, vec_capacity};
 ghost use Rattle.sb_rows.specs.Balances.{IsBalances};
-ghost use Rattle.sb_calls.specs.Cowns.{AreBelow, held_of};
-ghost use Rattle.sb_calls.specs.OneByOne.{reply_by_log};
-ghost use Rattle.cown_board.specs.Board.{BoardOf, length_of, open_of, reply_in, Takes, Finishes, IsOutHere, IsAfterAll, AreCut};
+ghost use Rattle.sb_calls.specs.Cowns.{AreBelow, contents_of};
+ghost use Rattle.sb_calls.specs.SerialRun.{reply_by_log};
+ghost use Rattle.cown_board.specs.Board.{BoardOf, length_of, unfinished_of, reply_in, Takes, Finishes, IsOutHere, IsAfterAll, AreCutColumns};
 ghost use Rattle.cown_board.specs.Faults.{submit_fault_number};
-ghost use Rattle.cown_board.specs.Played.{StaysTrueToLog, Submitted, TakenAt, Returned, CutMade, CutDropped};
-ghost use Rattle.cown_board.specs.Readiness.{ready_places};
+ghost use Rattle.cown_board.specs.BoardCalls.{StaysTrueToLog, Submitted, TakenAt, Returned, CutMade, CutDropped};
+ghost use Rattle.cown_board.specs.Readiness.{ready_positions};
 
-use crate::accepting::{is_out_at, place_of};
-use crate::cut::{Cut, CutFault, note_finished};
+use crate::acceptance::{is_out_at, position_of};
+use crate::cut::{Cut, CutFault, update_cut};
 use crate::job::{Done, Job};
 use crate::links::Links;
 use crate::state::State;
@@ -58,7 +58,7 @@ pub struct Board<B: Behaviour> {
     opening: Columns,
     columns: Columns,
     base: u64,
-    earlier: Vec<Reply>,
+    base_replies: Vec<Reply>,
     log: Vec<B>,
     states: Vec<State>,
     links: Links,
@@ -70,13 +70,13 @@ pub struct Board<B: Behaviour> {
 impl<B: Behaviour> Model for Board<B> {
     ghost use Rattle.std.specs.Prelude.{◌≡◌, length, option_map};
     ghost use Rattle.cown_board.specs.Board.{BoardOf};
-    ghost use Rattle.cown_board.specs.Invariant.{IsBoard};
+    ghost use Rattle.cown_board.specs.inner.BoardInvariant.{IsBoard};
 
     ghost Value = { BoardOf B };
 
     ghost view = { λ b. record {
       opening = b.opening;
-      earlier = b.earlier.items;
+      base_replies = b.base_replies.items;
       log = b.log.items;
       states = b.states.items;
       cut = option_map (λ c. c.number) b.cut;
@@ -86,7 +86,7 @@ impl<B: Behaviour> Model for Board<B> {
       opening = b.opening;
       now = b.columns;
       base = b.base;
-      earlier = b.earlier.items;
+      base_replies = b.base_replies.items;
       log = b.log.items;
       states = b.states.items;
       links = b.links;
@@ -104,9 +104,9 @@ impl<B: Behaviour> Board<B> {
         replies: Vec<Reply>,
     ) -> Result<Board<B>, AllocError>
         requires replies { length replies.items ≡ base }
-        requires few { base ≤ LOG_CALLS }
+        requires limit { base ≤ LOG_CALLS }
         ensures { IfOk result (λ board. board ≡
-            record { opening = columns; earlier = replies.items; log = []; states = []; cut = None }) }
+            record { opening = columns; base_replies = replies.items; log = []; states = []; cut = None }) }
     {
         let opening = columns.copy()?;
         let links = Links::open(alloc, 2 * columns.customers())?;
@@ -114,7 +114,7 @@ impl<B: Behaviour> Board<B> {
             opening,
             columns,
             base,
-            earlier: replies,
+            base_replies: replies,
             log: Vec::new(alloc),
             states: Vec::new(alloc),
             links,
@@ -137,10 +137,10 @@ impl<B: Behaviour> Board<B> {
     /// The board's length: the greatest number so far.
     pub fn length(&self) -> u64
         ensures value { result ≡ length_of self.now }
-        ensures few { length_of self.now ≤ LOG_CALLS }
+        ensures limit { length_of self.now ≤ LOG_CALLS }
         // It was opened on the columns of a bank, and each behaviour of the log has a state.
         ensures bank { IsBalances self.now.opening }
-        ensures beside { length self.now.log ≡ length self.now.states }
+        ensures same_length { length self.now.log ≡ length self.now.states }
     {
         prove!(self.opening.customers() <= CUSTOMERS);
         self.base + self.log.len() as u64
@@ -148,9 +148,9 @@ impl<B: Behaviour> Board<B> {
 
     /// Whether nothing is unfinished.
     pub fn idle(&self) -> bool
-        ensures value { IsTrue result ↔ (open_of self.now ≡ 0) }
+        ensures value { IsTrue result ↔ (unfinished_of self.now ≡ 0) }
         // Each behaviour of the log has a state.
-        ensures beside { length self.now.log ≡ length self.now.states }
+        ensures same_length { length self.now.log ≡ length self.now.states }
     {
         self.unfinished == 0
     }
@@ -158,8 +158,8 @@ impl<B: Behaviour> Board<B> {
     /// The number of unfinished behaviours.
     #[inline]
     pub fn unfinished(&self) -> usize
-        ensures value { result ≡ open_of self.now }
-        ensures few { result ≤ OPEN_BEHAVIOURS }
+        ensures value { result ≡ unfinished_of self.now }
+        ensures limit { result ≤ OPEN_BEHAVIOURS }
     {
         self.unfinished
     }
@@ -171,16 +171,16 @@ impl<B: Behaviour> Board<B> {
     // Inlined, so that a behaviour isn't passed through memory and read back at once.
     #[inline(always)]
     pub fn submit(&mut self, behaviour: B) -> Result<u64, SubmitFault>
-        requires { AreBelow (length (held_of self.old.opening)) (B.touches behaviour) }
+        requires { AreBelow (length (contents_of self.old.opening)) (B.touches behaviour) }
         ensures number { IfOk result (λ number. number ≡ suc (length_of self.old)) }
         ensures ok { OnOk result (self.new ≡ record self.old {
           log = self.old.log ++ behaviour ∷ [];
           states = self.old.states ++ State.Waiting ∷ [];
         }) }
         ensures err { OnErr result (self.new ≡ self.old) }
-        ensures busy { IsErrOf result SubmitFault.Busy ↔ (open_of self.old ≡ OPEN_BEHAVIOURS) }
+        ensures busy { IsErrOf result SubmitFault.Busy ↔ (unfinished_of self.old ≡ OPEN_BEHAVIOURS) }
         ensures full { IsErrOf result SubmitFault.LogFull ↔
-            ((open_of self.old ≢ OPEN_BEHAVIOURS) × (length_of self.old ≡ LOG_CALLS)) }
+            ((unfinished_of self.old ≢ OPEN_BEHAVIOURS) × (length_of self.old ≡ LOG_CALLS)) }
         // If the board is true to its log after some calls, it is after this one too.
         ensures played { MatchResult result
             (λ number. StaysTrueToLog B.touches B.effect self.old (Submitted behaviour (Ok number)) self.new)
@@ -192,18 +192,18 @@ impl<B: Behaviour> Board<B> {
         if self.base as usize + self.log.len() == LOG_CALLS {
             return Err(SubmitFault::LogFull);
         }
-        let place = self.log.len() as u64;
+        let position = self.log.len() as u64;
         let unfinished = self.unfinished + 1;
         if make_room(&mut self.log, &mut self.states).is_err() {
             return Err(SubmitFault::OutOfMemory);
         }
-        if self.links.submit(place, behaviour, unfinished).is_err() {
+        if self.links.submit(position, behaviour, unfinished).is_err() {
             return Err(SubmitFault::OutOfMemory);
         }
         self.log.push_reserved(behaviour);
         self.states.push_reserved(State::Waiting);
         self.unfinished = unfinished;
-        Ok(self.base + place + 1)
+        Ok(self.base + position + 1)
     }
 
     /// Hands out the ready behaviour that has this many ready ones before it; it is out from then
@@ -212,20 +212,20 @@ impl<B: Behaviour> Board<B> {
     /// A behaviour is ready while it waits and no unfinished one before it shares a cown with it.
     pub fn take_at(&mut self, index: usize) -> Option<Job<B>>
         ensures outcome { MatchOption result
-            ((length (ready_places B.touches self.old.log self.old.states) ≤ index) × (self.new ≡ self.old))
+            ((length (ready_positions B.touches self.old.log self.old.states) ≤ index) × (self.new ≡ self.old))
             (λ job. Takes B.touches B.effect self.old index job self.new) }
         // If the board is true to its log after some calls, it is after this one too.
         ensures played { MatchOption result
             (StaysTrueToLog B.touches B.effect self.old (TakenAt index None) self.new)
             (λ job. StaysTrueToLog B.touches B.effect self.old (TakenAt index (Some job)) self.new) }
     {
-        let place = self
+        let position = self
             .links
             .take(&self.log, &self.states, self.unfinished, index)?;
-        let behaviour = self.log[place as usize];
-        self.states[place as usize] = State::Out;
+        let behaviour = self.log[position as usize];
+        self.states[position as usize] = State::Out;
         let inputs = read_cowns(&self.columns, behaviour.cowns().as_slice());
-        Some(Job::new(self.base + place + 1, behaviour, inputs))
+        Some(Job::new(self.base + position + 1, behaviour, inputs))
     }
 
     /// Takes back the result of a behaviour that was handed out. The behaviour is then finished,
@@ -243,18 +243,18 @@ impl<B: Behaviour> Board<B> {
             (λ back. StaysTrueToLog B.touches B.effect self.old (Returned done (Err back)) self.new) }
     {
         let number = done.number();
-        let Some(place) = place_of(self.base, self.log.len(), number) else {
+        let Some(position) = position_of(self.base, self.log.len(), number) else {
             return Err(done);
         };
-        if !is_out_at(&self.columns, &self.log, &self.states, place, &done) {
+        if !is_out_at(&self.columns, &self.log, &self.states, position, &done) {
             return Err(done);
         }
-        let cowns = self.log[place as usize].cowns();
+        let cowns = self.log[position as usize].cowns();
         let (reply, outputs) = done.into_effect();
-        self.links.finish(place, cowns.as_slice());
+        self.links.finish(position, cowns.as_slice());
         write_cowns(&mut self.columns, cowns.as_slice(), outputs.as_slice());
-        note_finished(&mut self.cut, number, cowns.as_slice(), outputs.as_slice());
-        self.states[place as usize] = State::Finished(reply);
+        update_cut(&mut self.cut, number, cowns.as_slice(), outputs.as_slice());
+        self.states[position as usize] = State::Finished(reply);
         self.unfinished -= 1;
         Ok(reply)
     }
@@ -265,36 +265,36 @@ impl<B: Behaviour> Board<B> {
     pub fn reply(&self, number: u64) -> Option<Reply>
         ensures value { result ≡ reply_in self.now number }
         // It is the reply of the log run one by one.
-        ensures by_log { IfSome result (λ reply. length self.now.earlier < number →
-            reply_by_log B.touches B.effect (held_of self.now.opening) self.now.log
-            (number - length self.now.earlier) ≡ Some reply) }
+        ensures by_log { IfSome result (λ reply. length self.now.base_replies < number →
+            reply_by_log B.touches B.effect (contents_of self.now.opening) self.now.log
+            (number - length self.now.base_replies) ≡ Some reply) }
     {
         if number <= self.base {
-            let place = number.checked_sub(1)?;
-            return Some(self.earlier[place as usize]);
+            let position = number.checked_sub(1)?;
+            return Some(self.base_replies[position as usize]);
         }
-        let place = place_of(self.base, self.log.len(), number)?;
-        self.states[place as usize].reply()
+        let position = position_of(self.base, self.log.len(), number)?;
+        self.states[position as usize].reply()
     }
 
     /// A copy of the columns after the whole log, or `None` while something is unfinished. Fails if
     /// memory is refused.
     pub fn columns(&self) -> Result<Option<Columns>, AllocError>
-        ensures value { IfOk result (λ columns. MatchOption columns (open_of self.now ≢ 0)
-            (λ all. (open_of self.now ≡ 0) × IsAfterAll B.touches B.effect self.now all)) }
+        ensures value { IfOk result (λ columns. MatchOption columns (unfinished_of self.now ≢ 0)
+            (λ all. (unfinished_of self.now ≡ 0) × IsAfterAll B.touches B.effect self.now all)) }
         ensures bank { IfOk result (λ columns. IfSome columns IsBalances) }
-        ensures err { OnErr result (open_of self.now ≡ 0) }
+        ensures err { OnErr result (unfinished_of self.now ≡ 0) }
     {
-        match self.settled_columns() {
+        match self.final_columns() {
             Some(columns) => Ok(Some(columns.copy()?)),
             None => Ok(None),
         }
     }
 
     /// The columns after the whole log, or `None` while something is unfinished.
-    pub fn settled_columns(&self) -> Option<&Columns>
-        ensures value { MatchOption result (open_of self.now ≢ 0)
-            (λ columns. (open_of self.now ≡ 0) × IsAfterAll B.touches B.effect self.now columns.now) }
+    pub fn final_columns(&self) -> Option<&Columns>
+        ensures value { MatchOption result (unfinished_of self.now ≢ 0)
+            (λ columns. (unfinished_of self.now ≡ 0) × IsAfterAll B.touches B.effect self.now columns.now) }
         ensures bank { IfSome result (λ columns. IsBalances columns.now) }
     {
         prove!(self.columns.customers() <= CUSTOMERS);
@@ -305,9 +305,9 @@ impl<B: Behaviour> Board<B> {
         }
     }
 
-    /// Makes a cut at the board's length, and returns that length. The cut's columns settle once
-    /// the numbers up to it are finished, while later ones run. All room that it takes is made
-    /// here.
+    /// Makes a cut at the board's length, and returns that length. The cut's columns are
+    /// complete once the numbers up to it are finished, while later ones run. All room that it
+    /// takes is made here.
     ///
     /// Fails with the first fault that holds, in the order of [`CutFault`]'s variants; then the
     /// board stays as it was.
@@ -340,7 +340,7 @@ impl<B: Behaviour> Board<B> {
     pub fn cut_length(&self) -> Option<u64>
         ensures value { result ≡ self.now.cut }
         ensures within { IfSome result (λ number.
-            (length self.now.earlier ≤ number) × (number ≤ length_of self.now)) }
+            (length self.now.base_replies ≤ number) × (number ≤ length_of self.now)) }
     {
         match &self.cut {
             Some(cut) => Some(cut.number),
@@ -351,7 +351,7 @@ impl<B: Behaviour> Board<B> {
     /// The columns after the numbers up to the cut's length, or `None` while there is no cut, or
     /// one of these is unfinished.
     pub fn cut_columns(&self) -> Option<&Columns>
-        ensures value { AreCut B.touches B.effect self.now (option_map (λ columns. columns.now) result) }
+        ensures value { AreCutColumns B.touches B.effect self.now (option_map (λ columns. columns.now) result) }
         ensures bank { IfSome result (λ columns. IsBalances columns.now) }
     {
         let Some(cut) = &self.cut else {

@@ -1,8 +1,8 @@
-//! A copy of the columns that settles once the numbers up to a length are finished.
+//! A copy of the columns that is complete once the numbers up to a length are finished.
 ghost use Rattle.std.specs.Prelude.{◌≡◌, ◌≤◌, length, IfSome};
-ghost use Rattle.sb_calls.specs.Cowns.{AreBelow, AreHeld, held_of};
+ghost use Rattle.sb_calls.specs.Cowns.{AreBelow, AreCownValues, contents_of};
 ghost use Rattle.cown_board.specs.Faults.{cut_fault_number};
-ghost use Rattle.cown_board.specs.Noted.{AreNoted};
+ghost use Rattle.cown_board.specs.inner.CutUpdates.{UpdatesAnyCut};
 
 use sb_amount::Cents;
 use sb_calls::{Cown, write_cowns};
@@ -42,11 +42,11 @@ pub(crate) struct Cut {
 }
 
 // Records that the behaviour of this number is finished, and left these values in its cowns.
-pub(crate) fn note_finished(cut: &mut Option<Cut>, number: u64, cowns: &[Cown], values: &[Cents])
-    requires cowns { IfSome cut.old (λ c. AreBelow (length (held_of c.columns)) cowns.now) }
+pub(crate) fn update_cut(cut: &mut Option<Cut>, number: u64, cowns: &[Cown], values: &[Cents])
+    requires cowns { IfSome cut.old (λ c. AreBelow (length (contents_of c.columns)) cowns.now) }
     requires unfinished { IfSome cut.old (λ c. number ≤ c.number → 1 ≤ c.unfinished) }
-    requires values { AreHeld cowns.now values.now }
-    ensures { AreNoted number cowns.now values.now cut.old cut.new }
+    requires values { AreCownValues cowns.now values.now }
+    ensures { UpdatesAnyCut number cowns.now values.now cut.old cut.new }
 {
     let Some(cut) = cut else {
         return;

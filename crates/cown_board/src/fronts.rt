@@ -1,20 +1,20 @@
-//! How many cowns of a behaviour are held by others before it.
+//! How many cowns of a behaviour others before it declare.
 ghost use Rattle.std.specs.Prelude.{◌≡◌, ◌≤◌, length, count_by};
-ghost use Rattle.cown_board.specs.Fronts.{is_held};
+ghost use Rattle.cown_board.specs.inner.Fronts.{is_occupied};
 
 use cown_queue::Queues;
 use sb_calls::Cown;
 
-// The number of these cowns that already hold a number.
-pub(crate) fn count_held(queues: &Queues, cowns: &[Cown]) -> u8
+// The number of these cowns whose queues aren't empty.
+pub(crate) fn count_occupied(queues: &Queues, cowns: &[Cown]) -> u8
     requires { length cowns.now ≤ 3 }
-    ensures { result ≡ count_by (is_held queues.now.lists) cowns.now }
+    ensures { result ≡ count_by (is_occupied queues.now.lists) cowns.now }
 {
-    let mut held = 0;
+    let mut occupied = 0;
     for cown in cowns {
         if queues.front(*cown).is_some() {
-            held += 1;
+            occupied += 1;
         }
     }
-    held
+    occupied
 }

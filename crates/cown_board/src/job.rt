@@ -1,6 +1,6 @@
 //! What a board hands out and takes back.
 ghost use Rattle.std.specs.Prelude.{◌≡◌};
-ghost use Rattle.sb_calls.specs.Cowns.{AreHeld};
+ghost use Rattle.sb_calls.specs.Cowns.{AreCownValues};
 ghost use Rattle.cown_board.specs.Job.{JobOf, DoneOf};
 
 use arrayvec::ArrayVec;
@@ -18,20 +18,20 @@ pub struct Job<B: Behaviour> {
 }
 
 impl<B: Behaviour> Model for Job<B> {
-    ghost use Rattle.sb_calls.specs.Cowns.{AreHeld};
+    ghost use Rattle.sb_calls.specs.Cowns.{AreCownValues};
     ghost use Rattle.cown_board.specs.Job.{JobOf};
 
     ghost Value = { JobOf B };
 
     ghost view = { λ j. record { number = j.number; behaviour = j.behaviour; inputs = j.inputs.items } };
 
-    ghost invariant = { λ j. AreHeld (B.touches j.behaviour) j.inputs.items };
+    ghost invariant = { λ j. AreCownValues (B.touches j.behaviour) j.inputs.items };
 }
 
 impl<B: Behaviour> Job<B> {
     // The job of a behaviour with this number, on these inputs.
     pub(crate) fn new(number: u64, behaviour: B, inputs: ArrayVec<Cents, BEHAVIOUR_COWNS>) -> Job<B>
-        requires { AreHeld (B.touches behaviour) inputs.items }
+        requires { AreCownValues (B.touches behaviour) inputs.items }
         ensures { result ≡ record { number = number; behaviour = behaviour; inputs = inputs.items } }
     {
         Job {
@@ -115,7 +115,7 @@ impl<B: Behaviour> Done<B> {
         self.behaviour
     }
 
-    // What its cowns held.
+    // The contents of its cowns.
     pub(crate) fn inputs(&self) -> &[Cents]
         ensures { result.now ≡ self.now.inputs }
     {

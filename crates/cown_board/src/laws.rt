@@ -1,7 +1,7 @@
 //! What holds for a board after every list of calls.
 ghost use Rattle.std.specs.Prelude.{◌≡◌, ℕ, ℤ, List};
 ghost use Rattle.sb_calls.specs.declared.reply.Reply.{Reply};
-ghost use Rattle.cown_board.specs.Played.{BoardLaw};
+ghost use Rattle.cown_board.specs.BoardCalls.{BoardLaw};
 
 use crate::board::OPEN_BEHAVIOURS;
 use sb_calls::Behaviour;

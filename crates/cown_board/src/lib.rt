@@ -1,7 +1,7 @@
 //! A board that hands out behaviours as their cowns become free, and takes back their results.
 #![tactic(auto)]
 
-mod accepting;
+mod acceptance;
 mod board;
 mod cut;
 mod fronts;

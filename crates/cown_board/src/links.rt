@@ -3,12 +3,12 @@ ghost use Rattle.std.specs.Prelude.{◌≡◌, ◌+◌, ◌*◌, ◌<◌, ◌≤
 ghost use Rattle.std.specs.VecDeque.{deque_len, deque_capacity};
 ghost use Rattle.sb_calls.specs.Cowns.{AreBelow, IsRising};
 ghost use Rattle.cown_queue.specs.Queues.{IsInFront, Releases, fronts_of};
-ghost use Rattle.cown_board.specs.Due.{times};
-ghost use Rattle.cown_board.specs.Invariant.{AllLinked, AreCowns, AreLinks};
-ghost use Rattle.cown_board.specs.Links.{ComesForward, NoneLinked, Stands, Stay};
-ghost use Rattle.cown_board.specs.Readiness.{ready_places};
+ghost use Rattle.cown_board.specs.inner.DuePositions.{occurrences};
+ghost use Rattle.cown_board.specs.inner.BoardInvariant.{IsLinked, AreCowns, AreLinks};
+ghost use Rattle.cown_board.specs.inner.Links.{ComesForward, IsUnlinked, AddsToLinks, LeavesLinks};
+ghost use Rattle.cown_board.specs.Readiness.{ready_positions};
 
-use crate::fronts::count_held;
+use crate::fronts::count_occupied;
 use crate::ready_list::ReadyList;
 use crate::state::State;
 use cown_queue::Queues;
@@ -22,7 +22,7 @@ use std::alloc::{AllocError, Global};
 #[derive(Drop)]
 pub(crate) struct Links {
     pub(crate) linked: bool,
-    // For each cown the places in the log of the unfinished behaviours that declare it.
+    // For each cown the positions in the log of the unfinished behaviours that declare it.
     pub(crate) queues: Queues,
     pub(crate) ready: ReadyList,
 }
@@ -41,56 +41,56 @@ impl Links {
     }
 
     // Makes room for the counts of a log of this length. If memory is refused, nothing is lost.
-    pub(crate) fn reserve(&mut self, numbers: usize) -> Result<(), AllocError>
+    pub(crate) fn reserve(&mut self, log_length: usize) -> Result<(), AllocError>
         ensures linked { self.new.linked ≡ self.old.linked }
         ensures queues { self.new.queues ≡ self.old.queues }
         ensures behind { self.new.ready.behind.items ≡ self.old.ready.behind.items }
         ensures ready { self.new.ready.ready ≡ self.old.ready.ready }
         ensures counts { vec_capacity self.old.ready.behind ≤ vec_capacity self.new.ready.behind }
     {
-        self.ready.reserve_counts(numbers)
+        self.ready.reserve_counts(log_length)
     }
 
-    // Adds the behaviour at this place of the log, where this many are unfinished with it. All room
-    // for linking, handing out and finishing it is made here. If memory is refused, nothing is
+    // Adds the behaviour at this position of the log, where this many are unfinished with it. All
+    // room for linking, handing out and finishing it is made here. If memory is refused, nothing is
     // lost.
     #[inline(always)]
     pub(crate) fn submit<B: Behaviour>(
         &mut self,
-        place: u64,
+        position: u64,
         behaviour: B,
         unfinished: usize,
     ) -> Result<(), AllocError>
         requires cowns { AreBelow (length self.old.queues.lists) (B.touches behaviour) }
-        requires place { place < 1000000 }
+        requires place { position < 1000000 }
         requires unfinished { unfinished ≤ 1024 }
-        requires counts { self.old.linked ≡ true → vec_len self.old.ready.behind ≡ place }
+        requires counts { self.old.linked ≡ true → vec_len self.old.ready.behind ≡ position }
         requires ready { self.old.linked ≡ true → deque_len self.old.ready.ready < unfinished }
         ensures linked { self.new.linked ≡ self.old.linked }
         ensures counts { vec_capacity self.old.ready.behind ≤ vec_capacity self.new.ready.behind }
         ensures room { deque_capacity self.old.ready.ready ≤ deque_capacity self.new.ready.ready }
         ensures places { self.old.queues.places ≤ self.new.queues.places }
-        ensures err { OnErr result (Stay self.old self.new) }
-        ensures counts_room { OnOk result (place + 1 ≤ vec_capacity self.new.ready.behind) }
+        ensures err { OnErr result (LeavesLinks self.old self.new) }
+        ensures counts_room { OnOk result (position + 1 ≤ vec_capacity self.new.ready.behind) }
         ensures ready_room { OnOk result (unfinished + 3 ≤ deque_capacity self.new.ready.ready) }
-        ensures put { OnOk result (self.old.linked ≡ true → Stands place (B.touches behaviour) self.old self.new) }
-        ensures stay { OnOk result (self.old.linked ≡ false →
-            Stay self.old self.new × (unfinished * 3 ≤ self.new.queues.places)) }
+        ensures put { OnOk result (self.old.linked ≡ true → AddsToLinks position (B.touches behaviour) self.old self.new) }
+        ensures unchanged { OnOk result (self.old.linked ≡ false →
+            LeavesLinks self.old self.new × (unfinished * 3 ≤ self.new.queues.places)) }
     {
-        self.ready.reserve(place as usize + 1, unfinished)?;
+        self.ready.reserve(position as usize + 1, unfinished)?;
         if !self.linked {
             return self.queues.reserve_places(unfinished * BEHAVIOUR_COWNS);
         }
         let cowns = behaviour.cowns();
         self.queues.reserve(cowns.as_slice())?;
-        let behind = count_held(&self.queues, cowns.as_slice());
-        self.queues.append(place, cowns.as_slice());
-        self.ready.push(place, behind);
+        let behind = count_occupied(&self.queues, cowns.as_slice());
+        self.queues.append(position, cowns.as_slice());
+        self.ready.push(position, behind);
         Ok(())
     }
 
-    // Hands out the ready behaviour that has this many ready ones before it, and returns its place.
-    // It allocates nothing.
+    // Hands out the ready behaviour that has this many ready ones before it, and returns its
+    // position. It allocates nothing.
     #[inline(always)]
     pub(crate) fn take<B: Behaviour>(
         &mut self,
@@ -103,14 +103,14 @@ impl Links {
             unfinished (length self.old.queues.lists) self.old }
         requires cowns { AreCowns B.touches B.effect (length self.old.queues.lists) log.now.items }
         requires beside { length log.now.items ≡ length states.now.items }
-        requires few { length log.now.items ≤ 1000000 }
+        requires limit { length log.now.items ≤ 1000000 }
         ensures cowns_stay { length self.new.queues.lists ≡ length self.old.queues.lists }
         ensures outcome { MatchOption result
-            ((length (ready_places B.touches log.now.items states.now.items) ≤ index) ×
+            ((length (ready_positions B.touches log.now.items states.now.items) ≤ index) ×
             AreLinks B.touches B.effect log.now.items states.now.items
             unfinished (length self.old.queues.lists) self.new)
-            (λ place. (slice_get (ready_places B.touches log.now.items states.now.items) index ≡ Some place) ×
-            AreLinks B.touches B.effect log.now.items (slice_set states.now.items place State.Out)
+            (λ position. (slice_get (ready_positions B.touches log.now.items states.now.items) index ≡ Some position) ×
+            AreLinks B.touches B.effect log.now.items (slice_set states.now.items position State.Out)
             unfinished (length self.old.queues.lists) self.new) }
     {
         if self.linked {
@@ -127,29 +127,29 @@ impl Links {
         self.ready.take(index)
     }
 
-    // Links all unfinished behaviours, from this place on.
+    // Links all unfinished behaviours, from this position on.
     #[cold]
     fn link<B: Behaviour>(&mut self, log: &Vec<B>, states: &Vec<State>, first: usize)
-        requires some { first < length log.now.items }
-        requires few { length log.now.items ≤ 1000000 }
-        requires none { NoneLinked (length log.now.items) states.now.items first
+        requires within { first < length log.now.items }
+        requires limit { length log.now.items ≤ 1000000 }
+        requires unlinked { IsUnlinked (length log.now.items) states.now.items first
             (length self.old.queues.lists) self.old }
         requires room { length log.now.items + 3 ≤ first + deque_capacity self.old.ready.ready }
         requires cowns { AreCowns B.touches B.effect (length self.old.queues.lists) log.now.items }
         requires beside { length log.now.items ≡ length states.now.items }
         ensures linked { self.new.linked ≡ true }
         ensures cowns_stay { length self.new.queues.lists ≡ length self.old.queues.lists }
-        ensures all { AllLinked B.touches B.effect log.now.items states.now.items
+        ensures all_linked { IsLinked B.touches B.effect log.now.items states.now.items
             (length self.old.queues.lists) self.new }
         ensures room { deque_capacity self.new.ready.ready ≡ deque_capacity self.old.ready.ready }
     {
         self.ready.skip(first);
-        for place in first..log.len() {
-            let behaviour = log[place];
+        for position in first..log.len() {
+            let behaviour = log[position];
             let cowns = behaviour.cowns();
-            let behind = count_held(&self.queues, cowns.as_slice());
-            self.queues.put(place as u64, cowns.as_slice());
-            self.ready.push(place as u64, behind);
+            let behind = count_occupied(&self.queues, cowns.as_slice());
+            self.queues.put(position as u64, cowns.as_slice());
+            self.ready.push(position as u64, behind);
         }
         // The first may be out already.
         if !states[first].waits() {
@@ -158,19 +158,19 @@ impl Links {
         self.linked = true;
     }
 
-    // Finishes the behaviour at this place, which is out and declares these cowns: those behind it
-    // step forward. It allocates nothing.
+    // Finishes the behaviour at this position, which is out and declares these cowns: those behind
+    // it step forward. It allocates nothing.
     #[inline(always)]
-    pub(crate) fn finish(&mut self, place: u64, cowns: &[Cown])
-        requires few { length cowns.now ≤ 3 }
+    pub(crate) fn finish(&mut self, position: u64, cowns: &[Cown])
+        requires limit { length cowns.now ≤ 3 }
         requires rising { IsRising cowns.now }
-        requires front { self.old.linked ≡ true → IsInFront place cowns.now self.old.queues.lists }
+        requires front { self.old.linked ≡ true → IsInFront position cowns.now self.old.queues.lists }
         requires behind { self.old.linked ≡ true → (new : List (List ℕ)) →
             Releases cowns.now self.old.queues.lists new →
-            (k : ℕ) → times k (fronts_of new cowns.now) ≤ get_or self.old.ready.behind.items k 0 }
+            (k : ℕ) → occurrences k (fronts_of new cowns.now) ≤ get_or self.old.ready.behind.items k 0 }
         requires room { deque_len self.old.ready.ready + 3 ≤ deque_capacity self.old.ready.ready }
         ensures linked { self.new.linked ≡ self.old.linked }
-        ensures stay { self.old.linked ≡ false → self.new ≡ self.old }
+        ensures unchanged { self.old.linked ≡ false → self.new ≡ self.old }
         ensures released { self.old.linked ≡ true →
             Releases cowns.now self.old.queues.lists self.new.queues.lists }
         ensures forward { self.old.linked ≡ true →
@@ -180,7 +180,7 @@ impl Links {
         if !self.linked {
             return;
         }
-        let fronts = self.queues.release(place, cowns);
+        let fronts = self.queues.release(position, cowns);
         self.ready.come_forward(fronts.as_slice());
     }
 }

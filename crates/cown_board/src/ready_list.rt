@@ -1,8 +1,9 @@
 //! Which waiting behaviours are ready.
 ghost use Rattle.std.specs.Prelude.{◌≡◌, ◌+◌, ◌-◌, ◌<◌, ◌≤◌, ◌++◌, ◌==◌, ℕ, Bool, true, false, if◌then◌else◌, [], ◌∷◌, Some, All, length, get_or, slice_get, slice_set, remove, MatchOption, OnOk, vec_len, vec_capacity};
 ghost use Rattle.std.specs.VecDeque.{deque_len, deque_capacity};
-ghost use Rattle.cown_board.specs.Due.{is_due, AreDue, times};
-ghost use Rattle.cown_board.specs.Places.{places, with_place};
+ghost use Rattle.cown_board.specs.inner.DuePositions.{is_due, AreDue, occurrences};
+ghost use Rattle.cown_board.specs.Positions.{positions};
+ghost use Rattle.cown_board.specs.inner.PositionTests.{with_position};
 
 use sb_calls::BEHAVIOUR_COWNS;
 use std::alloc::{AllocError, Global};
@@ -11,9 +12,9 @@ use std::collections::VecDeque;
 // How far each behaviour of a log is from being ready.
 #[derive(Drop)]
 pub(crate) struct ReadyList {
-    // For each place of the log, the number of its cowns at which the behaviour isn't in front.
+    // For each position of the log, the number of its cowns at which the behaviour isn't in front.
     pub(crate) behind: Vec<u8>,
-    // The places that wait and are in front at all their cowns, in rising order.
+    // The positions that wait and are in front at all their cowns, in rising order.
     pub(crate) ready: VecDeque<u64>,
 }
 
@@ -30,20 +31,20 @@ impl ReadyList {
     }
 
     // Makes room for the counts of a log of this length. If memory is refused, nothing is lost.
-    pub(crate) fn reserve_counts(&mut self, numbers: usize) -> Result<(), AllocError>
+    pub(crate) fn reserve_counts(&mut self, log_length: usize) -> Result<(), AllocError>
         ensures behind { (self.new.behind.items ≡ self.old.behind.items) ×
             (vec_len self.new.behind ≡ vec_len self.old.behind) }
         ensures ready { self.new.ready ≡ self.old.ready }
         ensures counts { vec_capacity self.old.behind ≤ vec_capacity self.new.behind }
-        ensures behind_room { OnOk result (numbers ≤ vec_capacity self.new.behind) }
+        ensures behind_room { OnOk result (log_length ≤ vec_capacity self.new.behind) }
     {
         let counts = self.behind.len();
-        self.behind.reserve(numbers.saturating_sub(counts))
+        self.behind.reserve(log_length.saturating_sub(counts))
     }
 
     // Makes room for a log of this length with this many unfinished behaviours, and for those that
     // become ready when one of them finishes. If memory is refused, nothing is lost.
-    pub(crate) fn reserve(&mut self, numbers: usize, unfinished: usize) -> Result<(), AllocError>
+    pub(crate) fn reserve(&mut self, log_length: usize, unfinished: usize) -> Result<(), AllocError>
         requires { unfinished ≤ 1024 }
         ensures behind { (self.new.behind.items ≡ self.old.behind.items) ×
             (vec_len self.new.behind ≡ vec_len self.old.behind) }
@@ -51,17 +52,17 @@ impl ReadyList {
             (deque_len self.new.ready ≡ deque_len self.old.ready) }
         ensures counts { vec_capacity self.old.behind ≤ vec_capacity self.new.behind }
         ensures room { deque_capacity self.old.ready ≤ deque_capacity self.new.ready }
-        ensures behind_room { OnOk result (numbers ≤ vec_capacity self.new.behind) }
+        ensures behind_room { OnOk result (log_length ≤ vec_capacity self.new.behind) }
         ensures ready_room { OnOk result (unfinished + 3 ≤ deque_capacity self.new.ready) }
     {
-        self.reserve_counts(numbers)?;
+        self.reserve_counts(log_length)?;
         let wanted = unfinished + BEHAVIOUR_COWNS;
         self.ready.reserve(wanted.saturating_sub(self.ready.len()))
     }
 
     // Adds a count of 0 for each of this many behaviours, to a log that has no counts yet.
     pub(crate) fn skip(&mut self, finished: usize)
-        requires none { self.old.behind.items ≡ [] }
+        requires empty { self.old.behind.items ≡ [] }
         requires room { finished ≤ vec_capacity self.old.behind }
         ensures behind { length self.new.behind.items ≡ finished }
         ensures counts { vec_capacity self.new.behind ≡ vec_capacity self.old.behind }
@@ -72,48 +73,48 @@ impl ReadyList {
         }
     }
 
-    // Adds the behaviour at this place of the log, which isn't in front at this many of its cowns.
+    // Adds the behaviour at this position of the log. It isn't in front at this many of its cowns.
     #[inline(always)]
-    pub(crate) fn push(&mut self, place: u64, behind: u8)
+    pub(crate) fn push(&mut self, position: u64, behind: u8)
         requires behind_room { vec_len self.old.behind < vec_capacity self.old.behind }
         requires ready_room { deque_len self.old.ready < deque_capacity self.old.ready }
         ensures behind { self.new.behind.items ≡ self.old.behind.items ++ behind ∷ [] }
         ensures ready { self.new.ready.items ≡
-            (if behind == 0 then self.old.ready.items ++ place ∷ [] else self.old.ready.items) }
+            (if behind == 0 then self.old.ready.items ++ position ∷ [] else self.old.ready.items) }
         ensures len { deque_len self.new.ready ≤ deque_len self.old.ready + 1 }
         ensures counts { vec_capacity self.new.behind ≡ vec_capacity self.old.behind }
         ensures room { deque_capacity self.new.ready ≡ deque_capacity self.old.ready }
     {
         self.behind.push_reserved(behind);
         if behind == 0 {
-            self.ready.push_back_reserved(place);
+            self.ready.push_back_reserved(position);
         }
     }
 
-    // Removes the ready place that has this many ready ones before it.
+    // Removes the ready position that has this many ready ones before it.
     pub(crate) fn take(&mut self, index: usize) -> Option<u64>
         ensures outcome { MatchOption result
             ((length self.old.ready.items ≤ index) × (self.new.ready.items ≡ self.old.ready.items))
-            (λ place. (slice_get self.old.ready.items index ≡ Some place) ×
+            (λ position. (slice_get self.old.ready.items index ≡ Some position) ×
             (self.new.ready.items ≡ remove self.old.ready.items index)) }
         ensures behind { self.new.behind ≡ self.old.behind }
         ensures room { deque_capacity self.new.ready ≡ deque_capacity self.old.ready }
     {
-        let place = self.get(index)?;
+        let position = self.get(index)?;
         self.remove(index);
-        Some(place)
+        Some(position)
     }
 
-    // The ready place that has this many ready ones before it.
+    // The ready position that has this many ready ones before it.
     fn get(&self, index: usize) -> Option<u64>
         ensures { MatchOption result
             (length self.now.ready.items ≤ index)
-            (λ place. slice_get self.now.ready.items index ≡ Some place) }
+            (λ position. slice_get self.now.ready.items index ≡ Some position) }
     {
         self.ready.get(index).copied()
     }
 
-    // Removes a ready place. If all behaviours run in place, it is the first.
+    // Removes a ready position. If all behaviours run inline, it is the first.
     pub(crate) fn remove(&mut self, index: usize)
         requires { index < length self.old.ready.items }
         ensures behind { self.new.behind ≡ self.old.behind }
@@ -127,57 +128,57 @@ impl ReadyList {
         }
     }
 
-    // Each of these waiting places is in front at one more cown, once for each time that it occurs.
-    // A place in front at all its cowns is then ready.
+    // Each of these waiting positions is in front at one more cown, once for each time that it
+    // occurs. A position in front at all its cowns is then ready.
     pub(crate) fn come_forward(&mut self, fronts: &[u64])
-        requires few { length fronts.now ≤ 3 }
-        requires behind { (place : ℕ) → times place fronts.now ≤ get_or self.old.behind.items place 0 }
+        requires limit { length fronts.now ≤ 3 }
+        requires behind { (position : ℕ) → occurrences position fronts.now ≤ get_or self.old.behind.items position 0 }
         requires room { deque_len self.old.ready + 3 ≤ deque_capacity self.old.ready }
         ensures beside { length self.new.behind.items ≡ length self.old.behind.items }
-        ensures behind { (place : ℕ) → get_or self.new.behind.items place 0 + times place fronts.now
-            ≡ get_or self.old.behind.items place 0 }
+        ensures behind { (position : ℕ) → get_or self.new.behind.items position 0 + occurrences position fronts.now
+            ≡ get_or self.old.behind.items position 0 }
         ensures due { (waits : ℕ → Bool) (bound : ℕ) →
-            All (λ place. (place < bound) × (waits place ≡ true)) fronts.now →
+            All (λ position. (position < bound) × (waits position ≡ true)) fronts.now →
             AreDue waits self.old.behind.items bound self.old.ready.items →
             AreDue waits self.new.behind.items bound self.new.ready.items }
         ensures room { deque_capacity self.old.ready ≤ deque_capacity self.new.ready }
     {
-        for place in fronts {
-            self.step_forward(*place);
+        for position in fronts {
+            self.step_forward(*position);
         }
     }
 
-    // A waiting place is in front at one more cown.
-    fn step_forward(&mut self, place: u64)
-        requires behind { 0 < get_or self.old.behind.items place 0 }
+    // A waiting position is in front at one more cown.
+    fn step_forward(&mut self, position: u64)
+        requires behind { 0 < get_or self.old.behind.items position 0 }
         requires room { deque_len self.old.ready < deque_capacity self.old.ready }
         ensures behind { self.new.behind.items
-            ≡ slice_set self.old.behind.items place (get_or self.old.behind.items place 0 - 1) }
-        ensures due { (waits : ℕ → Bool) (bound : ℕ) → place < bound → waits place ≡ true →
+            ≡ slice_set self.old.behind.items position (get_or self.old.behind.items position 0 - 1) }
+        ensures due { (waits : ℕ → Bool) (bound : ℕ) → position < bound → waits position ≡ true →
             AreDue waits self.old.behind.items bound self.old.ready.items →
             AreDue waits self.new.behind.items bound self.new.ready.items }
         ensures len { deque_len self.new.ready ≤ deque_len self.old.ready + 1 }
         ensures room { deque_capacity self.old.ready ≤ deque_capacity self.new.ready }
     {
-        let number = place as usize;
-        let behind = self.behind[number] - 1;
-        self.behind[number] = behind;
+        let at = position as usize;
+        let behind = self.behind[at] - 1;
+        self.behind[at] = behind;
         if behind == 0 {
-            put_in_order(&mut self.ready, place);
+            put_in_order(&mut self.ready, position);
         }
     }
 }
 
-// Inserts a place into a rising list that doesn't have it.
-fn put_in_order(list: &mut VecDeque<u64>, place: u64)
+// Inserts a position into a rising list that doesn't have it.
+fn put_in_order(list: &mut VecDeque<u64>, position: u64)
     requires { deque_len list.old < deque_capacity list.old }
-    ensures items { (f : ℕ → Bool) (bound : ℕ) → place < bound → f place ≡ false →
-        list.old.items ≡ places f bound → list.new.items ≡ places (with_place f place) bound }
+    ensures items { (f : ℕ → Bool) (bound : ℕ) → position < bound → f position ≡ false →
+        list.old.items ≡ positions f bound → list.new.items ≡ positions (with_position f position) bound }
     ensures len { deque_len list.new ≡ deque_len list.old + 1 }
     ensures room { deque_capacity list.old ≤ deque_capacity list.new }
 {
-    let index = list.partition_point(|other| *other < place);
-    let inserted = list.insert(index, place).is_ok();
+    let index = list.partition_point(|other| *other < position);
+    let inserted = list.insert(index, position).is_ok();
     // There is room.
     prove!(inserted);
 }

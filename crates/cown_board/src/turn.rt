@@ -1,7 +1,7 @@
 //! One turn of whoever works with a board.
 ghost use Rattle.std.specs.Prelude.{[], ◌∷◌, length};
-ghost use Rattle.sb_calls.specs.Cowns.{AreBelow, held_of};
-ghost use Rattle.cown_board.specs.Played.{Plays, Submitted, TakenAt, Returned};
+ghost use Rattle.sb_calls.specs.Cowns.{AreBelow, contents_of};
+ghost use Rattle.cown_board.specs.BoardCalls.{Plays, Submitted, TakenAt, Returned};
 
 use crate::board::{Board, SubmitFault};
 use crate::job::{Done, Job};
@@ -18,12 +18,12 @@ pub struct Turn<B: Behaviour> {
     pub finished: Result<Reply, Done<B>>,
 }
 
-/// Submits a behaviour, takes the first ready one, and gives back an earlier result.
+/// Submits a behaviour, takes the first ready one, and gives back a result.
 ///
 /// It needs only what a behaviour declares: whoever works with a board needn't be able to run what
 /// it hands out.
 pub fn take_turn<B: Behaviour>(board: &mut Board<B>, behaviour: B, done: Done<B>) -> Turn<B>
-    requires { AreBelow (length (held_of board.old.opening)) (B.touches behaviour) }
+    requires { AreBelow (length (contents_of board.old.opening)) (B.touches behaviour) }
     ensures { Plays B.touches B.effect board.old
         (Submitted behaviour result.submitted ∷ TakenAt 0 result.job ∷ Returned done result.finished ∷ []) board.new }
 {

@@ -2,7 +2,7 @@
 use Rattle.std.proofs.Common.{◌≡◌, ◌≢◌, ℕ, zero, suc, ◌+◌, ◌<◌, ◌≤◌, if◌then◌else◌, ◌==◌, nat_lt, List, [], ◌∷◌, ◌++◌, length, drop, refl, sym, ap, ap₂, ◌∙◌, subst, arith, eq-eqb, ne_eqb, lt-ltb, le-ltb}
 use Rattle.std.proofs.lemmas.Bool.{cond-true, cond-false}
 use Rattle.std.proofs.lemmas.List.Sums.{sum_by-cons, sum_by_push}
-use Rattle.cown_queue.specs.Chains.{ticket_at, numbers_from, IsChain, last_or, times, IsQueue}
+use Rattle.cown_queue.specs.inner.Chains.{ticket_at, numbers_from, IsChain, last_or, times, IsQueue}
 use Rattle.cown_queue.specs.declared.tickets.Ends.{Ends}
 use Rattle.cown_queue.specs.declared.tickets.TheConstants.{NONE}
 use Rattle.cown_queue.specs.declared.tickets.Ticket.{Ticket}

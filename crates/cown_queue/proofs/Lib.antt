@@ -1,4 +1,4 @@
 pub mod Chains
-pub mod Changes
-pub mod Linked
+pub mod ChainsOfCowns
+pub mod ListChanges
 pub mod TicketSteps

@@ -3,12 +3,12 @@ use Rattle.std.proofs.Common.{◌≡◌, ◌≢◌, ℕ, ◌<◌, ◌≤◌, Som
 use Rattle.std.proofs.lemmas.Bool.{cases_lt, cond-true, cond-false}
 use Rattle.std.proofs.lemmas.List.{get_or-map, get_or_read, length-set}
 use Rattle.std.proofs.lemmas.Option.{slice_get-get_or, slice_get_past}
-use Rattle.cown_queue.specs.Chains.{ticket_at, ends_at, numbers_from, lists_of, AreLinked, AreTickets}
+use Rattle.cown_queue.specs.inner.Chains.{ticket_at, ends_at, numbers_from, lists_of, AreChains, AreTickets}
 use Rattle.cown_queue.specs.Queues.{list_of}
 use Rattle.cown_queue.specs.declared.tickets.Ends.{Ends}
 use Rattle.cown_queue.specs.declared.tickets.TheConstants.{NONE}
 use Rattle.cown_queue.specs.declared.tickets.Ticket.{Ticket}
-use Rattle.cown_queue.proofs.Linked.{AreTickets-linked, cown_within, first_within, last_within, lists_of-linked, linked_none, linked_first, linked_behind, linked_rest, some_held}
+use Rattle.cown_queue.proofs.ChainsOfCowns.{AreTickets-linked, cown_within, first_within, last_within, lists_of-linked, linked_none, linked_first, linked_behind, linked_rest, some_held}
 
 -- the results of reading a cown's ends and a ticket
 pub ends_read : (ends : List Ends) (cown : ℕ) (e : Ends) → cown < length ends → e ≡ get_or ends cown e → e ≡ ends_at ends cown
@@ -66,7 +66,7 @@ front_some table ends cown e ticket within read here seen =
 abbrev pub Becomes : List Ticket → List Ends → List ℕ → ℕ → List (List ℕ) → Type 0
 Becomes table ends free capacity lists = AreTickets table ends free capacity × (lists_of table ends ≡ lists)
 
-becomes : (table : List Ticket) (ends : List Ends) (free : List ℕ) (capacity : ℕ) (lists : List (List ℕ)) → AreLinked table ends free lists
+becomes : (table : List Ticket) (ends : List Ends) (free : List ℕ) (capacity : ℕ) (lists : List (List ℕ)) → AreChains table ends free lists
     → length table ≤ NONE → length table ≤ capacity → Becomes table ends free capacity lists
 becomes table ends free capacity lists linked fits room = (AreTickets-linked linked capacity fits room, lists_of-linked linked fits)
 
@@ -78,11 +78,11 @@ Becomes-same table ends others free freed capacity room lists e f r new = rw (e,
 -- given these lists, and the ends e that were read at a cown
 module _ (table : List Ticket) (ends : List Ends) (free : List ℕ) (capacity : ℕ) (tickets : AreTickets table ends free capacity)
     (lists : List (List ℕ)) (seen : lists_of table ends ≡ lists) (cown at : ℕ) (e : Ends) (same : at ≡ cown) (read : e ≡ get_or ends at e) where
-  linked : AreLinked table ends free lists
-  linked = subst (AreLinked table ends free) seen tickets.linked
+  linked : AreChains table ends free lists
+  linked = subst (AreChains table ends free) seen tickets.linked
 
   there : cown < length lists → cown < length ends
-  there within = omega (arith, within, linked.as_many_lists)
+  there within = omega (arith, within, linked.list_count)
 
   ends_are : cown < length ends → e ≡ ends_at ends cown
   ends_are within = ends_read ends cown e within (rw same at read)

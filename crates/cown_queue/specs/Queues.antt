@@ -1,6 +1,6 @@
 -- The numbers that wait at each cown.
 use Rattle.std.specs.Prelude.{◌≡◌, ℕ, ◌<◌, if◌then◌else◌, List, [], ◌∷◌, ◌++◌, length, map, sum, get_or, drop, slice_get, filter_map}
-use Rattle.sb_calls.specs.OneByOne.{is_among}
+use Rattle.sb_calls.specs.SerialRun.{is_among}
 
 -- the queues as callers see them: a list of numbers for each cown, in order; the cowns with room
 -- for one more; and the number of tickets that there are places for
@@ -10,8 +10,8 @@ pub record CownQueues : Type 0 where
   pub places : ℕ
 
 -- the count of the numbers in all lists together
-abbrev pub held_in : List (List ℕ) → ℕ
-held_in lists = sum (map length lists)
+abbrev pub queued_in : List (List ℕ) → ℕ
+queued_in lists = sum (map length lists)
 
 -- the list of a cown
 abbrev pub list_of : List (List ℕ) → ℕ → List ℕ
@@ -19,7 +19,7 @@ list_of lists cown = get_or lists cown []
 
 -- the number is appended to the lists of these cowns; all other lists stay
 pub record Appends (number : ℕ) (cowns : List ℕ) (old new : List (List ℕ)) : Type 0 where
-  pub cowns_stay : length new ≡ length old
+  pub cown_count : length new ≡ length old
   pub each : (cown : ℕ) → cown < length old
       → list_of new cown ≡ (if is_among cown cowns then list_of old cown ++ number ∷ [] else list_of old cown)
 
@@ -31,7 +31,7 @@ IsInFront number (cown ∷ cowns) lists =
 
 -- the first number is removed from the lists of these cowns; all other lists stay
 pub record Releases (cowns : List ℕ) (old new : List (List ℕ)) : Type 0 where
-  pub cowns_stay : length new ≡ length old
+  pub cown_count : length new ≡ length old
   pub each : (cown : ℕ) → cown < length old
       → list_of new cown ≡ (if is_among cown cowns then drop 1 (list_of old cown) else list_of old cown)
 

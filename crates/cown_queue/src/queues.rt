@@ -1,8 +1,8 @@
 //! A queue for each cown.
 ghost use Rattle.std.specs.Prelude.{◌≡◌, ◌≤◌, ◌<◌, ◌+◌, ℕ, [], max, length, replicate, slice_get, vec_capacity, IsTrue, IfOk, OnOk, OnErr};
 ghost use Rattle.sb_calls.specs.Cowns.{AreBelow, IsRising};
-ghost use Rattle.sb_calls.specs.OneByOne.{is_among};
-ghost use Rattle.cown_queue.specs.Queues.{CownQueues, held_in, list_of, fronts_of, Appends, IsInFront, Releases};
+ghost use Rattle.sb_calls.specs.SerialRun.{is_among};
+ghost use Rattle.cown_queue.specs.Queues.{CownQueues, queued_in, list_of, fronts_of, Appends, IsInFront, Releases};
 
 use crate::tickets::Tickets;
 use arrayvec::ArrayVec;
@@ -58,7 +58,7 @@ impl Queues {
     /// each reserved cown.
     pub fn places(&self) -> usize
         ensures value { result ≡ self.now.places }
-        ensures enough { held_in self.now.lists + length self.now.reserved ≤ self.now.places }
+        ensures enough { queued_in self.now.lists + length self.now.reserved ≤ self.now.places }
     {
         self.tickets.places()
     }
@@ -70,13 +70,13 @@ impl Queues {
     pub fn reserve(&mut self, cowns: &[Cown]) -> Result<(), AllocError>
         ensures ok { OnOk result (self.new ≡ record self.old {
           reserved = cowns.now;
-          places = max self.old.places (held_in self.old.lists + length cowns.now);
+          places = max self.old.places (queued_in self.old.lists + length cowns.now);
         }) }
         ensures err { OnErr result (self.new ≡ self.old) }
     {
         self.reserved.reserve(cowns.len())?;
         self.tickets.grow(cowns.len())?;
-        keep(&mut self.reserved, cowns);
+        write_reserved(&mut self.reserved, cowns);
         Ok(())
     }
 
@@ -86,7 +86,7 @@ impl Queues {
     /// It allocates only if the tickets outgrow the memory that they have.
     pub fn reserve_places(&mut self, count: usize) -> Result<(), AllocError>
         ensures ok { OnOk result (self.new ≡ record self.old {
-          places = max self.old.places (held_in self.old.lists + count);
+          places = max self.old.places (queued_in self.old.lists + count);
         }) }
         ensures err { OnErr result (self.new ≡ self.old) }
     {
@@ -110,11 +110,11 @@ impl Queues {
     /// Appends a number to the queues of cowns for which there are places. It allocates nothing,
     /// and afterwards no cown has room made.
     pub fn put(&mut self, number: u64, cowns: &[Cown])
-        requires places { held_in self.old.lists + length cowns.now ≤ self.old.places }
+        requires places { queued_in self.old.lists + length cowns.now ≤ self.old.places }
         requires rising { IsRising cowns.now }
         requires cowns { AreBelow (length self.old.lists) cowns.now }
         ensures lists { Appends number cowns.now self.old.lists self.new.lists }
-        ensures held { held_in self.new.lists ≡ held_in self.old.lists + length cowns.now }
+        ensures queued { queued_in self.new.lists ≡ queued_in self.old.lists + length cowns.now }
         ensures reserved { self.new.reserved ≡ [] }
         ensures places { self.new.places ≡ self.old.places }
     {
@@ -127,7 +127,7 @@ impl Queues {
     /// Removes a number from the front of these cowns, and returns the new fronts of those that
     /// still hold a number, in order.
     pub fn release(&mut self, number: u64, cowns: &[Cown]) -> ArrayVec<u64, 3>
-        requires few { length cowns.now ≤ 3 }
+        requires limit { length cowns.now ≤ 3 }
         requires rising { IsRising cowns.now }
         requires front { IsInFront number cowns.now self.old.lists }
         ensures lists { Releases cowns.now self.old.lists self.new.lists }
@@ -147,15 +147,15 @@ impl Queues {
     }
 }
 
-// Keeps exactly these cowns, in the memory that there is. They are written one by one in place:
+// Writes exactly these cowns, into the memory that there is. They are written one by one in place:
 // after a copy in one piece they would be read back before the queues' first accesses end.
-fn keep(kept: &mut Vec<Cown>, cowns: &[Cown])
-    requires { length cowns.now ≤ vec_capacity kept.old }
-    ensures { kept.new.items ≡ cowns.now }
+fn write_reserved(written: &mut Vec<Cown>, cowns: &[Cown])
+    requires { length cowns.now ≤ vec_capacity written.old }
+    ensures { written.new.items ≡ cowns.now }
 {
-    kept.clear();
+    written.clear();
     for cown in cowns {
-        kept.push_reserved(*cown);
+        written.push_reserved(*cown);
     }
 }
 
@@ -176,7 +176,7 @@ fn push_each(tickets: &mut Tickets, number: u64, cowns: &[Cown])
 // Removes the first number of each of these cowns.
 fn pop_each(tickets: &mut Tickets, cowns: &[Cown])
     requires rising { IsRising cowns.now }
-    requires held { (cown : ℕ) → IsTrue (is_among cown cowns.now) →
+    requires queued { (cown : ℕ) → IsTrue (is_among cown cowns.now) →
         0 < length (list_of tickets.old.lists cown) }
     ensures lists { Releases cowns.now tickets.old.lists tickets.new.lists }
     ensures free { tickets.old.free ≤ tickets.new.free }

@@ -11,17 +11,17 @@ use std::process::Abort;
 // Whether a behaviour may declare these cowns: at most three, in rising order, all of the first
 // `bound`.
 fn may_declare(cowns: &[Cown], bound: usize) -> bool
-    ensures few { IsTrue result → length cowns.now ≤ 3 }
+    ensures limit { IsTrue result → length cowns.now ≤ 3 }
     ensures rising { IsTrue result → IsRising cowns.now }
     ensures below { IsTrue result → AreBelow bound cowns.now }
 {
     let mut least = 0;
     for cown in cowns {
-        let number = cown.number();
-        if number < least || number >= bound {
+        let id = cown.id();
+        if id < least || id >= bound {
             return false;
         }
-        least = number + 1;
+        least = id + 1;
     }
     cowns.len() <= 3
 }

@@ -1,6 +1,6 @@
 //! Tickets for the numbers that wait, in one table for all cowns.
 ghost use Rattle.std.specs.Prelude.{◌≡◌, ◌+◌, ◌<◌, [], ◌∷◌, ◌++◌, max, drop, length, replicate, slice_get, slice_set, IfOk, OnOk, OnErr};
-ghost use Rattle.cown_queue.specs.Queues.{list_of, held_in};
+ghost use Rattle.cown_queue.specs.Queues.{list_of, queued_in};
 
 use sb_calls::Cown;
 use std::alloc::{AllocError, Global};
@@ -42,7 +42,7 @@ pub(crate) struct Tickets {
 
 impl Model for Tickets {
     ghost use Rattle.std.specs.Prelude.{length, vec_capacity};
-    ghost use Rattle.cown_queue.specs.Chains.{TicketLists, lists_of, AreTickets};
+    ghost use Rattle.cown_queue.specs.inner.Chains.{TicketLists, lists_of, AreTickets};
 
     ghost Value = { TicketLists };
 
@@ -86,7 +86,7 @@ impl Tickets {
     /// The number of places: those of the tickets and the free ones.
     pub(crate) fn places(&self) -> usize
         ensures value { result ≡ self.now.places }
-        ensures all { held_in self.now.lists + self.now.free ≡ self.now.places }
+        ensures total { queued_in self.now.lists + self.now.free ≡ self.now.places }
     {
         self.table.len()
     }
@@ -97,7 +97,7 @@ impl Tickets {
         ensures lists { self.new.lists ≡ self.old.lists }
         ensures free { OnOk result (self.new.free ≡ max self.old.free wanted) }
         ensures places { OnOk result
-            (self.new.places ≡ max self.old.places (held_in self.old.lists + wanted)) }
+            (self.new.places ≡ max self.old.places (queued_in self.old.lists + wanted)) }
         ensures err { OnErr result (self.new ≡ self.old) }
     {
         let free = self.free.len();
@@ -140,11 +140,11 @@ impl Tickets {
         ensures free { self.new.free + 1 ≡ self.old.free }
         ensures places { self.new.places ≡ self.old.places }
     {
-        let ends = self.ends[cown.number()];
+        let ends = self.ends[cown.id()];
         let place = self.free.take_last();
         self.table[place as usize] = Ticket { number, next: NONE };
         if ends.last == NONE {
-            self.ends[cown.number()] = Ends {
+            self.ends[cown.id()] = Ends {
                 first: place,
                 last: place,
             };
@@ -154,7 +154,7 @@ impl Tickets {
                 number: before,
                 next: place,
             };
-            self.ends[cown.number()] = Ends {
+            self.ends[cown.id()] = Ends {
                 first: ends.first,
                 last: place,
             };
@@ -169,10 +169,10 @@ impl Tickets {
         ensures free { self.new.free ≡ self.old.free + 1 }
         ensures places { self.new.places ≡ self.old.places }
     {
-        let ends = self.ends[cown.number()];
+        let ends = self.ends[cown.id()];
         let next = self.table[ends.first as usize].next;
         let last = if next == NONE { NONE } else { ends.last };
-        self.ends[cown.number()] = Ends { first: next, last };
+        self.ends[cown.id()] = Ends { first: next, last };
         self.free.push_reserved(ends.first);
     }
 
@@ -180,7 +180,7 @@ impl Tickets {
     pub(crate) fn front(&self, cown: Cown) -> Option<u64>
         ensures { result ≡ slice_get (list_of self.now.lists cown) 0 }
     {
-        let first = self.ends.get(cown.number())?.first;
+        let first = self.ends.get(cown.id())?.first;
         Some(self.table.get(first as usize)?.number)
     }
 }

@@ -1,9 +1,9 @@
-mod CarryingOut
-mod Changing
-mod Closing
-mod Counting
-mod Exchanging
-mod Picking
-mod Settled
+mod BoardSteps
+mod ClosedBenches
+mod CrewExchanges
+mod IdleBoards
+mod InPlaceRuns
+mod OwnerPicks
+mod StateCounts
 mod Stops
-mod Tracing
+mod TracedSteps

@@ -11,10 +11,10 @@ use Rattle.std.proofs.lemmas.List.Sums.{sum_by-append, sum_by-cons, sum_by_push}
 use Rattle.sb_calls.specs.declared.op.Op.{Op}
 use Rattle.cown_board.specs.Job.{JobOf}
 use Rattle.cown_bench.specs.BenchPasses.{WorkerOf, picked_of}
-use Rattle.cown_bench.specs.Parting.{IsPartedInto, WeighAlike, weight_picked}
+use Rattle.cown_bench.specs.OfferedWorks.{IsSplitInto, WeighAlike, weight_picked}
 use Rattle.cown_bench.specs.Picks.{WorkOf, PickOf}
 use Rattle.cown_bench.specs.declared.work.Work.TheVariants.{Run, Stop}
-use Rattle.cown_workers.specs.BenchCrews.{EndsAtStop, is_stop}
+use Rattle.cown_workers.specs.inner.PassPicks.{EndsAtStop, is_stop}
 
 -- one more job isn't one more `Stop`
 pub no_stop_more : (offered : List WorkOf) (job : JobOf Op) → count_by is_stop offered ≡ 0 → count_by is_stop (offered ++ Run job ∷ []) ≡ 0
@@ -47,10 +47,10 @@ each_has_one (pass ∷ workers) all =
     let whole = with_others pass workers in
     omega (arith, one, others, whole)
 
-with_hands : (hands : Option WorkerOf) (workers : List WorkerOf)
-    → weight_picked weight (picked_of workers) ≤ weight_picked weight (picked_of (option_to_list hands ++ workers))
-with_hands None workers = omega arith
-with_hands (Some hands) workers = let whole = with_others hands workers in omega (arith, whole)
+with_own_pass : (own_pass : Option WorkerOf) (workers : List WorkerOf)
+    → weight_picked weight (picked_of workers) ≤ weight_picked weight (picked_of (option_to_list own_pass ++ workers))
+with_own_pass None workers = omega arith
+with_own_pass (Some own_pass) workers = let whole = with_others own_pass workers in omega (arith, whole)
 
 one_behind : (count : ℕ) → replicate (suc count) Stop ≡ replicate count Stop ++ Stop ∷ []
 one_behind zero = refl
@@ -76,15 +76,15 @@ offered_weighs before threads none =
     let stops = sum_by-replicate weight threads Stop in
     omega (arith, parts, stops, none)
 
-pub nothing_left : (before : List WorkOf) (threads : ℕ) (hands : Option WorkerOf) (workers : List WorkerOf) (left : List WorkOf)
-    → IsPartedInto (before ++ replicate threads Stop) (picked_of (option_to_list hands ++ workers)) left
-    → WeighAlike (before ++ replicate threads Stop) (picked_of (option_to_list hands ++ workers)) left
+pub nothing_left : (before : List WorkOf) (threads : ℕ) (own_pass : Option WorkerOf) (workers : List WorkerOf) (left : List WorkOf)
+    → IsSplitInto (before ++ replicate threads Stop) (picked_of (option_to_list own_pass ++ workers)) left
+    → WeighAlike (before ++ replicate threads Stop) (picked_of (option_to_list own_pass ++ workers)) left
     → count_by is_stop before ≡ 0 → All (λ (pass : WorkerOf). EndsAtStop pass.picked) workers → length workers ≡ threads → 1 ≤ threads → left ≡ []
-nothing_left before zero hands workers left parted alike none stopped as_many some = absurd (omega (arith, some))
-nothing_left before (suc threads) hands workers left parted alike none stopped as_many some =
+nothing_left before zero own_pass workers left parted alike none stopped as_many some = absurd (omega (arith, some))
+nothing_left before (suc threads) own_pass workers left parted alike none stopped as_many some =
     let offered = offered_weighs before (suc threads) none in
     let each = each_has_one workers stopped in
-    let all = with_hands hands workers in
+    let all = with_own_pass own_pass workers in
     let same = alike weight in
     let nothing : sum_by weight left ≡ 0 = omega (arith, offered, each, all, same, as_many) in
     let behind : before ++ replicate (suc threads) Stop ≡ (before ++ replicate threads Stop) ++ Stop ∷ [] =

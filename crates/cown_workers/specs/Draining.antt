@@ -1,12 +1,11 @@
 -- Draining a board: its exchanges with a crew, and what it leaves as it was.
-use Rattle.std.specs.Prelude.{◌≡◌, ◌≢◌, ℕ, ◌≤◌, Option, Some, None, List, [], ◌∷◌, ◌++◌, length, slice_get, count_by}
+use Rattle.std.specs.Prelude.{◌≡◌, ◌≢◌, ℕ, ◌≤◌, Option, Some, None, List, [], ◌∷◌, ◌++◌, length, slice_get}
 use Rattle.sb_calls.specs.Behaviour.{declared_cowns, effect_of}
 use Rattle.sb_calls.specs.declared.op.Op.{Op}
 use Rattle.sb_calls.specs.declared.reply.Reply.{Reply}
-use Rattle.cown_board.specs.Board.{BoardOf, open_of, IsOutHere, Takes, Finishes}
+use Rattle.cown_board.specs.Board.{BoardOf, unfinished_of, IsOutHere, Takes, Finishes}
 use Rattle.cown_board.specs.Job.{JobOf, DoneOf}
-use Rattle.cown_board.specs.Readiness.{ready_places}
-use Rattle.cown_board.specs.State.{is_waiting}
+use Rattle.cown_board.specs.Readiness.{ready_positions}
 use Rattle.cown_board.specs.declared.state.State.TheVariants.{Out, Finished}
 
 -- one exchange with a crew: it was given a job, which it kept or which came back; or it was asked,
@@ -17,9 +16,9 @@ pub data CrewStep : Type 0 where
   HandedOver : (answer : Option (DoneOf Op)) → CrewStep
 
 -- a crew took these steps one after another
-abbrev pub ActsAlong : {C : Type 0} → (C → CrewStep → C → Type 0) → C → List CrewStep → C → Type 0
-ActsAlong acts old [] new = new ≡ old
-ActsAlong {C} acts old (step ∷ steps) new = (mid : C) × acts old step mid × ActsAlong acts mid steps new
+abbrev pub TakesSteps : {C : Type 0} → (C → CrewStep → C → Type 0) → C → List CrewStep → C → Type 0
+TakesSteps acts old [] new = new ≡ old
+TakesSteps {C} acts old (step ∷ steps) new = (mid : C) × acts old step mid × TakesSteps acts mid steps new
 
 -- the steps of a crew without workers: each job comes back, and nothing is handed over
 abbrev pub KeepsNoJob : CrewStep → Type 0
@@ -29,32 +28,28 @@ KeepsNoJob (HandedOver None) = Unit {0}
 KeepsNoJob (HandedOver (Some done)) = ⊥
 
 -- no op is out
-abbrev pub NoneOut : BoardOf Op → Type 0
-NoneOut board = (k : ℕ) → slice_get board.states k ≢ Some Out
+abbrev pub HasNoneOut : BoardOf Op → Type 0
+HasNoneOut board = (k : ℕ) → slice_get board.states k ≢ Some Out
 
 -- no op is ready
-abbrev pub NoneReady : BoardOf Op → Type 0
-NoneReady board = length (ready_places declared_cowns board.log board.states) ≤ 0
-
--- the number of waiting ops
-abbrev pub waiting_of : BoardOf Op → ℕ
-waiting_of board = count_by is_waiting board.states
+abbrev pub HasNoneReady : BoardOf Op → Type 0
+HasNoneReady board = length (ready_positions declared_cowns board.log board.states) ≤ 0
 
 -- nothing is ready, and something is unfinished: only the crew can make progress
 pub record AwaitsCrew (board : BoardOf Op) : Type 0 where
-  pub none_ready : NoneReady board
-  pub unfinished : open_of board ≢ 0
+  pub none_ready : HasNoneReady board
+  pub unfinished : unfinished_of board ≢ 0
 
 -- the result is that of the job
-abbrev pub IsOf : DoneOf Op → JobOf Op → Type 0
-IsOf done job = (done.number ≡ job.number) × (done.behaviour ≡ job.behaviour) × (done.inputs ≡ job.inputs)
+abbrev pub IsResultOf : DoneOf Op → JobOf Op → Type 0
+IsResultOf done job = (done.number ≡ job.number) × (done.behaviour ≡ job.behaviour) × (done.inputs ≡ job.inputs)
 
 -- the first ready op was taken off the board as this job, executed in place, and finished
 pub record RunsInPlace (old : BoardOf Op) (job : JobOf Op) (new : BoardOf Op) : Type 0 where
   pub taken : BoardOf Op
   pub takes : Takes declared_cowns effect_of old 0 job taken
   pub done : DoneOf Op
-  pub is_of : IsOf done job
+  pub is_of : IsResultOf done job
   pub reply : Reply
   pub finishes : Finishes declared_cowns effect_of taken done reply new
 
@@ -84,28 +79,21 @@ IsInVain board (HandedOver (Some done)) = AwaitsCrew board × (¬ IsOutHere decl
 -- the board was drained by these exchanges, and nothing is unfinished
 pub record IsDrained (old : BoardOf Op) (steps : List CrewStep) (new : BoardOf Op) : Type 0 where
   pub exchanges : Exchanges old steps new
-  pub idle : open_of new ≡ 0
+  pub idle : unfinished_of new ≡ 0
 
 -- the crew is gone: exchanges, the last of them in vain
-pub record IsGivenUp (old : BoardOf Op) (steps : List CrewStep) (new : BoardOf Op) : Type 0 where
+pub record EndsInVain (old : BoardOf Op) (steps : List CrewStep) (new : BoardOf Op) : Type 0 where
   pub before : List CrewStep
   pub last : CrewStep
   pub steps_are : steps ≡ before ++ last ∷ []
   pub exchanges : Exchanges old before new
   pub in_vain : IsInVain new last
 
--- what a crew did, and what that did to the board
-pub record Exchanged {C : Type 0} (acts : C → CrewStep → C → Type 0) (before after : C) (old new : BoardOf Op)
-    : Type 0 where
-  pub steps : List CrewStep
-  pub crew : ActsAlong acts before steps after
-  pub board : Exchanges old steps new
-
 -- the log, what came before it, and the cut stay; what was finished stays finished, with the same
 -- reply
-pub record Drains (old new : BoardOf Op) : Type 0 where
+pub record PreservesLog (old new : BoardOf Op) : Type 0 where
   pub opening : new.opening ≡ old.opening
-  pub earlier : new.earlier ≡ old.earlier
+  pub base_replies : new.base_replies ≡ old.base_replies
   pub log : new.log ≡ old.log
   pub cut : new.cut ≡ old.cut
   pub finished : (k : ℕ) (reply : Reply) → slice_get old.states k ≡ Some (Finished reply)

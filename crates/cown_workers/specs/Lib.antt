@@ -2,4 +2,4 @@ pub mod BenchCrews
 pub mod CrewFaults
 pub mod Draining
 pub mod Traces
-pub mod Turns
+pub mod inner

@@ -6,7 +6,7 @@ use std::{hint, thread};
 
 // How often it first only spins, and for how many turns of a processor. Meanwhile the other side
 // runs ahead, and the two don't contend for the same cache lines.
-const HOLDS: u32 = 8;
+const SPINS: u32 = 8;
 
 const TURNS: u32 = 32;
 
@@ -20,7 +20,7 @@ const SHORTEST: u64 = 1;
 const LONGEST: u64 = 100;
 
 // Spins for a moment.
-pub(crate) fn hold_still() {
+pub(crate) fn spin() {
     for _ in 0..TURNS {
         hint::spin_loop();
     }
@@ -29,7 +29,7 @@ pub(crate) fn hold_still() {
 // Waits longer each time: at first it spins, then it yields, and then it sleeps for growing times.
 #[derive(Drop)]
 pub(crate) struct BackOff {
-    holds: u32,
+    spins: u32,
     yields: u32,
     micros: u64,
     // At most a tenth of a millisecond.
@@ -39,21 +39,21 @@ pub(crate) struct BackOff {
 impl BackOff {
     pub(crate) fn new() -> BackOff {
         BackOff {
-            holds: 0,
+            spins: 0,
             yields: 0,
             micros: SHORTEST,
         }
     }
 
-    // Whether it has reached its longest wait. Then it is time to rest.
+    // Whether it has reached its longest wait. Then it is time to sleep until a signal.
     pub(crate) fn is_over(&self) -> bool {
         self.micros >= LONGEST
     }
 
     pub(crate) fn wait<R: Clock>(&mut self, rt: &R) {
-        if self.holds < HOLDS {
-            self.holds += 1;
-            hold_still();
+        if self.spins < SPINS {
+            self.spins += 1;
+            spin();
         } else if self.yields < YIELDS {
             self.yields += 1;
             thread::yield_now();

@@ -3,14 +3,15 @@ ghost use Rattle.std.specs.Prelude.{◌≡◌, ℕ, ◌+◌, ◌≤◌, ◌⊎�
 ghost use Rattle.std.specs.Option.{option_to_list};
 ghost use Rattle.cown_board.specs.Job.{JobOf};
 ghost use Rattle.sb_calls.specs.declared.op.Op.{Op};
-ghost use Rattle.cown_workers.specs.BenchCrews.{is_stop, picked_with, EndsAtStop, GoesHome, LaysOut, PicksItself};
-ghost use Rattle.cown_workers.specs.Draining.{IsOf};
+ghost use Rattle.cown_workers.specs.inner.PassPicks.{is_stop, picked_with, EndsAtStop};
+ghost use Rattle.cown_workers.specs.BenchCrews.{ShutsDown, ActsAtBench, PicksItself};
+ghost use Rattle.cown_workers.specs.Draining.{IsResultOf};
 
-use crate::burst::Burst;
 use crate::crew::Crew;
-use crate::desk::Desk;
 use crate::gate::{Gate, carry_out};
-use crate::staff::Staff;
+use crate::owner_side::OwnerSide;
+use crate::streak::Streak;
+use crate::thread_pool::ThreadPool;
 use cown_bench::{Bench, Work, WorkerPass};
 use cown_board::{Done, Job};
 use sb_calls::Op;
@@ -29,115 +30,123 @@ use std::time::Clock;
 // on `f`.
 #[derive(Drop)]
 pub struct BenchCrew<'a, R: Wait + Clock, G> {
-    desk: Desk<'a, R>,
+    owner_side: OwnerSide<'a, R>,
     gate: &'a G,
     // The owner's own pass, if it helps.
-    hands: Option<WorkerPass>,
-    staff: Staff,
+    own_pass: Option<WorkerPass>,
+    thread_pool: ThreadPool,
     // The number of jobs with the crew, and since when it has had some.
     jobs: usize,
-    burst: Burst,
+    streak: Streak,
 }
 
 impl<'a, R: Wait + Clock, G> Model for BenchCrew<'a, R, G> {
     ghost use Rattle.std.specs.Prelude.{◌≡◌, ◌+◌, ◌≤◌, All, length, count_by, IfSome, is_some};
     ghost use Rattle.std.specs.Option.{option_to_list};
-    ghost use Rattle.cown_workers.specs.BenchCrews.{BenchCrewOf, is_stop, picked_with};
+    ghost use Rattle.cown_workers.specs.BenchCrews.{BenchCrewOf};
+    ghost use Rattle.cown_workers.specs.inner.PassPicks.{is_stop, picked_with};
 
     ghost Value = { BenchCrewOf };
 
     ghost view = { λ crew. record {
-      workers = length crew.staff.threads.items;
-      owner_helps = is_some crew.hands;
-      offered = crew.desk.pass.offered;
-      picked = picked_with crew.hands;
+      workers = length crew.thread_pool.threads.items;
+      owner_helps = is_some crew.own_pass;
+      offered = crew.owner_side.pass.offered;
+      picked = picked_with crew.own_pass;
     } };
 
     // All passes of the bench are with the crew, and no `Stop` was laid out.
-    ghost invariant = { λ crew. (crew.desk.pass.bench ≡ crew.desk.bench.now)
-        × IfSome crew.hands (λ hands. hands.bench ≡ crew.desk.bench.now)
-        × All (λ thread. thread.promise.0.value ≡ crew.desk.bench.now) crew.staff.threads.items
-        × (crew.desk.pass.workers ≡ length (option_to_list crew.hands) + length crew.staff.threads.items)
-        × (1 ≤ length crew.staff.threads.items)
-        × (count_by is_stop crew.desk.pass.offered ≡ 0) };
+    ghost invariant = { λ crew. (crew.owner_side.pass.bench ≡ crew.owner_side.bench.now)
+        × IfSome crew.own_pass (λ own_pass. own_pass.bench ≡ crew.owner_side.bench.now)
+        × All (λ thread. thread.promise.0.value ≡ crew.owner_side.bench.now) crew.thread_pool.threads.items
+        × (crew.owner_side.pass.workers ≡ length (option_to_list crew.own_pass) + length crew.thread_pool.threads.items)
+        × (1 ≤ length crew.thread_pool.threads.items)
+        × (count_by is_stop crew.owner_side.pass.offered ≡ 0) };
 }
 
 impl<'a, R: Wait + Clock, G: Gate> BenchCrew<'a, R, G> {
     // A crew with these workers, and the other passes of their bench.
     pub(crate) fn new(
-        desk: Desk<'a, R>,
+        owner_side: OwnerSide<'a, R>,
         gate: &'a G,
-        hands: Option<WorkerPass>,
-        staff: Staff,
+        own_pass: Option<WorkerPass>,
+        thread_pool: ThreadPool,
     ) -> BenchCrew<'a, R, G>
-        requires owner { desk.pass.bench ≡ desk.bench.now }
-        requires hands { IfSome hands (λ hands. hands.bench ≡ desk.bench.now) }
-        requires staff { All (λ thread. thread.promise.0.value ≡ desk.bench.now) staff.threads.items }
-        requires all { desk.pass.workers ≡ length (option_to_list hands) + length staff.threads.items }
-        requires some { 1 ≤ length staff.threads.items }
-        requires jobs { count_by is_stop desk.pass.offered ≡ 0 }
+        requires owner { owner_side.pass.bench ≡ owner_side.bench.now }
+        requires hands { IfSome own_pass (λ own_pass. own_pass.bench ≡ owner_side.bench.now) }
+        requires staff { All (λ thread. thread.promise.0.value ≡ owner_side.bench.now) thread_pool.threads.items }
+        requires all_passes { owner_side.pass.workers ≡ length (option_to_list own_pass) + length thread_pool.threads.items }
+        requires at_least_one { 1 ≤ length thread_pool.threads.items }
+        requires jobs { count_by is_stop owner_side.pass.offered ≡ 0 }
         ensures { result ≡ record {
-          workers = length staff.threads.items;
-          owner_helps = is_some hands;
-          offered = desk.entry.pass.offered;
-          picked = picked_with hands;
+          workers = length thread_pool.threads.items;
+          owner_helps = is_some own_pass;
+          offered = owner_side.entry.pass.offered;
+          picked = picked_with own_pass;
         } }
     {
         BenchCrew {
-            desk,
+            owner_side,
             gate,
-            hands,
-            staff,
+            own_pass,
+            thread_pool,
             jobs: 0,
-            burst: Burst::new(),
+            streak: Streak::new(),
         }
     }
 
-    // The result that a worker which is up has handed over, if any. While all rest the bench comes
-    // first.
+    // The result that a worker which is awake has handed over, if any. While all sleep the bench
+    // comes first.
     fn handed_over(&mut self) -> Option<Done<Op>>
         ensures { self.new ≡ self.old }
     {
-        if self.desk.bell.all_rest() {
+        if self.owner_side.wake_up.all_asleep() {
             return None;
         }
-        let rt = self.desk.rt;
-        self.desk.inbox.try_recv(rt).ok()
+        let rt = self.owner_side.rt;
+        self.owner_side.inbox.try_recv(rt).ok()
     }
 
     // Executes the first job on the bench, if the owner helps and there is one. After a while of
-    // this it wakes workers for the other jobs. A resting worker looks at the bench by itself too,
+    // this it wakes workers for the other jobs. A worker that sleeps looks at the bench by itself too,
     // but later.
     fn help(&mut self) -> Option<Done<Op>>
-        ensures some { IfSome result (λ done. (job : JobOf Op) ×
-            PicksItself self.old (Work.Run job) self.new × IsOf done job) }
-        ensures none { IfNone result ((self.new ≡ self.old) ⊎ PicksItself self.old Work.Stop self.new) }
+        ensures job_picked { IfSome result (λ done. (job : JobOf Op) ×
+            PicksItself self.old (Work.Run job) self.new × IsResultOf done job) }
+        ensures no_job_picked { IfNone result ((self.new ≡ self.old) ⊎ PicksItself self.old Work.Stop self.new) }
     {
-        let Some(hands) = &mut self.hands else {
+        let Some(own_pass) = &mut self.own_pass else {
             return None;
         };
-        if self.jobs > 1 && self.burst.is_long(self.desk.rt) {
-            self.desk.bell.ring(self.desk.rt, self.jobs - 1);
+        if self.jobs > 1 && self.streak.is_long(self.owner_side.rt) {
+            self.owner_side
+                .wake_up
+                .signal(self.owner_side.rt, self.jobs - 1);
         }
-        pick_and_carry_out(self.desk.rt, self.desk.bench, hands, self.gate)
+        pick_and_carry_out(
+            self.owner_side.rt,
+            self.owner_side.bench,
+            own_pass,
+            self.gate,
+        )
     }
 }
 
 impl<'a, R: Threads + Wait + Clock, G: Gate> BenchCrew<'a, R, G> {
     // Sends the workers home, and closes the bench once all are gone. Nothing is left there.
     pub(crate) fn close(self)
-        ensures { GoesHome self.entry }
+        ensures { ShutsDown self.entry }
     {
         let BenchCrew {
-            desk,
-            hands,
-            staff,
+            owner_side,
+            own_pass,
+            thread_pool,
             ..
         } = self;
-        let rt = desk.rt;
-        let bench = desk.bench;
-        let owner = desk.send_home(staff.len());
-        let workers = staff.join(rt, hands);
+        let rt = owner_side.rt;
+        let bench = owner_side.bench;
+        let owner = owner_side.stop_workers(thread_pool.len());
+        let workers = thread_pool.join(rt, own_pass);
         let _ = bench.close(rt, owner, workers);
     }
 }
@@ -145,7 +154,7 @@ impl<'a, R: Threads + Wait + Clock, G: Gate> BenchCrew<'a, R, G> {
 impl<'a, R: Wait + Clock, G: Gate> Crew for BenchCrew<'a, R, G> {
     ghost keeps = { true };
 
-    ghost acts = { λ old step new. LaysOut old step new };
+    ghost acts = { λ old step new. ActsAtBench old step new };
 
     fn keeps(&self) -> bool {
         true
@@ -153,19 +162,21 @@ impl<'a, R: Wait + Clock, G: Gate> Crew for BenchCrew<'a, R, G> {
 
     #[tactic(auto, using(crate::proofs::Stops::no_stop_more))]
     fn give(&mut self, job: Job<Op>) -> Result<(), Job<Op>> {
-        match self
-            .desk
-            .bench
-            .offer(self.desk.rt, &mut self.desk.pass, Work::Run(job))
-        {
+        match self.owner_side.bench.offer(
+            self.owner_side.rt,
+            &mut self.owner_side.pass,
+            Work::Run(job),
+        ) {
             Ok(()) => {
                 if self.jobs == 0 {
-                    self.burst.begin(self.desk.rt);
+                    self.streak.begin(self.owner_side.rt);
                 }
                 self.jobs = self.jobs.saturating_add(1);
                 // An owner that helps begins alone.
-                if self.hands.is_none() {
-                    self.desk.bell.ring(self.desk.rt, self.jobs);
+                if self.own_pass.is_none() {
+                    self.owner_side
+                        .wake_up
+                        .signal(self.owner_side.rt, self.jobs);
                 }
                 Ok(())
             }
@@ -175,12 +186,12 @@ impl<'a, R: Wait + Clock, G: Gate> Crew for BenchCrew<'a, R, G> {
     }
 
     fn next(&mut self) -> Option<Done<Op>> {
-        let rt = self.desk.rt;
+        let rt = self.owner_side.rt;
         let done = match self.handed_over() {
             Some(done) => done,
             None => match self.help() {
                 Some(done) => done,
-                None => self.desk.inbox.next(rt)?,
+                None => self.owner_side.inbox.next(rt)?,
             },
         };
         self.jobs = self.jobs.saturating_sub(1);
@@ -192,31 +203,31 @@ impl<'a, R: Wait + Clock, G: Gate> Crew for BenchCrew<'a, R, G> {
 fn pick_and_carry_out<R: Wait, G: Gate>(
     rt: &R,
     bench: &Bench,
-    hands: &mut WorkerPass,
+    own_pass: &mut WorkerPass,
     gate: &G,
 ) -> Option<Done<Op>>
-    requires { hands.old.bench ≡ bench.now }
-    ensures some { IfSome result (λ done. (job : JobOf Op) × (place : ℕ) × (hands.new ≡
-        record hands.old { picked = hands.old.picked ++ (place, Work.Run job) ∷ [] }) × IsOf done job) }
-    ensures none { IfNone result ((hands.new ≡ hands.old) ⊎ ((place : ℕ) × (hands.new ≡
-        record hands.old { picked = hands.old.picked ++ (place, Work.Stop) ∷ [] }))) }
+    requires { own_pass.old.bench ≡ bench.now }
+    ensures job_picked { IfSome result (λ done. (job : JobOf Op) × (place : ℕ) × (own_pass.new ≡
+        record own_pass.old { picked = own_pass.old.picked ++ (place, Work.Run job) ∷ [] }) × IsResultOf done job) }
+    ensures no_job_picked { IfNone result ((own_pass.new ≡ own_pass.old) ⊎ ((place : ℕ) × (own_pass.new ≡
+        record own_pass.old { picked = own_pass.old.picked ++ (place, Work.Stop) ∷ [] }))) }
 {
-    match bench.pick(rt, hands)? {
+    match bench.pick(rt, own_pass)? {
         Work::Run(job) => Some(carry_out(gate, job)),
         // A crew isn't asked for anything once it goes home.
         Work::Stop => None,
     }
 }
 
-// From outside a ring can't be distinguished from a rest that ends by itself, so this tests who
-// rings. The worker has a bell of its own, so every ring of the owner's can be heard.
+// From outside a signal can't be distinguished from a sleep that ends by itself, so this tests who
+// signals. The worker has a wake-up of its own, so every signal of the owner's is seen.
 #[cfg(test)]
 mod tests {
     use super::*;
-    use crate::bell::Bell;
     use crate::gate::OpenGate;
     use crate::inbox::open_inbox;
     use crate::jobs::job;
+    use crate::wake_up::WakeUp;
     use crate::worker::Worker;
     use cown_bench::OwnerPass;
     use std::alloc::Global;
@@ -229,12 +240,12 @@ mod tests {
 
     // Holds a job until the gate is opened, or for a limited number of turns.
     #[derive(Default, Drop)]
-    struct Hold {
+    struct Latch {
         came: AtomicBool,
         open: AtomicBool,
     }
 
-    impl Gate for Hold {
+    impl Gate for Latch {
         fn before(&self, _number: u64) {
             self.came.store(true, Ordering::SeqCst);
             let _ = comes_true(&self.open);
@@ -254,23 +265,23 @@ mod tests {
         false
     }
 
-    // A staff with this one worker.
-    fn staff_of<'s, E, R: Wait + Clock + Sync + Abort, G: Gate + Sync>(
+    // A thread for this one worker.
+    fn pool_of<'s, E, R: Wait + Clock + Sync + Abort, G: Gate + Sync>(
         scope: &'s Scope<'s, E>,
         rt: &R,
         alloc: Global,
         bench: &'s Bench,
         worker: Worker<'s, R, G>,
-    ) -> Staff
+    ) -> ThreadPool
         requires { worker.bench.now ≡ bench.now }
         ensures one { length result.threads.items ≡ 1 }
         ensures bench { All (λ thread. thread.promise.0.value ≡ bench.now) result.threads.items }
     {
         let mut workers = Vec::with_capacity(alloc, 1).expect(rt, "memory");
         workers.push_reserved(worker);
-        let staff = Staff::start(scope, alloc, bench, workers).expect(rt, "memory");
-        assert!(rt; staff.len() == 1);
-        staff
+        let thread_pool = ThreadPool::start(scope, alloc, bench, workers).expect(rt, "memory");
+        assert!(rt; thread_pool.len() == 1);
+        thread_pool
     }
 
     fn gives<R: Wait + Clock + Abort>(
@@ -285,13 +296,13 @@ mod tests {
     #[derive(Clone, Copy)]
     struct Shared<'s> {
         bench: &'s Bench,
-        bell: &'s Bell,
-        other_bell: &'s Bell,
-        hold: &'s Hold,
+        wake_up: &'s WakeUp,
+        other_wake_up: &'s WakeUp,
+        latch: &'s Latch,
     }
 
     // Only the worker picks from the bench.
-    fn rings_for_each_job<'s, E, R: Threads + Wait + Clock + Sync + Abort>(
+    fn signals_each_job<'s, E, R: Threads + Wait + Clock + Sync + Abort>(
         scope: &'s Scope<'s, E>,
         rt: &'s R,
         alloc: Global,
@@ -309,38 +320,38 @@ mod tests {
         assert!(rt; passes.len() == 1);
         let Shared {
             bench,
-            bell,
-            other_bell,
-            hold,
+            wake_up,
+            other_wake_up,
+            latch,
         } = shared;
         let (outbox, inbox) = open_inbox(alloc).expect(rt, "memory");
         let worker = Worker {
             rt,
             bench,
             pass: passes.pop().expect(rt, "a pass"),
-            gate: hold,
-            bell: other_bell,
+            gate: latch,
+            wake_up: other_wake_up,
             outbox,
         };
-        let staff = staff_of(scope, rt, alloc, bench, worker);
-        let desk = Desk {
+        let thread_pool = pool_of(scope, rt, alloc, bench, worker);
+        let owner_side = OwnerSide {
             rt,
             bench,
-            bell,
+            wake_up,
             pass,
             inbox,
         };
-        let mut crew = BenchCrew::new(desk, &OpenGate, None, staff);
+        let mut crew = BenchCrew::new(owner_side, &OpenGate, None, thread_pool);
         gives(rt, alloc, &mut crew);
-        assert!(rt; bell.hears_a_ring(rt));
-        // It rings for a `Stop` too.
-        hold.open.store(true, Ordering::SeqCst);
+        assert!(rt; wake_up.await_signal(rt));
+        // It signals a `Stop` too.
+        latch.open.store(true, Ordering::SeqCst);
         crew.close();
-        assert!(rt; bell.hears_a_ring(rt));
+        assert!(rt; wake_up.await_signal(rt));
     }
 
-    // The worker, whose job is held, and the owner both pick from the bench.
-    fn rings_once_it_was_alone<'s, E, R: Threads + Wait + Clock + Sync + Abort>(
+    // The worker, whose job is stopped at the gate, and the owner both pick from the bench.
+    fn signals_after_a_streak<'s, E, R: Threads + Wait + Clock + Sync + Abort>(
         scope: &'s Scope<'s, E>,
         rt: &'s R,
         alloc: Global,
@@ -358,54 +369,54 @@ mod tests {
         assert!(rt; passes.len() == 2);
         let Shared {
             bench,
-            bell,
-            other_bell,
-            hold,
+            wake_up,
+            other_wake_up,
+            latch,
         } = shared;
         let (outbox, inbox) = open_inbox(alloc).expect(rt, "memory");
-        let hands = passes.pop().expect(rt, "a pass");
+        let own_pass = passes.pop().expect(rt, "a pass");
         let worker = Worker {
             rt,
             bench,
             pass: passes.pop().expect(rt, "a pass"),
-            gate: hold,
-            bell: other_bell,
+            gate: latch,
+            wake_up: other_wake_up,
             outbox,
         };
-        let staff = staff_of(scope, rt, alloc, bench, worker);
-        let desk = Desk {
+        let thread_pool = pool_of(scope, rt, alloc, bench, worker);
+        let owner_side = OwnerSide {
             rt,
             bench,
-            bell,
+            wake_up,
             pass,
             inbox,
         };
-        let mut crew = BenchCrew::new(desk, &OpenGate, Some(hands), staff);
+        let mut crew = BenchCrew::new(owner_side, &OpenGate, Some(own_pass), thread_pool);
         gives(rt, alloc, &mut crew);
-        assert!(rt; comes_true(&hold.came));
+        assert!(rt; comes_true(&latch.came));
         gives(rt, alloc, &mut crew);
         gives(rt, alloc, &mut crew);
         // Listening takes longer than the owner stays alone.
-        assert!(rt; !bell.hears_a_ring(rt));
+        assert!(rt; !wake_up.await_signal(rt));
         assert!(rt; crew.next().is_some());
-        assert!(rt; bell.hears_a_ring(rt));
-        hold.open.store(true, Ordering::SeqCst);
+        assert!(rt; wake_up.await_signal(rt));
+        latch.open.store(true, Ordering::SeqCst);
         crew.close();
     }
 
-    // An owner that helps or only waits, and a worker that the owner's bell counts as resting.
+    // An owner that helps or only waits, and a worker that the owner counts as asleep.
     fn with_bench(rt: &(impl Threads + Wait + Clock + Sync + Abort), alloc: Global, helps: bool) {
         let pickers = if helps { 2 } else { 1 };
         let (bench, pass, passes) = Bench::new(alloc, pickers).expect(rt, "memory");
-        let bell = Bell::new(alloc, 1).expect(rt, "memory");
-        let other_bell = Bell::new(alloc, 1).expect(rt, "memory");
-        let hold = Hold::default();
-        bell.lie_down();
+        let wake_up = WakeUp::new(alloc, 1).expect(rt, "memory");
+        let other_wake_up = WakeUp::new(alloc, 1).expect(rt, "memory");
+        let latch = Latch::default();
+        wake_up.begin_sleep();
         let shared = Shared {
             bench: &bench,
-            bell: &bell,
-            other_bell: &other_bell,
-            hold: &hold,
+            wake_up: &wake_up,
+            other_wake_up: &other_wake_up,
+            latch: &latch,
         };
         thread::scope(
             thread::scope_env(),
@@ -419,21 +430,21 @@ mod tests {
                 requires workers { All (λ worker. worker.bench ≡ shared.bench.now) passes.items }
             {
                 if helps {
-                    rings_once_it_was_alone(scope, rt, alloc, shared, pass, passes);
+                    signals_after_a_streak(scope, rt, alloc, shared, pass, passes);
                 } else {
-                    rings_for_each_job(scope, rt, alloc, shared, pass, passes);
+                    signals_each_job(scope, rt, alloc, shared, pass, passes);
                 }
             },
         );
     }
 
     #[test]
-    fn an_owner_that_only_waits_rings_for_each_job(rt: HostRuntime) {
+    fn an_owner_that_only_waits_signals_each_job(rt: HostRuntime) {
         with_bench(&rt, rt.alloc(), false);
     }
 
     #[test]
-    fn an_owner_that_helps_rings_once_it_was_alone_for_a_while(rt: HostRuntime) {
+    fn an_owner_that_helps_signals_after_a_streak(rt: HostRuntime) {
         with_bench(&rt, rt.alloc(), true);
     }
 }

@@ -1,7 +1,8 @@
 //! Draining a board.
 ghost use Rattle.std.specs.Prelude.{◌≡◌, ◌≢◌, ◌<◌, ◌≤◌, List, true, false, IsOk, OnOk, OnErr, MatchResult};
-ghost use Rattle.cown_board.specs.Board.{open_of};
-ghost use Rattle.cown_workers.specs.Draining.{ActsAlong, AwaitsCrew, CrewStep, Drains, Exchanged, IsDrained, IsGivenUp, IsInVain, NoneOut, NoneReady, waiting_of};
+ghost use Rattle.cown_board.specs.Board.{unfinished_of};
+ghost use Rattle.cown_workers.specs.Draining.{TakesSteps, AwaitsCrew, CrewStep, PreservesLog, IsDrained, EndsInVain, IsInVain, HasNoneOut, HasNoneReady};
+ghost use Rattle.cown_workers.specs.inner.DrainSteps.{HasExchanges, waiting_count};
 
 use crate::crew::{Crew, CrewGone};
 use cown_board::Runs;
@@ -16,14 +17,14 @@ use cown_board::Runs;
 /// out. What was finished before stays finished, with its reply. A crew that keeps no job never
 /// causes this failure, if nothing was out before.
 pub fn drain<R: Runs, C: Crew>(runs: &mut R, crew: &mut C) -> Result<(), CrewGone>
-    ensures exchanged { (steps : List CrewStep) × (ActsAlong C.acts crew.old steps crew.new × MatchResult result
+    ensures exchanged { (steps : List CrewStep) × (TakesSteps C.acts crew.old steps crew.new × MatchResult result
         (λ done. IsDrained (R.board runs.old) steps (R.board runs.new))
-        (λ gone. IsGivenUp (R.board runs.old) steps (R.board runs.new))) }
-    ensures ok { OnOk result (open_of (R.board runs.new) ≡ 0) }
-    ensures gone { OnErr result (open_of (R.board runs.new) ≢ 0) }
-    ensures log { Drains (R.board runs.old) (R.board runs.new) }
-    ensures sure { C.keeps ≡ false → NoneOut (R.board runs.old) → IsOk result }
-    ensures beside { R.beside runs.new ≡ R.beside runs.old }
+        (λ gone. EndsInVain (R.board runs.old) steps (R.board runs.new))) }
+    ensures ok { OnOk result (unfinished_of (R.board runs.new) ≡ 0) }
+    ensures crew_lost { OnErr result (unfinished_of (R.board runs.new) ≢ 0) }
+    ensures log { PreservesLog (R.board runs.old) (R.board runs.new) }
+    ensures succeeds { C.keeps ≡ false → HasNoneOut (R.board runs.old) → IsOk result }
+    ensures rest { R.rest runs.new ≡ R.rest runs.old }
 {
     loop {
         give_ready(runs, crew);
@@ -36,12 +37,12 @@ pub fn drain<R: Runs, C: Crew>(runs: &mut R, crew: &mut C) -> Result<(), CrewGon
 
 // Gives everything that is ready, and what becomes ready meanwhile.
 fn give_ready<R: Runs, C: Crew>(runs: &mut R, crew: &mut C)
-    ensures exchanged { Exchanged C.acts crew.old crew.new (R.board runs.old) (R.board runs.new) }
-    ensures log { Drains (R.board runs.old) (R.board runs.new) }
-    ensures unfinished { open_of (R.board runs.new) ≤ open_of (R.board runs.old) }
-    ensures none_ready { NoneReady (R.board runs.new) }
-    ensures none_out { C.keeps ≡ false → NoneOut (R.board runs.old) → NoneOut (R.board runs.new) }
-    ensures beside { R.beside runs.new ≡ R.beside runs.old }
+    ensures exchanged { HasExchanges C.acts crew.old crew.new (R.board runs.old) (R.board runs.new) }
+    ensures log { PreservesLog (R.board runs.old) (R.board runs.new) }
+    ensures unfinished { unfinished_of (R.board runs.new) ≤ unfinished_of (R.board runs.old) }
+    ensures none_ready { HasNoneReady (R.board runs.new) }
+    ensures none_out { C.keeps ≡ false → HasNoneOut (R.board runs.old) → HasNoneOut (R.board runs.new) }
+    ensures rest { R.rest runs.new ≡ R.rest runs.old }
 {
     while give_first(runs, crew) {}
 }
@@ -49,13 +50,13 @@ fn give_ready<R: Runs, C: Crew>(runs: &mut R, crew: &mut C)
 // Gives the first ready op, and returns whether there was one. If it comes back, it is executed
 // here.
 fn give_first<R: Runs, C: Crew>(runs: &mut R, crew: &mut C) -> bool
-    ensures exchanged { Exchanged C.acts crew.old crew.new (R.board runs.old) (R.board runs.new) }
-    ensures given { result ≡ true → waiting_of (R.board runs.new) < waiting_of (R.board runs.old) }
-    ensures none_ready { result ≡ false → NoneReady (R.board runs.new) }
-    ensures log { Drains (R.board runs.old) (R.board runs.new) }
-    ensures unfinished { open_of (R.board runs.new) ≤ open_of (R.board runs.old) }
-    ensures none_out { C.keeps ≡ false → NoneOut (R.board runs.old) → NoneOut (R.board runs.new) }
-    ensures beside { R.beside runs.new ≡ R.beside runs.old }
+    ensures exchanged { HasExchanges C.acts crew.old crew.new (R.board runs.old) (R.board runs.new) }
+    ensures given { result ≡ true → waiting_count (R.board runs.new) < waiting_count (R.board runs.old) }
+    ensures none_ready { result ≡ false → HasNoneReady (R.board runs.new) }
+    ensures log { PreservesLog (R.board runs.old) (R.board runs.new) }
+    ensures unfinished { unfinished_of (R.board runs.new) ≤ unfinished_of (R.board runs.old) }
+    ensures none_out { C.keeps ≡ false → HasNoneOut (R.board runs.old) → HasNoneOut (R.board runs.new) }
+    ensures rest { R.rest runs.new ≡ R.rest runs.old }
 {
     let Some(job) = runs.take_at(0) else {
         return false;
@@ -72,13 +73,13 @@ fn give_first<R: Runs, C: Crew>(runs: &mut R, crew: &mut C) -> bool
 fn finish_next<R: Runs, C: Crew>(runs: &mut R, crew: &mut C) -> Result<(), CrewGone>
     requires { AwaitsCrew (R.board runs.old) }
     ensures exchanged { MatchResult result
-        (λ finished. Exchanged C.acts crew.old crew.new (R.board runs.old) (R.board runs.new))
+        (λ finished. HasExchanges C.acts crew.old crew.new (R.board runs.old) (R.board runs.new))
         (λ gone. (last : CrewStep) × (C.acts crew.old last crew.new × IsInVain (R.board runs.old) last)) }
-    ensures ok { OnOk result (open_of (R.board runs.new) < open_of (R.board runs.old)) }
-    ensures gone { OnErr result (R.board runs.new ≡ R.board runs.old) }
-    ensures log { Drains (R.board runs.old) (R.board runs.new) }
-    ensures none_out { C.keeps ≡ false → NoneOut (R.board runs.old) → NoneOut (R.board runs.new) }
-    ensures beside { R.beside runs.new ≡ R.beside runs.old }
+    ensures ok { OnOk result (unfinished_of (R.board runs.new) < unfinished_of (R.board runs.old)) }
+    ensures crew_lost { OnErr result (R.board runs.new ≡ R.board runs.old) }
+    ensures log { PreservesLog (R.board runs.old) (R.board runs.new) }
+    ensures none_out { C.keeps ≡ false → HasNoneOut (R.board runs.old) → HasNoneOut (R.board runs.new) }
+    ensures rest { R.rest runs.new ≡ R.rest runs.old }
 {
     let Some(done) = crew.next() else {
         return Err(CrewGone);

@@ -1,6 +1,6 @@
 //! Hooks around each job that a crew executes.
 ghost use Rattle.std.specs.Prelude.{◌≡◌, Bool, true, false};
-ghost use Rattle.cown_workers.specs.Draining.{IsOf};
+ghost use Rattle.cown_workers.specs.Draining.{IsResultOf};
 
 use cown_board::{Done, Job};
 use sb_calls::Op;
@@ -43,7 +43,7 @@ impl Gate for OpenGate {
 
 // Executes a job between the two calls of a gate.
 pub(crate) fn carry_out<G: Gate>(gate: &G, job: Job<Op>) -> Done<Op>
-    ensures { IsOf result job }
+    ensures { IsResultOf result job }
 {
     let number = job.number();
     gate.before(number);

@@ -2,15 +2,15 @@
 ghost use Rattle.std.specs.Prelude.{◌≡◌, ◌+◌, ◌<◌, ◌≤◌, [], ◌++◌, All, length, true, IfOk, OnOk, is_some};
 ghost use Rattle.std.specs.Option.{option_to_list};
 ghost use Rattle.std.specs.Fn.{FnOnceReturnsAtMut};
-ghost use Rattle.cown_workers.specs.BenchCrews.{BenchCrewOf, GoesHome, IsFresh};
+ghost use Rattle.cown_workers.specs.BenchCrews.{BenchCrewOf, ShutsDown, IsFresh};
 
-use crate::bell::Bell;
 use crate::bench_crew::BenchCrew;
 use crate::crew_fault::CrewFault;
-use crate::desk::Desk;
 use crate::gate::Gate;
 use crate::inbox::{Outbox, open_inbox};
-use crate::recruits::Recruits;
+use crate::owner_side::OwnerSide;
+use crate::unstarted_crew::UnstartedCrew;
+use crate::wake_up::WakeUp;
 use crate::worker::Worker;
 use cown_bench::{Bench, WORKERS, WorkerPass};
 use std::alloc::{AllocError, Global};
@@ -40,35 +40,35 @@ where
     R: Threads + Wait + Clock + Sync,
     G: Gate + Sync,
     F: FnOnce(&mut BenchCrew<'_, R, G>) -> T,
-    requires some { 1 ≤ workers }
-    requires few { workers ≤ WORKERS }
+    requires at_least_one { 1 ≤ workers }
+    requires limit { workers ≤ WORKERS }
     requires callable { F.IsAlwaysCallable f }
     ensures answer { IfOk result (λ answer. (fresh after : BenchCrewOf) ×
         IsFresh workers (G.admits gate.now) fresh × FnOnceReturnsAtMut F.FnOnce f fresh answer after ×
-        GoesHome after) }
+        ShutsDown after) }
 {
-    let bell = Bell::new(alloc, workers)?;
+    let wake_up = WakeUp::new(alloc, workers)?;
     let (outbox, inbox) = open_inbox(alloc)?;
     let (bench, pass, mut passes) = Bench::new(alloc, pickers(gate, workers))?;
-    let hands = take_above(&mut passes, workers);
-    let hired = workers_at(rt, alloc, &bench, passes, gate, &bell, outbox)?;
-    let desk = Desk {
+    let own_pass = take_extra_pass(&mut passes, workers);
+    let hired = workers_at(rt, alloc, &bench, passes, gate, &wake_up, outbox)?;
+    let owner_side = OwnerSide {
         rt,
         bench: &bench,
-        bell: &bell,
+        wake_up: &wake_up,
         pass,
         inbox,
     };
-    let recruits = Recruits::new(alloc, desk, gate, hands, hired);
+    let unstarted_crew = UnstartedCrew::new(alloc, owner_side, gate, own_pass, hired);
     thread::scope(
         thread::scope_env(),
         rt,
         move |scope| -> Result<T, CrewFault>
             requires callable { F.IsAlwaysCallable f }
             ensures { IfOk result (λ answer. (after : BenchCrewOf) ×
-                FnOnceReturnsAtMut F.FnOnce f recruits.entry answer after × GoesHome after) }
+                FnOnceReturnsAtMut F.FnOnce f unstarted_crew.entry answer after × ShutsDown after) }
         {
-            let mut crew = recruits.start(scope)?;
+            let mut crew = unstarted_crew.start(scope)?;
             let answer = f(&mut crew);
             crew.close();
             Ok(answer)
@@ -81,7 +81,7 @@ where
 fn pickers<G: Gate>(gate: &G, workers: usize) -> usize
     requires { workers ≤ WORKERS }
     ensures enough { workers ≤ result }
-    ensures few { result ≤ WORKERS }
+    ensures limit { result ≤ WORKERS }
     ensures owner { workers < result → (result ≡ workers + 1) × (G.admits gate.now ≡ true) }
 {
     if gate.admits_owner() {
@@ -92,9 +92,9 @@ fn pickers<G: Gate>(gate: &G, workers: usize) -> usize
 }
 
 // The last of these passes, if there is one more than this.
-fn take_above(passes: &mut Vec<WorkerPass>, workers: usize) -> Option<WorkerPass>
+fn take_extra_pass(passes: &mut Vec<WorkerPass>, workers: usize) -> Option<WorkerPass>
     requires enough { workers ≤ length passes.old.items }
-    requires few { length passes.old.items ≤ workers + 1 }
+    requires limit { length passes.old.items ≤ workers + 1 }
     ensures parted { passes.old.items ≡ passes.new.items ++ option_to_list result }
     ensures as_many { length passes.new.items ≡ workers }
     ensures above { is_some result ≡ true → workers < length passes.old.items }
@@ -113,7 +113,7 @@ fn workers_at<'a, R: Wait + Clock, G: Gate>(
     bench: &'a Bench,
     passes: Vec<WorkerPass>,
     gate: &'a G,
-    bell: &'a Bell,
+    wake_up: &'a WakeUp,
     mut outbox: Outbox,
 ) -> Result<Vec<Worker<'a, R, G>>, AllocError>
     requires { All (λ pass. pass.bench ≡ bench.now) passes.items }
@@ -122,7 +122,7 @@ fn workers_at<'a, R: Wait + Clock, G: Gate>(
 {
     let mut workers = Vec::with_capacity(alloc, passes.len())?;
     for pass in passes {
-        push_worker(rt, bench, pass, gate, bell, &mut outbox, &mut workers)?;
+        push_worker(rt, bench, pass, gate, wake_up, &mut outbox, &mut workers)?;
     }
     Ok(workers)
 }
@@ -132,7 +132,7 @@ fn push_worker<'a, R: Wait + Clock, G: Gate>(
     bench: &'a Bench,
     pass: WorkerPass,
     gate: &'a G,
-    bell: &'a Bell,
+    wake_up: &'a WakeUp,
     outbox: &mut Outbox,
     workers: &mut Vec<Worker<'a, R, G>>,
 ) -> Result<(), AllocError>
@@ -147,7 +147,7 @@ fn push_worker<'a, R: Wait + Clock, G: Gate>(
         bench,
         pass,
         gate,
-        bell,
+        wake_up,
         outbox,
     })?;
     Ok(())

@@ -3,7 +3,7 @@ ghost use Rattle.std.specs.Prelude.{◌≡◌, IfErr, IfOk};
 ghost use Rattle.crossbeam_channel.specs.Claims.{IsSeatAt};
 ghost use Rattle.crossbeam_channel.specs.Ends.{receives_on, sends_on};
 
-use crate::back_off::hold_still;
+use crate::back_off::spin;
 use cown_bench::BENCH_CAPACITY;
 use cown_board::Done;
 use crossbeam_channel::protocol::{Free, Split};
@@ -15,7 +15,7 @@ use std::thread;
 
 // How often the owner looks for a result before it waits: being woken takes longer than most jobs.
 // At first it spins between two looks, so that the workers get ahead, and then it yields.
-const HOLDS: u32 = 16;
+const SPINS: u32 = 16;
 
 const LOOKS: u32 = 64;
 
@@ -43,7 +43,7 @@ pub(crate) struct Outbox {
 // Evidence that the result of the job with this number is on its way to the owner. Only `send`
 // makes one.
 #[derive(Drop)]
-pub(crate) struct Sent {
+pub(crate) struct Receipt {
     number: u64,
 }
 
@@ -79,13 +79,13 @@ impl Outbox {
 
     // Hands over a result, and waits while the inbox is full. The result comes back if the owner is
     // gone.
-    pub(crate) fn send<R: Wait>(&mut self, rt: &R, done: Done<Op>) -> Result<Sent, Done<Op>>
+    pub(crate) fn send<R: Wait>(&mut self, rt: &R, done: Done<Op>) -> Result<Receipt, Done<Op>>
         ensures sent { IfOk result (λ sent. sent.number ≡ done.number) }
         ensures back { IfErr result (λ back. back ≡ done) }
     {
         let number = done.number();
         match self.sender.send_as::<Free, R>(rt, &mut self.pass, done) {
-            Ok(()) => Ok(Sent { number }),
+            Ok(()) => Ok(Receipt { number }),
             Err(refused) => Err(refused.into_inner()),
         }
     }
@@ -103,7 +103,7 @@ impl Inbox {
             match self.try_recv(rt) {
                 Ok(done) => return Some(done),
                 Err(TryRecvError::Disconnected) => return None,
-                Err(TryRecvError::Empty) if look < HOLDS => hold_still(),
+                Err(TryRecvError::Empty) if look < SPINS => spin(),
                 Err(TryRecvError::Empty) => thread::yield_now(),
             }
         }

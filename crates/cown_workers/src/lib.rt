@@ -2,12 +2,9 @@
 #![tactic(auto)]
 
 mod back_off;
-mod bell;
 mod bench_crew;
-mod burst;
 mod crew;
 mod crew_fault;
-mod desk;
 mod draining;
 mod gate;
 mod in_threads;
@@ -16,9 +13,12 @@ mod inline_crew;
 #[cfg(test)]
 mod jobs;
 mod laws;
-mod recruits;
-mod staff;
+mod owner_side;
+mod streak;
+mod thread_pool;
 mod traced;
+mod unstarted_crew;
+mod wake_up;
 mod worker;
 
 pub use bench_crew::BenchCrew;

@@ -1,12 +1,12 @@
 //! The work of each thread of a crew.
 ghost use Rattle.std.specs.Prelude.{◌≡◌, ℕ, ◌∷◌, ◌++◌, [], IfNone, IfSome};
-ghost use Rattle.cown_workers.specs.BenchCrews.{EndsAtStop};
-ghost use Rattle.cown_workers.specs.Turns.{Takes};
+ghost use Rattle.cown_workers.specs.inner.PassPicks.{EndsAtStop};
+ghost use Rattle.cown_workers.specs.inner.Turns.{WorkerTakesTurn};
 
 use crate::back_off::BackOff;
-use crate::bell::Bell;
 use crate::gate::{Gate, carry_out};
-use crate::inbox::{Outbox, Sent};
+use crate::inbox::{Outbox, Receipt};
+use crate::wake_up::WakeUp;
 use cown_bench::{Bench, Work, WorkerPass};
 use cown_board::{Done, Job};
 use sb_calls::Op;
@@ -21,7 +21,7 @@ pub(crate) struct Worker<'a, R: Wait + Clock, G: Gate> {
     pub(crate) bench: &'a Bench,
     pub(crate) pass: WorkerPass,
     pub(crate) gate: &'a G,
-    pub(crate) bell: &'a Bell,
+    pub(crate) wake_up: &'a WakeUp,
     pub(crate) outbox: Outbox,
     pub(crate) ghost of_the_bench: { pass.bench ≡ bench.now },
 }
@@ -32,7 +32,7 @@ pub(crate) enum Turn {
     // It picked nothing.
     Waited,
     // It picked a job, executed it and handed its result over.
-    HandedOver(Sent),
+    HandedOver(Receipt),
     // It picked a `Stop`.
     Stopped,
 }
@@ -60,10 +60,10 @@ impl<'a, R: Wait + Clock, G: Gate> Worker<'a, R, G> {
 
     // One turn. No job that it picks is dropped.
     fn turn(&mut self, back_off: &mut BackOff) -> Turn
-        ensures takes { Takes self.old.pass result self.new.pass }
+        ensures takes { WorkerTakesTurn self.old.pass result self.new.pass }
         ensures bench { self.new.bench.now ≡ self.old.bench.now }
     {
-        match pick_or_wait(self.rt, self.bench, &mut self.pass, self.bell, back_off) {
+        match pick_or_wait(self.rt, self.bench, &mut self.pass, self.wake_up, back_off) {
             Some(Work::Run(job)) => {
                 let sent = serve(self.rt, self.gate, &mut self.outbox, job);
                 Turn::HandedOver(sent)
@@ -75,39 +75,39 @@ impl<'a, R: Wait + Clock, G: Gate> Worker<'a, R, G> {
 }
 
 // Picks the first Work on the bench. If there is none, it waits, longer each time, and in the end
-// until the owner rings. Then it picks nothing, or what was laid out meanwhile.
+// until the owner signals. Then it picks nothing, or what was offered meanwhile.
 fn pick_or_wait<R: Wait + Clock>(
     rt: &R,
     bench: &Bench,
     pass: &mut WorkerPass,
-    bell: &Bell,
+    wake_up: &WakeUp,
     back_off: &mut BackOff,
 ) -> Option<Work>
     requires { pass.old.bench ≡ bench.now }
-    ensures some { IfSome result (λ work. (place : ℕ) × (pass.new ≡
+    ensures work_picked { IfSome result (λ work. (place : ℕ) × (pass.new ≡
         record pass.old { picked = pass.old.picked ++ (place, work) ∷ [] })) }
-    ensures none { IfNone result (pass.new ≡ pass.old) }
+    ensures nothing_picked { IfNone result (pass.new ≡ pass.old) }
 {
     let work = bench.pick(rt, pass);
     if work.is_some() {
         return work;
     }
     if back_off.is_over() {
-        return bell.rest(rt, bench, pass);
+        return wake_up.pick_or_sleep(rt, bench, pass);
     }
     back_off.wait(rt);
     None
 }
 
 // Executes a job, and hands its result over.
-fn serve<R: Wait, G: Gate>(rt: &R, gate: &G, outbox: &mut Outbox, job: Job<Op>) -> Sent
+fn serve<R: Wait, G: Gate>(rt: &R, gate: &G, outbox: &mut Outbox, job: Job<Op>) -> Receipt
     ensures { result.number ≡ job.number }
 {
     hand_over(rt, outbox, carry_out(gate, job))
 }
 
 // Sends a result. While it is refused, it tries again.
-fn hand_over<R: Wait>(rt: &R, outbox: &mut Outbox, done: Done<Op>) -> Sent
+fn hand_over<R: Wait>(rt: &R, outbox: &mut Outbox, done: Done<Op>) -> Receipt
     ensures { result.number ≡ done.number }
 {
     let mut unsent = done;

@@ -11,7 +11,7 @@ use sb_rows::CUSTOMERS;
 /// The sum of a column's values.
 #[unsafe(no_mangle)]
 pub extern "C" fn kernel_sum(values: &[i64]) -> i64
-    requires few { length values.now ≤ CUSTOMERS }
+    requires limit { length values.now ≤ CUSTOMERS }
     requires within { All IsWithinLimit values.now }
     ensures { result ≡ total values.now }
 {

@@ -8,7 +8,8 @@ use Rattle.sb_calls.specs.declared.call.Call.TheVariants.{Balance, DepositChecki
 use Rattle.sb_calls.specs.declared.reply.Reply.{Reply}
 use Rattle.sb_calls.specs.declared.reply.Reply.TheVariants.{Shown, Done, Penalised, NoCustomer, SameCustomer, Negative, WouldOverdraw, OverLimit}
 use Rattle.sb_rows.specs.Balances.{Balances, IsBalances}
-use Rattle.lane_audit.specs.Audit.{IsBankTotal, IsNetOf, HasAmountWithin}
+use Rattle.lane_audit.specs.Audit.{IsBankTotal}
+use Rattle.lane_audit.specs.inner.NetBounds.{IsPossibleNet, HasAmountWithin}
 use Rattle.lane_audit.specs.Columns.{total}
 use Rattle.lane_audit.proofs.Totals.{IsBounded, total-within}
 
@@ -18,8 +19,8 @@ bank_bounded b h =
     let savings = total-within b.savings (λ k d inside. (h.savings k d inside).within) in
     let checking = total-within b.checking h.checking in
     record {
-      at_least = omega (arith, ints, h.few, h.same, savings.at_least, checking.at_least);
-      at_most = omega (arith, ints, h.few, h.same, savings.at_most, checking.at_most);
+      at_least = omega (arith, ints, h.limit, h.same, savings.at_least, checking.at_least);
+      at_most = omega (arith, ints, h.limit, h.same, savings.at_most, checking.at_most);
     }
 
 pub bounded_total_fits : (z : ℤ) → IsBounded 131072 z → FitsSigned w64 z
@@ -28,7 +29,7 @@ bounded_total_fits z h = omega (arith, ints, h.at_least, h.at_most)
 pub opening_bounded : (cents : ℤ) → IsBankTotal cents → IsBounded 131072 cents
 opening_bounded cents h = subst (IsBounded 131072) (sym h.2) (bank_bounded h.0 h.1)
 
-pub expected_fits : (opening net : ℤ) (n : ℕ) → n ≤ 1000000 → IsBankTotal opening → IsNetOf n net → FitsSigned w64 (opening +ℤ net)
+pub expected_fits : (opening net : ℤ) (n : ℕ) → n ≤ 1000000 → IsBankTotal opening → IsPossibleNet n net → FitsSigned w64 (opening +ℤ net)
 expected_fits opening net n few bank h =
     let bound = opening_bounded opening bank in
     omega (arith, ints, few, bound.at_least, bound.at_most, h.at_least, h.at_most)
@@ -42,10 +43,10 @@ read_sum a b f g h =
 
 -- ---- the changes of calls
 
-nothing : IsNetOf 1 (pos 0)
+nothing : IsPossibleNet 1 (pos 0)
 nothing = record { at_least = omega (arith, ints); at_most = omega (arith, ints) }
 
-done_within : (amount : ℤ) (reply : Reply) → IsWithinLimit amount → IsNetOf 1 (net_if_done amount reply)
+done_within : (amount : ℤ) (reply : Reply) → IsWithinLimit amount → IsPossibleNet 1 (net_if_done amount reply)
 done_within amount Done h = record { at_least = omega (arith, ints, h.at_least); at_most = omega (arith, ints, h.at_most) }
 done_within amount (Shown _) h = nothing
 done_within amount Penalised h = nothing
@@ -55,7 +56,7 @@ done_within amount Negative h = nothing
 done_within amount WouldOverdraw h = nothing
 done_within amount OverLimit h = nothing
 
-paid_within : (amount : ℤ) (reply : Reply) → IsWithinLimit amount → IsNetOf 1 (net_if_paid amount reply)
+paid_within : (amount : ℤ) (reply : Reply) → IsWithinLimit amount → IsPossibleNet 1 (net_if_paid amount reply)
 paid_within amount Done h = record { at_least = omega (arith, ints, h.at_most); at_most = omega (arith, ints, h.at_least) }
 paid_within amount Penalised h = record { at_least = omega (arith, ints, h.at_most); at_most = omega (arith, ints, h.at_least) }
 paid_within amount (Shown _) h = nothing
@@ -65,7 +66,7 @@ paid_within amount Negative h = nothing
 paid_within amount WouldOverdraw h = nothing
 paid_within amount OverLimit h = nothing
 
-pub net_within : (call : Call) (reply : Reply) → HasAmountWithin call → IsNetOf 1 (net_of call reply)
+pub net_within : (call : Call) (reply : Reply) → HasAmountWithin call → IsPossibleNet 1 (net_of call reply)
 net_within (Balance name) reply h = nothing
 net_within (DepositChecking name amount) reply h = done_within amount reply h
 net_within (TransactSavings name amount) reply h = done_within amount reply h
@@ -89,8 +90,8 @@ net_sum_more calls replies i call e left right here is =
     ap (λ z. net_sum (take i calls) (take i replies) +ℤ z) (is ∙ ap (λ x. net_of x (get_or replies i e)) here)
     ∙ net_sum-suc calls replies i call e left right ∙ ap (λ n. net_sum (take n calls) (take n replies)) next
 
-pub within_more : (n : ℕ) (sum net : ℤ) → IsNetOf n sum → IsNetOf 1 net → IsNetOf (n + 1) (sum +ℤ net)
+pub within_more : (n : ℕ) (sum net : ℤ) → IsPossibleNet n sum → IsPossibleNet 1 net → IsPossibleNet (n + 1) (sum +ℤ net)
 within_more n sum net h one = record { at_least = omega (arith, ints, h.at_least, one.at_least); at_most = omega (arith, ints, h.at_most, one.at_most) }
 
-pub net_fits : (n : ℕ) (z : ℤ) → n ≤ 1000000 → IsNetOf n z → FitsSigned w64 z
+pub net_fits : (n : ℕ) (z : ℤ) → n ≤ 1000000 → IsPossibleNet n z → FitsSigned w64 z
 net_fits n z few h = omega (arith, ints, few, h.at_least, h.at_most)

@@ -31,6 +31,6 @@ fits_chunks P n (suc k) xs fits = (All-take P n xs fits, fits_chunks P n k (drop
 pub blocks_fit : (P : ℤ → Type 0) (n k : ℕ) (xs : List ℤ) → All P xs → All (All P) (first_chunks n k xs)
 blocks_fit P n k xs fits i d inside = Each1-get_or (All P) (first_chunks n k xs) i d inside (fits_chunks P n k xs fits)
 
-pub length-first_chunks : (n k : ℕ) (xs : List ℤ) → length (first_chunks n k xs) ≡ k
+pub length-first_chunks : {X : Type 0} (n k : ℕ) (xs : List X) → length (first_chunks n k xs) ≡ k
 length-first_chunks n zero xs = refl
 length-first_chunks n (suc k) xs = ap suc (length-first_chunks n k (drop n xs))

@@ -1,7 +1,7 @@
 mod Audits
-mod Chunks
+pub mod Chunks
 mod Counts
-mod LaneLemmas
-mod LeastLemmas
+mod LaneBits
+mod LeastDifferences
 mod Positions
 mod Totals

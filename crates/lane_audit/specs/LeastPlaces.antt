@@ -9,5 +9,5 @@ LeastDifference = (left right : List ℤ) (place : ℕ) → length left ≡ leng
     → (take place left ≡ take place right) × (slice_get left place ≢ slice_get right place)
 
 -- if there is no such place, the columns are equal
-abbrev pub EqualWithout : Type 0
-EqualWithout = (left right : List ℤ) → length left ≡ length right → first_difference left right ≡ None → left ≡ right
+abbrev pub EqualWithoutDifference : Type 0
+EqualWithoutDifference = (left right : List ℤ) → length left ≡ length right → first_difference left right ≡ None → left ≡ right

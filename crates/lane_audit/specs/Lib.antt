@@ -1,3 +1,4 @@
 pub mod Audit
 pub mod Columns
 pub mod LeastPlaces
+pub mod inner

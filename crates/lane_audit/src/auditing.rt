@@ -1,7 +1,8 @@
 //! The audit: compares a bank's balances with its calls and replies.
 ghost use Rattle.std.specs.Prelude.{◌≡◌, ◌≤◌, ◌+ℤ◌, pos, length};
 ghost use Rattle.sb_calls.specs.Net.{net_of, net_sum};
-ghost use Rattle.lane_audit.specs.Audit.{HasAmountWithin, IsBankTotal, IsNetOf};
+ghost use Rattle.lane_audit.specs.inner.NetBounds.{HasAmountWithin, IsPossibleNet};
+ghost use Rattle.lane_audit.specs.Audit.{IsBankTotal};
 ghost use Rattle.lane_audit.specs.Columns.{count_below, total};
 
 use crate::books::Audit;
@@ -25,7 +26,7 @@ pub fn bank_total(columns: &Columns) -> i64
 /// cents.
 pub fn audit(columns: &Columns, opening_total: i64, calls: &[Call], replies: &[Reply]) -> Audit
     requires replies { length calls.now ≡ length replies.now }
-    requires few { length calls.now ≤ LOG_CALLS }
+    requires limit { length calls.now ≤ LOG_CALLS }
     requires opening { IsBankTotal opening_total }
     ensures total { result.total ≡ total columns.now.savings +ℤ total columns.now.checking }
     ensures expected { result.expected ≡ opening_total +ℤ net_sum calls.now replies.now }
@@ -41,9 +42,9 @@ pub fn audit(columns: &Columns, opening_total: i64, calls: &[Call], replies: &[R
 // The sum of what all calls, with their replies, add to a bank's total.
 fn net_of_all(calls: &[Call], replies: &[Reply]) -> i64
     requires replies { length calls.now ≡ length replies.now }
-    requires few { length calls.now ≤ LOG_CALLS }
+    requires limit { length calls.now ≤ LOG_CALLS }
     ensures value { result ≡ net_sum calls.now replies.now }
-    ensures within { IsNetOf (length calls.now) result }
+    ensures within { IsPossibleNet (length calls.now) result }
 {
     let mut added = 0;
     for (place, call) in calls.iter().enumerate() {
@@ -55,7 +56,7 @@ fn net_of_all(calls: &[Call], replies: &[Reply]) -> i64
 // What a call, with its reply, adds: at most the limit and the penalty.
 fn net_of_one(call: &Call, reply: Reply) -> i64
     ensures value { result ≡ net_of call.now reply }
-    ensures within { IsNetOf 1 result }
+    ensures within { IsPossibleNet 1 result }
 {
     amount_within(call);
     net(call, reply)

@@ -11,7 +11,7 @@ use std::simd::prelude::*;
 /// The sum of a column. So that it fits, the column may have at most as many values as a bank has
 /// customers, each in the range of a balance.
 pub fn sum(values: &[i64]) -> i64
-    requires few { length values.now ≤ CUSTOMERS }
+    requires limit { length values.now ≤ CUSTOMERS }
     requires within { All IsWithinLimit values.now }
     ensures { result ≡ total values.now }
 {
@@ -26,7 +26,7 @@ pub fn sum(values: &[i64]) -> i64
 
 // The sum of all blocks. No lane overflows in between.
 fn sum_of_blocks(blocks: &[[i64; LANES]]) -> i64
-    requires few { length blocks.now * LANES ≤ CUSTOMERS }
+    requires limit { length blocks.now * LANES ≤ CUSTOMERS }
     requires within { All (All IsWithinLimit) blocks.now }
     ensures { result ≡ total (flat_map (λ block. block) blocks.now) }
 {

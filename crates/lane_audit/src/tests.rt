@@ -23,8 +23,8 @@ fn expect_at(rt: &impl Abort, holds: bool, length: usize) {
 fn column(rt: &impl Abort, alloc: Global, length: usize, places: &[usize], value: i64) -> Vec<i64> {
     let mut values = Vec::new(alloc);
     for place in 0..length {
-        let held = if places.contains(&place) { value } else { 0 };
-        values.push(held).expect(rt, "memory for a value");
+        let at_place = if places.contains(&place) { value } else { 0 };
+        values.push(at_place).expect(rt, "memory for a value");
     }
     values
 }

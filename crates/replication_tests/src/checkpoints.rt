@@ -73,16 +73,16 @@ fn is_refused(
 
 // The contents of a checkpoint.
 #[derive(Clone, Copy)]
-struct Told<'a> {
+struct CheckpointParts<'a> {
     savings: &'a [i64],
     checking: &'a [i64],
     replies: &'a [Reply],
 }
 
-fn says(rt: &impl Abort, checkpoint: &Checkpoint, told: Told<'_>) {
-    assert!(rt; checkpoint.columns().savings() == told.savings);
-    assert!(rt; checkpoint.columns().checking() == told.checking);
-    assert!(rt; checkpoint.replies() == told.replies);
+fn has_parts(rt: &impl Abort, checkpoint: &Checkpoint, parts: CheckpointParts<'_>) {
+    assert!(rt; checkpoint.columns().savings() == parts.savings);
+    assert!(rt; checkpoint.columns().checking() == parts.checking);
+    assert!(rt; checkpoint.replies() == parts.replies);
 }
 
 // Checks that the bytes are read as this checkpoint of a bank with this opening total, and how that
@@ -91,14 +91,14 @@ fn are_read(
     rt: &(impl Abort + AllocGlobal),
     bytes: &[u8],
     opening_total: i64,
-    told: Told<'_>,
+    parts: CheckpointParts<'_>,
     written: &[u8],
 ) {
-    let customers = told.savings.len();
+    let customers = parts.savings.len();
     assert!(rt; customers <= CUSTOMERS);
     let read = read_checkpoint(rt.alloc(), bytes, customers, opening_total);
     let checkpoint = read.expect(rt, "a checkpoint");
-    says(rt, &checkpoint, told);
+    has_parts(rt, &checkpoint, parts);
     let again = write_checkpoint(
         rt.alloc(),
         checkpoint.columns(),

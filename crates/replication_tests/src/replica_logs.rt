@@ -70,7 +70,7 @@ fn runs(rt: &impl Abort, log: &mut ReplicaLog, number: u64) {
     assert!(rt; log.reply(number) == Some(Reply::NoCustomer));
 }
 
-fn tells(rt: &impl Abort, log: &ReplicaLog, checking: Option<[i64; 3]>) {
+fn has_checking(rt: &impl Abort, log: &ReplicaLog, checking: Option<[i64; 3]>) {
     assert!(rt; log.idle() == checking.is_some());
     let columns = log.columns().expect(rt, "memory for columns");
     match checking {
@@ -82,41 +82,41 @@ fn tells(rt: &impl Abort, log: &ReplicaLog, checking: Option<[i64; 3]>) {
     }
 }
 
-fn plays_one(rt: &impl Abort, log: &mut ReplicaLog, place: usize, step: &Step) {
+fn plays_one(rt: &impl Abort, log: &mut ReplicaLog, position: usize, step: &Step) {
     match *step {
         Step::Offer(number, answer, length) => offers(rt, log, number, answer, length),
         Step::OfferUpTo(last) => offers_up_to(rt, log, last),
         Step::OfferSameCustomer(number, answer) => {
-            let told = log.offer_entry(number, Op::SameCustomer);
-            is_so(rt, place, told == Ok(answer));
+            let answered = log.offer_entry(number, Op::SameCustomer);
+            is_so(rt, position, answered == Ok(answer));
         }
         Step::Advance(answer, length) => {
-            is_so(rt, place, log.advance() == Ok(answer));
-            is_so(rt, place, log.length() == length);
+            is_so(rt, position, log.advance() == Ok(answer));
+            is_so(rt, position, log.length() == length);
         }
         Step::Run(number) => runs(rt, log, number),
-        Step::Cut(answer) => is_so(rt, place, log.cut() == answer),
-        Step::CutLength(length) => is_so(rt, place, log.board().cut_length() == length),
+        Step::Cut(answer) => is_so(rt, position, log.cut() == answer),
+        Step::CutLength(length) => is_so(rt, position, log.board().cut_length() == length),
         Step::CutSettled(settled) => {
-            is_so(rt, place, log.board().cut_columns().is_some() == settled);
+            is_so(rt, position, log.board().cut_columns().is_some() == settled);
         }
         Step::DropCut => log.drop_cut(),
         Step::Settled(settled) => {
             is_so(
                 rt,
-                place,
-                log.board().settled_columns().is_some() == settled,
+                position,
+                log.board().final_columns().is_some() == settled,
             );
         }
-        Step::Checking(checking) => tells(rt, log, checking),
-        Step::Reserve(count) => is_so(rt, place, log.reserve(count).is_ok()),
+        Step::Checking(checking) => has_checking(rt, log, checking),
+        Step::Reserve(count) => is_so(rt, position, log.reserve(count).is_ok()),
     }
 }
 
 // Plays the steps on a log over the three, with this many earlier entries.
 fn plays_after(rt: &(impl Abort + AllocGlobal), entries: usize, steps: &[Step]) {
     let mut log = opened_after(rt, entries);
-    for (place, step) in steps.iter().enumerate() {
-        plays_one(rt, &mut log, place, step);
+    for (position, step) in steps.iter().enumerate() {
+        plays_one(rt, &mut log, position, step);
     }
 }

@@ -27,12 +27,12 @@ struct Node {
 // A step on a replica, with its answer.
 #[derive(Clone, Copy)]
 enum Step {
-    // Hears the frame of an entry with this call, with this answer.
-    Hear(u64, &'static str, Heard),
+    // Receives the frame of an entry with this call, with this answer.
+    ReceiveEntry(u64, &'static str, Heard),
     // The next entries up to this number, each with this call, are accepted.
     AcceptUpTo(u64, &'static str),
-    // Hears these bytes, with this answer.
-    HearBytes(&'static [u8], Result<Heard, ReplicaFault>),
+    // Receives these bytes, with this answer.
+    ReceiveBytes(&'static [u8], Result<Heard, ReplicaFault>),
     // Advances to the entry that is held for the next number, with this answer.
     Advance(Option<Heard>),
     // The first ready behaviour has this number, and is out from now on.
@@ -59,9 +59,9 @@ enum Step {
     // Adopts the state of these fields, with this answer.
     Adopt(&'static [&'static str], Result<Adopted, AdoptFault>),
     // The state that the replica has: its length and its fields, or none.
-    Keeps(Option<(u64, &'static [&'static str])>),
+    GivesState(Option<(u64, &'static [&'static str])>),
     // Why it can't give a state, or the length of one.
-    KeepsNone(RestartFault),
+    GivesNoState(RestartFault),
     // The frame with the length of its state.
     HaveFrame(u64),
     // The frames with its length, and with its reply to a number.
@@ -84,7 +84,7 @@ fn opened_over(rt: &(impl Abort + AllocGlobal), stored: Option<&[u8]>) -> Box<No
     Box::new(rt.alloc(), node).expect(rt, "memory for a node")
 }
 
-fn hears<S: CheckpointStore>(
+fn receives<S: CheckpointStore>(
     rt: &impl Abort,
     replica: &mut Replica<S>,
     number: u64,
@@ -98,7 +98,7 @@ fn hears<S: CheckpointStore>(
 
 fn accepts_up_to(rt: &impl Abort, replica: &mut Replica<MemoryStore>, last: u64, line: &str) {
     for number in replica.length() + 1..last.saturating_add(1) {
-        hears(rt, replica, number, line, Heard::Accepted(number));
+        receives(rt, replica, number, line, Heard::Accepted(number));
         assert!(rt; replica.length() == number);
     }
 }
@@ -148,12 +148,12 @@ fn ends(rt: &impl Abort, replica: &Replica<MemoryStore>, length: u64, checking: 
     assert!(rt; columns.checking() == checking.as_slice());
 }
 
-fn holds(
+fn store_contains(
     rt: &(impl Abort + AllocGlobal),
     replica: &mut Replica<MemoryStore>,
     fields: Option<&[&str]>,
 ) {
-    let stored = replica.stored().expect(rt, "memory for the bytes");
+    let stored = replica.store_content().expect(rt, "memory for the bytes");
     let written = fields.map(|fields| bytes(rt, fields));
     assert!(rt; stored == written);
 }
@@ -170,63 +170,73 @@ fn restarts_so(
     }
 }
 
-fn keeps(
+fn gives_state(
     rt: &(impl Abort + AllocGlobal),
     replica: &mut Replica<MemoryStore>,
     state: Option<(u64, &[&str])>,
 ) {
-    let kept = replica.kept_state().expect(rt, "no state is told");
+    let answer = replica.kept_state().expect(rt, "the state isn't read");
     match state {
-        None => assert!(rt; kept.is_none()),
+        None => assert!(rt; answer.is_none()),
         Some((size, fields)) => {
-            let (length, told) = kept.expect(rt, "no state is kept");
+            let (length, content) = answer.expect(rt, "there is no state");
             assert!(rt; length == size);
-            assert!(rt; told == bytes(rt, fields));
+            assert!(rt; content == bytes(rt, fields));
         }
     }
 }
 
-fn tells_have<S: CheckpointStore>(rt: &impl Abort, replica: &mut Replica<S>, length: u64) {
-    let frame = replica.have_frame().expect(rt, "no length is told");
+fn sends_have<S: CheckpointStore>(rt: &impl Abort, replica: &mut Replica<S>, length: u64) {
+    let frame = replica.have_frame().expect(rt, "no length is read");
     assert!(rt; frame == Frame::Have { replica: 1, length });
 }
 
-fn keeps_none(rt: &impl Abort, replica: &mut Replica<MemoryStore>, fault: RestartFault) {
+fn gives_no_state(rt: &impl Abort, replica: &mut Replica<MemoryStore>, fault: RestartFault) {
     assert!(rt; replica.kept_state().err() == Some(fault));
     assert!(rt; replica.have_frame().err() == Some(fault));
 }
 
-fn plays_one(rt: &(impl Abort + AllocGlobal), node: &mut Node, place: usize, step: &Step) {
+fn plays_one(rt: &(impl Abort + AllocGlobal), node: &mut Node, position: usize, step: &Step) {
     match *step {
-        Step::Hear(number, line, heard) => hears(rt, &mut node.replica, number, line, heard),
+        Step::ReceiveEntry(number, line, heard) => receives(
+            rt,
+            &mut node.replica,
+            number,
+            line,
+            heard,
+        ),
         Step::AcceptUpTo(last, line) => accepts_up_to(rt, &mut node.replica, last, line),
-        Step::HearBytes(bytes, answer) => {
-            is_so(rt, place, node.replica.on_frame(bytes) == answer);
+        Step::ReceiveBytes(bytes, answer) => {
+            is_so(rt, position, node.replica.on_frame(bytes) == answer);
         }
-        Step::Advance(heard) => is_so(rt, place, node.replica.advance() == Ok(heard)),
+        Step::Advance(heard) => is_so(rt, position, node.replica.advance() == Ok(heard)),
         Step::Take(number) => takes(rt, node, number),
         Step::Finish(reply) => finishes(rt, node, reply),
         Step::ComeBack => comes_back(rt, node),
         Step::Run(number, reply) => runs(rt, &mut node.replica, number, reply),
         Step::ReplyTo(number, reply) => {
-            is_so(rt, place, node.replica.reply(number) == reply);
+            is_so(rt, position, node.replica.reply(number) == reply);
         }
         Step::Ends(length, checking) => ends(rt, &node.replica, length, checking),
-        Step::Length(length) => is_so(rt, place, node.replica.length() == length),
-        Step::Cut(answer) => is_so(rt, place, node.replica.cut() == answer),
+        Step::Length(length) => is_so(rt, position, node.replica.length() == length),
+        Step::Cut(answer) => is_so(rt, position, node.replica.cut() == answer),
         Step::Tell(how) => node.replica.tell(how),
-        Step::Mark(answer) => is_so(rt, place, node.replica.mark() == answer),
-        Step::Stored(fields) => holds(rt, &mut node.replica, fields),
+        Step::Mark(answer) => is_so(rt, position, node.replica.mark() == answer),
+        Step::Stored(fields) => store_contains(rt, &mut node.replica, fields),
         Step::Restart(answer) => restarts_so(rt, &mut node.replica, answer),
         Step::Adopt(fields, answer) => {
-            is_so(rt, place, node.replica.adopt(&bytes(rt, fields)) == answer);
+            is_so(
+                rt,
+                position,
+                node.replica.adopt(&bytes(rt, fields)) == answer,
+            );
         }
-        Step::Keeps(state) => keeps(rt, &mut node.replica, state),
-        Step::KeepsNone(fault) => keeps_none(rt, &mut node.replica, fault),
-        Step::HaveFrame(length) => tells_have(rt, &mut node.replica, length),
-        Step::AckFrame(frame) => is_so(rt, place, node.replica.ack_frame() == frame),
+        Step::GivesState(state) => gives_state(rt, &mut node.replica, state),
+        Step::GivesNoState(fault) => gives_no_state(rt, &mut node.replica, fault),
+        Step::HaveFrame(length) => sends_have(rt, &mut node.replica, length),
+        Step::AckFrame(frame) => is_so(rt, position, node.replica.ack_frame() == frame),
         Step::AnswerFrame(number, frame) => {
-            is_so(rt, place, node.replica.answer_frame(number) == frame);
+            is_so(rt, position, node.replica.answer_frame(number) == frame);
         }
     }
 }
@@ -234,8 +244,8 @@ fn plays_one(rt: &(impl Abort + AllocGlobal), node: &mut Node, place: usize, ste
 // Plays the steps on a replica whose store already holds these bytes.
 fn plays_over(rt: &(impl Abort + AllocGlobal), stored: Option<&[u8]>, steps: &[Step]) {
     let mut node = opened_over(rt, stored);
-    for (place, step) in steps.iter().enumerate() {
-        plays_one(rt, &mut node, place, step);
+    for (position, step) in steps.iter().enumerate() {
+        plays_one(rt, &mut node, position, step);
     }
 }
 

@@ -9,20 +9,20 @@ mod memory;
 mod pairs;
 
 // Checks that the store holds these bytes, and no fewer, more or other ones.
-fn holds<S: CheckpointStore>(rt: &impl Abort, store: &mut S, bytes: &[u8]) {
+fn has_content<S: CheckpointStore>(rt: &impl Abort, store: &mut S, bytes: &[u8]) {
     let held = store.get().expect(rt, "a get fails");
     let held = held.expect(rt, "nothing is held");
     assert!(rt; held.as_slice() == bytes);
-    assert!(rt; store.holds(bytes) == Ok(true));
-    assert!(rt; store.holds(b"fir") == Ok(false));
-    assert!(rt; store.holds(b"some bytes more") == Ok(false));
-    assert!(rt; store.holds(b"others") == Ok(false));
+    assert!(rt; store.has_content(bytes) == Ok(true));
+    assert!(rt; store.has_content(b"fir") == Ok(false));
+    assert!(rt; store.has_content(b"some bytes more") == Ok(false));
+    assert!(rt; store.has_content(b"others") == Ok(false));
 }
 
 fn holds_nothing<S: CheckpointStore>(rt: &impl Abort, store: &mut S) {
     let held = store.get().expect(rt, "a get fails");
     assert!(rt; held.is_none());
-    assert!(rt; store.holds(b"") == Ok(false));
+    assert!(rt; store.has_content(b"") == Ok(false));
 }
 
 // Checks how a put ends, and how often the store's device has failed by then.

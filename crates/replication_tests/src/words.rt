@@ -1,14 +1,14 @@
 //! The numbers and the words of the faults.
 use sb_checkpoint::{CheckpointFault, StoreFault};
 use sb_frames::{FrameFault, StreamFault};
-use sb_replica::{AdoptFault, HearingFault, MarkFault, ReplicaFault, RestartFault};
+use sb_replica::{AdoptFault, MarkFault, ReceiveFault, ReplicaFault, RestartFault};
 use std::fmt::Display;
 use std::process::Abort;
 
 // Checks the text of a fault.
-fn says(rt: &(impl Abort + AllocGlobal), fault: impl Display + Drop, words: &str) {
-    let told = fault.to_string(rt.alloc()).expect(rt, "memory for a text");
-    assert!(rt; told.as_str() == words);
+fn has_text(rt: &(impl Abort + AllocGlobal), fault: impl Display + Drop, words: &str) {
+    let text = fault.to_string(rt.alloc()).expect(rt, "memory for a text");
+    assert!(rt; text.as_str() == words);
 }
 
 #[test]
@@ -26,7 +26,7 @@ fn numbers_and_words_of_a_checkpoints_faults(rt: HostRuntime) {
         (CheckpointFault::WrongOpening, 10, "wrong opening"),
     ] {
         assert!(rt; fault.number() == number, "{words}");
-        says(&rt, fault, words);
+        has_text(&rt, fault, words);
     }
 }
 
@@ -37,7 +37,7 @@ fn numbers_and_words_of_a_stores_faults(rt: HostRuntime) {
         (StoreFault::OutOfMemory, 2, "out of memory"),
     ] {
         assert!(rt; fault.number() == number, "{words}");
-        says(&rt, fault, words);
+        has_text(&rt, fault, words);
     }
 }
 
@@ -52,18 +52,18 @@ fn numbers_and_words_of_a_replicas_faults(rt: HostRuntime) {
         (ReplicaFault::OutOfMemory, 2, "out of memory"),
     ] {
         assert!(rt; fault.number() == number, "{words}");
-        says(&rt, fault, words);
+        has_text(&rt, fault, words);
     }
 }
 
 #[test]
 fn numbers_and_words_of_a_streams_faults(rt: HostRuntime) {
     for (fault, number, words) in [
-        (HearingFault::Stream(StreamFault::Failed), 1, "failed"),
-        (HearingFault::OutOfMemory, 2, "out of memory"),
+        (ReceiveFault::Stream(StreamFault::Failed), 1, "failed"),
+        (ReceiveFault::OutOfMemory, 2, "out of memory"),
     ] {
         assert!(rt; fault.number() == number, "{words}");
-        says(&rt, fault, words);
+        has_text(&rt, fault, words);
     }
 }
 
@@ -75,7 +75,7 @@ fn numbers_and_words_of_a_marks_faults(rt: HostRuntime) {
         (MarkFault::OutOfMemory, 3, "out of memory"),
     ] {
         assert!(rt; fault.number() == number, "{words}");
-        says(&rt, fault, words);
+        has_text(&rt, fault, words);
     }
 }
 
@@ -91,7 +91,7 @@ fn numbers_and_words_of_a_restarts_faults(rt: HostRuntime) {
         (RestartFault::OutOfMemory, 3, "out of memory"),
     ] {
         assert!(rt; fault.number() == number, "{words}");
-        says(&rt, fault, words);
+        has_text(&rt, fault, words);
     }
 }
 
@@ -106,6 +106,6 @@ fn numbers_and_words_of_an_adoptions_faults(rt: HostRuntime) {
         (AdoptFault::OutOfMemory, 2, "out of memory"),
     ] {
         assert!(rt; fault.number() == number, "{words}");
-        says(&rt, fault, words);
+        has_text(&rt, fault, words);
     }
 }

@@ -1,6 +1,6 @@
 //! A board of ops over three customers, driven step by step.
 ghost use Rattle.std.specs.Prelude.{◌≡◌, ◌<◌, ◌*◌, length, IfSome};
-ghost use Rattle.sb_calls.specs.Cowns.{held_of};
+ghost use Rattle.sb_calls.specs.Cowns.{contents_of};
 
 use cown_board::{Board, CutFault, Done, Job, OPEN_BEHAVIOURS, SubmitFault, Turn, take_turn};
 use cown_workers::Crew;
@@ -13,14 +13,14 @@ pub(crate) const OPENING: &str = "alice 100.00 50.00\nbob 0.00 20.00\ncarol 10.0
 
 // A board over the columns of an opening, with the replies to the numbers before it, and the
 // customers' names.
-#[tactic(auto, using(sb_calls::proofs::Holding::two_cowns_a_customer))]
+#[tactic(auto, using(sb_calls::proofs::CownColumns::two_cowns_a_customer))]
 pub(crate) fn open_board<B: Behaviour>(
     rt: &impl Abort,
     alloc: Global,
     opening: &str,
     replies: Vec<Reply>,
 ) -> (Box<Board<B>>, Directory)
-    ensures { length (held_of result.0.value.opening) ≡ 2 * length result.1 }
+    ensures { length (contents_of result.0.value.opening) ≡ 2 * length result.1 }
 {
     assert!(rt; replies.len() <= LOG_CALLS);
     let base = replies.len() as u64;
@@ -42,7 +42,7 @@ pub(crate) fn board_of(rt: &impl Abort, alloc: Global, lines: &[&str]) -> Box<Bo
 }
 
 fn submit_all(rt: &impl Abort, board: &mut Board<Op>, directory: &Directory, lines: &[&str])
-    requires { length (held_of board.old.opening) ≡ 2 * length directory.now }
+    requires { length (contents_of board.old.opening) ≡ 2 * length directory.now }
 {
     for line in lines {
         let call = read_call(line.as_bytes()).expect(rt, "a call");
@@ -73,7 +73,7 @@ pub(crate) struct Bank {
     directory: Directory,
     // The jobs that were handed out and haven't come back.
     out: Vec<Job<Op>>,
-    ghost places: { length (held_of board.value.opening) ≡ 2 * length directory },
+    ghost places: { length (contents_of board.value.opening) ≡ 2 * length directory },
 }
 
 impl Bank {
@@ -146,13 +146,13 @@ impl Bank {
 
     // Executes the job that is out with this number.
     pub(crate) fn carry_out(&mut self, rt: &impl Abort, number: u64) -> Done<Op> {
-        let place = self.place_of(number).expect(rt, "a job with the number");
-        self.out.remove(place).run()
+        let position = self.position_of(number).expect(rt, "a job with the number");
+        self.out.remove(position).run()
     }
 
     // The place of the job with a number among those that are out.
-    fn place_of(&self, number: u64) -> Option<usize>
-        ensures { IfSome result (λ place. place < length self.now.out.items) }
+    fn position_of(&self, number: u64) -> Option<usize>
+        ensures { IfSome result (λ position. position < length self.now.out.items) }
     {
         self.out.iter().position(|job| job.number() == number)
     }
@@ -167,9 +167,9 @@ impl Bank {
 
     // A result is given back, and nothing that can be read from the board changes.
     pub(crate) fn gives_back(&mut self, rt: &impl Abort, done: Done<Op>, number: u64) {
-        let before = self.told();
+        let before = self.visible_state();
         assert!(rt; self.finish(done) == Err(number), "{number}");
-        assert!(rt; self.told() == before, "{number}");
+        assert!(rt; self.visible_state() == before, "{number}");
     }
 
     // The reply, or the number of the result that is given back.
@@ -177,7 +177,7 @@ impl Bank {
         self.board.finish(done).map_err(|back| back.number())
     }
 
-    fn told(&self) -> (u64, bool, Option<Reply>, Option<Reply>) {
+    fn visible_state(&self) -> (u64, bool, Option<Reply>, Option<Reply>) {
         let board = &self.board;
         (board.length(), board.idle(), board.reply(1), board.reply(2))
     }
@@ -213,7 +213,7 @@ impl Bank {
     // Checks that nothing is unfinished, and that these are the balances.
     pub(crate) fn ends_with(&self, rt: &impl Abort, savings: [i64; 3], checking: [i64; 3]) {
         assert!(rt; self.idle());
-        assert!(rt; holds(&self.board, savings, checking));
+        assert!(rt; has_balances(&self.board, savings, checking));
     }
 
     // Makes a cut, at the board's length.
@@ -241,7 +241,7 @@ impl Bank {
     // The columns of the cut are those of another board.
     pub(crate) fn has_cut_of(&self, rt: &impl Abort, other: &Bank) {
         let cut = self.board.cut_columns().expect(rt, "a cut");
-        let columns = other.board.settled_columns().expect(rt, "columns");
+        let columns = other.board.final_columns().expect(rt, "columns");
         assert!(rt; are_same(cut, columns));
     }
 
@@ -263,8 +263,8 @@ pub(crate) fn replies(board: &Board<Op>, wanted: &[Option<Reply>]) -> bool {
 }
 
 // Whether these are the columns of the three. There are none while something is unfinished.
-pub(crate) fn holds(board: &Board<Op>, savings: [i64; 3], checking: [i64; 3]) -> bool {
-    match board.settled_columns() {
+pub(crate) fn has_balances(board: &Board<Op>, savings: [i64; 3], checking: [i64; 3]) -> bool {
+    match board.final_columns() {
         Some(columns) => {
             columns.savings() == savings.as_slice() && columns.checking() == checking.as_slice()
         }
@@ -278,7 +278,7 @@ pub(crate) fn are_same(columns: &Columns, others: &Columns) -> bool {
 
 // Copies the columns after the whole log, if there are any.
 pub(crate) fn copies_its_columns(rt: &impl Abort, board: &Board<Op>) {
-    let settled = board.settled_columns().expect(rt, "columns");
+    let settled = board.final_columns().expect(rt, "columns");
     match board.columns() {
         Ok(Some(columns)) => assert!(rt; are_same(&columns, settled)),
         _ => panic!(rt; "no columns"),

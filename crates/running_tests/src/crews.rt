@@ -8,17 +8,17 @@ use std::alloc::{AllocError, Global};
 
 // Keeps a job until the next one is asked for.
 #[derive(Drop)]
-pub(crate) struct Desk {
+pub(crate) struct OneJobCrew {
     job: Option<Job<Op>>,
 }
 
-impl Desk {
-    pub(crate) fn new() -> Desk {
-        Desk { job: None }
+impl OneJobCrew {
+    pub(crate) fn new() -> OneJobCrew {
+        OneJobCrew { job: None }
     }
 }
 
-impl Crew for Desk {
+impl Crew for OneJobCrew {
     ghost keeps = { true };
 
     ghost acts = { λ old step new. Unit {0} };
@@ -42,21 +42,21 @@ impl Crew for Desk {
 
 // Hands back this many jobs, keeps the next one, and never hands over its result.
 #[derive(Drop)]
-pub(crate) struct Keeper {
+pub(crate) struct StuckCrew {
     lets_go: u32,
     kept: Option<Job<Op>>,
 }
 
-impl Keeper {
-    pub(crate) fn after(lets_go: u32) -> Keeper {
-        Keeper {
+impl StuckCrew {
+    pub(crate) fn after(lets_go: u32) -> StuckCrew {
+        StuckCrew {
             lets_go,
             kept: None,
         }
     }
 }
 
-impl Crew for Keeper {
+impl Crew for StuckCrew {
     ghost keeps = { true };
 
     ghost acts = { λ old step new. Unit {0} };
@@ -84,21 +84,21 @@ impl Crew for Keeper {
 
 // Hands over a result from elsewhere in place of that of the job that it got.
 #[derive(Drop)]
-pub(crate) struct Stranger {
+pub(crate) struct StrangeCrew {
     elsewhere: Option<Done<Op>>,
     job: Option<Job<Op>>,
 }
 
-impl Stranger {
-    pub(crate) fn with(done: Done<Op>) -> Stranger {
-        Stranger {
+impl StrangeCrew {
+    pub(crate) fn with(done: Done<Op>) -> StrangeCrew {
+        StrangeCrew {
             elsewhere: Some(done),
             job: None,
         }
     }
 }
 
-impl Crew for Stranger {
+impl Crew for StrangeCrew {
     ghost keeps = { true };
 
     ghost acts = { λ old step new. Unit {0} };
@@ -119,15 +119,15 @@ impl Crew for Stranger {
 
 // Executes each job as it comes, and hands the results over last first. It reports in which order.
 #[derive(Drop)]
-pub(crate) struct Pile {
+pub(crate) struct LastFirstCrew {
     done: Vec<Done<Op>>,
     handed_over: Vec<u64>,
 }
 
-impl Pile {
+impl LastFirstCrew {
     // A crew that holds up to this many results, and reports as many.
-    pub(crate) fn of(alloc: Global, jobs: usize) -> Result<Pile, AllocError> {
-        Ok(Pile {
+    pub(crate) fn of(alloc: Global, jobs: usize) -> Result<LastFirstCrew, AllocError> {
+        Ok(LastFirstCrew {
             done: Vec::with_capacity(alloc, jobs)?,
             handed_over: Vec::with_capacity(alloc, jobs)?,
         })
@@ -138,7 +138,7 @@ impl Pile {
     }
 }
 
-impl Crew for Pile {
+impl Crew for LastFirstCrew {
     ghost keeps = { true };
 
     ghost acts = { λ old step new. Unit {0} };

@@ -1,6 +1,6 @@
 //! Boards that are drained by crews of one thread.
-use crate::bank::{board_of, holds, replies};
-use crate::crews::{Desk, Keeper, Pile, Stranger};
+use crate::bank::{board_of, has_balances, replies};
+use crate::crews::{LastFirstCrew, OneJobCrew, StrangeCrew, StuckCrew};
 use crate::owners::{Branch, number_drained};
 use cown_board::{Board, OPEN_BEHAVIOURS};
 use cown_workers::{Crew, CrewGone, InlineCrew, drain};
@@ -48,7 +48,7 @@ fn carries_out(
 ) {
     let mut board = board_of(rt, alloc, lines);
     answers(rt, &mut board, crew, wanted);
-    assert!(rt; holds(&board, savings, checking));
+    assert!(rt; has_balances(&board, savings, checking));
     answers(rt, &mut board, crew, wanted);
 }
 
@@ -61,7 +61,7 @@ fn gives_up(
 ) {
     assert!(rt; drain(board, crew) == Err(CrewGone));
     assert!(rt; !board.idle());
-    assert!(rt; board.settled_columns().is_none());
+    assert!(rt; board.final_columns().is_none());
     assert!(rt; replies(board, wanted));
 }
 
@@ -84,14 +84,21 @@ fn an_inline_crew_keeps_nothing(rt: HostRuntime) {
 #[test]
 fn finishes_what_a_crew_hands_over(rt: HostRuntime) {
     let wanted = (SAVINGS, CHECKING);
-    carries_out(&rt, rt.alloc(), &mut Desk::new(), &CALLS, &REPLIES, wanted);
+    carries_out(
+        &rt,
+        rt.alloc(),
+        &mut OneJobCrew::new(),
+        &CALLS,
+        &REPLIES,
+        wanted,
+    );
 }
 
 // The first and the fourth are ready at once; the others wait for one another.
 #[test]
 fn finishes_what_a_crew_hands_over_last_first(rt: HostRuntime) {
     let wanted = (SAVINGS, CHECKING);
-    let mut crew = Pile::of(rt.alloc(), 4).expect(&rt, "memory");
+    let mut crew = LastFirstCrew::of(rt.alloc(), 4).expect(&rt, "memory");
     carries_out(&rt, rt.alloc(), &mut crew, &CALLS, &REPLIES, wanted);
     assert!(rt; crew.handed_over() == [4, 1, 2, 3].as_slice());
 }
@@ -99,7 +106,7 @@ fn finishes_what_a_crew_hands_over_last_first(rt: HostRuntime) {
 #[test]
 fn what_stands_beside_a_board_stays(rt: HostRuntime) {
     let mut branch = Branch::over(7, board_of(&rt, rt.alloc(), &CALLS));
-    assert!(rt; number_drained(&mut branch, &mut Desk::new()) == Ok(7));
+    assert!(rt; number_drained(&mut branch, &mut OneJobCrew::new()) == Ok(7));
     assert!(rt; replies(branch.board(), &REPLIES));
 }
 
@@ -127,7 +134,7 @@ fn answers_refusals_as_replies(rt: HostRuntime) {
 fn an_empty_board_is_drained(rt: HostRuntime) {
     let wanted = ([10_000, 0, 1_000], [5_000, 2_000, 0]);
     carries_out(&rt, rt.alloc(), &mut InlineCrew, &[], &[], wanted);
-    carries_out(&rt, rt.alloc(), &mut Keeper::after(0), &[], &[], wanted);
+    carries_out(&rt, rt.alloc(), &mut StuckCrew::after(0), &[], &[], wanted);
 }
 
 // It hands back the deposit and keeps the amalgamation, so the balance of bob isn't shown.
@@ -135,7 +142,7 @@ fn an_empty_board_is_drained(rt: HostRuntime) {
 fn a_crew_that_keeps_a_job_leaves_what_was_finished(rt: HostRuntime) {
     let mut board = board_of(&rt, rt.alloc(), &CALLS);
     let wanted = [Some(Reply::Done), None, None, Some(Reply::Shown(1_000))];
-    gives_up(&rt, &mut board, &mut Keeper::after(1), &wanted);
+    gives_up(&rt, &mut board, &mut StuckCrew::after(1), &wanted);
     // What is out stays out: no crew can help.
     gives_up(&rt, &mut board, &mut InlineCrew, &wanted);
 }
@@ -148,16 +155,16 @@ fn what_comes_from_another_board_is_refused(rt: HostRuntime) {
 }
 
 // A crew that hands over the result of another board's op.
-fn stranger(rt: &impl Abort, alloc: Global) -> Stranger {
+fn stranger(rt: &impl Abort, alloc: Global) -> StrangeCrew {
     let mut other = board_of(rt, alloc, &["balance carol"]);
     let job = other.take_at(0).expect(rt, "a ready one");
-    Stranger::with(job.run())
+    StrangeCrew::with(job.run())
 }
 
 #[test]
 fn drains_as_many_as_a_board_takes(rt: HostRuntime) {
     drains_a_full_board(&rt, rt.alloc(), &mut InlineCrew);
-    drains_a_full_board(&rt, rt.alloc(), &mut Desk::new());
+    drains_a_full_board(&rt, rt.alloc(), &mut OneJobCrew::new());
 }
 
 // Each waits for the one before it, and brings bob a cent.

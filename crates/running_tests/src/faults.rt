@@ -5,14 +5,14 @@ use std::alloc::AllocError;
 use std::process::Abort;
 
 // Checks a fault's number and its text.
-fn is_told(
+fn is_reported(
     rt: &impl Abort,
-    (number, told): (u8, Result<String, AllocError>),
+    (number, text): (u8, Result<String, AllocError>),
     wanted: u8,
     words: &str,
 ) {
     assert!(rt; number == wanted, "{words}");
-    assert!(rt; told.expect(rt, "memory").as_str() == words, "{words}");
+    assert!(rt; text.expect(rt, "memory").as_str() == words, "{words}");
 }
 
 #[test]
@@ -22,8 +22,8 @@ fn faults_of_a_submit(rt: HostRuntime) {
         (SubmitFault::LogFull, 2, "log full"),
         (SubmitFault::OutOfMemory, 3, "out of memory"),
     ] {
-        let told = fault.to_string(rt.alloc());
-        is_told(&rt, (fault.number(), told), number, words);
+        let text = fault.to_string(rt.alloc());
+        is_reported(&rt, (fault.number(), text), number, words);
     }
 }
 
@@ -33,8 +33,8 @@ fn faults_of_a_cut(rt: HostRuntime) {
         (CutFault::Pending(7), 1, "pending 7"),
         (CutFault::OutOfMemory, 2, "out of memory"),
     ] {
-        let told = fault.to_string(rt.alloc());
-        is_told(&rt, (fault.number(), told), number, words);
+        let text = fault.to_string(rt.alloc());
+        is_reported(&rt, (fault.number(), text), number, words);
     }
 }
 
@@ -44,7 +44,7 @@ fn faults_of_a_crew(rt: HostRuntime) {
         (CrewFault::CrewGone, 1, "crew gone"),
         (CrewFault::OutOfMemory, 2, "out of memory"),
     ] {
-        let told = fault.to_string(rt.alloc());
-        is_told(&rt, (fault.number(), told), number, words);
+        let text = fault.to_string(rt.alloc());
+        is_reported(&rt, (fault.number(), text), number, words);
     }
 }

@@ -1,4 +1,4 @@
-//! Gates that report what they heard.
+//! Gates that report how they were called.
 ghost use Rattle.std.specs.Prelude.{◌≡◌, true};
 
 use cown_workers::Gate;
@@ -14,13 +14,13 @@ pub(crate) const A_WHILE: u32 = 100_000;
 // The first two jobs each wait until the other one is about to be executed. If they were executed
 // one after another, the first would wait in vain, and give up.
 #[derive(Default, Drop)]
-pub(crate) struct Meeting {
+pub(crate) struct Rendezvous {
     first: AtomicBool,
     second: AtomicBool,
     gave_up: AtomicBool,
 }
 
-impl Meeting {
+impl Rendezvous {
     // Whether both came, and neither gave up.
     pub(crate) fn took_place(&self) -> bool {
         was(&self.first) && was(&self.second) && !was(&self.gave_up)
@@ -34,7 +34,7 @@ impl Meeting {
     }
 }
 
-impl Gate for Meeting {
+impl Gate for Rendezvous {
     fn before(&self, number: u64) {
         match number {
             1 => self.comes(&self.first, &self.second),
@@ -50,24 +50,24 @@ fn was(flag: &AtomicBool) -> bool {
     flag.load(Ordering::SeqCst)
 }
 
-// Hears of the jobs numbered from 1 to 4: of each once before it is executed, and once after that.
+// Is called for the jobs numbered from 1 to 4: once before each is executed, and once after that.
 #[derive(Default, Drop)]
-pub(crate) struct Ear {
-    // How often it has heard of each number. There is no job 0.
-    heard: [AtomicU64; 5],
+pub(crate) struct CallOrder {
+    // How often it was called for each number. There is no job 0.
+    calls: [AtomicU64; 5],
     out_of_turn: AtomicBool,
 }
 
-impl Ear {
-    pub(crate) fn heard_of_each_in_turn(&self) -> bool {
-        let heard = self.heard.iter().map(|times| times.load(Ordering::SeqCst));
-        heard.eq([0, 2, 2, 2, 2]) && !was(&self.out_of_turn)
+impl CallOrder {
+    pub(crate) fn called_in_order(&self) -> bool {
+        let calls = self.calls.iter().map(|times| times.load(Ordering::SeqCst));
+        calls.eq([0, 2, 2, 2, 2]) && !was(&self.out_of_turn)
     }
 
-    // It has heard of this number this often before, and now once more.
-    fn hears(&self, number: u64, before: u64, now: u64) {
-        let in_turn = match self.heard.get(number as usize) {
-            Some(heard) => heard
+    // It was called for this number this often before, and now once more.
+    fn count_call(&self, number: u64, before: u64, now: u64) {
+        let in_turn = match self.calls.get(number as usize) {
+            Some(calls) => calls
                 .compare_exchange(before, now, Ordering::SeqCst, Ordering::SeqCst)
                 .is_ok(),
             None => false,
@@ -78,21 +78,21 @@ impl Ear {
     }
 }
 
-impl Gate for Ear {
+impl Gate for CallOrder {
     fn before(&self, number: u64) {
-        self.hears(number, 0, 1);
+        self.count_call(number, 0, 1);
     }
 
     fn after(&self, number: u64) {
-        self.hears(number, 1, 2);
+        self.count_call(number, 1, 2);
     }
 }
 
 // Another gate, except that the owner comes through it too.
 #[derive(Clone, Copy)]
-pub(crate) struct Admitting<'a, G>(pub(crate) &'a G);
+pub(crate) struct OwnerAdmittingGate<'a, G>(pub(crate) &'a G);
 
-impl<'a, G: Gate> Gate for Admitting<'a, G> {
+impl<'a, G: Gate> Gate for OwnerAdmittingGate<'a, G> {
     ghost admits = { λ gate. true };
 
     fn admits_owner(&self) -> bool {
@@ -110,16 +110,16 @@ impl<'a, G: Gate> Gate for Admitting<'a, G> {
 
 // Holds each job until this many have come, or for this many turns.
 #[derive(Drop)]
-pub(crate) struct Crowd {
+pub(crate) struct Barrier {
     wanted: u64,
     turns: u32,
     came: AtomicU64,
     gave_up: AtomicBool,
 }
 
-impl Crowd {
-    pub(crate) fn of(wanted: u64, turns: u32) -> Crowd {
-        Crowd {
+impl Barrier {
+    pub(crate) fn of(wanted: u64, turns: u32) -> Barrier {
+        Barrier {
             wanted,
             turns,
             came: AtomicU64::new(0),
@@ -137,7 +137,7 @@ impl Crowd {
     }
 }
 
-impl Gate for Crowd {
+impl Gate for Barrier {
     fn before(&self, _number: u64) {
         self.came.fetch_add(1, Ordering::SeqCst);
         for _ in 0..self.turns {
@@ -155,16 +155,16 @@ impl Gate for Crowd {
 // Holds the second job until the owner opens it. It holds the first one for a while, in which the
 // second would come if there were a thread for it.
 #[derive(Default, Drop)]
-pub(crate) struct Door {
+pub(crate) struct SecondJobLatch {
     first: AtomicBool,
     second: AtomicBool,
     open: AtomicBool,
     gave_up: AtomicBool,
 }
 
-impl Door {
+impl SecondJobLatch {
     // Waits until the first job is held.
-    pub(crate) fn holds_the_first(&self) -> bool {
+    pub(crate) fn has_the_first(&self) -> bool {
         comes_true(&self.first, TURNS)
     }
 
@@ -178,7 +178,7 @@ impl Door {
     }
 }
 
-impl Gate for Door {
+impl Gate for SecondJobLatch {
     fn before(&self, number: u64) {
         if number == 1 {
             self.first.store(true, Ordering::SeqCst);

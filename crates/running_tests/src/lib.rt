@@ -30,7 +30,7 @@ mod picks;
 #[cfg(test)]
 mod readiness;
 #[cfg(test)]
-mod rests;
+mod sleeps;
 #[cfg(test)]
 mod threads;
 #[cfg(test)]

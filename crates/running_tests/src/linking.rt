@@ -22,7 +22,7 @@ fn an_idle_board_hands_nothing_out(rt: HostRuntime) {
     bank.ends_with(&rt, [10_000, 0, 1_000], [5_003, 2_000, 0]);
 }
 
-// The first is out where it waited, and isn't handed out again; the third is handed out beside it.
+// The first is out where it waited, and isn't handed out again; the third is handed out with it.
 #[test]
 fn what_is_out_is_not_handed_out_again(rt: HostRuntime) {
     let mut bank = Bank::open(&rt, rt.alloc());
@@ -144,7 +144,7 @@ const CALLS: [(&str, u8); 6] = [
 
 // The state of a call in a schedule.
 #[derive(Clone, Copy, PartialEq, Eq)]
-enum Place {
+enum CallState {
     Waiting,
     Out,
     Finished,
@@ -155,7 +155,7 @@ enum Place {
 struct Entry {
     line: &'static str,
     cowns: u8,
-    place: Place,
+    state: CallState,
 }
 
 impl Entry {
@@ -171,17 +171,17 @@ impl Entry {
 // The number that has this many ready ones before it: each that waits is compared with all
 // unfinished ones before it.
 fn ready_at(entries: &[Entry], index: usize) -> Option<u64> {
-    let mut held = 0;
+    let mut taken_cowns = 0;
     let mut before = index;
     for (entry, number) in entries.iter().zip(1..) {
-        if entry.place == Place::Waiting && entry.cowns & held == 0 {
+        if entry.state == CallState::Waiting && entry.cowns & taken_cowns == 0 {
             if before == 0 {
                 return Some(number);
             }
             before -= 1;
         }
-        if entry.place != Place::Finished {
-            held |= entry.cowns;
+        if entry.state != CallState::Finished {
+            taken_cowns |= entry.cowns;
         }
     }
     None
@@ -191,11 +191,11 @@ fn ready_at(entries: &[Entry], index: usize) -> Option<u64> {
 fn out_at(entries: &[Entry], index: usize) -> Option<u64> {
     let out = entries
         .iter()
-        .filter(|entry| entry.place == Place::Out)
+        .filter(|entry| entry.state == CallState::Out)
         .count();
     let mut before = index.checked_rem(out)?;
     for (entry, number) in entries.iter().zip(1..) {
-        if entry.place == Place::Out {
+        if entry.state == CallState::Out {
             if before == 0 {
                 return Some(number);
             }
@@ -207,18 +207,18 @@ fn out_at(entries: &[Entry], index: usize) -> Option<u64> {
 
 // A board, and a plain one with the same calls.
 #[derive(Drop)]
-struct Beside {
+struct BoardAndModel {
     bank: Box<Bank>,
     entries: Vec<Entry>,
 }
 
-impl Beside {
-    fn open(rt: &impl Abort, alloc: Global) -> Box<Beside> {
-        let beside = Beside {
+impl BoardAndModel {
+    fn open(rt: &impl Abort, alloc: Global) -> Box<BoardAndModel> {
+        let both = BoardAndModel {
             bank: Bank::open(rt, alloc),
             entries: Vec::new(alloc),
         };
-        Box::new(alloc, beside).expect(rt, "memory")
+        Box::new(alloc, both).expect(rt, "memory")
     }
 
     fn submit(&mut self, rt: &impl Abort, kind: usize) {
@@ -226,7 +226,7 @@ impl Beside {
         let entry = Entry {
             line,
             cowns,
-            place: Place::Waiting,
+            state: CallState::Waiting,
         };
         self.entries.push(entry).expect(rt, "memory");
         let number = self.entries.len() as u64;
@@ -238,7 +238,7 @@ impl Beside {
         match ready_at(&self.entries, index) {
             Some(number) => {
                 self.bank.plays(rt, &[Step::Take(index, number)]);
-                self.moves(rt, number, Place::Out);
+                self.moves(rt, number, CallState::Out);
             }
             None => self.bank.plays(rt, &[Step::TakeNone(index)]),
         }
@@ -249,17 +249,17 @@ impl Beside {
         let Some(number) = out_at(&self.entries, index) else {
             return;
         };
-        let reply = self.moves(rt, number, Place::Finished);
+        let reply = self.moves(rt, number, CallState::Finished);
         self.bank.plays(rt, &[Step::Finish(number, reply)]);
     }
 
-    fn moves(&mut self, rt: &impl Abort, number: u64, place: Place) -> Reply {
+    fn moves(&mut self, rt: &impl Abort, number: u64, state: CallState) -> Reply {
         let index = number.checked_sub(1).expect(rt, "a number") as usize;
         let entry = self
             .entries
             .get_mut(index)
             .expect(rt, "a number of the log");
-        entry.place = place;
+        entry.state = state;
         entry.reply()
     }
 
@@ -280,41 +280,41 @@ impl Beside {
 }
 
 // Jobs go one at a time for this many steps, and then in any order.
-fn plays_beside(rt: &impl Abort, beside: &mut Beside, seed: u64, alone: u64) {
+fn plays_both(rt: &impl Abort, both: &mut BoardAndModel, seed: u64, alone: u64) {
     for step in 0..200_u64 {
         let mixed = (seed << 8 | step).wrapping_mul(0x9e37_79b9_7f4a_7c15);
         let bits = (mixed ^ mixed >> 29).wrapping_mul(0xbf58_476d_1ce4_e5b9) >> 40;
-        beside.step(rt, bits, step < alone);
+        both.step(rt, bits, step < alone);
     }
 }
 
-// Everything that is left is run one after another, and the columns are those of the log run in
-// place.
-fn ends_as_one_hand_does(rt: &impl Abort, alloc: Global, beside: &mut Beside) {
+// Everything that is left is run one after another, and the columns are those of a plain run of
+// the log.
+fn ends_as_one_worker_does(rt: &impl Abort, alloc: Global, both: &mut BoardAndModel) {
     let mut alone = Bank::open(rt, alloc);
-    for (entry, number) in beside.entries.iter().zip(1..) {
+    for (entry, number) in both.entries.iter().zip(1..) {
         let steps = [
             Step::Submit(number, entry.line),
             Step::Run(number, entry.reply()),
         ];
         alone.plays(rt, &steps);
     }
-    for _ in 0..beside.entries.len() {
-        beside.finish(rt, 0);
+    for _ in 0..both.entries.len() {
+        both.finish(rt, 0);
     }
-    for _ in 0..beside.entries.len() {
-        beside.take(rt, 0);
-        beside.finish(rt, 0);
+    for _ in 0..both.entries.len() {
+        both.take(rt, 0);
+        both.finish(rt, 0);
     }
-    beside.bank.cuts(rt);
-    beside.bank.has_cut_of(rt, &alone);
+    both.bank.cuts(rt);
+    both.bank.has_cut_of(rt, &alone);
 }
 
 #[test]
 fn whatever_is_asked_a_plain_board_says_the_same(rt: HostRuntime) {
     for seed in 0..40 {
-        let mut beside = Beside::open(&rt, rt.alloc());
-        plays_beside(&rt, &mut beside, seed, seed * 5);
-        ends_as_one_hand_does(&rt, rt.alloc(), &mut beside);
+        let mut both = BoardAndModel::open(&rt, rt.alloc());
+        plays_both(&rt, &mut both, seed, seed * 5);
+        ends_as_one_worker_does(&rt, rt.alloc(), &mut both);
     }
 }

@@ -1,6 +1,6 @@
 //! Behaviours that can't be executed: the board needs only the cowns that they declare.
 ghost use Rattle.std.specs.Prelude.{◌≡◌, ◌+◌, ◌<◌, length};
-ghost use Rattle.sb_calls.specs.Cowns.{held_of};
+ghost use Rattle.sb_calls.specs.Cowns.{contents_of};
 
 use crate::bank::{OPENING, has_no_columns, open_board};
 use arrayvec::ArrayVec;
@@ -29,7 +29,7 @@ impl Model for Look {
 impl Behaviour for Look {
     ghost use Rattle.std.specs.Prelude.{◌+◌, [], ◌∷◌};
     ghost use Rattle.sb_calls.specs.declared.reply.Reply.TheVariants.{Done};
-    ghost use Rattle.sb_calls.specs.Bounds.{next_above};
+    ghost use Rattle.sb_calls.specs.inner.Bounds.{next_above};
     ghost use Rattle.std.proofs.Math.Dec.{lit≤};
     ghost use Rattle.std.proofs.lemmas.Bool.Decides.{Decides-eqb};
 
@@ -39,9 +39,9 @@ impl Behaviour for Look {
 
     ghost rising = { λ look. (next_above look, tt) };
 
-    ghost few = { λ look. lit≤ tt };
+    ghost limit = { λ look. lit≤ tt };
 
-    ghost keeps = { λ look inputs held. held };
+    ghost valid_outputs = { λ look inputs allowed. allowed };
 
     ghost exact = { Decides-eqb };
 
@@ -55,7 +55,7 @@ impl Behaviour for Look {
 
 // A board of looks at the six cowns of the three.
 fn open(rt: &impl Abort, alloc: Global) -> Box<Board<Look>>
-    ensures { length (held_of result.value.opening) ≡ 6 }
+    ensures { length (contents_of result.value.opening) ≡ 6 }
 {
     let (board, directory) = open_board(rt, alloc, OPENING, Vec::new(alloc));
     assert!(rt; directory.len() == 3);
@@ -64,7 +64,7 @@ fn open(rt: &impl Abort, alloc: Global) -> Box<Board<Look>>
 
 // Submits the looks at each of these cowns and the next one, numbered from 1.
 fn submit_looks(rt: &impl Abort, board: &mut Board<Look>, firsts: &[u32])
-    requires { length (held_of board.old.opening) ≡ 6 }
+    requires { length (contents_of board.old.opening) ≡ 6 }
 {
     for (first, number) in firsts.iter().zip(1..) {
         assert!(rt; *first < 5);

@@ -27,9 +27,9 @@ impl Runs for Branch {
 
     ghost board = { λ branch. branch.board.value };
 
-    ghost Beside = { ℕ };
+    ghost Rest = { ℕ };
 
-    ghost beside = { λ branch. branch.number };
+    ghost rest = { λ branch. branch.number };
 
     fn take_at(&mut self, index: usize) -> Option<Job<Op>> {
         self.board.take_at(index)

@@ -13,7 +13,7 @@ const FOUR: [&str; 4] = [
 ];
 
 #[test]
-fn two_hands_run_what_is_ready(rt: HostRuntime) {
+fn two_workers_run_what_is_ready(rt: HostRuntime) {
     let mut bank = Bank::open(&rt, rt.alloc());
     assert!(rt; bank.idle());
     bank.plays(
@@ -211,7 +211,7 @@ fn replies_to_four(rt: &impl Abort, board: &Board<Op>) {
 }
 
 #[test]
-fn one_hand_runs_all_through_the_trait(rt: HostRuntime) {
+fn one_worker_runs_all_through_the_trait(rt: HostRuntime) {
     let mut board = board_of(&rt, rt.alloc(), &FOUR);
     assert!(rt; !is_idle(&*board));
     assert!(rt; run_all(&mut *board) == Ok(4));

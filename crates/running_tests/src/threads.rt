@@ -1,9 +1,9 @@
 //! Crews of threads.
 ghost use Rattle.std.specs.Prelude.{◌≡◌, ◌≤◌};
-ghost use Rattle.cown_board.specs.Board.{open_of};
+ghost use Rattle.cown_board.specs.Board.{unfinished_of};
 
-use crate::bank::{are_same, board_of, give_all, holds};
-use crate::gates::{Admitting, Ear, Meeting};
+use crate::bank::{are_same, board_of, give_all, has_balances};
+use crate::gates::{CallOrder, OwnerAdmittingGate, Rendezvous};
 use cown_board::{Board, OPEN_BEHAVIOURS};
 use cown_workers::{Crew, Gate, InlineCrew, OpenGate, drain, with_crew};
 use sb_calls::Op;
@@ -33,9 +33,9 @@ pub(crate) fn drained<R, G>(
 where
     R: Threads + Wait + Clock + Sync + Abort,
     G: Gate + Sync,
-    requires some { 1 ≤ workers }
-    requires few { workers ≤ 16 }
-    ensures idle { open_of result.value ≡ 0 }
+    requires at_least_one { 1 ≤ workers }
+    requires limit { workers ≤ 16 }
+    ensures idle { unfinished_of result.value ≡ 0 }
 {
     let board = board_of(rt, alloc, lines);
     let answer = with_crew(rt, alloc, workers, gate, move |crew| {
@@ -52,8 +52,8 @@ where
 fn are_alike(rt: &impl Abort, one: &Board<Op>, other: &Board<Op>) {
     assert!(rt; one.length() == other.length());
     assert!(rt; (1..=one.length()).all(|number| one.reply(number) == other.reply(number)));
-    let columns = one.settled_columns().expect(rt, "columns");
-    let others = other.settled_columns().expect(rt, "columns");
+    let columns = one.final_columns().expect(rt, "columns");
+    let others = other.final_columns().expect(rt, "columns");
     assert!(rt; are_same(columns, others));
 }
 
@@ -65,8 +65,8 @@ fn drain_as_one_does<R: Threads + Wait + Clock + Sync + Abort>(
     workers: usize,
     lines: &[&str],
 )
-    requires some { 1 ≤ workers }
-    requires few { workers ≤ 16 }
+    requires at_least_one { 1 ≤ workers }
+    requires limit { workers ≤ 16 }
 {
     let mut alone = board_of(rt, alloc, lines);
     assert!(rt; drain(&mut *alone, &mut InlineCrew).is_ok());
@@ -90,7 +90,7 @@ fn sixteen_workers_drain_what_is_ready_and_what_waits(rt: HostRuntime) {
 #[test]
 fn two_jobs_that_share_nothing_are_out_at_once(rt: HostRuntime) {
     for workers in [2, 16] {
-        let gate = Meeting::default();
+        let gate = Rendezvous::default();
         carry_two_out(&rt, rt.alloc(), workers, &gate);
         assert!(rt; gate.took_place(), "{workers}");
     }
@@ -98,8 +98,8 @@ fn two_jobs_that_share_nothing_are_out_at_once(rt: HostRuntime) {
 
 #[test]
 fn an_owner_that_is_admitted_is_one_more_worker(rt: HostRuntime) {
-    let gate = Meeting::default();
-    carry_two_out(&rt, rt.alloc(), 1, &Admitting(&gate));
+    let gate = Rendezvous::default();
+    carry_two_out(&rt, rt.alloc(), 1, &OwnerAdmittingGate(&gate));
     assert!(rt; gate.took_place());
 }
 
@@ -108,23 +108,23 @@ fn carry_two_out<R, G>(rt: &R, alloc: Global, workers: usize, gate: &G)
 where
     R: Threads + Wait + Clock + Sync + Abort,
     G: Gate + Sync,
-    requires some { 1 ≤ workers }
-    requires few { workers ≤ 16 }
+    requires at_least_one { 1 ≤ workers }
+    requires limit { workers ≤ 16 }
 {
     let lines = ["deposit alice 1.00", "deposit bob 1.00"];
     let board = drained(rt, alloc, workers, gate, &lines);
-    assert!(rt; holds(&board, [10_000, 0, 1_000], [5_100, 2_100, 0]));
+    assert!(rt; has_balances(&board, [10_000, 0, 1_000], [5_100, 2_100, 0]));
 }
 
 #[test]
-fn a_gate_hears_of_each_job_before_and_after_it(rt: HostRuntime) {
-    let gate = Ear::default();
+fn a_gate_is_called_before_and_after_each_job(rt: HostRuntime) {
+    let gate = CallOrder::default();
     let _board = drained(&rt, rt.alloc(), 3, &gate, &LINES[1..]);
-    assert!(rt; gate.heard_of_each_in_turn());
+    assert!(rt; gate.called_in_order());
 }
 
 #[test]
-fn a_crew_that_is_given_nothing_goes_home(rt: HostRuntime) {
+fn a_crew_that_is_given_nothing_ends(rt: HostRuntime) {
     assert!(rt; with_crew(&rt, rt.alloc(), 1, &OpenGate, |_| 7) == Ok(7));
     assert!(rt; with_crew(&rt, rt.alloc(), 16, &OpenGate, |_| 8) == Ok(8));
 }

@@ -1,11 +1,11 @@
 //! Crews whose exchanges are noted.
 ghost use Rattle.std.specs.Prelude.{◌≡◌, ◌≤◌, List, false, length, IsOk, OnOk, MatchResult};
-ghost use Rattle.cown_board.specs.Board.{open_of};
-ghost use Rattle.cown_workers.specs.Draining.{CrewStep, Drains, IsDrained, IsGivenUp, NoneOut};
-ghost use Rattle.cown_workers.specs.Traces.{AreTraced};
+ghost use Rattle.cown_board.specs.Board.{unfinished_of};
+ghost use Rattle.cown_workers.specs.Draining.{CrewStep, PreservesLog, IsDrained, EndsInVain, HasNoneOut};
+ghost use Rattle.cown_workers.specs.Traces.{TracesSteps};
 
 use crate::bank::board_of;
-use crate::crews::{Desk, Keeper, Pile};
+use crate::crews::{LastFirstCrew, OneJobCrew, StuckCrew};
 use cown_board::{Board, Runs};
 use cown_workers::{Crew, CrewGone, InlineCrew, Notice, Traced, drain, notices_of_exchanges};
 use sb_calls::Op;
@@ -15,12 +15,12 @@ use std::process::Abort;
 // Draining by a traced crew keeps what draining keeps, and notes the first 64 of its exchanges.
 fn drain_traced<R: Runs, C: Crew>(runs: &mut R, crew: &mut Traced<C>) -> Result<(), CrewGone>
     requires { length crew.old.notices ≤ 64 }
-    ensures exchanged { (steps : List CrewStep) × (AreTraced C.acts crew.old steps crew.new × MatchResult result
+    ensures exchanged { (steps : List CrewStep) × (TracesSteps C.acts crew.old steps crew.new × MatchResult result
         (λ done. IsDrained (R.board runs.old) steps (R.board runs.new))
-        (λ gone. IsGivenUp (R.board runs.old) steps (R.board runs.new))) }
-    ensures ok { OnOk result (open_of (R.board runs.new) ≡ 0) }
-    ensures log { Drains (R.board runs.old) (R.board runs.new) }
-    ensures sure { C.keeps ≡ false → NoneOut (R.board runs.old) → IsOk result }
+        (λ gone. EndsInVain (R.board runs.old) steps (R.board runs.new))) }
+    ensures ok { OnOk result (unfinished_of (R.board runs.new) ≡ 0) }
+    ensures log { PreservesLog (R.board runs.old) (R.board runs.new) }
+    ensures succeeds { C.keeps ≡ false → HasNoneOut (R.board runs.old) → IsOk result }
 {
     notices_of_exchanges::<C>();
     drain(runs, crew)
@@ -55,11 +55,11 @@ fn what_a_crew_does_is_noted(rt: HostRuntime) {
         Notice::Given(2),
         Notice::Came(2),
     ];
-    are_noted(&rt, rt.alloc(), Desk::new(), &LINES, Ok(()), &kept);
+    are_noted(&rt, rt.alloc(), OneJobCrew::new(), &LINES, Ok(()), &kept);
     // What isn't handed over isn't noted.
     let gone = [Notice::Given(1), Notice::Back(3)];
     let ended = Err(CrewGone);
-    are_noted(&rt, rt.alloc(), Keeper::after(0), &LINES, ended, &gone);
+    are_noted(&rt, rt.alloc(), StuckCrew::after(0), &LINES, ended, &gone);
 }
 
 // This crew keeps each job that it is given, or hands each back. Either way the 65th comes back;
@@ -92,6 +92,6 @@ fn gives(rt: &impl Abort, board: &mut Board<Op>, crew: &mut impl Crew, keeps: bo
 #[test]
 fn a_full_trace_hands_each_job_back(rt: HostRuntime) {
     notes_no_more_than_64(&rt, rt.alloc(), InlineCrew, false);
-    let pile = Pile::of(rt.alloc(), 66).expect(&rt, "memory");
+    let pile = LastFirstCrew::of(rt.alloc(), 66).expect(&rt, "memory");
     notes_no_more_than_64(&rt, rt.alloc(), pile, true);
 }

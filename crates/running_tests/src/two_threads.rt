@@ -13,9 +13,9 @@ use std::thread::{Promise, Threads};
 
 // A worker's thread gives back a pass of this bench.
 #[derive(Clone, Copy)]
-struct Of<'a>(&'a Bench);
+struct PassPromise<'a>(&'a Bench);
 
-impl<'a> Promise<(WorkerPass, Vec<u64>)> for Of<'a> {
+impl<'a> Promise<(WorkerPass, Vec<u64>)> for PassPromise<'a> {
     ghost kept_by = { λ promise result. result.0.bench ≡ promise.0.now };
 }
 
@@ -69,7 +69,7 @@ fn offer_and_pick<R: Threads + Wait + Abort + Sync>(
                 (result.0.workers ≡ owner.workers)) × (result.1.bench ≡ bench.entry.now) }
         {
             let picking = scope.spawn_with(
-                Of(bench),
+                PassPromise(bench),
                 move || -> (WorkerPass, Vec<u64>)
                     requires { worker.bench ≡ bench.now }
                     ensures { result.0.bench ≡ bench.entry.now }

@@ -2,7 +2,7 @@
 //! nothing.
 ghost use Rattle.std.specs.Prelude.{◌≤◌};
 
-use crate::gates::{A_WHILE, Counter, Crowd, Door, TURNS};
+use crate::gates::{A_WHILE, Barrier, Counter, SecondJobLatch, TURNS};
 use crate::pair::{jobs, jobs_after};
 use crate::threads::drained;
 use cown_board::Job;
@@ -44,11 +44,11 @@ fn gathers<R: Threads + Wait + Clock + Sync + Abort>(
     jobs: usize,
     turns: u32,
 ) -> bool
-    requires some { 1 ≤ workers }
-    requires few { workers ≤ 16 }
+    requires at_least_one { 1 ≤ workers }
+    requires limit { workers ≤ 16 }
     requires jobs { jobs ≤ 17 }
 {
-    let gate = Crowd::of(jobs as u64, turns);
+    let gate = Barrier::of(jobs as u64, turns);
     let lines = ["balance zed"; 17];
     let _board = drained(rt, alloc, workers, &gate, &lines[..jobs]);
     gate.gathered()
@@ -57,7 +57,7 @@ fn gathers<R: Threads + Wait + Clock + Sync + Abort>(
 // If the owner executed jobs, it would come with the second, and wait for itself.
 #[test]
 fn an_owner_that_is_not_admitted_opens_its_gate(rt: HostRuntime) {
-    let gate = Door::default();
+    let gate = SecondJobLatch::default();
     let ended = with_crew(&rt, rt.alloc(), 1, &gate, |crew| {
         opens_after_the_first(&rt, rt.alloc(), &gate, crew)
     });
@@ -66,11 +66,16 @@ fn an_owner_that_is_not_admitted_opens_its_gate(rt: HostRuntime) {
 }
 
 // Gives two jobs, and opens the gate for the second once the first was handed over.
-fn opens_after_the_first(rt: &impl Abort, alloc: Global, gate: &Door, crew: &mut impl Crew) {
+fn opens_after_the_first(
+    rt: &impl Abort,
+    alloc: Global,
+    gate: &SecondJobLatch,
+    crew: &mut impl Crew,
+) {
     for job in jobs(rt, alloc, 2) {
         assert!(rt; crew.give(job).is_ok());
     }
-    assert!(rt; gate.holds_the_first());
+    assert!(rt; gate.has_the_first());
     hands_over(rt, crew, 1);
     gate.opens();
     hands_over(rt, crew, 2);

@@ -11,7 +11,7 @@ use Rattle.sb_amount.specs.declared.fault.MoneyFault.TheVariants.{Empty, NotDigi
 use Rattle.sb_amount.specs.Limit.{IsWithinLimit}
 use Rattle.sb_amount.specs.Money.{money}
 use Rattle.sb_amount.specs.Reading.{is_point, is_negative, without_sign, has_two_decimals, is_canonical, cents_of_digits, money_fault, amount_of, read_money}
-use Rattle.sb_amount.proofs.Bodies.{is_body_byte}
+use Rattle.sb_amount.proofs.MoneyBodies.{is_body_byte}
 use Rattle.sb_amount.proofs.Money.{read_money-money, money_from_read}
 
 -- nothing follows the sign

@@ -1,5 +1,5 @@
-pub mod Bodies
 pub mod Digits
 pub mod Faults
 pub mod Money
+pub mod MoneyBodies
 pub mod Points

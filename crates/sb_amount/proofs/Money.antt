@@ -15,7 +15,7 @@ use Rattle.sb_amount.specs.declared.fault.MoneyFault.TheVariants.{Empty, NotDigi
 use Rattle.sb_amount.specs.Limit.{IsWithinLimit}
 use Rattle.sb_amount.specs.Money.{money, unsigned_money}
 use Rattle.sb_amount.specs.Reading.{is_point, is_negative, without_sign, has_two_decimals, is_canonical, cents_of_digits, money_fault, amount_of, unless_fault, read_money}
-use Rattle.sb_amount.proofs.Bodies.{is_body_byte, body_of, all_body_bytes-body, before_first-body, has_two_decimals-body, body_parts, HasDigits-unsigned_money, cents_of_digits-unsigned_money, unsigned_money-body}
+use Rattle.sb_amount.proofs.MoneyBodies.{is_body_byte, body_of, all_body_bytes-body, before_first-body, has_two_decimals-body, body_parts, HasDigits-unsigned_money, cents_of_digits-unsigned_money, unsigned_money-body}
 use Rattle.sb_amount.proofs.Digits.{all_digits, digit_range, is_canonical-decimal, all_digits-decimal}
 
 -- ---- the sign

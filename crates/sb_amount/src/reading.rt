@@ -18,7 +18,7 @@ impl Cents {
         // A text that is read spells the amount.
         ensures spelled { IfOk result (λ amount. text.now ≡ money amount) }
         // A text that spells an amount is read.
-        ensures taken { (v : ℤ) → IsWithinLimit v → text.now ≡ money v → result ≡ Ok v }
+        ensures complete { (v : ℤ) → IsWithinLimit v → text.now ≡ money v → result ≡ Ok v }
         // The fault.
         ensures exact { result ≡ read_money text.now }
     {

@@ -10,7 +10,7 @@ use Rattle.sb_amount.specs.declared.cents.TheConstants.{LIMIT}
 use Rattle.sb_rows.specs.Balances.{Balances}
 use Rattle.sb_rows.specs.Directory.{place_of}
 use Rattle.sb_rows.specs.Rows.{with_row, SameCustomers}
-use Rattle.sb_calls.proofs.Places.{HasRow, HasRow-other, with_checking, row_is, rows_of-with_both, rows_of-with_checking, SameCustomers-with_row, SameCustomers-with_checking}
+use Rattle.sb_calls.proofs.CustomerRows.{HasRow, HasRow-other, with_checking, row_is, rows_of-with_both, rows_of-with_checking, SameCustomers-with_row, SameCustomers-with_checking}
 use Rattle.sb_calls.specs.FollowsProcedure.{FollowsProcedure}
 use Rattle.sb_calls.specs.declared.call.Call.TheVariants.{Amalgamate}
 use Rattle.sb_calls.specs.declared.reply.Reply.TheVariants.{Done, OverLimit}

@@ -7,8 +7,8 @@ use Rattle.sb_amount.specs.Limit.{IsWithinLimit}
 use Rattle.sb_amount.specs.declared.cents.TheConstants.{LIMIT}
 use Rattle.sb_calls.proofs.Amalgamation.{past_limit_either, within_limit}
 use Rattle.sb_calls.proofs.Procedures.{past_limit_downwards}
-use Rattle.sb_calls.specs.Behaviour.{cowns_of_two, checkings_of_two, check_effect, giver_first_effect, taker_first_effect, payer_first_effect, paid_first_effect, of_two, of_three, effect_of_two, payment_effect}
-use Rattle.sb_calls.specs.Cowns.{savings_cown, checking_cown, AreHeld}
+use Rattle.sb_calls.specs.Behaviour.{cowns_of_two, checkings_of_two, check_effect, giver_first_effect, taker_first_effect, payer_first_effect, paid_first_effect, on_two_values, on_three_values, effect_of_two, payment_effect}
+use Rattle.sb_calls.specs.Cowns.{savings_cown, checking_cown, AreCownValues}
 use Rattle.sb_calls.specs.Procedures.{check_cost}
 use Rattle.sb_calls.specs.declared.reply.Reply.{Reply}
 use Rattle.sb_calls.specs.declared.reply.Reply.TheVariants.{Done, Penalised, OverLimit}
@@ -55,13 +55,13 @@ check_over_limit amount s c within ge past = let lt = past_limit_downwards s c a
 -- ---- on what the cowns hold
 
 -- an effect on three values, applied to the values that were read
-pub on_three : (a b c : ℕ) (effect : ℤ → ℤ → ℤ → Reply × List ℤ) (inputs : List ℤ) (x y z : ℤ) → AreHeld (a ∷ b ∷ c ∷ []) inputs
-    → x ≡ get_or inputs 0 x → y ≡ get_or inputs 1 y → z ≡ get_or inputs 2 z → of_three effect inputs ≡ effect x y z
-on_three a b c effect [] x y z held first second third = absurd held
-on_three a b c effect (v ∷ []) x y z held first second third = absurd held.1
-on_three a b c effect (v ∷ w ∷ []) x y z held first second third = absurd held.1.1
-on_three a b c effect (v ∷ w ∷ u ∷ []) x y z held first second third = rw (first, second, third) refl
-on_three a b c effect (v ∷ w ∷ u ∷ t ∷ more) x y z held first second third = absurd held.1.1.1
+pub on_three : (a b c : ℕ) (effect : ℤ → ℤ → ℤ → Reply × List ℤ) (inputs : List ℤ) (x y z : ℤ) → AreCownValues (a ∷ b ∷ c ∷ []) inputs
+    → x ≡ get_or inputs 0 x → y ≡ get_or inputs 1 y → z ≡ get_or inputs 2 z → on_three_values effect inputs ≡ effect x y z
+on_three a b c effect [] x y z allowed first second third = absurd allowed
+on_three a b c effect (v ∷ []) x y z allowed first second third = absurd allowed.1
+on_three a b c effect (v ∷ w ∷ []) x y z allowed first second third = absurd allowed.1.1
+on_three a b c effect (v ∷ w ∷ u ∷ []) x y z allowed first second third = rw (first, second, third) refl
+on_three a b c effect (v ∷ w ∷ u ∷ t ∷ more) x y z allowed first second third = absurd allowed.1.1.1
 
 -- an amalgamation if the giver comes first, and if the taker does
 pub cowns_giver_first : (from to : ℕ) → from < to → cowns_of_two from to ≡ savings_cown from ∷ checking_cown from ∷ checking_cown to ∷ []
@@ -76,30 +76,30 @@ cowns_taker_first from to lt =
     let after : nat_lt from to ≡ false = grind (arith, nat_tests) in
     rw (different, after) refl
 
-pub effect_giver_first : (from to : ℕ) (inputs : List ℤ) → from < to → effect_of_two from to inputs ≡ of_three giver_first_effect inputs
+pub effect_giver_first : (from to : ℕ) (inputs : List ℤ) → from < to → effect_of_two from to inputs ≡ on_three_values giver_first_effect inputs
 effect_giver_first from to inputs lt =
     let different : (from == to) ≡ false = grind (arith, nat_tests) in
     let before : nat_lt from to ≡ true = grind (arith, nat_tests) in
     rw (different, before) refl
 
-pub effect_taker_first : (from to : ℕ) (inputs : List ℤ) → to < from → effect_of_two from to inputs ≡ of_three taker_first_effect inputs
+pub effect_taker_first : (from to : ℕ) (inputs : List ℤ) → to < from → effect_of_two from to inputs ≡ on_three_values taker_first_effect inputs
 effect_taker_first from to inputs lt =
     let different : (from == to) ≡ false = grind (arith, nat_tests) in
     let after : nat_lt from to ≡ false = grind (arith, nat_tests) in
     rw (different, after) refl
 
 -- so it applies to the values that its cowns were read as
-pub amalgamates_giver_first : (from to : ℕ) (inputs : List ℤ) (x y z : ℤ) → from < to → AreHeld (cowns_of_two from to) inputs
+pub amalgamates_giver_first : (from to : ℕ) (inputs : List ℤ) (x y z : ℤ) → from < to → AreCownValues (cowns_of_two from to) inputs
     → x ≡ get_or inputs 0 x → y ≡ get_or inputs 1 y → z ≡ get_or inputs 2 z → effect_of_two from to inputs ≡ giver_first_effect x y z
-amalgamates_giver_first from to inputs x y z lt held first second third =
-    let in_order = rw (cowns_giver_first from to lt) at held in
+amalgamates_giver_first from to inputs x y z lt allowed first second third =
+    let in_order = rw (cowns_giver_first from to lt) at allowed in
     effect_giver_first from to inputs lt
     ∙ on_three (savings_cown from) (checking_cown from) (checking_cown to) giver_first_effect inputs x y z in_order first second third
 
-pub amalgamates_taker_first : (from to : ℕ) (inputs : List ℤ) (x y z : ℤ) → to < from → AreHeld (cowns_of_two from to) inputs
+pub amalgamates_taker_first : (from to : ℕ) (inputs : List ℤ) (x y z : ℤ) → to < from → AreCownValues (cowns_of_two from to) inputs
     → x ≡ get_or inputs 0 x → y ≡ get_or inputs 1 y → z ≡ get_or inputs 2 z → effect_of_two from to inputs ≡ taker_first_effect x y z
-amalgamates_taker_first from to inputs x y z lt held first second third =
-    let in_order = rw (cowns_taker_first from to lt) at held in
+amalgamates_taker_first from to inputs x y z lt allowed first second third =
+    let in_order = rw (cowns_taker_first from to lt) at allowed in
     effect_taker_first from to inputs lt
     ∙ on_three (checking_cown to) (savings_cown from) (checking_cown from) taker_first_effect inputs x y z in_order first second third
 
@@ -119,14 +119,14 @@ cowns_paid_first from to lt =
     rw (different, after) refl
 
 pub effect_payer_first : (from to : ℕ) (amount : ℤ) (inputs : List ℤ) → from < to
-    → payment_effect from to amount inputs ≡ of_two (payer_first_effect amount) inputs
+    → payment_effect from to amount inputs ≡ on_two_values (payer_first_effect amount) inputs
 effect_payer_first from to amount inputs lt =
     let different : (from == to) ≡ false = grind (arith, nat_tests) in
     let before : nat_lt from to ≡ true = grind (arith, nat_tests) in
     rw (different, before) refl
 
 pub effect_paid_first : (from to : ℕ) (amount : ℤ) (inputs : List ℤ) → to < from
-    → payment_effect from to amount inputs ≡ of_two (paid_first_effect amount) inputs
+    → payment_effect from to amount inputs ≡ on_two_values (paid_first_effect amount) inputs
 effect_paid_first from to amount inputs lt =
     let different : (from == to) ≡ false = grind (arith, nat_tests) in
     let after : nat_lt from to ≡ false = grind (arith, nat_tests) in

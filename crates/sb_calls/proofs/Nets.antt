@@ -5,9 +5,9 @@ use Rattle.std.specs.FinMap.{get, insert}
 use Rattle.std.specs.Str.{bytes_eq}
 use Rattle.std.proofs.lemmas.Int.{ints}
 use Rattle.sb_amount.specs.declared.cents.TheConstants.{LIMIT}
-use Rattle.sb_rows.specs.Listing.{listed, total_of}
+use Rattle.sb_rows.specs.Listing.{rows_in_order, total_of}
 use Rattle.sb_rows.specs.Rows.{Rows}
-use Rattle.sb_calls.proofs.Totals.{get-insert_name, other_name, total_of-insert, HasNames-insert}
+use Rattle.sb_calls.proofs.RowTotals.{get-insert_name, other_name, total_of-insert, HasNames-insert}
 use Rattle.sb_calls.specs.Net.{HasNames, TotalByNet, net_if_done, net_if_paid, net_of}
 use Rattle.sb_calls.specs.Procedures.{Outcome, with_balances, check_cost, procedure}
 use Rattle.sb_calls.specs.declared.call.Call.{Call}
@@ -18,7 +18,7 @@ use Rattle.sb_calls.specs.declared.reply.Reply.TheVariants.{Shown, Done, Penalis
 -- an outcome keeps the names, and its total is the old one plus the net of its reply
 pub record AddsNet (directory : List (List ℕ)) (rows : Rows) (net : Reply → ℤ) (outcome : Outcome) : Type 0 where
   pub names : HasNames directory outcome.rows
-  pub total : total_of (listed directory outcome.rows) ≡ total_of (listed directory rows) +ℤ net outcome.reply
+  pub total : total_of (rows_in_order directory outcome.rows) ≡ total_of (rows_in_order directory rows) +ℤ net outcome.reply
 
 -- adding 0 changes nothing
 plus_nothing : (total net : ℤ) → net ≡ pos 0 → total ≡ total +ℤ net
@@ -27,14 +27,14 @@ plus_nothing total net e = omega (arith, ints, e)
 module _ {directory : List (List ℕ)} {rows : Rows} (net : Reply → ℤ) (h : HasNames directory rows) where
   -- an outcome that leaves the rows, with a reply whose net is 0
   left_as_is : (reply : Reply) → net reply ≡ pos 0 → AddsNet directory rows net (record { rows = rows; reply = reply })
-  left_as_is reply none = record { names = h; total = plus_nothing (total_of (listed directory rows)) (net reply) none }
+  left_as_is reply none = record { names = h; total = plus_nothing (total_of (rows_in_order directory rows)) (net reply) none }
 
   -- an outcome that replaces a row, with a reply whose net is the difference
   replaced : (name : List ℕ) (s c s_new c_new : ℤ) (reply : Reply) → get rows name ≡ Some (s, c) → net reply ≡ (s_new +ℤ c_new) -ℤ (s +ℤ c)
       → AddsNet directory rows net (record { rows = insert rows name (s_new, c_new); reply = reply })
   replaced name s c s_new c_new reply is worth = record {
     names = HasNames-insert name h is (s_new, c_new);
-    total = total_of-insert name h is s_new c_new ∙ ap (λ x. total_of (listed directory rows) +ℤ x) (sym worth);
+    total = total_of-insert name h is s_new c_new ∙ ap (λ x. total_of (rows_in_order directory rows) +ℤ x) (sym worth);
   }
 
   -- one of two outcomes

@@ -7,7 +7,7 @@ use Rattle.sb_amount.specs.declared.cents.TheConstants.{LIMIT}
 use Rattle.sb_rows.specs.Balances.{Balances}
 use Rattle.sb_rows.specs.Rows.{SameCustomers}
 use Rattle.sb_calls.proofs.Amalgamation.{different_names}
-use Rattle.sb_calls.proofs.Places.{HasRow, HasRow-other_checking, with_checking, row_is, checking_within, rows_of-with_checking, SameCustomers-with_checking}
+use Rattle.sb_calls.proofs.CustomerRows.{HasRow, HasRow-other_checking, with_checking, row_is, checking_within, rows_of-with_checking, SameCustomers-with_checking}
 use Rattle.sb_calls.specs.FollowsProcedure.{FollowsProcedure}
 use Rattle.sb_calls.specs.declared.call.Call.TheVariants.{SendPayment}
 use Rattle.sb_calls.specs.declared.reply.Reply.TheVariants.{Done, Negative, WouldOverdraw, OverLimit}

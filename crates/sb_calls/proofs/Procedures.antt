@@ -5,7 +5,7 @@ use Rattle.std.proofs.lemmas.Int.{ints, by_lt_z}
 use Rattle.sb_amount.specs.Limit.{IsWithinLimit}
 use Rattle.sb_amount.specs.declared.cents.TheConstants.{LIMIT}
 use Rattle.sb_rows.specs.Balances.{Balances}
-use Rattle.sb_calls.proofs.Places.{HasRow, with_savings, with_checking, row_is, checking_within, rows_of-with_savings, rows_of-with_checking, SameCustomers-with_savings, SameCustomers-with_checking}
+use Rattle.sb_calls.proofs.CustomerRows.{HasRow, with_savings, with_checking, row_is, checking_within, rows_of-with_savings, rows_of-with_checking, SameCustomers-with_savings, SameCustomers-with_checking}
 use Rattle.sb_calls.specs.FollowsProcedure.{FollowsProcedure}
 use Rattle.sb_calls.specs.Procedures.{check_cost}
 use Rattle.sb_calls.specs.declared.call.Call.TheVariants.{Balance, DepositChecking, TransactSavings, WriteCheck}

@@ -3,14 +3,14 @@ use Rattle.std.proofs.Common.{◌≡◌, ℕ, ◌<◌, ℤ, true, inl, inr, Opti
 use Rattle.std.specs.FinMap.{get}
 use Rattle.std.specs.Str.{bytes_eq}
 use Rattle.std.proofs.lemmas.Slice.Eq.{bytes_eq-Decides}
-use Rattle.sb_rows.proofs.Places.{place_of_within, place_of_found}
-use Rattle.sb_rows.proofs.RowsLemmas.{get-rows_of_absent}
+use Rattle.sb_rows.proofs.NamePlaces.{place_of_within, place_of_found}
+use Rattle.sb_rows.proofs.RowsByPlace.{get-rows_of_absent}
 use Rattle.sb_rows.specs.Balances.{Balances}
 use Rattle.sb_rows.specs.Directory.{place_of}
 use Rattle.sb_rows.specs.Rows.{Rows, rows_of, SameCustomers}
-use Rattle.sb_calls.proofs.Ops.{HasMissingName, IsOfTwo, comes_from}
-use Rattle.sb_calls.proofs.Places.{HasRow-unread, row_is}
-use Rattle.sb_calls.specs.Op.{resolved}
+use Rattle.sb_calls.proofs.OpOrigins.{HasMissingName, IsOfTwo, comes_from}
+use Rattle.sb_calls.proofs.CustomerRows.{HasRow-unread, row_is}
+use Rattle.sb_calls.specs.Op.{op_of}
 use Rattle.sb_calls.specs.FollowsProcedure.{FollowsProcedure}
 use Rattle.sb_calls.specs.Procedures.{Outcome, with_balances, procedure}
 use Rattle.sb_calls.specs.declared.call.Call.{Call}
@@ -54,7 +54,7 @@ missing_refuses directory (SendPayment from to amount) b same (inr missing) =
     no_second _ from to (rows_of directory b) (get-rows_of_absent directory b to same missing)
 
 -- a call that resolves to NoCustomer
-pub performs_no_customer : (directory : List (List ℕ)) (call : Call) (b : Balances) → SameCustomers directory b → ops.NoCustomer ≡ resolved directory call
+pub performs_no_customer : (directory : List (List ℕ)) (call : Call) (b : Balances) → SameCustomers directory b → ops.NoCustomer ≡ op_of directory call
     → FollowsProcedure directory call b b NoCustomer
 performs_no_customer directory call b same e =
     performs_refusal directory call b NoCustomer same (missing_refuses directory call b same (comes_from directory call ops.NoCustomer e))
@@ -75,12 +75,12 @@ one_refuses directory call from to place b same of_two found_from found_to = by 
 
     by : IsOfTwo from to call → procedure call (rows_of directory b) ≡ record { rows = rows_of directory b; reply = SameCustomer }
     by of_two =
-        let row_from = row_is (HasRow-unread directory b from place same found_from (omega (arith, same.places, lt))) in
-        let row_to = row_is (HasRow-unread directory b to place same found_to (omega (arith, same.places, lt))) in
+        let row_from = row_is (HasRow-unread directory b from place same found_from (omega (arith, same.same_length, lt))) in
+        let row_to = row_is (HasRow-unread directory b to place same found_to (omega (arith, same.same_length, lt))) in
         elim of_two [ inl is ↦ rw (is, row_from, row_to, equal) refl | inr paid ↦ rw (paid.1, row_from, row_to, equal) refl ]
 
 -- a call that resolves to SameCustomer
-pub performs_same_customer : (directory : List (List ℕ)) (call : Call) (b : Balances) → SameCustomers directory b → ops.SameCustomer ≡ resolved directory call
+pub performs_same_customer : (directory : List (List ℕ)) (call : Call) (b : Balances) → SameCustomers directory b → ops.SameCustomer ≡ op_of directory call
     → FollowsProcedure directory call b b SameCustomer
 performs_same_customer directory call b same e =
     let made = comes_from directory call ops.SameCustomer e in

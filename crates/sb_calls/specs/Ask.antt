@@ -7,7 +7,7 @@ use Rattle.std.specs.Str.Parse.{digits_value}
 use Rattle.sb_amount.specs.Reading.{is_canonical}
 use Rattle.sb_rows.specs.Text.{words}
 use Rattle.sb_calls.specs.Call.{IsCall, call_line, call_of_words}
-use Rattle.sb_calls.specs.declared.ask.Asked.{Asked}
+use Rattle.sb_calls.specs.declared.ask.AskLine.{AskLine}
 use Rattle.sb_calls.specs.declared.ask.Key.{Key}
 use Rattle.sb_calls.specs.declared.call.Call.{Call}
 use Rattle.sb_calls.specs.declared.text.fault.CallFault.{CallFault}
@@ -21,7 +21,7 @@ key_text None = []
 key_text (Some key) = codes "ask " ++ (decimal key.client ++ (32 ∷ (decimal key.request ++ 32 ∷ [])))
 
 -- the spelling of an asking line
-abbrev pub ask_line : Asked → List ℕ
+abbrev pub ask_line : AskLine → List ℕ
 ask_line asked = key_text asked.key ++ call_line asked.call
 
 -- the client's number is at least 1, and both numbers are below 2^32
@@ -30,8 +30,8 @@ IsKey None = Unit {0}
 IsKey (Some key) = (1 ≤ key.client) × (key.client < 2 ^ 32) × (key.request < 2 ^ 32)
 
 -- the key is one that a client may send, and the call has a spelling
-abbrev pub IsAsked : Asked → Type 0
-IsAsked asked = IsKey asked.key × IsCall asked.call
+abbrev pub IsAskLine : AskLine → Type 0
+IsAskLine asked = IsKey asked.key × IsCall asked.call
 
 -- ---- what it is read as
 
@@ -49,26 +49,26 @@ key_of (Some (suc n)) None = None
 key_of (Some (suc n)) (Some request) = Some (record { client = suc n; request = request })
 
 -- the call under this key, if there is one
-abbrev pub under_key : Option Key → Result Call CallFault → Result Asked CallFault
+abbrev pub under_key : Option Key → Result Call CallFault → Result AskLine CallFault
 under_key key (Ok call) = Ok (record { key = key; call = call })
 under_key key (Err fault) = Err fault
 
 -- the call that these words spell, under a key that was read
-abbrev pub with_key : Option Key → List (List ℕ) → Result Asked CallFault
+abbrev pub with_key : Option Key → List (List ℕ) → Result AskLine CallFault
 with_key None rest = Err BadNumber
 with_key (Some key) rest = under_key (Some key) (call_of_words rest)
 
 -- the words after `ask`
-abbrev pub after_ask : List (List ℕ) → Result Asked CallFault
-after_ask [] = Err WrongWords
-after_ask (client ∷ []) = Err WrongWords
-after_ask (client ∷ request ∷ rest) = with_key (key_of (read_number client) (read_number request)) rest
+abbrev pub keyed_ask : List (List ℕ) → Result AskLine CallFault
+keyed_ask [] = Err WrongWords
+keyed_ask (client ∷ []) = Err WrongWords
+keyed_ask (client ∷ request ∷ rest) = with_key (key_of (read_number client) (read_number request)) rest
 
-abbrev pub asked_of_words : List (List ℕ) → Result Asked CallFault
-asked_of_words [] = under_key None (call_of_words [])
-asked_of_words (verb ∷ rest) =
-    if bytes_eq verb (codes "ask") then after_ask rest else under_key None (call_of_words (verb ∷ rest))
+abbrev pub ask_line_of_words : List (List ℕ) → Result AskLine CallFault
+ask_line_of_words [] = under_key None (call_of_words [])
+ask_line_of_words (verb ∷ rest) =
+    if bytes_eq verb (codes "ask") then keyed_ask rest else under_key None (call_of_words (verb ∷ rest))
 
 -- what an asking line asks, or its first fault
-unfoldable pub asked_of : List ℕ → Result Asked CallFault
-asked_of line = asked_of_words (words line)
+unfoldable pub ask_line_of : List ℕ → Result AskLine CallFault
+ask_line_of line = ask_line_of_words (words line)

@@ -36,7 +36,7 @@ declared_cowns (SendPayment places amount) = checkings_of_two places.0 places.1
 declared_cowns NoCustomer = []
 declared_cowns SameCustomer = []
 
--- ---- its effect: the reply, and what its cowns hold after it
+-- ---- its effect: the reply, and what its cowns contain after it
 
 -- a deposit on the checking balance; a refusal leaves the value
 abbrev pub deposit_effect : ℤ → ℤ → Reply × List ℤ
@@ -94,38 +94,38 @@ paid_first_effect amount received checking =
     let after = payment amount checking received in (after.0, after.2 ∷ after.1 ∷ [])
 
 -- an effect on one, two or three values; any other number of values stays, with reply NoCustomer
-abbrev pub of_one : (ℤ → Reply × List ℤ) → List ℤ → Reply × List ℤ
-of_one effect (v ∷ []) = effect v
-of_one effect held = (replies.NoCustomer, held)
+abbrev pub on_one_value : (ℤ → Reply × List ℤ) → List ℤ → Reply × List ℤ
+on_one_value effect (v ∷ []) = effect v
+on_one_value effect inputs = (replies.NoCustomer, inputs)
 
-abbrev pub of_two : (ℤ → ℤ → Reply × List ℤ) → List ℤ → Reply × List ℤ
-of_two effect (v ∷ w ∷ []) = effect v w
-of_two effect held = (replies.NoCustomer, held)
+abbrev pub on_two_values : (ℤ → ℤ → Reply × List ℤ) → List ℤ → Reply × List ℤ
+on_two_values effect (v ∷ w ∷ []) = effect v w
+on_two_values effect inputs = (replies.NoCustomer, inputs)
 
-abbrev pub of_three : (ℤ → ℤ → ℤ → Reply × List ℤ) → List ℤ → Reply × List ℤ
-of_three effect (v ∷ w ∷ x ∷ []) = effect v w x
-of_three effect held = (replies.NoCustomer, held)
+abbrev pub on_three_values : (ℤ → ℤ → ℤ → Reply × List ℤ) → List ℤ → Reply × List ℤ
+on_three_values effect (v ∷ w ∷ x ∷ []) = effect v w x
+on_three_values effect inputs = (replies.NoCustomer, inputs)
 
 abbrev pub effect_of_two : ℕ → ℕ → List ℤ → Reply × List ℤ
-effect_of_two from to held =
-    if from == to then (replies.SameCustomer, held)
-    else if nat_lt from to then of_three giver_first_effect held
-    else of_three taker_first_effect held
+effect_of_two from to inputs =
+    if from == to then (replies.SameCustomer, inputs)
+    else if nat_lt from to then on_three_values giver_first_effect inputs
+    else on_three_values taker_first_effect inputs
 
 abbrev pub payment_effect : ℕ → ℕ → ℤ → List ℤ → Reply × List ℤ
-payment_effect from to amount held =
-    if from == to then (replies.SameCustomer, held)
-    else if nat_lt from to then of_two (payer_first_effect amount) held
-    else of_two (paid_first_effect amount) held
+payment_effect from to amount inputs =
+    if from == to then (replies.SameCustomer, inputs)
+    else if nat_lt from to then on_two_values (payer_first_effect amount) inputs
+    else on_two_values (paid_first_effect amount) inputs
 
--- the reply of an op, and what its cowns hold after it, if they held these values
+-- the reply of an op, and what its cowns contain after it, if they contained these inputs
 abbrev pub effect_of : Op → List ℤ → Reply × List ℤ
-effect_of (Balance place) held =
-    of_two (λ savings checking. (replies.Shown (savings +ℤ checking), savings ∷ checking ∷ [])) held
-effect_of (DepositChecking place amount) held = of_one (deposit_effect amount) held
-effect_of (TransactSavings place amount) held = of_one (savings_effect amount) held
-effect_of (Amalgamate places) held = effect_of_two places.0 places.1 held
-effect_of (WriteCheck place amount) held = of_two (check_effect amount) held
-effect_of (SendPayment places amount) held = payment_effect places.0 places.1 amount held
-effect_of NoCustomer held = (replies.NoCustomer, held)
-effect_of SameCustomer held = (replies.SameCustomer, held)
+effect_of (Balance place) inputs =
+    on_two_values (λ savings checking. (replies.Shown (savings +ℤ checking), savings ∷ checking ∷ [])) inputs
+effect_of (DepositChecking place amount) inputs = on_one_value (deposit_effect amount) inputs
+effect_of (TransactSavings place amount) inputs = on_one_value (savings_effect amount) inputs
+effect_of (Amalgamate places) inputs = effect_of_two places.0 places.1 inputs
+effect_of (WriteCheck place amount) inputs = on_two_values (check_effect amount) inputs
+effect_of (SendPayment places amount) inputs = payment_effect places.0 places.1 amount inputs
+effect_of NoCustomer inputs = (replies.NoCustomer, inputs)
+effect_of SameCustomer inputs = (replies.SameCustomer, inputs)

@@ -24,20 +24,20 @@ AreBelow bound [] = Unit {0}
 AreBelow bound (cown ∷ cowns) = (cown < bound) × AreBelow bound cowns
 
 -- a value is allowed in a cown: within the limit, and not negative for savings
-pub record IsHeld (cown : ℕ) (value : ℤ) : Type 0 where
+pub record IsCownValue (cown : ℕ) (value : ℤ) : Type 0 where
   pub within : IsWithinLimit value
   pub not_negative : cown % 2 ≡ 0 → pos 0 ≤ℤ value
 
 -- one allowed value for each cown
-abbrev pub AreHeld : List ℕ → List ℤ → Type 0
-AreHeld [] [] = Unit {0}
-AreHeld [] (value ∷ values) = ⊥
-AreHeld (cown ∷ cowns) [] = ⊥
-AreHeld (cown ∷ cowns) (value ∷ values) = IsHeld cown value × AreHeld cowns values
+abbrev pub AreCownValues : List ℕ → List ℤ → Type 0
+AreCownValues [] [] = Unit {0}
+AreCownValues [] (value ∷ values) = ⊥
+AreCownValues (cown ∷ cowns) [] = ⊥
+AreCownValues (cown ∷ cowns) (value ∷ values) = IsCownValue cown value × AreCownValues cowns values
 
--- each cown holds an allowed value
-abbrev pub AllHeld : List ℤ → Type 0
-AllHeld held = (cown : ℕ) → cown < length held → IsHeld cown (get_or held cown (pos 0))
+-- what all cowns contain: an allowed value in each
+abbrev pub IsContents : List ℤ → Type 0
+IsContents contents = (cown : ℕ) → cown < length contents → IsCownValue cown (get_or contents cown (pos 0))
 
 -- the savings and checking balances of all customers, by cown
 abbrev pub by_cown : List ℤ → List ℤ → List ℤ
@@ -45,16 +45,16 @@ by_cown [] checking = []
 by_cown (s ∷ savings) [] = []
 by_cown (s ∷ savings) (c ∷ checking) = s ∷ c ∷ by_cown savings checking
 
--- what all cowns hold if the bank has these balances
-unfoldable pub held_of : Balances → List ℤ
-held_of balances = by_cown balances.savings balances.checking
+-- the contents of all cowns, if the bank has these balances
+unfoldable pub contents_of : Balances → List ℤ
+contents_of balances = by_cown balances.savings balances.checking
 
--- what these cowns hold
+-- what these cowns contain
 abbrev pub read_cowns : List ℤ → List ℕ → List ℤ
-read_cowns held cowns = map (λ cown. get_or held cown (pos 0)) cowns
+read_cowns contents cowns = map (λ cown. get_or contents cown (pos 0)) cowns
 
--- what the cowns hold after these values were written to these cowns
+-- the contents after these values are written to these cowns
 abbrev pub write_cowns : List ℤ → List ℕ → List ℤ → List ℤ
-write_cowns held [] values = held
-write_cowns held (cown ∷ cowns) [] = held
-write_cowns held (cown ∷ cowns) (value ∷ values) = write_cowns (slice_set held cown value) cowns values
+write_cowns contents [] values = contents
+write_cowns contents (cown ∷ cowns) [] = contents
+write_cowns contents (cown ∷ cowns) (value ∷ values) = write_cowns (slice_set contents cown value) cowns values

@@ -2,7 +2,7 @@
 use Rattle.std.specs.Prelude.{◌≡◌, ℕ, ℤ, pos, neg_ℤ, ◌+ℤ◌, is_some, List, [], ◌∷◌, take}
 use Rattle.std.specs.FinMap.{get}
 use Rattle.sb_rows.specs.Directory.{IsDirectory, place_of}
-use Rattle.sb_rows.specs.Listing.{listed, total_of}
+use Rattle.sb_rows.specs.Listing.{rows_in_order, total_of}
 use Rattle.sb_rows.specs.Rows.{Rows}
 use Rattle.sb_calls.specs.Log.{rows_after_calls, replies_to}
 use Rattle.sb_calls.specs.declared.call.Call.{Call}
@@ -55,5 +55,5 @@ pub record HasNames (directory : List (List ℕ)) (rows : Rows) : Type 0 where
 -- the total after k calls is the opening's plus the net changes of these calls
 abbrev pub TotalByNet : Type 0
 TotalByNet = (directory : List (List ℕ)) (opening : Rows) (log : List Call) (k : ℕ) → HasNames directory opening
-    → total_of (listed directory (rows_after_calls opening log k))
-    ≡ total_of (listed directory opening) +ℤ net_sum (take k log) (take k (replies_to opening log))
+    → total_of (rows_in_order directory (rows_after_calls opening log k))
+    ≡ total_of (rows_in_order directory opening) +ℤ net_sum (take k log) (take k (replies_to opening log))

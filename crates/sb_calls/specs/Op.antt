@@ -18,17 +18,17 @@ at_two_places op (Some from) None = NoCustomer
 at_two_places op (Some from) (Some to) = if from == to then SameCustomer else op (from, to)
 
 -- the op of a call, given the names by place
-abbrev pub resolved : List (List ℕ) → Call → Op
-resolved directory (calls.Balance name) = at_place Balance (place_of directory name)
-resolved directory (calls.DepositChecking name amount) =
+abbrev pub op_of : List (List ℕ) → Call → Op
+op_of directory (calls.Balance name) = at_place Balance (place_of directory name)
+op_of directory (calls.DepositChecking name amount) =
     at_place (λ place. DepositChecking place amount) (place_of directory name)
-resolved directory (calls.TransactSavings name amount) =
+op_of directory (calls.TransactSavings name amount) =
     at_place (λ place. TransactSavings place amount) (place_of directory name)
-resolved directory (calls.Amalgamate from to) =
+op_of directory (calls.Amalgamate from to) =
     at_two_places Amalgamate (place_of directory from) (place_of directory to)
-resolved directory (calls.WriteCheck name amount) =
+op_of directory (calls.WriteCheck name amount) =
     at_place (λ place. WriteCheck place amount) (place_of directory name)
-resolved directory (calls.SendPayment from to amount) =
+op_of directory (calls.SendPayment from to amount) =
     at_two_places (λ places. SendPayment places amount) (place_of directory from) (place_of directory to)
 
 -- its places are below the number of customers

@@ -27,12 +27,12 @@ IsReply OverLimit = Unit {0}
 -- ---- their spelling
 
 -- a number, highest byte first
-unfoldable pub number_field : Width → ℕ → List ℕ
-number_field w n = to_be_bytes w n
+unfoldable pub integer_field : Width → ℕ → List ℕ
+integer_field w n = to_be_bytes w n
 
 -- cents in eight bytes, two's complement
 abbrev pub amount_field : ℤ → List ℕ
-amount_field cents = number_field w64 (cast_unsigned w64 cents)
+amount_field cents = integer_field w64 (cast_unsigned w64 cents)
 
 -- the code of a reply, by its kind
 abbrev pub reply_code : Reply → ℕ
@@ -79,8 +79,8 @@ plain_reply code =
 
 -- the reply with a code and a total: code 0 shows a total in its range; every other code requires
 -- total 0
-unfoldable pub coded : ℕ → ℤ → Option Reply
-coded code total =
+unfoldable pub reply_with_code : ℕ → ℤ → Option Reply
+reply_with_code code total =
     if code == 0 then (if is_total total then Some (Shown total) else None)
     else if int_eq total (pos 0) then plain_reply code
     else None
@@ -88,5 +88,5 @@ coded code total =
 -- a code and a total are read as a reply exactly if they spell it
 abbrev pub RepliesHaveOneCode : Type 0
 RepliesHaveOneCode = (code : ℕ) (total : ℤ) (reply : Reply)
-    → (coded code total ≡ Some reply)
+    → (reply_with_code code total ≡ Some reply)
     ↔ (IsReply reply × (code ≡ reply_code reply) × (total ≡ shown_total reply))

@@ -13,7 +13,7 @@ pub struct Key {
 
 /// What an asking line asks.
 #[derive(Clone, Copy, Debug, PartialEq, Eq)]
-pub struct Asked {
+pub struct AskLine {
     /// The key, if the line has one. Its client is never 0.
     pub key: Option<Key>,
     /// The call.

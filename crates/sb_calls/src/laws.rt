@@ -3,7 +3,7 @@ ghost use Rattle.std.specs.Prelude.{◌≡◌, ℕ, suc, pos, List, slice_get};
 ghost use Rattle.sb_calls.specs.declared.call.Call.{Call};
 ghost use Rattle.sb_calls.specs.Log.{replies_to, reply_to};
 ghost use Rattle.sb_calls.specs.Net.{TotalByNet};
-ghost use Rattle.sb_calls.specs.ByCowns.{LogsByCowns, RepliesHaveSpellings};
+ghost use Rattle.sb_calls.specs.CownLaws.{LogsByCowns, RepliesHaveSpellings};
 ghost use Rattle.sb_calls.specs.Conflicts.{ConflictsByName};
 ghost use Rattle.sb_calls.specs.Replies.{RepliesHaveOneCode};
 ghost use Rattle.sb_calls.specs.Touches.{Locality};

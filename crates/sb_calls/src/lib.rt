@@ -14,7 +14,7 @@ mod two_places;
 mod wire_reply;
 
 pub use applying::apply;
-pub use ask::{Asked, Key};
+pub use ask::{AskLine, Key};
 pub use call::{Call, LOG_CALLS};
 pub use cowns::{
     BEHAVIOUR_COWNS, Behaviour, Cown, PENALTY, Performs, cowns_of, perform, read_cowns, write_cowns,

@@ -2,7 +2,7 @@
 ghost use Rattle.std.specs.Prelude.{◌≡◌, ◌<◌, ℕ, length, IfOk, IfErr};
 ghost use Rattle.sb_calls.specs.declared.op.Op.{Op as AnyOp};
 ghost use Rattle.sb_rows.specs.Directory.{place_of};
-ghost use Rattle.sb_calls.specs.Op.{resolved, at_two_places, IsOpWithin};
+ghost use Rattle.sb_calls.specs.Op.{op_of, at_two_places, IsOpWithin};
 
 use crate::call::Call;
 use crate::two_places::TwoPlaces;
@@ -32,7 +32,7 @@ pub enum Op {
 
 /// Looks up the names of a call.
 pub fn resolve(directory: &Directory, call: &Call) -> Op
-    ensures value { result ≡ resolved directory.now call.now }
+    ensures value { result ≡ op_of directory.now call.now }
     ensures within { IsOpWithin (length directory.now) result }
 {
     let op = match call {

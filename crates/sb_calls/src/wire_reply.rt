@@ -1,7 +1,7 @@
 //! Replies in frames and checkpoints.
 ghost use Rattle.std.specs.Prelude.{◌≡◌, ◌↔◌, IsTrue, SomeIff, IfSome};
 ghost use Rattle.sb_calls.specs.Replies as spec;
-ghost use Rattle.sb_calls.specs.Replies.{IsReply, IsTotal, coded, reply_code, shown_total};
+ghost use Rattle.sb_calls.specs.Replies.{IsReply, IsTotal, reply_with_code, reply_code, shown_total};
 
 use crate::reply::Reply;
 use sb_amount::LIMIT;
@@ -72,9 +72,9 @@ fn plain_reply(code: u8) -> Option<Reply>
 }
 
 // The reply with a code and a total.
-#[tactic(auto, unfolding(crate::specs::Replies::coded))]
+#[tactic(auto, unfolding(crate::specs::Replies::reply_with_code))]
 fn coded_reply(code: u8, total: i64) -> Option<Reply>
-    ensures read { result ≡ coded code total }
+    ensures read { result ≡ reply_with_code code total }
     ensures valid { IfSome result IsReply }
 {
     if code == SHOWN {
@@ -134,7 +134,7 @@ impl WireReply {
 
     /// The reply with this code and total, or `None` if no reply has them.
     pub fn from_code(code: u8, total: i64) -> Option<WireReply>
-        ensures { result ≡ coded code total }
+        ensures { result ≡ reply_with_code code total }
     {
         WireReply::new(coded_reply(code, total)?)
     }

@@ -9,22 +9,22 @@ use Rattle.lane_audit.specs.Columns.{total}
 use Rattle.sb_amount.specs.Limit.{IsWithinLimit}
 use Rattle.sb_rows.specs.Balances.{Balances, IsSavings, IsBalances}
 use Rattle.sb_rows.specs.declared.columns.TheConstants.{CUSTOMERS}
-use Rattle.sb_checkpoint.specs.Reading.{is_negative, is_past_limit}
-use Rattle.sb_checkpoint.proofs.Passing.{each_fails}
+use Rattle.sb_checkpoint.specs.Reading.{is_below_zero, is_past_limit}
+use Rattle.sb_checkpoint.proofs.TestCounts.{each_fails}
 
 within : (v : ℤ) → is_past_limit v ≡ false → IsWithinLimit v
 within v h = record { at_least = grind (arith, ints); at_most = grind (arith, ints) }
 
-saved : (v : ℤ) → is_past_limit v ≡ false → is_negative v ≡ false → IsSavings v
+saved : (v : ℤ) → is_past_limit v ≡ false → is_below_zero v ≡ false → IsSavings v
 saved v h k = record { not_negative = grind (arith, ints); within = within v h }
 
 pub are_balances : (savings checking : List ℤ) (n : ℕ) → length savings ≡ n → length checking ≡ n → n ≤ CUSTOMERS
-    → list_any is_past_limit savings ≡ false → list_any is_past_limit checking ≡ false → list_any is_negative savings ≡ false
+    → list_any is_past_limit savings ≡ false → list_any is_past_limit checking ≡ false → list_any is_below_zero savings ≡ false
     → IsBalances (record { savings = savings; checking = checking })
 are_balances savings checking n many as_many few fits checking_fits positive = record {
   same = many ∙ sym as_many;
-  few = omega arith;
-  savings = λ k d inside. saved _ (each_fails is_past_limit savings fits k d inside) (each_fails is_negative savings positive k d inside);
+  limit = omega arith;
+  savings = λ k d inside. saved _ (each_fails is_past_limit savings fits k d inside) (each_fails is_below_zero savings positive k d inside);
   checking = λ k d inside. within _ (each_fails is_past_limit checking checking_fits k d inside);
 }
 
@@ -55,18 +55,18 @@ pub total_fits : (b : Balances) → IsBalances b → FitsSigned w64 (total b.sav
 total_fits b h =
     let savings = total_bounded b.savings (recursion_from_All IsWithinLimit b.savings (savings_within b.savings h.savings)) in
     let checking = total_bounded b.checking (recursion_from_All IsWithinLimit b.checking h.checking) in
-    omega (arith, ints, h.few, h.same, savings.at_least, checking.at_least, savings.at_most, checking.at_most)
+    omega (arith, ints, h.limit, h.same, savings.at_least, checking.at_least, savings.at_most, checking.at_most)
 
 -- ---- balances pass their tests
 
 within_passes : (v : ℤ) → IsWithinLimit v → is_past_limit v ≡ false
 within_passes v h = let low = h.at_least in let high = h.at_most in grind (arith, ints)
 
-saved_passes : (v : ℤ) → IsSavings v → is_negative v ≡ false
+saved_passes : (v : ℤ) → IsSavings v → is_below_zero v ≡ false
 saved_passes v h = let low = h.not_negative in grind (arith, ints)
 
 pub none_past_limit : (amounts : List ℤ) → All IsWithinLimit amounts → list_any is_past_limit amounts ≡ false
 none_past_limit amounts h = list_any_none is_past_limit amounts (All-weaker IsWithinLimit (λ v. is_past_limit v ≡ false) within_passes amounts h)
 
-pub none_negative : (amounts : List ℤ) → All IsSavings amounts → list_any is_negative amounts ≡ false
-none_negative amounts h = list_any_none is_negative amounts (All-weaker IsSavings (λ v. is_negative v ≡ false) saved_passes amounts h)
+pub none_negative : (amounts : List ℤ) → All IsSavings amounts → list_any is_below_zero amounts ≡ false
+none_negative amounts h = list_any_none is_below_zero amounts (All-weaker IsSavings (λ v. is_below_zero v ≡ false) saved_passes amounts h)

@@ -4,7 +4,8 @@ use Rattle.std.proofs.Math.Nat.{mul-div_cancel, mul_comm}
 use Rattle.std.proofs.lemmas.List.{drop-take, take-take, length-drop, length-map, length-take-le}
 use Rattle.std.specs.Simd.{first_chunks}
 use Rattle.sb_checkpoint.specs.Checkpoint.{Layout}
-use Rattle.sb_checkpoint.specs.Reading.{amount_of, amounts_at, empty_size, stated_reply, stated_customers, stated_length, stated_replies}
+use Rattle.sb_checkpoint.specs.Reading.{stated_amount, amounts_at, empty_size, stated_reply, stated_customers, stated_reply_count, stated_replies}
+use Rattle.lane_audit.proofs.Chunks.{length-first_chunks}
 
 -- the first chunks are in the front
 first_chunks-take : {X : Type 0} (n k m : ℕ) (xs : List X) → m ≡ k * n → first_chunks n k (take m xs) ≡ first_chunks n k xs
@@ -21,12 +22,8 @@ chunks_of_front n k m xs some is within =
     let count : length (take m xs) / n ≡ k = ap (λ j. j / n) (length-take-le m xs within ∙ is) ∙ mul-div_cancel k some in
     ap (λ j. first_chunks n j (take m xs)) count ∙ first_chunks-take n k m xs is
 
-pub length-first_chunks : {X : Type 0} (n k : ℕ) (xs : List X) → length (first_chunks n k xs) ≡ k
-length-first_chunks n zero xs = refl
-length-first_chunks n (suc k) xs = ap suc (length-first_chunks n k (drop n xs))
-
 pub length-amounts : (k : ℕ) (bytes : List ℕ) → length (amounts_at k bytes) ≡ k
-length-amounts k bytes = length-map (first_chunks 8 k bytes) amount_of ∙ length-first_chunks 8 k bytes
+length-amounts k bytes = length-map (first_chunks 8 k bytes) stated_amount ∙ length-first_chunks 8 k bytes
 
 -- the chunks of a part after a place are the first chunks of everything after it
 pub chunks_behind : (n from count : ℕ) (bytes : List ℕ) → 0 < n → from + n * count ≤ length bytes
@@ -36,8 +33,8 @@ chunks_behind n from count bytes some room =
     let whole : from + n * count - from ≡ count * n = omega (arith, mul_comm n count) in
     chunks_of_front n count (from + n * count - from) (drop from bytes) some whole (omega (arith, length-drop from bytes))
 
-pub reply_chunks : (layout : Layout) (bytes : List ℕ) (customers count : ℕ) → customers ≡ stated_customers bytes → count ≡ stated_length bytes
+pub reply_chunks : (layout : Layout) (bytes : List ℕ) (customers count : ℕ) → customers ≡ stated_customers bytes → count ≡ stated_reply_count bytes
     → map stated_reply (first_chunks 9 count (drop (empty_size layout + 16 * customers) bytes)) ≡ stated_replies layout bytes
 reply_chunks layout bytes customers count same_customers same_count =
     ap (λ n. map stated_reply (first_chunks 9 n (drop (empty_size layout + 16 * customers) bytes))) same_count
-    ∙ ap (λ n. map stated_reply (first_chunks 9 (stated_length bytes) (drop (empty_size layout + 16 * n) bytes))) same_customers
+    ∙ ap (λ n. map stated_reply (first_chunks 9 (stated_reply_count bytes) (drop (empty_size layout + 16 * n) bytes))) same_customers

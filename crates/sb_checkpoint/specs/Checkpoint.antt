@@ -3,7 +3,7 @@ use Rattle.std.specs.Prelude.{◌≡◌, ℕ, ◌≤◌, ℤ, ◌+ℤ◌, List, 
 use Rattle.std.specs.Int.{w32, w64}
 use Rattle.std.specs.List.{All, flat_map}
 use Rattle.sb_rows.specs.Balances.{Balances, IsBalances}
-use Rattle.sb_calls.specs.Replies.{IsReply, number_field, amount_field, reply_field}
+use Rattle.sb_calls.specs.Replies.{IsReply, integer_field, amount_field, reply_field}
 use Rattle.sb_calls.specs.declared.call.TheConstants.{LOG_CALLS}
 use Rattle.sb_calls.specs.declared.reply.Reply.{Reply}
 use Rattle.lane_audit.specs.Columns.{total}
@@ -18,7 +18,7 @@ pub record CheckpointOf : Type 0 where
 -- calls, each with a spelling
 pub record IsCheckpoint (checkpoint : CheckpointOf) : Type 0 where
   pub balances : IsBalances checkpoint.columns
-  pub few : length checkpoint.replies ≤ LOG_CALLS
+  pub limit : length checkpoint.replies ≤ LOG_CALLS
   pub replies : All IsReply checkpoint.replies
 
 -- what identifies the bank of a checkpoint: the number of customers, and their total at the opening
@@ -43,24 +43,24 @@ opening_field Second opening_total = amount_field opening_total
 
 -- the bytes of a checkpoint: the magic, the length, the number of customers, all savings, all
 -- checking balances, their total, the opening total if the layout has it, and the replies
-unfoldable pub spelling : Layout → ℤ → CheckpointOf → List ℕ
-spelling layout opening_total checkpoint =
+unfoldable pub checkpoint_spelling : Layout → ℤ → CheckpointOf → List ℕ
+checkpoint_spelling layout opening_total checkpoint =
     let columns = checkpoint.columns in
-    magic layout ++ number_field w64 (length checkpoint.replies) ++ number_field w32 (length columns.savings)
+    magic layout ++ integer_field w64 (length checkpoint.replies) ++ integer_field w32 (length columns.savings)
     ++ flat_map amount_field columns.savings ++ flat_map amount_field columns.checking
     ++ amount_field (total columns.savings +ℤ total columns.checking) ++ opening_field layout opening_total
     ++ flat_map reply_field checkpoint.replies
 
 -- the bytes spell a valid checkpoint in this layout, of a bank with this opening total
-pub record Spells (layout : Layout) (opening_total : ℤ) (checkpoint : CheckpointOf) (bytes : List ℕ) : Type 0 where
+pub record SpellsInLayout (layout : Layout) (opening_total : ℤ) (checkpoint : CheckpointOf) (bytes : List ℕ) : Type 0 where
   pub valid : IsCheckpoint checkpoint
-  pub spelled : bytes ≡ spelling layout opening_total checkpoint
+  pub spelled : bytes ≡ checkpoint_spelling layout opening_total checkpoint
 
 -- the bytes spell a checkpoint in one of the two layouts
-abbrev pub IsSpelled : ℤ → CheckpointOf → List ℕ → Type 0
-IsSpelled opening_total checkpoint bytes = (layout : Layout) × Spells layout opening_total checkpoint bytes
+abbrev pub SpellsCheckpoint : ℤ → CheckpointOf → List ℕ → Type 0
+SpellsCheckpoint opening_total checkpoint bytes = (layout : Layout) × SpellsInLayout layout opening_total checkpoint bytes
 
 -- bytes spell at most one checkpoint, in one layout
 abbrev pub OneCheckpoint : Type 0
-OneCheckpoint = (k l : Layout) (t u : ℤ) (a b : CheckpointOf) (bytes : List ℕ) → Spells k t a bytes → Spells l u b bytes
+OneCheckpoint = (k l : Layout) (t u : ℤ) (a b : CheckpointOf) (bytes : List ℕ) → SpellsInLayout k t a bytes → SpellsInLayout l u b bytes
     → (k ≡ l) × (a ≡ b)

@@ -1,7 +1,7 @@
 -- A store whose device fails at one call.
 use Rattle.std.specs.Prelude.{◌≡◌, ◌≢◌, ℕ, ◌-◌, Option, Some, Ok, Err, List}
-use Rattle.sb_checkpoint.specs.MemoryStore.{MemoryActs, MemoryStoreOf, one_more}
-use Rattle.sb_checkpoint.specs.Stores.{StoreModel, StoreStep, Put, Got, NotGot}
+use Rattle.sb_checkpoint.specs.MemoryStore.{MemoryActs, MemoryStoreOf, saturating_increment}
+use Rattle.sb_checkpoint.specs.Stores.{StoreModel, StoreStep, Put, Get, GetFault}
 use Rattle.sb_checkpoint.specs.declared.faulty_store.Version.{Version}
 use Rattle.sb_checkpoint.specs.declared.faulty_store.Version.TheVariants.{Old, New}
 use Rattle.sb_checkpoint.specs.declared.store.StoreFault.TheVariants.{Device, OutOfMemory}
@@ -14,42 +14,42 @@ pub record FaultyStoreOf : Type 0 where
   pub leaves : Version
 
 -- what is held after a put of these bytes failed
-abbrev pub left_by : Version → Option (List ℕ) → List ℕ → Option (List ℕ)
-left_by Old held bytes = held
-left_by New held bytes = Some bytes
+abbrev pub content_of_version : Version → Option (List ℕ) → List ℕ → Option (List ℕ)
+content_of_version Old content bytes = content
+content_of_version New content bytes = Some bytes
 
 -- the call at which the device fails: the failure is counted, and a get changes nothing else
 abbrev pub Fails : FaultyStoreOf → StoreStep → FaultyStoreOf → Type 0
 Fails old (Put bytes (Ok done)) new = ⊥
 Fails old (Put bytes (Err Device)) new = new ≡ record old {
   inner = record old.inner {
-    slot = left_by old.leaves old.inner.slot bytes;
-    failures = one_more old.inner.failures;
+    slot = content_of_version old.leaves old.inner.slot bytes;
+    failures = saturating_increment old.inner.failures;
   };
   at = 0;
 }
 Fails old (Put bytes (Err OutOfMemory)) new = (old.leaves ≡ New) × (new ≡ old)
-Fails old (Got held) new = ⊥
-Fails old (NotGot Device) new =
-    new ≡ record old { inner = record old.inner { failures = one_more old.inner.failures }; at = 0 }
-Fails old (NotGot OutOfMemory) new = ⊥
+Fails old (Get content) new = ⊥
+Fails old (GetFault Device) new =
+    new ≡ record old { inner = record old.inner { failures = saturating_increment old.inner.failures }; at = 0 }
+Fails old (GetFault OutOfMemory) new = ⊥
 
 -- the number of the failing call, counted from the next call on; a call that is refused memory
 -- isn't counted
-abbrev pub counted : ℕ → StoreStep → ℕ
-counted at (Put bytes (Ok done)) = at - 1
-counted at (Put bytes (Err Device)) = at - 1
-counted at (Put bytes (Err OutOfMemory)) = at
-counted at (Got held) = at - 1
-counted at (NotGot Device) = at - 1
-counted at (NotGot OutOfMemory) = at
+abbrev pub countdown_after : ℕ → StoreStep → ℕ
+countdown_after at (Put bytes (Ok done)) = at - 1
+countdown_after at (Put bytes (Err Device)) = at - 1
+countdown_after at (Put bytes (Err OutOfMemory)) = at
+countdown_after at (Get content) = at - 1
+countdown_after at (GetFault Device) = at - 1
+countdown_after at (GetFault OutOfMemory) = at
 
 -- the call whose turn it is fails; every other call acts on the store in memory
 abbrev pub FaultyActs : FaultyStoreOf → StoreStep → FaultyStoreOf → Type 0
 FaultyActs old step new =
     (old.at ≡ 1 → Fails old step new)
     × (old.at ≢ 1 → MemoryActs old.inner step new.inner
-    × (new ≡ record old { inner = new.inner; at = counted old.at step }))
+    × (new ≡ record old { inner = new.inner; at = countdown_after old.at step }))
 
 -- it holds what its store in memory holds, and its device fails if that one fails, or at the chosen
 -- call
@@ -57,6 +57,6 @@ abbrev pub faulty_model : StoreModel FaultyStoreOf
 faulty_model = record {
   slot = λ store. store.inner.slot;
   IsHonest = λ store. Unit {0};
-  failed = λ store. store.inner.failures;
+  failures = λ store. store.inner.failures;
   acts = FaultyActs;
 }

@@ -1,7 +1,7 @@
 -- A store in a file.
 use Rattle.std.specs.Prelude.{◌≡◌, ℕ, Option, None, Ok, Err, List}
-use Rattle.sb_checkpoint.specs.MemoryStore.{one_more}
-use Rattle.sb_checkpoint.specs.Stores.{StoreStep, Put, Got, NotGot}
+use Rattle.sb_checkpoint.specs.MemoryStore.{saturating_increment}
+use Rattle.sb_checkpoint.specs.Stores.{StoreStep, Put, Get, GetFault}
 use Rattle.sb_checkpoint.specs.declared.store.StoreFault.TheVariants.{Device, OutOfMemory}
 
 -- its file, and how often the device has failed
@@ -15,8 +15,8 @@ abbrev pub FileActs : {P : Type 0} → (P → Type 0) → (P → Option (List �
     → FileStoreOf P → StoreStep → FileStoreOf P → Type 0
 FileActs IsHonest spare old (Put bytes (Ok done)) new =
     (new.failures ≡ old.failures) × (IsHonest old.file → spare new.file ≡ None)
-FileActs IsHonest spare old (Put bytes (Err Device)) new = new.failures ≡ one_more old.failures
+FileActs IsHonest spare old (Put bytes (Err Device)) new = new.failures ≡ saturating_increment old.failures
 FileActs IsHonest spare old (Put bytes (Err OutOfMemory)) new = ⊥
-FileActs IsHonest spare old (Got held) new = new.failures ≡ old.failures
-FileActs IsHonest spare old (NotGot Device) new = new.failures ≡ one_more old.failures
-FileActs IsHonest spare old (NotGot OutOfMemory) new = new.failures ≡ old.failures
+FileActs IsHonest spare old (Get content) new = new.failures ≡ old.failures
+FileActs IsHonest spare old (GetFault Device) new = new.failures ≡ saturating_increment old.failures
+FileActs IsHonest spare old (GetFault OutOfMemory) new = new.failures ≡ old.failures

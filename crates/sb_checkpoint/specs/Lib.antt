@@ -4,8 +4,8 @@ pub mod Faults
 pub mod FaultyStore
 pub mod FileStore
 pub mod FolderFile
-pub mod Layouts
 pub mod MemoryStore
 pub mod Reading
 pub mod StoreFaults
 pub mod Stores
+pub mod inner

@@ -1,6 +1,6 @@
 -- A store in memory.
 use Rattle.std.specs.Prelude.{◌≡◌, ◌≢◌, ℕ, suc, ◌^◌, ◌-◌, ◌==◌, ◌⊎◌, if◌then◌else◌, Option, None, Some, Ok, Err, List}
-use Rattle.sb_checkpoint.specs.Stores.{StoreModel, StoreStep, Put, Got, NotGot}
+use Rattle.sb_checkpoint.specs.Stores.{StoreModel, StoreStep, Put, Get, GetFault}
 use Rattle.sb_checkpoint.specs.declared.memory_store.How.{How}
 use Rattle.sb_checkpoint.specs.declared.memory_store.How.TheVariants as how
 use Rattle.sb_checkpoint.specs.declared.store.StoreFault.TheVariants.{Device, OutOfMemory}
@@ -12,8 +12,8 @@ pub record MemoryStoreOf : Type 0 where
   pub failures : ℕ
 
 -- one more failure, up to the greatest number that can be reported
-abbrev pub one_more : ℕ → ℕ
-one_more failures = if failures == 2 ^ 64 - 1 then failures else suc failures
+abbrev pub saturating_increment : ℕ → ℕ
+saturating_increment failures = if failures == 2 ^ 64 - 1 then failures else suc failures
 
 -- a put ends as planned, and the next one succeeds; a get changes nothing, its device never fails,
 -- and it is refused memory only if something is held
@@ -21,18 +21,18 @@ abbrev pub MemoryActs : MemoryStoreOf → StoreStep → MemoryStoreOf → Type 0
 MemoryActs old (Put bytes (Ok done)) new =
     (old.next ≡ how.Ok) × (new ≡ record old { slot = Some bytes })
 MemoryActs old (Put bytes (Err Device)) new =
-    ((old.next ≡ how.Old) × (new ≡ record old { next = how.Ok; failures = one_more old.failures }))
-    ⊎ ((old.next ≡ how.New) × (new ≡ record { slot = Some bytes; next = how.Ok; failures = one_more old.failures }))
+    ((old.next ≡ how.Old) × (new ≡ record old { next = how.Ok; failures = saturating_increment old.failures }))
+    ⊎ ((old.next ≡ how.New) × (new ≡ record { slot = Some bytes; next = how.Ok; failures = saturating_increment old.failures }))
 MemoryActs old (Put bytes (Err OutOfMemory)) new = new ≡ old
-MemoryActs old (Got held) new = (held ≡ old.slot) × (new ≡ old)
-MemoryActs old (NotGot Device) new = ⊥
-MemoryActs old (NotGot OutOfMemory) new = (old.slot ≢ None) × (new ≡ old)
+MemoryActs old (Get content) new = (content ≡ old.slot) × (new ≡ old)
+MemoryActs old (GetFault Device) new = ⊥
+MemoryActs old (GetFault OutOfMemory) new = (old.slot ≢ None) × (new ≡ old)
 
 -- a store in memory holds what its model says
 abbrev pub memory_model : StoreModel MemoryStoreOf
 memory_model = record {
   slot = λ store. store.slot;
   IsHonest = λ store. Unit {0};
-  failed = λ store. store.failures;
+  failures = λ store. store.failures;
   acts = MemoryActs;
 }

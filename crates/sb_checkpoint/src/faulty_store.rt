@@ -1,7 +1,7 @@
 //! A store whose device fails at one call, for tests.
 ghost use Rattle.std.specs.Prelude.{◌≡◌, ◌-◌};
 ghost use Rattle.sb_checkpoint.specs.FaultyStore.{faulty_model};
-ghost use Rattle.sb_checkpoint.specs.MemoryStore.{one_more};
+ghost use Rattle.sb_checkpoint.specs.MemoryStore.{saturating_increment};
 ghost use Rattle.sb_checkpoint.specs.declared.store.StoreFault.TheVariants.{Device};
 
 use crate::memory_store::MemoryStore;
@@ -64,15 +64,15 @@ impl FaultyStore {
     }
 
     // Counts the failure of the device at this call.
-    fn failed(&mut self) -> StoreFault
+    fn count_failure(&mut self) -> StoreFault
         ensures fault { result ≡ Device }
-        ensures counted { self.new ≡ record self.old {
-          inner = record self.old.inner { failures = one_more self.old.inner.failures };
+        ensures state { self.new ≡ record self.old {
+          inner = record self.old.inner { failures = saturating_increment self.old.inner.failures };
           at = self.old.at - 1;
         } }
     {
         self.count();
-        self.inner.failed()
+        self.inner.count_failure()
     }
 }
 
@@ -82,9 +82,9 @@ impl CheckpointStore for FaultyStore {
     fn put(&mut self, bytes: &[u8]) -> Result<(), StoreFault> {
         if self.at == 1 {
             if self.leaves == Version::New {
-                self.inner.hold(bytes)?;
+                self.inner.set_content(bytes)?;
             }
-            return Err(self.failed());
+            return Err(self.count_failure());
         }
         let done = self.inner.put(bytes);
         match done {
@@ -96,11 +96,11 @@ impl CheckpointStore for FaultyStore {
 
     fn get(&mut self) -> Result<Option<Vec<u8>>, StoreFault> {
         if self.at == 1 {
-            return Err(self.failed());
+            return Err(self.count_failure());
         }
-        let held = self.inner.get()?;
+        let content = self.inner.get()?;
         self.count();
-        Ok(held)
+        Ok(content)
     }
 
     fn failures(&self) -> u64 {

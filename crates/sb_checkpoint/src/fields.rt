@@ -1,9 +1,10 @@
 //! The fields of a checkpoint, read in place.
 ghost use Rattle.std.specs.Prelude.{◌≡◌, if◌then◌else◌, ◌+◌, ◌*◌, ◌≤◌, IfOk, IfErr, Some, None, length, map, drop};
 ghost use Rattle.std.specs.List.{list_any};
-ghost use Rattle.sb_checkpoint.specs.Layouts.{layout_of};
+ghost use Rattle.sb_checkpoint.specs.inner.Layouts.{layout_of};
 ghost use Rattle.sb_checkpoint.specs.Reading as spec;
-ghost use Rattle.sb_checkpoint.specs.Reading.{IsFaultOf, amount_of, amounts_at, is_no_reply, stated_reply, stated_replies, stated_size};
+ghost use Rattle.sb_checkpoint.specs.inner.ReadingFaults.{IsFaultOf};
+ghost use Rattle.sb_checkpoint.specs.Reading.{stated_amount, amounts_at, is_no_reply, stated_reply, stated_replies, stated_size};
 ghost use Rattle.sb_checkpoint.specs.declared.fault.CheckpointFault.TheVariants.{BadReply};
 
 use crate::fault::CheckpointFault;
@@ -16,10 +17,10 @@ use std::alloc::{AllocError, Global};
 
 // ---- numbers
 
-#[tactic(auto, unfolding(crate::specs::Reading::stated_length))]
-pub(crate) fn stated_length(bytes: &[u8]) -> u64
+#[tactic(auto, unfolding(crate::specs::Reading::stated_reply_count))]
+pub(crate) fn stated_reply_count(bytes: &[u8]) -> u64
     requires { HEAD ≤ length bytes.now }
-    ensures { result ≡ spec.stated_length bytes.now }
+    ensures { result ≡ spec.stated_reply_count bytes.now }
 {
     let cells = &bytes[LENGTH_AT..];
     u64::from_be_bytes([
@@ -39,7 +40,7 @@ pub(crate) fn stated_customers(bytes: &[u8]) -> u32
 #[tactic(auto, unfolding(crate::specs::Reading::stated_total))]
 pub(crate) fn stated_total(bytes: &[u8], customers: usize) -> i64
     requires customers { customers ≡ spec.stated_customers bytes.now }
-    requires few { customers ≤ CUSTOMERS }
+    requires limit { customers ≤ CUSTOMERS }
     requires room { EMPTY_FIRST + BALANCES * customers ≤ length bytes.now }
     ensures { result ≡ spec.stated_total bytes.now }
 {
@@ -53,7 +54,7 @@ pub(crate) fn stated_total(bytes: &[u8], customers: usize) -> i64
 #[tactic(auto, unfolding(crate::specs::Reading::stated_opening))]
 pub(crate) fn stated_opening(bytes: &[u8], customers: usize) -> i64
     requires customers { customers ≡ spec.stated_customers bytes.now }
-    requires few { customers ≤ CUSTOMERS }
+    requires limit { customers ≤ CUSTOMERS }
     requires room { EMPTY_SECOND + BALANCES * customers ≤ length bytes.now }
     ensures { result ≡ spec.stated_opening bytes.now }
 {
@@ -72,7 +73,7 @@ pub(crate) fn read_amounts(
     from: usize,
     customers: usize,
 ) -> Result<Vec<i64>, AllocError>
-    requires few { customers ≤ CUSTOMERS }
+    requires limit { customers ≤ CUSTOMERS }
     requires room { from + AMOUNT * customers ≤ length bytes.now }
     ensures { IfOk result (λ amounts. amounts.items ≡ amounts_at customers (drop from bytes.now)) }
 {
@@ -81,7 +82,7 @@ pub(crate) fn read_amounts(
 }
 
 fn amounts_of(alloc: Global, cells: &[[u8; AMOUNT]]) -> Result<Vec<i64>, AllocError>
-    ensures { IfOk result (λ amounts. amounts.items ≡ map amount_of cells.now) }
+    ensures { IfOk result (λ amounts. amounts.items ≡ map stated_amount cells.now) }
 {
     cells
         .iter()
@@ -99,7 +100,7 @@ pub(crate) fn reply_cells(
     count: usize,
 ) -> &[[u8; REPLY]]
     requires customers { customers ≡ spec.stated_customers bytes.now }
-    requires count { count ≡ spec.stated_length bytes.now }
+    requires count { count ≡ spec.stated_reply_count bytes.now }
     requires room { stated_size (layout_of layout) bytes.now ≤ length bytes.now }
     ensures { map stated_reply result.now ≡ stated_replies (layout_of layout) bytes.now }
 {

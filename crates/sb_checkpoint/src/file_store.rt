@@ -1,10 +1,10 @@
 //! A store in a file.
 ghost use Rattle.std.specs.Prelude.{◌≡◌, None, OnOk, MatchResult};
 ghost use Rattle.sb_checkpoint.specs.FileStore.{FileActs};
-ghost use Rattle.sb_checkpoint.specs.MemoryStore.{one_more};
+ghost use Rattle.sb_checkpoint.specs.MemoryStore.{saturating_increment};
 ghost use Rattle.sb_checkpoint.specs.declared.store.StoreFault.TheVariants.{Device};
 
-use crate::spared::FileWithSpare;
+use crate::file_with_spare::FileWithSpare;
 use crate::store::{CheckpointStore, StoreFault};
 use std::marker::Model;
 
@@ -44,24 +44,24 @@ impl<P: FileWithSpare> FileStore<P> {
     /// no file can be made, synced and removed in it. Memory is never refused.
     pub fn probe(&mut self) -> Result<(), StoreFault>
         ensures honest { P.IsHonest self.old.file → P.IsHonest self.new.file }
-        ensures stays { P.IsHonest self.old.file → P.held self.new.file ≡ P.held self.old.file }
-        ensures gone { P.IsHonest self.old.file → OnOk result (P.spare self.new.file ≡ None) }
-        ensures counted { MatchResult result
+        ensures unchanged { P.IsHonest self.old.file → P.content self.new.file ≡ P.content self.old.file }
+        ensures no_spare { P.IsHonest self.old.file → OnOk result (P.spare self.new.file ≡ None) }
+        ensures failures { MatchResult result
             (λ done. self.new.failures ≡ self.old.failures)
-            (λ fault. (fault ≡ Device) × (self.new.failures ≡ one_more self.old.failures)) }
+            (λ fault. (fault ≡ Device) × (self.new.failures ≡ saturating_increment self.old.failures)) }
     {
         let written = self.file.write_spare(&[]);
         let removed = self.file.remove_spare();
         if written.is_err() || removed.is_err() {
-            return Err(self.failed());
+            return Err(self.count_failure());
         }
         Ok(())
     }
 
     // Counts one more failure of the device.
-    fn failed(&mut self) -> StoreFault
+    fn count_failure(&mut self) -> StoreFault
         ensures fault { result ≡ Device }
-        ensures counted { self.new ≡ record self.old { failures = one_more self.old.failures } }
+        ensures state { self.new ≡ record self.old { failures = saturating_increment self.old.failures } }
     {
         self.failures = self.failures.saturating_add(1);
         StoreFault::Device
@@ -70,9 +70,9 @@ impl<P: FileWithSpare> FileStore<P> {
 
 impl<P: FileWithSpare> CheckpointStore for FileStore<P> {
     ghost model = { record {
-      slot = λ store. P.held store.file;
+      slot = λ store. P.content store.file;
       IsHonest = λ store. P.IsHonest store.file;
-      failed = λ store. store.failures;
+      failures = λ store. store.failures;
       acts = FileActs P.IsHonest P.spare;
     } };
 
@@ -86,24 +86,24 @@ impl<P: FileWithSpare> CheckpointStore for FileStore<P> {
         }
         // The spare may be missing, or may refuse to go. The put has failed either way.
         let _ = self.file.remove_spare();
-        Err(self.failed())
+        Err(self.count_failure())
     }
 
     fn get(&mut self) -> Result<Option<Vec<u8>>, StoreFault> {
         match self.file.read() {
             Ok(found) => Ok(found),
-            Err(StoreFault::Device) => Err(self.failed()),
+            Err(StoreFault::Device) => Err(self.count_failure()),
             Err(StoreFault::OutOfMemory) => Err(StoreFault::OutOfMemory),
         }
     }
 
     // A file that is compared piece by piece needn't be held in memory.
-    fn holds(&mut self, bytes: &[u8]) -> Result<bool, StoreFault> {
-        let told = self.file.holds(bytes);
-        if let Err(StoreFault::Device) = told {
-            return Err(self.failed());
+    fn has_content(&mut self, bytes: &[u8]) -> Result<bool, StoreFault> {
+        let answer = self.file.has_content(bytes);
+        if let Err(StoreFault::Device) = answer {
+            return Err(self.count_failure());
         }
-        told
+        answer
     }
 
     fn failures(&self) -> u64 {

@@ -3,7 +3,7 @@ ghost use Rattle.std.specs.Prelude.{◌≡◌, ◌↔◌, None, IfOk, IfSome, Is
 ghost use Rattle.std.specs.Io.KnownBytes.{Appends};
 ghost use Rattle.sb_checkpoint.specs.FolderFile.{file_in};
 
-use crate::spared::FileWithSpare;
+use crate::file_with_spare::FileWithSpare;
 use crate::store::StoreFault;
 use std::alloc::{AllocError, Global};
 use std::fs::{Files, OpenFile};
@@ -81,7 +81,7 @@ fn write_synced<W: Write + OpenFile>(file: &mut W, bytes: &[u8]) -> io::Result<(
 // All bytes of a reader, with room for this many at first. An interrupted read is repeated, and
 // counts as one.
 fn read_whole<R: Read>(alloc: Global, room: usize, reader: &mut R) -> Result<Vec<u8>, StoreFault>
-    ensures { IfOk result (λ bytes. IfSome (R.remaining reader.old) (λ held. bytes.items ≡ held)) }
+    ensures { IfOk result (λ bytes. IfSome (R.remaining reader.old) (λ content. bytes.items ≡ content)) }
 {
     let mut bytes = Vec::new(alloc);
     if bytes.reserve(room).is_err() {
@@ -107,8 +107,8 @@ fn read_whole<R: Read>(alloc: Global, room: usize, reader: &mut R) -> Result<Vec
 }
 
 // Whether a reader gives exactly these bytes. An interrupted read is repeated, and counts as one.
-fn gives_just<R: Read>(reader: &mut R, bytes: &[u8]) -> Result<bool, StoreFault>
-    ensures { IfOk result (λ same. IfSome (R.remaining reader.old) (λ held. IsTrue same ↔ (held ≡ bytes.now))) }
+fn reads_exactly<R: Read>(reader: &mut R, bytes: &[u8]) -> Result<bool, StoreFault>
+    ensures { IfOk result (λ same. IfSome (R.remaining reader.old) (λ content. IsTrue same ↔ (content ≡ bytes.now))) }
 {
     let mut rest = bytes;
     let mut chunk = [0u8; CHUNK];
@@ -130,7 +130,7 @@ fn gives_just<R: Read>(reader: &mut R, bytes: &[u8]) -> Result<bool, StoreFault>
 }
 
 impl<F: Files + Drop> FileWithSpare for FolderFile<F> {
-    ghost held = { λ file. None };
+    ghost content = { λ file. None };
 
     ghost spare = { λ file. None };
 
@@ -168,9 +168,9 @@ impl<F: Files + Drop> FileWithSpare for FolderFile<F> {
     }
 
     // The comparison is piece by piece, so the bytes needn't all be in memory.
-    fn holds(&mut self, bytes: &[u8]) -> Result<bool, StoreFault> {
+    fn has_content(&mut self, bytes: &[u8]) -> Result<bool, StoreFault> {
         match fs::open(&self.files, &self.path) {
-            Ok(mut file) => gives_just(&mut file, bytes),
+            Ok(mut file) => reads_exactly(&mut file, bytes),
             Err(error) if error.kind() == ErrorKind::NotFound => Ok(false),
             Err(_) => Err(StoreFault::Device),
         }

@@ -1,6 +1,6 @@
 //! The layouts of a checkpoint: the places of its fields, and their sizes in bytes.
 ghost use Rattle.std.specs.Prelude.{◌≡◌, option_map};
-ghost use Rattle.sb_checkpoint.specs.Layouts.{layout_of};
+ghost use Rattle.sb_checkpoint.specs.inner.Layouts.{layout_of};
 ghost use Rattle.sb_checkpoint.specs.Reading as spec;
 
 /// The layout of a checkpoint. The first is only read, the second also keeps the opening total.

@@ -1,6 +1,6 @@
 //! A store in memory, whose puts end as planned.
 ghost use Rattle.std.specs.Prelude.{◌≡◌, None, Some, Err, IfOk, MatchResult, OnErr};
-ghost use Rattle.sb_checkpoint.specs.MemoryStore.{memory_model, one_more};
+ghost use Rattle.sb_checkpoint.specs.MemoryStore.{memory_model, saturating_increment};
 
 use crate::store::{CheckpointStore, StoreFault};
 use std::alloc::Global;
@@ -60,19 +60,19 @@ impl MemoryStore {
     }
 
     // Holds a copy of these bytes.
-    pub(crate) fn hold(&mut self, bytes: &[u8]) -> Result<(), StoreFault>
+    pub(crate) fn set_content(&mut self, bytes: &[u8]) -> Result<(), StoreFault>
         ensures { MatchResult result
             (λ done. self.new ≡ record self.old { slot = Some bytes.now })
             (λ fault. (fault ≡ StoreFault.OutOfMemory) × (self.new ≡ self.old)) }
     {
-        self.bytes = Some(copied(self.alloc, bytes)?);
+        self.bytes = Some(copy_of(self.alloc, bytes)?);
         Ok(())
     }
 
     // Counts one more failure of the device.
-    pub(crate) fn failed(&mut self) -> StoreFault
+    pub(crate) fn count_failure(&mut self) -> StoreFault
         ensures fault { result ≡ StoreFault.Device }
-        ensures counted { self.new ≡ record self.old { failures = one_more self.old.failures } }
+        ensures state { self.new ≡ record self.old { failures = saturating_increment self.old.failures } }
     {
         self.failures = self.failures.saturating_add(1);
         StoreFault::Device
@@ -80,7 +80,7 @@ impl MemoryStore {
 }
 
 // A copy of some bytes.
-fn copied(alloc: Global, bytes: &[u8]) -> Result<Vec<u8>, StoreFault>
+fn copy_of(alloc: Global, bytes: &[u8]) -> Result<Vec<u8>, StoreFault>
     ensures copy { IfOk result (λ copy. copy.items ≡ bytes.now) }
     ensures err { OnErr result (result ≡ Err StoreFault.OutOfMemory) }
 {
@@ -96,7 +96,7 @@ impl CheckpointStore for MemoryStore {
     ghost model = { memory_model };
 
     fn put(&mut self, bytes: &[u8]) -> Result<(), StoreFault> {
-        let copy = copied(self.alloc, bytes)?;
+        let copy = copy_of(self.alloc, bytes)?;
         let how = self.next;
         if how != How::Old {
             self.bytes = Some(copy);
@@ -105,12 +105,12 @@ impl CheckpointStore for MemoryStore {
             return Ok(());
         }
         self.next = How::Ok;
-        Err(self.failed())
+        Err(self.count_failure())
     }
 
     fn get(&mut self) -> Result<Option<Vec<u8>>, StoreFault> {
         match &self.bytes {
-            Some(bytes) => Ok(Some(copied(self.alloc, bytes)?)),
+            Some(bytes) => Ok(Some(copy_of(self.alloc, bytes)?)),
             None => Ok(None),
         }
     }

@@ -2,7 +2,7 @@
 ghost use Rattle.std.specs.Prelude.{◌≡◌, ◌≤◌, ◌+◌, ◌*◌, ◌++◌, length, vec_len, vec_capacity};
 ghost use Rattle.std.specs.Int.{w32, w64};
 ghost use Rattle.std.specs.List.{flat_map};
-ghost use Rattle.sb_calls.specs.Replies.{number_field, amount_field, reply_field};
+ghost use Rattle.sb_calls.specs.Replies.{integer_field, amount_field, reply_field};
 
 use crate::layout::{AMOUNT, REPLY};
 use sb_calls::Reply;
@@ -19,10 +19,10 @@ pub(crate) fn put(out: &mut Vec<u8>, bytes: &[u8])
 }
 
 #[inline]
-#[tactic(auto, unfolding(sb_calls::specs::Replies::number_field))]
+#[tactic(auto, unfolding(sb_calls::specs::Replies::integer_field))]
 pub(crate) fn put_length(out: &mut Vec<u8>, length: u64)
     requires { vec_len out.old + 8 ≤ vec_capacity out.old }
-    ensures items { out.new.items ≡ out.old.items ++ number_field w64 length }
+    ensures items { out.new.items ≡ out.old.items ++ integer_field w64 length }
     ensures len { vec_len out.new ≡ vec_len out.old + 8 }
     ensures room { vec_capacity out.old ≤ vec_capacity out.new }
 {
@@ -30,10 +30,10 @@ pub(crate) fn put_length(out: &mut Vec<u8>, length: u64)
 }
 
 #[inline]
-#[tactic(auto, unfolding(sb_calls::specs::Replies::number_field))]
+#[tactic(auto, unfolding(sb_calls::specs::Replies::integer_field))]
 pub(crate) fn put_customers(out: &mut Vec<u8>, customers: u32)
     requires { vec_len out.old + 4 ≤ vec_capacity out.old }
-    ensures items { out.new.items ≡ out.old.items ++ number_field w32 customers }
+    ensures items { out.new.items ≡ out.old.items ++ integer_field w32 customers }
     ensures len { vec_len out.new ≡ vec_len out.old + 4 }
     ensures room { vec_capacity out.old ≤ vec_capacity out.new }
 {
@@ -41,7 +41,7 @@ pub(crate) fn put_customers(out: &mut Vec<u8>, customers: u32)
 }
 
 #[inline]
-#[tactic(auto, unfolding(sb_calls::specs::Replies::number_field))]
+#[tactic(auto, unfolding(sb_calls::specs::Replies::integer_field))]
 pub(crate) fn put_amount(out: &mut Vec<u8>, amount: i64)
     requires { vec_len out.old + AMOUNT ≤ vec_capacity out.old }
     ensures items { out.new.items ≡ out.old.items ++ amount_field amount }
@@ -64,7 +64,7 @@ pub(crate) fn put_amounts(out: &mut Vec<u8>, amounts: &[i64])
 
 // In one piece, which takes a third less time than two.
 #[inline]
-#[tactic(auto, unfolding(sb_calls::specs::Replies::number_field))]
+#[tactic(auto, unfolding(sb_calls::specs::Replies::integer_field))]
 pub(crate) fn put_reply(out: &mut Vec<u8>, reply: Reply)
     requires { vec_len out.old + REPLY ≤ vec_capacity out.old }
     ensures items { out.new.items ≡ out.old.items ++ reply_field reply }

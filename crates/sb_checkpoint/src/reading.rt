@@ -2,17 +2,18 @@
 ghost use Rattle.std.specs.Prelude.{◌≡◌, ◌+◌, ◌*◌, ◌≤◌, IfOk, OnOk, MatchResult, None, Some, length, map};
 ghost use Rattle.std.specs.List.{list_any};
 ghost use Rattle.sb_rows.specs.Balances.{IsBalances};
-ghost use Rattle.sb_checkpoint.specs.Checkpoint.{IsSpelled, Origin};
-ghost use Rattle.sb_checkpoint.specs.Layouts.{layout_of};
+ghost use Rattle.sb_checkpoint.specs.Checkpoint.{SpellsCheckpoint, Origin};
+ghost use Rattle.sb_checkpoint.specs.inner.Layouts.{layout_of};
 ghost use Rattle.sb_checkpoint.specs.Reading as spec;
 ghost use Rattle.sb_checkpoint.specs.Reading.{stated_checking, stated_replies, stated_savings, stated_size};
-ghost use Rattle.sb_checkpoint.specs.Reading.{balances_fault, first_fault, head_fault, is_negative, opening_fault, replies_fault};
-ghost use Rattle.sb_checkpoint.specs.Reading.{IsFaultOf, IsRefusedBy};
+ghost use Rattle.sb_checkpoint.specs.Reading.{balances_fault, first_fault, head_fault, is_below_zero, opening_fault, replies_fault};
+ghost use Rattle.sb_checkpoint.specs.inner.ReadingFaults.{IsFaultOf};
+ghost use Rattle.sb_checkpoint.specs.Reading.{IsRefusedBy};
 
 use crate::checkpoint::Checkpoint;
 use crate::fault::CheckpointFault;
 use crate::fields::{
-    read_amounts, replies_of, reply_cells, stated_customers, stated_length, stated_opening,
+    read_amounts, replies_of, reply_cells, stated_customers, stated_opening, stated_reply_count,
     stated_total,
 };
 use crate::layout::{AMOUNT, BALANCES, EMPTY_FIRST, HEAD, Layout, REPLY};
@@ -28,7 +29,7 @@ use std::alloc::Global;
 fn read_head(bytes: &[u8], customers: usize) -> Result<(Layout, usize), CheckpointFault>
     requires { customers ≤ CUSTOMERS }
     ensures layout { IfOk result (λ head. spec.stated_layout bytes.now ≡ Some (layout_of head.0)) }
-    ensures length { IfOk result (λ head. head.1 ≡ spec.stated_length bytes.now) }
+    ensures length { IfOk result (λ head. head.1 ≡ spec.stated_reply_count bytes.now) }
     ensures customers { OnOk result (spec.stated_customers bytes.now ≡ customers) }
     ensures room { IfOk result (λ head. stated_size (layout_of head.0) bytes.now ≤ length bytes.now) }
     ensures fault { MatchResult result
@@ -41,7 +42,7 @@ fn read_head(bytes: &[u8], customers: usize) -> Result<(Layout, usize), Checkpoi
     if bytes.len() < HEAD {
         return Err(CheckpointFault::Short);
     }
-    let length = stated_length(bytes);
+    let length = stated_reply_count(bytes);
     let stated = stated_customers(bytes);
     // Wide enough for any stated numbers.
     let size = layout.empty_size() as u128
@@ -65,7 +66,7 @@ fn is_past_limit(amounts: &[i64]) -> bool
 
 // Whether an amount is below 0.
 fn has_negative(amounts: &[i64]) -> bool
-    ensures { result ≡ list_any is_negative amounts.now }
+    ensures { result ≡ list_any is_below_zero amounts.now }
 {
     count_below(amounts, 0) > 0
 }
@@ -73,7 +74,7 @@ fn has_negative(amounts: &[i64]) -> bool
 #[tactic(auto, unfolding(crate::specs::Reading::balances_fault))]
 fn read_columns(alloc: Global, bytes: &[u8], customers: usize) -> Result<Columns, CheckpointFault>
     requires customers { customers ≡ spec.stated_customers bytes.now }
-    requires few { customers ≤ CUSTOMERS }
+    requires limit { customers ≤ CUSTOMERS }
     requires room { EMPTY_FIRST + BALANCES * customers ≤ length bytes.now }
     ensures savings { IfOk result (λ columns. columns.savings ≡ stated_savings bytes.now) }
     ensures checking { IfOk result (λ columns. columns.checking ≡ stated_checking bytes.now) }
@@ -104,7 +105,7 @@ fn check_opening(
     opening_total: i64,
 ) -> Result<(), CheckpointFault>
     requires customers { customers ≡ spec.stated_customers bytes.now }
-    requires few { customers ≤ CUSTOMERS }
+    requires limit { customers ≤ CUSTOMERS }
     requires room { stated_size (layout_of layout) bytes.now ≤ length bytes.now }
     ensures { MatchResult result
         (λ _. opening_fault (layout_of layout) bytes.now opening_total ≡ None)
@@ -126,7 +127,7 @@ fn read_replies(
     count: usize,
 ) -> Result<Vec<Reply>, CheckpointFault>
     requires customers { customers ≡ spec.stated_customers bytes.now }
-    requires count { count ≡ spec.stated_length bytes.now }
+    requires count { count ≡ spec.stated_reply_count bytes.now }
     requires room { stated_size (layout_of layout) bytes.now ≤ length bytes.now }
     ensures replies { IfOk result
         (λ replies. map (λ r. Some r) replies.items ≡ stated_replies (layout_of layout) bytes.now) }
@@ -155,7 +156,7 @@ pub fn read_checkpoint(
 ) -> Result<Checkpoint, CheckpointFault>
     requires { customers ≤ CUSTOMERS }
     ensures checkpoint { IfOk result
-        (λ checkpoint. IsSpelled opening_total checkpoint bytes.now) }
+        (λ checkpoint. SpellsCheckpoint opening_total checkpoint bytes.now) }
     ensures customers { IfOk result (λ checkpoint. length checkpoint.columns.savings ≡ customers) }
     ensures fault { let origin : Origin = record { customers = customers; opening_total = opening_total } in
         MatchResult result

@@ -1,7 +1,7 @@
-//! Where a replica keeps its checkpoint.
+//! Where a replica stores its checkpoint.
 ghost use Rattle.std.specs.Prelude.{◌≡◌, MatchResult, option_map};
 ghost use Rattle.sb_checkpoint.specs.StoreFaults.{store_fault_number};
-ghost use Rattle.sb_checkpoint.specs.Stores.{Compares, StoreDoes, StoreModel, TellsSame, Put, Got, NotGot};
+ghost use Rattle.sb_checkpoint.specs.Stores.{Compares, StoreDoes, StoreModel, ReportsSame, Put, Get, GetFault};
 
 use thiserror::Error;
 
@@ -45,27 +45,27 @@ pub trait CheckpointStore: Drop {
     /// The bytes that it holds, or `None` before the first put.
     fn get(&mut self) -> Result<Option<Vec<u8>>, StoreFault>
         ensures { MatchResult result
-            (λ held. StoreDoes model self.old
-            (Got (option_map (λ bytes. bytes.items) held)) self.new)
-            (λ fault. StoreDoes model self.old (NotGot fault) self.new) };
+            (λ content. StoreDoes model self.old
+            (Get (option_map (λ bytes. bytes.items) content)) self.new)
+            (λ fault. StoreDoes model self.old (GetFault fault) self.new) };
 
     /// Whether it holds exactly these bytes, as [`CheckpointStore::get`] would return them.
-    fn holds(&mut self, bytes: &[u8]) -> Result<bool, StoreFault>
+    fn has_content(&mut self, bytes: &[u8]) -> Result<bool, StoreFault>
         ensures { MatchResult result
             (λ same. Compares (StoreDoes model) self.old bytes.now same self.new)
-            (λ fault. StoreDoes model self.old (NotGot fault) self.new) }
+            (λ fault. StoreDoes model self.old (GetFault fault) self.new) }
     {
         Ok(is_same(&self.get()?, bytes))
     }
 
     /// How often its device has failed, up to the greatest number that can be reported.
     fn failures(&self) -> u64
-        ensures { result ≡ model.failed self.now };
+        ensures { result ≡ model.failures self.now };
 }
 
 // Whether exactly these bytes were found.
 pub(crate) fn is_same(found: &Option<Vec<u8>>, bytes: &[u8]) -> bool
-    ensures { TellsSame bytes.now result (option_map (λ found. found.items) found.now) }
+    ensures { ReportsSame bytes.now result (option_map (λ found. found.items) found.now) }
 {
     match found {
         Some(found) => found.as_slice() == bytes,

@@ -3,7 +3,7 @@ ghost use Rattle.std.specs.Prelude.{◌≡◌, ◌≤◌, ◌<◌, ◌-◌, ◌+
 ghost use Rattle.std.specs.List.{All, flat_map};
 ghost use Rattle.sb_calls.specs.Replies.{IsReply, reply_field};
 ghost use Rattle.sb_calls.specs.declared.reply.Reply.{Reply as AnyReply};
-ghost use Rattle.sb_checkpoint.specs.Checkpoint.{Spells, Second};
+ghost use Rattle.sb_checkpoint.specs.Checkpoint.{SpellsInLayout, Second};
 
 use crate::layout::{BALANCES, EMPTY_SECOND, MAGIC_SECOND, REPLY};
 use crate::putting::{put, put_amount, put_amounts, put_customers, put_length, put_reply};
@@ -21,9 +21,9 @@ pub fn write_checkpoint(
     opening_total: i64,
     replies: &[Reply],
 ) -> Result<Vec<u8>, AllocError>
-    requires few { length replies.now ≤ LOG_CALLS }
+    requires limit { length replies.now ≤ LOG_CALLS }
     requires replies { All IsReply replies.now }
-    ensures { IfOk result (λ bytes. Spells Second opening_total
+    ensures { IfOk result (λ bytes. SpellsInLayout Second opening_total
         (record { columns = columns.now; replies = replies.now }) bytes.items) }
 {
     let mut draft = Draft::begin(alloc, columns, opening_total, replies.len())?;
@@ -62,11 +62,11 @@ impl Draft {
         opening_total: i64,
         replies: usize,
     ) -> Result<Draft, AllocError>
-        requires few { replies ≤ LOG_CALLS }
+        requires limit { replies ≤ LOG_CALLS }
         ensures missing { IfOk result (λ draft. draft.missing ≡ replies) }
         // Followed by all replies, the bytes make a checkpoint.
         ensures begins { IfOk result (λ draft. (all : List AnyReply) → length all ≡ replies → All IsReply all
-            → Spells Second opening_total (record { columns = columns.now; replies = all })
+            → SpellsInLayout Second opening_total (record { columns = columns.now; replies = all })
             (draft.bytes ++ flat_map reply_field all)) }
     {
         let customers = columns.customers();

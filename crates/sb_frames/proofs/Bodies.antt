@@ -4,8 +4,8 @@ use Rattle.std.specs.Int.{w32, w64}
 use Rattle.std.proofs.lemmas.Bool.{eqb-true}
 use Rattle.std.proofs.lemmas.List.{append-nil, nil_from_length}
 use Rattle.std.proofs.lemmas.List.Elements.{All-head}
-use Rattle.sb_calls.specs.Replies.{number_field, reply_field}
-use Rattle.sb_frames.specs.Decoding.{ask_at, entry_at, replica_and_length_at, answer_at, outcome_frame_at, of_tag, tagged_at, frame_of}
+use Rattle.sb_calls.specs.Replies.{integer_field, reply_field}
+use Rattle.sb_frames.specs.Decoding.{ask_at, entry_at, replica_and_length_at, answer_at, outcome_frame_at, frame_of_tag, tagged_at, frame_of}
 use Rattle.sb_frames.specs.Fields.{call_field, outcome_field}
 use Rattle.sb_frames.specs.Grammar.{IsFrame, body}
 use Rattle.sb_frames.specs.Reading.{byte_at}
@@ -15,10 +15,10 @@ use Rattle.sb_frames.specs.declared.fault.FrameFault.TheVariants.{BadLength, Unk
 use Rattle.sb_frames.specs.declared.frame.Frame.{Frame}
 use Rattle.sb_frames.specs.declared.frame.Frame.TheVariants.{Ask, Entry, Ack, Answer, Outcome, Flush, Have}
 use Rattle.sb_frames.proofs.Calls.{call}
-use Rattle.sb_frames.proofs.Numbers.{IsField, number32, number64}
+use Rattle.sb_frames.proofs.IntegerFields.{IsField, number32, number64}
 use Rattle.sb_frames.proofs.Outcomes.{reply, outcome}
-use Rattle.sb_frames.proofs.Rows.{two_take, three_take, two_again, three_again, made, Behind, is_behind}
-use Rattle.sb_frames.proofs.Steps.{first_step, accepted, same_value, tagged, byte_takes, rest_bytes}
+use Rattle.sb_frames.proofs.FieldSequences.{two_take, three_take, two_again, three_again, made, Behind, is_behind}
+use Rattle.sb_frames.proofs.ReadingSteps.{first_step, accepted, same_value, tagged, byte_takes, rest_bytes}
 
 one_byte_takes : (bytes : List ℕ) (n : ℕ) (rest : List ℕ) → AreBytes bytes → byte_at bytes ≡ Ok (n, rest) → (n < 2 ^ 8) × (bytes ≡ (n ∷ []) ++ rest)
 one_byte_takes bytes n rest are e =
@@ -37,7 +37,7 @@ ask_takes : (tag : ℕ) (bytes : List ℕ) (frame : Frame) (rest : List ℕ) →
 unfolding ask_at
 ask_takes tag bytes frame rest are is e =
     let t = three_take number32 number32 call Ask bytes frame rest are e in
-    is_behind IsFrame body tag 1 bytes (number_field w32 t.0 ++ (number_field w32 t.1 ++ call_field t.2)) rest frame (Ask t.0 t.1 t.2) is t.6 t.7
+    is_behind IsFrame body tag 1 bytes (integer_field w32 t.0 ++ (integer_field w32 t.1 ++ call_field t.2)) rest frame (Ask t.0 t.1 t.2) is t.6 t.7
     (t.3, t.4, t.5) refl
 
 entry_takes : (tag : ℕ) (bytes : List ℕ) (frame : Frame) (rest : List ℕ) → AreBytes bytes → tag ≡ 2 → entry_at bytes ≡ Ok (frame, rest)
@@ -45,33 +45,33 @@ entry_takes : (tag : ℕ) (bytes : List ℕ) (frame : Frame) (rest : List ℕ) �
 unfolding entry_at
 entry_takes tag bytes frame rest are is e =
     let t = two_take number64 call Entry bytes frame rest are e in
-    is_behind IsFrame body tag 2 bytes (number_field w64 t.0 ++ call_field t.1) rest frame (Entry t.0 t.1) is t.4 t.5 (t.2, t.3) refl
+    is_behind IsFrame body tag 2 bytes (integer_field w64 t.0 ++ call_field t.1) rest frame (Entry t.0 t.1) is t.4 t.5 (t.2, t.3) refl
 
 -- a frame with a replica's number and a length
 replica_and_length_takes : (tag n : ℕ) (make : ℕ → ℕ → Frame)
     → ((replica size : ℕ) → replica < 2 ^ 8 → size < 2 ^ 64
-    → IsFrame (make replica size) × (body (make replica size) ≡ n ∷ replica ∷ number_field w64 size))
+    → IsFrame (make replica size) × (body (make replica size) ≡ n ∷ replica ∷ integer_field w64 size))
     → (bytes : List ℕ) (frame : Frame) (rest : List ℕ) → AreBytes bytes → tag ≡ n → replica_and_length_at make bytes ≡ Ok (frame, rest)
     → Framed tag bytes frame rest
 unfolding replica_and_length_at
 replica_and_length_takes tag n make made bytes frame rest are is e =
     let t = two_take byte number64 make bytes frame rest are e in
     let m = made t.0 t.1 t.2 t.3 in
-    is_behind IsFrame body tag n bytes (t.0 ∷ number_field w64 t.1) rest frame (make t.0 t.1) is t.4 t.5 m.0 m.1
+    is_behind IsFrame body tag n bytes (t.0 ∷ integer_field w64 t.1) rest frame (make t.0 t.1) is t.4 t.5 m.0 m.1
 
 answer_takes : (tag : ℕ) (bytes : List ℕ) (frame : Frame) (rest : List ℕ) → AreBytes bytes → tag ≡ 4 → answer_at bytes ≡ Ok (frame, rest)
     → Framed tag bytes frame rest
 unfolding answer_at
 answer_takes tag bytes frame rest are is e =
     let t = two_take number64 reply Answer bytes frame rest are e in
-    is_behind IsFrame body tag 4 bytes (number_field w64 t.0 ++ reply_field t.1) rest frame (Answer t.0 t.1) is t.4 t.5 (t.2, t.3) refl
+    is_behind IsFrame body tag 4 bytes (integer_field w64 t.0 ++ reply_field t.1) rest frame (Answer t.0 t.1) is t.4 t.5 (t.2, t.3) refl
 
 outcome_frame_takes : (tag : ℕ) (bytes : List ℕ) (frame : Frame) (rest : List ℕ) → AreBytes bytes → tag ≡ 5 → outcome_frame_at bytes ≡ Ok (frame, rest)
     → Framed tag bytes frame rest
 unfolding outcome_frame_at
 outcome_frame_takes tag bytes frame rest are is e =
     let t = three_take number32 number32 outcome Outcome bytes frame rest are e in
-    is_behind IsFrame body tag 5 bytes (number_field w32 t.0 ++ (number_field w32 t.1 ++ outcome_field t.2)) rest frame (Outcome t.0 t.1 t.2) is t.6 t.7
+    is_behind IsFrame body tag 5 bytes (integer_field w32 t.0 ++ (integer_field w32 t.1 ++ outcome_field t.2)) rest frame (Outcome t.0 t.1 t.2) is t.6 t.7
     (t.3, t.4, t.5) refl
 
 flush_takes : (tag : ℕ) (bytes : List ℕ) (frame : Frame) (rest : List ℕ) → tag ≡ 6 → made Flush bytes ≡ made frame rest → Framed tag bytes frame rest
@@ -79,7 +79,7 @@ flush_takes tag bytes frame rest is e =
     let same = same_value (Flush, bytes) (frame, rest) e in
     is_behind IsFrame body tag 6 bytes [] rest frame Flush is (ap (λ (p : Frame × List ℕ). p.0) (sym same)) (ap (λ (p : Frame × List ℕ). p.1) same) tt refl
 
-tag_takes : (tag : ℕ) (bytes : List ℕ) (frame : Frame) (rest : List ℕ) → AreBytes bytes → of_tag tag bytes ≡ Ok (frame, rest) → Framed tag bytes frame rest
+tag_takes : (tag : ℕ) (bytes : List ℕ) (frame : Frame) (rest : List ℕ) → AreBytes bytes → frame_of_tag tag bytes ≡ Ok (frame, rest) → Framed tag bytes frame rest
 tag_takes tag bytes frame rest are e =
     let Goal = Framed tag bytes frame rest in
     let none : Result (Frame × List ℕ) FrameFault = Err UnknownTag in
@@ -104,7 +104,7 @@ tagged_takes : (bytes : List ℕ) (frame : Frame) (rest : List ℕ) → AreBytes
     → IsFrame frame × (bytes ≡ body frame ++ rest)
 unfolding tagged_at
 tagged_takes bytes frame rest are e =
-    let tag = first_step (byte_at bytes) (λ tag. of_tag tag.0 tag.1) (frame, rest) e in
+    let tag = first_step (byte_at bytes) (λ tag. frame_of_tag tag.0 tag.1) (frame, rest) e in
     let front = byte_takes bytes tag.0.0 tag.0.1 tag.1 in
     let framed = tag_takes tag.0.0 tag.0.1 frame rest (rest_bytes bytes (tag.0.0 ∷ []) tag.0.1 are front) tag.2 in
     (framed.0, front ∙ framed.1)

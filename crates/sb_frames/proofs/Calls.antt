@@ -6,16 +6,16 @@ use Rattle.sb_calls.specs.Replies.{amount_field}
 use Rattle.sb_calls.specs.declared.call.Call.{Call}
 use Rattle.sb_calls.specs.declared.call.Call.TheVariants.{Balance, DepositChecking, TransactSavings, Amalgamate, WriteCheck, SendPayment}
 use Rattle.sb_rows.specs.Name.{IsName}
-use Rattle.sb_frames.specs.Calls.{one_name_at, name_and_amount_at, two_names_at, two_names_and_amount_at, of_kind, call_at}
+use Rattle.sb_frames.specs.Calls.{one_name_at, name_and_amount_at, two_names_at, two_names_and_amount_at, call_of_kind, call_at}
 use Rattle.sb_frames.specs.Fields.{name_field, call_field}
 use Rattle.sb_frames.specs.Reading.{byte_at}
 use Rattle.sb_frames.specs.Streaming.{AreBytes}
 use Rattle.sb_frames.specs.declared.fault.FrameFault.{FrameFault}
 use Rattle.sb_frames.specs.declared.fault.FrameFault.TheVariants.{UnknownTag}
 use Rattle.sb_frames.proofs.Names.{amount, name}
-use Rattle.sb_frames.proofs.Numbers.{IsField}
-use Rattle.sb_frames.proofs.Rows.{one_takes, two_take, three_take, one_again, two_again, three_again, Behind, is_behind}
-use Rattle.sb_frames.proofs.Steps.{first_step, tagged, byte_takes, rest_bytes}
+use Rattle.sb_frames.proofs.IntegerFields.{IsField}
+use Rattle.sb_frames.proofs.FieldSequences.{one_takes, two_take, three_take, one_again, two_again, three_again, Behind, is_behind}
+use Rattle.sb_frames.proofs.ReadingSteps.{first_step, tagged, byte_takes, rest_bytes}
 
 abbrev Spelled : ℕ → List ℕ → Call → List ℕ → Type 0
 Spelled kind bytes call rest = Behind IsCall call_field kind bytes call rest
@@ -50,7 +50,7 @@ payment_takes kind bytes call rest are is e =
     is_behind IsCall call_field kind 6 bytes (name_field t.0 ++ (name_field t.1 ++ amount_field t.2)) rest call (SendPayment t.0 t.1 t.2) is t.6 t.7
     (t.3, t.4, t.5) refl
 
-kind_takes : (kind : ℕ) (bytes : List ℕ) (call : Call) (rest : List ℕ) → AreBytes bytes → of_kind kind bytes ≡ Ok (call, rest) → Spelled kind bytes call rest
+kind_takes : (kind : ℕ) (bytes : List ℕ) (call : Call) (rest : List ℕ) → AreBytes bytes → call_of_kind kind bytes ≡ Ok (call, rest) → Spelled kind bytes call rest
 kind_takes kind bytes call rest are e =
     let Goal = Spelled kind bytes call rest in
     let last : Result (Call × List ℕ) FrameFault = Err UnknownTag in
@@ -73,7 +73,7 @@ kind_takes kind bytes call rest are e =
 call_takes : (bytes : List ℕ) (call : Call) (rest : List ℕ) → AreBytes bytes → call_at bytes ≡ Ok (call, rest) → IsCall call × (bytes ≡ call_field call ++ rest)
 unfolding call_at
 call_takes bytes call rest are e =
-    let kind = first_step (byte_at bytes) (λ kind. of_kind kind.0 kind.1) (call, rest) e in
+    let kind = first_step (byte_at bytes) (λ kind. call_of_kind kind.0 kind.1) (call, rest) e in
     let front = byte_takes bytes kind.0.0 kind.0.1 kind.1 in
     let spelled = kind_takes kind.0.0 kind.0.1 call rest (rest_bytes bytes (kind.0.0 ∷ []) kind.0.1 are front) kind.2 in
     (spelled.0, front ∙ spelled.1)

@@ -8,7 +8,7 @@ use Rattle.std.proofs.lemmas.Bool.Decides.{nat_tests}
 use Rattle.std.proofs.lemmas.List.{take_at, take-append-drop, take-append-le, drop-append-le, length-append, length-take-le, length-drop}
 use Rattle.std.proofs.lemmas.List.Elements.{All-take, All-drop}
 use Rattle.std.proofs.lemmas.Nat.{be_bytes_2, from_be_bytes-to_be_bytes_2}
-use Rattle.sb_frames.specs.Decoding.{frame_of, stated_length, with_length, decoded}
+use Rattle.sb_frames.specs.Decoding.{frame_of, stated_length, with_length, decode_result}
 use Rattle.sb_frames.specs.Grammar.{IsFrame, body, spelling, Spells}
 use Rattle.sb_frames.specs.Reading.{◌>>=◌}
 use Rattle.sb_frames.specs.Streaming.{AreBytes}
@@ -17,9 +17,9 @@ use Rattle.sb_frames.specs.declared.fault.FrameFault.TheVariants.{Short, BadLeng
 use Rattle.sb_frames.specs.declared.frame.Frame.{Frame}
 use Rattle.sb_frames.specs.declared.frame.TheConstants.{MAX_BODY}
 use Rattle.sb_frames.proofs.Bodies.{frame_takes, frame_again}
-use Rattle.sb_frames.proofs.Numbers.{each_byte}
+use Rattle.sb_frames.proofs.IntegerFields.{each_byte}
 use Rattle.sb_frames.proofs.Sizes.{body_size}
-use Rattle.sb_frames.proofs.Steps.{first_step, refused_not, same_value}
+use Rattle.sb_frames.proofs.ReadingSteps.{first_step, refused_not, same_value}
 
 -- the two bytes that state a length spell it
 front_spells : (bytes : List ℕ) → AreBytes bytes → 2 ≤ length bytes → to_be_bytes w16 (stated_length bytes) ≡ take 2 bytes
@@ -45,8 +45,8 @@ with_length_takes size bytes frame k are e =
       read.1 ∙ ap (λ (p : Frame × ℕ). body p.0) same,
     )
 
-pub decoded_takes : (bytes : List ℕ) (frame : Frame) (k : ℕ) → AreBytes bytes → decoded bytes ≡ Ok (frame, k) → (k ≤ length bytes) × Spells frame (take k bytes)
-unfolding decoded
+pub decoded_takes : (bytes : List ℕ) (frame : Frame) (k : ℕ) → AreBytes bytes → decode_result bytes ≡ Ok (frame, k) → (k ≤ length bytes) × Spells frame (take k bytes)
+unfolding decode_result
 decoded_takes bytes frame k are e =
     let two = refused_not (ltb (length bytes) 2) Short (with_length (stated_length bytes) bytes) (frame, k) e in
     let size = stated_length bytes in
@@ -66,8 +66,8 @@ pub spelling_size : (frame : Frame) → length (spelling frame) ≡ 2 + length (
 unfolding spelling
 spelling_size frame = omega arith
 
-pub decoded_again : (frame : Frame) (rest : List ℕ) → IsFrame frame → decoded (spelling frame ++ rest) ≡ Ok (frame, length (spelling frame))
-unfolding decoded with_length stated_length spelling
+pub decoded_again : (frame : Frame) (rest : List ℕ) → IsFrame frame → decode_result (spelling frame ++ rest) ≡ Ok (frame, length (spelling frame))
+unfolding decode_result with_length stated_length spelling
 decoded_again frame rest valid =
     let size = length (body frame) in
     let sizes = body_size frame valid in
@@ -91,27 +91,27 @@ unfolding spelling
 spelling_is frame bytes h = h.spelled
 
 -- bytes that begin with a spelling are decoded as its frame
-pub begins_so : (frame : Frame) (front rest : List ℕ) → Spells frame front → decoded (front ++ rest) ≡ Ok (frame, length front)
+pub begins_so : (frame : Frame) (front rest : List ℕ) → Spells frame front → decode_result (front ++ rest) ≡ Ok (frame, length front)
 begins_so frame front rest h =
     let is = spelling_is frame front h in
-    subst (λ (xs : List ℕ). decoded (xs ++ rest) ≡ Ok (frame, length xs)) (sym is) (decoded_again frame rest h.valid)
+    subst (λ (xs : List ℕ). decode_result (xs ++ rest) ≡ Ok (frame, length xs)) (sym is) (decoded_again frame rest h.valid)
 
 pub one_frame : (f g : Frame) (a b x y : List ℕ) → Spells f a → Spells g b → a ++ x ≡ b ++ y → (f ≡ g) × (a ≡ b)
 one_frame f g a b x y h k e =
-    let same = same_value (f, length a) (g, length b) (sym (begins_so f a x h) ∙ ap decoded e ∙ begins_so g b y k) in
+    let same = same_value (f, length a) (g, length b) (sym (begins_so f a x h) ∙ ap decode_result e ∙ begins_so g b y k) in
     let frames : f ≡ g = ap (λ (p : Frame × ℕ). p.0) same in
     (frames, spelling_is f a h ∙ ap spelling frames ∙ sym (spelling_is g b k))
 
 -- ---- what decode answers
 
-pub found_is_spelled : (bytes : List ℕ) (result : Result (Frame × ℕ) FrameFault) → AreBytes bytes → result ≡ decoded bytes
+pub found_is_spelled : (bytes : List ℕ) (result : Result (Frame × ℕ) FrameFault) → AreBytes bytes → result ≡ decode_result bytes
     → IfOk result (λ found. (found.1 ≤ length bytes) × Spells found.0 (take found.1 bytes))
 found_is_spelled bytes (Ok found) are e = decoded_takes bytes found.0 found.1 are (sym e)
 found_is_spelled bytes (Err fault) are e = tt
 
-pub spelled_is_found : (bytes : List ℕ) (frame : Frame) (k : ℕ) → k ≤ length bytes → Spells frame (take k bytes) → decoded bytes ≡ Ok (frame, k)
+pub spelled_is_found : (bytes : List ℕ) (frame : Frame) (k : ℕ) → k ≤ length bytes → Spells frame (take k bytes) → decode_result bytes ≡ Ok (frame, k)
 spelled_is_found bytes frame k long h =
-    ap decoded (sym (take-append-drop k bytes)) ∙ begins_so frame (take k bytes) (drop k bytes) h ∙ ap (λ n. Ok (frame, n)) (length-take-le k bytes long)
+    ap decode_result (sym (take-append-drop k bytes)) ∙ begins_so frame (take k bytes) (drop k bytes) h ∙ ap (λ n. Ok (frame, n)) (length-take-le k bytes long)
 
 -- ---- more bytes
 
@@ -147,8 +147,8 @@ with_length_settled size bytes more two whole =
     (λ h read. ap (λ (xs : List ℕ). frame_of xs >>= out) (same h)))
 
 -- the decoding of bytes stays the same when more bytes follow, unless they are short
-pub decoded_settled : (bytes more : List ℕ) → (decoded bytes ≡ Err Short → ⊥) → decoded (bytes ++ more) ≡ decoded bytes
-unfolding decoded stated_length
+pub decoded_settled : (bytes more : List ℕ) → (decode_result bytes ≡ Err Short → ⊥) → decode_result (bytes ++ more) ≡ decode_result bytes
+unfolding decode_result stated_length
 decoded_settled bytes more whole =
     settled (ltb (length bytes) 2) (ltb (length (bytes ++ more)) 2) (with_length (stated_length bytes) bytes)
     (with_length (stated_length (bytes ++ more)) (bytes ++ more)) whole (still_enough bytes more 2)

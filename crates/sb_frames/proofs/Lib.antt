@@ -1,11 +1,11 @@
 pub mod Bodies
 pub mod Calls
+pub mod FieldSequences
 pub mod Frames
-pub mod HandingOut
+pub mod IntegerFields
 pub mod Names
-pub mod Numbers
+pub mod NextFrame
 pub mod Outcomes
-pub mod Rows
+pub mod ReadingSteps
 pub mod Sizes
-pub mod Steps
 pub mod Streams

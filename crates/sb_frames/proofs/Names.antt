@@ -15,8 +15,8 @@ use Rattle.sb_frames.specs.Fields.{name_field}
 use Rattle.sb_frames.specs.Reading.{◌>>=◌, byte_at, bytes_at, signed_at, amount_at, name_at, is_within}
 use Rattle.sb_frames.specs.Streaming.{AreBytes}
 use Rattle.sb_frames.specs.declared.fault.FrameFault.TheVariants.{BadName, BadAmount}
-use Rattle.sb_frames.proofs.Numbers.{IsField, bytes_take, bytes_again, signed_takes, signed_again}
-use Rattle.sb_frames.proofs.Steps.{first_step, refused_not, accepted, byte_takes}
+use Rattle.sb_frames.proofs.IntegerFields.{IsField, bytes_take, bytes_again, signed_takes, signed_again}
+use Rattle.sb_frames.proofs.ReadingSteps.{first_step, refused_not, accepted, byte_takes}
 
 -- ---- amounts
 

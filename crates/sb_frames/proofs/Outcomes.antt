@@ -6,22 +6,22 @@ use Rattle.std.specs.Prelude.{FitsSigned}
 use Rattle.std.proofs.lemmas.Bool.{and_parts, eqb-true}
 use Rattle.std.proofs.lemmas.Bool.Decides.{Decides-int_eq}
 use Rattle.std.proofs.lemmas.Int.{ints}
-use Rattle.sb_calls.specs.Replies.{IsReply, amount_field, reply_code, shown_total, reply_field, coded}
+use Rattle.sb_calls.specs.Replies.{IsReply, amount_field, reply_code, shown_total, reply_field, reply_with_code}
 use Rattle.sb_calls.specs.declared.reply.Reply.{Reply}
 use Rattle.sb_calls.specs.declared.reply.Reply.TheVariants.{Shown, Done, Penalised, NoCustomer, SameCustomer, Negative, WouldOverdraw, OverLimit}
-use Rattle.sb_calls.proofs.CodedReplies.{coded_takes, coded_again}
+use Rattle.sb_calls.proofs.ReplyCodeLaws.{reply_has_code, reply_read_back}
 use Rattle.sb_frames.specs.Fields.{no_reply_field, outcome_field}
 use Rattle.sb_frames.specs.Grammar.{IsOutcome}
-use Rattle.sb_frames.specs.Outcomes.{of_code, reply_at, no_reply_at, replied_at, of_status, outcome_at}
+use Rattle.sb_frames.specs.Outcomes.{reply_of_code, reply_at, no_reply_at, replied_at, outcome_of_status, outcome_at}
 use Rattle.sb_frames.specs.Reading.{◌>>=◌, byte_at, signed_at}
 use Rattle.sb_frames.specs.Streaming.{AreBytes}
 use Rattle.sb_frames.specs.declared.fault.FrameFault.{FrameFault}
 use Rattle.sb_frames.specs.declared.fault.FrameFault.TheVariants.{BadReply, BadStatus}
 use Rattle.sb_frames.specs.declared.frame.AskOutcome.{AskOutcome}
 use Rattle.sb_frames.specs.declared.frame.AskOutcome.TheVariants.{Replied, Mismatch, LogFull}
-use Rattle.sb_frames.proofs.Numbers.{IsField, signed_takes, signed_again}
-use Rattle.sb_frames.proofs.Rows.{one_takes, one_again, made, parts, Behind, is_behind}
-use Rattle.sb_frames.proofs.Steps.{first_step, accepted, found, done, tagged, byte_takes, rest_bytes}
+use Rattle.sb_frames.proofs.IntegerFields.{IsField, signed_takes, signed_again}
+use Rattle.sb_frames.proofs.FieldSequences.{one_takes, one_again, made, parts, Behind, is_behind}
+use Rattle.sb_frames.proofs.ReadingSteps.{first_step, accepted, found, done, tagged, byte_takes, rest_bytes}
 
 -- ---- totals
 
@@ -47,9 +47,9 @@ zero_is total h = (Decides-int_eq total (pos 0)).0 h
 -- ---- replies
 
 -- a code and a total that are read as a reply spell it
-code_takes : (code : ℕ) (total : ℤ) (reply : Reply) → of_code code total ≡ Ok reply → IsReply reply × (code ∷ amount_field total ≡ reply_field reply)
+code_takes : (code : ℕ) (total : ℤ) (reply : Reply) → reply_of_code code total ≡ Ok reply → IsReply reply × (code ∷ amount_field total ≡ reply_field reply)
 code_takes code total reply e =
-    let is = coded_takes code total reply (found (coded code total) BadReply reply e) in
+    let is = reply_has_code code total reply (found (reply_with_code code total) BadReply reply e) in
     (is.valid, ap (λ k. k ∷ amount_field total) is.code_is ∙ ap (λ t. reply_code reply ∷ amount_field t) is.total_is)
 
 -- the code and the total from which a value is made
@@ -67,17 +67,17 @@ reply_takes : (bytes : List ℕ) (reply : Reply) (rest : List ℕ) → AreBytes 
     → IsReply reply × (bytes ≡ reply_field reply ++ rest)
 unfolding reply_at
 reply_takes bytes reply rest are e =
-    let nine = nine_take (λ code total left. of_code code total >>= λ r. made r left) bytes (reply, rest) are e in
+    let nine = nine_take (λ code total left. reply_of_code code total >>= λ r. made r left) bytes (reply, rest) are e in
     let total = nine.1 in
     let left = nine.2 in
-    let step = first_step (of_code nine.0 total) (λ r. made r left) (reply, rest) nine.4 in
+    let step = first_step (reply_of_code nine.0 total) (λ r. made r left) (reply, rest) nine.4 in
     let both = parts step.0 reply left rest step.2 in
     let spelled = code_takes nine.0 total reply (step.1 ∙ ap done (sym both.0)) in
     (spelled.0, nine.3 ∙ ap (λ (xs : List ℕ). xs ++ left) spelled.1 ∙ ap (λ (xs : List ℕ). reply_field reply ++ xs) both.1)
 
 reply_again : (reply : Reply) (rest : List ℕ) → IsReply reply → reply_at (reply_field reply ++ rest) ≡ Ok (reply, rest)
 unfolding reply_at
-reply_again reply rest h = rw (signed_again (shown_total reply) rest (total_fits reply h), coded_again reply h) refl
+reply_again reply rest h = rw (signed_again (shown_total reply) rest (total_fits reply h), reply_read_back reply h) refl
 
 pub reply : IsField IsReply reply_field reply_at
 reply = record { takes = reply_takes; again = reply_again }
@@ -118,7 +118,7 @@ refused_takes status n made bytes outcome rest are valid spelled is e =
     let t = no_reply_takes made outcome bytes rest are e in
     is_behind IsOutcome outcome_field status n bytes no_reply_field rest outcome made is t.0 t.1 valid spelled
 
-status_takes : (status : ℕ) (bytes : List ℕ) (outcome : AskOutcome) (rest : List ℕ) → AreBytes bytes → of_status status bytes ≡ Ok (outcome, rest)
+status_takes : (status : ℕ) (bytes : List ℕ) (outcome : AskOutcome) (rest : List ℕ) → AreBytes bytes → outcome_of_status status bytes ≡ Ok (outcome, rest)
     → Told status bytes outcome rest
 status_takes status bytes outcome rest are e =
     let Goal = Told status bytes outcome rest in
@@ -134,7 +134,7 @@ outcome_takes : (bytes : List ℕ) (outcome : AskOutcome) (rest : List ℕ) → 
     → IsOutcome outcome × (bytes ≡ outcome_field outcome ++ rest)
 unfolding outcome_at
 outcome_takes bytes outcome rest are e =
-    let status = first_step (byte_at bytes) (λ status. of_status status.0 status.1) (outcome, rest) e in
+    let status = first_step (byte_at bytes) (λ status. outcome_of_status status.0 status.1) (outcome, rest) e in
     let front = byte_takes bytes status.0.0 status.0.1 status.1 in
     let told = status_takes status.0.0 status.0.1 outcome rest (rest_bytes bytes (status.0.0 ∷ []) status.0.1 are front) status.2 in
     (told.0, front ∙ told.1)

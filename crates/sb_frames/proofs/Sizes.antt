@@ -3,7 +3,7 @@ use Rattle.std.proofs.Common.{◌≡◌, ℕ, ◌≤◌, ℤ, pos, List, ◌∷�
 use Rattle.std.specs.Int.{w32, w64, cast_unsigned}
 use Rattle.std.proofs.lemmas.List.{length-append}
 use Rattle.sb_calls.specs.Call.{IsCall}
-use Rattle.sb_calls.specs.Replies.{number_field, amount_field, reply_code, shown_total, reply_field}
+use Rattle.sb_calls.specs.Replies.{integer_field, amount_field, reply_code, shown_total, reply_field}
 use Rattle.sb_calls.specs.declared.call.Call.{Call}
 use Rattle.sb_calls.specs.declared.call.Call.TheVariants.{Balance, DepositChecking, TransactSavings, Amalgamate, WriteCheck, SendPayment}
 use Rattle.sb_calls.specs.declared.reply.Reply.{Reply}
@@ -17,12 +17,12 @@ use Rattle.sb_frames.specs.declared.frame.Frame.TheVariants.{Ask, Entry, Ack, An
 use Rattle.sb_frames.specs.declared.frame.TheConstants.{MAX_BODY}
 use Rattle.sb_frames.proofs.Names.{name_sizes}
 
-number_size32 : (n : ℕ) → length (number_field w32 n) ≡ 4
-unfolding number_field
+number_size32 : (n : ℕ) → length (integer_field w32 n) ≡ 4
+unfolding integer_field
 number_size32 n = refl
 
-number_size64 : (n : ℕ) → length (number_field w64 n) ≡ 8
-unfolding number_field
+number_size64 : (n : ℕ) → length (integer_field w64 n) ≡ 8
+unfolding integer_field
 number_size64 n = refl
 
 -- a kind, a name and an amount
@@ -64,31 +64,31 @@ outcome_size LogFull = omega (arith, coded_size 0 (pos 0))
 -- a body has a tag, and isn't too long
 pub body_size : (frame : Frame) → IsFrame frame → (1 ≤ length (body frame)) × (length (body frame) ≤ MAX_BODY)
 body_size (Ask client request call) v =
-    let size : length (number_field w32 client ++ (number_field w32 request ++ call_field call)) ≤ 59 =
+    let size : length (integer_field w32 client ++ (integer_field w32 request ++ call_field call)) ≤ 59 =
     omega (
       arith,
-      length-append (number_field w32 client) (number_field w32 request ++ call_field call),
-      length-append (number_field w32 request) (call_field call),
+      length-append (integer_field w32 client) (integer_field w32 request ++ call_field call),
+      length-append (integer_field w32 request) (call_field call),
       number_size32 client,
       number_size32 request,
       call_size call v.2,
     ) in
     (omega arith, omega arith)
 body_size (Entry number call) v =
-    let size : length (number_field w64 number ++ call_field call) ≤ 59 =
-    omega (arith, length-append (number_field w64 number) (call_field call), number_size64 number, call_size call v.1) in
+    let size : length (integer_field w64 number ++ call_field call) ≤ 59 =
+    omega (arith, length-append (integer_field w64 number) (call_field call), number_size64 number, call_size call v.1) in
     (omega arith, omega arith)
 body_size (Ack replica size) v = (omega arith, omega (arith, number_size64 size))
 body_size (Answer number reply) v =
-    let size : length (number_field w64 number ++ reply_field reply) ≤ 17 =
-    omega (arith, length-append (number_field w64 number) (reply_field reply), number_size64 number, reply_size reply) in
+    let size : length (integer_field w64 number ++ reply_field reply) ≤ 17 =
+    omega (arith, length-append (integer_field w64 number) (reply_field reply), number_size64 number, reply_size reply) in
     (omega arith, omega arith)
 body_size (Outcome client request outcome) v =
-    let size : length (number_field w32 client ++ (number_field w32 request ++ outcome_field outcome)) ≤ 18 =
+    let size : length (integer_field w32 client ++ (integer_field w32 request ++ outcome_field outcome)) ≤ 18 =
     omega (
       arith,
-      length-append (number_field w32 client) (number_field w32 request ++ outcome_field outcome),
-      length-append (number_field w32 request) (outcome_field outcome),
+      length-append (integer_field w32 client) (integer_field w32 request ++ outcome_field outcome),
+      length-append (integer_field w32 request) (outcome_field outcome),
       number_size32 client,
       number_size32 request,
       outcome_size outcome,

@@ -4,9 +4,9 @@ use Rattle.std.specs.List.{AllByRecursion, flat_map}
 use Rattle.std.proofs.lemmas.List.{append-nil, take-append-drop}
 use Rattle.std.proofs.lemmas.List.Concat.{flat_map-append}
 use Rattle.std.proofs.lemmas.List.Elements.{All-nil, All-append, All-drop, All-from_recursion}
-use Rattle.sb_frames.specs.Decoding.{decoded}
+use Rattle.sb_frames.specs.Decoding.{decode_result}
 use Rattle.sb_frames.specs.Grammar.{IsFrame, spelling}
-use Rattle.sb_frames.specs.Streaming.{StreamState, opened, StreamCall, Fed, Next, AreBytes, Feeds, next_by, next_of, Step, StepsTo, bytes_taken, frames_given, FramesOfBytes}
+use Rattle.sb_frames.specs.Streaming.{StreamState, empty_stream, StreamCall, Feed, Next, AreBytes, Feeds, next_by, next_of, Step, StepsTo, bytes_taken, frames_given, FramesOfBytes}
 use Rattle.sb_frames.specs.declared.fault.FrameFault.{FrameFault}
 use Rattle.sb_frames.specs.declared.fault.FrameFault.TheVariants.{Short, BadLength, UnknownTag, BadName, BadAmount, BadReply, BadStatus}
 use Rattle.sb_frames.specs.declared.fault.StreamFault.{StreamFault}
@@ -26,7 +26,7 @@ nothing old new are same = record { valid = tt; whole = append-nil old ∙ sym s
 
 feed_keeps : (old : StreamState) (bytes : List ℕ) (answer : Result (Unit {0}) StreamFault) (new : StreamState) → AreBytes old.unread → AreBytes bytes
     → Feeds old bytes answer new
-    → Keeps old.unread (bytes_taken (Fed bytes answer)) [] new.unread
+    → Keeps old.unread (bytes_taken (Feed bytes answer)) [] new.unread
 feed_keeps old bytes (Ok done) new are come h =
     let left : new.unread ≡ old.unread ++ bytes = ap (λ (s : StreamState). s.unread) h.1 in
     record { valid = tt; whole = sym left; are = subst (λ xs. AreBytes xs) (sym left) (All-append (λ byte. byte < 256) old.unread bytes are come) }
@@ -42,7 +42,7 @@ same_after : (old : List ℕ) (p q : After) → p ≡ q → Keeps old [] (frames
 same_after old p q e h = subst (λ (x : After). Keeps old [] (frames_given (Next x.0)) x.1.unread) (sym e) h
 
 -- the decoding is handed out
-by_keeps : (unread : List ℕ) (read : Result (Frame × ℕ) FrameFault) → AreBytes unread → decoded unread ≡ read
+by_keeps : (unread : List ℕ) (read : Result (Frame × ℕ) FrameFault) → AreBytes unread → decode_result unread ≡ read
     → Keeps unread [] (frames_given (Next (next_by read unread).0)) (next_by read unread).1.unread
 by_keeps unread (Ok found) are e =
     let spelled = (decoded_takes unread found.0 found.1 are e).1 in
@@ -64,11 +64,11 @@ by_keeps unread (Err BadStatus) are e = nothing unread unread are refl
 of_keeps : (unread : List ℕ) (failed : Bool) → AreBytes unread → let old : StreamState = record { unread = unread; failed = failed } in
     Keeps unread [] (frames_given (Next (next_of old).0)) (next_of old).1.unread
 of_keeps unread true are = nothing unread unread are refl
-of_keeps unread false are = by_keeps unread (decoded unread) are refl
+of_keeps unread false are = by_keeps unread (decode_result unread) are refl
 
 step_keeps : (old : StreamState) (call : StreamCall) (new : StreamState) → AreBytes old.unread → Step old call new
     → Keeps old.unread (bytes_taken call) (frames_given call) new.unread
-step_keeps old (Fed bytes answer) new are h = feed_keeps old bytes answer new are h.0 h.1
+step_keeps old (Feed bytes answer) new are h = feed_keeps old bytes answer new are h.0 h.1
 step_keeps old (Next answer) new are h = same_after old.unread (answer, new) (next_of old) h (of_keeps old.unread old.failed are)
 
 -- frames of one call, and then of the others
@@ -98,5 +98,5 @@ steps_keep (call ∷ calls) old new are h =
 
 pub frames_of_bytes : FramesOfBytes
 frames_of_bytes calls end h =
-    let kept = steps_keep calls opened end (All-nil (λ byte. byte < 256)) h in
+    let kept = steps_keep calls empty_stream end (All-nil (λ byte. byte < 256)) h in
     (All-from_recursion IsFrame (flat_map frames_given calls) kept.valid, kept.whole)

@@ -31,8 +31,8 @@ two_names_and_amount_at call bytes = do
   Ok (call from.0 to.0 amount.0, amount.1)
 
 -- the call after a kind's byte, and the bytes after it
-abbrev pub of_kind : ℕ → List ℕ → Result (Call × List ℕ) FrameFault
-of_kind kind bytes =
+abbrev pub call_of_kind : ℕ → List ℕ → Result (Call × List ℕ) FrameFault
+call_of_kind kind bytes =
     if kind == 1 then one_name_at Balance bytes
     else if kind == 2 then name_and_amount_at DepositChecking bytes
     else if kind == 3 then name_and_amount_at TransactSavings bytes
@@ -45,4 +45,4 @@ of_kind kind bytes =
 unfoldable pub call_at : List ℕ → Result (Call × List ℕ) FrameFault
 call_at bytes = do
   kind ← byte_at bytes
-  of_kind kind.0 kind.1
+  call_of_kind kind.0 kind.1

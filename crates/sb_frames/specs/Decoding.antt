@@ -3,7 +3,7 @@ use Rattle.std.specs.Prelude.{ℕ, ◌+◌, nat_lt, ◌==◌, ◌||◌, if◌the
 use Rattle.std.specs.Int.{w16, w32, w64, from_be_bytes}
 use Rattle.sb_frames.specs.Calls.{call_at}
 use Rattle.sb_frames.specs.Outcomes.{reply_at, outcome_at}
-use Rattle.sb_frames.specs.Reading.{◌>>=◌, byte_at, number_at}
+use Rattle.sb_frames.specs.Reading.{◌>>=◌, byte_at, unsigned_at}
 use Rattle.sb_frames.specs.declared.fault.FrameFault.{FrameFault}
 use Rattle.sb_frames.specs.declared.fault.FrameFault.TheVariants.{Short, BadLength, UnknownTag}
 use Rattle.sb_frames.specs.declared.frame.Frame.{Frame}
@@ -14,14 +14,14 @@ use Rattle.sb_frames.specs.declared.frame.TheConstants.{MAX_BODY}
 
 unfoldable pub ask_at : List ℕ → Result (Frame × List ℕ) FrameFault
 ask_at bytes = do
-  client ← number_at w32 bytes
-  request ← number_at w32 client.1
+  client ← unsigned_at w32 bytes
+  request ← unsigned_at w32 client.1
   call ← call_at request.1
   Ok (Ask client.0 request.0 call.0, call.1)
 
 unfoldable pub entry_at : List ℕ → Result (Frame × List ℕ) FrameFault
 entry_at bytes = do
-  number ← number_at w64 bytes
+  number ← unsigned_at w64 bytes
   call ← call_at number.1
   Ok (Entry number.0 call.0, call.1)
 
@@ -29,27 +29,27 @@ entry_at bytes = do
 unfoldable pub replica_and_length_at : (ℕ → ℕ → Frame) → List ℕ → Result (Frame × List ℕ) FrameFault
 replica_and_length_at frame bytes = do
   replica ← byte_at bytes
-  size ← number_at w64 replica.1
+  size ← unsigned_at w64 replica.1
   Ok (frame replica.0 size.0, size.1)
 
 unfoldable pub answer_at : List ℕ → Result (Frame × List ℕ) FrameFault
 answer_at bytes = do
-  number ← number_at w64 bytes
+  number ← unsigned_at w64 bytes
   reply ← reply_at number.1
   Ok (Answer number.0 reply.0, reply.1)
 
 unfoldable pub outcome_frame_at : List ℕ → Result (Frame × List ℕ) FrameFault
 outcome_frame_at bytes = do
-  client ← number_at w32 bytes
-  request ← number_at w32 client.1
+  client ← unsigned_at w32 bytes
+  request ← unsigned_at w32 client.1
   outcome ← outcome_at request.1
   Ok (Outcome client.0 request.0 outcome.0, outcome.1)
 
 -- ---- the body, and the length before it
 
 -- the fields after a tag
-abbrev pub of_tag : ℕ → List ℕ → Result (Frame × List ℕ) FrameFault
-of_tag tag bytes =
+abbrev pub frame_of_tag : ℕ → List ℕ → Result (Frame × List ℕ) FrameFault
+frame_of_tag tag bytes =
     if tag == 1 then ask_at bytes
     else if tag == 2 then entry_at bytes
     else if tag == 3 then replica_and_length_at Ack bytes
@@ -63,7 +63,7 @@ of_tag tag bytes =
 unfoldable pub tagged_at : List ℕ → Result (Frame × List ℕ) FrameFault
 tagged_at bytes = do
   tag ← byte_at bytes
-  of_tag tag.0 tag.1
+  frame_of_tag tag.0 tag.1
 
 -- a whole body: nothing follows the fields
 unfoldable pub frame_of : List ℕ → Result Frame FrameFault
@@ -83,5 +83,5 @@ with_length size bytes =
     else frame_of (take size (drop 2 bytes)) >>= λ frame. Ok (frame, 2 + size)
 
 -- the frame at the front of the bytes, and the number of bytes it takes, or the first fault
-unfoldable pub decoded : List ℕ → Result (Frame × ℕ) FrameFault
-decoded bytes = if nat_lt (length bytes) 2 then Err Short else with_length (stated_length bytes) bytes
+unfoldable pub decode_result : List ℕ → Result (Frame × ℕ) FrameFault
+decode_result bytes = if nat_lt (length bytes) 2 then Err Short else with_length (stated_length bytes) bytes

@@ -2,7 +2,7 @@
 use Rattle.std.specs.Prelude.{◌≡◌, ℕ, ◌<◌, ◌^◌, List, [], ◌∷◌, ◌++◌, length}
 use Rattle.std.specs.Int.{w16, w32, w64, to_be_bytes}
 use Rattle.sb_calls.specs.Call.{IsCall}
-use Rattle.sb_calls.specs.Replies.{IsReply, number_field, reply_field}
+use Rattle.sb_calls.specs.Replies.{IsReply, integer_field, reply_field}
 use Rattle.sb_frames.specs.Fields.{call_field, outcome_field}
 use Rattle.sb_frames.specs.declared.frame.AskOutcome.{AskOutcome}
 use Rattle.sb_frames.specs.declared.frame.AskOutcome.TheVariants.{Replied, Mismatch, LogFull}
@@ -27,14 +27,14 @@ IsFrame (Have replica size) = (replica < 2 ^ 8) × (size < 2 ^ 64)
 
 -- a frame's body: the tag, then the fields in order
 abbrev pub body : Frame → List ℕ
-body (Ask client request call) = 1 ∷ (number_field w32 client ++ (number_field w32 request ++ call_field call))
-body (Entry number call) = 2 ∷ (number_field w64 number ++ call_field call)
-body (Ack replica size) = 3 ∷ replica ∷ number_field w64 size
-body (Answer number reply) = 4 ∷ (number_field w64 number ++ reply_field reply)
+body (Ask client request call) = 1 ∷ (integer_field w32 client ++ (integer_field w32 request ++ call_field call))
+body (Entry number call) = 2 ∷ (integer_field w64 number ++ call_field call)
+body (Ack replica size) = 3 ∷ replica ∷ integer_field w64 size
+body (Answer number reply) = 4 ∷ (integer_field w64 number ++ reply_field reply)
 body (Outcome client request outcome) =
-    5 ∷ (number_field w32 client ++ (number_field w32 request ++ outcome_field outcome))
+    5 ∷ (integer_field w32 client ++ (integer_field w32 request ++ outcome_field outcome))
 body Flush = 6 ∷ []
-body (Have replica size) = 7 ∷ replica ∷ number_field w64 size
+body (Have replica size) = 7 ∷ replica ∷ integer_field w64 size
 
 -- a frame's bytes: the length of the body in two bytes, then the body
 unfoldable pub spelling : Frame → List ℕ

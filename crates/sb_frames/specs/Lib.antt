@@ -6,3 +6,4 @@ pub mod Grammar
 pub mod Outcomes
 pub mod Reading
 pub mod Streaming
+pub mod inner

@@ -2,7 +2,7 @@
 use Rattle.std.specs.Prelude.{ℕ, ℤ, pos, ◌==◌, ◌&&◌, if◌then◌else◌, Result, Ok, Err, List}
 use Rattle.std.specs.Option.{ok_or}
 use Rattle.std.specs.Ordering.{int_eq}
-use Rattle.sb_calls.specs.Replies.{coded}
+use Rattle.sb_calls.specs.Replies.{reply_with_code}
 use Rattle.sb_calls.specs.declared.reply.Reply.{Reply}
 use Rattle.sb_frames.specs.Reading.{◌>>=◌, byte_at, signed_at}
 use Rattle.sb_frames.specs.declared.fault.FrameFault.{FrameFault}
@@ -11,15 +11,15 @@ use Rattle.sb_frames.specs.declared.frame.AskOutcome.{AskOutcome}
 use Rattle.sb_frames.specs.declared.frame.AskOutcome.TheVariants.{Replied, Mismatch, LogFull}
 
 -- the reply with a code and a total, or the fault
-abbrev pub of_code : ℕ → ℤ → Result Reply FrameFault
-of_code code total = ok_or (coded code total) BadReply
+abbrev pub reply_of_code : ℕ → ℤ → Result Reply FrameFault
+reply_of_code code total = ok_or (reply_with_code code total) BadReply
 
 -- a reply is one field of nine bytes; all of them must be there before any is examined
 unfoldable pub reply_at : List ℕ → Result (Reply × List ℕ) FrameFault
 reply_at bytes = do
   code ← byte_at bytes
   total ← signed_at code.1
-  reply ← of_code code.0 total.0
+  reply ← reply_of_code code.0 total.0
   Ok (reply, total.1)
 
 -- nine zeros in place of a reply
@@ -35,8 +35,8 @@ replied_at bytes = do
   Ok (Replied reply.0, reply.1)
 
 -- the outcome after a status byte
-abbrev pub of_status : ℕ → List ℕ → Result (AskOutcome × List ℕ) FrameFault
-of_status status bytes =
+abbrev pub outcome_of_status : ℕ → List ℕ → Result (AskOutcome × List ℕ) FrameFault
+outcome_of_status status bytes =
     if status == 0 then replied_at bytes
     else if status == 1 then no_reply_at Mismatch bytes
     else if status == 2 then no_reply_at LogFull bytes
@@ -46,4 +46,4 @@ of_status status bytes =
 unfoldable pub outcome_at : List ℕ → Result (AskOutcome × List ℕ) FrameFault
 outcome_at bytes = do
   status ← byte_at bytes
-  of_status status.0 status.1
+  outcome_of_status status.0 status.1

@@ -1,6 +1,5 @@
 -- Fields read from the left: the value and the bytes after it, or the fault.
-use Rattle.std.specs.Prelude.{◌≡◌, ℕ, ℤ, neg_ℤ, int_le, nat_lt, ◌==◌, Bool, ◌&&◌, ◌||◌, if◌then◌else◌, Result, Ok, Err, List, [], ◌∷◌, length, take, drop}
-use Rattle.std.specs.Borrow.{Bor}
+use Rattle.std.specs.Prelude.{ℕ, ℤ, neg_ℤ, int_le, nat_lt, ◌==◌, Bool, ◌&&◌, ◌||◌, Result, Ok, Err, List, [], ◌∷◌, length, take, drop}
 use Rattle.std.specs.Int.{Width, w64, byte_len, from_be_bytes, cast_signed}
 use Rattle.sb_amount.specs.declared.cents.TheConstants.{LIMIT}
 use Rattle.sb_rows.specs.Name.{is_name}
@@ -14,16 +13,6 @@ abbrev pub ◌>>=◌ : {A B : Type 0} → Result A FrameFault → (A → Result 
 (Ok read) >>= next = next read
 (Err fault) >>= next = Err fault
 
--- a reader's answer, with the bytes that it leaves, is the reading of its bytes
-abbrev pub TakesField : {A : Type 0} → Result A FrameFault → List ℕ → Result (A × List ℕ) FrameFault → Type 0
-TakesField (Ok value) rest read = read ≡ Ok (value, rest)
-TakesField (Err fault) rest read = read ≡ Err fault
-
--- the same for a value of bytes in place
-abbrev pub TakesBytes : Result (Bor (List ℕ)) FrameFault → List ℕ → Result (List ℕ × List ℕ) FrameFault → Type 0
-TakesBytes (Ok bytes) rest read = read ≡ Ok (bytes.now, rest)
-TakesBytes (Err fault) rest read = read ≡ Err fault
-
 abbrev pub byte_at : List ℕ → Result (ℕ × List ℕ) FrameFault
 byte_at [] = Err BadLength
 byte_at (byte ∷ rest) = Ok (byte, rest)
@@ -32,14 +21,14 @@ byte_at (byte ∷ rest) = Ok (byte, rest)
 unfoldable pub bytes_at : ℕ → List ℕ → Result (List ℕ × List ℕ) FrameFault
 bytes_at n bytes = if nat_lt (length bytes) n then Err BadLength else Ok (take n bytes, drop n bytes)
 
-unfoldable pub number_at : Width → List ℕ → Result (ℕ × List ℕ) FrameFault
-number_at w bytes = do
+unfoldable pub unsigned_at : Width → List ℕ → Result (ℕ × List ℕ) FrameFault
+unsigned_at w bytes = do
   cells ← bytes_at (byte_len w) bytes
   Ok (from_be_bytes w cells.0, cells.1)
 
 unfoldable pub signed_at : List ℕ → Result (ℤ × List ℕ) FrameFault
 signed_at bytes = do
-  number ← number_at w64 bytes
+  number ← unsigned_at w64 bytes
   Ok (cast_signed w64 number.0, number.1)
 
 -- the amount is from -limit to limit

@@ -1,7 +1,7 @@
 -- A stream of frames: what one call does to it, and what many calls do.
 use Rattle.std.specs.Prelude.{◌≡◌, ◌≢◌, ℕ, ◌<◌, Bool, true, false, if◌then◌else◌, Option, Some, None, Result, Ok, Err, List, [], ◌∷◌, ◌++◌, drop}
 use Rattle.std.specs.List.{All, flat_map}
-use Rattle.sb_frames.specs.Decoding.{decoded}
+use Rattle.sb_frames.specs.Decoding.{decode_result}
 use Rattle.sb_frames.specs.Grammar.{IsFrame, Spells, spelling}
 use Rattle.sb_frames.specs.declared.fault.FrameFault.{FrameFault}
 use Rattle.sb_frames.specs.declared.fault.FrameFault.TheVariants.{Short}
@@ -15,12 +15,12 @@ pub record StreamState : Type 0 where
   pub failed : Bool
 
 -- a stream before any call
-abbrev pub opened : StreamState
-opened = record { unread = []; failed = false }
+abbrev pub empty_stream : StreamState
+empty_stream = record { unread = []; failed = false }
 
 -- a call of a stream, with its answer
 pub data StreamCall : Type 0 where
-  Fed : (bytes : List ℕ) (answer : Result (Unit {0}) StreamFault) → StreamCall
+  Feed : (bytes : List ℕ) (answer : Result (Unit {0}) StreamFault) → StreamCall
   Next : (answer : Result (Option Frame) StreamFault) → StreamCall
 
 -- numbers from 0 to 255
@@ -49,29 +49,29 @@ next_by (Err fault) unread = (Err (Bad fault), record { unread = unread; failed 
 
 -- the answer to a call for the next frame, and the stream after it
 abbrev pub next_of : StreamState → Result (Option Frame) StreamFault × StreamState
-next_of old = if old.failed then (Err Failed, old) else next_by (decoded old.unread) old.unread
+next_of old = if old.failed then (Err Failed, old) else next_by (decode_result old.unread) old.unread
 
 -- the frame is handed out, and the bytes passed over are its spelling
 pub record HandsOut (old : StreamState) (frame : Frame) (new : StreamState) : Type 0 where
   pub valid : IsFrame frame
   pub spelled : (bytes : List ℕ) × Spells frame bytes × (old.unread ≡ bytes ++ new.unread)
-  pub going : new.failed ≡ false
+  pub not_failed : new.failed ≡ false
 
 -- less than a whole frame is unread
 abbrev pub IsShort : StreamState → Type 0
-IsShort state = (state.failed ≡ false) × (decoded state.unread ≡ Err Short)
+IsShort state = (state.failed ≡ false) × (decode_result state.unread ≡ Err Short)
 
 -- the reason why no frame is handed out
 abbrev pub FailsBy : StreamState → StreamFault → Type 0
 -- no frame begins with the unread bytes, whatever follows them
-FailsBy old (Bad fault) = (old.failed ≡ false) × (decoded old.unread ≡ Err fault) × (fault ≢ Short)
+FailsBy old (Bad fault) = (old.failed ≡ false) × (decode_result old.unread ≡ Err fault) × (fault ≢ Short)
 -- an earlier frame was faulty
 FailsBy old Failed = old.failed ≡ true
 FailsBy old OutOfMemory = ⊥
 
 -- the effect of one call; fed values are bytes
 abbrev pub Step : StreamState → StreamCall → StreamState → Type 0
-Step old (Fed bytes answer) new = AreBytes bytes × Feeds old bytes answer new
+Step old (Feed bytes answer) new = AreBytes bytes × Feeds old bytes answer new
 Step old (Next answer) new = (answer, new) ≡ next_of old
 
 -- ---- what many calls do
@@ -83,13 +83,13 @@ StepsTo old (call ∷ calls) new = (mid : StreamState) × Step old call mid × S
 
 -- the bytes that a call put into the stream
 abbrev pub bytes_taken : StreamCall → List ℕ
-bytes_taken (Fed bytes (Ok done)) = bytes
-bytes_taken (Fed bytes (Err fault)) = []
+bytes_taken (Feed bytes (Ok done)) = bytes
+bytes_taken (Feed bytes (Err fault)) = []
 bytes_taken (Next answer) = []
 
 -- the frames that a call handed out
 abbrev pub frames_given : StreamCall → List Frame
-frames_given (Fed bytes answer) = []
+frames_given (Feed bytes answer) = []
 frames_given (Next (Ok (Some frame))) = frame ∷ []
 frames_given (Next (Ok None)) = []
 frames_given (Next (Err fault)) = []
@@ -97,6 +97,6 @@ frames_given (Next (Err fault)) = []
 -- whatever the calls were and however the bytes were cut: the bytes that went in are the spellings
 -- of the frames that came out, in order, and then the unread bytes
 abbrev pub FramesOfBytes : Type 0
-FramesOfBytes = (calls : List StreamCall) (end : StreamState) → StepsTo opened calls end
+FramesOfBytes = (calls : List StreamCall) (end : StreamState) → StepsTo empty_stream calls end
     → let given = flat_map frames_given calls in
     All IsFrame given × (flat_map bytes_taken calls ≡ flat_map spelling given ++ end.unread)

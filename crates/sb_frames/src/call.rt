@@ -1,6 +1,6 @@
 //! Calls in a frame, by their kind.
 ghost use Rattle.sb_frames.specs.Calls.{call_at};
-ghost use Rattle.sb_frames.specs.Reading.{TakesField};
+ghost use Rattle.sb_frames.specs.inner.FieldReading.{TakesField};
 
 use crate::fault::FrameFault;
 use crate::fields::Fields;

@@ -1,9 +1,9 @@
 //! Frames decoded from bytes.
 ghost use Rattle.std.specs.Prelude.{◌≡◌, ◌≢◌, ℕ, ◌≤◌, List, ◌++◌, Ok, Err, IfOk, length, take};
 ghost use Rattle.sb_frames.specs.Decoding as spec;
-ghost use Rattle.sb_frames.specs.Decoding.{decoded};
+ghost use Rattle.sb_frames.specs.Decoding.{decode_result};
 ghost use Rattle.sb_frames.specs.Grammar.{Spells};
-ghost use Rattle.sb_frames.specs.Reading.{TakesField};
+ghost use Rattle.sb_frames.specs.inner.FieldReading.{TakesField};
 ghost use Rattle.sb_frames.specs.declared.frame.Frame.{Frame as AnyFrame};
 ghost use Rattle.sb_frames.specs.declared.frame.Frame.TheVariants.{Ack, Have};
 
@@ -154,9 +154,9 @@ fn with_length(size: usize, bytes: &[u8]) -> Result<(Frame, usize), FrameFault>
 
 // The frame, with the faults tested in order.
 #[inline]
-#[tactic(auto, unfolding(crate::specs::Decoding::decoded))]
+#[tactic(auto, unfolding(crate::specs::Decoding::decode_result))]
 fn first_frame(bytes: &[u8]) -> Result<(Frame, usize), FrameFault>
-    ensures { result ≡ decoded bytes.now }
+    ensures { result ≡ decode_result bytes.now }
 {
     if bytes.len() < LENGTH_BYTES {
         return Err(FrameFault::Short);
@@ -175,13 +175,13 @@ pub fn decode(bytes: &[u8]) -> Result<(Frame, usize), FrameFault>
     ensures spelled { IfOk result (λ found.
         (found.1 ≤ length bytes.now) × Spells found.0 (take found.1 bytes.now)) }
     // Bytes that spell a frame are decoded as it, whatever follows them.
-    ensures taken { (frame : AnyFrame) (k : ℕ) → k ≤ length bytes.now
+    ensures complete { (frame : AnyFrame) (k : ℕ) → k ≤ length bytes.now
         → Spells frame (take k bytes.now) → result ≡ Ok (frame, k) }
     // The frame and its size, or the fault, exactly.
-    ensures exact { result ≡ decoded bytes.now }
+    ensures exact { result ≡ decode_result bytes.now }
     // More bytes change nothing, unless there were too few.
-    ensures settled { (more : List ℕ) → result ≢ Err FrameFault.Short
-        → decoded (bytes.now ++ more) ≡ result }
+    ensures stable { (more : List ℕ) → result ≢ Err FrameFault.Short
+        → decode_result (bytes.now ++ more) ≡ result }
 {
     first_frame(bytes)
 }

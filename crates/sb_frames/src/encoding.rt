@@ -9,7 +9,7 @@ use crate::writing::{Body, put, put_call, put_outcome, put_replica_and_length, p
 use arrayvec::ArrayVec;
 
 // The tag and the fields.
-#[tactic(auto, unfolding(sb_calls::specs::Replies::number_field))]
+#[tactic(auto, unfolding(sb_calls::specs::Replies::integer_field))]
 fn body_of(frame: &Frame) -> Body
     ensures spelled { result.items ≡ grammar.body frame.now }
     ensures valid { IsFrame frame.now }

@@ -2,7 +2,7 @@
 ghost use Rattle.std.specs.Prelude.{◌≡◌, ◌==◌, IfOk, length, Ok, Err};
 ghost use Rattle.std.specs.Int.{w32, w64};
 ghost use Rattle.sb_frames.specs.Reading as spec;
-ghost use Rattle.sb_frames.specs.Reading.{TakesField, TakesBytes};
+ghost use Rattle.sb_frames.specs.inner.FieldReading.{TakesField, TakesBytes};
 
 use crate::fault::FrameFault;
 use sb_amount::Cents;
@@ -66,18 +66,18 @@ impl<'a> Fields<'a> {
         Ok(front)
     }
 
-    #[tactic(auto, unfolding(crate::specs::Reading::number_at))]
+    #[tactic(auto, unfolding(crate::specs::Reading::unsigned_at))]
     pub(crate) fn u32(&mut self) -> Result<u32, FrameFault>
-        ensures { TakesField result self.new (spec.number_at w32 self.old) }
+        ensures { TakesField result self.new (spec.unsigned_at w32 self.old) }
     {
         let cells = self.bytes(4)?;
         Ok(u32::from_be_bytes([cells[0], cells[1], cells[2], cells[3]]))
     }
 
     #[inline]
-    #[tactic(auto, unfolding(crate::specs::Reading::number_at))]
+    #[tactic(auto, unfolding(crate::specs::Reading::unsigned_at))]
     pub(crate) fn u64(&mut self) -> Result<u64, FrameFault>
-        ensures { TakesField result self.new (spec.number_at w64 self.old) }
+        ensures { TakesField result self.new (spec.unsigned_at w64 self.old) }
     {
         let cells = self.bytes(8)?;
         Ok(u64::from_be_bytes([

@@ -1,6 +1,6 @@
 //! What holds for the grammar and for streams.
 ghost use Rattle.std.specs.Prelude.{◌≡◌, ℕ, List, ◌++◌, Ok, length};
-ghost use Rattle.sb_frames.specs.Decoding.{decoded};
+ghost use Rattle.sb_frames.specs.Decoding.{decode_result};
 ghost use Rattle.sb_frames.specs.Grammar.{Spells};
 ghost use Rattle.sb_frames.specs.Streaming.{FramesOfBytes};
 ghost use Rattle.sb_frames.specs.declared.frame.Frame.{Frame as AnyFrame};
@@ -24,7 +24,7 @@ pub fn one_spelling()
 /// bytes of the spelling.
 pub fn spelled_is_decoded()
     ensures { (frame : AnyFrame) (front rest : List ℕ) → Spells frame front
-        → decoded (front ++ rest) ≡ Ok (frame, length front) }
+        → decode_result (front ++ rest) ≡ Ok (frame, length front) }
 {}
 
 /// After any calls on a new stream, the bytes that it took are the spellings of the frames that it

@@ -1,6 +1,6 @@
 //! Replies in a frame, by their code, and the results of asks, by their status.
 ghost use Rattle.sb_frames.specs.Outcomes as spec;
-ghost use Rattle.sb_frames.specs.Reading.{TakesField};
+ghost use Rattle.sb_frames.specs.inner.FieldReading.{TakesField};
 
 use crate::fault::FrameFault;
 use crate::fields::Fields;

@@ -1,6 +1,6 @@
 //! A stream of bytes, read as frames.
 ghost use Rattle.std.specs.Prelude.{◌≡◌, ◌↔◌, [], Err, IsTrue, false, true, IfNone, IfOk, IfSome, OnErr};
-ghost use Rattle.sb_frames.specs.Streaming.{StreamState, opened, Feeds, next_of, Step, Fed, Next, HandsOut, IsShort, FailsBy};
+ghost use Rattle.sb_frames.specs.Streaming.{StreamState, empty_stream, Feeds, next_of, Step, Feed, Next, HandsOut, IsShort, FailsBy};
 ghost use Rattle.sb_frames.specs.declared.fault.StreamFault.{StreamFault as AnyStreamFault};
 
 use crate::decoding::decode;
@@ -32,7 +32,7 @@ impl Model for Stream {
 impl Stream {
     /// A stream that has had no bytes. It allocates nothing before the first ones.
     pub fn new(alloc: Global) -> Stream
-        ensures { result ≡ opened }
+        ensures { result ≡ empty_stream }
     {
         Stream {
             buffer: BytesMut::new(alloc),
@@ -46,7 +46,7 @@ impl Stream {
     /// [`StreamFault::OutOfMemory`] if memory is refused. Each fault leaves the stream as it was.
     pub fn feed(&mut self, bytes: &[u8]) -> Result<(), StreamFault>
         ensures state { Feeds self.old bytes.now result self.new }
-        ensures step { Step self.old (Fed bytes.now result) self.new }
+        ensures step { Step self.old (Feed bytes.now result) self.new }
     {
         if self.broken {
             return Err(StreamFault::Failed);

@@ -3,7 +3,7 @@ ghost use Rattle.std.specs.Prelude.{◌≡◌, ◌+◌, ◌≤◌, ◌∷◌, �
 ghost use Rattle.std.specs.Int.{w64};
 ghost use Rattle.sb_amount.specs.Limit.{IsWithinLimit};
 ghost use Rattle.sb_calls.specs.Call.{IsCall};
-ghost use Rattle.sb_calls.specs.Replies.{IsReply, amount_field, number_field, reply_field};
+ghost use Rattle.sb_calls.specs.Replies.{IsReply, amount_field, integer_field, reply_field};
 ghost use Rattle.sb_rows.specs.Name.{IsName};
 ghost use Rattle.sb_frames.specs.Fields.{name_field, call_field, no_reply_field, outcome_field};
 ghost use Rattle.sb_frames.specs.Grammar.{IsOutcome};
@@ -48,10 +48,10 @@ pub(crate) fn put(body: &mut Body, bytes: &[u8])
 }
 
 /// A tag, a replica's number and a length, in `REPLICA_AND_LENGTH` bytes.
-#[tactic(auto, unfolding(sb_calls::specs::Replies::number_field))]
+#[tactic(auto, unfolding(sb_calls::specs::Replies::integer_field))]
 pub(crate) fn put_replica_and_length(body: &mut Body, tag: u8, replica: u8, size: u64)
     requires { length body.old.items + REPLICA_AND_LENGTH ≤ MAX_BODY }
-    ensures { body.new.items ≡ body.old.items ++ (tag ∷ replica ∷ number_field w64 size) }
+    ensures { body.new.items ≡ body.old.items ++ (tag ∷ replica ∷ integer_field w64 size) }
 {
     put(body, &[tag, replica]);
     put(body, &size.to_be_bytes());
@@ -71,7 +71,7 @@ fn put_name(body: &mut Body, name: &Name)
 }
 
 #[inline]
-#[tactic(auto, unfolding(sb_calls::specs::Replies::number_field))]
+#[tactic(auto, unfolding(sb_calls::specs::Replies::integer_field))]
 fn put_cents(body: &mut Body, cents: i64)
     requires { length body.old.items + AMOUNT_FIELD ≤ MAX_BODY }
     ensures { body.new.items ≡ body.old.items ++ amount_field cents }

@@ -5,22 +5,22 @@ use Rattle.std.specs.Prelude.{◌||◌, ◌+◌, nat_le, nat_lt, ◌==◌, if◌
 use Rattle.sb_calls.specs.Behaviour.{declared_cowns, effect_of}
 use Rattle.sb_calls.specs.declared.call.TheConstants.{LOG_CALLS}
 use Rattle.sb_calls.specs.declared.op.Op.{Op}
-use Rattle.cown_board.specs.Board.{BoardOf, length_of, open_of}
-use Rattle.cown_board.specs.Played.{StaysTrueToLog, Submitted}
+use Rattle.cown_board.specs.Board.{BoardOf, length_of, unfinished_of}
+use Rattle.cown_board.specs.BoardCalls.{StaysTrueToLog, Submitted}
 use Rattle.cown_board.specs.declared.board.TheConstants.{OPEN_BEHAVIOURS}
 use Rattle.sb_replica_log.specs.Log.{LogOf, next_held}
-use Rattle.sb_replica_log.specs.Offers.{offered, next_offered, advanced}
+use Rattle.sb_replica_log.specs.Offers.{offer_answer, next_offer_answer, advance_answer}
 use Rattle.sb_replica_log.specs.declared.offered.Offered.{Offered}
 use Rattle.sb_replica_log.specs.declared.offered.Offered.TheVariants.{Next, Repeat, Gap, Held, Busy}
 use Rattle.sb_replica_log.specs.declared.replica_log.TheConstants.{HELD_ENTRIES}
-use Rattle.sb_replica.specs.Hearing.{heard_of, Accepts}
+use Rattle.sb_replica.specs.Frames.{entry_answer, Accepts}
 use Rattle.sb_replica.specs.declared.heard.Heard.TheVariants as heard
 
 pub ok_is : {A E : Type 0} {x y : A} → ◌≡◌ {A = Result A E} (Ok x) (Ok y) → x ≡ y
 ok_is h = cc
 
 -- it was the next one, under its own number
-pub accepted_next : (number n : ℕ) (answer : Offered) → heard_of number answer ≡ heard.Accepted n → (answer ≡ Next) × (number ≡ n)
+pub accepted_next : (number n : ℕ) (answer : Offered) → entry_answer number answer ≡ heard.Accepted n → (answer ≡ Next) × (number ≡ n)
 accepted_next number n Next e = (refl, cc)
 accepted_next number n Repeat e = absurd cc
 accepted_next number n (Gap size) e = absurd cc
@@ -36,23 +36,23 @@ next_tests false true early busy size number e = absurd cc
 next_tests false false true busy size number e = absurd cc
 next_tests false false false busy size number e = (refl, refl)
 
-pub next_number : (board : BoardOf Op) (number : ℕ) → offered board number ≡ Next → number ≡ suc (length_of board)
+pub next_number : (board : BoardOf Op) (number : ℕ) → offer_answer board number ≡ Next → number ≡ suc (length_of board)
 next_number board number e =
     let tests = next_tests (nat_le number (length_of board))
     (nat_lt (length_of board + HELD_ENTRIES) number || nat_lt LOG_CALLS number) (nat_lt (suc (length_of board)) number)
-    (open_of board == OPEN_BEHAVIOURS) (length_of board) number e in
+    (unfinished_of board == OPEN_BEHAVIOURS) (length_of board) number e in
     let above = leb-false number (length_of board) tests.0 in
     let below = ltb-false (suc (length_of board)) number tests.1 in
     omega (arith, above, below)
 
 -- an op that was held is appended to the log
-held_accepts : (board new : BoardOf Op) (found : Option Op) → option_map (λ op. next_offered board) found ≡ Some Next
+held_accepts : (board new : BoardOf Op) (found : Option Op) → option_map (λ op. next_offer_answer board) found ≡ Some Next
     → IfSome found (λ op. StaysTrueToLog declared_cowns effect_of board (Submitted op (Ok (suc (length_of board)))) new)
     → Accepts board (suc (length_of board)) new
 held_accepts board new None e played = absurd cc
 held_accepts board new (Some op) e played = record { op = op; played = played }
 
-pub advance_accepts : (log : LogOf) (new : BoardOf Op) → advanced log ≡ Some Next
+pub advance_accepts : (log : LogOf) (new : BoardOf Op) → advance_answer log ≡ Some Next
     → IfSome (next_held log) (λ op. StaysTrueToLog declared_cowns effect_of log.board (Submitted op (Ok (suc (length_of log.board)))) new)
     → Accepts log.board (suc (length_of log.board)) new
 advance_accepts log new e played = held_accepts log.board new (next_held log) e played
@@ -61,7 +61,7 @@ some_is : {A : Type 0} {x y : A} → ◌≡◌ {A = Option A} (Some x) (Some y) 
 some_is h = cc
 
 -- the held one was the next one, under its own number
-pub accepted_held : (number n : ℕ) (answer : Option Offered) → option_map (heard_of number) answer ≡ Some (heard.Accepted n)
+pub accepted_held : (number n : ℕ) (answer : Option Offered) → option_map (entry_answer number) answer ≡ Some (heard.Accepted n)
     → (answer ≡ Some Next) × (number ≡ n)
 accepted_held number n None e = absurd cc
 accepted_held number n (Some answer) e =

@@ -6,17 +6,17 @@ use Rattle.std.proofs.lemmas.Bool.{true≢false, cases_lt, lt-leb, le-leb, ne_eq
 use Rattle.std.proofs.lemmas.List.{length-append}
 use Rattle.std.proofs.lemmas.Option.{slice_get_cases}
 use Rattle.sb_calls.specs.declared.op.Op.{Op}
-use Rattle.cown_board.specs.Board.{BoardOf, length_of, open_of, reply_in}
-use Rattle.cown_board.specs.State.{is_open, state_is, finished_reply}
+use Rattle.cown_board.specs.Board.{BoardOf, length_of, unfinished_of, reply_in}
+use Rattle.cown_board.specs.State.{is_unfinished, state_is, finished_reply}
 use Rattle.cown_board.specs.declared.state.State.{State}
 use Rattle.cown_board.specs.declared.state.State.TheVariants.{Waiting, Out, Finished}
-use Rattle.cown_board.proofs.Counts.{all_finished}
-use Rattle.cown_board.proofs.PlacesLaws.{slice_get-left, slice_get-right}
-use Rattle.sb_replica.specs.Replica.{replies_held}
+use Rattle.cown_board.proofs.UnfinishedCounts.{all_finished}
+use Rattle.cown_board.proofs.PositionLaws.{slice_get-left, slice_get-right}
+use Rattle.sb_replica.specs.Replica.{board_replies}
 
 -- no state is open
 abbrev AreClosed : List State → Type 0
-AreClosed states = (k : ℕ) → state_is is_open (slice_get states k) ≡ false
+AreClosed states = (k : ℕ) → state_is is_unfinished (slice_get states k) ≡ false
 
 length_finished : (states : List State) → AreClosed states → length (filter_map finished_reply states) ≡ length states
 length_finished [] closed = refl
@@ -33,33 +33,33 @@ finished_at (Finished reply ∷ states) zero closed = refl
 finished_at (Finished reply ∷ states) (suc k) closed = finished_at states k (λ j. closed (suc j))
 
 -- each number has its reply, in order
-pub reply_at : (board : BoardOf Op) (place : ℕ) → open_of board ≡ 0 → reply_in board (place + 1) ≡ slice_get (replies_held board) place
+pub reply_at : (board : BoardOf Op) (place : ℕ) → unfinished_of board ≡ 0 → reply_in board (place + 1) ≡ slice_get (board_replies board) place
 unfolding reply_in
 reply_at board place idle =
-    let earlier = board.earlier in
+    let base_replies = board.base_replies in
     let fs = filter_map finished_reply board.states in
     let closed : AreClosed board.states = λ k. all_finished board.states k idle in
     let differs : ((place + 1) == 0) ≡ false = ne_eqb (place + 1) 0 (λ same. omega (arith, same)) in
-    ap (λ b. if b then None else (if nat_le (place + 1) (length earlier) then slice_get earlier (place + 1 - 1)
-    else option_and_then finished_reply (slice_get board.states (place + 1 - 1 - length earlier)))) differs
-    ∙ elim (cases_lt place (length earlier)) [
+    ap (λ b. if b then None else (if nat_le (place + 1) (length base_replies) then slice_get base_replies (place + 1 - 1)
+    else option_and_then finished_reply (slice_get board.states (place + 1 - 1 - length base_replies)))) differs
+    ∙ elim (cases_lt place (length base_replies)) [
       | inl lt ↦
-          ap (λ b. if b then slice_get earlier (place + 1 - 1) else option_and_then finished_reply (slice_get board.states (place + 1 - 1 - length earlier)))
-          (le-leb (place + 1) (length earlier) (omega (arith, lt)))
-          ∙ ap (slice_get earlier) (omega arith) ∙ sym (slice_get-left earlier fs place lt)
+          ap (λ b. if b then slice_get base_replies (place + 1 - 1) else option_and_then finished_reply (slice_get board.states (place + 1 - 1 - length base_replies)))
+          (le-leb (place + 1) (length base_replies) (omega (arith, lt)))
+          ∙ ap (slice_get base_replies) (omega arith) ∙ sym (slice_get-left base_replies fs place lt)
       | inr past ↦
-          ap (λ b. if b then slice_get earlier (place + 1 - 1) else option_and_then finished_reply (slice_get board.states (place + 1 - 1 - length earlier)))
-          (lt-leb (place + 1) (length earlier) (omega (arith, past)))
+          ap (λ b. if b then slice_get base_replies (place + 1 - 1) else option_and_then finished_reply (slice_get board.states (place + 1 - 1 - length base_replies)))
+          (lt-leb (place + 1) (length base_replies) (omega (arith, past)))
           ∙ ap (λ k. option_and_then finished_reply (slice_get board.states k)) (omega arith)
-          ∙ finished_at board.states (place - length earlier) closed
-          ∙ sym (slice_get-right earlier fs place (place - length earlier) (omega (arith, past)))
+          ∙ finished_at board.states (place - length base_replies) closed
+          ∙ sym (slice_get-right base_replies fs place (place - length base_replies) (omega (arith, past)))
     ]
 
 -- there are as many replies as numbers
-pub length_held : (board : BoardOf Op) → open_of board ≡ 0 → length board.log ≡ length board.states → length (replies_held board) ≡ length_of board
+pub length_held : (board : BoardOf Op) → unfinished_of board ≡ 0 → length board.log ≡ length board.states → length (board_replies board) ≡ length_of board
 length_held board idle beside =
-    length-append board.earlier (filter_map finished_reply board.states)
-    ∙ ap (λ n. length board.earlier + n) (length_finished board.states (λ k. all_finished board.states k idle) ∙ sym beside)
+    length-append board.base_replies (filter_map finished_reply board.states)
+    ∙ ap (λ n. length board.base_replies + n) (length_finished board.states (λ k. all_finished board.states k idle) ∙ sym beside)
 
 -- one reply more
 pub take_one_more : {A : Type 0} (xs : List A) (k : ℕ) (x : A) → slice_get xs k ≡ Some x → take (suc k) xs ≡ take k xs ++ x ∷ []
@@ -71,9 +71,9 @@ none_is_some : {A : Type 0} {x : A} → ◌≡◌ {A = Option A} None (Some x) �
 none_is_some h = cc
 
 -- none is missing
-pub none_missing : (board : BoardOf Op) (place : ℕ) → open_of board ≡ 0 → length board.log ≡ length board.states → place < length_of board
+pub none_missing : (board : BoardOf Op) (place : ℕ) → unfinished_of board ≡ 0 → length board.log ≡ length board.states → place < length_of board
     → reply_in board (place + 1) ≡ None → ⊥
-none_missing board place idle beside lt none = elim (slice_get_cases (replies_held board) place).1 [
+none_missing board place idle beside lt none = elim (slice_get_cases (board_replies board) place).1 [
   | inl here ↦ (none_is_some (sym none ∙ reply_at board place idle ∙ here.2))
   | inr past ↦ (omega (arith, past.0, lt, length_held board idle beside))
 ]

@@ -1,11 +1,11 @@
 pub mod AcceptedEntries
-pub mod HeardBatches
-pub mod HeardBytes
-pub mod HeardEntries
-pub mod HeardStreams
-pub mod HeldReplies
+pub mod BoardReplies
 pub mod IdleReplies
 pub mod MarkedReplies
 pub mod NoEntries
+pub mod ReceivedBatches
+pub mod ReceivedBytes
+pub mod ReceivedEntries
+pub mod ReceivedStreams
 pub mod RightHeads
 pub mod TakenEntries

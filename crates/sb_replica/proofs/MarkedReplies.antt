@@ -8,17 +8,17 @@ use Rattle.sb_rows.specs.Balances.{Balances}
 use Rattle.sb_calls.specs.Behaviour.{declared_cowns, effect_of}
 use Rattle.sb_calls.specs.declared.op.Op.{Op}
 use Rattle.sb_calls.specs.declared.reply.Reply.{Reply}
-use Rattle.cown_board.proofs.Cuts.{slice_get-take}
-use Rattle.cown_board.specs.Board.{AreCut, BoardOf, IsAfterAll, length_of, open_of, reply_in}
+use Rattle.cown_board.proofs.CutInvariant.{slice_get-take}
+use Rattle.cown_board.specs.Board.{AreCutColumns, BoardOf, IsAfterAll, length_of, unfinished_of, reply_in}
 use Rattle.cown_board.specs.State.{finished_reply}
 use Rattle.cown_board.specs.declared.state.State.{State}
 use Rattle.sb_replica.specs.Marking.{up_to_cut, up_to}
 
 -- up to a cut, the board has as many numbers as the cut's length
-pub length_up_to : (board : BoardOf Op) (number : ℕ) → length board.earlier ≤ number → number ≤ length_of board
+pub length_up_to : (board : BoardOf Op) (number : ℕ) → length board.base_replies ≤ number → number ≤ length_of board
     → length_of (up_to board (Some number)) ≡ number
 length_up_to board number after within =
-    let places = number - length board.earlier in
+    let places = number - length board.base_replies in
     omega (arith, length-take-le places board.log (omega (arith, after, within)), after, within)
 
 -- and a state for each
@@ -26,7 +26,7 @@ beside_up_to : (board : BoardOf Op) (cut : Option ℕ) → length board.log ≡ 
     → length (up_to board cut).log ≡ length (up_to board cut).states
 beside_up_to board None beside = beside
 beside_up_to board (Some number) beside =
-    let places = number - length board.earlier in
+    let places = number - length board.base_replies in
     length-take places board.log ∙ ap (λ (n : ℕ). min places n) beside ∙ sym (length-take places board.states)
 
 pub marked_beside : (board : BoardOf Op) → length board.log ≡ length board.states → length (up_to_cut board).log ≡ length (up_to_cut board).states
@@ -36,25 +36,25 @@ marked_beside board beside = beside_up_to board board.cut beside
 abbrev reply_among : BoardOf Op → ℕ → List State → Option Reply
 reply_among board number states =
     if number == 0 then None
-    else if nat_le number (length board.earlier) then slice_get board.earlier (number - 1)
-    else option_and_then finished_reply (slice_get states (number - 1 - length board.earlier))
+    else if nat_le number (length board.base_replies) then slice_get board.base_replies (number - 1)
+    else option_and_then finished_reply (slice_get states (number - 1 - length board.base_replies))
 
 reply_up_to : (board : BoardOf Op) (cut : Option ℕ) (place : ℕ) → place < length_of (up_to board cut)
     → reply_in board (place + 1) ≡ reply_in (up_to board cut) (place + 1)
 unfolding reply_in
 reply_up_to board None place lt = refl
 reply_up_to board (Some number) place lt =
-    let earlier = board.earlier in
-    let places = number - length earlier in
-    let state = place + 1 - 1 - length earlier in
-    elim (cases_lt place (length earlier)) [
+    let base_replies = board.base_replies in
+    let places = number - length base_replies in
+    let state = place + 1 - 1 - length base_replies in
+    elim (cases_lt place (length base_replies)) [
       | inl before ↦
-          let there : nat_le (place + 1) (length earlier) ≡ true = le-leb (place + 1) (length earlier) (omega (arith, before)) in
-          ap (λ b. if (place + 1) == 0 then None else if b then slice_get earlier (place + 1 - 1) else option_and_then finished_reply (slice_get board.states state)) there
-          ∙ sym (ap (λ b. if (place + 1) == 0 then None else if b then slice_get earlier (place + 1 - 1)
+          let there : nat_le (place + 1) (length base_replies) ≡ true = le-leb (place + 1) (length base_replies) (omega (arith, before)) in
+          ap (λ b. if (place + 1) == 0 then None else if b then slice_get base_replies (place + 1 - 1) else option_and_then finished_reply (slice_get board.states state)) there
+          ∙ sym (ap (λ b. if (place + 1) == 0 then None else if b then slice_get base_replies (place + 1 - 1)
           else option_and_then finished_reply (slice_get (take places board.states) state)) there)
       | inr past ↦
-          ap (λ found. if (place + 1) == 0 then None else if nat_le (place + 1) (length earlier) then slice_get earlier (place + 1 - 1)
+          ap (λ found. if (place + 1) == 0 then None else if nat_le (place + 1) (length base_replies) then slice_get base_replies (place + 1 - 1)
           else option_and_then finished_reply found)
           (sym (slice_get-take board.states places state (omega (arith, past, lt, length-take places board.log))))
     ]
@@ -64,20 +64,20 @@ marked_reply board place lt = reply_up_to board board.cut place lt
 
 -- the columns of a mark, if nothing that it covers is unfinished
 abbrev pub AreMarked : BoardOf Op → Option (Bor Balances) → Type 0
-AreMarked board columns = MatchOption columns (open_of board ≢ 0)
-    (λ lent. (open_of board ≡ 0) × IsAfterAll declared_cowns effect_of board lent.now)
+AreMarked board columns = MatchOption columns (unfinished_of board ≢ 0)
+    (λ lent. (unfinished_of board ≡ 0) × IsAfterAll declared_cowns effect_of board lent.now)
 
 pub columns_of_cut : (board : BoardOf Op) (number : ℕ) (columns : Option (Bor Balances)) → board.cut ≡ Some number
-    → AreCut declared_cowns effect_of board (option_map (λ lent. lent.now) columns) → AreMarked (up_to_cut board) columns
+    → AreCutColumns declared_cowns effect_of board (option_map (λ lent. lent.now) columns) → AreMarked (up_to_cut board) columns
 columns_of_cut board number (Some lent) here (n, is, idle, after) =
-    subst (λ (b : BoardOf Op). (open_of b ≡ 0) × IsAfterAll declared_cowns effect_of b lent.now) (sym (ap (up_to board) is)) (idle, after)
+    subst (λ (b : BoardOf Op). (unfinished_of b ≡ 0) × IsAfterAll declared_cowns effect_of b lent.now) (sym (ap (up_to board) is)) (idle, after)
 columns_of_cut board number None here unfinished =
-    λ idle. unfinished number here (subst (λ (b : BoardOf Op). open_of b ≡ 0) (ap (up_to board) here) idle)
+    λ idle. unfinished number here (subst (λ (b : BoardOf Op). unfinished_of b ≡ 0) (ap (up_to board) here) idle)
 
 pub columns_of_all : (board : BoardOf Op) (columns : Option (Bor Balances)) → board.cut ≡ None → AreMarked board columns → AreMarked (up_to_cut board) columns
 columns_of_all board columns none all = subst (λ (b : BoardOf Op). AreMarked b columns) (sym (ap (up_to board) none)) all
 
-pub length_of_cut : (board : BoardOf Op) (number : ℕ) → board.cut ≡ Some number → length board.earlier ≤ number → number ≤ length_of board
+pub length_of_cut : (board : BoardOf Op) (number : ℕ) → board.cut ≡ Some number → length board.base_replies ≤ number → number ≤ length_of board
     → number ≡ length_of (up_to_cut board)
 length_of_cut board number here after within =
     sym (ap (λ (cut : Option ℕ). length_of (up_to board cut)) here ∙ length_up_to board number after within)

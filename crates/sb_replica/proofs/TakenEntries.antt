@@ -4,7 +4,7 @@ use Rattle.std.specs.Int.{w16, to_be_bytes}
 use Rattle.std.specs.List.{All}
 use Rattle.std.proofs.lemmas.List.{length-append, map-append}
 use Rattle.std.proofs.lemmas.List.Elements.{All-push}
-use Rattle.sb_calls.specs.Op.{resolved}
+use Rattle.sb_calls.specs.Op.{op_of}
 use Rattle.sb_calls.specs.declared.call.Call.{Call}
 use Rattle.sb_calls.specs.declared.op.Op.{Op}
 use Rattle.sb_frames.proofs.Sizes.{body_size}
@@ -12,14 +12,14 @@ use Rattle.sb_frames.specs.Grammar.{IsFrame, body}
 use Rattle.sb_frames.specs.Streaming.{HandsOut, Next, Step, StreamState}
 use Rattle.sb_frames.specs.declared.frame.Frame.{Frame}
 use Rattle.sb_frames.specs.declared.frame.Frame.TheVariants.{Entry}
-use Rattle.sb_replica.proofs.HeardStreams.{handed_append}
-use Rattle.sb_replica.specs.Batches.{TakesEntries, entry_frame, entry_op}
+use Rattle.sb_replica.proofs.ReceivedStreams.{handed_append}
+use Rattle.sb_replica.specs.inner.Batches.{TakesEntries, entry_frame, entry_op}
 use Rattle.sb_replica.specs.Streams.{HandsOutAll}
 use Rattle.sb_replica.specs.declared.streams.EntryOp.{EntryOp}
 
 -- one more
 pub take_one : (names : List (List ℕ)) (a b c : StreamState) (batch : List EntryOp) (number : ℕ) (call : Call) (op : Op) → TakesEntries names a batch b
-    → Step b (Next (Ok (Some (Entry number call)))) c → IsFrame (Entry number call) → op ≡ resolved names call
+    → Step b (Next (Ok (Some (Entry number call)))) c → IsFrame (Entry number call) → op ≡ op_of names call
     → TakesEntries names a (batch ++ record { number = number; op = op } ∷ []) c
 take_one names a b c batch number call op h step valid is =
     let entry : ℕ × Call = (number, call) in

@@ -2,8 +2,8 @@
 use Rattle.std.specs.Prelude.{ℕ}
 use Rattle.sb_replica.specs.declared.fault.AdoptFault.{AdoptFault}
 use Rattle.sb_replica.specs.declared.fault.AdoptFault.TheVariants as adopt
-use Rattle.sb_replica.specs.declared.fault.HearingFault.{HearingFault}
-use Rattle.sb_replica.specs.declared.fault.HearingFault.TheVariants as hearing
+use Rattle.sb_replica.specs.declared.fault.ReceiveFault.{ReceiveFault}
+use Rattle.sb_replica.specs.declared.fault.ReceiveFault.TheVariants as receiving
 use Rattle.sb_replica.specs.declared.fault.MarkFault.{MarkFault}
 use Rattle.sb_replica.specs.declared.fault.MarkFault.TheVariants as mark
 use Rattle.sb_replica.specs.declared.fault.ReplicaFault.{ReplicaFault}
@@ -11,15 +11,15 @@ use Rattle.sb_replica.specs.declared.fault.ReplicaFault.TheVariants as replica
 use Rattle.sb_replica.specs.declared.fault.RestartFault.{RestartFault}
 use Rattle.sb_replica.specs.declared.fault.RestartFault.TheVariants as restart
 
--- the number of a fault of a frame that a replica hears
+-- the number of a fault of a frame that a replica receives
 abbrev pub replica_fault_number : ReplicaFault → ℕ
 replica_fault_number (replica.BadFrame fault) = 1
 replica_fault_number replica.OutOfMemory = 2
 
--- the number of a fault of a stream that a replica hears
-abbrev pub hearing_fault_number : HearingFault → ℕ
-hearing_fault_number (hearing.Stream fault) = 1
-hearing_fault_number hearing.OutOfMemory = 2
+-- the number of a fault of a stream that a replica receives
+abbrev pub receive_fault_number : ReceiveFault → ℕ
+receive_fault_number (receiving.Stream fault) = 1
+receive_fault_number receiving.OutOfMemory = 2
 
 -- the number of a fault of a mark
 abbrev pub mark_fault_number : MarkFault → ℕ

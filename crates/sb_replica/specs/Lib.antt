@@ -1,8 +1,8 @@
-pub mod Batches
 pub mod Faults
-pub mod Hearing
+pub mod Frames
 pub mod Marking
 pub mod Replica
 pub mod Restarting
 pub mod States
 pub mod Streams
+pub mod inner

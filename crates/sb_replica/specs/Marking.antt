@@ -3,12 +3,12 @@ use Rattle.std.specs.Prelude.{◌≡◌, ◌≢◌, ◌⊎◌, ℕ, ◌-◌, Opt
 use Rattle.sb_rows.specs.Balances.{Balances}
 use Rattle.sb_calls.specs.Behaviour.{declared_cowns, effect_of}
 use Rattle.sb_calls.specs.declared.op.Op.{Op}
-use Rattle.cown_board.specs.Board.{BoardOf, open_of, IsAfterAll}
-use Rattle.sb_checkpoint.specs.Checkpoint.{Second, Spells}
+use Rattle.cown_board.specs.Board.{BoardOf, unfinished_of, IsAfterAll}
+use Rattle.sb_checkpoint.specs.Checkpoint.{Second, SpellsInLayout}
 use Rattle.sb_checkpoint.specs.Stores.{StoreStep, Put}
 use Rattle.sb_checkpoint.specs.declared.store.StoreFault.{StoreFault}
 use Rattle.sb_checkpoint.specs.declared.store.StoreFault.TheVariants.{Device, OutOfMemory}
-use Rattle.sb_replica.specs.Replica.{ReplicaOf, origin_of, replies_held}
+use Rattle.sb_replica.specs.Replica.{ReplicaOf, origin_of, board_replies}
 use Rattle.sb_replica.specs.declared.fault.MarkFault.{MarkFault}
 use Rattle.sb_replica.specs.declared.fault.MarkFault.TheVariants as mark
 
@@ -16,7 +16,7 @@ use Rattle.sb_replica.specs.declared.fault.MarkFault.TheVariants as mark
 abbrev pub up_to : BoardOf Op → Option ℕ → BoardOf Op
 up_to board None = board
 up_to board (Some number) =
-    let places = number - length board.earlier in
+    let places = number - length board.base_replies in
     record board { log = take places board.log; states = take places board.states }
 
 -- what a mark covers: the board up to its cut, or all of it without one
@@ -32,12 +32,12 @@ module _ {S : Type 0} (does : S → StoreStep → S → Type 0) where
   -- the balances after all marked entries and their replies were spelled, in the second layout with
   -- the opening total, and the store's put gave this answer
   pub record Puts (old : ReplicaOf S) (answer : Result (Unit {0}) StoreFault) (new : ReplicaOf S) : Type 0 where
-    pub idle : open_of (up_to_cut old.board) ≡ 0
+    pub idle : unfinished_of (up_to_cut old.board) ≡ 0
     pub columns : Balances
     pub after : IsAfterAll declared_cowns effect_of (up_to_cut old.board) columns
     pub bytes : List ℕ
-    pub spelled : Spells Second (origin_of old).opening_total
-        (record { columns = columns; replies = replies_held (up_to_cut old.board) }) bytes
+    pub spelled : SpellsInLayout Second (origin_of old).opening_total
+        (record { columns = columns; replies = board_replies (up_to_cut old.board) }) bytes
     pub put : does old.store (Put bytes answer) new.store
     pub stays : new ≡ record old { board = after_put answer old.board; store = new.store }
 
@@ -48,7 +48,7 @@ module _ {S : Type 0} (does : S → StoreStep → S → Type 0) where
   -- a marked entry is unfinished and nothing changes; or the store failed; or memory was refused,
   -- to the store or before it was used
   abbrev pub IsMarkFaultOf : ReplicaOf S → MarkFault → ReplicaOf S → Type 0
-  IsMarkFaultOf old mark.Busy new = (open_of (up_to_cut old.board) ≢ 0) × (new ≡ old)
+  IsMarkFaultOf old mark.Busy new = (unfinished_of (up_to_cut old.board) ≢ 0) × (new ≡ old)
   IsMarkFaultOf old mark.Device new = Puts old (Err Device) new
   IsMarkFaultOf old mark.OutOfMemory new =
-      (open_of (up_to_cut old.board) ≡ 0) × ((new ≡ old) ⊎ Puts old (Err OutOfMemory) new)
+      (unfinished_of (up_to_cut old.board) ≡ 0) × ((new ≡ old) ⊎ Puts old (Err OutOfMemory) new)

@@ -1,8 +1,7 @@
 -- A replica as its callers see it.
-use Rattle.std.specs.Prelude.{◌≡◌, ℕ, ◌+ℤ◌, Option, List, length, ◌++◌}
-use Rattle.std.specs.List.{All, filter_map}
+use Rattle.std.specs.Prelude.{ℕ, ◌+ℤ◌, Option, List, length, ◌++◌}
+use Rattle.std.specs.List.{filter_map}
 use Rattle.sb_rows.specs.Balances.{Balances}
-use Rattle.sb_calls.specs.Replies.{IsReply}
 use Rattle.sb_calls.specs.declared.op.Op.{Op}
 use Rattle.sb_calls.specs.declared.reply.Reply.{Reply}
 use Rattle.lane_audit.specs.Columns.{total}
@@ -37,23 +36,16 @@ abbrev pub with_log : {S : Type 0} → ReplicaOf S → LogOf → ReplicaOf S
 with_log replica log = record replica { board = log.board; held = log.held }
 
 -- all that it has beside its log
-pub record BesideOf (S : Type 0) : Type 0 where
+pub record RestOf (S : Type 0) : Type 0 where
   pub id : ℕ
   pub names : List (List ℕ)
   pub opening : Balances
   pub store : S
 
-abbrev pub beside_of : {S : Type 0} → ReplicaOf S → BesideOf S
-beside_of replica =
+abbrev pub rest_of : {S : Type 0} → ReplicaOf S → RestOf S
+rest_of replica =
     record { id = replica.id; names = replica.names; opening = replica.opening; store = replica.store }
 
--- the replies that a board has, by number; if it is idle, these are all
-abbrev pub replies_held : BoardOf Op → List Reply
-replies_held board = board.earlier ++ filter_map finished_reply board.states
-
--- the opening and the board have one customer for each name, and every reply from before the board
--- has a spelling
-pub record IsReplica {S : Type 0} (replica : ReplicaOf S) : Type 0 where
-  pub opening : length replica.opening.savings ≡ length replica.names
-  pub board : length replica.board.opening.savings ≡ length replica.names
-  pub earlier : All IsReply replica.board.earlier
+-- the replies of a board, by number; if it is idle, these are all
+abbrev pub board_replies : BoardOf Op → List Reply
+board_replies board = board.base_replies ++ filter_map finished_reply board.states

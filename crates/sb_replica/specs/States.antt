@@ -2,14 +2,13 @@
 -- entries.
 use Rattle.std.specs.Prelude.{◌≡◌, ◌≢◌, ◌⊎◌, ℕ, ◌<◌, ◌≤◌, Option, Some, None, List, length}
 use Rattle.cown_board.specs.Board.{length_of}
-use Rattle.sb_checkpoint.specs.Checkpoint.{CheckpointOf, IsSpelled, Origin}
+use Rattle.sb_checkpoint.specs.Checkpoint.{CheckpointOf, SpellsCheckpoint, Origin}
 use Rattle.sb_checkpoint.specs.Reading.{first_fault, head_fault}
-use Rattle.sb_checkpoint.specs.Stores.{StoreStep, Got}
-use Rattle.sb_checkpoint.specs.declared.fault.CheckpointFault.{CheckpointFault}
+use Rattle.sb_checkpoint.specs.Stores.{StoreStep, Get}
 use Rattle.sb_checkpoint.specs.declared.fault.CheckpointFault.TheVariants as checkpoint
 use Rattle.sb_replica_log.specs.Log.{none_held}
 use Rattle.sb_replica.specs.Replica.{ReplicaOf, origin_of}
-use Rattle.sb_replica.specs.Restarting.{IsLogOn}
+use Rattle.sb_replica.specs.Restarting.{IsBoardOn}
 use Rattle.sb_replica.specs.declared.adopted.Adopted.{Adopted}
 use Rattle.sb_replica.specs.declared.adopted.Adopted.TheVariants as adopted
 use Rattle.sb_replica.specs.declared.fault.AdoptFault.{AdoptFault}
@@ -19,15 +18,15 @@ use Rattle.sb_replica.specs.declared.fault.AdoptFault.TheVariants as adopt
 -- entries
 pub record IsStateOf (origin : Origin) (size : ℕ) (bytes : List ℕ) : Type 0 where
   pub checkpoint : CheckpointOf
-  pub spelled : IsSpelled origin.opening_total checkpoint bytes
+  pub spelled : SpellsCheckpoint origin.opening_total checkpoint bytes
   pub customers_are : length checkpoint.columns.savings ≡ origin.customers
   pub size_is : length checkpoint.replies ≡ size
 
 -- what a store with these bytes gives: its checkpoint with its length, or nothing if it holds none,
 -- or one of no entry
 abbrev pub Gives : Origin → Option (List ℕ) → Option (ℕ × List ℕ) → Type 0
-Gives origin held (Some (size, bytes)) = (held ≡ Some bytes) × IsStateOf origin size bytes × (1 ≤ size)
-Gives origin held None = (held ≡ None) ⊎ ((bytes : List ℕ) × (held ≡ Some bytes) × IsStateOf origin 0 bytes)
+Gives origin content (Some (size, bytes)) = (content ≡ Some bytes) × IsStateOf origin size bytes × (1 ≤ size)
+Gives origin content None = (content ≡ None) ⊎ ((bytes : List ℕ) × (content ≡ Some bytes) × IsStateOf origin 0 bytes)
 
 -- the length of a state, 0 for none
 abbrev pub state_length : Option (ℕ × List ℕ) → ℕ
@@ -39,7 +38,7 @@ state_length None = 0
 abbrev pub Adopts : {S : Type 0} → ReplicaOf S → List ℕ → Adopted → ReplicaOf S → Type 0
 Adopts old bytes (adopted.Adopted size) new =
     (length_of old.board < size) × (length_of new.board ≡ size)
-    × IsLogOn old.opening (origin_of old) (Some bytes) new.board
+    × IsBoardOn old.opening (origin_of old) (Some bytes) new.board
     × (new ≡ record old { board = new.board; held = none_held })
 Adopts old bytes (adopted.Behind own) new =
     (own ≡ length_of old.board) × ((size : ℕ) × IsStateOf (origin_of old) size bytes × (size ≤ own))
@@ -52,15 +51,10 @@ IsAdoptFaultOf origin bytes (adopt.BadCheckpoint fault) =
     (fault ≢ checkpoint.OutOfMemory) × (first_fault bytes origin ≡ Some fault)
 IsAdoptFaultOf origin bytes adopt.OutOfMemory = head_fault bytes origin.customers ≡ None
 
--- an adoption's fault for a fault of the bytes
-abbrev pub adopt_fault_of : CheckpointFault → AdoptFault
-adopt_fault_of checkpoint.OutOfMemory = adopt.OutOfMemory
-adopt_fault_of fault = adopt.BadCheckpoint fault
-
 module _ {S : Type 0} (does : S → StoreStep → S → Type 0) where
   -- the store was read, and this is the state that it gives; all but the store is as it was
-  pub record KeepsState (old : ReplicaOf S) (state : Option (ℕ × List ℕ)) (new : ReplicaOf S) : Type 0 where
-    pub held : Option (List ℕ)
-    pub got : does old.store (Got held) new.store
-    pub gives : Gives (origin_of old) held state
+  pub record ReadsState (old : ReplicaOf S) (state : Option (ℕ × List ℕ)) (new : ReplicaOf S) : Type 0 where
+    pub content : Option (List ℕ)
+    pub got : does old.store (Get content) new.store
+    pub gives : Gives (origin_of old) content state
     pub stays : new ≡ record old { store = new.store }

@@ -1,8 +1,9 @@
 //! Why a replica didn't do what was requested.
 ghost use Rattle.std.specs.Prelude.{◌≡◌};
-ghost use Rattle.sb_replica.specs.Faults.{replica_fault_number, hearing_fault_number, mark_fault_number, restart_fault_number, adopt_fault_number};
-ghost use Rattle.sb_replica.specs.Restarting.{of_store_fault, of_checkpoint_fault};
-ghost use Rattle.sb_replica.specs.States.{adopt_fault_of};
+ghost use Rattle.sb_replica.specs.Faults.{replica_fault_number, receive_fault_number, mark_fault_number, restart_fault_number, adopt_fault_number};
+ghost use Rattle.sb_replica.specs.Restarting.{of_store_fault};
+ghost use Rattle.sb_replica.specs.inner.FaultConversions.{of_checkpoint_fault};
+ghost use Rattle.sb_replica.specs.inner.AdoptFaultConversion.{adopt_fault_of};
 ghost use Rattle.sb_replica.specs.declared.fault.AdoptFault.TheVariants as adopt;
 ghost use Rattle.sb_replica.specs.declared.fault.RestartFault.TheVariants as restart;
 
@@ -11,7 +12,7 @@ use sb_frames::{FrameFault, StreamFault};
 use std::alloc::AllocError;
 use thiserror::Error;
 
-/// Why bytes weren't heard. The replica is as it was.
+/// Why bytes weren't received. The replica is as it was.
 #[derive(Clone, Copy, Debug, PartialEq, Eq, Error, Drop)]
 pub enum ReplicaFault {
     /// The bytes are not one whole frame.
@@ -34,10 +35,10 @@ impl ReplicaFault {
     }
 }
 
-/// Why hearing a stream stopped. All that was heard before stays.
+/// Why receiving a stream stopped. All that was received before stays.
 #[derive(Clone, Copy, Debug, PartialEq, Eq, Error, Drop)]
-pub enum HearingFault {
-    /// The stream failed, and fails from then on. Everything that it handed out was heard.
+pub enum ReceiveFault {
+    /// The stream failed, and fails from then on. Everything that it handed out was received.
     #[error("{0}")]
     Stream(StreamFault),
     /// Memory was refused for an entry. That entry and the frames taken behind it are lost.
@@ -45,14 +46,14 @@ pub enum HearingFault {
     OutOfMemory,
 }
 
-impl HearingFault {
+impl ReceiveFault {
     /// The number of the fault, from 1 to 2 in the order of the variants.
     pub fn number(&self) -> u8
-        ensures { result ≡ hearing_fault_number self.now }
+        ensures { result ≡ receive_fault_number self.now }
     {
         match self {
-            HearingFault::Stream(_) => 1,
-            HearingFault::OutOfMemory => 2,
+            ReceiveFault::Stream(_) => 1,
+            ReceiveFault::OutOfMemory => 2,
         }
     }
 }

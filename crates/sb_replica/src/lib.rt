@@ -3,8 +3,8 @@
 
 mod adopted;
 mod fault;
+mod frames;
 mod heard;
-mod hearing;
 mod laws;
 mod marking;
 mod pause;
@@ -15,7 +15,7 @@ mod states;
 mod streams;
 
 pub use adopted::Adopted;
-pub use fault::{AdoptFault, HearingFault, MarkFault, ReplicaFault, RestartFault};
+pub use fault::{AdoptFault, MarkFault, ReceiveFault, ReplicaFault, RestartFault};
 pub use heard::Heard;
 pub use laws::limits;
 pub use pause::Pause;

@@ -3,13 +3,13 @@ ghost use Rattle.std.specs.Prelude.{◌≡◌, ◌≢◌, ◌↔◌, ◌≤◌, 
 ghost use Rattle.std.specs.List.{All};
 ghost use Rattle.sb_calls.specs.Replies.{IsReply};
 ghost use Rattle.sb_calls.specs.Behaviour.{declared_cowns, effect_of};
-ghost use Rattle.cown_board.specs.Board.{length_of, open_of, IsAfterAll};
-ghost use Rattle.cown_board.specs.Played.{CutDropped, CutMade, StaysTrueToLog};
-ghost use Rattle.sb_checkpoint.specs.Checkpoint.{Second, Spells};
+ghost use Rattle.cown_board.specs.Board.{length_of, unfinished_of, IsAfterAll};
+ghost use Rattle.cown_board.specs.BoardCalls.{CutDropped, CutMade, StaysTrueToLog};
+ghost use Rattle.sb_checkpoint.specs.Checkpoint.{Second, SpellsInLayout};
 ghost use Rattle.sb_checkpoint.specs.Stores.{StoreDoes};
 ghost use Rattle.sb_checkpoint.specs.declared.store.StoreFault.{StoreFault as AnyFault};
 ghost use Rattle.sb_replica.specs.Marking.{IsMarkFaultOf, Puts, PutsBytes, up_to_cut};
-ghost use Rattle.sb_replica.specs.Replica.{origin_of, replies_held};
+ghost use Rattle.sb_replica.specs.Replica.{origin_of, board_replies};
 
 use crate::fault::MarkFault;
 use crate::replica::Replica;
@@ -45,7 +45,7 @@ impl<S: CheckpointStore> Replica<S> {
     /// Fails with [`MarkFault::Busy`] exactly if one of these entries is unfinished, and with
     /// [`MarkFault::Device`] only if the store does. Then nothing but the store changes.
     pub fn mark(&mut self) -> Result<u64, MarkFault>
-        ensures busy { IsErrOf result MarkFault.Busy ↔ (open_of (up_to_cut self.old.board) ≢ 0) }
+        ensures busy { IsErrOf result MarkFault.Busy ↔ (unfinished_of (up_to_cut self.old.board) ≢ 0) }
         ensures ok { IfOk result (λ size. (size ≡ length_of (up_to_cut self.old.board))
             × Puts (StoreDoes S.model) self.old (Ok tt) self.new) }
         // Whatever calls its board has had, including this one, the board is true to its log.
@@ -63,7 +63,7 @@ impl<S: CheckpointStore> Replica<S> {
     ///
     /// Fails as [`Replica::mark`] does.
     pub fn put_checkpoint(&mut self) -> Result<Vec<u8>, MarkFault>
-        ensures busy { IsErrOf result MarkFault.Busy ↔ (open_of (up_to_cut self.old.board) ≢ 0) }
+        ensures busy { IsErrOf result MarkFault.Busy ↔ (unfinished_of (up_to_cut self.old.board) ≢ 0) }
         ensures ok { IfOk result (λ bytes.
             PutsBytes (StoreDoes S.model) self.old bytes.items self.new) }
         // Whatever calls its board has had, including this one, the board is true to its log.
@@ -75,7 +75,7 @@ impl<S: CheckpointStore> Replica<S> {
         let Some(columns) = self.marked_columns() else {
             return Err(MarkFault::Busy);
         };
-        let Ok(bytes) = self.spelled(columns) else {
+        let Ok(bytes) = self.checkpoint_bytes(columns) else {
             return Err(MarkFault::OutOfMemory);
         };
         match self.store.put(&bytes) {
@@ -91,8 +91,8 @@ impl<S: CheckpointStore> Replica<S> {
     // The number of entries that a mark covers.
     fn marked_length(&self) -> u64
         ensures value { result ≡ length_of (up_to_cut self.now.board) }
-        ensures few { result ≤ LOG_CALLS }
-        ensures beside { length self.now.board.log ≡ length self.now.board.states }
+        ensures limit { result ≤ LOG_CALLS }
+        ensures same_length { length self.now.board.log ≡ length self.now.board.states }
     {
         let length = self.log.length();
         match self.log.board().cut_length() {
@@ -103,24 +103,24 @@ impl<S: CheckpointStore> Replica<S> {
 
     // The columns after the entries that a mark covers, or `None` if one of these is unfinished.
     fn marked_columns(&self) -> Option<&Columns>
-        ensures value { MatchOption result (open_of (up_to_cut self.now.board) ≢ 0)
-            (λ columns. (open_of (up_to_cut self.now.board) ≡ 0)
+        ensures value { MatchOption result (unfinished_of (up_to_cut self.now.board) ≢ 0)
+            (λ columns. (unfinished_of (up_to_cut self.now.board) ≡ 0)
             × IsAfterAll declared_cowns effect_of (up_to_cut self.now.board) columns.now) }
     {
         match self.log.board().cut_length() {
             Some(_) => self.log.board().cut_columns(),
-            None => self.log.board().settled_columns(),
+            None => self.log.board().final_columns(),
         }
     }
 
     // The checkpoint of these columns and of the replies to all marked numbers, with the opening
-    // total, if none is unfinished. Each reply is spelled as it is read: a list of replies would be
+    // total, if none is unfinished. Each reply is written as it is read: a list of replies would be
     // longer than the checkpoint, and pass through memory twice.
-    fn spelled(&self, columns: &Columns) -> Result<Vec<u8>, AllocError>
-        requires { open_of (up_to_cut self.now.board) ≡ 0 }
-        ensures { IfOk result (λ bytes. Spells Second (origin_of self.now).opening_total (record {
+    fn checkpoint_bytes(&self, columns: &Columns) -> Result<Vec<u8>, AllocError>
+        requires { unfinished_of (up_to_cut self.now.board) ≡ 0 }
+        ensures { IfOk result (λ bytes. SpellsInLayout Second (origin_of self.now).opening_total (record {
           columns = columns.now;
-          replies = replies_held (up_to_cut self.now.board);
+          replies = board_replies (up_to_cut self.now.board);
         }) bytes.items) }
     {
         let length = self.marked_length();
@@ -136,10 +136,10 @@ impl<S: CheckpointStore> Replica<S> {
 
     /// The replies to all numbers in order, if none is unfinished. Fails if memory is refused.
     pub fn replies(&self) -> Result<Vec<Reply>, AllocError>
-        requires { open_of self.now.board ≡ 0 }
-        ensures value { IfOk result (λ replies. replies.items ≡ replies_held self.now.board) }
+        requires { unfinished_of self.now.board ≡ 0 }
+        ensures value { IfOk result (λ replies. replies.items ≡ board_replies self.now.board) }
         ensures valid { IfOk result (λ replies. All IsReply replies.items) }
-        ensures few { IfOk result (λ replies. length replies.items ≤ LOG_CALLS) }
+        ensures limit { IfOk result (λ replies. length replies.items ≤ LOG_CALLS) }
     {
         // Each entry is finished.
         prove!(self.log.idle());

@@ -2,16 +2,16 @@
 ghost use Rattle.std.specs.Prelude.{◌≡◌, ◌≢◌, ◌↔◌, ◌<◌, ◌≤◌, ◌-◌, suc, Ok, [], length, IsTrue, IfOk, IfSome, OnErr, Some, MatchOption, MatchResult, option_map};
 ghost use Rattle.sb_rows.specs.Balances.{IsBalances};
 ghost use Rattle.sb_calls.specs.Behaviour.{declared_cowns, effect_of};
-ghost use Rattle.sb_calls.specs.Cowns.{held_of};
-ghost use Rattle.sb_calls.specs.OneByOne.{reply_by_log};
+ghost use Rattle.sb_calls.specs.Cowns.{contents_of};
+ghost use Rattle.sb_calls.specs.SerialRun.{reply_by_log};
 ghost use Rattle.sb_calls.specs.Op.{IsOpWithin};
 ghost use Rattle.sb_calls.specs.Replies.{IsReply};
-ghost use Rattle.cown_board.specs.Board.{length_of, open_of, reply_in, IsAfterAll};
-ghost use Rattle.cown_board.specs.Played.{opened_with, StaysTrueToLog, Submitted};
-ghost use Rattle.sb_checkpoint.specs.Stores.{Compares, StoreDoes, Got, NotGot};
+ghost use Rattle.cown_board.specs.Board.{length_of, unfinished_of, reply_in, IsAfterAll};
+ghost use Rattle.cown_board.specs.BoardCalls.{board_at_opening, StaysTrueToLog, Submitted};
+ghost use Rattle.sb_checkpoint.specs.Stores.{Compares, StoreDoes, Get, GetFault};
 ghost use Rattle.sb_frames.specs.declared.frame.Frame.TheVariants as frames;
 ghost use Rattle.sb_replica_log.specs.Log.{none_held};
-ghost use Rattle.sb_replica_log.specs.Offers.{offered, after_offer};
+ghost use Rattle.sb_replica_log.specs.Offers.{offer_answer, after_offer};
 ghost use Rattle.sb_replica.specs.Replica.{log_of, origin_of, with_log};
 
 use cown_board::{Board, Runs};
@@ -25,7 +25,7 @@ use std::alloc::{AllocError, Global};
 use std::marker::Model;
 
 /// One node of the bank. It takes the log's entries in order, holds those that come a little early,
-/// and runs them on its board. It keeps a checkpoint in its store, and a restart goes back to that.
+/// and runs them on its board. It stores a checkpoint, and a restart goes back to that.
 #[derive(Drop)]
 pub struct Replica<S: CheckpointStore> {
     pub(crate) id: u8,
@@ -37,7 +37,8 @@ pub struct Replica<S: CheckpointStore> {
 }
 
 impl<S: CheckpointStore> Model for Replica<S> {
-    ghost use Rattle.sb_replica.specs.Replica.{ReplicaOf, IsReplica};
+    ghost use Rattle.sb_replica.specs.Replica.{ReplicaOf};
+    ghost use Rattle.sb_replica.specs.inner.ReplicaInvariant.{IsReplica};
 
     ghost Value = { ReplicaOf S };
 
@@ -74,7 +75,7 @@ impl<S: CheckpointStore> Replica<S> {
           id = id;
           names = directory;
           opening = opening;
-          board = opened_with opening [];
+          board = board_at_opening opening [];
           held = none_held;
           store = store;
         }) }
@@ -94,8 +95,8 @@ impl<S: CheckpointStore> Replica<S> {
     /// beside the log stays.
     pub fn offer_entry(&mut self, number: u64, op: Op) -> Result<Offered, AllocError>
         requires { IsOpWithin (length self.old.names) op }
-        ensures answer { IfOk result (λ answer. answer ≡ offered self.old.board number) }
-        ensures err { OnErr result (offered self.old.board number ≡ Offered.Next) }
+        ensures answer { IfOk result (λ answer. answer ≡ offer_answer self.old.board number) }
+        ensures err { OnErr result (offer_answer self.old.board number ≡ Offered.Next) }
         ensures state { MatchResult result
             (λ answer. self.new ≡ with_log self.old (after_offer (log_of self.old) op answer))
             (λ refused. self.new ≡ self.old) }
@@ -139,7 +140,7 @@ impl<S: CheckpointStore> Replica<S> {
     /// The number of the last entry that was accepted.
     pub fn length(&self) -> u64
         ensures value { result ≡ length_of self.now.board }
-        ensures few { length_of self.now.board ≤ LOG_CALLS }
+        ensures limit { length_of self.now.board ≤ LOG_CALLS }
     {
         self.log.length()
     }
@@ -149,9 +150,9 @@ impl<S: CheckpointStore> Replica<S> {
     #[inline]
     pub fn reply(&self, number: u64) -> Option<Reply>
         ensures value { result ≡ reply_in self.now.board number }
-        ensures by_log { IfSome result (λ reply. length self.now.board.earlier < number →
-            reply_by_log declared_cowns effect_of (held_of self.now.board.opening) self.now.board.log
-            (number - length self.now.board.earlier) ≡ Some reply) }
+        ensures by_log { IfSome result (λ reply. length self.now.board.base_replies < number →
+            reply_by_log declared_cowns effect_of (contents_of self.now.board.opening) self.now.board.log
+            (number - length self.now.board.base_replies) ≡ Some reply) }
         ensures valid { IfSome result IsReply }
     {
         // Its board was opened on the columns of a bank.
@@ -161,43 +162,43 @@ impl<S: CheckpointStore> Replica<S> {
 
     /// The columns after all entries, or `None` if one is unfinished. Fails if memory is refused.
     pub fn columns(&self) -> Result<Option<Columns>, AllocError>
-        ensures value { IfOk result (λ columns. MatchOption columns (open_of self.now.board ≢ 0)
-            (λ all. (open_of self.now.board ≡ 0) × IsAfterAll declared_cowns effect_of self.now.board all)) }
+        ensures value { IfOk result (λ columns. MatchOption columns (unfinished_of self.now.board ≢ 0)
+            (λ all. (unfinished_of self.now.board ≡ 0) × IsAfterAll declared_cowns effect_of self.now.board all)) }
         ensures bank { IfOk result (λ columns. IfSome columns IsBalances) }
-        ensures err { OnErr result (open_of self.now.board ≡ 0) }
+        ensures err { OnErr result (unfinished_of self.now.board ≡ 0) }
     {
         self.log.columns()
     }
 
     /// The columns after all entries, borrowed, or `None` if one is unfinished.
-    pub fn settled_columns(&self) -> Option<&Columns>
-        ensures value { MatchOption result (open_of self.now.board ≢ 0)
-            (λ columns. (open_of self.now.board ≡ 0) × IsAfterAll declared_cowns effect_of self.now.board columns.now) }
+    pub fn final_columns(&self) -> Option<&Columns>
+        ensures value { MatchOption result (unfinished_of self.now.board ≢ 0)
+            (λ columns. (unfinished_of self.now.board ≡ 0) × IsAfterAll declared_cowns effect_of self.now.board columns.now) }
         ensures bank { IfSome result (λ columns. IsBalances columns.now) }
     {
-        self.log.board().settled_columns()
+        self.log.board().final_columns()
     }
 
     /// What the store holds, as [`CheckpointStore::get`] answers.
-    pub fn stored(&mut self) -> Result<Option<Vec<u8>>, StoreFault>
+    pub fn store_content(&mut self) -> Result<Option<Vec<u8>>, StoreFault>
         ensures got { MatchResult result
-            (λ held. StoreDoes S.model self.old.store
-            (Got (option_map (λ bytes. bytes.items) held)) self.new.store)
-            (λ fault. StoreDoes S.model self.old.store (NotGot fault) self.new.store) }
-        ensures stays { self.new ≡ record self.old { store = self.new.store } }
+            (λ content. StoreDoes S.model self.old.store
+            (Get (option_map (λ bytes. bytes.items) content)) self.new.store)
+            (λ fault. StoreDoes S.model self.old.store (GetFault fault) self.new.store) }
+        ensures unchanged { self.new ≡ record self.old { store = self.new.store } }
     {
         self.store.get()
     }
 
-    /// Whether the store holds exactly these bytes, as [`CheckpointStore::holds`] answers.
-    pub fn store_holds(&mut self, bytes: &[u8]) -> Result<bool, StoreFault>
-        ensures told { MatchResult result
+    /// Whether the store holds exactly these bytes, as [`CheckpointStore::has_content`] answers.
+    pub fn store_has_content(&mut self, bytes: &[u8]) -> Result<bool, StoreFault>
+        ensures compares { MatchResult result
             (λ same. Compares (StoreDoes S.model) self.old.store bytes.now same
             self.new.store)
-            (λ fault. StoreDoes S.model self.old.store (NotGot fault) self.new.store) }
-        ensures stays { self.new ≡ record self.old { store = self.new.store } }
+            (λ fault. StoreDoes S.model self.old.store (GetFault fault) self.new.store) }
+        ensures unchanged { self.new ≡ record self.old { store = self.new.store } }
     {
-        self.store.holds(bytes)
+        self.store.has_content(bytes)
     }
 
     /// The frame that acknowledges its log up to its length.
@@ -215,7 +216,7 @@ impl<S: CheckpointStore> Replica<S> {
         ensures { result ≡ option_map (frames.Answer number) (reply_in self.now.board number) }
     {
         let reply = self.reply(number)?;
-        // Each reply that is held has a spelling.
+        // Each reply of the board has a spelling.
         let reply = WireReply::new(reply).unwrap();
         Some(Frame::Answer { number, reply })
     }

@@ -2,11 +2,11 @@
 ghost use Rattle.std.specs.Prelude.{◌≡◌, ◌≤◌, IfOk, IfErr, OnOk, length, option_map};
 ghost use Rattle.std.specs.List.{All};
 ghost use Rattle.sb_calls.specs.Replies.{IsReply};
-ghost use Rattle.cown_board.specs.Played.{opened_with};
+ghost use Rattle.cown_board.specs.BoardCalls.{board_at_opening};
 ghost use Rattle.sb_replica_log.specs.Log.{none_held};
 ghost use Rattle.sb_checkpoint.specs.Stores.{StoreDoes};
 ghost use Rattle.sb_replica.specs.Replica.{origin_of, with_log};
-ghost use Rattle.sb_replica.specs.Restarting.{BeginsWell, Restarts, IsRestartFaultOf, IsStoredAs, IsLogOn, IsRefusalOf};
+ghost use Rattle.sb_replica.specs.Restarting.{BeginsWell, Restarts, IsRestartFaultOf, IsStoredAs, IsBoardOn, IsRefusalOf};
 
 use crate::fault::RestartFault;
 use crate::replica::Replica;
@@ -25,7 +25,7 @@ pub(crate) fn log_on(
 ) -> Result<ReplicaLog, AllocError>
     requires { length replies.items ≤ LOG_CALLS }
     ensures { IfOk result (λ log. log ≡ record {
-      board = opened_with columns replies.items;
+      board = board_at_opening columns replies.items;
       held = none_held;
     }) }
 {
@@ -46,51 +46,51 @@ impl<S: CheckpointStore> Replica<S> {
         ensures err { IfErr result (λ fault.
             IsRestartFaultOf (StoreDoes S.model) self.old fault self.new) }
     {
-        let held = self.store.get()?;
-        let log = self.held_log(held)?;
-        self.go_on_from(log);
+        let content = self.store.get()?;
+        let log = self.stored_log(content)?;
+        self.replace_log(log);
         Ok(self.log.length())
     }
 
     // The old log is gone, with its cut and the ops that it held.
-    pub(crate) fn go_on_from(&mut self, log: ReplicaLog)
+    pub(crate) fn replace_log(&mut self, log: ReplicaLog)
         requires customers { length log.board.opening.savings ≡ length self.old.names }
-        requires replies { All IsReply log.board.earlier }
+        requires replies { All IsReply log.board.base_replies }
         ensures { self.new ≡ with_log self.old log }
     {
         self.log = log;
     }
 
     // A log with a board on what the store holds.
-    fn held_log(&self, held: Option<Vec<u8>>) -> Result<ReplicaLog, RestartFault>
-        ensures log { IfOk result (λ log. IsLogOn self.now.opening (origin_of self.now)
-            (option_map (λ bytes. bytes.items) held) log.board) }
-        ensures none { IfOk result (λ log. log.held ≡ none_held) }
+    fn stored_log(&self, content: Option<Vec<u8>>) -> Result<ReplicaLog, RestartFault>
+        ensures log { IfOk result (λ log. IsBoardOn self.now.opening (origin_of self.now)
+            (option_map (λ bytes. bytes.items) content) log.board) }
+        ensures no_held_entry { IfOk result (λ log. log.held ≡ none_held) }
         ensures customers { IfOk result (λ log. length log.board.opening.savings ≡ length self.now.names) }
-        ensures replies { IfOk result (λ log. All IsReply log.board.earlier) }
+        ensures replies { IfOk result (λ log. All IsReply log.board.base_replies) }
         ensures err { IfErr result
-            (IsRefusalOf (origin_of self.now) (option_map (λ bytes. bytes.items) held)) }
+            (IsRefusalOf (origin_of self.now) (option_map (λ bytes. bytes.items) content)) }
     {
-        let (columns, replies) = self.held_parts(held)?;
+        let (columns, replies) = self.stored_parts(content)?;
         Ok(log_on(self.alloc, columns, replies)?)
     }
 
     // The balances and the replies that the store holds, or those of the opening if it holds
     // nothing.
     #[tactic(auto, using(crate::proofs::RightHeads::right_head))]
-    fn held_parts(&self, held: Option<Vec<u8>>) -> Result<(Columns, Vec<Reply>), RestartFault>
-        ensures held { IfOk result (λ parts. IsStoredAs self.now.opening (origin_of self.now)
-            (option_map (λ bytes. bytes.items) held)
+    fn stored_parts(&self, content: Option<Vec<u8>>) -> Result<(Columns, Vec<Reply>), RestartFault>
+        ensures content { IfOk result (λ parts. IsStoredAs self.now.opening (origin_of self.now)
+            (option_map (λ bytes. bytes.items) content)
             (record { columns = parts.0; replies = parts.1.items })) }
         ensures customers { IfOk result (λ parts. length parts.0.savings ≡ length self.now.names) }
-        ensures few { IfOk result (λ parts. length parts.1.items ≤ LOG_CALLS) }
+        ensures limit { IfOk result (λ parts. length parts.1.items ≤ LOG_CALLS) }
         ensures replies { IfOk result (λ parts. All IsReply parts.1.items) }
         ensures begins { OnOk result
-            (BeginsWell (length self.now.names) (option_map (λ bytes. bytes.items) held)) }
+            (BeginsWell (length self.now.names) (option_map (λ bytes. bytes.items) content)) }
         ensures err { IfErr result
-            (IsRefusalOf (origin_of self.now) (option_map (λ bytes. bytes.items) held)) }
+            (IsRefusalOf (origin_of self.now) (option_map (λ bytes. bytes.items) content)) }
     {
-        match held {
+        match content {
             Some(bytes) => {
                 let checkpoint = self.checkpoint_in(&bytes)?;
                 Ok(checkpoint.into_parts())

@@ -8,13 +8,13 @@ use sb_checkpoint::CheckpointStore;
 impl<S: CheckpointStore> Runs for Replica<S> {
     ghost use Rattle.std.specs.Prelude.{List, Option};
     ghost use Rattle.sb_calls.specs.declared.op.Op.{Op as AnyOp};
-    ghost use Rattle.sb_replica.specs.Replica.{BesideOf, beside_of};
+    ghost use Rattle.sb_replica.specs.Replica.{RestOf, rest_of};
 
     ghost board = { λ replica. replica.board };
 
-    ghost Beside = { BesideOf S × List (Option AnyOp) };
+    ghost Rest = { RestOf S × List (Option AnyOp) };
 
-    ghost beside = { λ replica. (beside_of replica, replica.held) };
+    ghost rest = { λ replica. (rest_of replica, replica.held) };
 
     fn take_at(&mut self, index: usize) -> Option<Job<Op>> {
         self.log.take_at(index)

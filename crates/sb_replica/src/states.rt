@@ -1,12 +1,12 @@
 //! One replica's checkpoint, which another takes in place of the log's entries.
 ghost use Rattle.std.specs.Prelude.{◌≡◌, ℕ, IfOk, IfErr, List, MatchResult, None, Option, Some, length, option_map};
-ghost use Rattle.sb_checkpoint.specs.Checkpoint.{IsSpelled};
+ghost use Rattle.sb_checkpoint.specs.Checkpoint.{SpellsCheckpoint};
 ghost use Rattle.sb_checkpoint.specs.Reading.{first_fault, IsRefusedBy};
 ghost use Rattle.sb_checkpoint.specs.Stores.{StoreDoes};
 ghost use Rattle.sb_frames.specs.declared.frame.Frame.TheVariants as frames;
 ghost use Rattle.sb_replica.specs.Replica.{origin_of};
 ghost use Rattle.sb_replica.specs.Restarting.{IsRefusalOf, IsRestartFaultOf};
-ghost use Rattle.sb_replica.specs.States.{Adopts, IsAdoptFaultOf, IsStateOf, KeepsState, state_length};
+ghost use Rattle.sb_replica.specs.States.{Adopts, IsAdoptFaultOf, IsStateOf, ReadsState, state_length};
 
 use crate::adopted::Adopted;
 use crate::fault::{AdoptFault, RestartFault};
@@ -22,7 +22,7 @@ impl<S: CheckpointStore> Replica<S> {
     /// Fails if the store does, if what that holds isn't a checkpoint of this bank, or if memory is
     /// refused.
     pub fn kept_state(&mut self) -> Result<Option<(u64, Vec<u8>)>, RestartFault>
-        ensures ok { IfOk result (λ state. KeepsState (StoreDoes S.model) self.old
+        ensures ok { IfOk result (λ state. ReadsState (StoreDoes S.model) self.old
             (option_map (λ kept. (kept.0, kept.1.items)) state) self.new) }
         ensures err { IfErr result (λ fault.
             IsRestartFaultOf (StoreDoes S.model) self.old fault self.new) }
@@ -43,7 +43,7 @@ impl<S: CheckpointStore> Replica<S> {
     /// Fails as [`Replica::kept_state`] does.
     pub fn have_frame(&mut self) -> Result<Frame, RestartFault>
         ensures ok { IfOk result (λ frame. (state : Option (ℕ × List ℕ))
-            × KeepsState (StoreDoes S.model) self.old state self.new
+            × ReadsState (StoreDoes S.model) self.old state self.new
             × (frame ≡ frames.Have self.old.id (state_length state))) }
         ensures err { IfErr result (λ fault.
             IsRestartFaultOf (StoreDoes S.model) self.old fault self.new) }
@@ -77,7 +77,7 @@ impl<S: CheckpointStore> Replica<S> {
             return Ok(Adopted::Behind(own));
         }
         let (columns, replies) = checkpoint.into_parts();
-        self.go_on_from(log_on(self.alloc, columns, replies)?);
+        self.replace_log(log_on(self.alloc, columns, replies)?);
         Ok(Adopted::Adopted(length))
     }
 
@@ -92,7 +92,7 @@ impl<S: CheckpointStore> Replica<S> {
     // The checkpoint of this bank that these bytes are.
     pub(crate) fn checkpoint_in(&self, bytes: &[u8]) -> Result<Checkpoint, CheckpointFault>
         ensures checkpoint { IfOk result (λ checkpoint.
-            IsSpelled (origin_of self.now).opening_total checkpoint bytes.now) }
+            SpellsCheckpoint (origin_of self.now).opening_total checkpoint bytes.now) }
         ensures customers { IfOk result (λ checkpoint.
             length checkpoint.columns.savings ≡ length self.now.names) }
         ensures fault { MatchResult result

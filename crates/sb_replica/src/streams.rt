@@ -1,11 +1,11 @@
 //! Frames from a stream.
 ghost use Rattle.std.specs.Prelude.{◌≡◌, ◌≢◌, ◌↔◌, ◌<◌, ◌≤◌, ◌+◌, [], Ok, None, IfOk, MatchResult, length};
-ghost use Rattle.cown_board.specs.Board.{open_of};
-ghost use Rattle.sb_replica.specs.Batches as spec;
-ghost use Rattle.sb_replica.specs.Batches.{AreWithin, HearsBatch, IsRefusedAmong, LooksUp, after_batch};
-ghost use Rattle.sb_replica.specs.Streams.{HearsUntil, HearsUntilFault};
+ghost use Rattle.cown_board.specs.Board.{unfinished_of};
+ghost use Rattle.sb_replica.specs.inner.Batches as spec;
+ghost use Rattle.sb_replica.specs.inner.Batches.{AreWithin, ReceivesBatch, IsRefusedAmong, LooksUp, after_batch};
+ghost use Rattle.sb_replica.specs.Streams.{ReceivesUntil, ReceivesUntilFault};
 
-use crate::fault::HearingFault;
+use crate::fault::ReceiveFault;
 use crate::pause::Pause;
 use crate::replica::Replica;
 use arrayvec::ArrayVec;
@@ -27,7 +27,7 @@ struct EntryOp {
     op: Op,
 }
 
-// What fills a place of a batch before an entry does.
+// What fills a slot of a batch before an entry does.
 impl Default for EntryOp {
     fn default() -> EntryOp {
         EntryOp {
@@ -48,12 +48,12 @@ fn look_up(
     batch: &mut Batch,
 ) -> Result<Option<Pause>, StreamFault>
     requires empty { batch.old.items ≡ [] }
-    requires few { limit ≤ BATCH_ENTRIES }
+    requires limit { limit ≤ BATCH_ENTRIES }
     ensures looks_up { LooksUp directory.now stream.old batch.new.items result stream.new }
     ensures within { AreWithin (length directory.now) batch.new.items }
-    ensures whole { result ≡ Ok None → length batch.new.items ≡ limit }
-    ensures early { result ≢ Ok None → length batch.new.items < limit }
-    ensures less { length stream.new.unread + length batch.new.items ≤ length stream.old.unread }
+    ensures batch_is_full { result ≡ Ok None → length batch.new.items ≡ limit }
+    ensures batch_is_short { result ≢ Ok None → length batch.new.items < limit }
+    ensures consumes_bytes { length stream.new.unread + length batch.new.items ≤ length stream.old.unread }
 {
     for taken in 0..limit {
         match stream.next()? {
@@ -81,46 +81,46 @@ fn offer_all(log: &mut ReplicaLog, batch: &[EntryOp]) -> Result<(), AllocError>
     Ok(())
 }
 
-// What ended the batch, once all its entries are heard.
-fn as_heard(end: Result<Option<Pause>, StreamFault>) -> Result<Option<Pause>, HearingFault>
-    ensures { result ≡ spec.as_heard end }
+// What ended the batch, once all its entries are received.
+fn batch_end(end: Result<Option<Pause>, StreamFault>) -> Result<Option<Pause>, ReceiveFault>
+    ensures { result ≡ spec.batch_end end }
 {
     match end {
         Ok(pause) => Ok(pause),
-        Err(fault) => Err(HearingFault::Stream(fault)),
+        Err(fault) => Err(ReceiveFault::Stream(fault)),
     }
 }
 
 impl<S: CheckpointStore> Replica<S> {
-    /// Hears the frames of a stream, one after another, each as [`Replica::on_frame`] hears its
-    /// bytes. It stops when the stream has no whole frame, when a frame comes that isn't an entry,
+    /// Receives the frames of a stream, one after another, each as [`Replica::on_frame`] receives
+    /// its bytes. It stops when the stream has no whole frame, when a frame comes that isn't an entry,
     /// or when as many behaviours are unfinished as the limit allows. It takes no memory beside
     /// what accepting entries takes.
     ///
     /// It takes no entry that would be answered `Busy`: it takes none while as many behaviours are
     /// unfinished as the limit allows. The caller then lets some finish and calls again.
     ///
-    /// Fails with the stream's fault, after all that came before was heard. Fails if memory is
-    /// refused for an entry: everything before it was heard, and it is lost, with up to 63 frames
-    /// taken behind it.
-    pub fn hear_stream(&mut self, stream: &mut Stream) -> Result<Pause, HearingFault>
+    /// Fails with the stream's fault, after all that came before was received. Fails if memory is
+    /// refused for an entry: everything before it was received, and it is lost, with up to 63
+    /// frames taken behind it.
+    pub fn receive_stream(&mut self, stream: &mut Stream) -> Result<Pause, ReceiveFault>
         ensures outcome { MatchResult result
-            (λ pause. HearsUntil self.old stream.old pause self.new stream.new)
-            (λ fault. HearsUntilFault self.old stream.old fault self.new stream.new) }
-        ensures busy { IfOk result (λ pause. (pause ≡ Pause.Busy) ↔ (open_of self.new.board ≡ OPEN_BEHAVIOURS)) }
+            (λ pause. ReceivesUntil self.old stream.old pause self.new stream.new)
+            (λ fault. ReceivesUntilFault self.old stream.old fault self.new stream.new) }
+        ensures busy { IfOk result (λ pause. (pause ≡ Pause.Busy) ↔ (unfinished_of self.new.board ≡ OPEN_BEHAVIOURS)) }
     {
         loop {
-            if let Some(pause) = self.hear_batch(stream)? {
+            if let Some(pause) = self.receive_batch(stream)? {
                 return Ok(pause);
             }
         }
     }
 
-    // Hears one batch of entries, or fewer up to a pause. It looks up the names of all before it
+    // Receives one batch of entries, or fewer up to a pause. It looks up the names of all before it
     // offers the first, so that the directory and the queues don't push each other out of the
     // processor's caches.
-    fn hear_batch(&mut self, stream: &mut Stream) -> Result<Option<Pause>, HearingFault>
-        ensures { HearsBatch self.old stream.old result self.new stream.new }
+    fn receive_batch(&mut self, stream: &mut Stream) -> Result<Option<Pause>, ReceiveFault>
+        ensures { ReceivesBatch self.old stream.old result self.new stream.new }
     {
         let room = OPEN_BEHAVIOURS - self.log.board().unfinished();
         if room == 0 {
@@ -129,8 +129,8 @@ impl<S: CheckpointStore> Replica<S> {
         let mut batch = Batch::new();
         let end = look_up(&self.directory, stream, room.min(BATCH_ENTRIES), &mut batch);
         match offer_all(&mut self.log, batch.as_slice()) {
-            Ok(()) => as_heard(end),
-            Err(_) => Err(HearingFault::OutOfMemory),
+            Ok(()) => batch_end(end),
+            Err(_) => Err(ReceiveFault::OutOfMemory),
         }
     }
 }

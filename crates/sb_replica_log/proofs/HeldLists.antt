@@ -2,9 +2,9 @@
 use Rattle.std.proofs.Common.{◌≡◌, ℕ, suc, ◌+◌, ◌-◌, ◌%◌, ◌<◌, ◌≤◌, Option, None, List, [], ◌∷◌, ◌++◌, length, drop, sym, subst, ◌∙◌, arith}
 use Rattle.std.specs.Prelude.{replicate, slice_get, slice_set}
 use Rattle.sb_calls.specs.declared.op.Op.{Op}
-use Rattle.sb_replica_log.proofs.Rounds.{length-round, round-replicate, round-set, round-first, round-next, ComesRound, comes_round}
+use Rattle.sb_replica_log.proofs.Rotations.{length-round, round-replicate, round-set, round-first, round-next, ComesRound, comes_round}
 use Rattle.sb_replica_log.specs.Log.{none_held}
-use Rattle.sb_replica_log.specs.Places.{in_order_after}
+use Rattle.sb_replica_log.specs.inner.Rotation.{in_order_after}
 
 pub held-none : (size : ℕ) → in_order_after {A = Option Op} size (replicate 64 None) ≡ none_held
 unfolding none_held

@@ -1,4 +1,4 @@
 pub mod HeldLists
-pub mod Keeping
-pub mod Rounds
-pub mod Seen
+pub mod LogInvariant
+pub mod LogView
+pub mod Rotations

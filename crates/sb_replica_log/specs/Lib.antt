@@ -1,3 +1,3 @@
 pub mod Log
 pub mod Offers
-pub mod Places
+pub mod inner

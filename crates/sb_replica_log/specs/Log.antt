@@ -6,7 +6,7 @@ use Rattle.sb_calls.specs.declared.op.Op.{Op}
 use Rattle.cown_board.specs.Board.{BoardOf, length_of}
 use Rattle.sb_replica_log.specs.declared.replica_log.TheConstants.{HELD_ENTRIES}
 
--- its board, and the ops that it holds: one place for each of the next numbers, beginning after the
+-- its board, and the ops that it holds: one slot for each of the next numbers, beginning after the
 -- board's length
 pub record LogOf : Type 0 where
   pub board : BoardOf Op
@@ -21,8 +21,8 @@ abbrev pub next_held : LogOf → Option Op
 next_held log = option_and_then (λ held. held) (slice_get log.held 0)
 
 -- each op that is held has a number that a log takes, and names the board's customers
-pub record IsLog (log : LogOf) : Type 0 where
-  pub places : length log.held ≡ HELD_ENTRIES
+pub record IsReplicaLog (log : LogOf) : Type 0 where
+  pub slots : length log.held ≡ HELD_ENTRIES
   pub numbers : (place : ℕ) (op : Op) → slice_get log.held place ≡ Some (Some op)
       → length_of log.board + suc place ≤ LOG_CALLS
   pub within : (place : ℕ) (op : Op) → slice_get log.held place ≡ Some (Some op)

@@ -2,13 +2,13 @@
 ghost use Rattle.std.specs.Prelude.{◌≡◌, ◌≢◌, ◌↔◌, ◌≤◌, ◌<◌, ◌-◌, ◌%◌, ℕ, length, suc, replicate, Ok, IfOk, IfSome, IsErrOf, OnOk, OnErr, Some, None, MatchOption, MatchResult};
 ghost use Rattle.sb_rows.specs.Balances.{IsBalances};
 ghost use Rattle.sb_calls.specs.Behaviour.{declared_cowns, effect_of};
-ghost use Rattle.sb_calls.specs.Cowns.{held_of};
-ghost use Rattle.sb_calls.specs.OneByOne.{reply_by_log};
+ghost use Rattle.sb_calls.specs.Cowns.{contents_of};
+ghost use Rattle.sb_calls.specs.SerialRun.{reply_by_log};
 ghost use Rattle.sb_calls.specs.Op.{IsOpWithin};
-ghost use Rattle.cown_board.specs.Board.{length_of, open_of, reply_in, IsAfterAll};
-ghost use Rattle.cown_board.specs.Played.{StaysTrueToLog, Submitted, CutMade, CutDropped};
-ghost use Rattle.sb_replica_log.specs.Log.{none_held, next_held, IsLog};
-ghost use Rattle.sb_replica_log.specs.Offers.{offered, after_offer, next_offered, advanced, after_advance};
+ghost use Rattle.cown_board.specs.Board.{length_of, unfinished_of, reply_in, IsAfterAll};
+ghost use Rattle.cown_board.specs.BoardCalls.{StaysTrueToLog, Submitted, CutMade, CutDropped};
+ghost use Rattle.sb_replica_log.specs.Log.{none_held, next_held, IsReplicaLog};
+ghost use Rattle.sb_replica_log.specs.Offers.{offer_answer, after_offer, next_offer_answer, advance_answer, after_advance};
 
 use crate::offered::Offered;
 use cown_board::{Board, CutFault, Done, Job, Runs, SubmitFault};
@@ -25,33 +25,33 @@ pub const HELD_ENTRIES: usize = 64;
 #[derive(Drop)]
 pub struct ReplicaLog {
     board: Board<Op>,
-    // The ops that came early, each at the place of its number, counted round.
+    // The ops that came early, each in the slot of its number, counted round.
     held: [Option<Op>; HELD_ENTRIES],
 }
 
 impl Model for ReplicaLog {
     ghost use Rattle.cown_board.specs.Board.{length_of};
-    ghost use Rattle.sb_replica_log.specs.Log.{LogOf, IsLog};
-    ghost use Rattle.sb_replica_log.specs.Places.{in_order_after};
+    ghost use Rattle.sb_replica_log.specs.Log.{LogOf, IsReplicaLog};
+    ghost use Rattle.sb_replica_log.specs.inner.Rotation.{in_order_after};
 
     ghost Value = { LogOf };
 
     ghost view = { λ l. record { board = l.board; held = in_order_after (length_of l.board) l.held } };
 
-    ghost invariant = { λ l. IsLog (record { board = l.board; held = in_order_after (length_of l.board) l.held }) };
+    ghost invariant = { λ l. IsReplicaLog (record { board = l.board; held = in_order_after (length_of l.board) l.held }) };
 }
 
 // For the prover alone: the array gets its clause here.
 #[inline(always)]
-fn nothing_held() -> [Option<Op>; HELD_ENTRIES]
+fn empty_slots() -> [Option<Op>; HELD_ENTRIES]
     ensures { result ≡ replicate HELD_ENTRIES None }
 {
     [None; HELD_ENTRIES]
 }
 
-// The place at which the op for a number is held.
+// The slot in which the op for a number is held.
 #[inline(always)]
-fn place_of(number: u64) -> usize
+fn slot_of(number: u64) -> usize
     ensures { result ≡ number % HELD_ENTRIES }
 {
     (number % HELD_ENTRIES as u64) as usize
@@ -64,7 +64,7 @@ impl ReplicaLog {
     {
         ReplicaLog {
             board,
-            held: nothing_held(),
+            held: empty_slots(),
         }
     }
 
@@ -75,8 +75,8 @@ impl ReplicaLog {
     #[inline]
     pub fn offer_entry(&mut self, number: u64, op: Op) -> Result<Offered, AllocError>
         requires { IsOpWithin (length self.old.board.opening.savings) op }
-        ensures answer { IfOk result (λ answer. answer ≡ offered self.old.board number) }
-        ensures err { OnErr result (offered self.old.board number ≡ Offered.Next) }
+        ensures answer { IfOk result (λ answer. answer ≡ offer_answer self.old.board number) }
+        ensures err { OnErr result (offer_answer self.old.board number ≡ Offered.Next) }
         ensures state { MatchResult result
             (λ answer. self.new ≡ after_offer self.old op answer)
             (λ refused. self.new ≡ self.old) }
@@ -93,7 +93,7 @@ impl ReplicaLog {
             return Ok(Offered::Gap(length));
         }
         if number > length + 1 {
-            self.held[place_of(number)] = Some(op);
+            self.held[slot_of(number)] = Some(op);
             return Ok(Offered::Held(number));
         }
         self.take_next(op)
@@ -103,8 +103,8 @@ impl ReplicaLog {
     ///
     /// Fails if memory is refused for an op that would be taken; then nothing changes.
     pub fn advance(&mut self) -> Result<Option<Offered>, AllocError>
-        ensures answer { IfOk result (λ answer. answer ≡ advanced self.old) }
-        ensures err { OnErr result (advanced self.old ≡ Some Offered.Next) }
+        ensures answer { IfOk result (λ answer. answer ≡ advance_answer self.old) }
+        ensures err { OnErr result (advance_answer self.old ≡ Some Offered.Next) }
         ensures state { MatchResult result
             (λ answer. self.new ≡ after_advance self.old)
             (λ refused. self.new ≡ self.old) }
@@ -124,10 +124,10 @@ impl ReplicaLog {
     fn next_held(&self) -> Option<Op>
         ensures value { result ≡ next_held self.now }
         ensures within { IfSome result (IsOpWithin (length self.now.board.opening.savings)) }
-        ensures more { IfSome result (λ op. length_of self.now.board < LOG_CALLS) }
+        ensures has_room { IfSome result (λ op. length_of self.now.board < LOG_CALLS) }
     {
         let next = self.board.length() + 1;
-        self.held[place_of(next)]
+        self.held[slot_of(next)]
     }
 
     // Takes the op of the next number, and drops what was held for it, unless the limit of
@@ -135,9 +135,9 @@ impl ReplicaLog {
     #[inline(always)]
     fn take_next(&mut self, op: Op) -> Result<Offered, AllocError>
         requires within { IsOpWithin (length self.old.board.opening.savings) op }
-        requires more { length_of self.old.board < LOG_CALLS }
-        ensures answer { IfOk result (λ answer. answer ≡ next_offered self.old.board) }
-        ensures err { OnErr result (next_offered self.old.board ≡ Offered.Next) }
+        requires has_room { length_of self.old.board < LOG_CALLS }
+        ensures answer { IfOk result (λ answer. answer ≡ next_offer_answer self.old.board) }
+        ensures err { OnErr result (next_offer_answer self.old.board ≡ Offered.Next) }
         ensures state { MatchResult result
             (λ answer. self.new ≡ after_offer self.old op answer)
             (λ refused. self.new ≡ self.old) }
@@ -149,7 +149,7 @@ impl ReplicaLog {
         let length = self.board.length();
         match self.board.submit(op) {
             Ok(number) => {
-                self.held[place_of(number)] = None;
+                self.held[slot_of(number)] = None;
                 Ok(Offered::Next)
             }
             Err(SubmitFault::Busy) => Ok(Offered::Busy(length)),
@@ -178,10 +178,10 @@ impl ReplicaLog {
     #[inline]
     pub fn length(&self) -> u64
         ensures value { result ≡ length_of self.now.board }
-        ensures few { length_of self.now.board ≤ LOG_CALLS }
+        ensures limit { length_of self.now.board ≤ LOG_CALLS }
         ensures bank { IsBalances self.now.board.opening }
-        ensures beside { length self.now.board.log ≡ length self.now.board.states }
-        ensures held { IsLog self.now }
+        ensures same_length { length self.now.board.log ≡ length self.now.board.states }
+        ensures log_invariant { IsReplicaLog self.now }
     {
         self.board.length()
     }
@@ -190,9 +190,9 @@ impl ReplicaLog {
     #[inline]
     pub fn reply(&self, number: u64) -> Option<Reply>
         ensures value { result ≡ reply_in self.now.board number }
-        ensures by_log { IfSome result (λ reply. length self.now.board.earlier < number →
-            reply_by_log declared_cowns effect_of (held_of self.now.board.opening) self.now.board.log
-            (number - length self.now.board.earlier) ≡ Some reply) }
+        ensures by_log { IfSome result (λ reply. length self.now.board.base_replies < number →
+            reply_by_log declared_cowns effect_of (contents_of self.now.board.opening) self.now.board.log
+            (number - length self.now.board.base_replies) ≡ Some reply) }
     {
         self.board.reply(number)
     }
@@ -200,10 +200,10 @@ impl ReplicaLog {
     /// The columns after all entries, or `None` while one is unfinished. Fails if memory is
     /// refused.
     pub fn columns(&self) -> Result<Option<Columns>, AllocError>
-        ensures value { IfOk result (λ columns. MatchOption columns (open_of self.now.board ≢ 0)
-            (λ all. (open_of self.now.board ≡ 0) × IsAfterAll declared_cowns effect_of self.now.board all)) }
+        ensures value { IfOk result (λ columns. MatchOption columns (unfinished_of self.now.board ≢ 0)
+            (λ all. (unfinished_of self.now.board ≡ 0) × IsAfterAll declared_cowns effect_of self.now.board all)) }
         ensures bank { IfOk result (λ columns. IfSome columns IsBalances) }
-        ensures err { OnErr result (open_of self.now.board ≡ 0) }
+        ensures err { OnErr result (unfinished_of self.now.board ≡ 0) }
     {
         self.board.columns()
     }
@@ -241,9 +241,9 @@ impl Runs for ReplicaLog {
 
     ghost board = { λ log. log.board };
 
-    ghost Beside = { List (Option AnyOp) };
+    ghost Rest = { List (Option AnyOp) };
 
-    ghost beside = { λ log. log.held };
+    ghost rest = { λ log. log.held };
 
     fn take_at(&mut self, index: usize) -> Option<Job<Op>> {
         self.board.take_at(index)

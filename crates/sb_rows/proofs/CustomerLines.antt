@@ -4,11 +4,11 @@ use Rattle.std.specs.List.{list_any}
 use Rattle.std.proofs.lemmas.List.{length-map}
 use Rattle.sb_amount.specs.Reading.{read_money}
 use Rattle.sb_rows.specs.Customer.{Customer, names_of}
-use Rattle.sb_rows.specs.CustomerLine.{IsNewName, name_fault}
+use Rattle.sb_rows.specs.inner.CustomerLine.{IsNewName, name_fault}
 use Rattle.sb_rows.specs.Directory.{place_of}
 use Rattle.sb_rows.specs.Name.{is_name}
 use Rattle.sb_rows.specs.Opening.{customer_of, with_amounts}
-use Rattle.sb_rows.proofs.Places.{has_place}
+use Rattle.sb_rows.proofs.NamePlaces.{has_place}
 use Rattle.sb_rows.specs.declared.fault.LineFault.{LineFault}
 use Rattle.sb_rows.specs.declared.fault.LineFault.TheVariants.{BadName, DoubleName}
 

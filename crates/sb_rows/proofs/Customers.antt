@@ -46,13 +46,13 @@ pushed (n ∷ ns) (x ∷ ss) (y ∷ cs) name s c h k =
 
 -- the customers made from names and balances have these names
 pub names_of-customers_of : (names : List (List ℕ)) (b : Balances) → SameCustomers names b → names_of (customers_of names b) ≡ names
-names_of-customers_of names b h = names_back names b.savings b.checking h.places h.balances.same
+names_of-customers_of names b h = names_back names b.savings b.checking h.same_length h.balances.same
 
 -- and these balances
 pub balances_of-customers_of : (names : List (List ℕ)) (b : Balances) → SameCustomers names b → balances_of (customers_of names b) ≡ b
 balances_of-customers_of names b h i = record {
-  savings = savings_back names b.savings b.checking h.places h.balances.same i;
-  checking = checking_back names b.savings b.checking h.places h.balances.same i;
+  savings = savings_back names b.savings b.checking h.same_length h.balances.same i;
+  checking = checking_back names b.savings b.checking h.same_length h.balances.same i;
 }
 
 -- there are as many customers as names
@@ -63,4 +63,4 @@ length-customers_of names b h = sym (length-map (customers_of names b) (λ c. c.
 pub customers_of-push : (names : List (List ℕ)) (b : Balances) (name : List ℕ) (s c : ℤ) → SameCustomers names b
     → customers_of (names ++ name ∷ []) (record { savings = b.savings ++ s ∷ []; checking = b.checking ++ c ∷ [] })
     ≡ customers_of names b ++ record { name = name; savings = s; checking = c } ∷ []
-customers_of-push names b name s c h = pushed names b.savings b.checking name s c h.places h.balances.same
+customers_of-push names b name s c h = pushed names b.savings b.checking name s c h.same_length h.balances.same

@@ -13,7 +13,7 @@ use Rattle.sb_rows.specs.Customer.{Customer, IsBank, names_of, balances_of, cust
 use Rattle.sb_rows.specs.Directory.{IsDirectory}
 use Rattle.sb_rows.specs.Name.{IsName}
 use Rattle.sb_rows.specs.Opening.{◌>>=◌, OpeningText, customer_line, opening_lines, customers_from, customer_of, opening_of}
-use Rattle.sb_rows.specs.Reads.{Reads}
+use Rattle.sb_rows.specs.OpeningReads.{Reads}
 use Rattle.sb_rows.specs.Rows.{SameCustomers}
 use Rattle.sb_rows.specs.Text.{lines, words, bytes_of_lines, after_lines}
 use Rattle.sb_rows.specs.declared.fault.LineFault.{LineFault}
@@ -22,8 +22,8 @@ use Rattle.sb_rows.specs.declared.fault.OpeningFault.TheVariants.{Line, OutOfMem
 use Rattle.sb_rows.specs.declared.opening.Opening.{Opening}
 use Rattle.sb_rows.proofs.Customers.{names_of-customers_of, balances_of-customers_of}
 use Rattle.sb_rows.proofs.OpeningSteps.{customers_from-begin, customers_from-more, customers_from-fault, customers_from-nil, with_consumed}
-use Rattle.sb_rows.proofs.Spelling.{IsNext, customer_of-customer_line, customer_line-begin, line_read}
-use Rattle.sb_rows.proofs.TextsLeft.{lines-after_lines, drop-bytes_of_lines}
+use Rattle.sb_rows.proofs.CustomerSpelling.{IsNext, customer_of-customer_line, customer_line-begin, line_read}
+use Rattle.sb_rows.proofs.TextAfterLines.{lines-after_lines, drop-bytes_of_lines}
 
 -- ---- customers of a bank may come one after another
 
@@ -50,7 +50,7 @@ next_from_bank before c cs h =
     record {
       valid = All-part IsName (λ x. x.name) before c cs h.names.valid;
       new = new_among (names_of before) c.name (names_of cs) (rw split at h.names.different);
-      room = omega (arith, h.names.few, length-map (before ++ c ∷ cs) (λ (x : Customer). x.name), length-append before (c ∷ cs));
+      room = omega (arith, h.names.limit, length-map (before ++ c ∷ cs) (λ (x : Customer). x.name), length-append before (c ∷ cs));
       savings = All-part IsSavings (λ x. x.savings) before c cs h.balances.savings;
       checking = All-part IsWithinLimit (λ x. x.checking) before c cs h.balances.checking;
     }

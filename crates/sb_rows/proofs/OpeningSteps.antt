@@ -3,7 +3,8 @@ use Rattle.std.proofs.Common.{◌≡◌, ℕ, zero, suc, ◌+◌, true, false, O
 use Rattle.sb_rows.specs.Balances.{Balances}
 use Rattle.sb_rows.specs.Customer.{Customer, customers_of, names_of, balances_of}
 use Rattle.sb_rows.specs.Opening.{◌>>=◌, OpeningText, customers_from, customer_of, opening_of}
-use Rattle.sb_rows.specs.Reads.{Adds, Reads}
+use Rattle.sb_rows.specs.inner.AddedCustomer.{AddsCustomer}
+use Rattle.sb_rows.specs.OpeningReads.{Reads}
 use Rattle.sb_rows.specs.Rows.{SameCustomers}
 use Rattle.sb_rows.specs.Text.{lines, words, after_line, after_lines, bytes_of_lines}
 use Rattle.sb_rows.specs.declared.fault.LineFault.{LineFault}
@@ -65,7 +66,7 @@ opening_of-fault text number fault e = ap (λ r. r >>= with_consumed text) e
 -- a fault at a line is the fault of the reading
 pub Reads-fault : (text : List ℕ) (before after : List Customer) (line : List ℕ) (ls : List (List ℕ)) (fault : OpeningFault)
     → bytes_eq line (codes "begin") ≡ false → customers_from [] (lines text) ≡ customers_from before (line ∷ ls)
-    → Adds before line after (Err fault) → Reads (Err fault) (opening_of text)
+    → AddsCustomer before line after (Err fault) → Reads (Err fault) (opening_of text)
 Reads-fault text before after line ls (Line number fault) h e adds =
     opening_of-fault text number fault
     (e ∙ customers_from-fault before line ls fault h adds.1 ∙ ap (λ n. Err (n, fault)) (sym adds.0))

@@ -17,6 +17,6 @@ pub record IsSavings (v : ℤ) : Type 0 where
 -- both columns have one length, and each balance is in its range
 pub record IsBalances (b : Balances) : Type 0 where
   pub same : length b.savings ≡ length b.checking
-  pub few : length b.savings ≤ CUSTOMERS
+  pub limit : length b.savings ≤ CUSTOMERS
   pub savings : All IsSavings b.savings
   pub checking : All IsWithinLimit b.checking

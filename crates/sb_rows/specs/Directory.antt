@@ -7,7 +7,7 @@ use Rattle.sb_rows.specs.declared.columns.TheConstants.{CUSTOMERS}
 
 -- the names of a directory: valid, all different, and at most as many as a bank may have
 pub record IsDirectory (names : List (List ℕ)) : Type 0 where
-  pub few : length names ≤ CUSTOMERS
+  pub limit : length names ≤ CUSTOMERS
   pub valid : All IsName names
   pub different : AllPairs (λ a b. a ≢ b) names
 

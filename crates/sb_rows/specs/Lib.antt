@@ -1,12 +1,11 @@
 pub mod Balances
 pub mod Customer
-pub mod CustomerLine
 pub mod Directory
 pub mod Fault
 pub mod Listing
 pub mod Name
 pub mod Opening
-pub mod Reads
+pub mod OpeningReads
 pub mod Rows
-pub mod Spaces
 pub mod Text
+pub mod inner

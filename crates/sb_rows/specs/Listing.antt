@@ -5,15 +5,15 @@ use Rattle.std.specs.FinMap.{get}
 use Rattle.sb_rows.specs.Customer.{Customer}
 use Rattle.sb_rows.specs.Rows.{Rows}
 
--- a customer with the balances that the rows hold for its name
+-- a customer with the balances that the rows have for its name
 abbrev pub row_of : Rows → List ℕ → Customer
 row_of rows name =
     let balances = unwrap_or (get rows name) (pos 0, pos 0) in
     record { name = name; savings = balances.0; checking = balances.1 }
 
 -- the rows of these names, in this order
-unfoldable pub listed : List (List ℕ) → Rows → List Customer
-listed names rows = map (row_of rows) names
+unfoldable pub rows_in_order : List (List ℕ) → Rows → List Customer
+rows_in_order names rows = map (row_of rows) names
 
 -- the sum of all balances of these customers, by recursion, because std's sum takes no negative
 -- numbers

@@ -24,7 +24,7 @@ with_row b place s c = record { savings = slice_set b.savings place s; checking 
 pub record SameCustomers (directory : List (List ℕ)) (b : Balances) : Type 0 where
   pub names : IsDirectory directory
   pub balances : IsBalances b
-  pub places : length b.savings ≡ length directory
+  pub same_length : length b.savings ≡ length directory
 
 -- a name at a place has the balances there
 abbrev pub ReadsByPlace : Type 0

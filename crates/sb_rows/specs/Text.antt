@@ -1,5 +1,5 @@
 -- The lines of a text and the words of a line.
-use Rattle.std.specs.Prelude.{ℕ, zero, suc, ◌-◌, ◌==◌, Bool, if◌then◌else◌, Option, Some, None, List, [], ◌∷◌, ◌++◌, length}
+use Rattle.std.specs.Prelude.{ℕ, zero, suc, ◌-◌, ◌==◌, Bool, List, [], ◌∷◌, ◌++◌, length}
 use Rattle.std.specs.List.{slice_split, after_first, flat_map}
 
 abbrev pub is_line_feed : ℕ → Bool
@@ -22,11 +22,6 @@ lines text = without_empty_last (slice_split is_line_feed text)
 -- the words of a line: it is split at each single space
 unfoldable pub words : List ℕ → List (List ℕ)
 words line = slice_split is_space line
-
--- the words of the text after a word, if there is one
-abbrev pub words_left : Option (List ℕ) → List (List ℕ)
-words_left None = []
-words_left (Some rest) = words rest
 
 -- the text that has these lines, each ended by a line feed
 abbrev pub unlines : List (List ℕ) → List ℕ

@@ -2,7 +2,7 @@
 ghost use Rattle.std.specs.Prelude.{◌≡◌, ℕ, ◌<◌, List, length, pos, ◌≤ℤ◌, Ok, Err, Some, None, IfOk, IsErr, MatchOption, MatchResult};
 ghost use Rattle.sb_amount.specs.Reading.{read_money};
 ghost use Rattle.sb_rows.specs.Customer.{Customer, names_of};
-ghost use Rattle.sb_rows.specs.CustomerLine.{customer, IsNewName, name_fault};
+ghost use Rattle.sb_rows.specs.inner.CustomerLine.{customer, IsNewName, name_fault};
 ghost use Rattle.sb_rows.specs.Directory.{place_of};
 ghost use Rattle.sb_rows.specs.Opening.{customer_of, with_amounts};
 ghost use Rattle.sb_rows.specs.Text.{words};

@@ -25,19 +25,19 @@ pub struct Name {
 
 impl Model for Name {
     ghost use Rattle.std.specs.Prelude.{ℕ, ◌-◌, List, ◌++◌, take, length, replicate};
-    ghost use Rattle.sb_rows.specs.Name.{IsStored, stored_back};
+    ghost use Rattle.sb_rows.specs.inner.PaddedName.{IsPaddedName, padded_from_text};
     ghost use Rattle.sb_rows.specs.declared.name.TheConstants.{NAME_BYTES};
 
     ghost Value = { List ℕ };
 
     ghost view = { λ n. take n.len n.bytes };
 
-    ghost invariant = { λ n. IsStored n.bytes n.len };
+    ghost invariant = { λ n. IsPaddedName n.bytes n.len };
 
     ghost inverse = { λ text. record { bytes = text ++ replicate (NAME_BYTES - length text) 0; len = length text } };
 
     ghost inverse_ok = { λ n h i.
-        let back = stored_back n.bytes n.len h in
+        let back = padded_from_text n.bytes n.len h in
         record { bytes = back.0 i; len = back.1 i } };
 }
 
@@ -89,7 +89,7 @@ impl Eq for Name {
 }
 
 impl Hash for Name {
-    ghost use Rattle.sb_rows.specs.Name.{same_hash_input};
+    ghost use Rattle.sb_rows.specs.inner.PaddedName.{same_hash_input};
 
     ghost hash_input = { λ name. name ∷ [] };
 

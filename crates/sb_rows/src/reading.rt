@@ -2,7 +2,8 @@
 ghost use Rattle.std.specs.Prelude.{◌≡◌, ℕ, ◌≤◌, List, ◌++◌, length, drop, IfOk, MatchResult};
 ghost use Rattle.sb_rows.specs.Customer.{Customer, IsBank, names_of, balances_of, customers_of};
 ghost use Rattle.sb_rows.specs.Opening.{opening_lines, opening_of};
-ghost use Rattle.sb_rows.specs.Reads.{Adds, Reads};
+ghost use Rattle.sb_rows.specs.inner.AddedCustomer.{AddsCustomer};
+ghost use Rattle.sb_rows.specs.OpeningReads.{Reads};
 ghost use Rattle.sb_rows.specs.Rows.{SameCustomers};
 ghost use Rattle.sb_rows.specs.Text.{lines};
 
@@ -22,7 +23,7 @@ fn add_customer(
 ) -> Result<(), OpeningFault>
     requires { SameCustomers directory.old columns.old }
     ensures same { IfOk result (λ _. SameCustomers directory.new columns.new) }
-    ensures adds { Adds (customers_of directory.old columns.old) line.now
+    ensures adds { AddsCustomer (customers_of directory.old columns.old) line.now
         (customers_of directory.new columns.new) result }
 {
     let number = directory.len() + 1;
@@ -75,7 +76,7 @@ pub fn read_opening(alloc: Global, text: &[u8]) -> Result<Opening, OpeningFault>
         IsBank (customers_of o.directory o.columns)
         × (lines text.now ≡ opening_lines (customers_of o.directory o.columns) ++ lines (drop o.consumed text.now))) }
     // A text that spells an opening is read, unless memory is refused.
-    ensures taken { (customers : List Customer) (rest : List (List ℕ)) → IsBank customers
+    ensures complete { (customers : List Customer) (rest : List (List ℕ)) → IsBank customers
         → lines text.now ≡ opening_lines customers ++ rest
         → MatchResult result
         (λ o. (o.directory ≡ names_of customers) × (o.columns ≡ balances_of customers))

@@ -1,6 +1,6 @@
 //! The spaces of a line, searched 16 bytes at a time.
 ghost use Rattle.std.specs.Prelude.{◌≡◌, ◌+◌, ◌≤◌, length, take, drop};
-ghost use Rattle.sb_rows.specs.Spaces.{spaces_of};
+ghost use Rattle.sb_rows.specs.inner.Spaces.{spaces_of};
 
 use std::simd::prelude::*;
 
@@ -18,7 +18,7 @@ pub(crate) fn spaces_of(line: &[u8]) -> u64
     ensures { result ≡ spaces_of line.now }
 {
     if line.len() < LANES {
-        return spaces_of_few(line);
+        return spaces_of_short(line);
     }
     let rest = line.len() % LANES;
     let mut spaces = spaces_of_block(line, line.len() - LANES) >> (LANES - rest);
@@ -31,7 +31,7 @@ pub(crate) fn spaces_of(line: &[u8]) -> u64
 }
 
 // The spaces of a line that is shorter than a block.
-fn spaces_of_few(line: &[u8]) -> u64
+fn spaces_of_short(line: &[u8]) -> u64
     requires { length line.now ≤ LANES }
     ensures { result ≡ spaces_of line.now }
 {

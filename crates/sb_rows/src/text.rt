@@ -1,8 +1,9 @@
 //! How a text is split into lines, and a line into words.
 ghost use Rattle.std.specs.Prelude.{◌≡◌, ◌<◌, [], ◌∷◌, length, MatchOption, IfSome};
 ghost use Rattle.std.specs.Option.{option_map};
-ghost use Rattle.sb_rows.specs.Spaces.{AreSpacesOf};
-ghost use Rattle.sb_rows.specs.Text.{lines, words, words_left, after_line};
+ghost use Rattle.sb_rows.specs.inner.Spaces.{AreSpacesOf};
+ghost use Rattle.sb_rows.specs.Text.{lines, words, after_line};
+ghost use Rattle.sb_rows.specs.inner.WordsOfRest.{words_of_rest};
 
 use memchr::memchr;
 
@@ -26,7 +27,7 @@ pub fn next_line(text: &[u8]) -> Option<(&[u8], &[u8])>
 // The first word of a line, and what follows the space after it, if there is one.
 #[inline]
 pub(crate) fn next_word(line: &[u8]) -> (&[u8], Option<&[u8]>)
-    ensures { words line.now ≡ result.0.now ∷ words_left (option_map (λ rest. rest.now) result.1) }
+    ensures { words line.now ≡ result.0.now ∷ words_of_rest (option_map (λ rest. rest.now) result.1) }
 {
     match memchr(b' ', line) {
         Some(end) => (&line[..end], Some(&line[end + 1..])),
@@ -36,9 +37,9 @@ pub(crate) fn next_word(line: &[u8]) -> (&[u8], Option<&[u8]>)
 
 // The same for a line whose spaces are known, together with the spaces of what follows.
 #[inline(always)]
-pub(crate) fn next_marked_word(line: &[u8], spaces: u64) -> (&[u8], Option<&[u8]>, u64)
+pub(crate) fn next_word_by_mask(line: &[u8], spaces: u64) -> (&[u8], Option<&[u8]>, u64)
     requires { AreSpacesOf line.now spaces }
-    ensures words { words line.now ≡ result.0.now ∷ words_left (option_map (λ rest. rest.now) result.1) }
+    ensures words { words line.now ≡ result.0.now ∷ words_of_rest (option_map (λ rest. rest.now) result.1) }
     ensures spaces { IfSome result.1 (λ rest. AreSpacesOf rest.now result.2) }
 {
     if spaces == 0 {

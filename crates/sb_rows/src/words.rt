@@ -3,7 +3,7 @@ ghost use Rattle.std.specs.Prelude.{◌≡◌, ◌≢◌, ℕ, List, [], ◌∷�
 ghost use Rattle.sb_rows.specs.Text.{words};
 
 use crate::spaces::{MASK_BYTES, spaces_of};
-use crate::text::{next_marked_word, next_word};
+use crate::text::{next_word, next_word_by_mask};
 use std::marker::Model;
 use thiserror::Error;
 
@@ -27,14 +27,14 @@ pub struct Words<'a> {
 impl<'a> Model for Words<'a> {
     ghost use Rattle.std.specs.Prelude.{ℕ, List};
     ghost use Rattle.std.specs.Option.{option_map};
-    ghost use Rattle.sb_rows.specs.Spaces.{AreSpacesLeft};
-    ghost use Rattle.sb_rows.specs.Text.{words_left};
+    ghost use Rattle.sb_rows.specs.inner.Spaces.{AreSpacesOfRest};
+    ghost use Rattle.sb_rows.specs.inner.WordsOfRest.{words_of_rest};
 
     ghost Value = { List (List ℕ) };
 
-    ghost view = { λ w. words_left (option_map (λ text. text.now) w.text) };
+    ghost view = { λ w. words_of_rest (option_map (λ text. text.now) w.text) };
 
-    ghost invariant = { λ w. AreSpacesLeft (option_map (λ text. text.now) w.text) w.spaces };
+    ghost invariant = { λ w. AreSpacesOfRest (option_map (λ text. text.now) w.text) w.spaces };
 }
 
 impl<'a> Words<'a> {
@@ -64,7 +64,7 @@ impl<'a> Words<'a> {
         let text = self.text?;
         let (word, rest) = match self.spaces {
             Some(spaces) => {
-                let (word, rest, left) = next_marked_word(text, spaces);
+                let (word, rest, left) = next_word_by_mask(text, spaces);
                 self.spaces = Some(left);
                 (word, rest)
             }

@@ -1,8 +1,8 @@
-pub mod Answering
-pub mod Asked
-pub mod Choosing
+pub mod DonorChoice
 pub mod Entries
-pub mod Firsts
+pub mod FirstAsks
 pub mod Keys
-pub mod Logs
+pub mod LogSteps
 pub mod Padding
+pub mod SequencerAfterAsk
+pub mod StoredAnswers

@@ -2,7 +2,7 @@
 use Rattle.std.specs.Prelude.{◌≡◌, ◌≢◌, ℕ, ◌+◌, ◌<◌, ◌≤◌, Some, None, Result, Ok, Err, List, [], ◌∷◌, ◌++◌, length, slice_get}
 use Rattle.sb_calls.specs.declared.ask.Key.{Key}
 use Rattle.sb_calls.specs.declared.call.Call.{Call}
-use Rattle.sb_sequencer.specs.Numbering.{first_asks, place_of_key}
+use Rattle.sb_sequencer.specs.Numbering.{first_asks, index_of_key}
 use Rattle.sb_sequencer.specs.declared.answer.AskFault.{AskFault}
 use Rattle.sb_sequencer.specs.declared.answer.AskFault.TheVariants.{Mismatch, LogFull, OutOfMemory}
 use Rattle.sb_sequencer.specs.declared.answer.Numbered.{Numbered}
@@ -10,18 +10,18 @@ use Rattle.sb_sequencer.specs.declared.answer.Numbered.TheVariants.{New, Repeat}
 use Rattle.sb_calls.specs.declared.call.TheConstants.{LOG_CALLS}
 
 -- the answer to an ask, by the log
-abbrev pub IsAnswered : List (Key × Call) → Key × Call → Result Numbered AskFault → Type 0
+abbrev pub AnswersAsk : List (Key × Call) → Key × Call → Result Numbered AskFault → Type 0
 -- a new key gets the next number
-IsAnswered log ask (Ok (New n)) = (place_of_key log ask.0 ≡ None) × (length log < LOG_CALLS) × (n ≡ length log + 1)
+AnswersAsk log ask (Ok (New n)) = (index_of_key log ask.0 ≡ None) × (length log < LOG_CALLS) × (n ≡ length log + 1)
 -- a key that has a number keeps it, if the call is the same
-IsAnswered log ask (Ok (Repeat n)) =
-    (k : ℕ) × (place_of_key log ask.0 ≡ Some k) × (n ≡ k + 1) × (slice_get log k ≡ Some ask)
-IsAnswered log ask (Err (Mismatch n)) =
-    (k : ℕ) × (place_of_key log ask.0 ≡ Some k) × (n ≡ k + 1) × (slice_get log k ≢ Some ask)
+AnswersAsk log ask (Ok (Repeat n)) =
+    (k : ℕ) × (index_of_key log ask.0 ≡ Some k) × (n ≡ k + 1) × (slice_get log k ≡ Some ask)
+AnswersAsk log ask (Err (Mismatch n)) =
+    (k : ℕ) × (index_of_key log ask.0 ≡ Some k) × (n ≡ k + 1) × (slice_get log k ≢ Some ask)
 -- a new key at a full log
-IsAnswered log ask (Err LogFull) = (place_of_key log ask.0 ≡ None) × (LOG_CALLS ≤ length log)
+AnswersAsk log ask (Err LogFull) = (index_of_key log ask.0 ≡ None) × (LOG_CALLS ≤ length log)
 -- memory may be refused for a new key only
-IsAnswered log ask (Err OutOfMemory) = (place_of_key log ask.0 ≡ None) × (length log < LOG_CALLS)
+AnswersAsk log ask (Err OutOfMemory) = (index_of_key log ask.0 ≡ None) × (length log < LOG_CALLS)
 
 -- only a new number changes the log: the ask is appended
 abbrev pub LogAfter : List (Key × Call) → Key × Call → Result Numbered AskFault → List (Key × Call) → Type 0
@@ -31,9 +31,9 @@ LogAfter old ask (Err fault) new = new ≡ old
 
 -- if the log is the first asks of these, then after this ask it is the first asks of these and this
 -- one; an ask that is refused memory doesn't count
-abbrev pub Numbers : List (Key × Call) → List (Key × Call) → Key × Call → Result Numbered AskFault
+abbrev pub ExtendsFirstAsks : List (Key × Call) → List (Key × Call) → Key × Call → Result Numbered AskFault
     → List (Key × Call) → Type 0
-Numbers asks old ask (Ok numbered) new = old ≡ first_asks asks → new ≡ first_asks (asks ++ ask ∷ [])
-Numbers asks old ask (Err (Mismatch n)) new = old ≡ first_asks asks → new ≡ first_asks (asks ++ ask ∷ [])
-Numbers asks old ask (Err LogFull) new = old ≡ first_asks asks → new ≡ first_asks (asks ++ ask ∷ [])
-Numbers asks old ask (Err OutOfMemory) new = Unit {0}
+ExtendsFirstAsks asks old ask (Ok numbered) new = old ≡ first_asks asks → new ≡ first_asks (asks ++ ask ∷ [])
+ExtendsFirstAsks asks old ask (Err (Mismatch n)) new = old ≡ first_asks asks → new ≡ first_asks (asks ++ ask ∷ [])
+ExtendsFirstAsks asks old ask (Err LogFull) new = old ≡ first_asks asks → new ≡ first_asks (asks ++ ask ∷ [])
+ExtendsFirstAsks asks old ask (Err OutOfMemory) new = Unit {0}

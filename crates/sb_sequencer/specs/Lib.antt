@@ -2,9 +2,8 @@ pub mod Answer
 pub mod Donors
 pub mod Entries
 pub mod Fault
-pub mod Keeping
 pub mod Log
 pub mod Notes
 pub mod Numbering
-pub mod Rooms
 pub mod Sequencer
+pub mod inner

@@ -24,16 +24,16 @@ firsts_after before (ask ∷ asks) =
 unfoldable pub first_asks : List (Key × Call) → List (Key × Call)
 first_asks asks = take LOG_CALLS (firsts_after [] asks)
 
--- the place of a key in a log, from 0
-abbrev pub place_of_key : List (Key × Call) → Key → Option ℕ
-place_of_key log key = position (λ entry. same_key key entry.0) log
+-- the index of a key in a log, from 0
+abbrev pub index_of_key : List (Key × Call) → Key → Option ℕ
+index_of_key log key = position (λ entry. same_key key entry.0) log
 
 -- the call with a number, counted from 1
-abbrev pub call_at : List (Key × Call) → ℕ → Option Call
-call_at log zero = None
-call_at log (suc k) = option_map (λ entry. entry.1) (slice_get log k)
+abbrev pub call_of_number : List (Key × Call) → ℕ → Option Call
+call_of_number log zero = None
+call_of_number log (suc k) = option_map (λ entry. entry.1) (slice_get log k)
 
 -- a log is valid: its keys are all different, and it has at most as many calls as a log takes
 pub record IsLog (log : List (Key × Call)) : Type 0 where
-  pub few : length log ≤ LOG_CALLS
+  pub limit : length log ≤ LOG_CALLS
   pub different : AllPairs (λ a b. a.0 ≢ b.0) log

@@ -1,4 +1,4 @@
--- A sequencer: its log, and what it heard from the replicas.
+-- A sequencer: its log, and what the replicas reported.
 use Rattle.std.specs.Prelude.{◌≡◌, ℕ, ◌-◌, ◌≤◌, Option, None, List, [], ◌∷◌, ◌++◌, length, replicate, Result, Ok, Err}
 use Rattle.std.specs.List.{All}
 use Rattle.sb_calls.specs.declared.ask.Key.{Key}
@@ -18,8 +18,8 @@ pub record SequencerOf : Type 0 where
   pub answers : List (Option Reply)
 
 -- a sequencer for this many replicas, with an empty log
-abbrev pub opened : ℕ → SequencerOf
-opened nodes = record {
+abbrev pub empty_sequencer : ℕ → SequencerOf
+empty_sequencer nodes = record {
   log = [];
   recorded = replicate nodes 0;
   checkpoints = replicate nodes 0;
@@ -32,16 +32,12 @@ pub record IsSequencer (s : SequencerOf) : Type 0 where
   pub log : IsLog s.log
   pub answers : length s.answers ≡ length s.log
   pub recorded : All (λ size. size ≤ length s.log) s.recorded
-  pub each : length s.checkpoints ≡ length s.recorded
+  pub same_length : length s.checkpoints ≡ length s.recorded
   pub checkpoints : All (λ size. size ≤ length s.log) s.checkpoints
 
 -- the sequencer after an ask: only a new number changes it; then the ask is appended, and no answer
 -- is kept for it yet
-abbrev pub after_ask : SequencerOf → Key × Call → Result Numbered AskFault → SequencerOf
-after_ask s ask (Ok (New n)) = record s { log = s.log ++ ask ∷ []; answers = s.answers ++ None ∷ [] }
-after_ask s ask (Ok (Repeat n)) = s
-after_ask s ask (Err fault) = s
-
--- the answers by place, followed by places without an answer
-abbrev pub padded : ℕ → List (Option Reply) → List (Option Reply)
-padded places kept = kept ++ replicate (places - length kept) None
+abbrev pub state_after_ask : SequencerOf → Key × Call → Result Numbered AskFault → SequencerOf
+state_after_ask s ask (Ok (New n)) = record s { log = s.log ++ ask ∷ []; answers = s.answers ++ None ∷ [] }
+state_after_ask s ask (Ok (Repeat n)) = s
+state_after_ask s ask (Err fault) = s

@@ -2,11 +2,11 @@
 ghost use Rattle.std.specs.Prelude.{◌≡◌, ◌<◌, ◌≤◌, ◌↔◌, Some, length, List, slice_get, IsTrue, vec_capacity};
 ghost use Rattle.sb_calls.specs.declared.ask.Key.{Key as AnyKey};
 ghost use Rattle.sb_calls.specs.declared.call.Call.{Call as AnyCall};
-ghost use Rattle.sb_sequencer.specs.Answer.{IsAnswered, LogAfter};
-ghost use Rattle.sb_sequencer.specs.Numbering.{place_of_key};
+ghost use Rattle.sb_sequencer.specs.Answer.{AnswersAsk, LogAfter};
+ghost use Rattle.sb_sequencer.specs.Numbering.{index_of_key};
 
 use crate::answer::{AskFault, Numbered};
-use crate::kept::make_room;
+use crate::answers::make_room;
 use indexmap::IndexMap;
 use indexmap::map::Entry;
 use sb_calls::{Call, Key, LOG_CALLS, Reply};
@@ -18,14 +18,14 @@ fn same_call(a: &Call, b: &Call) -> bool
     a == b
 }
 
-// The answer to an ask whose key is at this place of a log, with this call.
-pub(crate) fn answered(place: usize, numbered: &Call, call: &Call) -> Result<Numbered, AskFault>
-    requires { place < LOG_CALLS }
-    ensures answer { (log : List (AnyKey × AnyCall)) (key : AnyKey) → place_of_key log key ≡ Some place
-        → slice_get log place ≡ Some (key, numbered.now) → IsAnswered log (key, call.now) result }
+// The answer to an ask whose key is at this index of a log, with this call.
+pub(crate) fn answer_known(index: usize, numbered: &Call, call: &Call) -> Result<Numbered, AskFault>
+    requires { index < LOG_CALLS }
+    ensures answer { (log : List (AnyKey × AnyCall)) (key : AnyKey) → index_of_key log key ≡ Some index
+        → slice_get log index ≡ Some (key, numbered.now) → AnswersAsk log (key, call.now) result }
     ensures log { (log : List (AnyKey × AnyCall)) (ask : AnyKey × AnyCall) → LogAfter log ask result log }
 {
-    let number = place as u64 + 1;
+    let number = index as u64 + 1;
     if same_call(numbered, call) {
         Ok(Numbered::Repeat(number))
     } else {
@@ -37,23 +37,23 @@ pub(crate) fn answered(place: usize, numbered: &Call, call: &Call) -> Result<Num
 // there is room for an answer to it.
 pub(crate) fn ask_with_room(
     log: &mut IndexMap<Key, Call>,
-    kept: &mut Vec<Option<Reply>>,
+    answers: &mut Vec<Option<Reply>>,
     key: Key,
     call: &Call,
 ) -> Result<Numbered, AskFault>
     requires calls { length log.old.entries < LOG_CALLS }
-    requires kept { length kept.old.items ≤ length log.old.entries }
-    requires room { length log.old.entries ≤ vec_capacity kept.old }
-    ensures answer { IsAnswered log.old.entries (key, call.now) result }
+    requires limit { length answers.old.items ≤ length log.old.entries }
+    requires room { length log.old.entries ≤ vec_capacity answers.old }
+    ensures answer { AnswersAsk log.old.entries (key, call.now) result }
     ensures log { LogAfter log.old.entries (key, call.now) result log.new.entries }
-    ensures kept { kept.new.items ≡ kept.old.items }
-    ensures room { length log.new.entries ≤ vec_capacity kept.new }
+    ensures unchanged { answers.new.items ≡ answers.old.items }
+    ensures room { length log.new.entries ≤ vec_capacity answers.new }
 {
     match log.entry(key) {
-        Ok(Entry::Occupied(found)) => answered(found.index(), found.get(), call),
+        Ok(Entry::Occupied(found)) => answer_known(found.index(), found.get(), call),
         Ok(Entry::Vacant(room)) => {
             let calls = room.index() + 1;
-            if make_room(kept, calls).is_err() {
+            if make_room(answers, calls).is_err() {
                 return Err(AskFault::OutOfMemory);
             }
             room.insert(*call);

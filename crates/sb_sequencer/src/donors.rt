@@ -2,7 +2,7 @@
 //! entries.
 ghost use Rattle.std.specs.Prelude.{◌≡◌, Some, slice_get};
 ghost use Rattle.sb_sequencer.specs.Donors.{IsDonor};
-ghost use Rattle.sb_sequencer.specs.Notes.{after_have, hears_have};
+ghost use Rattle.sb_sequencer.specs.Notes.{after_have, note_of_have};
 
 use crate::note::HaveNote;
 use crate::sequencer::Sequencer;
@@ -11,7 +11,7 @@ impl Sequencer {
     /// Notes that a replica keeps a checkpoint of this length. The last length heard counts, even
     /// if it is below the one before. It allocates nothing.
     pub fn on_have(&mut self, replica: u8, length: u64) -> HaveNote
-        ensures note { result ≡ hears_have self.old replica length }
+        ensures note { result ≡ note_of_have self.old replica length }
         ensures state { self.new ≡ after_have self.old replica length }
     {
         if length > self.length() {
@@ -34,9 +34,9 @@ impl Sequencer {
         let checkpoints = self.checkpoints.as_slice();
         let mut donor = None;
         let mut most = length;
-        for place in 0..checkpoints.len() {
-            let other = place as u8;
-            let size = checkpoints[place];
+        for position in 0..checkpoints.len() {
+            let other = position as u8;
+            let size = checkpoints[position];
             // Of several with the same length, the first stays.
             if other != replica && size > most {
                 most = size;

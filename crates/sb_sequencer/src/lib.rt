@@ -3,9 +3,9 @@
 #![tactic(auto)]
 
 mod answer;
+mod answers;
 mod asking;
 mod donors;
-mod kept;
 mod laws;
 mod note;
 mod sequencer;

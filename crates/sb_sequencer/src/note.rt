@@ -1,4 +1,4 @@
-//! The notes on what the sequencer hears from the replicas.
+//! The notes on what the replicas report to the sequencer.
 
 /// The note on an acknowledgement.
 #[derive(Clone, Copy, Debug, PartialEq, Eq)]

@@ -1,18 +1,18 @@
-//! The log of numbered requests, and what was heard from the replicas.
+//! The log of numbered requests, and what the replicas reported.
 ghost use Rattle.std.specs.Prelude.{◌≡◌, ◌≢◌, ◌-◌, ◌≤◌, ◌↔◌, length, replicate, slice_get, List, Err, IfSome, IsTrue, IfOk};
 ghost use Rattle.std.specs.Option.{option_copied};
 ghost use Rattle.sb_calls.specs.declared.ask.Key.{Key as AnyKey};
 ghost use Rattle.sb_calls.specs.declared.call.Call.{Call as AnyCall};
-ghost use Rattle.sb_sequencer.specs.Answer.{IsAnswered, LogAfter, Numbers};
-ghost use Rattle.sb_sequencer.specs.Entries.{entries_after, entry_of, resent};
+ghost use Rattle.sb_sequencer.specs.Answer.{AnswersAsk, LogAfter, ExtendsFirstAsks};
+ghost use Rattle.sb_sequencer.specs.Entries.{entries_after, entry_of, entries_to_resend};
 ghost use Rattle.sb_sequencer.specs.Log.{log_with};
-ghost use Rattle.sb_sequencer.specs.Notes.{IsAnswerNote, after_ack, after_answer, answer_of, hears_ack};
-ghost use Rattle.sb_sequencer.specs.Numbering.{IsLog, call_at};
-ghost use Rattle.sb_sequencer.specs.Sequencer.{IsSequencer, after_ask, opened};
+ghost use Rattle.sb_sequencer.specs.Notes.{IsAnswerNote, after_ack, after_answer, answer_of, note_of_ack};
+ghost use Rattle.sb_sequencer.specs.Numbering.{IsLog, call_of_number};
+ghost use Rattle.sb_sequencer.specs.Sequencer.{IsSequencer, state_after_ask, empty_sequencer};
 
 use crate::answer::{AskFault, Numbered};
-use crate::asking::{answered, ask_with_room};
-use crate::kept::{keep, kept_at};
+use crate::answers::{store_answer, stored_answer};
+use crate::asking::{answer_known, ask_with_room};
 use crate::note::{AckNote, AnswerNote};
 use arrayvec::ArrayVec;
 use indexmap::IndexMap;
@@ -35,14 +35,15 @@ pub struct Sequencer {
     log: IndexMap<Key, Call>,
     recorded: ArrayVec<u64, REPLICAS>,
     pub(crate) checkpoints: ArrayVec<u64, REPLICAS>,
-    // There is room for an answer to each call. It is filled up to the last kept answer.
-    kept: Vec<Option<Reply>>,
+    // There is room for an answer to each call. It is filled up to the last answer.
+    answers: Vec<Option<Reply>>,
 }
 
 impl Model for Sequencer {
     ghost use Rattle.std.specs.Prelude.{length, vec_capacity};
-    ghost use Rattle.sb_sequencer.specs.Sequencer.{SequencerOf, padded};
-    ghost use Rattle.sb_sequencer.specs.Rooms.{HasRooms};
+    ghost use Rattle.sb_sequencer.specs.Sequencer.{SequencerOf};
+    ghost use Rattle.sb_sequencer.specs.inner.Padding.{padded_answers};
+    ghost use Rattle.sb_sequencer.specs.inner.Rooms.{HasRooms};
 
     ghost Value = { SequencerOf };
 
@@ -50,11 +51,11 @@ impl Model for Sequencer {
       log = s.log.entries;
       recorded = s.recorded.items;
       checkpoints = s.checkpoints.items;
-      answers = padded (length s.log.entries) s.kept.items;
+      answers = padded_answers (length s.log.entries) s.answers.items;
     } };
 
-    ghost invariant = { λ s. HasRooms s.log.entries s.recorded.items s.checkpoints.items s.kept.items
-        (vec_capacity s.kept) };
+    ghost invariant = { λ s. HasRooms s.log.entries s.recorded.items s.checkpoints.items s.answers.items
+        (vec_capacity s.answers) };
 }
 
 // This many lengths of 0.
@@ -73,13 +74,13 @@ impl Sequencer {
     /// A sequencer for this many replicas, with an empty log.
     pub fn open(alloc: Global, nodes: usize) -> Sequencer
         requires { nodes ≤ REPLICAS }
-        ensures { result ≡ opened nodes }
+        ensures { result ≡ empty_sequencer nodes }
     {
         Sequencer {
             log: IndexMap::new(alloc),
             recorded: zeros(nodes),
             checkpoints: zeros(nodes),
-            kept: Vec::new(alloc),
+            answers: Vec::new(alloc),
         }
     }
 
@@ -87,13 +88,13 @@ impl Sequencer {
     /// needs more memory. Fails if memory is refused.
     pub fn with_capacity(alloc: Global, nodes: usize, calls: usize) -> Result<Sequencer, AllocError>
         requires { nodes ≤ REPLICAS }
-        ensures { IfOk result (λ sequencer. sequencer ≡ opened nodes) }
+        ensures { IfOk result (λ sequencer. sequencer ≡ empty_sequencer nodes) }
     {
         Ok(Sequencer {
             log: IndexMap::with_capacity(alloc, calls)?,
             recorded: zeros(nodes),
             checkpoints: zeros(nodes),
-            kept: Vec::with_capacity(alloc, calls)?,
+            answers: Vec::with_capacity(alloc, calls)?,
         })
     }
 
@@ -107,10 +108,10 @@ impl Sequencer {
 
     /// The call with this number, counted from 1, or `None` if there is none.
     pub fn call(&self, number: u64) -> Option<&Call>
-        ensures { option_copied result ≡ call_at self.now.log number }
+        ensures { option_copied result ≡ call_of_number self.now.log number }
     {
-        let place = number.checked_sub(1)?;
-        let (_, call) = self.log.get_index(place as usize)?;
+        let index = number.checked_sub(1)?;
+        let (_, call) = self.log.get_index(index as usize)?;
         Some(call)
     }
 
@@ -125,11 +126,11 @@ impl Sequencer {
     // more.
     fn ask_full(&self, key: Key, call: &Call) -> Result<Numbered, AskFault>
         requires { LOG_CALLS ≤ length self.now.log }
-        ensures answer { IsAnswered self.now.log (key, call.now) result }
+        ensures answer { AnswersAsk self.now.log (key, call.now) result }
         ensures log { LogAfter self.now.log (key, call.now) result self.now.log }
     {
         match self.log.get_full(&key) {
-            Some((place, _, numbered)) => answered(place, numbered, call),
+            Some((index, _, numbered)) => answer_known(index, numbered, call),
             None => Err(AskFault::LogFull),
         }
     }
@@ -144,26 +145,26 @@ impl Sequencer {
     /// A repeat changes nothing, and neither does a fault.
     pub fn ask(&mut self, client: u32, request: u32, call: &Call) -> Result<Numbered, AskFault>
         // The answer, by the log as it was.
-        ensures answer { IsAnswered self.old.log (record { client = client; request = request }, call.now) result }
+        ensures answer { AnswersAsk self.old.log (record { client = client; request = request }, call.now) result }
         // Only a new number changes the log.
         ensures log { LogAfter self.old.log (record { client = client; request = request }, call.now)
             result self.new.log }
-        // With a new number there is a place for its answer. What the replicas have of the log
+        // With a new number there is a slot for its answer. What the replicas have of the log
         // stays.
-        ensures state { self.new ≡ after_ask self.old (record { client = client; request = request }, call.now) result }
+        ensures state { self.new ≡ state_after_ask self.old (record { client = client; request = request }, call.now) result }
         // Unless memory is refused, the log takes one step with this ask.
         ensures step { result ≢ Err AskFault.OutOfMemory
             → self.new.log ≡ log_with self.old.log (record { client = client; request = request }, call.now) }
         // Whatever was asked before, the log is the first ask of each key.
         ensures numbering { (asks : List (AnyKey × AnyCall))
-            → Numbers asks self.old.log (record { client = client; request = request }, call.now) result self.new.log }
+            → ExtendsFirstAsks asks self.old.log (record { client = client; request = request }, call.now) result self.new.log }
         ensures valid { IsSequencer self.new }
     {
         let key = Key { client, request };
         if self.is_full() {
             return self.ask_full(key, call);
         }
-        ask_with_room(&mut self.log, &mut self.kept, key, call)
+        ask_with_room(&mut self.log, &mut self.answers, key, call)
     }
     /// The entry with this number, counted from 1, or `None` if there is none.
     pub fn entry(&self, number: u64) -> Option<Frame>
@@ -179,7 +180,7 @@ impl Sequencer {
     /// The entries that a replica lacks, at most [`RESEND`], from the first one after what it has.
     /// There are none if no such replica exists.
     pub fn resend(&self, replica: u8) -> ArrayVec<Frame, RESEND>
-        ensures { result.items ≡ resent self.now replica }
+        ensures { result.items ≡ entries_to_resend self.now replica }
     {
         match self.recorded_of(replica) {
             Some(length) => self.entries_after(length),
@@ -212,7 +213,7 @@ impl Sequencer {
 
     /// Notes that a replica has the log up to a length. A length may be below the one before.
     pub fn on_ack(&mut self, replica: u8, length: u64) -> AckNote
-        ensures note { result ≡ hears_ack self.old replica length }
+        ensures note { result ≡ note_of_ack self.old replica length }
         ensures state { self.new ≡ after_ack self.old replica length }
     {
         if length > self.length() {
@@ -227,27 +228,27 @@ impl Sequencer {
         }
     }
 
-    /// Notes the reply to the call with this number. The first reply is kept for good. It allocates
+    /// Notes the reply to the call with this number. The first reply stays for good. It allocates
     /// nothing.
     pub fn on_answer(&mut self, number: u64, reply: Reply) -> AnswerNote
         ensures note { IsAnswerNote self.old number reply result }
         ensures state { self.new ≡ after_answer self.old number reply result }
     {
-        let Some(place) = number.checked_sub(1) else {
+        let Some(index) = number.checked_sub(1) else {
             return AnswerNote::Unknown;
         };
-        if place >= self.log.len() as u64 {
+        if index >= self.log.len() as u64 {
             return AnswerNote::Unknown;
         }
-        keep(&mut self.kept, place as usize, reply)
+        store_answer(&mut self.answers, index as usize, reply)
     }
 
-    /// The reply that is kept for a request, or `None` if none has come yet or the request has no
+    /// The reply to a request, or `None` if none has come yet or the request has no
     /// number.
     pub fn answer_of(&self, client: u32, request: u32) -> Option<Reply>
         ensures { result ≡ answer_of self.now (record { client = client; request = request }) }
     {
-        let place = self.log.get_index_of(&Key { client, request })?;
-        kept_at(self.kept.as_slice(), place)
+        let index = self.log.get_index_of(&Key { client, request })?;
+        stored_answer(self.answers.as_slice(), index)
     }
 }

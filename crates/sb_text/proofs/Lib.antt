@@ -1,1 +1,1 @@
-pub mod ByPlace
+pub mod RowsByPlace

@@ -4,39 +4,39 @@ use Rattle.std.specs.Prelude.{slice_get, is_some, count_by, int_lt, if◌then◌
 use Rattle.std.specs.FinMap.{get}
 use Rattle.std.proofs.lemmas.List.Sums.{sum_by-cons}
 use Rattle.std.proofs.lemmas.Option.{slice_get-get_or}
-use Rattle.cown_board.specs.Board.{length_of, open_of, IsAfterAll}
+use Rattle.cown_board.specs.Board.{length_of, unfinished_of, IsAfterAll}
 use Rattle.lane_audit.specs.Columns.{total, count_below}
-use Rattle.sb_rows.proofs.Places.{place_of_within}
-use Rattle.sb_rows.proofs.RowsLemmas.{get-rows_of, get-rows_of_absent}
+use Rattle.sb_rows.proofs.NamePlaces.{place_of_within}
+use Rattle.sb_rows.proofs.RowsByPlace.{get-rows_of, get-rows_of_absent}
 use Rattle.sb_rows.specs.Balances.{Balances, IsBalances}
 use Rattle.sb_rows.specs.Customer.{Customer, customers_of}
 use Rattle.sb_rows.specs.Directory.{place_of}
-use Rattle.sb_rows.specs.Listing.{listed, total_of}
+use Rattle.sb_rows.specs.Listing.{rows_in_order, total_of}
 use Rattle.sb_rows.specs.Rows.{Rows, SameCustomers, rows_of}
-use Rattle.sb_calls.proofs.Log.{slice_get-replies_to}
+use Rattle.sb_calls.proofs.LogReplies.{slice_get-replies_to}
 use Rattle.sb_calls.proofs.Nets.{total_after}
-use Rattle.sb_calls.proofs.OneByOneRuns.{log_by_cowns}
+use Rattle.sb_calls.proofs.SerialRuns.{log_by_cowns}
 use Rattle.sb_calls.specs.Behaviour.{declared_cowns, effect_of}
-use Rattle.sb_calls.specs.Cowns.{held_of}
+use Rattle.sb_calls.specs.Cowns.{contents_of}
 use Rattle.sb_calls.specs.Log.{replies_to}
 use Rattle.sb_calls.specs.Net.{HasNames, net_sum}
-use Rattle.sb_calls.specs.Op.{resolved}
+use Rattle.sb_calls.specs.Op.{op_of}
 use Rattle.sb_calls.specs.Procedures.{procedure}
 use Rattle.sb_calls.specs.declared.call.Call.{Call}
 use Rattle.sb_replica.proofs.IdleReplies.{length_held}
-use Rattle.sb_replica.specs.Replica.{replies_held}
-use Rattle.sb_text.proofs.ByPlace.{total_by_columns, listed-rows_of}
+use Rattle.sb_replica.specs.Replica.{board_replies}
+use Rattle.sb_text.proofs.RowsByPlace.{total_by_columns, rows_in_order-rows_of}
 use Rattle.schedule_player.specs.Bank.{BankOf, opening_rows, log_rows}
 use Rattle.schedule_player.specs.Books.{IsRowsAt}
-use Rattle.schedule_player.specs.NodeAlong.{IsNodeAt}
-use Rattle.schedule_player.specs.Seen.{ops_of}
+use Rattle.schedule_player.specs.inner.NodeInvariant.{IsNodeAt}
+use Rattle.schedule_player.specs.inner.MachineView.{ops_of}
 use Rattle.schedule_player.specs.World.{books_after}
 use Rattle.schedule_player.specs.declared.node.Node.{Node}
 use Rattle.schedule_text.specs.declared.note.AuditNote.TheVariants as audit
-use Rattle.schedule_player.proofs.Finishing.{reply_by_names}
-use Rattle.schedule_player.proofs.SeenReplies.{columns_along, checkpoint_along}
+use Rattle.schedule_player.proofs.FinishSteps.{reply_by_names}
+use Rattle.schedule_player.proofs.BoardReplies.{columns_along, checkpoint_along}
 use Rattle.schedule_player.proofs.Stages.{length-map}
-use Rattle.schedule_player.proofs.Storing.{same_columns}
+use Rattle.sb_calls.proofs.CownColumns.{contents_of-injective as same_columns}
 
 -- ---- the rows
 
@@ -52,7 +52,7 @@ idle_columns bank same r node columns is valid after =
     let law = log_by_cowns bank.names bank.opening bank.calls same in
     let rows = law.rows (length_of node.replica.board) in
     same_columns columns rows.0 valid.same rows.1.balances.same
-    (columns_along (held_of bank.opening) (ops_of bank) node.replica.board columns is.board after ∙ sym rows.2)
+    (columns_along (contents_of bank.opening) (ops_of bank) node.replica.board columns is.board after ∙ sym rows.2)
 
 pub idle_rows : (bank : BankOf) (r : ℕ) (node : Node) (columns : Balances) → IsNodeAt bank r node → IsBalances columns
     → IsAfterAll declared_cowns effect_of node.replica.board columns → IsRowsAt bank (length_of node.replica.board) columns
@@ -94,20 +94,20 @@ length-replies_to opening bank = by opening bank.calls
     by rows (call ∷ calls) = let rest = by (procedure call rows).rows calls in omega (arith, rest)
 
 -- an idle replica's replies are the log's, up to its length
-pub idle_replies : (bank : BankOf) (r : ℕ) (node : Node) (columns : Balances) → IsNodeAt bank r node → open_of node.replica.board ≡ 0
+pub idle_replies : (bank : BankOf) (r : ℕ) (node : Node) (columns : Balances) → IsNodeAt bank r node → unfinished_of node.replica.board ≡ 0
     → IsAfterAll declared_cowns effect_of node.replica.board columns
-    → replies_held node.replica.board ≡ take (length (replies_held node.replica.board)) (replies_to (opening_rows bank) bank.calls)
+    → board_replies node.replica.board ≡ take (length (board_replies node.replica.board)) (replies_to (opening_rows bank) bank.calls)
 idle_replies bank r node columns is idle after =
-    let along = checkpoint_along (held_of bank.opening) (ops_of bank) node.replica.board columns is.board idle after in
-    let calls = length-map (resolved bank.names) bank.calls in
+    let consistent = checkpoint_along (contents_of bank.opening) (ops_of bank) node.replica.board columns is.board idle after in
+    let calls = length-map (op_of bank.names) bank.calls in
     let replies = length-replies_to (opening_rows bank) bank in
-    let within = along.within in
-    first_part (replies_held node.replica.board) (replies_to (opening_rows bank) bank.calls) (omega (arith, calls, replies, within))
+    let within = consistent.within in
+    first_part (board_replies node.replica.board) (replies_to (opening_rows bank) bank.calls) (omega (arith, calls, replies, within))
     (λ k reply here.
-    slice_get-replies_to (opening_rows bank) bank.calls k ∙ sym (reply_by_names bank (suc k) is.customers) ∙ along.replies k reply here)
+    slice_get-replies_to (opening_rows bank) bank.calls k ∙ sym (reply_by_names bank (suc k) is.customers) ∙ consistent.replies k reply here)
 
-pub length_replies : (bank : BankOf) (r : ℕ) (node : Node) → IsNodeAt bank r node → open_of node.replica.board ≡ 0
-    → length (replies_held node.replica.board) ≡ length_of node.replica.board
+pub length_replies : (bank : BankOf) (r : ℕ) (node : Node) → IsNodeAt bank r node → unfinished_of node.replica.board ≡ 0
+    → length (board_replies node.replica.board) ≡ length_of node.replica.board
 length_replies bank r node is idle = length_held node.replica.board idle is.board.states
 
 -- ---- the books
@@ -119,7 +119,7 @@ has_names names b same = record { names = same.names; same = λ name. by name (p
     by name None none = ap is_some (get-rows_of_absent names b name same none) ∙ sym (ap is_some none)
     by name (Some place) at =
         let lt = place_of_within names name place at in
-        let places = same.places in
+        let places = same.same_length in
         let alike = same.balances.same in
         ap is_some (get-rows_of names b name place (get_or b.savings place (pos 0)) (get_or b.checking place (pos 0)) same at
         (slice_get-get_or b.savings place (pos 0) (omega (arith, lt, places)))
@@ -156,14 +156,14 @@ overdrawn (x ∷ names) (s ∷ savings) (c ∷ checking) e f =
     count_mapped names savings checking c x s (overdrawn names savings checking (omega (arith, e)) (omega (arith, f)))
 
 listed_now : (bank : BankOf) (size : ℕ) (columns : Balances) → IsRowsAt bank size columns
-    → listed bank.names (log_rows bank size) ≡ customers_of bank.names columns
-listed_now bank size columns at = ap (listed bank.names) (sym at.rows) ∙ listed-rows_of bank.names columns at.customers
+    → rows_in_order bank.names (log_rows bank size) ≡ customers_of bank.names columns
+listed_now bank size columns at = ap (rows_in_order bank.names) (sym at.rows) ∙ rows_in_order-rows_of bank.names columns at.customers
 
 -- the rows' total and the number of overdrawn customers
 pub books_are : (bank : BankOf) (size : ℕ) (columns : Balances) → IsRowsAt bank size columns
     → audit.Same (total columns.savings +ℤ total columns.checking) (count_below columns.checking (pos 0)) ≡ books_after bank size
 books_are bank size columns at =
-    let places = at.customers.places in
+    let places = at.customers.same_length in
     let alike = at.customers.balances.same in
     (λ j. audit.Same (total_by_columns bank.names columns at.customers j)
     (overdrawn bank.names columns.savings columns.checking places (sym alike ∙ places) j))
@@ -178,4 +178,4 @@ books_balance bank size columns same at =
     ∙ ap total_of (sym (listed_now bank size columns at))
     ∙ total_after bank.names (opening_rows bank) bank.calls size (has_names bank.names bank.opening same)
     ∙ ap (λ t. t +ℤ net_sum (take size bank.calls) (take size (replies_to (opening_rows bank) bank.calls)))
-    (ap total_of (listed-rows_of bank.names bank.opening same) ∙ sym (total_by_columns bank.names bank.opening same))
+    (ap total_of (rows_in_order-rows_of bank.names bank.opening same) ∙ sym (total_by_columns bank.names bank.opening same))

@@ -3,17 +3,18 @@ use Rattle.std.proofs.Common.{◌≡◌, inl, inr, ℕ, zero, suc, ◌<◌, ◌�
 use Rattle.std.specs.Prelude.{slice_get, slice_set}
 use Rattle.std.proofs.lemmas.Bool.{cases_eq}
 use Rattle.std.proofs.lemmas.List.{length-set}
-use Rattle.cown_board.proofs.States.{slice_get-set_same, slice_get-set_other}
+use Rattle.cown_board.proofs.StateChanges.{slice_get-set_same, slice_get-set_other}
 use Rattle.sb_sequencer.specs.Sequencer.{SequencerOf}
 use Rattle.schedule_player.specs.Bank.{BankOf}
-use Rattle.schedule_player.specs.Numbered.{numbered, with_numbered, copies}
-use Rattle.schedule_player.specs.ReplicaMoves.{NodeOf, undone_in, emptied, comes_back, gives_back, finished_by}
-use Rattle.schedule_player.specs.Staffed.{IsStaffed}
+use Rattle.schedule_player.specs.OneBased.{nth_item, with_nth, copies}
+use Rattle.schedule_player.specs.ReplicaMoves.{NodeOf, undone_in, with_empty_hand, finish_by_stage, finish_by_hand, finish_move}
+use Rattle.schedule_player.specs.inner.OutInHands.{OutIsInHands}
 use Rattle.schedule_player.specs.Stage.{Stage, Waits, IsOut, IsDone}
 use Rattle.schedule_text.specs.declared.event.Event.TheVariants as event
-use Rattle.schedule_player.proofs.Lists.{none_some, set_here}
-use Rattle.schedule_player.proofs.Staffing.{stays_staffed, length-with}
-use Rattle.schedule_player.proofs.Undone.{undone-set}
+use Rattle.schedule_player.proofs.Lists.{set_here}
+use Rattle.cown_board.proofs.LogLaws.{no_some as none_some}
+use Rattle.schedule_player.proofs.OutInHands.{stays_staffed, length-with}
+use Rattle.schedule_player.proofs.FirstUndone.{undone-set}
 
 -- only stages and hands changed, their numbers stay, and no more entries are undone
 pub record WorksOn (old new : NodeOf) : Type 0 where
@@ -34,35 +35,35 @@ works_on old mid new first more = record {
 
 record Empties (node : NodeOf) (worker : ℕ) (new : NodeOf) : Type 0 where
   work : WorksOn node new
-  hand : new.hands ≡ with_numbered node.hands worker None
+  hand : new.hands ≡ with_nth node.hands worker None
 
 set_past : {A : Type 0} (xs : List A) (k : ℕ) (x : A) → slice_get xs k ≡ None → slice_set xs k x ≡ xs
 set_past [] k x past = refl
 set_past (y ∷ xs) zero x past = absurd (none_some (sym past))
 set_past (y ∷ xs) (suc k) x past = ap (λ t. y ∷ t) (set_past xs k x past)
 
-no_worker : (hands : List (Option ℕ)) (worker : ℕ) → numbered hands worker ≡ None → hands ≡ with_numbered hands worker None
+no_worker : (hands : List (Option ℕ)) (worker : ℕ) → nth_item hands worker ≡ None → hands ≡ with_nth hands worker None
 no_worker hands zero none = refl
 no_worker hands (suc k) none = sym (set_past hands k None none)
 
-empty_hand : (hands : List (Option ℕ)) (worker : ℕ) → numbered hands worker ≡ Some None → hands ≡ with_numbered hands worker None
+empty_hand : (hands : List (Option ℕ)) (worker : ℕ) → nth_item hands worker ≡ Some None → hands ≡ with_nth hands worker None
 empty_hand hands zero here = refl
 empty_hand hands (suc k) here = sym (set_here hands k None here)
 
-stays : (node : NodeOf) (worker : ℕ) → node.hands ≡ with_numbered node.hands worker None → Empties node worker node
+stays : (node : NodeOf) (worker : ℕ) → node.hands ≡ with_nth node.hands worker None → Empties node worker node
 stays node worker same = record {
   work = record { stages = refl; hands = refl; undone = omega arith; same = refl };
   hand = same;
 }
 
-gives_only : (node : NodeOf) (worker : ℕ) → Empties node worker (emptied node worker)
+gives_only : (node : NodeOf) (worker : ℕ) → Empties node worker (with_empty_hand node worker)
 gives_only node worker = record {
   work = record { stages = refl; hands = length-with node.hands worker None; undone = omega arith; same = refl };
   hand = refl;
 }
 
-comes : (bank : BankOf) (node : NodeOf) (worker n : ℕ) (stage : Option Stage) → numbered node.stages n ≡ stage
-    → Empties node worker (comes_back bank (emptied node worker) n stage).0
+comes : (bank : BankOf) (node : NodeOf) (worker n : ℕ) (stage : Option Stage) → nth_item node.stages n ≡ stage
+    → Empties node worker (finish_by_stage bank (with_empty_hand node worker) n stage).0
 comes bank node worker zero (Some IsOut) here = absurd (none_some here)
 comes bank node worker (suc k) (Some IsOut) here = record {
   work = record {
@@ -77,31 +78,31 @@ comes bank node worker n (Some Waits) here = gives_only node worker
 comes bank node worker n (Some IsDone) here = gives_only node worker
 comes bank node worker n None here = gives_only node worker
 
-gives : (bank : BankOf) (node : NodeOf) (worker : ℕ) (hand : Option (Option ℕ)) → numbered node.hands worker ≡ hand
-    → Empties node worker (gives_back bank node worker hand).0
+gives : (bank : BankOf) (node : NodeOf) (worker : ℕ) (hand : Option (Option ℕ)) → nth_item node.hands worker ≡ hand
+    → Empties node worker (finish_by_hand bank node worker hand).0
 gives bank node worker None here = stays node worker (no_worker node.hands worker here)
 gives bank node worker (Some None) here = stays node worker (empty_hand node.hands worker here)
-gives bank node worker (Some (Some n)) here = comes bank node worker n (numbered node.stages n) refl
+gives bank node worker (Some (Some n)) here = comes bank node worker n (nth_item node.stages n) refl
 
-finish_empties : (bank : BankOf) (node : NodeOf) (worker : ℕ) → Empties node worker (finished_by bank node worker).0
-finish_empties bank node worker = gives bank node worker (numbered node.hands worker) refl
+finish_empties : (bank : BankOf) (node : NodeOf) (worker : ℕ) → Empties node worker (finish_move bank node worker).0
+finish_empties bank node worker = gives bank node worker (nth_item node.hands worker) refl
 
 -- ---- one after another
 
 -- a replica after its first so many workers have finished
 abbrev pub finishes : BankOf → NodeOf → ℕ → NodeOf
 finishes bank node zero = node
-finishes bank node (suc k) = (finished_by bank (finishes bank node k) (suc k)).0
+finishes bank node (suc k) = (finish_move bank (finishes bank node k) (suc k)).0
 
 record Emptied (node : NodeOf) (k : ℕ) (new : NodeOf) : Type 0 where
   work : WorksOn node new
-  staffed : IsStaffed new
+  out_in_hands : OutIsInHands new
   empty : (j : ℕ) → j < k → j < length new.hands → slice_get new.hands j ≡ Some None
 
-emptied_so : (bank : BankOf) (s : SequencerOf) (node : NodeOf) (k : ℕ) → IsStaffed node → Emptied node k (finishes bank node k)
+emptied_so : (bank : BankOf) (s : SequencerOf) (node : NodeOf) (k : ℕ) → OutIsInHands node → Emptied node k (finishes bank node k)
 emptied_so bank s node zero is = record {
   work = record { stages = refl; hands = refl; undone = omega arith; same = refl };
-  staffed = is;
+  out_in_hands = is;
   empty = λ j lt within. absurd (omega (arith, lt));
 }
 emptied_so bank s node (suc k) is =
@@ -111,7 +112,7 @@ emptied_so bank s node (suc k) is =
     let one = finish_empties bank mid (suc k) in
     record {
       work = works_on node mid new so_far.work one.work;
-      staffed = stays_staffed bank s mid (event.Finish 0 (suc k)) so_far.staffed;
+      out_in_hands = stays_staffed bank s mid (event.Finish 0 (suc k)) so_far.out_in_hands;
       empty = λ j lt within.
           let many = one.work.hands in
           ap (λ hands. slice_get hands j) one.hand ∙ elim (cases_eq j k) [
@@ -134,15 +135,15 @@ all_empty (hand ∷ hands) empty =
 -- once all have finished every hand is empty
 pub record AllEmpty (node new : NodeOf) : Type 0 where
   pub work : WorksOn node new
-  pub staffed : IsStaffed new
+  pub out_in_hands : OutIsInHands new
   pub empty : new.hands ≡ copies (length new.hands) None
 
-pub all_finished : (bank : BankOf) (s : SequencerOf) (node : NodeOf) → IsStaffed node → AllEmpty node (finishes bank node (length node.hands))
+pub all_finished : (bank : BankOf) (s : SequencerOf) (node : NodeOf) → OutIsInHands node → AllEmpty node (finishes bank node (length node.hands))
 all_finished bank s node is =
     let new = finishes bank node (length node.hands) in
     let all = emptied_so bank s node (length node.hands) is in
     record {
       work = all.work;
-      staffed = all.staffed;
+      out_in_hands = all.out_in_hands;
       empty = all_empty new.hands (λ j lt. let many = all.work.hands in all.empty j (omega (arith, many, lt)) lt);
     }

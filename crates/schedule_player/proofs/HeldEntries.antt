@@ -4,15 +4,17 @@ use Rattle.std.specs.Prelude.{slice_get, slice_set, is_some}
 use Rattle.std.proofs.lemmas.Bool.{cases_eq}
 use Rattle.std.proofs.lemmas.List.{length-set, map-append}
 use Rattle.std.proofs.lemmas.Option.{slice_get_within}
-use Rattle.cown_board.proofs.PlacesLaws.{slice_get-left}
-use Rattle.cown_board.proofs.States.{slice_get-set_same, slice_get-set_other}
+use Rattle.cown_board.proofs.PositionLaws.{slice_get-left}
+use Rattle.cown_board.proofs.StateChanges.{slice_get-set_same, slice_get-set_other}
 use Rattle.sb_calls.specs.declared.op.Op.{Op}
 use Rattle.sb_replica_log.specs.Log.{none_held as empty_held}
 use Rattle.sb_replica_log.specs.declared.replica_log.TheConstants.{HELD_ENTRIES}
-use Rattle.schedule_player.specs.Along.{AreHeldAlong}
-use Rattle.schedule_player.specs.Numbered.{copies}
-use Rattle.schedule_player.specs.ReplicaMoves.{none_held}
-use Rattle.schedule_player.proofs.Lists.{some_is, none_some, pushed_cases}
+use Rattle.schedule_player.specs.inner.ReplicaOfLog.{AreHeldOfLog}
+use Rattle.schedule_player.specs.OneBased.{copies}
+use Rattle.schedule_player.specs.ReplicaMoves.{empty_buffer}
+use Rattle.schedule_player.proofs.Lists.{pushed_cases}
+use Rattle.cown_board.proofs.LogLaws.{no_some as none_some}
+use Rattle.cown_board.proofs.LogLaws.{injective as some_is}
 
 -- this many places without an op
 nothing_held : (held : List (Option Op)) → held ≡ empty_held → held ≡ replicate HELD_ENTRIES None
@@ -25,7 +27,7 @@ after_first (x ∷ xs) k = refl
 
 module _ (log : List Op) where
   -- none is held
-  pub none_along : (size : ℕ) (held : List (Option Op)) → held ≡ empty_held → AreHeldAlong log size held
+  pub none_along : (size : ℕ) (held : List (Option Op)) → held ≡ empty_held → AreHeldOfLog log size held
   none_along size held is k op here =
       absurd (nothing_at HELD_ENTRIES k (ap (λ all. slice_get all k) (sym (nothing_held held is)) ∙ here))
     where
@@ -35,8 +37,8 @@ module _ (log : List Op) where
       nothing_at (suc n) (suc k) at = nothing_at n k at
 
   -- one more is held
-  pub one_along : (size : ℕ) (held : List (Option Op)) (place : ℕ) (op : Op) → AreHeldAlong log size held
-      → slice_get log (size + place) ≡ Some op → AreHeldAlong log size (slice_set held place (Some op))
+  pub one_along : (size : ℕ) (held : List (Option Op)) (place : ℕ) (op : Op) → AreHeldOfLog log size held
+      → slice_get log (size + place) ≡ Some op → AreHeldOfLog log size (slice_set held place (Some op))
   one_along size held place op are at k other here = elim (cases_eq place k) [
     | inl same ↦
         let within : place < length held =
@@ -49,7 +51,7 @@ module _ (log : List Op) where
   ]
 
   -- the next one is accepted, and the others move up one place
-  pub moved_along : (size : ℕ) (held : List (Option Op)) → AreHeldAlong log size held → AreHeldAlong log (size + 1) (drop 1 held ++ None ∷ [])
+  pub moved_along : (size : ℕ) (held : List (Option Op)) → AreHeldOfLog log size held → AreHeldOfLog log (size + 1) (drop 1 held ++ None ∷ [])
   moved_along size held are k op here = elim (pushed_cases (drop 1 held) None k (Some op) here) [
     | inl there ↦
         let e : size + suc k ≡ size + 1 + k = omega arith in
@@ -58,14 +60,14 @@ module _ (log : List Op) where
   ]
 
   -- the log goes on
-  pub held_longer : (more : List Op) (size : ℕ) (held : List (Option Op)) → AreHeldAlong log size held → AreHeldAlong (log ++ more) size held
+  pub held_longer : (more : List Op) (size : ℕ) (held : List (Option Op)) → AreHeldOfLog log size held → AreHeldOfLog (log ++ more) size held
   held_longer more size held are k op here =
       let at = are k op here in
       slice_get-left log more (size + k) (slice_get_within log (size + k) op at) ∙ at
 
 -- ---- as the machine sees them
 
-pub none_seen : (held : List (Option Op)) → held ≡ empty_held → map is_some held ≡ none_held
+pub none_seen : (held : List (Option Op)) → held ≡ empty_held → map is_some held ≡ empty_buffer
 none_seen held is = ap (map is_some) (nothing_held held is) ∙ each HELD_ENTRIES
   where
     each : (n : ℕ) → map is_some (replicate {A = Option Op} n None) ≡ copies n false

@@ -4,13 +4,9 @@ use Rattle.std.specs.List.{slice_get, slice_set, slice_index_or}
 use Rattle.std.specs.Option.{is_some}
 use Rattle.std.proofs.lemmas.Bool.{true≢false}
 use Rattle.std.proofs.lemmas.Option.{slice_get_cases}
-use Rattle.schedule_player.specs.Numbered.{numbered, copies, Every}
-
-pub some_is : {A : Type 0} {x y : A} → ◌≡◌ {A = Option A} (Some x) (Some y) → x ≡ y
-some_is h = cc
-
-pub none_some : {A : Type 0} {x : A} → ◌≡◌ {A = Option A} None (Some x) → ⊥
-none_some h = cc
+use Rattle.schedule_player.specs.OneBased.{nth_item, copies, Every}
+use Rattle.cown_board.proofs.LogLaws.{injective as some_is}
+use Rattle.cown_board.proofs.LogLaws.{no_some as none_some}
 
 pub every_nil : {A : Type 0} (P : A → Type 0) → Every P []
 every_nil P k item here = absurd (none_some here)
@@ -84,7 +80,7 @@ pub every_copies : {A : Type 0} (P : A → Type 0) (n : ℕ) (x : A) → P x →
 every_copies P zero x is = every_nil P
 every_copies P (suc n) x is = every_cons P x (copies n x) is (every_copies P n x is)
 
-pub every_numbered : {A : Type 0} (P : A → Type 0) (xs : List A) (n : ℕ) (x : A) → Every P xs → numbered xs n ≡ Some x → P x
+pub every_numbered : {A : Type 0} (P : A → Type 0) (xs : List A) (n : ℕ) (x : A) → Every P xs → nth_item xs n ≡ Some x → P x
 every_numbered P xs zero x all here = absurd (none_some here)
 every_numbered P xs (suc k) x all here = all k x here
 

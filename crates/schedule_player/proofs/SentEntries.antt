@@ -7,23 +7,25 @@ use Rattle.sb_calls.specs.declared.call.Call.{Call}
 use Rattle.sb_frames.specs.declared.frame.Frame.{Frame}
 use Rattle.sb_frames.specs.declared.frame.Frame.TheVariants as frame
 use Rattle.sb_rows.specs.Balances.{Balances}
-use Rattle.sb_sequencer.specs.Entries.{entry_of, entries_from, entries, entries_after, after_recorded, resent}
-use Rattle.sb_sequencer.specs.Numbering.{call_at}
+use Rattle.sb_sequencer.specs.Entries.{entry_of, entries_from, entries, entries_after, entries_for_replica, entries_to_resend}
+use Rattle.sb_sequencer.specs.Numbering.{call_of_number}
 use Rattle.sb_sequencer.specs.Sequencer.{SequencerOf}
-use Rattle.schedule_player.specs.NodeAlong.{IsEntryOf}
-use Rattle.schedule_player.specs.Numbered.{numbered, Every}
+use Rattle.schedule_player.specs.FramesOfLog.{IsEntryOf}
+use Rattle.schedule_player.specs.OneBased.{nth_item, Every}
 use Rattle.schedule_player.specs.World.{bank_with}
-use Rattle.schedule_player.proofs.Lists.{some_is, none_some, every_nil, every_cons}
+use Rattle.schedule_player.proofs.Lists.{every_nil, every_cons}
+use Rattle.cown_board.proofs.LogLaws.{no_some as none_some}
+use Rattle.cown_board.proofs.LogLaws.{injective as some_is}
 
 module _ (names : List (List ℕ)) (opening : Balances) (log : List (Key × Call)) where
-  call_numbered : (n : ℕ) → numbered (map (λ entry. entry.1) log) n ≡ call_at log n
+  call_numbered : (n : ℕ) → nth_item (map (λ entry. entry.1) log) n ≡ call_of_number log n
   call_numbered zero = refl
   call_numbered (suc k) = slice_get-map (λ entry. entry.1) log k
 
   pub entry_is : (n : ℕ) (entry : Frame) → entry_of log n ≡ Some entry → IsEntryOf (bank_with names opening log) entry
-  entry_is n entry here = by (call_at log n) refl (here)
+  entry_is n entry here = by (call_of_number log n) refl (here)
     where
-      by : (call : Option Call) → call_at log n ≡ call → entry_of log n ≡ Some entry → IsEntryOf (bank_with names opening log) entry
+      by : (call : Option Call) → call_of_number log n ≡ call → entry_of log n ≡ Some entry → IsEntryOf (bank_with names opening log) entry
       by None none e = absurd (none_some (sym (ap (option_map (frame.Entry n)) none) ∙ e))
       by (Some call) found e = record {
         number = n;
@@ -73,9 +75,9 @@ every_after names opening log size =
     (every_drop (IsEntryOf (bank_with names opening log)) size (entries log) (every_entry names opening log))
 
 pub resent_are : (names : List (List ℕ)) (opening : Balances) (s : SequencerOf) (r : ℕ)
-    → Every (IsEntryOf (bank_with names opening s.log)) (resent s r)
+    → Every (IsEntryOf (bank_with names opening s.log)) (entries_to_resend s r)
 resent_are names opening s r = by (slice_get s.recorded r)
   where
-    by : (size : Option ℕ) → Every (IsEntryOf (bank_with names opening s.log)) (after_recorded s.log size)
+    by : (size : Option ℕ) → Every (IsEntryOf (bank_with names opening s.log)) (entries_for_replica s.log size)
     by None = every_nil (IsEntryOf (bank_with names opening s.log))
     by (Some size) = every_after names opening s.log size

@@ -3,26 +3,26 @@ use Rattle.std.proofs.Common.{◌≡◌, ℕ, zero, suc, Some, None, Ok, List, [
 use Rattle.std.specs.Prelude.{option_map}
 use Rattle.std.proofs.lemmas.List.{map-append}
 use Rattle.std.proofs.lemmas.Option.{slice_get-map}
-use Rattle.cown_board.proofs.PlacesLaws.{append_nothing}
+use Rattle.cown_board.proofs.PositionLaws.{append_nothing}
 use Rattle.sb_frames.proofs.Frames.{begins_so}
-use Rattle.sb_frames.specs.Decoding.{decoded}
+use Rattle.sb_frames.specs.Decoding.{decode_result}
 use Rattle.sb_frames.specs.Grammar.{Spells}
 use Rattle.sb_frames.specs.declared.frame.Frame.{Frame}
-use Rattle.schedule_player.specs.Numbered.{numbered, Every}
-use Rattle.schedule_player.specs.Seen.{frame_or_flush, frame_in, IsSpelled}
-use Rattle.schedule_player.proofs.Lists.{none_some}
+use Rattle.schedule_player.specs.OneBased.{nth_item, Every}
+use Rattle.schedule_player.specs.inner.MachineView.{frame_or_flush, frame_in, IsFrameBytes}
+use Rattle.cown_board.proofs.LogLaws.{no_some as none_some}
 
 -- bytes that spell a frame decode to it, and nothing is left
-pub decoded_whole : (frame : Frame) (bytes : List ℕ) → Spells frame bytes → decoded bytes ≡ Ok (frame, length bytes)
+pub decoded_whole : (frame : Frame) (bytes : List ℕ) → Spells frame bytes → decode_result bytes ≡ Ok (frame, length bytes)
 decoded_whole frame bytes spelled =
-    subst (λ b. decoded b ≡ Ok (frame, length bytes)) (append_nothing bytes) (begins_so frame bytes [] spelled)
+    subst (λ b. decode_result b ≡ Ok (frame, length bytes)) (append_nothing bytes) (begins_so frame bytes [] spelled)
 
 pub frame_in_spelled : (frame : Frame) (bytes : List ℕ) → Spells frame bytes → frame_in bytes ≡ frame
 unfolding frame_in
 frame_in_spelled frame bytes spelled = ap frame_or_flush (decoded_whole frame bytes spelled)
 
 -- the machine sees these bytes as the frame that they spell
-pub spelled_as_seen : (bytes : List ℕ) → IsSpelled bytes → Spells (frame_in bytes) bytes
+pub spelled_as_seen : (bytes : List ℕ) → IsFrameBytes bytes → Spells (frame_in bytes) bytes
 spelled_as_seen bytes is =
     subst (λ frame. Spells frame bytes) (sym (frame_in_spelled is.frame bytes is.spelled)) is.spelled
 
@@ -31,9 +31,9 @@ module _ {A : Type 0} (items : A → List ℕ) where
   abbrev seen_in : List A → List Frame
   seen_in sent = map (λ bytes. frame_in (items bytes)) sent
 
-  pub sent_frame : (sent : List A) (place : ℕ) (bytes : A) → Every (λ b. IsSpelled (items b)) sent
-      → numbered sent place ≡ Some bytes
-      → (frame : Frame) × (numbered (seen_in sent) place ≡ Some frame) × Spells frame (items bytes)
+  pub sent_frame : (sent : List A) (place : ℕ) (bytes : A) → Every (λ b. IsFrameBytes (items b)) sent
+      → nth_item sent place ≡ Some bytes
+      → (frame : Frame) × (nth_item (seen_in sent) place ≡ Some frame) × Spells frame (items bytes)
   sent_frame sent zero bytes all here = absurd (none_some here)
   sent_frame sent (suc k) bytes all here = (
     frame_in (items bytes),
@@ -41,7 +41,7 @@ module _ {A : Type 0} (items : A → List ℕ) where
     spelled_as_seen (items bytes) (all k bytes here),
   )
 
-  pub no_frame : (sent : List A) (place : ℕ) → numbered sent place ≡ None → numbered (seen_in sent) place ≡ None
+  pub no_frame : (sent : List A) (place : ℕ) → nth_item sent place ≡ None → nth_item (seen_in sent) place ≡ None
   no_frame sent zero none = refl
   no_frame sent (suc k) none =
       slice_get-map (λ b. frame_in (items b)) sent k ∙ ap (option_map (λ b. frame_in (items b))) none

@@ -4,16 +4,16 @@ use Rattle.std.specs.Prelude.{slice_get, slice_set, count_by, option_map, if◌t
 use Rattle.std.proofs.lemmas.List.{length-append, map-append}
 use Rattle.std.proofs.lemmas.List.Sums.{sum_by-cons}
 use Rattle.std.proofs.lemmas.Option.{slice_get-map}
-use Rattle.cown_board.proofs.PlacesLaws.{slice_get-left, slice_get-right}
-use Rattle.cown_board.specs.Board.{BoardOf, length_of, open_of}
-use Rattle.cown_board.specs.State.{is_open, is_waiting, state_is}
+use Rattle.cown_board.proofs.PositionLaws.{slice_get-left, slice_get-right}
+use Rattle.cown_board.specs.Board.{BoardOf, length_of, unfinished_of}
+use Rattle.cown_board.specs.State.{is_unfinished, is_waiting, state_is}
 use Rattle.cown_board.specs.declared.state.State.{State}
 use Rattle.cown_board.specs.declared.state.State.TheVariants.{Waiting, Out, Finished}
 use Rattle.sb_calls.specs.declared.op.Op.{Op}
-use Rattle.sb_replica_log.specs.Offers.{accepted}
-use Rattle.schedule_player.specs.Numbered.{copies}
+use Rattle.sb_replica_log.specs.Offers.{board_with_entry}
+use Rattle.schedule_player.specs.OneBased.{copies}
 use Rattle.schedule_player.specs.Readiness.{stage_is}
-use Rattle.schedule_player.specs.Seen.{stage_of, stages_of}
+use Rattle.schedule_player.specs.inner.MachineView.{stage_of, stages_of}
 use Rattle.schedule_player.specs.Stage.{Stage, Waits, IsOut, IsDone, waits, is_undone}
 
 pub length-copies : {A : Type 0} (n : ℕ) (x : A) → length (copies n x) ≡ n
@@ -43,7 +43,7 @@ append-nil : {A : Type 0} (xs ys zs : List A) → (xs ++ ys) ++ zs ≡ xs ++ (ys
 append-nil [] ys zs = refl
 append-nil (x ∷ xs) ys zs = ap (λ t. x ∷ t) (append-nil xs ys zs)
 
-undone_stage : (state : State) → is_undone (stage_of state) ≡ is_open state
+undone_stage : (state : State) → is_undone (stage_of state) ≡ is_unfinished state
 undone_stage Waiting = refl
 undone_stage Out = refl
 undone_stage (Finished reply) = refl
@@ -56,11 +56,11 @@ waits_stage (Finished reply) = refl
 pub count_more : {A : Type 0} (p : A → Bool) (x : A) (xs : List A) → count_by p (x ∷ xs) ≡ (if p x then 1 else 0) + count_by p xs
 count_more p x xs = sum_by-cons (λ y. if p y then 1 else 0) x xs
 
-undone_states : (states : List State) → count_by is_undone (map stage_of states) ≡ count_by is_open states
+undone_states : (states : List State) → count_by is_undone (map stage_of states) ≡ count_by is_unfinished states
 undone_states [] = refl
 undone_states (Waiting ∷ states) = count_more is_undone Waits (map stage_of states) ∙ ap (λ n. 1 + n) (undone_states states) ∙ sym
-    (count_more is_open Waiting states)
-undone_states (Out ∷ states) = count_more is_undone IsOut (map stage_of states) ∙ ap (λ n. 1 + n) (undone_states states) ∙ sym (count_more is_open Out states)
+    (count_more is_unfinished Waiting states)
+undone_states (Out ∷ states) = count_more is_undone IsOut (map stage_of states) ∙ ap (λ n. 1 + n) (undone_states states) ∙ sym (count_more is_unfinished Out states)
 undone_states (Finished reply ∷ states) = undone_states states
 
 undone_after : (n : ℕ) (stages : List Stage) → count_by is_undone (copies n IsDone ++ stages) ≡ count_by is_undone stages
@@ -68,39 +68,39 @@ undone_after zero stages = refl
 undone_after (suc n) stages = undone_after n stages
 
 -- as many are undone as are open
-pub undone_in_stages : (board : BoardOf Op) → count_by is_undone (stages_of board) ≡ open_of board
-undone_in_stages board = undone_after (length board.earlier) (map stage_of board.states) ∙ undone_states board.states
+pub undone_in_stages : (board : BoardOf Op) → count_by is_undone (stages_of board) ≡ unfinished_of board
+undone_in_stages board = undone_after (length board.base_replies) (map stage_of board.states) ∙ undone_states board.states
 
 pub length_stages : (board : BoardOf Op) → length board.log ≡ length board.states → length (stages_of board) ≡ length_of board
 length_stages board states =
-    length-append (copies (length board.earlier) IsDone) (map stage_of board.states)
-    ∙ ap (λ n. n + length (map stage_of board.states)) (length-copies (length board.earlier) IsDone)
-    ∙ ap (λ n. length board.earlier + n) (length-map stage_of board.states ∙ sym states)
+    length-append (copies (length board.base_replies) IsDone) (map stage_of board.states)
+    ∙ ap (λ n. n + length (map stage_of board.states)) (length-copies (length board.base_replies) IsDone)
+    ∙ ap (λ n. length board.base_replies + n) (length-map stage_of board.states ∙ sym states)
 
-pub stages_accepted : (board : BoardOf Op) (op : Op) → stages_of (accepted board op) ≡ stages_of board ++ Waits ∷ []
+pub stages_accepted : (board : BoardOf Op) (op : Op) → stages_of (board_with_entry board op) ≡ stages_of board ++ Waits ∷ []
 stages_accepted board op =
-    ap (λ s. copies (length board.earlier) IsDone ++ s) (map-append stage_of board.states (Waiting ∷ []))
-    ∙ sym (append-nil (copies (length board.earlier) IsDone) (map stage_of board.states) (Waits ∷ []))
+    ap (λ s. copies (length board.base_replies) IsDone ++ s) (map-append stage_of board.states (Waiting ∷ []))
+    ∙ sym (append-nil (copies (length board.base_replies) IsDone) (map stage_of board.states) (Waits ∷ []))
 
 pub stages_set : (board : BoardOf Op) (place : ℕ) (state : State)
     → stages_of (record board { states = slice_set board.states place state })
-    ≡ slice_set (stages_of board) (length board.earlier + place) (stage_of state)
+    ≡ slice_set (stages_of board) (length board.base_replies + place) (stage_of state)
 stages_set board place state =
-    ap (λ s. copies (length board.earlier) IsDone ++ s) (set-map stage_of board.states place state)
-    ∙ set-copies (length board.earlier) IsDone (map stage_of board.states) place (stage_of state)
+    ap (λ s. copies (length board.base_replies) IsDone ++ s) (set-map stage_of board.states place state)
+    ∙ set-copies (length board.base_replies) IsDone (map stage_of board.states) place (stage_of state)
 
 -- entries before the board's opening are done
-pub stage_before : (board : BoardOf Op) (k : ℕ) → k < length board.earlier → slice_get (stages_of board) k ≡ Some IsDone
+pub stage_before : (board : BoardOf Op) (k : ℕ) → k < length board.base_replies → slice_get (stages_of board) k ≡ Some IsDone
 stage_before board k lt =
-    slice_get-left (copies (length board.earlier) IsDone) (map stage_of board.states) k (subst (λ n. k < n) (sym (length-copies
-    (length board.earlier) IsDone)) lt)
-    ∙ get-copies (length board.earlier) IsDone k lt
+    slice_get-left (copies (length board.base_replies) IsDone) (map stage_of board.states) k (subst (λ n. k < n) (sym (length-copies
+    (length board.base_replies) IsDone)) lt)
+    ∙ get-copies (length board.base_replies) IsDone k lt
 
 -- the others are in the board's states
-pub stage_at : (board : BoardOf Op) (k : ℕ) → slice_get (stages_of board) (length board.earlier + k) ≡ option_map stage_of (slice_get board.states k)
+pub stage_at : (board : BoardOf Op) (k : ℕ) → slice_get (stages_of board) (length board.base_replies + k) ≡ option_map stage_of (slice_get board.states k)
 stage_at board k =
-    slice_get-right (copies (length board.earlier) IsDone) (map stage_of board.states) (length board.earlier + k) k
-    (ap (λ n. n + k) (sym (length-copies (length board.earlier) IsDone)))
+    slice_get-right (copies (length board.base_replies) IsDone) (map stage_of board.states) (length board.base_replies + k) k
+    (ap (λ n. n + k) (sym (length-copies (length board.base_replies) IsDone)))
     ∙ slice_get-map stage_of board.states k
 
 stage_state : (test : Stage → Bool) (check : State → Bool) (same : (state : State) → test (stage_of state) ≡ check state)
@@ -109,9 +109,9 @@ stage_state test check same None = refl
 stage_state test check same (Some state) = same state
 
 pub waits_at : (board : BoardOf Op) (k : ℕ)
-    → stage_is waits (slice_get (stages_of board) (length board.earlier + k)) ≡ state_is is_waiting (slice_get board.states k)
+    → stage_is waits (slice_get (stages_of board) (length board.base_replies + k)) ≡ state_is is_waiting (slice_get board.states k)
 waits_at board k = ap (stage_is waits) (stage_at board k) ∙ stage_state waits is_waiting waits_stage (slice_get board.states k)
 
 pub undone_at : (board : BoardOf Op) (k : ℕ)
-    → stage_is is_undone (slice_get (stages_of board) (length board.earlier + k)) ≡ state_is is_open (slice_get board.states k)
-undone_at board k = ap (stage_is is_undone) (stage_at board k) ∙ stage_state is_undone is_open undone_stage (slice_get board.states k)
+    → stage_is is_undone (slice_get (stages_of board) (length board.base_replies + k)) ≡ state_is is_unfinished (slice_get board.states k)
+undone_at board k = ap (stage_is is_undone) (stage_at board k) ∙ stage_state is_undone is_unfinished undone_stage (slice_get board.states k)

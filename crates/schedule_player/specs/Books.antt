@@ -3,7 +3,7 @@ use Rattle.std.specs.Prelude.{◌≡◌, ℕ, suc, Some, List, length, slice_get
 use Rattle.sb_rows.specs.Balances.{Balances}
 use Rattle.sb_rows.specs.Rows.{SameCustomers, rows_of}
 use Rattle.sb_calls.specs.declared.reply.Reply.{Reply}
-use Rattle.sb_checkpoint.specs.Checkpoint.{CheckpointOf, Second, Spells}
+use Rattle.sb_checkpoint.specs.Checkpoint.{CheckpointOf, Second, SpellsInLayout}
 use Rattle.schedule_player.specs.Bank.{BankOf, log_reply, log_rows, opening_total}
 
 -- the columns are of the bank's customers, and their rows are those after this many calls
@@ -15,7 +15,7 @@ pub record IsRowsAt (bank : BankOf) (size : ℕ) (columns : Balances) : Type 0 w
 -- opening total, and the replies to the numbers up to there
 pub record IsStateAt (bank : BankOf) (size : ℕ) (bytes : List ℕ) : Type 0 where
   pub checkpoint : CheckpointOf
-  pub spelled : Spells Second (opening_total bank) checkpoint bytes
+  pub spelled : SpellsInLayout Second (opening_total bank) checkpoint bytes
   pub size_is : length checkpoint.replies ≡ size
   pub rows : IsRowsAt bank size checkpoint.columns
   pub replies : (k : ℕ) (reply : Reply) → slice_get checkpoint.replies k ≡ Some reply

@@ -2,31 +2,31 @@
 use Rattle.std.specs.Prelude.{◌≡◌, ℕ, ◌≤◌, Some, length, slice_get}
 use Rattle.sb_calls.specs.declared.reply.Reply.{Reply}
 use Rattle.schedule_player.specs.Bank.{log_reply}
-use Rattle.schedule_player.specs.Numbered.{numbered}
-use Rattle.schedule_player.specs.Observed.{length_at, reply_at}
-use Rattle.schedule_player.specs.Played.{IsPlayed, bank_after, log_of}
+use Rattle.schedule_player.specs.OneBased.{nth_item}
+use Rattle.schedule_player.specs.Observers.{length_at, reply_at_replica}
+use Rattle.schedule_player.specs.EventLists.{IsWorldAfter, bank_after, log_of_events}
 use Rattle.schedule_player.specs.ReplicaMoves.{NodeOf}
 use Rattle.schedule_player.specs.Stage.{IsDone}
 use Rattle.schedule_player.specs.World.{WorldOf}
 use Rattle.schedule_text.specs.ScheduleText.{ScheduleOf}
 
 -- what holds in a world after exactly the events of a schedule
-pub record IsReplicated (schedule : ScheduleOf) (world : WorldOf) : Type 0 where
+pub record ReplicasAgree (schedule : ScheduleOf) (world : WorldOf) : Type 0 where
   -- the log is the first asks of the events
-  pub log : world.sequencer.log ≡ log_of schedule.events
+  pub log : world.sequencer.log ≡ log_of_events schedule.events
   -- any two replicas that hold a reply to a number hold the same one
   pub agree : (a b number : ℕ) (one other : Reply)
-      → reply_at world a number ≡ Some one → reply_at world b number ≡ Some other → one ≡ other
+      → reply_at_replica world a number ≡ Some one → reply_at_replica world b number ≡ Some other → one ≡ other
   -- it is the reply that running the log one by one gives
-  pub by_log : (r number : ℕ) (reply : Reply) → reply_at world r number ≡ Some reply
+  pub by_log : (r number : ℕ) (reply : Reply) → reply_at_replica world r number ≡ Some reply
       → log_reply (bank_after schedule) number ≡ Some reply
   -- a replica holds a reply to each number that is done at it
   pub replied : (r number : ℕ) (node : NodeOf) → slice_get world.nodes r ≡ Some node
-      → numbered node.stages number ≡ Some IsDone → (reply : Reply) × (reply_at world r number ≡ Some reply)
+      → nth_item node.stages number ≡ Some IsDone → (reply : Reply) × (reply_at_replica world r number ≡ Some reply)
   -- it has at most as many entries as the log
-  pub within : (r size : ℕ) → length_at world r ≡ Some size → size ≤ length (log_of schedule.events)
+  pub within : (r size : ℕ) → length_at world r ≡ Some size → size ≤ length (log_of_events schedule.events)
 
 -- it holds after every schedule: an opening, a number of replicas, a number of workers for each,
 -- and events in order
 abbrev pub Replication : Type 0
-Replication = (schedule : ScheduleOf) (world : WorldOf) → IsPlayed schedule world → IsReplicated schedule world
+Replication = (schedule : ScheduleOf) (world : WorldOf) → IsWorldAfter schedule world → ReplicasAgree schedule world

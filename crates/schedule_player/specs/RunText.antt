@@ -4,7 +4,7 @@ use Rattle.std.specs.Io.KnownBytes.{Appends}
 use Rattle.sb_rows.specs.Text.{unlines}
 use Rattle.sb_text.specs.Listing.{row_lines}
 use Rattle.schedule_player.specs.Bank.{log_rows}
-use Rattle.schedule_player.specs.Played.{Plays}
+use Rattle.schedule_player.specs.EventLists.{PlaysEvents}
 use Rattle.schedule_player.specs.ReplicaMoves.{NodeOf, length_in, undone_in}
 use Rattle.schedule_player.specs.World.{WorldOf, bank_of, opened_world}
 use Rattle.schedule_text.specs.NoteText.{note_line}
@@ -40,7 +40,7 @@ played_lines notes world = map note_line notes ++ states_from world 0 world.node
 pub record IsOutput (schedule : ScheduleOf) (output : List ℕ) : Type 0 where
   pub notes : List Note
   pub world : WorldOf
-  pub plays : Plays (opened_world schedule) schedule.events notes world
+  pub plays : PlaysEvents (opened_world schedule) schedule.events notes world
   pub written : output ≡ unlines (played_lines notes world)
 
 -- a text at fault has no output

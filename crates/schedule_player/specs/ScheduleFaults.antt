@@ -1,25 +1,17 @@
 -- What a fault of a schedule means.
 use Rattle.std.specs.Prelude.{◌≡◌, ℕ, Option, Result, Err, List}
 use Rattle.std.specs.Io.KnownBytes.{Keeps}
-use Rattle.sb_text.specs.declared.input.ReadFault.{ReadFault}
 use Rattle.sb_text.specs.declared.input.ReadFault.TheVariants as reading
 use Rattle.schedule_player.specs.declared.fault.ScheduleFault.{ScheduleFault}
 use Rattle.schedule_player.specs.declared.fault.ScheduleFault.TheVariants.{Input, Device, OutOfMemory}
 use Rattle.schedule_text.specs.declared.fault.ScheduleLineFault.{ScheduleLineFault}
-use Rattle.schedule_text.specs.declared.fault.TextFault.{TextFault}
 use Rattle.schedule_text.specs.declared.fault.TextFault.TheVariants as text
 
 -- a fault of a line is the first one in the text
-abbrev pub Blames : {A : Type 0} → ScheduleFault → Result A (ℕ × ScheduleLineFault) → Type 0
-Blames (Input line fault) read = read ≡ Err (line, fault)
-Blames Device read = Unit {0}
-Blames OutOfMemory read = Unit {0}
-
--- the same for a text in memory, where no device can fail
-abbrev pub BlamesText : {A : Type 0} → ScheduleFault → Result A (ℕ × ScheduleLineFault) → Type 0
-BlamesText (Input line fault) read = read ≡ Err (line, fault)
-BlamesText Device read = ⊥
-BlamesText OutOfMemory read = Unit {0}
+abbrev pub BlamesSchedule : {A : Type 0} → ScheduleFault → Result A (ℕ × ScheduleLineFault) → Type 0
+BlamesSchedule (Input line fault) read = read ≡ Err (line, fault)
+BlamesSchedule Device read = Unit {0}
+BlamesSchedule OutOfMemory read = Unit {0}
 
 -- after a line's fault nothing was written
 abbrev pub WritesNothing : ScheduleFault → Option (List ℕ) → Option (List ℕ) → Type 0
@@ -32,12 +24,3 @@ abbrev pub schedule_fault_number : ScheduleFault → ℕ
 schedule_fault_number (Input line fault) = 1
 schedule_fault_number Device = 2
 schedule_fault_number OutOfMemory = 3
-
--- the fault for an input that can't be read, and for a text at fault
-abbrev pub of_read_fault : ReadFault → ScheduleFault
-of_read_fault reading.Device = Device
-of_read_fault reading.OutOfMemory = OutOfMemory
-
-abbrev pub of_text_fault : TextFault → ScheduleFault
-of_text_fault (text.Line line fault) = Input line fault
-of_text_fault text.OutOfMemory = OutOfMemory

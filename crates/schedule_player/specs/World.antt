@@ -1,22 +1,22 @@
 -- The reference machine: a sequencer, its replicas, and the frames between them.
 use Rattle.std.specs.Prelude.{◌≡◌, ℕ, ◌-◌, ◌<◌, nat_lt, pos, int_lt, ◌==◌, if◌then◌else◌, Bool, true, false, IsTrue, Option, Some, None, Ok, Err, List, length, map, count_by, slice_get, slice_set}
 use Rattle.sb_rows.specs.Balances.{Balances}
-use Rattle.sb_rows.specs.Listing.{listed, total_of}
+use Rattle.sb_rows.specs.Listing.{rows_in_order, total_of}
 use Rattle.sb_calls.specs.declared.ask.Key.{Key}
 use Rattle.sb_calls.specs.declared.call.Call.{Call}
 use Rattle.sb_calls.specs.declared.reply.Reply.{Reply}
 use Rattle.sb_frames.specs.declared.frame.Frame.{Frame}
 use Rattle.sb_frames.specs.declared.frame.Frame.TheVariants as frame
-use Rattle.sb_sequencer.specs.Answer.{IsAnswered}
+use Rattle.sb_sequencer.specs.Answer.{AnswersAsk}
 use Rattle.sb_sequencer.specs.Donors.{IsDonor}
-use Rattle.sb_sequencer.specs.Notes.{kept_at}
-use Rattle.sb_sequencer.specs.Sequencer.{SequencerOf, opened, after_ask}
+use Rattle.sb_sequencer.specs.Notes.{answer_slot}
+use Rattle.sb_sequencer.specs.Sequencer.{SequencerOf, empty_sequencer, state_after_ask}
 use Rattle.sb_sequencer.specs.declared.answer.AskFault.TheVariants.{Mismatch, LogFull, OutOfMemory}
 use Rattle.sb_sequencer.specs.declared.answer.Numbered.TheVariants.{New, Repeat}
 use Rattle.schedule_player.specs.Bank.{BankOf, log_rows}
-use Rattle.schedule_player.specs.Numbered.{numbered, copies}
+use Rattle.schedule_player.specs.OneBased.{nth_item, copies}
 use Rattle.schedule_player.specs.ReplicaEvents.{replica_of, node_move}
-use Rattle.schedule_player.specs.ReplicaMoves.{NodeOf, opened_node, length_in, undone_in, given}
+use Rattle.schedule_player.specs.ReplicaMoves.{NodeOf, opened_node, length_in, undone_in, receive_move}
 use Rattle.schedule_text.specs.ScheduleText.{ScheduleOf}
 use Rattle.schedule_text.specs.declared.event.Event.{Event}
 use Rattle.schedule_text.specs.declared.event.Event.TheVariants as event
@@ -45,7 +45,7 @@ abbrev pub opened_world : ScheduleOf → WorldOf
 opened_world schedule = record {
   names = schedule.names;
   opening = schedule.balances;
-  sequencer = opened schedule.nodes;
+  sequencer = empty_sequencer schedule.nodes;
   nodes = copies schedule.nodes (opened_node schedule.workers);
 }
 
@@ -54,28 +54,28 @@ opened_world schedule = record {
 -- an ask, by the sequencer's answer to it
 abbrev pub Asks : WorldOf → Key × Call → Note → WorldOf → Type 0
 Asks old ask (note.New n) new =
-    IsAnswered old.sequencer.log ask (Ok (New n))
-    × (new ≡ record old { sequencer = after_ask old.sequencer ask (Ok (New n)) })
-Asks old ask (note.Repeat n) new = IsAnswered old.sequencer.log ask (Ok (Repeat n)) × (new ≡ old)
-Asks old ask (note.Mismatch n) new = IsAnswered old.sequencer.log ask (Err (Mismatch n)) × (new ≡ old)
-Asks old ask note.LogFull new = IsAnswered old.sequencer.log ask (Err LogFull) × (new ≡ old)
+    AnswersAsk old.sequencer.log ask (Ok (New n))
+    × (new ≡ record old { sequencer = state_after_ask old.sequencer ask (Ok (New n)) })
+Asks old ask (note.Repeat n) new = AnswersAsk old.sequencer.log ask (Ok (Repeat n)) × (new ≡ old)
+Asks old ask (note.Mismatch n) new = AnswersAsk old.sequencer.log ask (Err (Mismatch n)) × (new ≡ old)
+Asks old ask note.LogFull new = AnswersAsk old.sequencer.log ask (Err LogFull) × (new ≡ old)
 Asks old ask other new = ⊥
 
 -- a replica moves; an event at one that doesn't exist does nothing
-abbrev pub placed : WorldOf → ℕ → NodeOf × Note → WorldOf × Note
-placed world r moved = (record world { nodes = slice_set world.nodes r moved.0 }, moved.1)
+abbrev pub with_moved_node : WorldOf → ℕ → NodeOf × Note → WorldOf × Note
+with_moved_node world r made = (record world { nodes = slice_set world.nodes r made.0 }, made.1)
 
-abbrev pub moved_if : WorldOf → ℕ → (NodeOf → NodeOf × Note) → Option NodeOf → WorldOf × Note
-moved_if world r move (Some node) = placed world r (move node)
-moved_if world r move None = (world, note.Nothing)
+abbrev pub move_if : WorldOf → ℕ → (NodeOf → NodeOf × Note) → Option NodeOf → WorldOf × Note
+move_if world r move (Some node) = with_moved_node world r (move node)
+move_if world r move None = (world, note.Nothing)
 
-abbrev pub moved_at : WorldOf → ℕ → (NodeOf → NodeOf × Note) → WorldOf × Note
-moved_at world r move = moved_if world r move (slice_get world.nodes r)
+abbrev pub move_at : WorldOf → ℕ → (NodeOf → NodeOf × Note) → WorldOf × Note
+move_at world r move = move_if world r move (slice_get world.nodes r)
 
 -- a frame from a replica arrives at the sequencer: it records the length of a log or of a
 -- checkpoint, and keeps the first answer to a number
-abbrev pub keeps : WorldOf → ℕ → Reply → Option (Option Reply) → WorldOf × Note
-keeps world number reply (Some None) = (
+abbrev pub reply_move : WorldOf → ℕ → Reply → Option (Option Reply) → WorldOf × Note
+reply_move world number reply (Some None) = (
   record world {
     sequencer = record world.sequencer {
       answers = slice_set world.sequencer.answers (number - 1) (Some reply);
@@ -83,35 +83,35 @@ keeps world number reply (Some None) = (
   },
   note.Kept number,
 )
-keeps world number reply (Some (Some first)) = (world, note.Repeat number)
-keeps world number reply None = (world, note.Nothing)
+reply_move world number reply (Some (Some first)) = (world, note.Repeat number)
+reply_move world number reply None = (world, note.Nothing)
 
-abbrev pub told : WorldOf → ℕ → Option Frame → WorldOf × Note
-told world r (Some (frame.Ack replica size)) = (
+abbrev pub report_move : WorldOf → ℕ → Option Frame → WorldOf × Note
+report_move world r (Some (frame.Ack replica size)) = (
   record world { sequencer = record world.sequencer { recorded = slice_set world.sequencer.recorded r size } },
   note.Recorded size,
 )
-told world r (Some (frame.Have replica size)) = (
+report_move world r (Some (frame.Have replica size)) = (
   record world { sequencer = record world.sequencer { checkpoints = slice_set world.sequencer.checkpoints r size } },
   note.Has size,
 )
-told world r (Some (frame.Answer number reply)) = keeps world number reply (kept_at world.sequencer number)
-told world r other = (world, note.Nothing)
+report_move world r (Some (frame.Answer number reply)) = reply_move world number reply (answer_slot world.sequencer number)
+report_move world r other = (world, note.Nothing)
 
-abbrev pub heard_from : WorldOf → ℕ → ℕ → Option NodeOf → WorldOf × Note
-heard_from world r place (Some node) = told world r (numbered node.outbound place)
-heard_from world r place None = (world, note.Nothing)
+abbrev pub from_move : WorldOf → ℕ → ℕ → Option NodeOf → WorldOf × Note
+from_move world r position (Some node) = report_move world r (nth_item node.outbound position)
+from_move world r position None = (world, note.Nothing)
 
 -- the bank's books after this many calls: its total, and the number of customers whose checking
 -- balance is below 0
 abbrev pub books_after : BankOf → ℕ → AuditNote
 books_after bank size =
-    let rows = listed bank.names (log_rows bank size) in
+    let rows = rows_in_order bank.names (log_rows bank size) in
     audit.Same (total_of rows) (count_by (λ customer. int_lt customer.checking (pos 0)) rows)
 
 -- two replicas are compared; the first case that holds decides
-abbrev pub compared : BankOf → ℕ → ℕ → NodeOf → NodeOf → AuditNote
-compared bank a b first second =
+abbrev pub audit_result : BankOf → ℕ → ℕ → NodeOf → NodeOf → AuditNote
+audit_result bank a b first second =
     if undone_in first == 0 then (
     if undone_in second == 0 then (
     if length_in first == length_in second then books_after bank (length_in first)
@@ -119,46 +119,46 @@ compared bank a b first second =
     ) else audit.Busy b
     ) else audit.Busy a
 
-abbrev pub audited : BankOf → ℕ → ℕ → Option NodeOf → Option NodeOf → Note
-audited bank a b (Some first) (Some second) = note.Audit (compared bank a b first second)
-audited bank a b first second = note.Nothing
+abbrev pub audit_if : BankOf → ℕ → ℕ → Option NodeOf → Option NodeOf → Note
+audit_if bank a b (Some first) (Some second) = note.Audit (audit_result bank a b first second)
+audit_if bank a b first second = note.Nothing
 
 -- the state that a replica keeps is sent to another, if it has at least one entry
-abbrev pub given_at : WorldOf → ℕ → ℕ → WorldOf × Note
-given_at world r size =
-    if size == 0 then (world, note.Nothing) else moved_at world r (λ node. given node size)
+abbrev pub give_at : WorldOf → ℕ → ℕ → WorldOf × Note
+give_at world r size =
+    if size == 0 then (world, note.Nothing) else move_at world r (λ node. receive_move node size)
 
-abbrev pub given_from : WorldOf → ℕ → Option NodeOf → WorldOf × Note
-given_from world r (Some donor) = given_at world r donor.kept
-given_from world r None = (world, note.Nothing)
+abbrev pub give_move : WorldOf → ℕ → Option NodeOf → WorldOf × Note
+give_move world r (Some donor) = give_at world r donor.stored
+give_move world r None = (world, note.Nothing)
 
 -- ---- all events but an ask and a donor
 
 -- an event at a replica moves that replica
 abbrev pub replica_move : WorldOf → Event → Option ℕ → WorldOf × Note
 replica_move world happens (Some r) =
-    moved_at world r (λ node. node_move (bank_of world) world.sequencer node happens)
+    move_at world r (λ node. node_move (bank_of world) world.sequencer node happens)
 replica_move world happens None = (world, note.Nothing)
 
-abbrev pub moved : WorldOf → Event → WorldOf × Note
-moved world (event.From r place) = heard_from world r place (slice_get world.nodes r)
-moved world (event.Give a r) = given_from world r (slice_get world.nodes a)
-moved world (event.Audit a b) =
-    (world, audited (bank_of world) a b (slice_get world.nodes a) (slice_get world.nodes b))
-moved world other = replica_move world other (replica_of other)
+abbrev pub world_move : WorldOf → Event → WorldOf × Note
+world_move world (event.From r position) = from_move world r position (slice_get world.nodes r)
+world_move world (event.Give a r) = give_move world r (slice_get world.nodes a)
+world_move world (event.Audit a b) =
+    (world, audit_if (bank_of world) a b (slice_get world.nodes a) (slice_get world.nodes b))
+world_move world other = replica_move world other (replica_of other)
 
 -- the donor of a replica's state, as the sequencer names it
-abbrev pub IsDonorNoted : SequencerOf → ℕ → Note → Type 0
-IsDonorNoted s r (note.Donor donor size) = IsDonor s r (Some (donor, size))
-IsDonorNoted s r note.Nothing = IsDonor s r None
-IsDonorNoted s r other = ⊥
+abbrev pub IsDonorNote : SequencerOf → ℕ → Note → Type 0
+IsDonorNote s r (note.Donor donor size) = IsDonor s r (Some (donor, size))
+IsDonorNote s r note.Nothing = IsDonor s r None
+IsDonorNote s r other = ⊥
 
 -- the machine goes from the old world to the new one by this event, with this note
 abbrev pub Moves : WorldOf → Event → Note → WorldOf → Type 0
 Moves old (event.Ask client request call) note new =
     Asks old (record { client = client; request = request }, call) note new
-Moves old (event.Donor r) note new = IsDonorNoted old.sequencer r note × (new ≡ old)
-Moves old other note new = moved old other ≡ (new, note)
+Moves old (event.Donor r) note new = IsDonorNote old.sequencer r note × (new ≡ old)
+Moves old other note new = world_move old other ≡ (new, note)
 
 -- ---- when memory may be refused
 
@@ -170,14 +170,14 @@ adds_up other = false
 -- the notes on what may take memory: a frame is sent, an entry accepted, a cut made, a checkpoint
 -- put or gone back to, a state given or read, or the books are added up
 abbrev pub may_take_memory : Note → Bool
-may_take_memory (note.Sent place) = true
+may_take_memory (note.Sent position) = true
 may_take_memory (note.Resent count) = nat_lt 0 count
 may_take_memory (note.Accepted number) = true
 may_take_memory (note.Cut size) = true
 may_take_memory (note.Marked size) = true
 may_take_memory note.StoreFault = true
 may_take_memory (note.Restarted size) = true
-may_take_memory (note.Gave place) = true
+may_take_memory (note.Gave position) = true
 may_take_memory (note.Adopted size) = true
 may_take_memory (note.Behind size) = true
 may_take_memory (note.Audit found) = adds_up found
@@ -189,13 +189,13 @@ may_take_memory other = false
 -- one of these
 abbrev pub MayWantMemory : WorldOf → Event → Type 0
 MayWantMemory world (event.Ask client request call) =
-    IsAnswered world.sequencer.log (record { client = client; request = request }, call) (Err OutOfMemory)
+    AnswersAsk world.sequencer.log (record { client = client; request = request }, call) (Err OutOfMemory)
 MayWantMemory world (event.Take r worker index) = ⊥
 MayWantMemory world (event.Finish r worker) = ⊥
-MayWantMemory world (event.From r place) = ⊥
+MayWantMemory world (event.From r position) = ⊥
 MayWantMemory world (event.Donor r) = ⊥
 MayWantMemory world (event.Give a r) = (a < length world.nodes) × (r < length world.nodes)
-MayWantMemory world other = IsTrue (may_take_memory (moved world other).1)
+MayWantMemory world other = IsTrue (may_take_memory (world_move world other).1)
 
 -- memory may be refused to the next event; after the last one there is none
 abbrev pub NextMayWantMemory : WorldOf → Option Event → Type 0

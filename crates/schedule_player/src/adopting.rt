@@ -1,10 +1,10 @@
 //! A replica's state goes to another one.
 ghost use Rattle.std.specs.Prelude.{◌≡◌, ℕ, IfOk};
 ghost use Rattle.std.specs.Option.{option_map};
-ghost use Rattle.sb_checkpoint.specs.Reading.{stated_length};
+ghost use Rattle.sb_checkpoint.specs.Reading.{stated_reply_count};
 ghost use Rattle.schedule_player.specs.Bank.{BankOf};
-ghost use Rattle.schedule_player.specs.NodeAlong.{HasState, IsNodeAt, IsStateAlong, Steps, seen_node};
-ghost use Rattle.schedule_player.specs.ReplicaMoves.{adopted, given, told_kept};
+ghost use Rattle.schedule_player.specs.inner.NodeInvariant.{HasState, IsNodeAt, IsStateOfLog, Steps, machine_node};
+ghost use Rattle.schedule_player.specs.ReplicaMoves.{adopt_move, receive_move, have_move};
 
 use crate::fault::StepFault;
 use crate::node::Node;
@@ -15,12 +15,12 @@ impl Node {
     /// The replica sends the length of the checkpoint that it keeps.
     pub fn have(&mut self) -> Result<Note, StepFault>
         ensures { (bank : BankOf) (r : ℕ) → IsNodeAt bank r self.old
-            → Steps bank r self.old self.new result (told_kept (seen_node self.old) r) }
+            → Steps bank r self.old self.new result (have_move (machine_node self.old) r) }
     {
         match self.replica.have_frame() {
             Ok(frame) => {
-                let place = self.outbound.send(&frame)?;
-                Ok(Note::Sent(place))
+                let position = self.outbound.send(&frame)?;
+                Ok(Note::Sent(position))
             }
             // A store in memory never fails, and holds what was put.
             Err(_) => Err(StepFault::OutOfMemory),
@@ -31,8 +31,8 @@ impl Node {
     /// it is.
     pub fn state(&mut self) -> Result<Option<Vec<u8>>, StepFault>
         ensures same { self.new ≡ self.old }
-        ensures kept { (bank : BankOf) (r : ℕ) → IsNodeAt bank r self.old
-            → IfOk result (λ state. HasState bank (seen_node self.old)
+        ensures has_state { (bank : BankOf) (r : ℕ) → IsNodeAt bank r self.old
+            → IfOk result (λ state. HasState bank (machine_node self.old)
             (option_map (λ bytes. bytes.items) state)) }
     {
         match self.replica.kept_state() {
@@ -45,21 +45,21 @@ impl Node {
 
     /// A state is sent to the replica.
     pub fn receive(&mut self, bytes: Vec<u8>) -> Result<Note, StepFault>
-        ensures { (bank : BankOf) (r : ℕ) → IsNodeAt bank r self.old → IsStateAlong bank bytes.items
+        ensures { (bank : BankOf) (r : ℕ) → IsNodeAt bank r self.old → IsStateOfLog bank bytes.items
             → Steps bank r self.old self.new result
-            (given (seen_node self.old) (stated_length bytes.items)) }
+            (receive_move (machine_node self.old) (stated_reply_count bytes.items)) }
     {
-        let place = self.states.send(bytes)?;
-        Ok(Note::Gave(place))
+        let position = self.states.send(bytes)?;
+        Ok(Note::Gave(position))
     }
 
-    /// The replica adopts the state at a place of those that were sent to it, if that has more
+    /// The replica adopts the state at a position of those that were sent to it, if that has more
     /// entries than its log. Hands and frames stay.
-    pub fn adopt(&mut self, place: u32) -> Result<Note, StepFault>
+    pub fn adopt(&mut self, position: u32) -> Result<Note, StepFault>
         ensures { (bank : BankOf) (r : ℕ) → IsNodeAt bank r self.old
-            → Steps bank r self.old self.new result (adopted (seen_node self.old) place) }
+            → Steps bank r self.old self.new result (adopt_move (machine_node self.old) position) }
     {
-        let Some(bytes) = self.states.get(place) else {
+        let Some(bytes) = self.states.get(position) else {
             return Ok(Note::Nothing);
         };
         match self.replica.adopt(bytes) {

@@ -5,7 +5,7 @@ ghost use Rattle.sb_calls.specs.Log.{replies_to};
 ghost use Rattle.schedule_player.specs.Bank.{opening_rows};
 ghost use Rattle.schedule_player.specs.Books.{IsRowsAt};
 ghost use Rattle.schedule_player.specs.ReplicaMoves.{NodeOf};
-ghost use Rattle.schedule_player.specs.World.{MayWantMemory, bank_of, books_after, compared};
+ghost use Rattle.schedule_player.specs.World.{MayWantMemory, bank_of, books_after, audit_result};
 ghost use Rattle.schedule_text.specs.declared.event.Event.TheVariants as event;
 
 use crate::fault::StepFault;
@@ -38,8 +38,8 @@ fn first_calls(alloc: Global, sequencer: &Sequencer, count: usize) -> Result<Vec
     ensures { IfOk result (λ calls. calls.items ≡ take count (map (λ entry. entry.1) sequencer.now.log)) }
 {
     let mut calls = Vec::with_capacity(alloc, count)?;
-    for place in 0..count {
-        let Some(call) = sequencer.call(place as u64 + 1) else {
+    for index in 0..count {
+        let Some(call) = sequencer.call(index as u64 + 1) else {
             unreachable!();
         };
         calls.push(*call)?;
@@ -51,7 +51,7 @@ impl World {
     // The bank's total with the number of overdrawn customers, or that the total isn't what the
     // opening and the calls make it.
     fn books(&self, columns: &Columns, replies: &[Reply]) -> Result<AuditNote, AllocError>
-        requires few { length replies.now ≤ length self.now.sequencer.log }
+        requires limit { length replies.now ≤ length self.now.sequencer.log }
         requires rows { IsRowsAt (bank_of self.now) (length replies.now) columns.now }
         requires replies { replies.now ≡ take (length replies.now)
             (replies_to (opening_rows (bank_of self.now)) (bank_of self.now).calls) }
@@ -74,15 +74,15 @@ impl World {
         requires replicas { (first < length self.now.nodes) × (second < length self.now.nodes) }
         ensures value { (one other : NodeOf) → slice_get self.now.nodes first ≡ Some one
             → slice_get self.now.nodes second ≡ Some other
-            → IfOk result (λ found. found ≡ compared (bank_of self.now) first second one other) }
+            → IfOk result (λ found. found ≡ audit_result (bank_of self.now) first second one other) }
         ensures wanted { OnErr result (MayWantMemory self.now (event.Audit first second)) }
     {
         let one = &self.nodes[first as usize].replica;
         let other = &self.nodes[second as usize].replica;
-        let Some(left) = one.settled_columns() else {
+        let Some(left) = one.final_columns() else {
             return Ok(AuditNote::Busy(first));
         };
-        let Some(right) = other.settled_columns() else {
+        let Some(right) = other.final_columns() else {
             return Ok(AuditNote::Busy(second));
         };
         if one.length() != other.length() {

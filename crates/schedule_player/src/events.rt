@@ -1,7 +1,7 @@
 //! What an event does at its replica.
 ghost use Rattle.std.specs.Prelude.{◌≡◌, ℕ, ◌<◌, Some, List};
 ghost use Rattle.sb_rows.specs.Balances.{Balances};
-ghost use Rattle.schedule_player.specs.NodeAlong.{IsNodeAt, Steps, seen_node};
+ghost use Rattle.schedule_player.specs.inner.NodeInvariant.{IsNodeAt, Steps, machine_node};
 ghost use Rattle.schedule_player.specs.ReplicaEvents.{node_move, replica_of};
 ghost use Rattle.schedule_player.specs.World.{bank_with};
 
@@ -16,12 +16,12 @@ impl Node {
         ensures { (names : List (List ℕ)) (opening : Balances) (r : ℕ) → r < REPLICAS → replica_of event ≡ Some r
             → IsNodeAt (bank_with names opening sequencer.now.log) r self.old
             → Steps (bank_with names opening sequencer.now.log) r self.old self.new result
-            (node_move (bank_with names opening sequencer.now.log) sequencer.now (seen_node self.old) event) }
+            (node_move (bank_with names opening sequencer.now.log) sequencer.now (machine_node self.old) event) }
     {
         match event {
             Event::Send { number, .. } => self.send(number, sequencer),
             Event::Resend { replica } => self.resend(replica, sequencer),
-            Event::To { place, .. } => self.deliver(place),
+            Event::To { position, .. } => self.deliver(position),
             Event::Ack { .. } => self.acknowledge(),
             Event::Answer { number, .. } => self.answer(number),
             Event::Take { worker, index, .. } => Ok(self.take(worker, index)),
@@ -31,7 +31,7 @@ impl Node {
             Event::Cut { .. } => self.cut(),
             Event::Next { .. } => self.advance(),
             Event::Have { .. } => self.have(),
-            Event::Adopt { place, .. } => self.adopt(place),
+            Event::Adopt { position, .. } => self.adopt(position),
             Event::Ask { .. }
             | Event::From { .. }
             | Event::Donor { .. }

@@ -1,7 +1,8 @@
 //! Why an event isn't played, why a list of events isn't played to its end, and why a schedule
 //! isn't played.
 ghost use Rattle.std.specs.Prelude.{◌≡◌};
-ghost use Rattle.schedule_player.specs.ScheduleFaults.{of_read_fault, of_text_fault, schedule_fault_number};
+ghost use Rattle.schedule_player.specs.inner.FaultConversions.{schedule_read_fault, schedule_text_fault};
+ghost use Rattle.schedule_player.specs.ScheduleFaults.{schedule_fault_number};
 ghost use Rattle.schedule_player.specs.declared.fault.ScheduleFault.TheVariants as schedule;
 
 use sb_text::ReadFault;
@@ -64,7 +65,7 @@ impl ScheduleFault {
 }
 
 impl From<ReadFault> for ScheduleFault {
-    ghost from_gives = { λ read fault. fault ≡ of_read_fault read };
+    ghost from_gives = { λ read fault. fault ≡ schedule_read_fault read };
 
     fn from(read: ReadFault) -> ScheduleFault {
         match read {
@@ -75,7 +76,7 @@ impl From<ReadFault> for ScheduleFault {
 }
 
 impl From<TextFault> for ScheduleFault {
-    ghost from_gives = { λ text fault. fault ≡ of_text_fault text };
+    ghost from_gives = { λ text fault. fault ≡ schedule_text_fault text };
 
     fn from(text: TextFault) -> ScheduleFault {
         match text {

@@ -3,8 +3,8 @@ ghost use Rattle.std.specs.Prelude.{◌≡◌, ◌+◌, ◌<◌, ◌≤◌, None
 ghost use Rattle.std.specs.Option.{option_copied};
 ghost use Rattle.sb_frames.specs.Grammar.{Spells};
 ghost use Rattle.sb_frames.specs.declared.frame.Frame.{Frame as AnyFrame};
-ghost use Rattle.schedule_player.specs.Numbered.{numbered, Every};
-ghost use Rattle.schedule_player.specs.Seen.{frame_in, IsSpelled};
+ghost use Rattle.schedule_player.specs.OneBased.{nth_item, Every};
+ghost use Rattle.schedule_player.specs.inner.MachineView.{frame_in, IsFrameBytes};
 
 use arrayvec::ArrayVec;
 use sb_frames::{Frame, MAX_FRAME, encode};
@@ -20,29 +20,29 @@ pub(crate) struct Frames {
 impl Model for Frames {
     ghost use Rattle.std.specs.Prelude.{List, map};
     ghost use Rattle.sb_frames.specs.declared.frame.Frame.{Frame as AnyFrame};
-    ghost use Rattle.schedule_player.specs.Numbered.{Every};
-    ghost use Rattle.schedule_player.specs.Seen.{frame_in, IsSpelled};
+    ghost use Rattle.schedule_player.specs.OneBased.{Every};
+    ghost use Rattle.schedule_player.specs.inner.MachineView.{frame_in, IsFrameBytes};
 
     ghost Value = { List AnyFrame };
 
     ghost view = { λ f. map (λ bytes. frame_in bytes.items) f.sent.items };
 
-    ghost invariant = { λ f. Every (λ bytes. IsSpelled bytes.items) f.sent.items };
+    ghost invariant = { λ f. Every (λ bytes. IsFrameBytes bytes.items) f.sent.items };
 }
 
-/// The item at a place, counted from 1.
-pub(crate) fn item_at<T>(items: &[T], place: u32) -> Option<&T>
-    ensures { option_copied result ≡ numbered items.now place }
+/// The item at a position, counted from 1.
+pub(crate) fn item_at<T>(items: &[T], position: u32) -> Option<&T>
+    ensures { option_copied result ≡ nth_item items.now position }
 {
-    let place = place.checked_sub(1)?;
-    items.get(place as usize)
+    let position = position.checked_sub(1)?;
+    items.get(position as usize)
 }
 
 // Appends the bytes of frames, in room that is there.
 fn push_all(sent: &mut Vec<ArrayVec<u8, MAX_FRAME>>, frames: &[Frame])
     requires { length sent.old.items + length frames.now ≤ vec_capacity sent.old }
-    ensures spelled { Every (λ bytes. IsSpelled bytes.items) sent.old.items
-        → Every (λ bytes. IsSpelled bytes.items) sent.new.items }
+    ensures spelled { Every (λ bytes. IsFrameBytes bytes.items) sent.old.items
+        → Every (λ bytes. IsFrameBytes bytes.items) sent.new.items }
     ensures frames { map (λ bytes. frame_in bytes.items) sent.new.items
         ≡ map (λ bytes. frame_in bytes.items) sent.old.items ++ frames.now }
 {
@@ -61,10 +61,10 @@ impl Frames {
         }
     }
 
-    /// Appends a frame, and answers its place, counted from 1.
+    /// Appends a frame, and answers its position, counted from 1.
     pub fn send(&mut self, frame: &Frame) -> Result<u64, AllocError>
-        ensures sent { IfOk result (λ place. self.new ≡ self.old ++ frame.now ∷ []) }
-        ensures place { IfOk result (λ place. place ≡ length self.new) }
+        ensures sent { IfOk result (λ position. self.new ≡ self.old ++ frame.now ∷ []) }
+        ensures position { IfOk result (λ position. position ≡ length self.new) }
         ensures err { OnErr result (self.new ≡ self.old) }
     {
         self.sent.push(encode(frame))?;
@@ -76,19 +76,19 @@ impl Frames {
     pub fn send_all(&mut self, frames: &[Frame]) -> Result<(), AllocError>
         ensures sent { OnOk result (self.new ≡ self.old ++ frames.now) }
         ensures err { OnErr result (self.new ≡ self.old) }
-        ensures some { OnErr result (0 < length frames.now) }
+        ensures nonempty { OnErr result (0 < length frames.now) }
     {
         self.sent.reserve(frames.len())?;
         push_all(&mut self.sent, frames);
         Ok(())
     }
 
-    /// The bytes of the frame at a place, counted from 1.
-    pub fn get(&self, place: u32) -> Option<&[u8]>
-        ensures { MatchOption result (numbered self.now place ≡ None)
-            (λ bytes. (frame : AnyFrame) × (numbered self.now place ≡ Some frame) × Spells frame bytes.now) }
+    /// The bytes of the frame at a position, counted from 1.
+    pub fn get(&self, position: u32) -> Option<&[u8]>
+        ensures { MatchOption result (nth_item self.now position ≡ None)
+            (λ bytes. (frame : AnyFrame) × (nth_item self.now position ≡ Some frame) × Spells frame bytes.now) }
     {
-        let bytes = item_at(&self.sent, place)?;
+        let bytes = item_at(&self.sent, position)?;
         Some(bytes.as_slice())
     }
 }

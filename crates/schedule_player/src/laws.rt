@@ -1,6 +1,6 @@
 //! The replication theorem.
 ghost use Rattle.schedule_player.specs.Headline.{Replication};
-ghost use Rattle.schedule_player.specs.TrueToLog.{RecordedLengths};
+ghost use Rattle.schedule_player.specs.LogAgreement.{RecordedLengths};
 
 /// After every list of events from an opened world, the log is the first asks of these events, in
 /// order. Any two replicas that hold a reply to a number hold the same one, which is that of

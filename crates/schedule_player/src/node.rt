@@ -2,16 +2,17 @@
 ghost use Rattle.std.specs.Prelude.{◌≡◌, ℕ, suc, ◌<◌, ◌≤◌, None, List, length, MatchOption, IfOk};
 ghost use Rattle.sb_rows.specs.Balances.{Balances};
 ghost use Rattle.sb_rows.specs.Rows.{SameCustomers};
-ghost use Rattle.sb_sequencer.specs.Entries.{entry_of, resent};
+ghost use Rattle.sb_sequencer.specs.Entries.{entry_of, entries_to_resend};
 ghost use Rattle.schedule_player.specs.Bank.{BankOf};
-ghost use Rattle.schedule_player.specs.NodeAlong.{Arrives, IsNodeAt, Steps, seen_node};
-ghost use Rattle.schedule_player.specs.Numbered.{copies, numbered};
-ghost use Rattle.schedule_player.specs.ReplicaMoves.{acknowledged, advanced, answered, cut_off, delivered_to, finished_by, marked, note_of_heard, opened_node, restarted, sent, sent_all, taken};
+ghost use Rattle.schedule_player.specs.inner.NodeInvariant.{MovesTo, IsNodeAt, Steps, machine_node};
+ghost use Rattle.schedule_player.specs.OneBased.{copies, nth_item};
+ghost use Rattle.schedule_player.specs.ReplicaMoves.{ack_move, next_move, answer_move, cut_move, deliver_move, finish_move, mark_move, opened_node, restart_move, send_move, resend_move, take_move};
+ghost use Rattle.schedule_player.specs.inner.HeardNotes.{note_of_heard};
 ghost use Rattle.schedule_player.specs.World.{bank_with};
 
 use crate::fault::StepFault;
 use crate::frames::Frames;
-use crate::given::States;
+use crate::sent_states::States;
 use cown_board::{CutFault, Job, Runs};
 use sb_calls::{LOG_CALLS, Op};
 use sb_checkpoint::{How, MemoryStore};
@@ -68,8 +69,8 @@ impl Node {
         workers: usize,
     ) -> Result<Node, AllocError>
         requires { length opening.savings ≡ length directory }
-        ensures seen { IfOk result (λ node. seen_node node ≡ opened_node workers) }
-        ensures along { (bank : BankOf) → (bank.names ≡ directory) → (bank.opening ≡ opening)
+        ensures node { IfOk result (λ node. machine_node node ≡ opened_node workers) }
+        ensures consistent { (bank : BankOf) → (bank.names ≡ directory) → (bank.opening ≡ opening)
             → SameCustomers bank.names bank.opening → length bank.calls ≤ LOG_CALLS
             → IfOk result (IsNodeAt bank id) }
     {
@@ -83,14 +84,14 @@ impl Node {
         })
     }
 
-    // The place of a worker's hand.
+    // The position of a worker's hand.
     fn hand(&self, worker: u32) -> Option<usize>
-        ensures { MatchOption result (numbered self.now.hands.items worker ≡ None)
-            (λ place. (worker ≡ suc place) × (place < length self.now.hands.items)) }
+        ensures { MatchOption result (nth_item self.now.hands.items worker ≡ None)
+            (λ position. (worker ≡ suc position) × (position < length self.now.hands.items)) }
     {
-        let place = worker.checked_sub(1)? as usize;
-        if place < self.hands.len() {
-            Some(place)
+        let position = worker.checked_sub(1)? as usize;
+        if position < self.hands.len() {
+            Some(position)
         } else {
             None
         }
@@ -99,31 +100,31 @@ impl Node {
     /// A worker takes the ready behaviour that has this many ready ones before it.
     pub fn take(&mut self, worker: u32, index: u32) -> Note
         ensures { (bank : BankOf) (r : ℕ) → IsNodeAt bank r self.old
-            → Arrives bank r self.new result (taken bank (seen_node self.old) worker index) }
+            → MovesTo bank r self.new result (take_move bank (machine_node self.old) worker index) }
     {
-        let Some(place) = self.hand(worker) else {
+        let Some(position) = self.hand(worker) else {
             return Note::Nothing;
         };
-        if self.hands[place].is_some() {
+        if self.hands[position].is_some() {
             return Note::HandFull;
         }
         let Some(job) = self.replica.take_at(index as usize) else {
             return Note::Nothing;
         };
         let number = job.number();
-        self.hands[place] = Some(job);
+        self.hands[position] = Some(job);
         Note::Took(number)
     }
 
     /// A worker executes what it has in hand and gives it back. Its hand is empty then.
     pub fn finish(&mut self, worker: u32) -> Note
         ensures { (bank : BankOf) (r : ℕ) → IsNodeAt bank r self.old
-            → Arrives bank r self.new result (finished_by bank (seen_node self.old) worker) }
+            → MovesTo bank r self.new result (finish_move bank (machine_node self.old) worker) }
     {
-        let Some(place) = self.hand(worker) else {
+        let Some(position) = self.hand(worker) else {
             return Note::Nothing;
         };
-        let Some(job) = self.hands[place].take() else {
+        let Some(job) = self.hands[position].take() else {
             return Note::Nothing;
         };
         let number = job.number();
@@ -133,12 +134,12 @@ impl Node {
         Note::Finished(number, reply)
     }
 
-    /// The frame at a place of those that were sent to the replica arrives.
-    pub fn deliver(&mut self, place: u32) -> Result<Note, StepFault>
+    /// The frame at a position of those that were sent to the replica arrives.
+    pub fn deliver(&mut self, position: u32) -> Result<Note, StepFault>
         ensures { (bank : BankOf) (r : ℕ) → IsNodeAt bank r self.old
-            → Steps bank r self.old self.new result (delivered_to (seen_node self.old) place) }
+            → Steps bank r self.old self.new result (deliver_move (machine_node self.old) position) }
     {
-        let Some(bytes) = self.inbound.get(place) else {
+        let Some(bytes) = self.inbound.get(position) else {
             return Ok(Note::Nothing);
         };
         match self.replica.on_frame(bytes) {
@@ -153,13 +154,13 @@ impl Node {
         ensures { (names : List (List ℕ)) (opening : Balances) (r : ℕ)
             → IsNodeAt (bank_with names opening sequencer.now.log) r self.old
             → Steps (bank_with names opening sequencer.now.log) r self.old self.new result
-            (sent (seen_node self.old) (entry_of sequencer.now.log number)) }
+            (send_move (machine_node self.old) (entry_of sequencer.now.log number)) }
     {
         let Some(entry) = sequencer.entry(number as u64) else {
             return Ok(Note::Nothing);
         };
-        let place = self.inbound.send(&entry)?;
-        Ok(Note::Sent(place))
+        let position = self.inbound.send(&entry)?;
+        Ok(Note::Sent(position))
     }
 
     /// Sends the replica the entries that it lacks, by what it last acknowledged: all of them or,
@@ -168,7 +169,7 @@ impl Node {
         ensures { (names : List (List ℕ)) (opening : Balances) (r : ℕ) → replica < REPLICAS
             → IsNodeAt (bank_with names opening sequencer.now.log) r self.old
             → Steps (bank_with names opening sequencer.now.log) r self.old self.new result
-            (sent_all (seen_node self.old) (resent sequencer.now replica)) }
+            (resend_move (machine_node self.old) (entries_to_resend sequencer.now replica)) }
     {
         // There are at most sixteen.
         let Ok(id) = u8::try_from(replica) else {
@@ -182,29 +183,29 @@ impl Node {
     /// The replica sends the length of its log.
     pub fn acknowledge(&mut self) -> Result<Note, StepFault>
         ensures { (bank : BankOf) (r : ℕ) → IsNodeAt bank r self.old
-            → Steps bank r self.old self.new result (acknowledged (seen_node self.old) r) }
+            → Steps bank r self.old self.new result (ack_move (machine_node self.old) r) }
     {
         let frame = self.replica.ack_frame();
-        let place = self.outbound.send(&frame)?;
-        Ok(Note::Sent(place))
+        let position = self.outbound.send(&frame)?;
+        Ok(Note::Sent(position))
     }
 
     /// The replica sends its reply to a number, if it holds one.
     pub fn answer(&mut self, number: u32) -> Result<Note, StepFault>
         ensures { (bank : BankOf) (r : ℕ) → IsNodeAt bank r self.old
-            → Steps bank r self.old self.new result (answered bank (seen_node self.old) number) }
+            → Steps bank r self.old self.new result (answer_move bank (machine_node self.old) number) }
     {
         let Some(frame) = self.replica.answer_frame(number as u64) else {
             return Ok(Note::Nothing);
         };
-        let place = self.outbound.send(&frame)?;
-        Ok(Note::Sent(place))
+        let position = self.outbound.send(&frame)?;
+        Ok(Note::Sent(position))
     }
 
     /// The replica makes a cut, if it has none.
     pub fn cut(&mut self) -> Result<Note, StepFault>
         ensures { (bank : BankOf) (r : ℕ) → IsNodeAt bank r self.old
-            → Steps bank r self.old self.new result (cut_off (seen_node self.old)) }
+            → Steps bank r self.old self.new result (cut_move (machine_node self.old)) }
     {
         match self.replica.cut() {
             Ok(length) => Ok(Note::Cut(length)),
@@ -216,7 +217,7 @@ impl Node {
     /// The replica takes the entry that it holds for its next number, if it holds one.
     pub fn advance(&mut self) -> Result<Note, StepFault>
         ensures { (bank : BankOf) (r : ℕ) → IsNodeAt bank r self.old
-            → Steps bank r self.old self.new result (advanced (seen_node self.old)) }
+            → Steps bank r self.old self.new result (next_move (machine_node self.old)) }
     {
         match self.replica.advance() {
             Ok(Some(heard)) => Ok(heard_note(heard)),
@@ -228,7 +229,7 @@ impl Node {
     /// The replica puts a checkpoint, and the put ends in this way.
     pub fn mark(&mut self, how: How) -> Result<Note, StepFault>
         ensures { (bank : BankOf) (r : ℕ) → IsNodeAt bank r self.old
-            → Steps bank r self.old self.new result (marked (seen_node self.old) how) }
+            → Steps bank r self.old self.new result (mark_move (machine_node self.old) how) }
     {
         self.replica.tell(how);
         match self.replica.mark() {
@@ -242,7 +243,7 @@ impl Node {
     /// The replica goes back to its checkpoint. Hands and frames stay.
     pub fn restart(&mut self) -> Result<Note, StepFault>
         ensures { (bank : BankOf) (r : ℕ) → IsNodeAt bank r self.old
-            → Steps bank r self.old self.new result (restarted (seen_node self.old)) }
+            → Steps bank r self.old self.new result (restart_move (machine_node self.old)) }
     {
         match self.replica.restart() {
             Ok(length) => Ok(Note::Restarted(length)),

@@ -2,12 +2,12 @@
 ghost use Rattle.std.specs.Prelude.{◌≡◌, ℕ, ◌+◌, ◌<◌, ◌≤◌, ◌↔◌, true, false, Some, None, length, slice_get, IsTrue, IfOk, IfSome, MatchOption};
 ghost use Rattle.std.specs.Option.{option_copied};
 ghost use Rattle.sb_sequencer.specs.Notes.{answer_of};
-ghost use Rattle.sb_sequencer.specs.Numbering.{call_at, place_of_key};
+ghost use Rattle.sb_sequencer.specs.Numbering.{call_of_number, index_of_key};
 ghost use Rattle.schedule_player.specs.Bank.{log_reply};
 ghost use Rattle.schedule_player.specs.Books.{IsRowsAt, IsStateAt};
-ghost use Rattle.schedule_player.specs.Observed.{idle_at, length_at, reply_at, state_at};
-ghost use Rattle.schedule_player.specs.Played.{IsPlayed, bank_after};
-ghost use Rattle.schedule_player.specs.TrueToLog.{IsTrueToLog};
+ghost use Rattle.schedule_player.specs.Observers.{idle_at, length_at, reply_at_replica, state_at};
+ghost use Rattle.schedule_player.specs.EventLists.{IsWorldAfter, bank_after};
+ghost use Rattle.schedule_player.specs.LogAgreement.{WorldAgreesWithLog};
 ghost use Rattle.schedule_player.specs.World.{bank_of};
 ghost use Rattle.schedule_text.specs.ScheduleText.{ScheduleOf};
 
@@ -21,10 +21,10 @@ impl World {
     /// The number of replicas, at most sixteen.
     pub fn replicas(&self) -> u32
         ensures value { result ≡ length self.now.nodes }
-        ensures few { result ≤ REPLICAS }
+        ensures limit { result ≤ REPLICAS }
         // Whatever happened, no replica is ahead of the log, and all frames, states and answers are
         // the log's.
-        ensures true_to_log { IsTrueToLog self.now }
+        ensures agrees_with_log { WorldAgreesWithLog self.now }
     {
         self.nodes.len() as u32
     }
@@ -56,9 +56,9 @@ impl World {
     pub fn reply(&self, replica: u32, number: u64) -> Option<Reply>
         requires { replica < length self.now.nodes }
         // If the number is done it is the log's, and otherwise there is none.
-        ensures value { result ≡ reply_at self.now replica number }
+        ensures value { result ≡ reply_at_replica self.now replica number }
         // After whatever schedule, it is the reply of the first asks run one by one.
-        ensures by_log { (schedule : ScheduleOf) → IsPlayed schedule self.now
+        ensures by_log { (schedule : ScheduleOf) → IsWorldAfter schedule self.now
             → IfSome result (λ reply. log_reply (bank_after schedule) number ≡ Some reply) }
     {
         self.nodes[replica as usize].replica.reply(number)
@@ -73,32 +73,32 @@ impl World {
         ensures rows { IfSome result (λ columns. (size : ℕ) → length_at self.now replica ≡ Some size
             → IsRowsAt (bank_of self.now) size columns.now) }
         // After whatever schedule, these calls are the first asks of its events.
-        ensures by_log { (schedule : ScheduleOf) → IsPlayed schedule self.now
+        ensures by_log { (schedule : ScheduleOf) → IsWorldAfter schedule self.now
             → IfSome result (λ columns. (size : ℕ) → length_at self.now replica ≡ Some size
             → IsRowsAt (bank_after schedule) size columns.now) }
     {
-        self.nodes[replica as usize].replica.settled_columns()
+        self.nodes[replica as usize].replica.final_columns()
     }
 
-    /// The bytes of the state at a place, counted from 1, among all that were ever sent to a
+    /// The bytes of the state at a position, counted from 1, among all that were ever sent to a
     /// replica.
-    pub fn state(&self, replica: u32, place: u32) -> Option<&[u8]>
+    pub fn state(&self, replica: u32, position: u32) -> Option<&[u8]>
         requires { replica < length self.now.nodes }
         // They are the bank's checkpoint after as many calls of the log as the machine says.
-        ensures value { MatchOption result (state_at self.now replica place ≡ None) (λ bytes.
-            (size : ℕ) × (state_at self.now replica place ≡ Some size)
+        ensures value { MatchOption result (state_at self.now replica position ≡ None) (λ bytes.
+            (size : ℕ) × (state_at self.now replica position ≡ Some size)
             × IsStateAt (bank_of self.now) size bytes.now) }
         // After whatever schedule, these calls are the first asks of its events.
-        ensures by_log { (schedule : ScheduleOf) → IsPlayed schedule self.now
-            → IfSome result (λ bytes. (size : ℕ) → state_at self.now replica place ≡ Some size
+        ensures by_log { (schedule : ScheduleOf) → IsWorldAfter schedule self.now
+            → IfSome result (λ bytes. (size : ℕ) → state_at self.now replica position ≡ Some size
             → IsStateAt (bank_after schedule) size bytes.now) }
     {
-        self.nodes[replica as usize].states.get(place)
+        self.nodes[replica as usize].states.get(position)
     }
 
     /// The call with this number in the log.
     pub fn call(&self, number: u64) -> Option<&Call>
-        ensures { option_copied result ≡ call_at self.now.sequencer.log number }
+        ensures { option_copied result ≡ call_of_number self.now.sequencer.log number }
     {
         self.sequencer.call(number)
     }
@@ -107,9 +107,9 @@ impl World {
     pub fn answer_of(&self, client: u32, request: u32) -> Option<Reply>
         ensures value { result ≡ answer_of self.now.sequencer (record { client = client; request = request }) }
         // It is the log's reply to the number of the request.
-        ensures by_log { IfSome result (λ reply. (place : ℕ)
-            → place_of_key self.now.sequencer.log (record { client = client; request = request }) ≡ Some place
-            → log_reply (bank_of self.now) (place + 1) ≡ Some reply) }
+        ensures by_log { IfSome result (λ reply. (index : ℕ)
+            → index_of_key self.now.sequencer.log (record { client = client; request = request }) ≡ Some index
+            → log_reply (bank_of self.now) (index + 1) ≡ Some reply) }
     {
         self.sequencer.answer_of(client, request)
     }

@@ -1,11 +1,12 @@
 //! A whole schedule: its output is a stated function of its input.
 ghost use Rattle.std.specs.Prelude.{◌≡◌, List, IfSome, IfErr, OnOk, MatchResult};
 ghost use Rattle.sb_rows.specs.Text.{unlines};
-ghost use Rattle.schedule_player.specs.Played.{Plays};
+ghost use Rattle.schedule_player.specs.EventLists.{PlaysEvents};
 ghost use Rattle.schedule_player.specs.RunText.{HasOutput, IsOutput, WritesOutput, played_lines};
-ghost use Rattle.schedule_player.specs.ScheduleFaults.{Blames, BlamesText, WritesNothing};
+ghost use Rattle.schedule_player.specs.ScheduleFaults.{BlamesSchedule, WritesNothing};
+ghost use Rattle.schedule_player.specs.inner.FaultConversions.{BlamesScheduleText};
 ghost use Rattle.schedule_player.specs.declared.fault.ScheduleFault.TheVariants as faults;
-ghost use Rattle.schedule_text.specs.Reads.{schedule_seen};
+ghost use Rattle.schedule_text.specs.ScheduleReading.{schedule_value};
 ghost use Rattle.schedule_text.specs.ScheduleText.{schedule_of};
 ghost use Rattle.schedule_text.specs.declared.note.Note.{Note as AnyNote};
 
@@ -36,7 +37,7 @@ pub fn run_schedule<R: Read, W: Write>(
         WritesOutput (schedule_of input) (W.contents writer.old) (W.contents writer.new))) }
     // A line's fault is the first of the input.
     ensures first { IfErr result (λ fault. IfSome (R.remaining reader.old) (λ input.
-        Blames fault (schedule_of input))) }
+        BlamesSchedule fault (schedule_of input))) }
     // Nothing was written after a line's fault.
     ensures unwritten { IfErr result (λ fault.
         WritesNothing fault (W.contents writer.old) (W.contents writer.new)) }
@@ -53,7 +54,7 @@ pub fn run_schedule<R: Read, W: Write>(
 fn output_text(alloc: Global, text: &[u8]) -> Result<Vec<u8>, ScheduleFault>
     ensures { MatchResult result
         (λ output. HasOutput (schedule_of text.now) output.items)
-        (λ fault. BlamesText fault (schedule_of text.now)) }
+        (λ fault. BlamesScheduleText fault (schedule_of text.now)) }
 {
     let schedule = read_schedule(alloc, text)?;
     output_of(alloc, schedule)
@@ -62,7 +63,7 @@ fn output_text(alloc: Global, text: &[u8]) -> Result<Vec<u8>, ScheduleFault>
 // The output of a schedule that was read.
 fn output_of(alloc: Global, schedule: Schedule) -> Result<Vec<u8>, ScheduleFault>
     ensures { MatchResult result
-        (λ output. IsOutput (schedule_seen schedule) output.items)
+        (λ output. IsOutput (schedule_value schedule) output.items)
         (λ fault. fault ≡ faults.OutOfMemory) }
 {
     let Schedule {
@@ -83,7 +84,7 @@ fn play_and_list(
     events: &[Event],
 ) -> Result<Vec<u8>, ScheduleFault>
     ensures { MatchResult result
-        (λ output. (notes : List AnyNote) × (Plays world.old events.now notes world.new
+        (λ output. (notes : List AnyNote) × (PlaysEvents world.old events.now notes world.new
         × (output.items ≡ unlines (played_lines notes world.new))))
         (λ fault. fault ≡ faults.OutOfMemory) }
 {

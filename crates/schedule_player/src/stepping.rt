@@ -1,7 +1,7 @@
 //! Events, one after another.
 ghost use Rattle.std.specs.Prelude.{◌≡◌, ◌⊎◌, ◌<◌, List, [], ◌∷◌, take, length, slice_get, IfOk, IfErr, OnErr, IsTrue};
-ghost use Rattle.schedule_player.specs.Comes.{may_come};
-ghost use Rattle.schedule_player.specs.Played.{IsPlayed, Plays, with_events};
+ghost use Rattle.schedule_player.specs.PossibleNotes.{may_occur};
+ghost use Rattle.schedule_player.specs.EventLists.{IsWorldAfter, PlaysEvents, with_events};
 ghost use Rattle.schedule_player.specs.World.{MayWantMemory, Moves, NextMayWantMemory};
 ghost use Rattle.schedule_text.specs.ScheduleText.{ScheduleOf};
 ghost use Rattle.schedule_text.specs.declared.event.Event.TheVariants as event;
@@ -38,7 +38,7 @@ impl World {
                 request,
                 call,
             } => self.ask(client, request, &call),
-            Event::From { replica, place } => Ok(self.hear(replica, place)),
+            Event::From { replica, position } => Ok(self.receive_report(replica, position)),
             Event::Donor { replica } => Ok(self.donor(replica)),
             Event::Give { donor, replica } => self.give(donor, replica),
             Event::Audit { first, second } => self.compare(first, second),
@@ -54,7 +54,7 @@ impl World {
             | Event::Cut { replica }
             | Event::Next { replica }
             | Event::Have { replica }
-            | Event::Adopt { replica, .. } => self.at(replica, event),
+            | Event::Adopt { replica, .. } => self.replica_step(replica, event),
         }
     }
 
@@ -70,10 +70,10 @@ impl World {
         ensures wanted { OnErr result (MayWantMemory self.old event) }
         ensures replicas { length self.new.nodes ≡ length self.old.nodes }
         // No note is ever odd, unknown, different or off the books.
-        ensures comes { IfOk result (λ note. IsTrue (may_come note)) }
+        ensures may_occur { IfOk result (λ note. IsTrue (may_occur note)) }
         // After whatever schedule, the new world is the one after that schedule and this event.
-        ensures played { (schedule : ScheduleOf) → IsPlayed schedule self.old
-            → IfOk result (λ _. IsPlayed (with_events schedule (event ∷ [])) self.new) }
+        ensures played { (schedule : ScheduleOf) → IsWorldAfter schedule self.old
+            → IfOk result (λ _. IsWorldAfter (with_events schedule (event ∷ [])) self.new) }
     {
         self.moves(event)
     }
@@ -85,17 +85,17 @@ impl World {
 /// for the notes. The fault has the number of events that happened before.
 pub fn play(alloc: Global, world: &mut World, events: &[Event]) -> Result<Vec<Note>, PlayFault>
     // All events happened, with these notes.
-    ensures plays { IfOk result (λ notes. Plays world.old events.now notes.items world.new) }
+    ensures plays { IfOk result (λ notes. PlaysEvents world.old events.now notes.items world.new) }
     // As many events happened as the fault says, and nothing else; another one follows.
     ensures stopped { IfErr result (λ fault. (fault.done < length events.now)
-        × ((notes : List AnyNote) × Plays world.old (take fault.done events.now) notes world.new)) }
+        × ((notes : List AnyNote) × PlaysEvents world.old (take fault.done events.now) notes world.new)) }
     // Memory may be refused for that one or, before the first, for the list of notes.
     ensures wanted { IfErr result (λ fault. (fault.done ≡ 0)
         ⊎ NextMayWantMemory world.new (slice_get events.now fault.done)) }
     ensures replicas { length world.new.nodes ≡ length world.old.nodes }
     // After whatever schedule, the new world is the one after that schedule and these events.
-    ensures played { (schedule : ScheduleOf) → IsPlayed schedule world.old
-        → IfOk result (λ _. IsPlayed (with_events schedule events.now) world.new) }
+    ensures played { (schedule : ScheduleOf) → IsWorldAfter schedule world.old
+        → IfOk result (λ _. IsWorldAfter (with_events schedule events.now) world.new) }
 {
     let mut notes = Vec::with_capacity(alloc, events.len()).map_err(|_| PlayFault { done: 0 })?;
     // The checker takes the event apart, and needs the types spelled out.

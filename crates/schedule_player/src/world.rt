@@ -1,13 +1,13 @@
 //! A sequencer, its replicas, and what each event does to them.
 ghost use Rattle.std.specs.Prelude.{◌≡◌, Some, Err, slice_get, IfOk, OnErr};
-ghost use Rattle.sb_sequencer.specs.Answer.{IsAnswered};
+ghost use Rattle.sb_sequencer.specs.Answer.{AnswersAsk};
 ghost use Rattle.sb_sequencer.specs.declared.answer.AskFault.TheVariants as fault;
 ghost use Rattle.schedule_player.specs.ReplicaEvents.{replica_of};
-ghost use Rattle.schedule_player.specs.World.{Asks, MayWantMemory, heard_from, replica_move};
+ghost use Rattle.schedule_player.specs.World.{Asks, MayWantMemory, from_move, replica_move};
 
 use crate::fault::StepFault;
-use crate::hearing::hear;
 use crate::node::Node;
+use crate::receiving::receive_report;
 use sb_calls::Call;
 use sb_rows::{Columns, Directory};
 use sb_sequencer::{AskFault, Numbered, Sequencer};
@@ -28,9 +28,9 @@ pub struct World {
 
 impl Model for World {
     ghost use Rattle.std.specs.Prelude.{map};
-    ghost use Rattle.schedule_player.specs.NodeAlong.{seen_node};
+    ghost use Rattle.schedule_player.specs.inner.NodeInvariant.{machine_node};
     ghost use Rattle.schedule_player.specs.World.{WorldOf};
-    ghost use Rattle.schedule_player.specs.WorldAlong.{IsWorld};
+    ghost use Rattle.schedule_player.specs.inner.WorldInvariant.{IsWorld};
 
     ghost Value = { WorldOf };
 
@@ -38,7 +38,7 @@ impl Model for World {
       names = w.directory;
       opening = w.opening;
       sequencer = w.sequencer;
-      nodes = map seen_node w.nodes.items;
+      nodes = map machine_node w.nodes.items;
     } };
 
     ghost invariant = { λ w. IsWorld w.directory w.opening w.sequencer w.nodes.items };
@@ -51,7 +51,7 @@ impl World {
             Asks self.old (record { client = client; request = request }, call.now) note self.new) }
         ensures err { OnErr result (self.new ≡ self.old) }
         ensures wanted { OnErr result
-            (IsAnswered self.old.sequencer.log (record { client = client; request = request }, call.now)
+            (AnswersAsk self.old.sequencer.log (record { client = client; request = request }, call.now)
             (Err fault.OutOfMemory)) }
     {
         match self.sequencer.ask(client, request, call) {
@@ -64,20 +64,20 @@ impl World {
     }
 
     /// A frame that a replica sent arrives at the sequencer.
-    pub(crate) fn hear(&mut self, replica: u32, place: u32) -> Note
-        ensures { heard_from self.old replica place (slice_get self.old.nodes replica) ≡ (self.new, result) }
+    pub(crate) fn receive_report(&mut self, replica: u32, position: u32) -> Note
+        ensures { from_move self.old replica position (slice_get self.old.nodes replica) ≡ (self.new, result) }
     {
         let Some(node) = self.nodes.get(replica as usize) else {
             return Note::Nothing;
         };
-        let Some(bytes) = node.outbound.get(place) else {
+        let Some(bytes) = node.outbound.get(position) else {
             return Note::Nothing;
         };
-        hear(&mut self.sequencer, bytes)
+        receive_report(&mut self.sequencer, bytes)
     }
 
     /// An event happens at its replica. If that doesn't exist, nothing happens.
-    pub(crate) fn at(&mut self, replica: u32, event: Event) -> Result<Note, StepFault>
+    pub(crate) fn replica_step(&mut self, replica: u32, event: Event) -> Result<Note, StepFault>
         requires { replica_of event ≡ Some replica }
         ensures moves { IfOk result (λ note. replica_move self.old event (Some replica) ≡ (self.new, note)) }
         ensures err { OnErr result (self.new ≡ self.old) }

@@ -21,15 +21,18 @@ fn takes_what_is_held(rt: &impl Abort, world: &mut World, after: u32) -> u32 {
 }
 
 // An entry comes after this many were accepted; answers how many are now.
-fn comes(rt: &impl Abort, world: &mut World, place: u32, accepted: u32) -> u32 {
+fn comes(rt: &impl Abort, world: &mut World, position: u32, accepted: u32) -> u32 {
     assert!(rt; accepted < ENTRIES);
-    let note = world.step(Event::To { replica: 0, place });
-    if place > accepted + 1 {
-        assert!(rt; note == Ok(Note::Held(u64::from(place))));
+    let note = world.step(Event::To {
+        replica: 0,
+        position,
+    });
+    if position > accepted + 1 {
+        assert!(rt; note == Ok(Note::Held(u64::from(position))));
         return accepted;
     }
-    assert!(rt; note == Ok(Note::Accepted(u64::from(place))));
-    takes_what_is_held(rt, world, place)
+    assert!(rt; note == Ok(Note::Accepted(u64::from(position))));
+    takes_what_is_held(rt, world, position)
 }
 
 // The next number of a linear generator.

@@ -22,7 +22,7 @@ fn reads_a_line_of_each_event(rt: HostRuntime) {
     };
     let to = Event::To {
         replica: 2,
-        place: 6,
+        position: 6,
     };
     let answer = Event::Answer {
         replica: 4,
@@ -30,7 +30,7 @@ fn reads_a_line_of_each_event(rt: HostRuntime) {
     };
     let from = Event::From {
         replica: 5,
-        place: 8,
+        position: 8,
     };
     let take = Event::Take {
         replica: 6,
@@ -72,7 +72,7 @@ fn reads_a_line_of_each_event_of_states(rt: HostRuntime) {
     };
     let adopt = Event::Adopt {
         replica: 5,
-        place: 4294967295,
+        position: 4294967295,
     };
     for (line, event) in [
         ("have 1", Event::Have { replica: 1 }),

@@ -85,7 +85,7 @@ fn devices_that_fail(rt: HostRuntime) {
 }
 
 // Checks the text of a fault.
-fn is_told(rt: &impl Abort, alloc: Global, fault: &impl Display, text: &str) {
+fn has_text(rt: &impl Abort, alloc: Global, fault: &impl Display, text: &str) {
     let told = fault.to_string(alloc).expect(rt, "memory");
     assert!(rt; told.as_str() == text, "{text}");
 }
@@ -102,7 +102,7 @@ fn numbers_and_texts_of_the_faults_of_a_schedule(rt: HostRuntime) {
         (ScheduleFault::OutOfMemory, 3, "out of memory"),
     ] {
         assert!(rt; fault.number() == number, "{text}");
-        is_told(&rt, rt.alloc(), &fault, text);
+        has_text(&rt, rt.alloc(), &fault, text);
     }
 }
 
@@ -117,7 +117,7 @@ fn texts_of_the_faults_of_an_event(rt: HostRuntime) {
         (EventFault::Call(CallFault::BadName), "bad name"),
         (EventFault::Call(CallFault::BadMoney), "bad money"),
     ] {
-        is_told(&rt, rt.alloc(), &fault, text);
+        has_text(&rt, rt.alloc(), &fault, text);
     }
 }
 
@@ -132,6 +132,6 @@ fn texts_of_the_faults_of_a_text(rt: HostRuntime) {
         (line(10, money), "line 10: bad money"),
         (TextFault::OutOfMemory, "out of memory"),
     ] {
-        is_told(&rt, rt.alloc(), &fault, text);
+        has_text(&rt, rt.alloc(), &fault, text);
     }
 }

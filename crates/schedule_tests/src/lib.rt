@@ -12,11 +12,11 @@ mod disorder;
 #[cfg(test)]
 mod events;
 #[cfg(test)]
-mod every_place;
+mod every_restart;
 #[cfg(test)]
 mod faults;
 #[cfg(test)]
-mod hands;
+mod largest_world;
 #[cfg(test)]
 mod lists;
 #[cfg(test)]

@@ -172,10 +172,10 @@ fn says(rt: &impl Abort, checkpoint: &Checkpoint, columns: &Columns, replies: &[
 
 // Checks that the state at a place of those sent to the second replica has the first one's columns,
 // and these replies.
-fn is_checkpoint(rt: &impl Abort, alloc: Global, world: &World, place: u32, replies: &[Reply]) {
+fn is_checkpoint(rt: &impl Abort, alloc: Global, world: &World, position: u32, replies: &[Reply]) {
     assert!(rt; world.replicas() == 2);
     let columns = world.columns(0).expect(rt, "columns");
-    let bytes = world.state(1, place).expect(rt, "a state");
+    let bytes = world.state(1, position).expect(rt, "a state");
     says(rt, &checkpoint_of(rt, alloc, bytes), columns, replies);
 }
 
@@ -186,9 +186,9 @@ fn are_alike(rt: &impl Abort, world: &World, one: (u32, u32), other: (u32, u32))
 }
 
 // Checks that there is no such state.
-fn is_none(rt: &impl Abort, world: &World, replica: u32, place: u32) {
+fn is_none(rt: &impl Abort, world: &World, replica: u32, position: u32) {
     assert!(rt; replica < world.replicas());
-    assert!(rt; world.state(replica, place).is_none());
+    assert!(rt; world.state(replica, position).is_none());
 }
 
 #[test]
@@ -224,8 +224,8 @@ fn a_state_is_the_checkpoint_as_it_was_sent(rt: HostRuntime) {
     );
     are_alike(&rt, &world, (1, 1), (1, 2));
     are_alike(&rt, &world, (1, 1), (0, 1));
-    for (replica, place) in [(1, 0), (1, 4), (0, 2)] {
-        is_none(&rt, &world, replica, place);
+    for (replica, position) in [(1, 0), (1, 4), (0, 2)] {
+        is_none(&rt, &world, replica, position);
     }
 }
 

@@ -1,6 +1,6 @@
 //! A world plays again what a crew of threads did with a board.
 ghost use Rattle.std.specs.Prelude.{◌≡◌, ◌*◌, length};
-ghost use Rattle.sb_calls.specs.Cowns.{held_of};
+ghost use Rattle.sb_calls.specs.Cowns.{contents_of};
 
 use crate::worlds::{OPENING, accepts, sends, stands_at, world_of};
 use cown_board::Board;
@@ -34,7 +34,7 @@ const CALLS: [&str; 16] = [
 ];
 
 // A board with these calls, none of them executed yet.
-#[tactic(auto, using(sb_calls::proofs::Holding::two_cowns_a_customer))]
+#[tactic(auto, using(sb_calls::proofs::CownColumns::two_cowns_a_customer))]
 fn board_of_calls(rt: &impl Abort, alloc: Global) -> Box<Board<Op>> {
     let opening = read_opening(alloc, OPENING.as_bytes()).expect(rt, "an opening");
     let Opening {
@@ -49,7 +49,7 @@ fn board_of_calls(rt: &impl Abort, alloc: Global) -> Box<Board<Op>> {
 }
 
 fn submit_calls(rt: &impl Abort, board: &mut Board<Op>, directory: &Directory)
-    requires { length (held_of board.old.opening) ≡ 2 * length directory.now }
+    requires { length (contents_of board.old.opening) ≡ 2 * length directory.now }
 {
     for line in CALLS {
         let call = read_call(line.as_bytes()).expect(rt, "a call");
@@ -148,7 +148,7 @@ fn play(rt: &impl Abort, world: &mut World, board: &Board<Op>, notices: &[Notice
 fn is_alike(rt: &impl Abort, world: &World, board: &Board<Op>) {
     assert!(rt; world.replicas() > 0);
     let columns = world.columns(0).expect(rt, "columns");
-    let others = board.settled_columns().expect(rt, "columns");
+    let others = board.final_columns().expect(rt, "columns");
     assert!(rt; columns.savings() == others.savings());
     assert!(rt; columns.checking() == others.checking());
 }

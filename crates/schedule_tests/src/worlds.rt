@@ -73,9 +73,9 @@ pub(crate) fn replies(
 // Client 1 asks for this call this many times, each time as a new request.
 pub(crate) fn asks(rt: &impl Abort, world: &mut World, count: u32, line: &str) {
     let call = read_call(line.as_bytes()).expect(rt, "a call");
-    for place in 0..count {
-        let event = new_ask(place + 1, &call);
-        assert!(rt; world.step(event) == Ok(Note::New(u64::from(place) + 1)));
+    for position in 0..count {
+        let event = new_ask(position + 1, &call);
+        assert!(rt; world.step(event) == Ok(Note::New(u64::from(position) + 1)));
     }
 }
 
@@ -98,8 +98,11 @@ pub(crate) fn sends(rt: &impl Abort, world: &mut World, count: u32) {
 
 // The frames with these places arrive at the first replica, which accepts their entries.
 pub(crate) fn accepts(rt: &impl Abort, world: &mut World, count: u32) {
-    for place in 1..=count {
-        let event = Event::To { replica: 0, place };
-        assert!(rt; world.step(event) == Ok(Note::Accepted(u64::from(place))));
+    for position in 1..=count {
+        let event = Event::To {
+            replica: 0,
+            position,
+        };
+        assert!(rt; world.step(event) == Ok(Note::Accepted(u64::from(position))));
     }
 }

@@ -2,7 +2,7 @@
 use Rattle.std.proofs.Common.{◌≡◌, ℕ, ◌+◌, Result, Ok, Err, List, [], ◌∷◌, ◌++◌, length, refl, ap, subst, ◌∙◌}
 use Rattle.sb_rows.specs.Opening.{◌>>=◌, at_line}
 use Rattle.schedule_text.specs.EventText.{event_of}
-use Rattle.schedule_text.specs.Reads.{Blames}
+use Rattle.schedule_text.specs.inner.LineFaults.{BlamesLine}
 use Rattle.schedule_text.specs.ScheduleText.{events_from, in_events}
 use Rattle.schedule_text.specs.declared.event.Event.{Event}
 use Rattle.schedule_text.specs.declared.fault.EventFault.{EventFault}
@@ -27,9 +27,9 @@ stopped number (Err fault) rest found h =
 
 -- so it ends the events
 pub events_from-fault : (first number : ℕ) (before : List Event) (line : List ℕ) (ls : List (List ℕ)) (all : Result (List Event) (ℕ × EventFault))
-    (fault : TextFault) → all ≡ events_from first before (line ∷ ls) → number ≡ first + length before → Blames fault (in_events (at_line number
+    (fault : TextFault) → all ≡ events_from first before (line ∷ ls) → number ≡ first + length before → BlamesLine fault (in_events (at_line number
     (event_of line)))
-    → Blames fault (in_events all)
+    → BlamesLine fault (in_events all)
 unfolding events_from
 events_from-fault first number before line ls all (Line n f) e at h =
     ap in_events e

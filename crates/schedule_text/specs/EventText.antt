@@ -29,25 +29,25 @@ with_three made (Some a) b c = with_two (made a) b c
 with_three made None b c = Err BadNumber
 
 -- the event that the words after its name say, if it takes one number
-abbrev pub of_one : (ℕ → Event) → List (List ℕ) → Result Event EventFault
-of_one made (a ∷ []) = with_one made (read_number a)
-of_one made [] = Err WrongWords
-of_one made (a ∷ b ∷ more) = Err WrongWords
+abbrev pub event_of_one : (ℕ → Event) → List (List ℕ) → Result Event EventFault
+event_of_one made (a ∷ []) = with_one made (read_number a)
+event_of_one made [] = Err WrongWords
+event_of_one made (a ∷ b ∷ more) = Err WrongWords
 
 -- the same for two numbers
-abbrev pub of_two : (ℕ → ℕ → Event) → List (List ℕ) → Result Event EventFault
-of_two made (a ∷ b ∷ []) = with_two made (read_number a) (read_number b)
-of_two made [] = Err WrongWords
-of_two made (a ∷ []) = Err WrongWords
-of_two made (a ∷ b ∷ c ∷ more) = Err WrongWords
+abbrev pub event_of_two : (ℕ → ℕ → Event) → List (List ℕ) → Result Event EventFault
+event_of_two made (a ∷ b ∷ []) = with_two made (read_number a) (read_number b)
+event_of_two made [] = Err WrongWords
+event_of_two made (a ∷ []) = Err WrongWords
+event_of_two made (a ∷ b ∷ c ∷ more) = Err WrongWords
 
 -- the same for three numbers
-abbrev pub of_three : (ℕ → ℕ → ℕ → Event) → List (List ℕ) → Result Event EventFault
-of_three made (a ∷ b ∷ c ∷ []) = with_three made (read_number a) (read_number b) (read_number c)
-of_three made [] = Err WrongWords
-of_three made (a ∷ []) = Err WrongWords
-of_three made (a ∷ b ∷ []) = Err WrongWords
-of_three made (a ∷ b ∷ c ∷ d ∷ more) = Err WrongWords
+abbrev pub event_of_three : (ℕ → ℕ → ℕ → Event) → List (List ℕ) → Result Event EventFault
+event_of_three made (a ∷ b ∷ c ∷ []) = with_three made (read_number a) (read_number b) (read_number c)
+event_of_three made [] = Err WrongWords
+event_of_three made (a ∷ []) = Err WrongWords
+event_of_three made (a ∷ b ∷ []) = Err WrongWords
+event_of_three made (a ∷ b ∷ c ∷ d ∷ more) = Err WrongWords
 
 -- ---- how a put ends
 
@@ -58,72 +58,72 @@ how_of word =
     else if bytes_eq word (codes "new") then Some how.New
     else None
 
-abbrev pub marks : Option ℕ → Option How → Result Event EventFault
-marks (Some r) (Some how) = Ok (event.Mark r how)
-marks (Some r) None = Err BadNumber
-marks None how = Err BadNumber
+abbrev pub mark_with_how : Option ℕ → Option How → Result Event EventFault
+mark_with_how (Some r) (Some how) = Ok (event.Mark r how)
+mark_with_how (Some r) None = Err BadNumber
+mark_with_how None how = Err BadNumber
 
-abbrev pub of_mark : List (List ℕ) → Result Event EventFault
-of_mark (r ∷ how ∷ []) = marks (read_number r) (how_of how)
-of_mark [] = Err WrongWords
-of_mark (r ∷ []) = Err WrongWords
-of_mark (r ∷ how ∷ c ∷ more) = Err WrongWords
+abbrev pub mark_event : List (List ℕ) → Result Event EventFault
+mark_event (r ∷ how ∷ []) = mark_with_how (read_number r) (how_of how)
+mark_event [] = Err WrongWords
+mark_event (r ∷ []) = Err WrongWords
+mark_event (r ∷ how ∷ c ∷ more) = Err WrongWords
 
 -- ---- an ask: a client's number, which may be 0, its number for the request, and a call
 
-abbrev pub asks : ℕ → ℕ → Result Call CallFault → Result Event EventFault
-asks client request (Ok call) = Ok (event.Ask client request call)
-asks client request (Err fault) = Err (faults.Call fault)
+abbrev pub ask_of_call : ℕ → ℕ → Result Call CallFault → Result Event EventFault
+ask_of_call client request (Ok call) = Ok (event.Ask client request call)
+ask_of_call client request (Err fault) = Err (faults.Call fault)
 
-abbrev pub with_key : Option ℕ → Option ℕ → List (List ℕ) → Result Event EventFault
-with_key (Some client) (Some request) call = asks client request (call_of_words call)
-with_key (Some client) None call = Err BadNumber
-with_key None request call = Err BadNumber
+abbrev pub ask_with_key : Option ℕ → Option ℕ → List (List ℕ) → Result Event EventFault
+ask_with_key (Some client) (Some request) call = ask_of_call client request (call_of_words call)
+ask_with_key (Some client) None call = Err BadNumber
+ask_with_key None request call = Err BadNumber
 
-abbrev pub of_ask : List (List ℕ) → Result Event EventFault
-of_ask (client ∷ request ∷ call) = with_key (read_number client) (read_number request) call
-of_ask [] = Err WrongWords
-of_ask (client ∷ []) = Err WrongWords
+abbrev pub ask_event : List (List ℕ) → Result Event EventFault
+ask_event (client ∷ request ∷ call) = ask_with_key (read_number client) (read_number request) call
+ask_event [] = Err WrongWords
+ask_event (client ∷ []) = Err WrongWords
 
 -- ---- a line
 
 -- an event by its first word: those of checkpoints, and of states that replicas get from others
 abbrev pub state_event : List ℕ → List (List ℕ) → Result Event EventFault
 state_event verb rest =
-    if bytes_eq verb (codes "mark") then of_mark rest
-    else if bytes_eq verb (codes "restart") then of_one event.Restart rest
-    else if bytes_eq verb (codes "cut") then of_one event.Cut rest
-    else if bytes_eq verb (codes "donor") then of_one event.Donor rest
-    else if bytes_eq verb (codes "give") then of_two event.Give rest
-    else if bytes_eq verb (codes "adopt") then of_two event.Adopt rest
+    if bytes_eq verb (codes "mark") then mark_event rest
+    else if bytes_eq verb (codes "restart") then event_of_one event.Restart rest
+    else if bytes_eq verb (codes "cut") then event_of_one event.Cut rest
+    else if bytes_eq verb (codes "donor") then event_of_one event.Donor rest
+    else if bytes_eq verb (codes "give") then event_of_two event.Give rest
+    else if bytes_eq verb (codes "adopt") then event_of_two event.Adopt rest
     else Err UnknownEvent
 
 -- an event by its first word: those that replicas do without the network
 abbrev pub replica_event : List ℕ → List (List ℕ) → Result Event EventFault
 replica_event verb rest =
-    if bytes_eq verb (codes "take") then of_three event.Take rest
-    else if bytes_eq verb (codes "finish") then of_two event.Finish rest
-    else if bytes_eq verb (codes "next") then of_one event.Next rest
-    else if bytes_eq verb (codes "audit") then of_two event.Audit rest
+    if bytes_eq verb (codes "take") then event_of_three event.Take rest
+    else if bytes_eq verb (codes "finish") then event_of_two event.Finish rest
+    else if bytes_eq verb (codes "next") then event_of_one event.Next rest
+    else if bytes_eq verb (codes "audit") then event_of_two event.Audit rest
     else state_event verb rest
 
 -- an event by its first word: those that replicas send to the sequencer
 abbrev pub report_event : List ℕ → List (List ℕ) → Result Event EventFault
 report_event verb rest =
-    if bytes_eq verb (codes "ack") then of_one event.Ack rest
-    else if bytes_eq verb (codes "answer") then of_two event.Answer rest
-    else if bytes_eq verb (codes "have") then of_one event.Have rest
-    else if bytes_eq verb (codes "from") then of_two event.From rest
+    if bytes_eq verb (codes "ack") then event_of_one event.Ack rest
+    else if bytes_eq verb (codes "answer") then event_of_two event.Answer rest
+    else if bytes_eq verb (codes "have") then event_of_one event.Have rest
+    else if bytes_eq verb (codes "from") then event_of_two event.From rest
     else replica_event verb rest
 
 -- an event by its first word: all
 abbrev pub event_of_words : List (List ℕ) → Result Event EventFault
 event_of_words [] = Err UnknownEvent
 event_of_words (verb ∷ rest) =
-    if bytes_eq verb (codes "ask") then of_ask rest
-    else if bytes_eq verb (codes "send") then of_two event.Send rest
-    else if bytes_eq verb (codes "resend") then of_one event.Resend rest
-    else if bytes_eq verb (codes "to") then of_two event.To rest
+    if bytes_eq verb (codes "ask") then ask_event rest
+    else if bytes_eq verb (codes "send") then event_of_two event.Send rest
+    else if bytes_eq verb (codes "resend") then event_of_one event.Resend rest
+    else if bytes_eq verb (codes "to") then event_of_two event.To rest
     else report_event verb rest
 
 -- the event that a line says, or its first fault

@@ -1,5 +1,5 @@
 pub mod EventText
-pub mod Head
 pub mod NoteText
-pub mod Reads
+pub mod ScheduleReading
 pub mod ScheduleText
+pub mod inner

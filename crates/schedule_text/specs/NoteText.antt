@@ -1,7 +1,7 @@
 -- How a note is spelled.
 use Rattle.std.specs.Prelude.{ℕ, List, ◌∷◌, ◌++◌, decimal, codes}
 use Rattle.sb_amount.specs.Money.{money}
-use Rattle.sb_calls.specs.Reply.{reply_text}
+use Rattle.sb_calls.specs.ReplyText.{reply_text}
 use Rattle.schedule_text.specs.declared.note.AuditNote.{AuditNote}
 use Rattle.schedule_text.specs.declared.note.AuditNote.TheVariants as audit
 use Rattle.schedule_text.specs.declared.note.Column.{Column}
@@ -27,7 +27,7 @@ note_line (note.New number) = codes "new " ++ decimal number
 note_line (note.Repeat number) = codes "repeat " ++ decimal number
 note_line (note.Mismatch number) = codes "mismatch " ++ decimal number
 note_line note.LogFull = codes "log full"
-note_line (note.Sent place) = codes "sent " ++ decimal place
+note_line (note.Sent position) = codes "sent " ++ decimal position
 note_line (note.Resent count) = codes "resent " ++ decimal count
 note_line (note.Accepted number) = codes "accepted " ++ decimal number
 note_line (note.Held number) = codes "held " ++ decimal number
@@ -50,7 +50,7 @@ note_line (note.Cut size) = codes "cut " ++ decimal size
 note_line (note.Pending size) = codes "pending " ++ decimal size
 note_line (note.Has size) = codes "has " ++ decimal size
 note_line (note.Donor donor size) = codes "donor " ++ (decimal donor ++ (32 ∷ decimal size))
-note_line (note.Gave place) = codes "gave " ++ decimal place
+note_line (note.Gave position) = codes "gave " ++ decimal position
 note_line (note.Adopted size) = codes "adopted " ++ decimal size
 note_line (note.Behind size) = codes "behind " ++ decimal size
 note_line (note.Audit found) = audit_line found

@@ -3,8 +3,8 @@
 use sb_calls::Call;
 use sb_checkpoint::How;
 
-/// One event of a schedule. Replicas are counted from 0; workers, entry numbers, and places in a
-/// list of frames or of states from 1. An event that names something that doesn't exist changes
+/// One event of a schedule. Replicas are counted from 0; workers, entry numbers, and positions in
+/// a list of frames or of states from 1. An event that names something that doesn't exist changes
 /// nothing.
 #[derive(Clone, Copy, PartialEq, Eq)]
 pub enum Event {
@@ -33,8 +33,8 @@ pub enum Event {
     To {
         /// The replica that gets it.
         replica: u32,
-        /// The frame's place among those ever sent to it.
-        place: u32,
+        /// The frame's position among those ever sent to it.
+        position: u32,
     },
     /// A replica sends how long its log is.
     Ack {
@@ -52,8 +52,8 @@ pub enum Event {
     From {
         /// The replica that sent it.
         replica: u32,
-        /// The frame's place among those that it ever sent.
-        place: u32,
+        /// The frame's position among those that it ever sent.
+        position: u32,
     },
     /// A worker takes a behaviour that is ready.
     Take {
@@ -114,8 +114,8 @@ pub enum Event {
     Adopt {
         /// The replica that gets it.
         replica: u32,
-        /// The state's place among those ever sent to it.
-        place: u32,
+        /// The state's position among those ever sent to it.
+        position: u32,
     },
     /// Two replicas are compared.
     Audit {

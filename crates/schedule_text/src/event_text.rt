@@ -3,13 +3,13 @@ ghost use Rattle.std.specs.Prelude.{◌≡◌, ◌+◌, ◌<◌, ◌^◌, Ok, []
 ghost use Rattle.sb_rows.specs.Opening.{at_line};
 ghost use Rattle.sb_rows.specs.Text.{lines};
 ghost use Rattle.schedule_text.specs.EventText as spec;
-ghost use Rattle.schedule_text.specs.EventText.{event_of, event_of_words, of_ask, of_mark};
-ghost use Rattle.schedule_text.specs.Reads.{Blames};
+ghost use Rattle.schedule_text.specs.EventText.{event_of, event_of_words, ask_event, mark_event};
+ghost use Rattle.schedule_text.specs.inner.LineFaults.{BlamesLine};
 ghost use Rattle.schedule_text.specs.ScheduleText.{events_from, in_events};
 
 use crate::event::Event;
 use crate::fault::{EventFault, ScheduleLineFault, TextFault};
-use crate::numbers::{number_of, one_number, three_numbers, two_numbers};
+use crate::parsing::{parse_number, parse_one, parse_three, parse_two};
 use sb_calls::{Call, read_call_words};
 use sb_checkpoint::How;
 use sb_rows::{Words, next_line};
@@ -34,19 +34,19 @@ fn event_of(mut words: Words) -> Result<Event, EventFault>
 {
     let verb = words.next().ok_or(EventFault::UnknownEvent)?;
     if verb == b"ask".as_slice() {
-        return asked(words);
+        return ask_event(words);
     }
     if verb == b"send".as_slice() {
-        let (replica, number) = two_numbers(words)?;
+        let (replica, number) = parse_two(words)?;
         return Ok(Event::Send { replica, number });
     }
     if verb == b"resend".as_slice() {
-        let replica = one_number(words)?;
+        let replica = parse_one(words)?;
         return Ok(Event::Resend { replica });
     }
     if verb == b"to".as_slice() {
-        let (replica, place) = two_numbers(words)?;
-        return Ok(Event::To { replica, place });
+        let (replica, position) = parse_two(words)?;
+        return Ok(Event::To { replica, position });
     }
     report_event(verb, words)
 }
@@ -57,20 +57,20 @@ fn report_event(verb: &[u8], words: Words) -> Result<Event, EventFault>
     ensures { result ≡ spec.report_event verb.now words.entry }
 {
     if verb == b"ack".as_slice() {
-        let replica = one_number(words)?;
+        let replica = parse_one(words)?;
         return Ok(Event::Ack { replica });
     }
     if verb == b"answer".as_slice() {
-        let (replica, number) = two_numbers(words)?;
+        let (replica, number) = parse_two(words)?;
         return Ok(Event::Answer { replica, number });
     }
     if verb == b"have".as_slice() {
-        let replica = one_number(words)?;
+        let replica = parse_one(words)?;
         return Ok(Event::Have { replica });
     }
     if verb == b"from".as_slice() {
-        let (replica, place) = two_numbers(words)?;
-        return Ok(Event::From { replica, place });
+        let (replica, position) = parse_two(words)?;
+        return Ok(Event::From { replica, position });
     }
     replica_event(verb, words)
 }
@@ -81,7 +81,7 @@ fn replica_event(verb: &[u8], words: Words) -> Result<Event, EventFault>
     ensures { result ≡ spec.replica_event verb.now words.entry }
 {
     if verb == b"take".as_slice() {
-        let (replica, worker, index) = three_numbers(words)?;
+        let (replica, worker, index) = parse_three(words)?;
         return Ok(Event::Take {
             replica,
             worker,
@@ -89,15 +89,15 @@ fn replica_event(verb: &[u8], words: Words) -> Result<Event, EventFault>
         });
     }
     if verb == b"finish".as_slice() {
-        let (replica, worker) = two_numbers(words)?;
+        let (replica, worker) = parse_two(words)?;
         return Ok(Event::Finish { replica, worker });
     }
     if verb == b"next".as_slice() {
-        let replica = one_number(words)?;
+        let replica = parse_one(words)?;
         return Ok(Event::Next { replica });
     }
     if verb == b"audit".as_slice() {
-        let (first, second) = two_numbers(words)?;
+        let (first, second) = parse_two(words)?;
         return Ok(Event::Audit { first, second });
     }
     state_event(verb, words)
@@ -108,38 +108,38 @@ fn state_event(verb: &[u8], words: Words) -> Result<Event, EventFault>
     ensures { result ≡ spec.state_event verb.now words.entry }
 {
     if verb == b"mark".as_slice() {
-        return marked(words);
+        return mark_event(words);
     }
     if verb == b"restart".as_slice() {
-        let replica = one_number(words)?;
+        let replica = parse_one(words)?;
         return Ok(Event::Restart { replica });
     }
     if verb == b"cut".as_slice() {
-        let replica = one_number(words)?;
+        let replica = parse_one(words)?;
         return Ok(Event::Cut { replica });
     }
     if verb == b"donor".as_slice() {
-        let replica = one_number(words)?;
+        let replica = parse_one(words)?;
         return Ok(Event::Donor { replica });
     }
     if verb == b"give".as_slice() {
-        let (donor, replica) = two_numbers(words)?;
+        let (donor, replica) = parse_two(words)?;
         return Ok(Event::Give { donor, replica });
     }
     if verb == b"adopt".as_slice() {
-        let (replica, place) = two_numbers(words)?;
-        return Ok(Event::Adopt { replica, place });
+        let (replica, position) = parse_two(words)?;
+        return Ok(Event::Adopt { replica, position });
     }
     Err(EventFault::UnknownEvent)
 }
 
 // The words after `ask`: the client's number, its number for the request, and the call.
-fn asked(mut words: Words) -> Result<Event, EventFault>
-    ensures { result ≡ of_ask words.entry }
+fn ask_event(mut words: Words) -> Result<Event, EventFault>
+    ensures { result ≡ ask_event words.entry }
 {
     let (client, request) = (words.word()?, words.word()?);
-    let client = number_of(client)?;
-    let request = number_of(request)?;
+    let client = parse_number(client)?;
+    let request = parse_number(request)?;
     let call = read_call_words(words)?;
     Ok(Event::Ask {
         client,
@@ -149,11 +149,11 @@ fn asked(mut words: Words) -> Result<Event, EventFault>
 }
 
 // The words after `mark`: the replica's number, and how the put ends.
-fn marked(mut words: Words) -> Result<Event, EventFault>
-    ensures { result ≡ of_mark words.entry }
+fn mark_event(mut words: Words) -> Result<Event, EventFault>
+    ensures { result ≡ mark_event words.entry }
 {
     let (replica, how) = (words.word()?, words.last()?);
-    let replica = number_of(replica)?;
+    let replica = parse_number(replica)?;
     let how = how_of(how).ok_or(EventFault::BadNumber)?;
     Ok(Event::Mark { replica, how })
 }
@@ -183,7 +183,7 @@ pub(crate) fn read_events(
     requires { first_line + length text.now < 2 ^ 64 }
     ensures { MatchResult result
         (λ events. events_from first_line [] (lines text.now) ≡ Ok events.items)
-        (λ fault. Blames fault (in_events (events_from first_line [] (lines text.now)))) }
+        (λ fault. BlamesLine fault (in_events (events_from first_line [] (lines text.now)))) }
 {
     // The checker goes through an event's parts, and needs the types stated.
     let _parts: Option<(Call, How)> = None;
@@ -201,7 +201,7 @@ pub(crate) fn read_events(
 fn event_at(line: &[u8], number: usize) -> Result<Event, TextFault>
     ensures { MatchResult result
         (λ event. event_of line.now ≡ Ok event)
-        (λ fault. Blames fault (in_events (at_line number (event_of line.now)))) }
+        (λ fault. BlamesLine fault (in_events (at_line number (event_of line.now)))) }
 {
     match read_event(line) {
         Ok(event) => Ok(event),

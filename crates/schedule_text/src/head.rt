@@ -1,8 +1,8 @@
 //! The first line of a schedule: how many replicas there are, and how many workers each has.
 ghost use Rattle.std.specs.Prelude.{◌≡◌, ◌≤◌, ◌<◌, Ok, Some, None, IfOk, IfSome, MatchOption, MatchResult};
 ghost use Rattle.sb_rows.specs.Text.{lines, words, after_line};
-ghost use Rattle.schedule_text.specs.Head.{IsHead};
-ghost use Rattle.schedule_text.specs.Reads.{Blames};
+ghost use Rattle.schedule_text.specs.inner.Head.{IsHead};
+ghost use Rattle.schedule_text.specs.inner.LineFaults.{BlamesLine};
 ghost use Rattle.schedule_text.specs.ScheduleText.{head_of_lines, head_of_words, head_with};
 
 use crate::fault::{ScheduleLineFault, TextFault};
@@ -29,7 +29,7 @@ const BAD_HEAD: TextFault = TextFault::Line {
 pub(crate) fn read_head(text: &[u8]) -> Result<(u8, u8, &[u8]), TextFault>
     ensures exact { MatchResult result
         (λ head. head_of_lines (lines text.now) ≡ Ok (head.0, head.1))
-        (λ fault. Blames fault (head_of_lines (lines text.now))) }
+        (λ fault. BlamesLine fault (head_of_lines (lines text.now))) }
     ensures within { IfOk result (λ head. IsHead head.0 head.1) }
     ensures after { IfOk result (λ head. head.2.now ≡ after_line text.now) }
 {
@@ -45,14 +45,14 @@ fn head_of(line: &[u8]) -> Option<(u8, u8)>
         (λ head. head_of_words (words line.now) ≡ Some (head.0, head.1)) }
     ensures within { IfSome result (λ head. IsHead head.0 head.1) }
 {
-    let (nodes, workers) = numbers_of(line)?;
+    let (nodes, workers) = parse_counts(line)?;
     let nodes = count_of(nodes, MOST_NODES)?;
     let workers = count_of(workers, MOST_WORKERS)?;
     Some((nodes, workers))
 }
 
 // The two numbers of a line that is spelled as a head.
-fn numbers_of(line: &[u8]) -> Option<(u32, u32)>
+fn parse_counts(line: &[u8]) -> Option<(u32, u32)>
     ensures { MatchOption result
         (head_of_words (words line.now) ≡ None)
         (λ two. head_of_words (words line.now) ≡ head_with (Some two.0) (Some two.1)) }

@@ -7,7 +7,7 @@ mod fault;
 mod head;
 mod note;
 mod note_text;
-mod numbers;
+mod parsing;
 mod reading;
 mod schedule;
 

@@ -13,7 +13,7 @@ pub enum Note {
     Mismatch(u64),
     /// The log takes no more calls.
     LogFull,
-    /// A frame was sent, at this place of its list.
+    /// A frame was sent, at this position of its list.
     Sent(u64),
     /// This many entries were sent.
     Resent(u64),
@@ -60,7 +60,7 @@ pub enum Note {
     Has(u64),
     /// This replica keeps a checkpoint of this length; another one should get its state from there.
     Donor(u32, u64),
-    /// A state was sent, at this place of its list.
+    /// A state was sent, at this position of its list.
     Gave(u64),
     /// The replica went to this length by a state.
     Adopted(u64),

@@ -1,7 +1,7 @@
 //! Notes as text, one line each.
 ghost use Rattle.std.specs.Prelude.{◌≡◌, ◌∷◌, [], ◌++◌, map, codes, decimal, OnOk};
 ghost use Rattle.sb_amount.specs.Money.{money};
-ghost use Rattle.sb_calls.specs.Reply.{reply_text};
+ghost use Rattle.sb_calls.specs.ReplyText.{reply_text};
 ghost use Rattle.sb_rows.specs.Text.{unlines};
 ghost use Rattle.schedule_text.specs.NoteText.{audit_line, column_text, note_line};
 
@@ -31,7 +31,7 @@ fn push_note(note: Note, out: &mut Vec<u8>) -> Result<(), AllocError>
         Note::Repeat(number) => push_numbered(b"repeat ", number, out),
         Note::Mismatch(number) => push_numbered(b"mismatch ", number, out),
         Note::LogFull => out.extend_from_slice(b"log full"),
-        Note::Sent(place) => push_numbered(b"sent ", place, out),
+        Note::Sent(position) => push_numbered(b"sent ", position, out),
         Note::Resent(count) => push_numbered(b"resent ", count, out),
         Note::Accepted(number) => push_numbered(b"accepted ", number, out),
         Note::Held(number) => push_numbered(b"held ", number, out),
@@ -54,7 +54,7 @@ fn push_note(note: Note, out: &mut Vec<u8>) -> Result<(), AllocError>
         Note::Pending(size) => push_numbered(b"pending ", size, out),
         Note::Has(size) => push_numbered(b"has ", size, out),
         Note::Donor(donor, size) => push_two(b"donor ", u64::from(donor), size, out),
-        Note::Gave(place) => push_numbered(b"gave ", place, out),
+        Note::Gave(position) => push_numbered(b"gave ", position, out),
         Note::Adopted(size) => push_numbered(b"adopted ", size, out),
         Note::Behind(size) => push_numbered(b"behind ", size, out),
         Note::Audit(found) => push_audit(found, out),

@@ -1,7 +1,8 @@
 //! The text of a whole schedule: a head, an opening, then one event on each line.
 ghost use Rattle.std.specs.Prelude.{◌≡◌, ◌≤◌, Ok, length, IfOk, MatchResult};
 ghost use Rattle.sb_rows.specs.Opening.{opening_of};
-ghost use Rattle.schedule_text.specs.Reads.{Blames, Reads};
+ghost use Rattle.schedule_text.specs.inner.LineFaults.{BlamesLine};
+ghost use Rattle.schedule_text.specs.ScheduleReading.{ReadsSchedule};
 ghost use Rattle.schedule_text.specs.ScheduleText.{below_head, schedule_of};
 
 use crate::event_text::read_events;
@@ -15,7 +16,7 @@ use std::alloc::Global;
 ///
 /// Fails with the first line at fault and its first fault.
 pub fn read_schedule(alloc: Global, text: &[u8]) -> Result<Schedule, TextFault>
-    ensures { Reads result (schedule_of text.now) }
+    ensures { ReadsSchedule result (schedule_of text.now) }
 {
     let (nodes, workers, below) = read_head(text)?;
     let opening = read_below(alloc, below)?;
@@ -35,7 +36,7 @@ fn read_below(alloc: Global, text: &[u8]) -> Result<Opening, TextFault>
     ensures exact { MatchResult result
         (λ o. opening_of text.now
         ≡ Ok (record { names = o.directory; balances = o.columns; consumed = o.consumed }))
-        (λ fault. Blames fault (below_head (opening_of text.now))) }
+        (λ fault. BlamesLine fault (below_head (opening_of text.now))) }
     ensures within { IfOk result (λ o. o.consumed ≤ length text.now) }
 {
     match read_opening(alloc, text) {

@@ -1,6 +1,6 @@
 //! The meaning of the text of a schedule.
 ghost use Rattle.sb_rows.specs.Rows.{SameCustomers};
-ghost use Rattle.schedule_text.specs.Head.{IsHead};
+ghost use Rattle.schedule_text.specs.inner.Head.{IsHead};
 
 use crate::event::Event;
 use sb_rows::{Columns, Directory};

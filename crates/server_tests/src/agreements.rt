@@ -24,7 +24,7 @@ fn opened(rt: &impl Abort, alloc: Global) -> Box<Replica<MemoryStore>> {
 // A call comes to a replica.
 fn hear(rt: &impl Abort, replica: &mut Replica<MemoryStore>, number: u64, line: &str) {
     let call = read_call(line.as_bytes()).expect(rt, "a call");
-    let heard = replica.hear(&Frame::Entry { number, call });
+    let heard = replica.receive_decoded(&Frame::Entry { number, call });
     expect(rt, heard == Ok(Heard::Accepted(number)), line);
 }
 

@@ -1,6 +1,6 @@
 //! The bank of three customers.
 ghost use Rattle.std.specs.Prelude.{◌≡◌, []};
-ghost use Rattle.bank_server.specs.Execution.{IsOpened};
+ghost use Rattle.bank_server.specs.Execution.{HasNoEntries};
 
 use bank_server::Primary;
 use sb_checkpoint::{CheckpointStore, MemoryStore};
@@ -27,7 +27,7 @@ pub(crate) fn expect_bytes(rt: &impl Abort, found: &[u8], wanted: &[u8], case: &
 /// The bank over a store in memory, with an empty log.
 pub(crate) fn opened(rt: &impl Abort, alloc: Global) -> Box<Primary<MemoryStore>>
     ensures log { result.value.log ≡ [] }
-    ensures opened { IsOpened result.value.node.board }
+    ensures opened { HasNoEntries result.value.node.board }
 {
     opened_over(rt, alloc, MemoryStore::new(alloc))
 }
@@ -39,7 +39,7 @@ pub(crate) fn opened_over<S: CheckpointStore>(
     store: S,
 ) -> Box<Primary<S>>
     ensures log { result.value.log ≡ [] }
-    ensures opened { IsOpened result.value.node.board }
+    ensures opened { HasNoEntries result.value.node.board }
 {
     opened_at(rt, alloc, OPENING, store)
 }
@@ -52,7 +52,7 @@ pub(crate) fn opened_at<S: CheckpointStore>(
     store: S,
 ) -> Box<Primary<S>>
     ensures log { result.value.log ≡ [] }
-    ensures opened { IsOpened result.value.node.board }
+    ensures opened { HasNoEntries result.value.node.board }
 {
     let opening = read_opening(alloc, opening).expect(rt, "an opening");
     let primary = Primary::open(alloc, opening, store).expect(rt, "memory for a bank");

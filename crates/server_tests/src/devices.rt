@@ -6,13 +6,13 @@ use std::io::{ErrorKind, Read, Write};
 /// Gives a text a byte at a time, and fails, or ends, after this many reads. Every other read is
 /// interrupted.
 #[derive(Drop)]
-pub(crate) struct Bytewise<'a> {
+pub(crate) struct BytewiseReader<'a> {
     pub(crate) left: &'a [u8],
     pub(crate) reads: u32,
     pub(crate) fails: bool,
 }
 
-impl Read for Bytewise<'_> {
+impl Read for BytewiseReader<'_> {
     fn read(&mut self, buf: &mut [u8]) -> io::Result<usize> {
         if self.reads == 0 {
             if self.fails {
@@ -46,13 +46,13 @@ pub(crate) enum Hitch {
 
 /// Gives a text two bytes at a time, with a hitch at one read, which is this many reads away.
 #[derive(Drop)]
-pub(crate) struct Halting<'a> {
+pub(crate) struct HaltingReader<'a> {
     pub(crate) left: &'a [u8],
     pub(crate) away: u32,
     pub(crate) hitch: Hitch,
 }
 
-impl Halting<'_> {
+impl HaltingReader<'_> {
     // Whether this read has the hitch.
     fn halts(&mut self) -> bool {
         let halts = self.away == 1;
@@ -61,7 +61,7 @@ impl Halting<'_> {
     }
 }
 
-impl Read for Halting<'_> {
+impl Read for HaltingReader<'_> {
     fn read(&mut self, buf: &mut [u8]) -> io::Result<usize> {
         let halts = self.halts();
         if halts && self.hitch == Hitch::Interrupted {
@@ -86,11 +86,11 @@ impl Read for Halting<'_> {
 
 /// Gives nothing: this many reads are interrupted, and the next one is the end.
 #[derive(Drop)]
-pub(crate) struct Interrupted {
+pub(crate) struct InterruptedReader {
     pub(crate) reads: u32,
 }
 
-impl Read for Interrupted {
+impl Read for InterruptedReader {
     fn read(&mut self, _buf: &mut [u8]) -> io::Result<usize> {
         if self.reads == 0 {
             return Ok(0);
@@ -102,16 +102,16 @@ impl Read for Interrupted {
 
 /// Takes this many bytes, one at each write, and then fails.
 #[derive(Drop)]
-pub(crate) struct Narrow {
+pub(crate) struct NarrowWriter {
     pub(crate) taken: Vec<u8>,
     pub(crate) room: usize,
     pub(crate) flushes: bool,
 }
 
-impl Narrow {
+impl NarrowWriter {
     /// A writer that has taken nothing yet.
-    pub(crate) fn new(alloc: Global, room: usize, flushes: bool) -> Narrow {
-        Narrow {
+    pub(crate) fn new(alloc: Global, room: usize, flushes: bool) -> NarrowWriter {
+        NarrowWriter {
             taken: Vec::new(alloc),
             room,
             flushes,
@@ -119,7 +119,7 @@ impl Narrow {
     }
 }
 
-impl Write for Narrow {
+impl Write for NarrowWriter {
     fn write(&mut self, buf: &[u8]) -> io::Result<usize> {
         if self.taken.len() >= self.room {
             return Err(io::Error::from(ErrorKind::BrokenPipe));

@@ -15,7 +15,7 @@ const QUESTION: &[&[u8]] = &[BALANCE, FLUSH];
 
 // What is sent to followers of the log of a bank that serves two clients.
 #[derive(Clone, Copy)]
-enum Told {
+enum SentLog {
     // All of the log, after each session.
     All,
     // Only what the first client asked.
@@ -45,18 +45,18 @@ fn compared<R: Abort + Threads + Wait + Sync>(
     rt: &R,
     alloc: Global,
     followers: &mut Followers<'_, R>,
-    told: Told,
+    sent_log: SentLog,
 ) -> Result<(), RunFault> {
     let mut primary = opened(rt, alloc);
     serve(rt, alloc, &mut *primary, PAYMENT, &[DONE]);
-    match told {
-        Told::Other => feed_other(rt, alloc, followers),
-        Told::All | Told::First => feed(rt, followers, &primary),
+    match sent_log {
+        SentLog::Other => feed_other(rt, alloc, followers),
+        SentLog::All | SentLog::First => feed(rt, followers, &primary),
     }
     serve(rt, alloc, &mut *primary, QUESTION, &[SHOWN]);
-    match told {
-        Told::First => {}
-        Told::All | Told::Other => feed(rt, followers, &primary),
+    match sent_log {
+        SentLog::First => {}
+        SentLog::All | SentLog::Other => feed(rt, followers, &primary),
     }
     followers.compare(rt, primary.node())
 }
@@ -68,14 +68,14 @@ fn expect_compared<R: Abort + Threads + Wait + Sync>(
     alloc: Global,
     opening: &[u8],
     nodes: usize,
-    told: Told,
+    sent_log: SentLog,
     wanted: Result<(), RunFault>,
 ) {
     assert!(rt; nodes <= 16);
     let other = opened_at(rt, alloc, opening, MemoryStore::new(alloc));
     let ready = ReadyFollowers::open(alloc, other.node(), nodes, 0).expect(rt, "followers");
     let compared = with_followers(rt, alloc, ready, |followers| {
-        compared(rt, alloc, followers, told)
+        compared(rt, alloc, followers, sent_log)
     });
     expect(rt, compared == Ok(wanted), "how they come out");
 }
@@ -86,33 +86,33 @@ fn expect_strayed<R: Abort + Threads + Wait + Sync>(
     rt: &R,
     alloc: Global,
     opening: &[u8],
-    told: Told,
+    sent_log: SentLog,
 ) {
-    expect_compared(rt, alloc, opening, 1, told, Ok(()));
+    expect_compared(rt, alloc, opening, 1, sent_log, Ok(()));
     for nodes in [2, 16] {
         let wanted = Err(RunFault::Strayed(1));
-        expect_compared(rt, alloc, opening, nodes, told, wanted);
+        expect_compared(rt, alloc, opening, nodes, sent_log, wanted);
     }
 }
 
 #[test]
-fn told_after_each_session(rt: HostRuntime) {
+fn sent_after_each_session(rt: HostRuntime) {
     for nodes in [1, 2, 16] {
-        expect_compared(&rt, rt.alloc(), OPENING, nodes, Told::All, Ok(()));
+        expect_compared(&rt, rt.alloc(), OPENING, nodes, SentLog::All, Ok(()));
     }
 }
 
 #[test]
-fn not_told_of_the_last_session(rt: HostRuntime) {
-    expect_strayed(&rt, rt.alloc(), OPENING, Told::First);
+fn last_session_not_sent(rt: HostRuntime) {
+    expect_strayed(&rt, rt.alloc(), OPENING, SentLog::First);
 }
 
 #[test]
-fn told_of_another_log(rt: HostRuntime) {
-    expect_strayed(&rt, rt.alloc(), OPENING, Told::Other);
+fn another_log_sent(rt: HostRuntime) {
+    expect_strayed(&rt, rt.alloc(), OPENING, SentLog::Other);
 }
 
 #[test]
 fn opened_otherwise(rt: HostRuntime) {
-    expect_strayed(&rt, rt.alloc(), OTHER_OPENING, Told::All);
+    expect_strayed(&rt, rt.alloc(), OTHER_OPENING, SentLog::All);
 }

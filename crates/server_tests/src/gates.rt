@@ -16,13 +16,13 @@ const TURNS: u32 = 1_000_000;
 // The first two calls each wait until the other one is about to be executed. With one worker the
 // first would wait in vain, and give up.
 #[derive(Default, Drop)]
-struct Meeting {
+struct MeetingGate {
     first: AtomicBool,
     second: AtomicBool,
     gave_up: AtomicBool,
 }
 
-impl Meeting {
+impl MeetingGate {
     fn comes(&self, here: &AtomicBool, there: &AtomicBool) {
         here.store(true, Ordering::SeqCst);
         for _ in 0..TURNS {
@@ -35,7 +35,7 @@ impl Meeting {
     }
 }
 
-impl Gate for Meeting {
+impl Gate for MeetingGate {
     fn before(&self, number: u64) {
         match number {
             1 => self.comes(&self.first, &self.second),
@@ -48,7 +48,7 @@ impl Gate for Meeting {
 }
 
 // Both calls met at the gate.
-fn expect_met(rt: &impl Abort, gate: &Meeting) {
+fn expect_met(rt: &impl Abort, gate: &MeetingGate) {
     expect(rt, gate.first.load(Ordering::SeqCst), "the first came");
     expect(rt, gate.second.load(Ordering::SeqCst), "the second came");
     expect(rt, !gate.gave_up.load(Ordering::SeqCst), "none gave up");
@@ -60,7 +60,7 @@ fn expect_meeting(rt: &(impl Abort + Threads + Wait + Clock + Sync), alloc: Glob
     let input = joined(rt, alloc, &[OPENING, calls]);
     let mut reader = input.as_slice();
     let mut written: Vec<u8> = Vec::new(alloc);
-    let gate = Meeting::default();
+    let gate = MeetingGate::default();
     let ended = run_text(rt, alloc, &mut reader, &mut written, 1, 2, &gate);
     expect(rt, ended == Ok(()), "how it ends");
     expect_met(rt, &gate);
@@ -75,9 +75,9 @@ fn two_calls_wait_for_each_other(rt: HostRuntime) {
 }
 
 // Holds up each job with an odd number, so that later ones are executed before it.
-struct Uneven;
+struct UnevenGate;
 
-impl Gate for Uneven {
+impl Gate for UnevenGate {
     fn before(&self, number: u64) {
         if number % 2 == 1 {
             for _ in 0..1_000 {
@@ -178,7 +178,7 @@ fn expect_same_output<G: Gate + Sync>(
 
 #[test]
 fn workers_of_uneven_speed(rt: HostRuntime) {
-    expect_same_output(&rt, rt.alloc(), &Uneven);
+    expect_same_output(&rt, rt.alloc(), &UnevenGate);
 }
 
 #[test]

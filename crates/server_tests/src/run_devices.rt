@@ -1,6 +1,6 @@
 //! Runs over readers and writers that fail.
 use crate::bank::expect_bytes;
-use crate::devices::{Bytewise, Halting, Hitch, Narrow};
+use crate::devices::{BytewiseReader, HaltingReader, Hitch, NarrowWriter};
 use bank_server::{RunFault, run_text};
 use cown_workers::OpenGate;
 use std::alloc::Global;
@@ -30,7 +30,7 @@ fn expect_read(
     ends: Result<(), RunFault>,
     output: &[u8],
 ) {
-    let mut reader = Bytewise {
+    let mut reader = BytewiseReader {
         left: DEPOSIT,
         reads,
         fails: true,
@@ -62,7 +62,7 @@ fn halt_at(
     hitch: Hitch,
 ) {
     let left = DEPOSIT;
-    let mut reader = Halting { left, away, hitch };
+    let mut reader = HaltingReader { left, away, hitch };
     let mut written: Vec<u8> = Vec::new(alloc);
     let ended = run_text(rt, alloc, &mut reader, &mut written, 1, 0, &OpenGate);
     expect_ended(rt, ended, Ok(()), away as usize);
@@ -90,7 +90,7 @@ fn expect_write(
     output: &[u8],
 ) {
     let mut reader = input;
-    let mut writer = Narrow::new(alloc, room, flushes);
+    let mut writer = NarrowWriter::new(alloc, room, flushes);
     let ended = run_text(rt, alloc, &mut reader, &mut writer, 1, 0, &OpenGate);
     expect_ended(rt, ended, ends, room);
     expect_bytes(rt, &writer.taken, output, "what is written");

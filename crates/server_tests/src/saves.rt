@@ -1,7 +1,7 @@
 //! Saving a served bank.
 use crate::bank::{expect, expect_bytes, opened, opened_over};
-use crate::devices::Bytewise;
-use crate::stores::{Habit, Habitual};
+use crate::devices::BytewiseReader;
+use crate::stores::{Habit, HabitualStore};
 use crate::wire::{BALANCE, DEPOSIT, DONE, FLUSH, SHOWN, serve};
 use bank_server::{Primary, SaveFault, SessionFault, serve_session};
 use cown_workers::InlineCrew;
@@ -81,7 +81,7 @@ fn a_file_has_what_was_put(rt: HostRuntime) {
 // A client's connection breaks after its deposit, which no flush follows.
 fn break_after_payment(rt: &impl Abort, alloc: Global, primary: &mut Primary<MemoryStore>) {
     // Its 24 bytes take two reads each.
-    let mut reader = Bytewise {
+    let mut reader = BytewiseReader {
         left: DEPOSIT,
         reads: 48,
         fails: true,
@@ -122,7 +122,7 @@ fn expect_saved_over(
     case: &str,
 ) {
     let held = None;
-    let mut primary = opened_over(rt, alloc, Habitual { alloc, held, habit });
+    let mut primary = opened_over(rt, alloc, HabitualStore { alloc, held, habit });
     serve(rt, alloc, &mut *primary, &[DEPOSIT, FLUSH], &[DONE]);
     expect_saved(rt, &mut *primary, wanted, case);
     expect(rt, primary.log().length() == 1, "the log");

@@ -1,6 +1,6 @@
 //! Clients whose connections break.
 use crate::bank::{expect, expect_bytes, joined, opened};
-use crate::devices::{Bytewise, Halting, Hitch, Interrupted, Narrow};
+use crate::devices::{BytewiseReader, HaltingReader, Hitch, InterruptedReader, NarrowWriter};
 use crate::wire::{BALANCE, DEPOSIT, DONE, FLUSH, SHOWN, serve};
 use bank_server::{Primary, SessionFault, serve_session};
 use cown_workers::InlineCrew;
@@ -40,7 +40,7 @@ fn whole_asks(bytes: u32) -> u64 {
 // A client's connection breaks after this many bytes.
 fn break_after(rt: &impl Abort, alloc: Global, bytes: u32, primary: &mut Primary<MemoryStore>) {
     let sent = joined(rt, alloc, SENT);
-    let mut reader = Bytewise {
+    let mut reader = BytewiseReader {
         left: &sent,
         reads: bytes.saturating_mul(2),
         fails: true,
@@ -63,7 +63,7 @@ fn a_read_that_fails(rt: HostRuntime) {
 fn hang_up_after(rt: &impl Abort, alloc: Global, room: usize, primary: &mut Primary<MemoryStore>) {
     let sent = joined(rt, alloc, SENT);
     let mut reader = sent.as_slice();
-    let mut writer = Narrow::new(alloc, room, true);
+    let mut writer = NarrowWriter::new(alloc, room, true);
     let ended = serve_session(alloc, &mut reader, &mut writer, primary, &mut InlineCrew);
     expect_broken(rt, ended, primary, 2, room);
 }
@@ -83,7 +83,7 @@ fn halt_at(rt: &impl Abort, alloc: Global, away: u32, hitch: Hitch) {
     let sent = joined(rt, alloc, SENT);
     let told = joined(rt, alloc, TOLD);
     let left = sent.as_slice();
-    let mut reader = Halting { left, away, hitch };
+    let mut reader = HaltingReader { left, away, hitch };
     let mut written: Vec<u8> = Vec::new(alloc);
     let ended = serve_session(
         alloc,
@@ -109,7 +109,7 @@ fn a_read_with_a_hitch(rt: HostRuntime) {
 // often before its end.
 fn expect_after(rt: &impl Abort, alloc: Global, reads: u32, ends: Result<(), SessionFault>) {
     let mut primary = opened(rt, alloc);
-    let mut reader = Interrupted { reads };
+    let mut reader = InterruptedReader { reads };
     let mut written: Vec<u8> = Vec::new(alloc);
     let ended = serve_session(
         alloc,

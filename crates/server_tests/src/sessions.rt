@@ -1,6 +1,6 @@
 //! What clients send, and what is sent to them.
 use crate::bank::{expect, expect_bytes, joined, opened};
-use crate::devices::Bytewise;
+use crate::devices::BytewiseReader;
 use crate::wire::{
     BALANCE, DEPOSIT, DONE, ENTRY, FLUSH, HAVE, MISMATCH, OTHER, SHOWN, expect_session, push_with,
 };
@@ -32,7 +32,7 @@ fn serve_bytewise<C: Crew>(
 ) {
     let sent = joined(rt, alloc, session.sent);
     let told = joined(rt, alloc, session.told);
-    let mut reader = Bytewise {
+    let mut reader = BytewiseReader {
         left: &sent,
         reads: 1_000,
         fails: true,
@@ -83,7 +83,7 @@ const ASKED_AGAIN: &[Session] = &[
 ];
 
 #[test]
-fn asked_again_and_told_again(rt: HostRuntime) {
+fn asked_and_answered_again(rt: HostRuntime) {
     expect_sessions(&rt, rt.alloc(), ASKED_AGAIN, 2);
 }
 

@@ -19,19 +19,19 @@ pub(crate) enum Habit {
 
 /// A store with a habit. Its model says nothing of what it holds.
 #[derive(Drop)]
-pub(crate) struct Habitual {
+pub(crate) struct HabitualStore {
     pub(crate) alloc: Global,
     pub(crate) held: Option<Vec<u8>>,
     pub(crate) habit: Habit,
 }
 
-impl CheckpointStore for Habitual {
+impl CheckpointStore for HabitualStore {
     ghost use Rattle.std.specs.Prelude.{None, ◌^◌, ◌-◌};
 
     ghost model = { record {
       slot = λ store. None;
       IsHonest = λ store. ⊥;
-      failed = λ store. 2 ^ 64 - 1;
+      failures = λ store. 2 ^ 64 - 1;
       acts = λ old step new. Unit {0};
     } };
 

@@ -13,12 +13,12 @@ use std::time::Clock;
 
 // Counts the threads of the program when the first call is about to be executed.
 #[derive(Drop)]
-struct Census<'a> {
+struct CensusGate<'a> {
     rt: &'a HostRuntime,
     threads: AtomicU64,
 }
 
-impl Gate for Census<'_> {
+impl Gate for CensusGate<'_> {
     fn before(&self, number: u64) {
         if number == 1 {
             let threads = threads(self.rt).unwrap_or(0);
@@ -46,7 +46,7 @@ fn expect_threads(
     let input = joined(rt, alloc, &[OPENING, b"balance alice\n"]);
     let mut reader = input.as_slice();
     let mut written: Vec<u8> = Vec::new(alloc);
-    let gate = Census {
+    let gate = CensusGate {
         rt: host,
         threads: AtomicU64::new(0),
     };

@@ -1,7 +1,7 @@
-pub mod Ended
-pub mod Hearing
-pub mod Left
-pub mod Looking
-pub mod Printed
-pub mod Running
-pub mod Standing
+pub mod BankAfter
+pub mod EndRows
+pub mod OptionSearch
+pub mod OptionValues
+pub mod PrintedLines
+pub mod SessionsInOrder
+pub mod SubcommandWords

@@ -1,7 +1,8 @@
 pub mod Faults
-pub mod Heard
-pub mod Kept
 pub mod Opening
 pub mod ServeFaults
-pub mod Served
+pub mod ServeOutput
+pub mod Sessions
+pub mod StoreAfter
 pub mod Words
+pub mod inner

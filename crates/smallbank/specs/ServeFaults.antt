@@ -1,19 +1,9 @@
 -- What a fault of serving a bank means.
 use Rattle.std.specs.Prelude.{◌≡◌, ◌<◌, ◌≤◌, ℕ, Bool, true}
 use Rattle.bank_server.specs.declared.fault.RunFault.{RunFault}
-use Rattle.bank_server.specs.declared.fault.RunFault.TheVariants.{Input, Strayed, Device, OutOfMemory}
+use Rattle.bank_server.specs.declared.fault.RunFault.TheVariants.{Input, Strayed, Device}
 use Rattle.smallbank.specs.declared.serve_fault.ServeFault.{ServeFault}
 use Rattle.smallbank.specs.declared.serve_fault.ServeFault.TheVariants.{Run, ReadBack, Store, PortTaken}
-
--- a device failed, or memory was refused
-abbrev pub IsPrintRunFault : RunFault → Type 0
-IsPrintRunFault Device = Unit {0}
-IsPrintRunFault OutOfMemory = Unit {0}
-IsPrintRunFault other = ⊥
-
-abbrev pub IsPrintFault : ServeFault → Type 0
-IsPrintFault (Run fault) = IsPrintRunFault fault
-IsPrintFault other = ⊥
 
 -- a device failed
 abbrev pub IsDeviceFault : RunFault → Type 0
@@ -26,33 +16,27 @@ IsPortFault port (Run fault) = IsDeviceFault fault
 IsPortFault port (PortTaken taken) = taken ≡ port
 IsPortFault port other = ⊥
 
--- memory was refused; or there is a store, and it takes nothing
-abbrev pub IsStoreFault : Bool → ServeFault → Type 0
-IsStoreFault stores (Run fault) = fault ≡ OutOfMemory
-IsStoreFault stores Store = stores ≡ true
-IsStoreFault stores other = ⊥
-
 -- the crew is gone, a device failed, or memory was refused
-abbrev pub IsKeepRunFault : RunFault → Type 0
-IsKeepRunFault (Input line fault) = ⊥
-IsKeepRunFault (Strayed node) = ⊥
-IsKeepRunFault other = Unit {0}
+abbrev pub IsFinishRunFault : RunFault → Type 0
+IsFinishRunFault (Input line fault) = ⊥
+IsFinishRunFault (Strayed node) = ⊥
+IsFinishRunFault other = Unit {0}
 
 -- the same; or the bank saves, and its store gives back something else
-abbrev pub IsKeepFault : Bool → ServeFault → Type 0
-IsKeepFault saves (Run fault) = IsKeepRunFault fault
-IsKeepFault saves ReadBack = saves ≡ true
-IsKeepFault saves other = ⊥
+abbrev pub IsFinishFault : Bool → ServeFault → Type 0
+IsFinishFault saves (Run fault) = IsFinishRunFault fault
+IsFinishFault saves ReadBack = saves ≡ true
+IsFinishFault saves other = ⊥
 
 -- the same, or a follower strayed, which is one of this many nodes and not node 0
 abbrev pub IsServingRunFault : ℕ → RunFault → Type 0
 IsServingRunFault nodes (Strayed node) = (1 ≤ node) × (node < nodes)
-IsServingRunFault nodes other = IsKeepRunFault other
+IsServingRunFault nodes other = IsFinishRunFault other
 
 -- serving a bank of this many nodes, which saves or doesn't, may end with this fault
 abbrev pub IsServingFault : ℕ → Bool → ServeFault → Type 0
 IsServingFault nodes saves (Run fault) = IsServingRunFault nodes fault
-IsServingFault nodes saves other = IsKeepFault saves other
+IsServingFault nodes saves other = IsFinishFault saves other
 
 -- the same, or a line of the opening is at fault
 abbrev pub IsProgramRunFault : ℕ → RunFault → Type 0

@@ -1,9 +1,9 @@
 //! One client.
 ghost use Rattle.std.specs.Prelude.{◌≡◌, false, IfErr, IfSome};
-ghost use Rattle.bank_server.specs.Primary.{KeepsBank};
+ghost use Rattle.bank_server.specs.Primary.{PreservesBank};
 ghost use Rattle.bank_server.specs.SessionFaults.{LosesCrew};
 ghost use Rattle.sb_sequencer.specs.Numbering.{IsLog};
-ghost use Rattle.smallbank.specs.Heard.{IsHeard};
+ghost use Rattle.smallbank.specs.Sessions.{IsSession};
 
 use crate::hanging_up::hang_up;
 use bank_server::{Primary, SessionFault, serve_session};
@@ -36,10 +36,10 @@ where
     C: Crew,
     requires one_each { IsLog primary.old.log }
     // What the client sent was heard, and its asks are in the log.
-    ensures heard { IfSome (T.remaining stream.old) (λ sent.
-        IsHeard primary.old.log sent result primary.new.log) }
-    ensures bank { KeepsBank primary.old primary.new }
-    ensures gone { IfErr result (LosesCrew C.keeps primary.old.node.board) }
+    ensures session { IfSome (T.remaining stream.old) (λ sent.
+        IsSession primary.old.log sent result primary.new.log) }
+    ensures bank { PreservesBank primary.old primary.new }
+    ensures crew_lost { IfErr result (LosesCrew C.keeps primary.old.node.board) }
 {
     let Ok(mut writer) = set_up(&*stream, patience) else {
         return Err(SessionFault::Device);

@@ -2,6 +2,9 @@
 use clap::{Arg, Command, value_parser};
 use std::alloc::{AllocError, Global};
 
+/// The program's version, which stands here alone.
+const VERSION: &str = "0.1.0";
+
 const RUN: &str = "Runs calls from standard input.
 
 Reads an opening, which is a line `NAME SAVINGS CHECKING` a customer and then the line `begin`, and
@@ -94,7 +97,7 @@ pub fn command<'a>(alloc: Global) -> Result<Command<'a>, AllocError> {
     let serve = serve(alloc)?;
     let parts = Vec::from_array(alloc, [run, play(alloc), serve])?;
     Command::new(alloc, "smallbank")
-        .version("0.1.0")
+        .version(VERSION)
         .about("A SmallBank store, proved")
         .subcommands(parts)
 }

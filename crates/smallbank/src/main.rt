@@ -7,6 +7,7 @@ use bank_server::{RunFault, run_text};
 use clap::error::ErrorKind;
 use cown_workers::OpenGate;
 use fault::ProgramFault;
+use report::told;
 use schedule_player::run_schedule;
 use serve_program::serve_program;
 use std::net::Net;
@@ -15,26 +16,25 @@ use std::sync::Wait;
 use std::thread::Threads;
 use std::time::Clock;
 use std::{env, io};
-use told::told;
 use words::{Words, read_words, refuse_bytes};
 
 mod client;
 pub mod command;
-pub mod door;
 pub mod fault;
 mod hanging_up;
-mod keeping;
+pub mod listener;
 pub mod listening;
 pub mod opening;
 pub mod options;
 mod printing;
+pub mod report;
 pub mod serve_fault;
 pub mod serve_program;
 mod server;
 pub mod serving;
+mod session_end;
 #[cfg(test)]
 mod tests;
-pub mod told;
 pub mod words;
 
 fn main(rt: HostRuntime) -> ExitCode {
@@ -61,11 +61,11 @@ fn start<H: Threads + Wait + Clock + Sync + Net>(
         Err(error) if error.kind() == io::ErrorKind::OutOfMemory => {
             return Err(ProgramFault::Run(RunFault::OutOfMemory));
         }
-        Err(_) => return tell(rt, refuse_bytes(rt.alloc())),
+        Err(_) => return print_error(rt, refuse_bytes(rt.alloc())),
     };
     match read_words(rt.alloc(), &words) {
         Ok(read) => obey(rt, threads, read),
-        Err(error) => tell(rt, error),
+        Err(error) => print_error(rt, error),
     }
 }
 
@@ -97,7 +97,7 @@ fn obey<H: Threads + Wait + Clock + Sync + Net>(
 }
 
 // Prints clap's text for words that start nothing: a fault, or help that they call for.
-fn tell(rt: &HostRuntime, error: clap::Error) -> Result<u8, ProgramFault> {
+fn print_error(rt: &HostRuntime, error: clap::Error) -> Result<u8, ProgramFault> {
     if error.kind() == ErrorKind::OutOfMemory {
         return Err(ProgramFault::Run(RunFault::OutOfMemory));
     }

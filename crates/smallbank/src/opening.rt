@@ -1,6 +1,6 @@
 //! An opening text, with nothing after it.
 ghost use Rattle.std.specs.Prelude.{◌≡◌, MatchResult};
-ghost use Rattle.bank_server.specs.Faults.{BlamesText};
+ghost use Rattle.bank_server.specs.Faults.{IsTextFaultOf};
 ghost use Rattle.smallbank.specs.Opening.{IsOpeningOf, whole_opening_of};
 
 use bank_server::{InputFault, RunFault};
@@ -14,7 +14,7 @@ use std::alloc::Global;
 pub fn whole_opening(alloc: Global, input: &[u8]) -> Result<Opening, RunFault>
     ensures whole { MatchResult result
         (IsOpeningOf (whole_opening_of input.now))
-        (λ fault. BlamesText fault (whole_opening_of input.now)) }
+        (λ fault. IsTextFaultOf fault (whole_opening_of input.now)) }
 {
     let opening = match read_opening(alloc, input) {
         Ok(opening) => opening,

@@ -1,11 +1,11 @@
 //! The values of options among the program's words.
 ghost use Rattle.std.specs.Prelude.{◌≡◌, ◌≢◌, ◌++◌, ◌∷◌, IfSome, MatchOption, map, string_bytes};
-ghost use Rattle.smallbank.specs.Words.{Counts, MayNumber, Numbers, Stands};
+ghost use Rattle.smallbank.specs.Words.{HasIntegerOrDefault, MayHaveInteger, HasInteger, HasValue};
 
 /// The number that an option has, or the default. `None` if its value isn't a number.
-pub fn count(words: &[String], option: &str, standard: usize) -> Option<usize>
+pub fn parse_count(words: &[String], option: &str, standard: usize) -> Option<usize>
     ensures { IfSome result
-        (λ number. Counts option.now standard number (map string_bytes words.now)) }
+        (λ number. HasIntegerOrDefault option.now standard number (map string_bytes words.now)) }
 {
     match value(words, option) {
         Some(text) => text.parse::<usize>().ok(),
@@ -14,8 +14,8 @@ pub fn count(words: &[String], option: &str, standard: usize) -> Option<usize>
 }
 
 /// The number that an option has, if it has a value. `None` if that isn't a number.
-pub fn maybe(words: &[String], option: &str) -> Option<Option<usize>>
-    ensures { IfSome result (λ number. MayNumber option.now number (map string_bytes words.now)) }
+pub fn parse_optional(words: &[String], option: &str) -> Option<Option<usize>>
+    ensures { IfSome result (λ number. MayHaveInteger option.now number (map string_bytes words.now)) }
 {
     match value(words, option) {
         Some(text) => Some(Some(text.parse::<usize>().ok()?)),
@@ -24,8 +24,8 @@ pub fn maybe(words: &[String], option: &str) -> Option<Option<usize>>
 }
 
 /// The number that an option has. `None` if its value isn't a number, or it has none.
-pub fn number(words: &[String], option: &str) -> Option<usize>
-    ensures { IfSome result (λ number. Numbers option.now number (map string_bytes words.now)) }
+pub fn parse_number(words: &[String], option: &str) -> Option<usize>
+    ensures { IfSome result (λ number. HasInteger option.now number (map string_bytes words.now)) }
 {
     value(words, option)?.parse::<usize>().ok()
 }
@@ -33,8 +33,8 @@ pub fn number(words: &[String], option: &str) -> Option<usize>
 /// The first value that an option has.
 pub fn value<'a>(words: &'a [String], option: &str) -> Option<&'a str>
     ensures { MatchOption result
-        ((text : _) → ¬ (Stands option.now text (map string_bytes words.entry.now)))
-        (λ text. Stands option.now text.now (map string_bytes words.entry.now)) }
+        ((text : _) → ¬ (HasValue option.now text (map string_bytes words.entry.now)))
+        (λ text. HasValue option.now text.now (map string_bytes words.entry.now)) }
 {
     let mut rest = words;
     while let Some((word, others)) = rest.split_first() {

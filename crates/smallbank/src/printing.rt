@@ -1,10 +1,11 @@
 //! What a served bank prints.
 ghost use Rattle.std.specs.Prelude.{◌≡◌, [], ◌∷◌, ◌++◌, IfErr, OnOk};
-ghost use Rattle.bank_server.specs.Primary.{HasAll};
-ghost use Rattle.smallbank.specs.ServeFaults.{IsPrintFault};
-ghost use Rattle.smallbank.specs.Served.{PrintsLines, PrintsPort, PrintsRows, end_text, session_line};
+ghost use Rattle.bank_server.specs.Primary.{HasWholeLog};
+ghost use Rattle.smallbank.specs.inner.StepFaults.{IsPrintFault};
+ghost use Rattle.smallbank.specs.ServeOutput.{PrintsLines, end_text, session_line};
+ghost use Rattle.smallbank.specs.inner.ServeSteps.{PrintsPort, PrintsRows};
 
-use crate::door::Door;
+use crate::listener::ClientListener;
 use crate::serve_fault::ServeFault;
 use bank_server::{Primary, SessionFault};
 use itoa::Buffer;
@@ -16,9 +17,9 @@ use std::io::Write;
 /// Prints the address where the server listens.
 ///
 /// Fails if the port can't be found out, if a write fails, or if memory is refused.
-pub(crate) fn print_port<D: Door, W: Write>(
+pub(crate) fn print_port<D: ClientListener, W: Write>(
     alloc: Global,
-    door: &D,
+    listener: &D,
     writer: &mut W,
 ) -> Result<(), ServeFault>
     ensures printed { OnOk result (PrintsPort (W.contents writer.old) (W.contents writer.new)) }
@@ -26,7 +27,7 @@ pub(crate) fn print_port<D: Door, W: Write>(
 {
     let mut buffer = Buffer::new();
     let mut line = Vec::from_slice(alloc, b"listening 127.0.0.1:")?;
-    let port = door.port()?;
+    let port = listener.port()?;
     line.extend_from_slice(buffer.format(port).as_bytes())?;
     line.push(b'\n')?;
     Ok(write_whole(writer, &line)?)
@@ -76,14 +77,14 @@ pub(crate) fn print_rows<S: CheckpointStore, W: Write>(
     primary: &Primary<S>,
     writer: &mut W,
 ) -> Result<(), ServeFault>
-    requires all { HasAll primary.now }
+    requires whole_log { HasWholeLog primary.now }
     ensures printed { OnOk result (PrintsRows primary.now (W.contents writer.old) (W.contents writer.new)) }
     ensures fault { IfErr result IsPrintFault }
 {
     let mut rows = Vec::new(alloc);
     let node = primary.node();
     // Nothing is unfinished.
-    let columns = node.settled_columns().unwrap();
+    let columns = node.final_columns().unwrap();
     list_rows(node.directory(), columns, &mut rows)?;
     Ok(write_whole(writer, &rows)?)
 }

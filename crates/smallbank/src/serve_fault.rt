@@ -1,6 +1,6 @@
 //! Why a bank isn't served.
 ghost use Rattle.std.specs.Prelude.{◌≡◌};
-ghost use Rattle.bank_server.specs.Faults.{of_crew_fault, of_read_fault};
+ghost use Rattle.bank_server.specs.inner.RunFaults.{run_of_crew_fault, run_of_read_fault};
 ghost use Rattle.bank_server.specs.declared.fault.RunFault.TheVariants.{Device, OutOfMemory};
 ghost use Rattle.smallbank.specs.declared.serve_fault.ServeFault.TheVariants.{Run};
 
@@ -38,7 +38,7 @@ impl From<RunFault> for ServeFault {
 }
 
 impl From<ReadFault> for ServeFault {
-    ghost from_gives = { λ read fault. fault ≡ Run (of_read_fault read) };
+    ghost from_gives = { λ read fault. fault ≡ Run (run_of_read_fault read) };
 
     fn from(read: ReadFault) -> ServeFault {
         ServeFault::Run(RunFault::from(read))
@@ -46,7 +46,7 @@ impl From<ReadFault> for ServeFault {
 }
 
 impl From<CrewFault> for ServeFault {
-    ghost from_gives = { λ crew fault. fault ≡ Run (of_crew_fault crew) };
+    ghost from_gives = { λ crew fault. fault ≡ Run (run_of_crew_fault crew) };
 
     fn from(crew: CrewFault) -> ServeFault {
         ServeFault::Run(RunFault::from(crew))

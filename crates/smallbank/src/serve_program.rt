@@ -1,10 +1,11 @@
 //! The program that serves.
 ghost use Rattle.std.specs.Prelude.{◌≡◌, ◌≤◌, None, false, is_some, IfErr, IfOk};
-ghost use Rattle.bank_server.specs.Faults.{BlamesText};
+ghost use Rattle.bank_server.specs.Faults.{IsTextFaultOf};
 ghost use Rattle.smallbank.specs.Opening.{whole_opening_of};
-ghost use Rattle.smallbank.specs.ServeFaults.{IsProgramFault, IsStoreFault};
+ghost use Rattle.smallbank.specs.ServeFaults.{IsProgramFault};
+ghost use Rattle.smallbank.specs.inner.StepFaults.{IsStoreFault};
 
-use crate::door::ListenerDoor;
+use crate::listener::SocketListener;
 use crate::listening::listen;
 use crate::opening::whole_opening;
 use crate::serve_fault::ServeFault;
@@ -55,7 +56,7 @@ where
 
 // A whole opening text, read as `whole_opening` reads it.
 fn boxed_opening(alloc: Global, input: &[u8]) -> Result<Box<Opening>, RunFault>
-    ensures { IfErr result (λ fault. BlamesText fault (whole_opening_of input.now)) }
+    ensures { IfErr result (λ fault. IsTextFaultOf fault (whole_opening_of input.now)) }
 {
     let opening = whole_opening(alloc, input)?;
     Ok(Box::new(alloc, opening)?)
@@ -80,7 +81,7 @@ fn store_of(
 fn store_in<P: FileWithSpare>(file: P) -> Result<FileStore<P>, ServeFault>
     // The store was tried: in an honest folder no spare is left, and the checkpoint stays.
     ensures tried { IfOk result (λ store. P.IsHonest file → P.spare store.file ≡ None) }
-    ensures stays { IfOk result (λ store. P.IsHonest file → P.held store.file ≡ P.held file) }
+    ensures unchanged { IfOk result (λ store. P.IsHonest file → P.content store.file ≡ P.content file) }
     ensures fault { IfErr result (λ fault. fault ≡ ServeFault.Store) }
 {
     let mut store = FileStore::new(file);
@@ -106,8 +107,16 @@ where
     requires workers { plan.workers ≤ WORKERS }
     ensures fault { IfErr result (IsProgramFault port plan.nodes plan.saves false) }
 {
-    let door = ListenerDoor::new(threads, listen(threads, port)?);
+    let listener = SocketListener::new(threads, listen(threads, port)?);
     let opening = Box::into_inner(opening);
-    serve(threads, rt.alloc(), door, opening, store, plan, rt.stdout())?;
+    serve(
+        threads,
+        rt.alloc(),
+        listener,
+        opening,
+        store,
+        plan,
+        rt.stdout(),
+    )?;
     Ok(())
 }

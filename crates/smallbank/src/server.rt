@@ -1,18 +1,19 @@
 //! The server of a bank's clients.
 ghost use Rattle.std.specs.Prelude.{◌≡◌, [], IfErr, IfOk, MatchOption, OnOk};
-ghost use Rattle.bank_server.specs.Primary.{HasAll};
+ghost use Rattle.bank_server.specs.Primary.{HasWholeLog};
 ghost use Rattle.sb_sequencer.specs.Numbering.{IsLog};
-ghost use Rattle.smallbank.specs.Kept.{IsLeft};
-ghost use Rattle.smallbank.specs.ServeFaults.{IsKeepFault, IsKeepRunFault, IsServingFault};
-ghost use Rattle.smallbank.specs.Served.{GoesOn, ServesAll, ServesAsPlanned, ServesNext};
+ghost use Rattle.smallbank.specs.inner.BankAfter.{IsBankAfter};
+ghost use Rattle.smallbank.specs.ServeFaults.{IsFinishFault, IsFinishRunFault, IsServingFault};
+ghost use Rattle.smallbank.specs.ServeOutput.{ServerContinues};
+ghost use Rattle.smallbank.specs.inner.ServeSteps.{ServesAll, ServesByPlan, ServesNext};
 
 use crate::client::serve_client;
-use crate::door::Door;
-use crate::keeping::keep;
+use crate::listener::ClientListener;
 use crate::printing::{print_port, print_rows, print_session};
 use crate::serve_fault::ServeFault;
-use crate::serving::{Plan, Served};
-use bank_server::{Duty, Followers, Headcount, Primary, RunFault, SessionFault};
+use crate::serving::{Plan, ServedBank};
+use crate::session_end::finish_session;
+use bank_server::{Duty, Followers, Primary, RunFault, SessionFault, WorkerCount};
 use cown_workers::Crew;
 use sb_checkpoint::CheckpointStore;
 use std::alloc::Global;
@@ -22,29 +23,29 @@ use std::sync::Wait;
 use std::thread::Threads;
 use std::time::Clock;
 
-/// A bank, the door where its clients come in, and the writer where it prints.
+/// A bank, the listener that accepts its clients, and the writer where it prints.
 #[derive(Drop)]
 pub(crate) struct Server<D, S: CheckpointStore, W> {
     pub(crate) alloc: Global,
     pub(crate) plan: Plan,
-    pub(crate) door: D,
+    pub(crate) listener: D,
     pub(crate) primary: Primary<S>,
     pub(crate) writer: W,
 }
 
 impl<D, S, W> Duty for Server<D, S, W>
 where
-    D: Door + Drop,
+    D: ClientListener + Drop,
     D::Stream: Read + Write + OpenStream,
     S: CheckpointStore,
     W: Write + Drop,
 {
-    type Answer = Result<Served<S, W>, ServeFault>;
+    type Answer = Result<ServedBank<S, W>, ServeFault>;
 
-    ghost ready = { λ server. HasAll server.primary × (server.primary.log ≡ []) };
+    ghost ready = { λ server. HasWholeLog server.primary × (server.primary.log ≡ []) };
 
-    ghost does = { λ server nodes workers keeps answer. IfOk answer (λ bank. ServesAsPlanned D.Stream.remaining S.model
-        server.plan (D.coming server.door) server.primary bank.primary (W.contents server.writer) (W.contents bank.writer))
+    ghost does = { λ server nodes workers keeps answer. IfOk answer (λ bank. ServesByPlan D.Stream.remaining S.model
+        server.plan (D.coming server.listener) server.primary bank.primary (W.contents server.writer) (W.contents bank.writer))
         × IfErr answer (IsServingFault nodes server.plan.saves) };
 
     // Serves the bank, and prints its whole output.
@@ -53,14 +54,14 @@ where
         rt: &R,
         followers: &mut Followers<'_, R>,
         crew: &mut C,
-    ) -> Result<Served<S, W>, ServeFault>
+    ) -> Result<ServedBank<S, W>, ServeFault>
     where
         R: Threads + Wait + Clock,
-        C: Crew + Headcount,
+        C: Crew + WorkerCount,
     {
         let mut server = self;
         server.serve_whole(rt, followers, crew)?;
-        Ok(Served {
+        Ok(ServedBank {
             primary: server.primary,
             writer: server.writer,
         })
@@ -69,7 +70,7 @@ where
 
 impl<D, S, W> Server<D, S, W>
 where
-    D: Door,
+    D: ClientListener,
     D::Stream: Read + Write + OpenStream,
     S: CheckpointStore,
     W: Write,
@@ -84,14 +85,14 @@ where
     where
         R: Threads + Wait + Clock,
         C: Crew,
-        requires all { HasAll self.old.primary }
-        requires none { self.old.primary.log ≡ [] }
-        ensures served { OnOk result (ServesAsPlanned D.Stream.remaining S.model self.old.plan
-            (D.coming self.old.door) self.old.primary self.new.primary
+        requires whole_log { HasWholeLog self.old.primary }
+        requires empty_log { self.old.primary.log ≡ [] }
+        ensures served { OnOk result (ServesByPlan D.Stream.remaining S.model self.old.plan
+            (D.coming self.old.listener) self.old.primary self.new.primary
             (W.contents self.old.writer) (W.contents self.new.writer)) }
         ensures fault { IfErr result (IsServingFault followers.old.nodes self.old.plan.saves) }
     {
-        print_port(self.alloc, &self.door, &mut self.writer)?;
+        print_port(self.alloc, &self.listener, &mut self.writer)?;
         self.serve_all(rt, followers, crew)?;
         followers.compare(rt, self.primary.node())?;
         print_rows(self.alloc, &self.primary, &mut self.writer)?;
@@ -109,15 +110,15 @@ where
         R: Wait + Clock,
         C: Crew,
         requires one_each { IsLog self.old.primary.log }
-        requires all { HasAll self.old.primary }
+        requires whole_log { HasWholeLog self.old.primary }
         ensures served { OnOk result (ServesAll D.Stream.remaining self.old.plan.sessions
-            (D.coming self.old.door) (D.coming self.new.door) self.old.primary.log self.new.primary.log
+            (D.coming self.old.listener) (D.coming self.new.listener) self.old.primary.log self.new.primary.log
             (W.contents self.old.writer) (W.contents self.new.writer)) }
-        ensures left { OnOk result (IsLeft S.model self.old.plan.saves self.old.plan.sessions
+        ensures bank_after { OnOk result (IsBankAfter S.model self.old.plan.saves self.old.plan.sessions
             self.old.primary self.new.primary) }
         ensures nodes { followers.new.nodes ≡ followers.old.nodes }
         ensures plan { self.new.plan ≡ self.old.plan }
-        ensures fault { IfErr result (IsKeepFault self.old.plan.saves) }
+        ensures fault { IfErr result (IsFinishFault self.old.plan.saves) }
     {
         for before in 0..self.plan.sessions {
             self.serve_next(before + 1, rt, followers, crew)?;
@@ -138,31 +139,31 @@ where
         C: Crew,
         requires one_each { IsLog self.old.primary.log }
         ensures served { OnOk result (ServesNext D.Stream.remaining number
-            (D.coming self.old.door) (D.coming self.new.door) self.old.primary.log self.new.primary.log
+            (D.coming self.old.listener) (D.coming self.new.listener) self.old.primary.log self.new.primary.log
             (W.contents self.old.writer) (W.contents self.new.writer)) }
-        ensures left { OnOk result (IsLeft S.model self.old.plan.saves 1
+        ensures bank_after { OnOk result (IsBankAfter S.model self.old.plan.saves 1
             self.old.primary self.new.primary) }
         ensures nodes { followers.new.nodes ≡ followers.old.nodes }
         ensures plan { self.new.plan ≡ self.old.plan }
-        ensures fault { IfErr result (IsKeepFault self.old.plan.saves) }
+        ensures fault { IfErr result (IsFinishFault self.old.plan.saves) }
     {
         // The stream is dropped when this function ends. So a client whose stream ends while the
         // server goes on knows that its asks are saved.
-        let mut stream = self.door.let_in()?;
+        let mut stream = self.listener.accept_client()?;
         let (alloc, patience) = (self.alloc, self.plan.patience);
         let served = serve_client(rt, alloc, patience, &mut stream, &mut self.primary, crew);
         if let Some(fault) = ending(served) {
             print_session(alloc, number, served, &mut self.writer)?;
             return Err(ServeFault::Run(fault));
         }
-        keep(&mut self.primary, followers, self.plan.saves, crew)?;
+        finish_session(&mut self.primary, followers, self.plan.saves, crew)?;
         print_session(alloc, number, served, &mut self.writer)
     }
 }
 
 // The fault with which the program ends after such a session, if it does.
 fn ending(served: Result<(), SessionFault>) -> Option<RunFault>
-    ensures { MatchOption result (GoesOn served) IsKeepRunFault }
+    ensures { MatchOption result (ServerContinues served) IsFinishRunFault }
 {
     match served {
         Err(SessionFault::CrewGone) => Some(RunFault::CrewGone),

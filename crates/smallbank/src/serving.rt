@@ -1,12 +1,13 @@
 //! A served bank: its clients, one after another, and its rows at the end.
 ghost use Rattle.std.specs.Prelude.{◌≡◌, ◌≤◌, [], IfErr, IfOk};
-ghost use Rattle.bank_server.specs.Primary.{HasAll};
+ghost use Rattle.bank_server.specs.Primary.{HasWholeLog};
 ghost use Rattle.sb_sequencer.specs.Numbering.{IsLog};
-ghost use Rattle.smallbank.specs.Kept.{IsKept};
+ghost use Rattle.smallbank.specs.StoreAfter.{IsStoreAfter};
 ghost use Rattle.smallbank.specs.ServeFaults.{IsServingFault};
-ghost use Rattle.smallbank.specs.Served.{ServesAsPlanned, ServesBank};
+ghost use Rattle.smallbank.specs.inner.ServeSteps.{ServesByPlan};
+ghost use Rattle.smallbank.specs.ServeOutput.{ServesBank};
 
-use crate::door::Door;
+use crate::listener::ClientListener;
 use crate::serve_fault::ServeFault;
 use crate::server::Server;
 use bank_server::{Primary, ReadyFollowers, with_team};
@@ -39,14 +40,14 @@ pub struct Plan {
 
 /// A bank that was served.
 #[derive(Drop)]
-pub struct Served<S: CheckpointStore, W> {
+pub struct ServedBank<S: CheckpointStore, W> {
     /// Its log and node 0, which has executed all of it.
     pub primary: Primary<S>,
     /// The writer where it printed.
     pub writer: W,
 }
 
-/// Serves a bank with this opening to those who come in at a door, and gives back the bank and the
+/// Serves a bank with this opening to those who come to a listener, and gives back the bank and the
 /// writer.
 ///
 /// It prints the address, and then a line for each session, as soon as node 0 has executed all that
@@ -64,15 +65,15 @@ pub struct Served<S: CheckpointStore, W> {
 pub fn serve<H, D, S, W>(
     rt: &H,
     alloc: Global,
-    door: D,
+    listener: D,
     opening: Opening,
     store: S,
     plan: Plan,
     writer: W,
-) -> Result<Served<S, W>, ServeFault>
+) -> Result<ServedBank<S, W>, ServeFault>
 where
     H: Threads + Wait + Clock + Sync,
-    D: Door + Drop,
+    D: ClientListener + Drop,
     D::Stream: Read + Write + OpenStream,
     S: CheckpointStore,
     W: Write + Drop,
@@ -80,14 +81,14 @@ where
     requires workers { plan.workers ≤ WORKERS }
     // The log is that of the clients' sessions, and the printed rows are those after it.
     ensures served { IfOk result (λ bank. ServesBank D.Stream.remaining opening.directory
-        opening.columns plan.sessions (D.coming door) bank.primary.log
+        opening.columns plan.sessions (D.coming listener) bank.primary.log
         (W.contents writer) (W.contents bank.writer)) }
     ensures one_each { IfOk result (λ bank. IsLog bank.primary.log) }
-    ensures all { IfOk result (λ bank. HasAll bank.primary) }
+    ensures whole_log { IfOk result (λ bank. HasWholeLog bank.primary) }
     ensures names { IfOk result (λ bank. bank.primary.node.names ≡ opening.directory) }
     ensures opening { IfOk result (λ bank. bank.primary.node.board.opening ≡ opening.columns) }
     // A bank that saves has the checkpoint of all of that log.
-    ensures kept { IfOk result (λ bank. IsKept S.model plan.saves plan.sessions store
+    ensures store { IfOk result (λ bank. IsStoreAfter S.model plan.saves plan.sessions store
         bank.primary.node) }
     // Node 0 never strays, and `ReadBack` comes only if the plan saves.
     ensures fault { IfErr result (IsServingFault plan.nodes plan.saves) }
@@ -97,7 +98,7 @@ where
     let server = Server {
         alloc,
         plan,
-        door,
+        listener,
         primary,
         writer,
     };
@@ -110,19 +111,19 @@ pub(crate) fn serve_beside<H, D, S, W>(
     rt: &H,
     followers: ReadyFollowers,
     server: Server<D, S, W>,
-) -> Result<Served<S, W>, ServeFault>
+) -> Result<ServedBank<S, W>, ServeFault>
 where
     H: Threads + Wait + Clock + Sync,
-    D: Door + Drop,
+    D: ClientListener + Drop,
     D::Stream: Read + Write + OpenStream,
     S: CheckpointStore,
     W: Write + Drop,
     requires nodes { followers.nodes ≤ REPLICAS }
     requires workers { server.plan.workers ≤ WORKERS }
-    requires all { HasAll server.primary }
-    requires none { server.primary.log ≡ [] }
-    ensures served { IfOk result (λ bank. ServesAsPlanned D.Stream.remaining S.model server.plan
-        (D.coming server.door) server.primary bank.primary (W.contents server.writer) (W.contents bank.writer)) }
+    requires whole_log { HasWholeLog server.primary }
+    requires empty_log { server.primary.log ≡ [] }
+    ensures served { IfOk result (λ bank. ServesByPlan D.Stream.remaining S.model server.plan
+        (D.coming server.listener) server.primary bank.primary (W.contents server.writer) (W.contents bank.writer)) }
     ensures fault { IfErr result (IsServingFault followers.nodes server.plan.saves) }
 {
     let (alloc, workers) = (server.alloc, server.plan.workers);

@@ -1,10 +1,11 @@
 //! The program's words.
 ghost use Rattle.std.specs.Prelude.{◌≡◌, IfErr, IfOk, IfSome};
 ghost use Rattle.clap.specs.Values.{kind_of};
-ghost use Rattle.smallbank.specs.Words.{InRange, IsPlanOf, IsRefusal, IsRunOf, IsServeOf, Names, Says};
+ghost use Rattle.smallbank.specs.Words.{InRange, IsRefusal, NamesProgram, GivesValues};
+ghost use Rattle.smallbank.specs.inner.WordValues.{IsPlanOf, IsRunOf, IsServeOf};
 
 use crate::command::command;
-use crate::options::{count, maybe, number, value};
+use crate::options::{parse_count, parse_number, parse_optional, value};
 use crate::serving::Plan;
 use clap::error::ErrorKind;
 use clap::{Command, Error};
@@ -12,7 +13,7 @@ use cown_bench::WORKERS;
 use sb_sequencer::REPLICAS;
 use std::alloc::{AllocError, Global};
 
-// The text for words that clap takes and `named` doesn't. None are known.
+// The text for words that clap takes and `parse_words` doesn't. None are known.
 const UNREAD: &str =
     "these take 1 to 16 nodes, 0 to 16 workers, 1 to 1000 sessions, 1 to 86400 seconds and a port, \
     as plain numbers";
@@ -47,14 +48,14 @@ pub enum Words<'a> {
 /// Fails with clap's error, whose text and exit status say what is wrong. A call for help or for
 /// the version is one too.
 pub fn read_words<'a>(alloc: Global, words: &'a [String]) -> Result<Words<'a>, Error>
-    ensures names { IfOk result (λ read. Names read words.entry.now) }
+    ensures names { IfOk result (λ read. NamesProgram read words.entry.now) }
     ensures range { IfOk result (λ read. InRange read) }
-    ensures says { IfOk result (λ read. Says read words.entry.now) }
+    ensures values { IfOk result (λ read. GivesValues read words.entry.now) }
 {
     let mut command = boxed_command(alloc)?;
     check(&mut command, words)?;
     // The values are checked here again, so that no clause rests on clap's grammar.
-    match named(words) {
+    match parse_words(words) {
         Some(read) => Ok(read),
         None => Err(command.error(ErrorKind::ValueValidation, UNREAD)?),
     }
@@ -90,10 +91,10 @@ fn check<'a>(command: &mut Command<'a>, words: &'a [String]) -> Result<(), Error
 }
 
 // What the words after the program's name say.
-fn named<'a>(words: &'a [String]) -> Option<Words<'a>>
-    ensures names { IfSome result (λ read. Names read words.entry.now) }
+fn parse_words<'a>(words: &'a [String]) -> Option<Words<'a>>
+    ensures names { IfSome result (λ read. NamesProgram read words.entry.now) }
     ensures range { IfSome result (λ read. InRange read) }
-    ensures says { IfSome result (λ read. Says read words.entry.now) }
+    ensures values { IfSome result (λ read. GivesValues read words.entry.now) }
 {
     let [_, program, ..] = words else {
         return Some(Words::Run {
@@ -117,8 +118,8 @@ fn named<'a>(words: &'a [String]) -> Option<Words<'a>>
 fn run<'a>(options: &'a [String]) -> Option<Words<'a>>
     ensures { IfSome result (λ read. IsRunOf options.entry.now read) }
 {
-    let nodes = count(options, "--nodes", 1)?;
-    let workers = count(options, "--workers", 0)?;
+    let nodes = parse_count(options, "--nodes", 1)?;
+    let workers = parse_count(options, "--workers", 0)?;
     if (1..=REPLICAS).contains(&nodes) && workers <= WORKERS {
         Some(Words::Run { nodes, workers })
     } else {
@@ -130,7 +131,7 @@ fn run<'a>(options: &'a [String]) -> Option<Words<'a>>
 fn serve<'a>(options: &'a [String]) -> Option<Words<'a>>
     ensures { IfSome result (λ read. IsServeOf options.entry.now read) }
 {
-    let port = u16::try_from(number(options, "--port")?).ok()?;
+    let port = u16::try_from(parse_number(options, "--port")?).ok()?;
     let store = value(options, "--store");
     let plan = plan_of(options, store.is_some())?;
     Some(Words::Serve { port, plan, store })
@@ -141,11 +142,11 @@ fn plan_of(options: &[String], saves: bool) -> Option<Plan>
     ensures { IfSome result (λ plan. IsPlanOf options.now saves plan) }
 {
     let plan = Plan {
-        sessions: count(options, "--sessions", 1)?,
-        nodes: count(options, "--nodes", 1)?,
-        workers: count(options, "--workers", 0)?,
+        sessions: parse_count(options, "--sessions", 1)?,
+        nodes: parse_count(options, "--nodes", 1)?,
+        workers: parse_count(options, "--workers", 0)?,
         saves,
-        patience: maybe(options, "--patience")?,
+        patience: parse_optional(options, "--patience")?,
     };
     let is_patient = plan
         .patience

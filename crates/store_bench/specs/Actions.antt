@@ -3,8 +3,8 @@ use Rattle.std.specs.Prelude.{◌≡◌, ℕ, Some, List, length, map, String, c
 use Rattle.std.specs.Str.Parse.{IsNumeral, digits_value, without_leading_plus}
 use Rattle.store_bench.specs.declared.payees.Payees.TheVariants.{One, Many}
 use Rattle.store_bench.specs.declared.words.Absence.{Absence}
-use Rattle.store_bench.specs.declared.words.Crewed.{Crewed}
-use Rattle.store_bench.specs.declared.words.Crewed.TheVariants.{InPlace, InThreads, Wait, Held}
+use Rattle.store_bench.specs.declared.words.CrewChoice.{CrewChoice}
+use Rattle.store_bench.specs.declared.words.CrewChoice.TheVariants.{InPlace, InThreads, Wait, Buffered}
 use Rattle.store_bench.specs.declared.words.Action.{Action}
 use Rattle.store_bench.specs.declared.words.Action.TheVariants.{Measure, Cases}
 use Rattle.store_bench.specs.declared.words.Measurement.{Measurement}
@@ -12,40 +12,40 @@ use Rattle.store_bench.specs.declared.words.Measurement.TheVariants.{Drain, Writ
 
 module _ {A : Type 0} where
   -- there are this many words, and the second is this one
-  abbrev pub Asks : List (String A) → ℕ → List ℕ → Type 0
-  Asks words many action = (length words ≡ many) × (slice_get (map string_bytes words) 1 ≡ Some action)
+  abbrev pub NamesAction : List (String A) → ℕ → List ℕ → Type 0
+  NamesAction words many action = (length words ≡ many) × (slice_get (map string_bytes words) 1 ≡ Some action)
 
-  -- the word at a place is the number's digits, after an optional `+`
-  abbrev pub Spells : List (String A) → ℕ → ℕ → Type 0
-  Spells words place number = (text : List ℕ) × (slice_get (map string_bytes words) place ≡ Some text)
+  -- the word at a position is the number's digits, after an optional `+`
+  abbrev pub HasIntegerAt : List (String A) → ℕ → ℕ → Type 0
+  HasIntegerAt words position number = (text : List ℕ) × (slice_get (map string_bytes words) position ≡ Some text)
       × IsNumeral 10 (without_leading_plus text) × (number ≡ digits_value 10 (without_leading_plus text))
 
   -- the words are the program's name, the crew, and its numbers in order
-  abbrev pub Drains : Crewed → List (String A) → Type 0
-  Drains (InPlace steps calls) words = Asks words 4 (codes "none") × Spells words 2 steps × Spells words 3 calls
-  Drains (InThreads workers steps calls) words = Asks words 5 (codes "workers")
-      × Spells words 2 workers × Spells words 3 steps × Spells words 4 calls
-  Drains (Wait workers) words = Asks words 3 (codes "wait") × Spells words 2 workers
-  Drains (Held One calls) words = Asks words 3 (codes "one-customer") × Spells words 2 calls
-  Drains (Held Many calls) words = Asks words 3 (codes "many-customers") × Spells words 2 calls
+  abbrev pub GivesDrain : CrewChoice → List (String A) → Type 0
+  GivesDrain (InPlace steps calls) words = NamesAction words 4 (codes "none") × HasIntegerAt words 2 steps × HasIntegerAt words 3 calls
+  GivesDrain (InThreads workers steps calls) words = NamesAction words 5 (codes "workers")
+      × HasIntegerAt words 2 workers × HasIntegerAt words 3 steps × HasIntegerAt words 4 calls
+  GivesDrain (Wait workers) words = NamesAction words 3 (codes "wait") × HasIntegerAt words 2 workers
+  GivesDrain (Buffered One calls) words = NamesAction words 3 (codes "one-customer") × HasIntegerAt words 2 calls
+  GivesDrain (Buffered Many calls) words = NamesAction words 3 (codes "many-customers") × HasIntegerAt words 2 calls
 
   -- the three numbers after the second word: customers, the length of the log before, and entries
   -- since
-  abbrev pub Misses : Absence → List (String A) → Type 0
-  Misses absence words = Spells words 2 absence.customers
-      × Spells words 3 absence.before × Spells words 4 absence.entries
+  abbrev pub GivesAbsence : Absence → List (String A) → Type 0
+  GivesAbsence absence words = HasIntegerAt words 2 absence.customers
+      × HasIntegerAt words 3 absence.before × HasIntegerAt words 4 absence.entries
 
   -- the words are the program's name, what is measured, and its numbers in order
-  abbrev pub Measures : Measurement → List (String A) → Type 0
-  Measures (Drain crewed) words = Drains crewed words
-  Measures (Write count) words = Asks words 3 (codes "write") × Spells words 2 count
-  Measures (Read count) words = Asks words 3 (codes "read") × Spells words 2 count
-  Measures (Adopt count) words = Asks words 3 (codes "adopt") × Spells words 2 count
-  Measures (Open count) words = Asks words 3 (codes "open") × Spells words 2 count
-  Measures (ByState absence) words = Asks words 5 (codes "by-state") × Misses absence words
-  Measures (ByEntries absence) words = Asks words 5 (codes "by-entries") × Misses absence words
+  abbrev pub GivesMeasurement : Measurement → List (String A) → Type 0
+  GivesMeasurement (Drain choice) words = GivesDrain choice words
+  GivesMeasurement (Write count) words = NamesAction words 3 (codes "write") × HasIntegerAt words 2 count
+  GivesMeasurement (Read count) words = NamesAction words 3 (codes "read") × HasIntegerAt words 2 count
+  GivesMeasurement (Adopt count) words = NamesAction words 3 (codes "adopt") × HasIntegerAt words 2 count
+  GivesMeasurement (Open count) words = NamesAction words 3 (codes "open") × HasIntegerAt words 2 count
+  GivesMeasurement (ByState absence) words = NamesAction words 5 (codes "by-state") × GivesAbsence absence words
+  GivesMeasurement (ByEntries absence) words = NamesAction words 5 (codes "by-entries") × GivesAbsence absence words
 
   -- the words are the program's name, and what it does
-  abbrev pub Says : Action → List (String A) → Type 0
-  Says (Measure measurement) words = Measures measurement words
-  Says Cases words = Asks words 2 (codes "cases")
+  abbrev pub GivesAction : Action → List (String A) → Type 0
+  GivesAction (Measure measurement) words = GivesMeasurement measurement words
+  GivesAction Cases words = NamesAction words 2 (codes "cases")

@@ -1,17 +1,6 @@
 -- Checkpoints of the greatest size.
-use Rattle.std.specs.Prelude.{◌≡◌, ℕ, ◌+◌, ◌*◌, ℤ, ◌+ℤ◌, List, length}
-use Rattle.sb_calls.specs.declared.call.TheConstants.{LOG_CALLS}
-use Rattle.lane_audit.specs.Columns.{total}
-use Rattle.sb_checkpoint.specs.Checkpoint.{CheckpointOf, Second, Spells}
+use Rattle.std.specs.Prelude.{ℕ, ◌+◌, ◌*◌}
 
 -- the size in bytes of a checkpoint of this many customers and replies
 abbrev pub size_of : ℕ → ℕ → ℕ
 size_of customers replies = 36 + 16 * customers + 9 * replies
-
--- the bytes spell a checkpoint with as many replies as a log has calls, of a bank whose total is
--- that of its opening
-pub record SpellsFull (opening_total : ℤ) (bytes : List ℕ) : Type 0 where
-  pub checkpoint : CheckpointOf
-  pub spelled : Spells Second opening_total checkpoint bytes
-  pub opening : opening_total ≡ total checkpoint.columns.savings +ℤ total checkpoint.columns.checking
-  pub full : length checkpoint.replies ≡ LOG_CALLS

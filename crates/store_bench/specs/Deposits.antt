@@ -3,7 +3,7 @@ use Rattle.std.specs.Prelude.{◌≡◌, ℕ, zero, suc, ◌%◌, ℤ, pos, ◌+
 use Rattle.sb_rows.specs.Balances.{Balances}
 use Rattle.lane_audit.specs.Columns.{total}
 use Rattle.sb_calls.specs.Behaviour.{declared_cowns, effect_of}
-use Rattle.sb_calls.specs.Op.{resolved}
+use Rattle.sb_calls.specs.Op.{op_of}
 use Rattle.sb_calls.specs.declared.call.Call.TheVariants.{DepositChecking}
 use Rattle.sb_calls.specs.declared.op.Op.{Op}
 use Rattle.sb_calls.specs.declared.op.Op.TheVariants.{NoCustomer}
@@ -14,7 +14,7 @@ use Rattle.store_bench.specs.declared.payees.Payees.TheVariants.{One, Many}
 -- a deposit of a cent for the customer with this name, if there is one
 abbrev pub cent_for : List (List ℕ) → Option (List ℕ) → Op
 cent_for names None = NoCustomer
-cent_for names (Some name) = resolved names (DepositChecking name (pos 1))
+cent_for names (Some name) = op_of names (DepositChecking name (pos 1))
 
 -- the place of the payee of a call: always the first, or the next of 1,024 in turn
 abbrev pub payee_of : Payees → ℕ → ℕ

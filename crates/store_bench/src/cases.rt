@@ -20,16 +20,16 @@ mod story;
 
 /// Plays all cases, one after another, and reports the answer of each. A call that is refused
 /// memory is repeated.
-pub(crate) fn tell_all<R: Threads + Wait + Clock + Sync>(
+pub(crate) fn play_all<R: Threads + Wait + Clock + Sync>(
     rt: &R,
     alloc: Global,
     report: &mut Report,
 ) -> Result<(), CaseFault> {
-    five_calls::tell(rt, alloc, report)?;
-    session::tell(alloc, report)?;
-    story::tell(alloc, story::TWO_HANDS, report)?;
-    story::tell(alloc, story::CUT, report)?;
-    story::tell(alloc, story::STATE, report)?;
-    checkpoint::tell(alloc, report)?;
-    frames::tell(alloc, report)
+    five_calls::play_case(rt, alloc, report)?;
+    session::play_case(alloc, report)?;
+    story::play_case(alloc, story::TWO_HANDS, report)?;
+    story::play_case(alloc, story::CUT, report)?;
+    story::play_case(alloc, story::STATE, report)?;
+    checkpoint::play_case(alloc, report)?;
+    frames::play_case(alloc, report)
 }

@@ -2,10 +2,11 @@
 ghost use Rattle.std.specs.Prelude.{◌≡◌, ◌≤◌, length, IfOk};
 ghost use Rattle.std.specs.List.{All};
 ghost use Rattle.sb_calls.specs.Replies.{IsReply};
-ghost use Rattle.store_bench.specs.Checkpoints.{SpellsFull, size_of};
+ghost use Rattle.store_bench.specs.inner.FullCheckpoints.{SpellsFull};
+ghost use Rattle.store_bench.specs.Checkpoints.{size_of};
 
+use crate::bench_result::BenchResult;
 use crate::fault::Fault;
-use crate::measured::Measured;
 use crate::opening::open_bank;
 use lane_audit::bank_total;
 use sb_calls::{LOG_CALLS, Reply};
@@ -19,7 +20,7 @@ pub(crate) const BALANCES: &str = "1000.25 -200.75";
 
 /// Writes a checkpoint of the greatest size this often. The result is its size and a sum over its
 /// bytes.
-pub fn write(clock: &impl Clock, alloc: Global, count: u32) -> Result<Measured, Fault>
+pub fn write(clock: &impl Clock, alloc: Global, count: u32) -> Result<BenchResult, Fault>
     ensures { IfOk result (λ measured. measured.length ≡ size_of CUSTOMERS LOG_CALLS) }
 {
     let opening = open_bank(alloc, CUSTOMERS as u32, BALANCES)?;
@@ -34,8 +35,8 @@ fn write_often(
     columns: &Columns,
     replies: &[Reply],
     count: u32,
-) -> Result<Measured, Fault>
-    requires few { length replies.now ≤ LOG_CALLS }
+) -> Result<BenchResult, Fault>
+    requires limit { length replies.now ≤ LOG_CALLS }
     requires valid { All IsReply replies.now }
     ensures { IfOk result (λ measured.
         measured.length ≡ size_of (length columns.now.savings) (length replies.now)) }
@@ -50,7 +51,7 @@ fn write_often(
     let time = start.elapsed(clock)?;
     // Written once more, outside the measured time, for the result.
     let bytes = write_checkpoint(alloc, columns, opening_total, replies)?;
-    Ok(Measured {
+    Ok(BenchResult {
         length: bytes.len() as u64,
         sum: with_all(sum, &bytes),
         time,
@@ -59,7 +60,7 @@ fn write_often(
 
 /// Reads a checkpoint of the greatest size this often. The result is its number of replies, and a
 /// sum over what was read.
-pub fn read(clock: &impl Clock, alloc: Global, count: u32) -> Result<Measured, Fault>
+pub fn read(clock: &impl Clock, alloc: Global, count: u32) -> Result<BenchResult, Fault>
     ensures { IfOk result (λ measured. measured.length ≡ LOG_CALLS) }
 {
     let (bytes, opening_total) = written(alloc)?;
@@ -92,7 +93,7 @@ fn read_often(
     bytes: &[u8],
     opening_total: i64,
     count: u32,
-) -> Result<Measured, Fault>
+) -> Result<BenchResult, Fault>
     requires { SpellsFull opening_total bytes.now }
     ensures { IfOk result (λ measured. measured.length ≡ LOG_CALLS) }
 {
@@ -113,13 +114,13 @@ fn read_once(
     opening_total: i64,
     sum: i64,
     time: Duration,
-) -> Result<Measured, Fault>
+) -> Result<BenchResult, Fault>
     requires { SpellsFull opening_total bytes.now }
     ensures { IfOk result (λ measured. measured.length ≡ LOG_CALLS) }
 {
     let checkpoint = read_checkpoint(alloc, bytes, CUSTOMERS, opening_total)?;
     let sum = with_shown(sum, checkpoint.replies());
-    Ok(Measured {
+    Ok(BenchResult {
         length: checkpoint.replies().len() as u64,
         sum: bank_total(checkpoint.columns()).wrapping_add(sum),
         time,
@@ -128,21 +129,21 @@ fn read_once(
 
 // As many replies as a log has; every third one shows a total.
 fn all_replies(alloc: Global) -> Result<Vec<Reply>, Fault>
-    ensures many { IfOk result (λ replies. length replies.items ≡ LOG_CALLS) }
+    ensures count { IfOk result (λ replies. length replies.items ≡ LOG_CALLS) }
     ensures valid { IfOk result (λ replies. All IsReply replies.items) }
 {
     let mut replies = Vec::with_capacity(alloc, LOG_CALLS)?;
-    for place in 0..LOG_CALLS as u32 {
-        replies.push(reply_at(place))?;
+    for index in 0..LOG_CALLS as u32 {
+        replies.push(reply_at(index))?;
     }
     Ok(replies)
 }
 
-fn reply_at(place: u32) -> Reply
+fn reply_at(index: u32) -> Reply
     ensures { IsReply result }
 {
-    match place % 3 {
-        0 => Reply::Shown(i64::from(place)),
+    match index % 3 {
+        0 => Reply::Shown(i64::from(index)),
         1 => Reply::Done,
         _ => Reply::WouldOverdraw,
     }

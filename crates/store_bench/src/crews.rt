@@ -2,13 +2,13 @@
 ghost use Rattle.std.specs.Prelude.{◌≤◌, IfOk};
 
 use crate::bank::Bank;
+use crate::bench_result::BenchResult;
+use crate::buffering_crew::BufferingCrew;
 use crate::fault::Fault;
-use crate::gates::{Computing, Waiting};
-use crate::holding::HoldingCrew;
+use crate::gates::{ComputeGate, WaitGate};
 use crate::in_place::InPlace;
-use crate::measured::Measured;
 use crate::payees::Payees;
-use crate::words::Crewed;
+use crate::words::CrewChoice;
 use cown_workers::{Crew, Gate, with_crew};
 use std::alloc::Global;
 use std::sync::Wait;
@@ -20,10 +20,10 @@ use std::time::{Clock, Duration, Instant};
 pub(crate) fn drain_calls<R: Threads + Wait + Clock + Sync>(
     rt: &R,
     alloc: Global,
-    crewed: Crewed,
-) -> Result<Measured, Fault> {
+    choice: CrewChoice,
+) -> Result<BenchResult, Fault> {
     let mut bank = Box::new(alloc, Bank::open(alloc)?)?;
-    let time = time_of(rt, alloc, crewed, &mut bank);
+    let time = time_of(rt, alloc, choice, &mut bank);
     measured(time, &bank)
 }
 
@@ -31,25 +31,39 @@ pub(crate) fn drain_calls<R: Threads + Wait + Clock + Sync>(
 fn time_of<R: Threads + Wait + Clock + Sync>(
     rt: &R,
     alloc: Global,
-    crewed: Crewed,
+    choice: CrewChoice,
     bank: &mut Bank,
 ) -> Result<Duration, Fault> {
-    match crewed {
-        Crewed::InPlace { steps, calls } => in_place(rt, steps, bank, calls),
-        Crewed::Held { payees, calls } => held(rt, alloc, bank, payees, calls),
-        Crewed::InThreads {
+    match choice {
+        CrewChoice::InPlace { steps, calls } => in_place(rt, steps, bank, calls),
+        CrewChoice::Buffered { payees, calls } => run_buffered(rt, alloc, bank, payees, calls),
+        CrewChoice::InThreads {
             workers,
             steps,
             calls,
-        } => in_threads(rt, alloc, few(workers)?, &Computing::of(steps), bank, calls),
-        Crewed::Wait { workers } => {
-            in_threads(rt, alloc, few(workers)?, &Waiting { clock: rt }, bank, 1)
+        } => in_threads(
+            rt,
+            alloc,
+            crew_size(workers)?,
+            &ComputeGate::of(steps),
+            bank,
+            calls,
+        ),
+        CrewChoice::Wait { workers } => {
+            in_threads(
+                rt,
+                alloc,
+                crew_size(workers)?,
+                &WaitGate { clock: rt },
+                bank,
+                1,
+            )
         }
     }
 }
 
 // This number of workers, if a crew may have as many.
-fn few(workers: usize) -> Result<usize, Fault>
+fn crew_size(workers: usize) -> Result<usize, Fault>
     ensures { IfOk result (λ workers. (1 ≤ workers) × (workers ≤ 16)) }
 {
     if workers < 1 || workers > 16 {
@@ -65,7 +79,7 @@ fn in_place(
     bank: &mut Bank,
     calls: u32,
 ) -> Result<Duration, Fault> {
-    let gate = Computing::of(steps);
+    let gate = ComputeGate::of(steps);
     deposit(
         clock,
         &mut InPlace { gate: &gate },
@@ -76,14 +90,14 @@ fn in_place(
 }
 
 // A crew that holds jobs executes this many calls.
-fn held(
+fn run_buffered(
     clock: &impl Clock,
     alloc: Global,
     bank: &mut Bank,
     payees: Payees,
     calls: u32,
 ) -> Result<Duration, Fault> {
-    let mut crew = HoldingCrew::new(alloc)?;
+    let mut crew = BufferingCrew::new(alloc)?;
     deposit(clock, &mut crew, bank, payees, calls)
 }
 
@@ -111,8 +125,8 @@ fn in_threads<R, G>(
 where
     R: Threads + Wait + Clock + Sync,
     G: Gate + Sync,
-    requires some { 1 ≤ workers }
-    requires few { workers ≤ 16 }
+    requires workers { 1 ≤ workers }
+    requires limit { workers ≤ 16 }
 {
     let start = Instant::now(rt)?;
     with_crew(rt, alloc, workers, gate, move |crew| {
@@ -122,9 +136,9 @@ where
 }
 
 // The result of the calls that took this time, if they were executed.
-fn measured(time: Result<Duration, Fault>, bank: &Bank) -> Result<Measured, Fault> {
+fn measured(time: Result<Duration, Fault>, bank: &Bank) -> Result<BenchResult, Fault> {
     let time = time?;
-    Ok(Measured {
+    Ok(BenchResult {
         length: bank.length(),
         sum: bank.total().ok_or(Fault::Unfinished)?,
         time,

@@ -5,7 +5,7 @@ use cown_board::SubmitFault;
 use cown_workers::{CrewFault, CrewGone};
 use sb_checkpoint::CheckpointFault;
 use sb_frames::StreamFault;
-use sb_replica::{AdoptFault, HearingFault, MarkFault, RestartFault};
+use sb_replica::{AdoptFault, MarkFault, ReceiveFault, RestartFault};
 use std::alloc::AllocError;
 use std::io;
 use thiserror::Error;
@@ -39,7 +39,7 @@ pub enum Fault {
     Stream(#[from] StreamFault),
     /// A replica hears no entries.
     #[error("{0}")]
-    Hearing(#[from] HearingFault),
+    Hearing(#[from] ReceiveFault),
     /// A replica keeps no checkpoint.
     #[error("{0}")]
     Mark(#[from] MarkFault),

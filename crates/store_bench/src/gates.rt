@@ -9,25 +9,25 @@ use std::time::{Clock, Duration};
 /// Computes this many steps before each job. Steps are counted, and not time: a thread that the
 /// system suspends makes no progress.
 #[derive(Drop)]
-pub struct Computing {
+pub struct ComputeGate {
     steps: u64,
     // Whether the result of some steps was 0. It is kept so that the compiler can't drop the steps.
     came_to_nothing: AtomicBool,
 }
 
-impl Computing {
+impl ComputeGate {
     /// A gate of this many steps.
-    pub fn of(steps: u64) -> Computing
+    pub fn of(steps: u64) -> ComputeGate
         ensures { result.steps ≡ steps }
     {
-        Computing {
+        ComputeGate {
             steps,
             came_to_nothing: AtomicBool::new(false),
         }
     }
 }
 
-impl Gate for Computing {
+impl Gate for ComputeGate {
     ghost admits = { λ gate. true };
 
     // As the program's own gate does.
@@ -56,12 +56,12 @@ fn after_steps(number: u64, steps: u64) -> u64 {
 
 /// Waits for a second before each job.
 #[derive(Drop)]
-pub struct Waiting<'a, R: Clock> {
+pub struct WaitGate<'a, R: Clock> {
     /// The clock that the waits use.
     pub clock: &'a R,
 }
 
-impl<'a, R: Clock> Gate for Waiting<'a, R> {
+impl<'a, R: Clock> Gate for WaitGate<'a, R> {
     ghost admits = { λ gate. true };
 
     // As the program's own gate does.

@@ -2,10 +2,10 @@
 //! states take, for `bench/replica`; plays cases in which memory is refused, for `bench/refusals`.
 #![tactic(auto)]
 
+use bench_result::BenchResult;
+use cases::play_all;
 use cases::report::Report;
-use cases::tell_all;
 use fault::Fault;
-use measured::Measured;
 use measuring::measure;
 use sb_text::write_whole;
 use std::env;
@@ -16,14 +16,14 @@ use std::time::Clock;
 use words::{Action, Measurement, read_words};
 
 mod bank;
+mod bench_result;
+mod buffering_crew;
 mod cases;
 mod checkpoints;
 mod crews;
 mod fault;
 mod gates;
-mod holding;
 mod in_place;
-mod measured;
 mod measuring;
 mod opening;
 mod payees;
@@ -66,7 +66,7 @@ fn print_measured<H: Threads + Wait + Clock + Sync>(
     threads: &H,
     measurement: Measurement,
 ) -> Result<(), Fault> {
-    let Measured { length, sum, time } = measure(threads, rt.alloc(), measurement)?;
+    let BenchResult { length, sum, time } = measure(threads, rt.alloc(), measurement)?;
     let milliseconds = time.as_secs_f64() * 1e3;
     println!(rt; "{length} {sum}")?;
     eprintln!(rt; "{milliseconds:.3} ms")?;
@@ -86,7 +86,7 @@ fn print_cases<H: Threads + Wait + Clock + Sync>(
         }
         report => report?,
     };
-    tell_all(threads, rt.alloc(), &mut report)?;
+    play_all(threads, rt.alloc(), &mut report)?;
     write_whole(&mut rt.stdout(), &report.text)?;
     println!(rt; "refusals {}", report.refusals)?;
     Ok(())

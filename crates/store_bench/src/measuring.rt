@@ -1,8 +1,8 @@
 //! What is measured.
 
+use crate::bench_result::BenchResult;
 use crate::crews::drain_calls;
 use crate::fault::Fault;
-use crate::measured::Measured;
 use crate::words::Measurement;
 use crate::{checkpoints, states};
 use std::alloc::Global;
@@ -15,7 +15,7 @@ pub(crate) fn measure<R: Threads + Wait + Clock + Sync>(
     rt: &R,
     alloc: Global,
     measurement: Measurement,
-) -> Result<Measured, Fault> {
+) -> Result<BenchResult, Fault> {
     match measurement {
         Measurement::Drain(crew) => drain_calls(rt, alloc, crew),
         Measurement::Write { count } => checkpoints::write(rt, alloc, count),

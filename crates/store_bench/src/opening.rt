@@ -1,7 +1,7 @@
 //! The banks that are measured.
 ghost use Rattle.std.specs.Prelude.{◌≡◌, ◌++◌, Ok, IfOk, OnOk, codes, string_bytes};
 ghost use Rattle.sb_rows.specs.Opening.{opening_of};
-ghost use Rattle.store_bench.specs.Banks.{IsBankOf, customer_line, customer_lines};
+ghost use Rattle.store_bench.specs.Banks.{IsBankOf, generated_line, generated_lines};
 
 use crate::fault::Fault;
 use sb_rows::{Opening, read_opening};
@@ -25,7 +25,7 @@ pub fn open_bank(alloc: Global, customers: u32, balances: &str) -> Result<Openin
 // A line for each customer, and the line that ends them.
 fn bank_text(alloc: Global, customers: u32, balances: &str) -> Result<String, Fault>
     ensures { IfOk result (λ text.
-        string_bytes text ≡ customer_lines balances.now customers ++ codes "begin\n") }
+        string_bytes text ≡ generated_lines balances.now customers ++ codes "begin\n") }
 {
     let mut text = String::new(alloc);
     for place in 0..customers {
@@ -37,7 +37,7 @@ fn bank_text(alloc: Global, customers: u32, balances: &str) -> Result<String, Fa
 
 fn push_customer(alloc: Global, place: u32, balances: &str, text: &mut String) -> Result<(), Fault>
     ensures { OnOk result (string_bytes text.new ≡
-        string_bytes text.old ++ customer_line balances.now place) }
+        string_bytes text.old ++ generated_line balances.now place) }
 {
     let line = format!(in alloc; "c{place} {balances}\n")?;
     text.push_str(line.as_str())?;

@@ -1,8 +1,8 @@
 //! Replicas that are measured, and the entries that they hear.
 ghost use Rattle.std.specs.Prelude.{◌≡◌};
 
+use crate::bench_result::BenchResult;
 use crate::fault::Fault;
-use crate::measured::Measured;
 use crate::opening::open_bank;
 use cown_workers::{InlineCrew, drain};
 use lane_audit::bank_total;
@@ -61,7 +61,7 @@ fn push_entry(directory: &Directory, number: u64, frames: &mut Vec<u8>) -> Resul
 }
 
 /// A replica hears frames, and executes all entries in place.
-pub(crate) fn hear_all(
+pub(crate) fn receive_all(
     alloc: Global,
     replica: &mut Replica<MemoryStore>,
     frames: &[u8],
@@ -69,19 +69,19 @@ pub(crate) fn hear_all(
     let mut stream = Stream::new(alloc);
     for message in frames.chunks(MESSAGE) {
         stream.feed(message)?;
-        hear_message(replica, &mut stream)?;
+        receive_message(replica, &mut stream)?;
     }
     drain(replica, &mut InlineCrew)?;
     Ok(())
 }
 
 // It hears all whole frames of a stream. When its board is full, everything is executed.
-fn hear_message(replica: &mut Replica<MemoryStore>, stream: &mut Stream) -> Result<(), Fault> {
+fn receive_message(replica: &mut Replica<MemoryStore>, stream: &mut Stream) -> Result<(), Fault> {
     // The checker takes the frame apart, and needs the types spelled out.
     let _parts: Option<(Frame, Call, WireReply, AskOutcome)> = None;
     // A message has fewer entries than bytes.
     for _ in 0..MESSAGE {
-        match replica.hear_stream(stream)? {
+        match replica.receive_stream(stream)? {
             Pause::Short => return Ok(()),
             Pause::Busy => drain(replica, &mut InlineCrew)?,
             Pause::Other(_) => return Err(Fault::Unfinished),
@@ -91,9 +91,12 @@ fn hear_message(replica: &mut Replica<MemoryStore>, stream: &mut Stream) -> Resu
 }
 
 /// The length and the total of a replica at the end, and the time that it took.
-pub(crate) fn measured(replica: &Replica<MemoryStore>, time: Duration) -> Result<Measured, Fault> {
-    let columns = replica.settled_columns().ok_or(Fault::Unfinished)?;
-    Ok(Measured {
+pub(crate) fn measured(
+    replica: &Replica<MemoryStore>,
+    time: Duration,
+) -> Result<BenchResult, Fault> {
+    let columns = replica.final_columns().ok_or(Fault::Unfinished)?;
+    Ok(BenchResult {
         length: replica.length(),
         sum: bank_total(columns),
         time,

@@ -1,9 +1,9 @@
 //! States: a checkpoint of one replica, adopted by another in place of the log's entries.
 
+use crate::bench_result::BenchResult;
 use crate::checkpoints::{BALANCES, written};
 use crate::fault::Fault;
-use crate::measured::Measured;
-use crate::replicas::{entry_frames, hear_all, measured, open_replica};
+use crate::replicas::{entry_frames, measured, open_replica, receive_all};
 use crate::words::Absence;
 use cown_board::Board;
 use lane_audit::bank_total;
@@ -19,7 +19,7 @@ const NOTHING: &str = "0.00 0.00";
 
 /// A replica at its opening adopts a state of the greatest size this often. The result is the
 /// length of its log, and the total of all balances.
-pub fn adopt(clock: &impl Clock, alloc: Global, count: u32) -> Result<Measured, Fault> {
+pub fn adopt(clock: &impl Clock, alloc: Global, count: u32) -> Result<BenchResult, Fault> {
     let (bytes, _) = written(alloc)?;
     let mut replica = open_replica(alloc, CUSTOMERS as u32, BALANCES)?;
     let mut time = Duration::ZERO;
@@ -42,16 +42,16 @@ fn adopt_once(
 }
 
 /// The same checkpoint is read and a board opened on it, this often. The result is the same.
-pub fn open(clock: &impl Clock, alloc: Global, count: u32) -> Result<Measured, Fault> {
+pub fn open(clock: &impl Clock, alloc: Global, count: u32) -> Result<BenchResult, Fault> {
     let (bytes, opening_total) = written(alloc)?;
-    let mut last = Measured {
+    let mut last = BenchResult {
         length: 0,
         sum: 0,
         time: Duration::ZERO,
     };
     for _ in 0..count {
         let opened = open_once(clock, alloc, &bytes, opening_total)?;
-        last = Measured {
+        last = BenchResult {
             time: last.time.saturating_add(opened.time),
             ..opened
         };
@@ -65,13 +65,13 @@ fn open_once(
     alloc: Global,
     bytes: &[u8],
     opening_total: i64,
-) -> Result<Measured, Fault> {
+) -> Result<BenchResult, Fault> {
     let start = Instant::now(clock)?;
     let board = board_on(alloc, bytes, opening_total)?;
     let time = start.elapsed(clock)?;
-    Ok(Measured {
+    Ok(BenchResult {
         length: board.length(),
-        sum: bank_total(board.settled_columns().ok_or(Fault::Unfinished)?),
+        sum: bank_total(board.final_columns().ok_or(Fault::Unfinished)?),
         time,
     })
 }
@@ -86,7 +86,7 @@ fn board_on(alloc: Global, bytes: &[u8], opening_total: i64) -> Result<Box<Board
 
 /// A replica that was away adopts the state of one that wasn't. The result is the length of its
 /// log, and the total of all balances.
-pub fn by_state(clock: &impl Clock, alloc: Global, absence: Absence) -> Result<Measured, Fault> {
+pub fn by_state(clock: &impl Clock, alloc: Global, absence: Absence) -> Result<BenchResult, Fault> {
     let state = state_after(alloc, absence)?;
     let mut replica = replica_before(alloc, absence)?;
     let time = adopt_once(clock, &mut replica, &state)?;
@@ -94,11 +94,15 @@ pub fn by_state(clock: &impl Clock, alloc: Global, absence: Absence) -> Result<M
 }
 
 /// It hears the entries that it missed, and executes them. The result is the same.
-pub fn by_entries(clock: &impl Clock, alloc: Global, absence: Absence) -> Result<Measured, Fault> {
+pub fn by_entries(
+    clock: &impl Clock,
+    alloc: Global,
+    absence: Absence,
+) -> Result<BenchResult, Fault> {
     let mut replica = replica_before(alloc, absence)?;
     let frames = entry_frames(alloc, replica.directory(), absence.before, absence.entries)?;
     let start = Instant::now(clock)?;
-    hear_all(alloc, &mut replica, &frames)?;
+    receive_all(alloc, &mut replica, &frames)?;
     let time = start.elapsed(clock)?;
     measured(&replica, time)
 }
@@ -107,7 +111,7 @@ pub fn by_entries(clock: &impl Clock, alloc: Global, absence: Absence) -> Result
 fn replica_before(alloc: Global, absence: Absence) -> Result<Box<Replica<MemoryStore>>, Fault> {
     let mut replica = open_replica(alloc, absence.customers, NOTHING)?;
     let frames = entry_frames(alloc, replica.directory(), 0, absence.before)?;
-    hear_all(alloc, &mut replica, &frames)?;
+    receive_all(alloc, &mut replica, &frames)?;
     Ok(replica)
 }
 
@@ -115,7 +119,7 @@ fn replica_before(alloc: Global, absence: Absence) -> Result<Box<Replica<MemoryS
 fn state_after(alloc: Global, absence: Absence) -> Result<Vec<u8>, Fault> {
     let mut donor = replica_before(alloc, absence)?;
     let frames = entry_frames(alloc, donor.directory(), absence.before, absence.entries)?;
-    hear_all(alloc, &mut donor, &frames)?;
+    receive_all(alloc, &mut donor, &frames)?;
     donor.mark()?;
     let (_, state) = donor.kept_state()?.ok_or(Fault::Unfinished)?;
     Ok(state)

@@ -1,6 +1,6 @@
 //! The program's words.
 ghost use Rattle.std.specs.Prelude.{◌≡◌, IfSome, IsTrue, Some, map, slice_get, string_bytes};
-ghost use Rattle.store_bench.specs.Actions.{Asks, Drains, Measures, Misses, Says, Spells};
+ghost use Rattle.store_bench.specs.Actions.{NamesAction, GivesDrain, GivesMeasurement, GivesAbsence, GivesAction, HasIntegerAt};
 
 use crate::payees::Payees;
 
@@ -17,7 +17,7 @@ pub enum Action {
 #[derive(Clone, Copy)]
 pub enum Measurement {
     /// A crew drains a board.
-    Drain(Crewed),
+    Drain(CrewChoice),
     /// A checkpoint of the greatest size is written this often.
     Write { count: u32 },
     /// It is read this often.
@@ -45,7 +45,7 @@ pub struct Absence {
 
 /// Which crew executes which calls.
 #[derive(Clone, Copy)]
-pub enum Crewed {
+pub enum CrewChoice {
     /// This many calls are executed in place, each after this many steps at the gate.
     InPlace {
         steps: u64,
@@ -62,7 +62,7 @@ pub enum Crewed {
         workers: usize,
     },
     /// A crew that holds sixteen jobs executes this many calls, without threads.
-    Held {
+    Buffered {
         payees: Payees,
         calls: u32,
     },
@@ -70,9 +70,9 @@ pub enum Crewed {
 
 /// Reads the program's words; the first is its name.
 pub fn read_words(words: &[String]) -> Option<Action>
-    ensures { IfSome result (λ action. Says action words.now) }
+    ensures { IfSome result (λ action. GivesAction action words.now) }
 {
-    if asks(words, 2, "cases") {
+    if names_action(words, 2, "cases") {
         return Some(Action::Cases);
     }
     Some(Action::Measure(read_measurement(words)?))
@@ -80,42 +80,42 @@ pub fn read_words(words: &[String]) -> Option<Action>
 
 // What is measured.
 fn read_measurement(words: &[String]) -> Option<Measurement>
-    ensures { IfSome result (λ measurement. Measures measurement words.now) }
+    ensures { IfSome result (λ measurement. GivesMeasurement measurement words.now) }
 {
-    if asks(words, 3, "write") {
-        let count = few(words, 2)?;
+    if names_action(words, 3, "write") {
+        let count = parse_u32(words, 2)?;
         return Some(Measurement::Write { count });
     }
-    if asks(words, 3, "read") {
-        let count = few(words, 2)?;
+    if names_action(words, 3, "read") {
+        let count = parse_u32(words, 2)?;
         return Some(Measurement::Read { count });
     }
     if let Some(measurement) = read_states(words) {
         return Some(measurement);
     }
-    let crewed = match held(words) {
-        Some(crewed) => crewed,
-        None => threads(words)?,
+    let choice = match read_threadless(words) {
+        Some(choice) => choice,
+        None => read_threaded(words)?,
     };
-    Some(Measurement::Drain(crewed))
+    Some(Measurement::Drain(choice))
 }
 
 // What is measured of states.
 fn read_states(words: &[String]) -> Option<Measurement>
-    ensures { IfSome result (λ measurement. Measures measurement words.now) }
+    ensures { IfSome result (λ measurement. GivesMeasurement measurement words.now) }
 {
-    if asks(words, 3, "adopt") {
-        let count = few(words, 2)?;
+    if names_action(words, 3, "adopt") {
+        let count = parse_u32(words, 2)?;
         return Some(Measurement::Adopt { count });
     }
-    if asks(words, 3, "open") {
-        let count = few(words, 2)?;
+    if names_action(words, 3, "open") {
+        let count = parse_u32(words, 2)?;
         return Some(Measurement::Open { count });
     }
-    if asks(words, 5, "by-state") {
+    if names_action(words, 5, "by-state") {
         return Some(Measurement::ByState(read_absence(words)?));
     }
-    if asks(words, 5, "by-entries") {
+    if names_action(words, 5, "by-entries") {
         return Some(Measurement::ByEntries(read_absence(words)?));
     }
     None
@@ -123,11 +123,11 @@ fn read_states(words: &[String]) -> Option<Measurement>
 
 // What a replica missed, by the three numbers after the second word.
 fn read_absence(words: &[String]) -> Option<Absence>
-    ensures { IfSome result (λ absence. Misses absence words.now) }
+    ensures { IfSome result (λ absence. GivesAbsence absence words.now) }
 {
-    let customers = few(words, 2)?;
-    let before = few(words, 3)?;
-    let entries = few(words, 4)?;
+    let customers = parse_u32(words, 2)?;
+    let before = parse_u32(words, 3)?;
+    let entries = parse_u32(words, 4)?;
     Some(Absence {
         customers,
         before,
@@ -136,24 +136,24 @@ fn read_absence(words: &[String]) -> Option<Absence>
 }
 
 // Calls that are executed without threads.
-fn held(words: &[String]) -> Option<Crewed>
-    ensures { IfSome result (λ crewed. Drains crewed words.now) }
+fn read_threadless(words: &[String]) -> Option<CrewChoice>
+    ensures { IfSome result (λ choice. GivesDrain choice words.now) }
 {
-    if asks(words, 4, "none") {
-        let steps = number(words, 2)?;
-        let calls = few(words, 3)?;
-        return Some(Crewed::InPlace { steps, calls });
+    if names_action(words, 4, "none") {
+        let steps = parse_u64(words, 2)?;
+        let calls = parse_u32(words, 3)?;
+        return Some(CrewChoice::InPlace { steps, calls });
     }
-    if asks(words, 3, "one-customer") {
-        let calls = few(words, 2)?;
-        return Some(Crewed::Held {
+    if names_action(words, 3, "one-customer") {
+        let calls = parse_u32(words, 2)?;
+        return Some(CrewChoice::Buffered {
             payees: Payees::One,
             calls,
         });
     }
-    if asks(words, 3, "many-customers") {
-        let calls = few(words, 2)?;
-        return Some(Crewed::Held {
+    if names_action(words, 3, "many-customers") {
+        let calls = parse_u32(words, 2)?;
+        return Some(CrewChoice::Buffered {
             payees: Payees::Many,
             calls,
         });
@@ -162,17 +162,17 @@ fn held(words: &[String]) -> Option<Crewed>
 }
 
 // Calls that workers in threads of their own execute.
-fn threads(words: &[String]) -> Option<Crewed>
-    ensures { IfSome result (λ crewed. Drains crewed words.now) }
+fn read_threaded(words: &[String]) -> Option<CrewChoice>
+    ensures { IfSome result (λ choice. GivesDrain choice words.now) }
 {
-    let workers = number(words, 2)? as usize;
-    if asks(words, 3, "wait") {
-        return Some(Crewed::Wait { workers });
+    let workers = parse_u64(words, 2)? as usize;
+    if names_action(words, 3, "wait") {
+        return Some(CrewChoice::Wait { workers });
     }
-    if asks(words, 5, "workers") {
-        let steps = number(words, 3)?;
-        let calls = few(words, 4)?;
-        return Some(Crewed::InThreads {
+    if names_action(words, 5, "workers") {
+        let steps = parse_u64(words, 3)?;
+        let calls = parse_u32(words, 4)?;
+        return Some(CrewChoice::InThreads {
             workers,
             steps,
             calls,
@@ -182,8 +182,8 @@ fn threads(words: &[String]) -> Option<Crewed>
 }
 
 // Whether there are this many words, and the second is this one.
-fn asks(words: &[String], many: usize, action: &str) -> bool
-    ensures { IsTrue result → Asks words.now many action.now }
+fn names_action(words: &[String], many: usize, action: &str) -> bool
+    ensures { IsTrue result → NamesAction words.now many action.now }
 {
     match text(words, 1) {
         Some(word) if words.len() == many => word == action,
@@ -191,24 +191,24 @@ fn asks(words: &[String], many: usize, action: &str) -> bool
     }
 }
 
-// The word at this place.
-fn text<'a>(words: &'a [String], place: usize) -> Option<&'a str>
+// The word at this position.
+fn text<'a>(words: &'a [String], position: usize) -> Option<&'a str>
     ensures { IfSome result
-        (λ text. slice_get (map string_bytes words.entry.now) place ≡ Some text.now) }
+        (λ text. slice_get (map string_bytes words.entry.now) position ≡ Some text.now) }
 {
-    Some(words.get(place)?.as_str())
+    Some(words.get(position)?.as_str())
 }
 
-// The number that the word at this place spells.
-fn number(words: &[String], place: usize) -> Option<u64>
-    ensures { IfSome result (λ number. Spells words.now place number) }
+// The number that the word at this position spells.
+fn parse_u64(words: &[String], position: usize) -> Option<u64>
+    ensures { IfSome result (λ number. HasIntegerAt words.now position number) }
 {
-    text(words, place)?.parse::<u64>().ok()
+    text(words, position)?.parse::<u64>().ok()
 }
 
 // The same, if it is below 2^32.
-fn few(words: &[String], place: usize) -> Option<u32>
-    ensures { IfSome result (λ number. Spells words.now place number) }
+fn parse_u32(words: &[String], position: usize) -> Option<u32>
+    ensures { IfSome result (λ number. HasIntegerAt words.now position number) }
 {
-    text(words, place)?.parse::<u32>().ok()
+    text(words, position)?.parse::<u32>().ok()
 }

@@ -17,17 +17,17 @@ pub(crate) fn bytes(rt: &(impl Abort + AllocGlobal), digits: &str) -> Vec<u8> {
 }
 
 // The bytes of a body, with their length in front.
-pub(crate) fn framed(rt: &(impl Abort + AllocGlobal), body: &str) -> Vec<u8> {
-    let mut framed = Vec::new(rt.alloc());
+pub(crate) fn frame_bytes(rt: &(impl Abort + AllocGlobal), body: &str) -> Vec<u8> {
+    let mut frame_bytes = Vec::new(rt.alloc());
     let body = bytes(rt, body);
     let length = u16::try_from(body.len()).ok().expect(rt, "a short body");
-    framed
+    frame_bytes
         .extend_from_slice(&length.to_be_bytes())
         .expect(rt, "memory for a length");
-    framed
+    frame_bytes
         .extend_from_slice(&body)
         .expect(rt, "memory for a body");
-    framed
+    frame_bytes
 }
 
 pub(crate) fn name(rt: &impl Abort, text: &str) -> Name {

@@ -1,5 +1,5 @@
 //! Frames as bytes, and bytes as frames.
-use crate::fixtures::{bytes, framed};
+use crate::fixtures::{bytes, frame_bytes};
 use sb_frames::{Frame, FrameFault, decode, encode};
 use std::process::Abort;
 
@@ -24,7 +24,7 @@ fn are_spelled(rt: &(impl Abort + AllocGlobal), frames: &[(Frame, &str)]) {
 // Checks that this body, after its length, spells each frame, and that it is decoded from there.
 fn have_bodies(rt: &(impl Abort + AllocGlobal), frames: &[(Frame, &str)]) {
     for (frame, body) in frames {
-        both_ways(rt, *frame, &framed(rt, body), body);
+        both_ways(rt, *frame, &frame_bytes(rt, body), body);
     }
 }
 
@@ -35,6 +35,6 @@ fn is_refused(rt: &impl Abort, bytes: &[u8], fault: FrameFault, what: &str) {
 // Checks that each of these bodies, after its length, is refused with this fault.
 fn are_refused(rt: &(impl Abort + AllocGlobal), fault: FrameFault, bodies: &[&str]) {
     for body in bodies {
-        is_refused(rt, &framed(rt, body), fault, body);
+        is_refused(rt, &frame_bytes(rt, body), fault, body);
     }
 }

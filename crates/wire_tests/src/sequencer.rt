@@ -37,7 +37,7 @@ enum Step {
 }
 
 // A sequencer for this many replicas.
-fn opened(rt: &(impl Abort + AllocGlobal), replicas: usize) -> Box<Sequencer> {
+fn new_sequencer(rt: &(impl Abort + AllocGlobal), replicas: usize) -> Box<Sequencer> {
     assert!(rt; replicas <= REPLICAS);
     Box::new(rt.alloc(), Sequencer::open(rt.alloc(), replicas)).expect(rt, "memory for a sequencer")
 }
@@ -84,54 +84,54 @@ fn resends(
     let call = balance(rt, customer);
     let sent = log.resend(replica);
     assert!(rt; sent.len() == count, "{replica} {first}");
-    for (told, number) in sent.iter().zip(first..u64::MAX) {
-        assert!(rt; *told == entry(number, &call), "{number}");
+    for (frame, number) in sent.iter().zip(first..u64::MAX) {
+        assert!(rt; *frame == entry(number, &call), "{number}");
     }
 }
 
-fn plays_one(rt: &impl Abort, log: &mut Sequencer, place: usize, step: &Step) {
+fn play_step(rt: &impl Abort, log: &mut Sequencer, position: usize, step: &Step) {
     match *step {
         Step::Ask(client, request, customer, answer) => {
             let call = balance(rt, customer);
-            is_so(rt, place, log.ask(client, request, &call) == answer);
+            is_so(rt, position, log.ask(client, request, &call) == answer);
         }
         Step::AskMany(count, customer) => asks_many(rt, log, count, customer),
-        Step::Length(length) => is_so(rt, place, log.length() == length),
+        Step::Length(length) => is_so(rt, position, log.length() == length),
         Step::Shows(number, customer) => shows(rt, log, number, customer),
         Step::Entry(number, customer) => enters(rt, log, number, customer),
         Step::Answer(number, reply, note) => {
-            is_so(rt, place, log.on_answer(number, reply) == note);
+            is_so(rt, position, log.on_answer(number, reply) == note);
         }
         Step::AnswerOf(client, request, reply) => {
-            is_so(rt, place, log.answer_of(client, request) == reply);
+            is_so(rt, position, log.answer_of(client, request) == reply);
         }
         Step::Ack(replica, length, note) => {
-            is_so(rt, place, log.on_ack(replica, length) == note);
+            is_so(rt, position, log.on_ack(replica, length) == note);
         }
         Step::Have(replica, length, note) => {
-            is_so(rt, place, log.on_have(replica, length) == note);
+            is_so(rt, position, log.on_have(replica, length) == note);
         }
-        Step::Donor(replica, donor) => is_so(rt, place, log.donor(replica) == donor),
+        Step::Donor(replica, donor) => is_so(rt, position, log.donor(replica) == donor),
         Step::Resends(replica, first, count, customer) => {
             resends(rt, log, replica, first, count, customer);
         }
     }
 }
 
-fn plays_on(rt: &impl Abort, log: &mut Sequencer, steps: &[Step]) {
-    for (place, step) in steps.iter().enumerate() {
-        plays_one(rt, log, place, step);
+fn play_steps_on(rt: &impl Abort, log: &mut Sequencer, steps: &[Step]) {
+    for (position, step) in steps.iter().enumerate() {
+        play_step(rt, log, position, step);
     }
 }
 
 // Plays the steps on a sequencer for this many replicas.
-fn plays(rt: &(impl Abort + AllocGlobal), replicas: usize, steps: &[Step]) {
-    plays_on(rt, &mut opened(rt, replicas), steps);
+fn play_steps(rt: &(impl Abort + AllocGlobal), replicas: usize, steps: &[Step]) {
+    play_steps_on(rt, &mut new_sequencer(rt, replicas), steps);
 }
 
 // Plays the steps on a sequencer for one replica, with room for this many calls.
-fn plays_with_room(rt: &(impl Abort + AllocGlobal), calls: usize, steps: &[Step]) {
+fn play_steps_with_room(rt: &(impl Abort + AllocGlobal), calls: usize, steps: &[Step]) {
     let log = Sequencer::with_capacity(rt.alloc(), 1, calls).expect(rt, "memory for calls");
     let mut log = Box::new(rt.alloc(), log).expect(rt, "memory for a sequencer");
-    plays_on(rt, &mut log, steps);
+    play_steps_on(rt, &mut log, steps);
 }

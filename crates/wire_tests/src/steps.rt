@@ -2,6 +2,6 @@
 use std::process::Abort;
 
 // Checks what the step at this place says.
-pub(crate) fn is_so(rt: &impl Abort, place: usize, so: bool) {
+pub(crate) fn is_so(rt: &impl Abort, position: usize, so: bool) {
     assert!(rt; so, "step {place}");
 }

@@ -21,7 +21,7 @@ enum Step<'a> {
     Ended(bool),
 }
 
-fn opened(rt: &(impl Abort + AllocGlobal)) -> Box<Stream> {
+fn new_stream(rt: &(impl Abort + AllocGlobal)) -> Box<Stream> {
     Box::new(rt.alloc(), Stream::new(rt.alloc())).expect(rt, "memory for a stream")
 }
 
@@ -37,30 +37,30 @@ fn waits(rt: &impl Abort, stream: &mut Stream) {
     assert!(rt; stream.next() == Ok(None));
 }
 
-fn plays(rt: &(impl Abort + AllocGlobal), stream: &mut Stream, steps: &[Step]) {
-    for (place, step) in steps.iter().enumerate() {
+fn play_steps(rt: &(impl Abort + AllocGlobal), stream: &mut Stream, steps: &[Step]) {
+    for (position, step) in steps.iter().enumerate() {
         match *step {
             Step::Takes(digits) => takes(rt, stream, &bytes(rt, digits)),
             Step::Gives(frame) => gives(rt, stream, frame),
             Step::Waits => waits(rt, stream),
-            Step::Fails(fault) => is_so(rt, place, stream.next() == Err(fault)),
+            Step::Fails(fault) => is_so(rt, position, stream.next() == Err(fault)),
             Step::TakesNothing => {
                 let failed = Err(StreamFault::Failed);
-                is_so(rt, place, stream.feed(&[0, 1, 6]) == failed);
-                is_so(rt, place, stream.feed(&[]) == failed);
+                is_so(rt, position, stream.feed(&[0, 1, 6]) == failed);
+                is_so(rt, position, stream.feed(&[]) == failed);
             }
-            Step::Ended(ended) => is_so(rt, place, stream.ended() == ended),
+            Step::Ended(ended) => is_so(rt, position, stream.ended() == ended),
         }
     }
 }
 
 // Plays these steps on an empty stream.
-fn plays_alone(rt: &(impl Abort + AllocGlobal), steps: &[Step]) {
-    plays(rt, &mut opened(rt), steps);
+fn play_steps_alone(rt: &(impl Abort + AllocGlobal), steps: &[Step]) {
+    play_steps(rt, &mut new_stream(rt), steps);
 }
 
 // The bytes come one by one, and the frame is handed out after the last.
-fn comes_by_bytes(rt: &impl Abort, stream: &mut Stream, frame: Frame, bytes: &[u8]) {
+fn feed_bytes_one_by_one(rt: &impl Abort, stream: &mut Stream, frame: Frame, bytes: &[u8]) {
     for byte in bytes {
         waits(rt, stream);
         takes(rt, stream, &[*byte]);
@@ -72,16 +72,16 @@ fn comes_by_bytes(rt: &impl Abort, stream: &mut Stream, frame: Frame, bytes: &[u
 
 #[test]
 fn a_byte_at_a_time(rt: HostRuntime) {
-    let mut stream = opened(&rt);
+    let mut stream = new_stream(&rt);
     for (frame, digits) in vectors(&rt) {
-        comes_by_bytes(&rt, &mut stream, frame, &bytes(&rt, digits));
+        feed_bytes_one_by_one(&rt, &mut stream, frame, &bytes(&rt, digits));
     }
 }
 
 #[test]
 fn each_in_one_piece(rt: HostRuntime) {
     for (frame, digits) in vectors(&rt) {
-        plays_alone(
+        play_steps_alone(
             &rt,
             &[
                 Step::Takes(digits),
@@ -95,21 +95,21 @@ fn each_in_one_piece(rt: HostRuntime) {
 
 #[test]
 fn all_in_one_piece(rt: HostRuntime) {
-    let mut stream = opened(&rt);
+    let mut stream = new_stream(&rt);
     for (_, digits) in vectors(&rt) {
-        plays(&rt, &mut stream, &[Step::Takes(digits)]);
+        play_steps(&rt, &mut stream, &[Step::Takes(digits)]);
     }
     for (frame, _) in vectors(&rt) {
-        plays(&rt, &mut stream, &[Step::Gives(frame)]);
+        play_steps(&rt, &mut stream, &[Step::Gives(frame)]);
     }
-    plays(&rt, &mut stream, &[Step::Waits, Step::Ended(true)]);
+    play_steps(&rt, &mut stream, &[Step::Waits, Step::Ended(true)]);
 }
 
 #[test]
 fn a_fault_is_for_ever(rt: HostRuntime) {
-    let mut stream = opened(&rt);
+    let mut stream = new_stream(&rt);
     let fault = StreamFault::Bad(FrameFault::UnknownTag);
-    plays(
+    play_steps(
         &rt,
         &mut stream,
         &[
@@ -120,7 +120,7 @@ fn a_fault_is_for_ever(rt: HostRuntime) {
         ],
     );
     for _ in 0..3 {
-        plays(
+        play_steps(
             &rt,
             &mut stream,
             &[
@@ -135,7 +135,7 @@ fn a_fault_is_for_ever(rt: HostRuntime) {
 #[test]
 fn frames_before_a_fault_are_handed_out(rt: HostRuntime) {
     let fault = StreamFault::Bad(FrameFault::BadLength);
-    plays_alone(
+    play_steps_alone(
         &rt,
         &[
             Step::Takes("0001 06 0001 06 0000"),
@@ -151,7 +151,7 @@ fn frames_before_a_fault_are_handed_out(rt: HostRuntime) {
 
 #[test]
 fn a_stream_has_ended_where_nothing_is_unread(rt: HostRuntime) {
-    plays_alone(
+    play_steps_alone(
         &rt,
         &[
             Step::Ended(true),
@@ -192,7 +192,7 @@ fn gives_entries(rt: &impl Abort, stream: &mut Stream, numbers: Range<u64>) {
     }
 }
 
-fn comes_in_pieces(rt: &impl Abort, stream: &mut Stream, bytes: &[u8]) {
+fn feed_pieces(rt: &impl Abort, stream: &mut Stream, bytes: &[u8]) {
     assert!(rt; bytes.len() == 10_008);
     let (front, rest) = bytes.split_at(5_000);
     let (middle, last) = rest.split_at(5_000);
@@ -209,7 +209,7 @@ fn comes_in_pieces(rt: &impl Abort, stream: &mut Stream, bytes: &[u8]) {
 #[test]
 fn two_large_pieces_with_no_next_between(rt: HostRuntime) {
     let bytes = entries(&rt, 556);
-    comes_in_pieces(&rt, &mut opened(&rt), &bytes);
+    feed_pieces(&rt, &mut new_stream(&rt), &bytes);
 }
 
 // 1,048,590 bytes: a stream that copied the unread bytes, or those that were read, at each of them
@@ -218,16 +218,16 @@ const ENTRIES: u64 = 58_255;
 
 #[test]
 fn a_long_stream_a_byte_at_a_time(rt: HostRuntime) {
-    let mut stream = opened(&rt);
+    let mut stream = new_stream(&rt);
     for number in 0..ENTRIES {
         let entry = alices(&rt, number);
-        comes_by_bytes(&rt, &mut stream, entry, &encode(&entry));
+        feed_bytes_one_by_one(&rt, &mut stream, entry, &encode(&entry));
     }
 }
 
 #[test]
 fn a_long_stream_in_one_piece(rt: HostRuntime) {
-    let mut stream = opened(&rt);
+    let mut stream = new_stream(&rt);
     takes(&rt, &mut stream, &entries(&rt, ENTRIES));
     gives_entries(&rt, &mut stream, 0..ENTRIES);
     waits(&rt, &mut stream);
@@ -235,7 +235,7 @@ fn a_long_stream_in_one_piece(rt: HostRuntime) {
 }
 
 // The rest of this entry comes, and then the first byte of the next one.
-fn comes_with_the_next(rt: &impl Abort, stream: &mut Stream, entry: Frame) {
+fn feed_with_next(rt: &impl Abort, stream: &mut Stream, entry: Frame) {
     for byte in &encode(&entry)[1..] {
         takes(rt, stream, &[*byte]);
     }
@@ -247,9 +247,9 @@ fn comes_with_the_next(rt: &impl Abort, stream: &mut Stream, entry: Frame) {
 // Frames are taken one behind, so that bytes of the next one are unread whenever bytes come.
 #[test]
 fn a_long_stream_that_is_never_empty(rt: HostRuntime) {
-    let mut stream = opened(&rt);
+    let mut stream = new_stream(&rt);
     takes(&rt, &mut stream, &[0]);
     for number in 0..ENTRIES {
-        comes_with_the_next(&rt, &mut stream, alices(&rt, number));
+        feed_with_next(&rt, &mut stream, alices(&rt, number));
     }
 }

@@ -5,9 +5,9 @@ use std::fmt::Display;
 use std::process::Abort;
 
 // Checks the text of a fault.
-fn says(rt: &(impl Abort + AllocGlobal), fault: impl Display + Drop, words: &str) {
-    let told = fault.to_string(rt.alloc()).expect(rt, "memory for a text");
-    assert!(rt; told.as_str() == words);
+fn has_words(rt: &(impl Abort + AllocGlobal), fault: impl Display + Drop, words: &str) {
+    let text = fault.to_string(rt.alloc()).expect(rt, "memory for a text");
+    assert!(rt; text.as_str() == words);
 }
 
 #[test]
@@ -22,7 +22,7 @@ fn numbers_and_words_of_a_frames_faults(rt: HostRuntime) {
         (FrameFault::BadStatus, 7, "bad status"),
     ] {
         assert!(rt; fault.number() == number, "{words}");
-        says(&rt, fault, words);
+        has_words(&rt, fault, words);
     }
 }
 
@@ -38,7 +38,7 @@ fn numbers_and_words_of_a_streams_faults(rt: HostRuntime) {
         (StreamFault::OutOfMemory, 3, "out of memory"),
     ] {
         assert!(rt; fault.number() == number, "{words}");
-        says(&rt, fault, words);
+        has_words(&rt, fault, words);
     }
 }
 
@@ -50,6 +50,6 @@ fn numbers_and_words_of_an_asks_faults(rt: HostRuntime) {
         (AskFault::OutOfMemory, 3, "out of memory"),
     ] {
         assert!(rt; fault.number() == number, "{words}");
-        says(&rt, fault, words);
+        has_words(&rt, fault, words);
     }
 }

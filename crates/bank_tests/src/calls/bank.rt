@@ -13,12 +13,12 @@ pub(super) struct Bank {
 }
 
 /// The bank at its opening.
-pub(super) fn opened(rt: &impl Abort, alloc: Global) -> Box<Bank> {
-    opened_with(rt, alloc, OPENING)
+pub(super) fn open_bank(rt: &impl Abort, alloc: Global) -> Box<Bank> {
+    open_bank_with(rt, alloc, OPENING)
 }
 
 /// A bank with this opening text.
-pub(super) fn opened_with(rt: &impl Abort, alloc: Global, text: &str) -> Box<Bank> {
+pub(super) fn open_bank_with(rt: &impl Abort, alloc: Global, text: &str) -> Box<Bank> {
     let opening = read_opening(alloc, text.as_bytes()).expect(rt, "an opening");
     let bank = Bank {
         directory: opening.directory,
@@ -28,7 +28,7 @@ pub(super) fn opened_with(rt: &impl Abort, alloc: Global, text: &str) -> Box<Ban
 }
 
 /// Executes a call, and answers its reply.
-pub(super) fn answer(rt: &impl Abort, bank: &mut Bank, call: &Call) -> Reply {
+pub(super) fn execute_call(rt: &impl Abort, bank: &mut Bank, call: &Call) -> Reply {
     assert!(rt; bank.directory.len() == bank.columns.customers());
     apply(&mut bank.columns, resolve(&bank.directory, call))
 }

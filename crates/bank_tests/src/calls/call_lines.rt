@@ -26,7 +26,7 @@ fn lines_that_are_read(rt: HostRuntime) {
 }
 
 // The call that the words of a line after its first one spell.
-fn read_behind(line: &str) -> Result<Call, CallFault> {
+fn read_after_first(line: &str) -> Result<Call, CallFault> {
     let mut words = Words::of(line.as_bytes());
     let _first = words.next();
     read_call_words(words)
@@ -37,17 +37,17 @@ fn words_that_are_left_are_read(rt: HostRuntime) {
     let balance = Call::Balance(name(&rt, "alice"));
     expect(
         &rt,
-        read_behind("ask balance alice").ok() == Some(balance),
+        read_after_first("ask balance alice").ok() == Some(balance),
         "a call",
     );
     expect(
         &rt,
-        read_behind("ask").err() == Some(CallFault::UnknownVerb),
+        read_after_first("ask").err() == Some(CallFault::UnknownVerb),
         "no word",
     );
     expect(
         &rt,
-        read_behind("ask balance").err() == Some(CallFault::WrongWords),
+        read_after_first("ask balance").err() == Some(CallFault::WrongWords),
         "no name",
     );
 }

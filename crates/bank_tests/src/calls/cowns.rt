@@ -1,8 +1,8 @@
-//! The cowns that ops declare, and what cowns hold.
+//! The cowns that ops declare, and what cowns contain.
 ghost use Rattle.std.specs.Prelude.{◌≡◌};
 ghost use Rattle.sb_amount.specs.Limit.{IsWithinLimit};
 
-use super::bank::opened;
+use super::bank::open_bank;
 use crate::fixtures::{cents, expect};
 use crate::rows::columns::expect_columns;
 use sb_amount::Cents;
@@ -13,19 +13,15 @@ use std::process::Abort;
 // The last place in a bank of 65,536 customers.
 const LAST: u32 = 65_535;
 
-// Whether these are the cowns with these numbers.
-fn are(cowns: &[Cown], wanted: &[usize]) -> bool {
-    cowns.len() == wanted.len()
-        && cowns
-            .iter()
-            .zip(wanted)
-            .all(|(cown, number)| cown.number() == *number)
+// Whether these are the cowns with these ids.
+fn have_ids(cowns: &[Cown], wanted: &[usize]) -> bool {
+    cowns.len() == wanted.len() && cowns.iter().zip(wanted).all(|(cown, id)| cown.id() == *id)
 }
 
 // Checks the cowns that a behaviour declares, through its bound alone.
 fn expect_cowns<B: Behaviour>(rt: &impl Abort, behaviour: B, wanted: &[usize], case: &str) {
     let cowns = behaviour.cowns();
-    expect(rt, are(&cowns, wanted), case);
+    expect(rt, have_ids(&cowns, wanted), case);
 }
 
 // Checks the cowns of savings and checking that the ops of the customer at a place declare.
@@ -93,10 +89,10 @@ fn none_where_there_is_no_op(rt: HostRuntime) {
 }
 
 #[test]
-fn numbers_of_cowns(rt: HostRuntime) {
+fn ids_of_cowns(rt: HostRuntime) {
     expect(&rt, Cown::savings(LAST) == Cown::new(131_070), "savings");
     expect(&rt, Cown::checking(LAST) == Cown::new(131_071), "checking");
-    expect(&rt, Cown::default().number() == 0, "the first");
+    expect(&rt, Cown::default().id() == 0, "the first");
     let both = cowns_of(Op::Balance(1));
     expect(
         &rt,
@@ -115,18 +111,18 @@ fn balance(value: i64) -> Cents
 
 // The lemma says that a customer has two cowns, so these three are among the bank's.
 #[test]
-#[tactic(auto, using(sb_calls::proofs::Holding::two_cowns_a_customer))]
+#[tactic(auto, using(sb_calls::proofs::CownColumns::two_cowns_a_customer))]
 fn balances_are_read_by_cown(rt: HostRuntime) {
-    let bank = opened(&rt, rt.alloc());
+    let bank = open_bank(&rt, rt.alloc());
     assert!(&rt; bank.columns.customers() == 3);
     let cowns = [Cown::savings(0), Cown::checking(1), Cown::checking(2)];
-    let held = read_cowns(&bank.columns, &cowns);
+    let contents = read_cowns(&bank.columns, &cowns);
     let wanted = [balance(10_000), balance(2_000), balance(0)];
-    expect(&rt, held.as_slice() == wanted.as_slice(), "what they hold");
+    expect(&rt, contents.as_slice() == wanted.as_slice(), "the values");
 }
 
 // Writes three of the cowns of three customers.
-#[tactic(auto, using(sb_calls::proofs::Holding::two_cowns_a_customer))]
+#[tactic(auto, using(sb_calls::proofs::CownColumns::two_cowns_a_customer))]
 fn write_three(rt: &impl Abort, columns: &mut Columns) {
     assert!(rt; columns.customers() == 3);
     let cowns = [Cown::savings(0), Cown::checking(1), Cown::checking(2)];
@@ -135,7 +131,7 @@ fn write_three(rt: &impl Abort, columns: &mut Columns) {
 
 #[test]
 fn balances_are_written_by_cown(rt: HostRuntime) {
-    let mut bank = opened(&rt, rt.alloc());
+    let mut bank = open_bank(&rt, rt.alloc());
     write_three(&rt, &mut bank.columns);
     expect_columns(&rt, &bank.columns, &[1, 0, 1_000], &[5_000, 2, -3]);
 }

@@ -1,7 +1,7 @@
-//! What ops reply, and what their cowns hold afterwards.
+//! What ops reply, and what their cowns contain afterwards.
 ghost use Rattle.std.specs.Prelude.{pos, ◌≤ℤ◌};
 ghost use Rattle.sb_amount.specs.Limit.{IsWithinLimit};
-ghost use Rattle.sb_calls.specs.Cowns.{AreHeld};
+ghost use Rattle.sb_calls.specs.Cowns.{AreCownValues};
 
 use crate::fixtures::{cents, expect};
 use sb_amount::{Cents, LIMIT};
@@ -13,13 +13,13 @@ fn savings(rt: &impl Abort, number: i64) -> Cents
     ensures within { IsWithinLimit result }
     ensures not_negative { pos 0 ≤ℤ result }
 {
-    let held = cents(rt, number);
-    assert!(rt; held.value() >= 0);
-    held
+    let balance = cents(rt, number);
+    assert!(rt; balance.value() >= 0);
+    balance
 }
 
 // Whether these are balances of this many cents.
-fn are(balances: &[Cents], wanted: &[i64]) -> bool {
+fn have_cents(balances: &[Cents], wanted: &[i64]) -> bool {
     balances.len() == wanted.len()
         && balances
             .iter()
@@ -27,7 +27,7 @@ fn are(balances: &[Cents], wanted: &[i64]) -> bool {
             .all(|(balance, number)| balance.value() == *number)
 }
 
-// Checks a behaviour's reply, and what its cowns hold afterwards, through its bound alone.
+// Checks a behaviour's reply, and what its cowns contain afterwards, through its bound alone.
 fn expect_effect<B: Performs>(
     rt: &impl Abort,
     behaviour: B,
@@ -35,16 +35,16 @@ fn expect_effect<B: Performs>(
     reply: Reply,
     outputs: &[i64],
 )
-    requires { AreHeld (B.touches behaviour) inputs.now }
+    requires { AreCownValues (B.touches behaviour) inputs.now }
 {
     let given = behaviour.perform(inputs);
     expect(rt, given.0 == reply, "the reply");
-    expect(rt, are(&given.1, outputs), "what the cowns hold");
+    expect(rt, have_cents(&given.1, outputs), "the outputs");
 }
 
-fn expect_balance(rt: &impl Abort, place: u32, held: [i64; 2], shown: i64) {
-    let inputs = [savings(rt, held[0]), cents(rt, held[1])];
-    expect_effect(rt, Op::Balance(place), &inputs, Reply::Shown(shown), &held);
+fn expect_balance(rt: &impl Abort, place: u32, start: [i64; 2], shown: i64) {
+    let inputs = [savings(rt, start[0]), cents(rt, start[1])];
+    expect_effect(rt, Op::Balance(place), &inputs, Reply::Shown(shown), &start);
 }
 
 #[test]
@@ -53,12 +53,12 @@ fn balances(rt: HostRuntime) {
     expect_balance(&rt, 7, [0, -101], -101);
     let (reply, outputs) = perform(Op::Balance(0), &[savings(&rt, 10_000), cents(&rt, 5_000)]);
     expect(&rt, reply == Reply::Shown(15_000), "the reply");
-    expect(&rt, are(&outputs, &[10_000, 5_000]), "what the cowns hold");
+    expect(&rt, have_cents(&outputs, &[10_000, 5_000]), "the outputs");
 }
 
-fn expect_deposit(rt: &impl Abort, amount: i64, held: i64, reply: Reply, left: i64) {
+fn expect_deposit(rt: &impl Abort, amount: i64, start: i64, reply: Reply, end: i64) {
     let deposit = Op::DepositChecking(3, cents(rt, amount));
-    expect_effect(rt, deposit, &[cents(rt, held)], reply, &[left]);
+    expect_effect(rt, deposit, &[cents(rt, start)], reply, &[end]);
 }
 
 #[test]
@@ -69,9 +69,9 @@ fn deposits(rt: HostRuntime) {
     expect_deposit(&rt, -1, 2_000, Reply::Negative, 2_000);
 }
 
-fn expect_change(rt: &impl Abort, amount: i64, held: i64, reply: Reply, left: i64) {
+fn expect_change(rt: &impl Abort, amount: i64, start: i64, reply: Reply, end: i64) {
     let change = Op::TransactSavings(3, cents(rt, amount));
-    expect_effect(rt, change, &[savings(rt, held)], reply, &[left]);
+    expect_effect(rt, change, &[savings(rt, start)], reply, &[end]);
 }
 
 #[test]
@@ -82,10 +82,10 @@ fn changes_of_savings(rt: HostRuntime) {
     expect_change(&rt, 1_000, LIMIT - 999, Reply::OverLimit, LIMIT - 999);
 }
 
-fn expect_check(rt: &impl Abort, amount: i64, held: [i64; 2], reply: Reply, left: i64) {
+fn expect_check(rt: &impl Abort, amount: i64, start: [i64; 2], reply: Reply, end: i64) {
     let check = Op::WriteCheck(3, cents(rt, amount));
-    let inputs = [savings(rt, held[0]), cents(rt, held[1])];
-    expect_effect(rt, check, &inputs, reply, &[held[0], left]);
+    let inputs = [savings(rt, start[0]), cents(rt, start[1])];
+    expect_effect(rt, check, &inputs, reply, &[start[0], end]);
 }
 
 #[test]
@@ -99,17 +99,25 @@ fn checks(rt: HostRuntime) {
 }
 
 // The first of two customers gives: its savings and checking come before the other's checking.
-fn expect_first_gives(rt: &impl Abort, held: [i64; 3], reply: Reply, left: [i64; 3]) {
+fn expect_first_gives(rt: &impl Abort, start: [i64; 3], reply: Reply, end: [i64; 3]) {
     let places = TwoPlaces::new(2, 5).expect(rt, "two places");
-    let inputs = [savings(rt, held[0]), cents(rt, held[1]), cents(rt, held[2])];
-    expect_effect(rt, Op::Amalgamate(places), &inputs, reply, &left);
+    let inputs = [
+        savings(rt, start[0]),
+        cents(rt, start[1]),
+        cents(rt, start[2]),
+    ];
+    expect_effect(rt, Op::Amalgamate(places), &inputs, reply, &end);
 }
 
 // The second gives: the other's checking comes first.
-fn expect_second_gives(rt: &impl Abort, held: [i64; 3], reply: Reply, left: [i64; 3]) {
+fn expect_second_gives(rt: &impl Abort, start: [i64; 3], reply: Reply, end: [i64; 3]) {
     let places = TwoPlaces::new(5, 2).expect(rt, "two places");
-    let inputs = [cents(rt, held[0]), savings(rt, held[1]), cents(rt, held[2])];
-    expect_effect(rt, Op::Amalgamate(places), &inputs, reply, &left);
+    let inputs = [
+        cents(rt, start[0]),
+        savings(rt, start[1]),
+        cents(rt, start[2]),
+    ];
+    expect_effect(rt, Op::Amalgamate(places), &inputs, reply, &end);
 }
 
 #[test]
@@ -121,19 +129,19 @@ fn amalgamations(rt: HostRuntime) {
 }
 
 // The first of two customers pays: its checking comes before the other's.
-fn expect_first_pays(rt: &impl Abort, amount: i64, held: [i64; 2], reply: Reply, left: [i64; 2]) {
+fn expect_first_pays(rt: &impl Abort, amount: i64, start: [i64; 2], reply: Reply, end: [i64; 2]) {
     let places = TwoPlaces::new(2, 5).expect(rt, "two places");
     let payment = Op::SendPayment(places, cents(rt, amount));
-    let inputs = [cents(rt, held[0]), cents(rt, held[1])];
-    expect_effect(rt, payment, &inputs, reply, &left);
+    let inputs = [cents(rt, start[0]), cents(rt, start[1])];
+    expect_effect(rt, payment, &inputs, reply, &end);
 }
 
 // The second pays: the other's checking comes first.
-fn expect_second_pays(rt: &impl Abort, amount: i64, held: [i64; 2], reply: Reply, left: [i64; 2]) {
+fn expect_second_pays(rt: &impl Abort, amount: i64, start: [i64; 2], reply: Reply, end: [i64; 2]) {
     let places = TwoPlaces::new(5, 2).expect(rt, "two places");
     let payment = Op::SendPayment(places, cents(rt, amount));
-    let inputs = [cents(rt, held[0]), cents(rt, held[1])];
-    expect_effect(rt, payment, &inputs, reply, &left);
+    let inputs = [cents(rt, start[0]), cents(rt, start[1])];
+    expect_effect(rt, payment, &inputs, reply, &end);
 }
 
 #[test]

@@ -1,5 +1,5 @@
 //! The places that the names of calls resolve to.
-use super::bank::{Bank, opened};
+use super::bank::{Bank, open_bank};
 use crate::fixtures::{cents, expect, name};
 use sb_calls::{Call, Op, TwoPlaces, resolve};
 use std::process::Abort;
@@ -23,7 +23,7 @@ fn expect_place(rt: &impl Abort, bank: &Bank, text: &str, place: u32) {
 
 #[test]
 fn calls_of_one_name(rt: HostRuntime) {
-    let bank = opened(&rt, rt.alloc());
+    let bank = open_bank(&rt, rt.alloc());
     expect_place(&rt, &bank, "alice", 0);
     expect_place(&rt, &bank, "bob", 1);
     expect_place(&rt, &bank, "carol", 2);
@@ -46,7 +46,7 @@ fn expect_two(rt: &impl Abort, bank: &Bank, from: &str, to: &str, op: Op) {
 
 #[test]
 fn calls_of_two_names(rt: HostRuntime) {
-    let bank = opened(&rt, rt.alloc());
+    let bank = open_bank(&rt, rt.alloc());
     let places = TwoPlaces::new(2, 0).expect(&rt, "two places");
     expect_two(&rt, &bank, "carol", "alice", Op::Amalgamate(places));
     expect_two(&rt, &bank, "bob", "bob", Op::SameCustomer);
@@ -63,7 +63,7 @@ fn expect_payment(rt: &impl Abort, bank: &Bank, from: &str, to: &str, op: Op) {
 
 #[test]
 fn payments_between_two_names(rt: HostRuntime) {
-    let bank = opened(&rt, rt.alloc());
+    let bank = open_bank(&rt, rt.alloc());
     let places = TwoPlaces::new(0, 2).expect(&rt, "two places");
     let op = Op::SendPayment(places, cents(&rt, 500));
     expect_payment(&rt, &bank, "alice", "carol", op);

@@ -1,5 +1,5 @@
 //! Calls compared with a plain bank, which keeps names and balances together.
-use super::bank::{Bank, answer, opened};
+use super::bank::{Bank, execute_call, open_bank};
 use crate::fixtures::{cents, name};
 use crate::rows::columns::expect_columns;
 use sb_amount::LIMIT;
@@ -145,7 +145,7 @@ fn plain_payment(bank: &mut [Customer], from: &Name, to: &Name, amount: i64) -> 
     Reply::Done
 }
 
-const OPENED: [Customer; 3] = [
+const OPENING_ROWS: [Customer; 3] = [
     Customer {
         name: "alice",
         savings: 10000,
@@ -163,9 +163,9 @@ const OPENED: [Customer; 3] = [
     },
 ];
 
-// A customer by number; one of the four isn't in the bank.
-fn numbered_name(rt: &impl Abort, number: u8) -> Name {
-    let text = match number % 4 {
+// A customer by a seed; one of the four isn't in the bank.
+fn sample_name(rt: &impl Abort, seed: u8) -> Name {
+    let text = match seed % 4 {
         0 => "alice",
         1 => "bob",
         2 => "carol",
@@ -174,33 +174,33 @@ fn numbered_name(rt: &impl Abort, number: u8) -> Name {
     name(rt, text)
 }
 
-// A call by number.
-fn numbered_call(rt: &impl Abort, number: u8) -> Call {
-    let first = numbered_name(rt, number);
-    let amount = cents(rt, (i64::from(number) - 60) * 4_000_000_003);
-    match number % 9 {
+// A call by a seed.
+fn sample_call(rt: &impl Abort, seed: u8) -> Call {
+    let first = sample_name(rt, seed);
+    let amount = cents(rt, (i64::from(seed) - 60) * 4_000_000_003);
+    match seed % 9 {
         0 => Call::Balance(first),
         1 | 2 => Call::DepositChecking(first, amount),
         3 | 4 => Call::TransactSavings(first, amount),
-        5 => Call::Amalgamate(first, numbered_name(rt, number / 4)),
-        6 | 7 => Call::SendPayment(first, numbered_name(rt, number / 4), amount),
+        5 => Call::Amalgamate(first, sample_name(rt, seed / 4)),
+        6 | 7 => Call::SendPayment(first, sample_name(rt, seed / 4), amount),
         _ => Call::WriteCheck(first, amount),
     }
 }
 
-// Checks that the bank replies to the call of a number as the plain one does.
-fn expect_same(rt: &impl Abort, bank: &mut Bank, plain: &mut [Customer], number: u8) {
-    let call = numbered_call(rt, number);
+// Checks that the bank replies to the call of a seed as the plain one does.
+fn expect_same(rt: &impl Abort, bank: &mut Bank, plain: &mut [Customer], seed: u8) {
+    let call = sample_call(rt, seed);
     let wanted = plain_reply(plain, &call);
-    assert!(rt; answer(rt, bank, &call) == wanted, "call {number}");
+    assert!(rt; execute_call(rt, bank, &call) == wanted, "call {seed}");
 }
 
 #[test]
 fn two_hundred_calls(rt: HostRuntime) {
-    let mut bank = opened(&rt, rt.alloc());
-    let mut plain = OPENED;
-    for number in 0..200u8 {
-        expect_same(&rt, &mut bank, &mut plain, number);
+    let mut bank = open_bank(&rt, rt.alloc());
+    let mut plain = OPENING_ROWS;
+    for seed in 0..200u8 {
+        expect_same(&rt, &mut bank, &mut plain, seed);
     }
     let [alice, bob, carol] = plain;
     let savings = [alice.savings, bob.savings, carol.savings];

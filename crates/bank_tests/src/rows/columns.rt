@@ -1,5 +1,5 @@
 //! Columns, and copies of them.
-use crate::fixtures::{cents, expect, expect_amounts, many_lines, opened};
+use crate::fixtures::{cents, expect, expect_amounts, many_lines, valid_opening};
 use sb_rows::{CUSTOMERS, Columns};
 use std::alloc::Global;
 use std::process::Abort;
@@ -40,7 +40,7 @@ fn empty(rt: &impl Abort, alloc: Global) -> Box<Columns> {
     Box::new(alloc, Columns::new(alloc)).expect(rt, "memory for a box")
 }
 
-fn copied(rt: &impl Abort, alloc: Global, columns: &Columns) -> Box<Columns> {
+fn copy_of(rt: &impl Abort, alloc: Global, columns: &Columns) -> Box<Columns> {
     let copy = columns.copy().expect(rt, "memory for columns");
     Box::new(alloc, copy).expect(rt, "memory for a box")
 }
@@ -50,7 +50,7 @@ fn a_copy_stays(rt: HostRuntime) {
     let mut columns = empty(&rt, rt.alloc());
     add_balances(&rt, &mut columns, 500, -20);
     add_balances(&rt, &mut columns, 0, 7);
-    let copy = copied(&rt, rt.alloc(), &columns);
+    let copy = copy_of(&rt, rt.alloc(), &columns);
     add_balances(&rt, &mut columns, 1, 2);
     replace_two(&rt, &mut columns, 9);
     expect_columns(&rt, &columns, &[9, 0, 1], &[-20, 9, 2]);
@@ -66,7 +66,7 @@ fn expect_same(rt: &impl Abort, a: &Columns, b: &Columns, customers: usize) {
 #[test]
 fn a_copy_of_as_many_balances_as_a_bank_has(rt: HostRuntime) {
     let text = many_lines(&rt, rt.alloc(), 65_536, "begin\n");
-    let opening = opened(&rt, rt.alloc(), text.as_str());
-    let copy = copied(&rt, rt.alloc(), &opening.columns);
+    let opening = valid_opening(&rt, rt.alloc(), text.as_str());
+    let copy = copy_of(&rt, rt.alloc(), &opening.columns);
     expect_same(&rt, &copy, &opening.columns, 65_536);
 }

@@ -1,5 +1,5 @@
 //! Directories, and copies of them.
-use crate::fixtures::{expect, many_lines, name, opened};
+use crate::fixtures::{expect, many_lines, name, valid_opening};
 use sb_rows::{CUSTOMERS, Directory};
 use std::alloc::Global;
 use std::process::Abort;
@@ -41,7 +41,7 @@ fn empty(rt: &impl Abort, alloc: Global) -> Box<Directory> {
     Box::new(alloc, directory).expect(rt, "memory for a box")
 }
 
-fn copied(rt: &impl Abort, alloc: Global, directory: &Directory) -> Box<Directory> {
+fn copy_of(rt: &impl Abort, alloc: Global, directory: &Directory) -> Box<Directory> {
     let copy = directory.copy().expect(rt, "memory for a directory");
     Box::new(alloc, copy).expect(rt, "memory for a box")
 }
@@ -52,7 +52,7 @@ fn a_copy_stays(rt: HostRuntime) {
     add_name(&rt, &mut directory, "bob");
     add_name(&rt, &mut directory, "alice");
     add_name(&rt, &mut directory, "bob");
-    let copy = copied(&rt, rt.alloc(), &directory);
+    let copy = copy_of(&rt, rt.alloc(), &directory);
     add_name(&rt, &mut directory, "carol");
     expect_names(&rt, &directory, &["bob", "alice", "carol"]);
     expect_names(&rt, &copy, &["bob", "alice"]);
@@ -70,7 +70,7 @@ fn expect_same_names(rt: &impl Abort, a: &Directory, b: &Directory, places: u32)
 #[test]
 fn a_copy_of_as_many_names_as_a_bank_has(rt: HostRuntime) {
     let text = many_lines(&rt, rt.alloc(), 65_536, "begin\n");
-    let opening = opened(&rt, rt.alloc(), text.as_str());
-    let copy = copied(&rt, rt.alloc(), &opening.directory);
+    let opening = valid_opening(&rt, rt.alloc(), text.as_str());
+    let copy = copy_of(&rt, rt.alloc(), &opening.directory);
     expect_same_names(&rt, &copy, &opening.directory, 65_536);
 }

@@ -1,7 +1,7 @@
 //! Openings that are read.
 use super::columns::expect_columns;
 use super::directories::{expect_names, expect_no_name};
-use crate::fixtures::{expect, many_lines, name, opened};
+use crate::fixtures::{expect, many_lines, name, valid_opening};
 use sb_rows::Opening;
 use std::alloc::Global;
 use std::process::Abort;
@@ -16,7 +16,7 @@ fn expect_size(rt: &impl Abort, opening: &Opening, customers: usize, consumed: u
 #[test]
 fn an_opening_of_three(rt: HostRuntime) {
     let text = "alice 100.00 50.00\nbob 0.00 20.00\ncarol 10.00 0.00\nbegin\nalice bob\n";
-    let opening = opened(&rt, rt.alloc(), text);
+    let opening = valid_opening(&rt, rt.alloc(), text);
     expect_size(&rt, &opening, 3, 57, text);
     expect_columns(
         &rt,
@@ -29,7 +29,7 @@ fn an_opening_of_three(rt: HostRuntime) {
 }
 
 fn expect_opened(rt: &impl Abort, alloc: Global, text: &str, customers: usize, consumed: usize) {
-    let opening = opened(rt, alloc, text);
+    let opening = valid_opening(rt, alloc, text);
     expect_size(rt, &opening, customers, consumed, text);
 }
 
@@ -49,7 +49,7 @@ fn openings_at_their_edges(rt: HostRuntime) {
 #[test]
 fn as_many_customers_as_a_bank_has(rt: HostRuntime) {
     let text = many_lines(&rt, rt.alloc(), 65_536, "begin\n");
-    let opening = opened(&rt, rt.alloc(), text.as_str());
+    let opening = valid_opening(&rt, rt.alloc(), text.as_str());
     expect_size(&rt, &opening, 65_536, text.len(), "65536 customers");
     let last = opening.directory.place(&name(&rt, "c65535"));
     expect(&rt, last == Some(65_535), "the last customer");

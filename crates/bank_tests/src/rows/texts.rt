@@ -53,7 +53,7 @@ fn lines_in_words(rt: HostRuntime) {
 }
 
 // The one word that is left after this many others of a line.
-fn last_behind(line: &str, others: usize) -> Option<&[u8]> {
+fn last_after(line: &str, others: usize) -> Option<&[u8]> {
     let mut words = Words::of(line.as_bytes());
     for _ in 0..others {
         let _word = words.word().ok()?;
@@ -63,29 +63,29 @@ fn last_behind(line: &str, others: usize) -> Option<&[u8]> {
 
 #[test]
 fn the_last_word_is_the_only_one_left(rt: HostRuntime) {
-    expect(&rt, last_behind("", 0) == Some(b"".as_slice()), "no text");
+    expect(&rt, last_after("", 0) == Some(b"".as_slice()), "no text");
     expect(
         &rt,
-        last_behind("ab", 0) == Some(b"ab".as_slice()),
+        last_after("ab", 0) == Some(b"ab".as_slice()),
         "one word",
     );
-    expect(&rt, last_behind("ab c", 0).is_none(), "one of two");
-    expect(&rt, last_behind("ab ", 0).is_none(), "a space behind it");
+    expect(&rt, last_after("ab c", 0).is_none(), "one of two");
+    expect(&rt, last_after("ab ", 0).is_none(), "a space behind it");
     expect(
         &rt,
-        last_behind("ab c", 1) == Some(b"c".as_slice()),
+        last_after("ab c", 1) == Some(b"c".as_slice()),
         "the second of two",
     );
     expect(
         &rt,
-        last_behind("ab ", 1) == Some(b"".as_slice()),
+        last_after("ab ", 1) == Some(b"".as_slice()),
         "an empty one",
     );
     expect(
         &rt,
-        last_behind("ab c d", 1).is_none(),
+        last_after("ab c d", 1).is_none(),
         "the second of three",
     );
-    expect(&rt, last_behind("ab c", 2).is_none(), "a third of two");
-    expect(&rt, last_behind("ab", 2).is_none(), "a third of one");
+    expect(&rt, last_after("ab c", 2).is_none(), "a third of two");
+    expect(&rt, last_after("ab", 2).is_none(), "a third of one");
 }

@@ -5,12 +5,12 @@ use super::*;
 fn flipped(
     rt: &(impl Abort + AllocGlobal),
     bytes: &mut [u8],
-    place: usize,
+    position: usize,
 ) -> Option<CheckpointFault> {
-    assert!(rt; place < bytes.len());
-    bytes[place] ^= 1;
+    assert!(rt; position < bytes.len());
+    bytes[position] ^= 1;
     let answer = fault_of(rt, bytes, THREE);
-    bytes[place] ^= 1;
+    bytes[position] ^= 1;
     answer
 }
 
@@ -26,8 +26,8 @@ fn are_answered(
 ) {
     let mut bytes = bytes(rt, fields);
     let mut answers = Vec::new(rt.alloc());
-    for place in 0..bytes.len() {
-        let answer = flipped(rt, &mut bytes, place);
+    for position in 0..bytes.len() {
+        let answer = flipped(rt, &mut bytes, position);
         answers.push(answer).expect(rt, "memory for an answer");
     }
     for (answer, count) in counts {

@@ -24,12 +24,12 @@ fn a_full_bank_is_written_and_read(rt: HostRuntime) {
     let least = -65_536 * 1_000_000_000_000;
     let bytes = write_checkpoint(rt.alloc(), &columns, least, &[]).expect(&rt, "memory for bytes");
     assert!(&rt; bytes.len() == 36 + 16 * 65_536);
-    let told = Told {
+    let parts = CheckpointParts {
         savings: columns.savings(),
         checking: columns.checking(),
         replies: &[],
     };
-    are_read(&rt, &bytes, least, told, &bytes);
+    are_read(&rt, &bytes, least, parts, &bytes);
 }
 
 // The fields of a checkpoint of no customers in each layout, before its length and after it.
@@ -61,13 +61,13 @@ fn a_full_log_is_read_and_written(rt: HostRuntime) {
     let second = shown_nothing(&rt, SECOND_OF_NOBODY, length, 1_000_000);
     let replies = Vec::from_elem(rt.alloc(), Reply::Shown(0), 1_000_000);
     let replies = replies.expect(&rt, "memory for replies");
-    let told = Told {
+    let parts = CheckpointParts {
         savings: &[],
         checking: &[],
         replies: &replies,
     };
-    are_read(&rt, &first, 0, told, &second);
-    are_read(&rt, &second, 0, told, &second);
+    are_read(&rt, &first, 0, parts, &second);
+    are_read(&rt, &second, 0, parts, &second);
 }
 
 #[test]

@@ -14,13 +14,13 @@ fn three_customers_and_five_replies(rt: HostRuntime) {
     let first = bytes(&rt, &FIRST);
     let second = bytes(&rt, &SECOND);
     assert!(&rt; first.len() == 121 && second.len() == 129);
-    let told = Told {
+    let parts = CheckpointParts {
         savings: &[0, 0, 0],
         checking: &[0, 2_500, 0],
         replies: &FIVE_REPLIES,
     };
-    are_read(&rt, &first, 18_000, told, &second);
-    are_read(&rt, &second, 18_000, told, &second);
+    are_read(&rt, &first, 18_000, parts, &second);
+    are_read(&rt, &second, 18_000, parts, &second);
 }
 
 // The first layout has no opening total: it is written again with any that the bank has.
@@ -38,13 +38,13 @@ fn no_customers_and_no_replies(rt: HostRuntime) {
         ("7fffffffffffffff", i64::MAX),
     ] {
         let second = bytes(&rt, &[head, opening]);
-        let told = Told {
+        let parts = CheckpointParts {
             savings: &[],
             checking: &[],
             replies: &[],
         };
-        are_read(&rt, &first, opening_total, told, &second);
-        are_read(&rt, &second, opening_total, told, &second);
+        are_read(&rt, &first, opening_total, parts, &second);
+        are_read(&rt, &second, opening_total, parts, &second);
     }
 }
 
@@ -67,7 +67,7 @@ fn each_reply_and_balances_at_the_limit(rt: HostRuntime) {
         &rt,
         &[head, savings, checking, total, opening, replies, more],
     );
-    let told = Told {
+    let parts = CheckpointParts {
         savings: &[1_000_000_000_000, 0],
         checking: &[1_000_000_000_000, -1_000_000_000_000],
         replies: &[
@@ -82,6 +82,6 @@ fn each_reply_and_balances_at_the_limit(rt: HostRuntime) {
             Reply::OverLimit,
         ],
     };
-    are_read(&rt, &first, -300, told, &second);
-    are_read(&rt, &second, -300, told, &second);
+    are_read(&rt, &first, -300, parts, &second);
+    are_read(&rt, &second, -300, parts, &second);
 }

@@ -40,7 +40,7 @@ fn restarts_so(
 
 fn plays(rt: &(impl Abort + AllocGlobal), case: &Case) {
     let mut replica = opened_over_faulty(rt, case.at, case.leaves);
-    hears(
+    receives(
         rt,
         &mut *replica,
         1,
@@ -89,7 +89,7 @@ fn a_device_that_fails_at_one_call(rt: HostRuntime) {
 #[test]
 fn a_device_that_fails_where_a_state_is_looked_for(rt: HostRuntime) {
     let mut replica = opened_over_faulty(&rt, 2, Version::Old);
-    tells_have(&rt, &mut *replica, 0);
+    sends_have(&rt, &mut *replica, 0);
     assert!(rt; replica.kept_state().err() == Some(RestartFault::Device));
-    tells_have(&rt, &mut *replica, 0);
+    sends_have(&rt, &mut *replica, 0);
 }

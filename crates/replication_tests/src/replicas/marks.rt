@@ -51,7 +51,7 @@ fn a_mark_after_five_calls(rt: HostRuntime) {
     plays(
         &rt,
         &[
-            Step::Hear(1, "balance alice", Heard::Accepted(1)),
+            Step::ReceiveEntry(1, "balance alice", Heard::Accepted(1)),
             Step::Run(1, Reply::Shown(15_000)),
             Step::AcceptUpTo(2, "deposit bob 5.00"),
             Step::Run(2, Reply::Done),
@@ -63,7 +63,7 @@ fn a_mark_after_five_calls(rt: HostRuntime) {
             Step::Run(5, Reply::Done),
             Step::Mark(Ok(5)),
             Step::Stored(Some(&AFTER_FIVE_CALLS)),
-            Step::Keeps(Some((5, &AFTER_FIVE_CALLS))),
+            Step::GivesState(Some((5, &AFTER_FIVE_CALLS))),
             Step::HaveFrame(5),
         ],
     );

@@ -63,7 +63,7 @@ fn a_restart_forgets_what_is_held(rt: HostRuntime) {
     plays(
         &rt,
         &[
-            Step::Hear(2, "deposit alice 1.00", Heard::Held(2)),
+            Step::ReceiveEntry(2, "deposit alice 1.00", Heard::Held(2)),
             Step::Restart(Ok(0)),
             Step::AcceptUpTo(1, "deposit alice 2.00"),
             Step::Advance(None),
@@ -73,7 +73,7 @@ fn a_restart_forgets_what_is_held(rt: HostRuntime) {
 
 // The first job is out when the replica restarts at the opening, and is taken again.
 #[test]
-fn the_earlier_hand_finishes_first(rt: HostRuntime) {
+fn the_earlier_job_finishes_first(rt: HostRuntime) {
     plays(
         &rt,
         &[
@@ -90,7 +90,7 @@ fn the_earlier_hand_finishes_first(rt: HostRuntime) {
 }
 
 #[test]
-fn a_hand_from_before_is_a_stranger(rt: HostRuntime) {
+fn a_job_from_before_is_a_stranger(rt: HostRuntime) {
     plays(
         &rt,
         &[
@@ -135,7 +135,7 @@ fn a_failed_put_that_left_the_new_bytes(rt: HostRuntime) {
             Step::Mark(Err(MarkFault::Device)),
             Step::Restart(Ok(1)),
             Step::ReplyTo(1, Some(Reply::Done)),
-            Step::Hear(1, "deposit alice 1.00", Heard::Repeat(1)),
+            Step::ReceiveEntry(1, "deposit alice 1.00", Heard::Repeat(1)),
             Step::Ends(1, [5_100, 2_000, 0]),
         ],
     );

@@ -60,8 +60,8 @@ fn a_state_is_adopted(rt: HostRuntime) {
             Step::Run(1, Reply::Done),
             Step::Mark(Ok(1)),
             Step::Cut(Ok(1)),
-            Step::Hear(3, "deposit alice 3.00", Heard::Held(3)),
-            Step::Hear(7, "deposit alice 7.00", Heard::Held(7)),
+            Step::ReceiveEntry(3, "deposit alice 3.00", Heard::Held(3)),
+            Step::ReceiveEntry(7, "deposit alice 7.00", Heard::Held(7)),
             Step::Adopt(&AFTER_FIVE_CALLS, Ok(Adopted::Adopted(5))),
             Step::Ends(5, [0, 2_500, 0]),
             Step::ReplyTo(1, Some(Reply::Shown(15_000))),
@@ -69,7 +69,7 @@ fn a_state_is_adopted(rt: HostRuntime) {
             Step::ReplyTo(5, Some(Reply::Done)),
             Step::ReplyTo(6, None),
             Step::Stored(Some(&AFTER_A_DEPOSIT)),
-            Step::Hear(5, "deposit alice 5.00", Heard::Repeat(5)),
+            Step::ReceiveEntry(5, "deposit alice 5.00", Heard::Repeat(5)),
             // Nothing is held.
             Step::Advance(None),
             Step::AcceptUpTo(6, "savings carol 4.00"),
@@ -119,12 +119,12 @@ fn a_state_in_the_first_layout_is_adopted(rt: HostRuntime) {
 
 // It is given as it is stored.
 #[test]
-fn a_stored_state_in_the_first_layout_is_kept(rt: HostRuntime) {
+fn a_stored_state_in_the_first_layout_is_given(rt: HostRuntime) {
     plays_over(
         &rt,
         Some(&bytes(&rt, &FIRST)),
         &[
-            Step::Keeps(Some((5, &FIRST))),
+            Step::GivesState(Some((5, &FIRST))),
             Step::HaveFrame(5),
             Step::Stored(Some(&FIRST)),
         ],
@@ -137,7 +137,7 @@ fn a_state_that_is_not_adopted_changes_nothing(rt: HostRuntime) {
         &rt,
         &[
             Step::AcceptUpTo(1, "deposit alice 1.00"),
-            Step::Hear(3, "deposit alice 3.00", Heard::Held(3)),
+            Step::ReceiveEntry(3, "deposit alice 3.00", Heard::Held(3)),
             Step::Take(1),
             Step::Cut(Ok(1)),
             Step::Adopt(
@@ -176,7 +176,7 @@ fn a_state_that_is_not_adopted_changes_nothing(rt: HostRuntime) {
 }
 
 #[test]
-fn a_hand_of_an_adopted_number_is_a_stranger(rt: HostRuntime) {
+fn a_job_of_an_adopted_number_is_a_stranger(rt: HostRuntime) {
     plays(
         &rt,
         &[
@@ -189,9 +189,9 @@ fn a_hand_of_an_adopted_number_is_a_stranger(rt: HostRuntime) {
     );
 }
 
-// The hands hold numbers beyond the state, from before a restart.
+// The jobs that are out have numbers beyond the state, from before a restart.
 #[test]
-fn a_hand_of_a_later_number_is_a_stranger(rt: HostRuntime) {
+fn a_job_of_a_later_number_is_a_stranger(rt: HostRuntime) {
     plays(
         &rt,
         &[
@@ -218,17 +218,17 @@ fn a_replica_has_no_state_of_no_entry(rt: HostRuntime) {
     plays(
         &rt,
         &[
-            Step::Keeps(None),
+            Step::GivesState(None),
             Step::HaveFrame(0),
             Step::Mark(Ok(0)),
-            Step::Keeps(None),
+            Step::GivesState(None),
             Step::HaveFrame(0),
             Step::AcceptUpTo(1, "deposit alice 1.00"),
-            Step::Keeps(None),
+            Step::GivesState(None),
             Step::Run(1, Reply::Done),
             Step::Mark(Ok(1)),
             Step::AcceptUpTo(2, "deposit alice 1.00"),
-            Step::Keeps(Some((1, &AFTER_A_DEPOSIT))),
+            Step::GivesState(Some((1, &AFTER_A_DEPOSIT))),
             Step::Length(2),
             Step::Stored(Some(&AFTER_A_DEPOSIT)),
         ],
@@ -244,7 +244,7 @@ fn stored_bytes_that_are_no_state(rt: HostRuntime) {
         plays_over(
             &rt,
             Some(bytes),
-            &[Step::KeepsNone(RestartFault::BadCheckpoint(fault))],
+            &[Step::GivesNoState(RestartFault::BadCheckpoint(fault))],
         );
     }
     for (fields, fault) in [
@@ -252,6 +252,10 @@ fn stored_bytes_that_are_no_state(rt: HostRuntime) {
         (ANOTHER_BANKS, CheckpointFault::WrongOpening),
     ] {
         let fault = RestartFault::BadCheckpoint(fault);
-        plays_over(&rt, Some(&bytes(&rt, &fields)), &[Step::KeepsNone(fault)]);
+        plays_over(
+            &rt,
+            Some(&bytes(&rt, &fields)),
+            &[Step::GivesNoState(fault)],
+        );
     }
 }

@@ -1,21 +1,21 @@
-//! A replica that hears a stream, compared with one that hears the bytes of the same frames.
+//! A replica that receives a stream, compared with one that receives the bytes of the same frames.
 use super::*;
 use sb_frames::{Stream, StreamFault};
-use sb_replica::{BATCH_ENTRIES, HearingFault, Pause};
+use sb_replica::{BATCH_ENTRIES, Pause, ReceiveFault};
 
-// A replica, and the stream that it hears.
+// A replica, and the stream that it receives.
 #[derive(Drop)]
-struct Listener {
+struct StreamNode {
     node: Box<Node>,
     stream: Stream,
 }
 
-fn new_listener(rt: &(impl Abort + AllocGlobal)) -> Box<Listener> {
-    let listener = Listener {
+fn new_stream_node(rt: &(impl Abort + AllocGlobal)) -> Box<StreamNode> {
+    let stream_node = StreamNode {
         node: opened_over(rt, None),
         stream: Stream::new(rt.alloc()),
     };
-    Box::new(rt.alloc(), listener).expect(rt, "memory for a listener")
+    Box::new(rt.alloc(), stream_node).expect(rt, "memory for a stream")
 }
 
 fn entry(rt: &impl Abort, number: u64, line: &str) -> Frame {
@@ -66,7 +66,7 @@ fn run_all(rt: &impl Abort, replica: &mut Replica<MemoryStore>) {
 }
 
 // Hears the bytes of each frame. A busy replica runs everything first.
-fn hear_each(rt: &impl Abort, replica: &mut Replica<MemoryStore>, frames: &[Frame]) {
+fn receive_each(rt: &impl Abort, replica: &mut Replica<MemoryStore>, frames: &[Frame]) {
     for frame in frames {
         let bytes = encode(frame);
         if let Ok(Heard::Busy(_)) = replica.on_frame(&bytes) {
@@ -77,10 +77,10 @@ fn hear_each(rt: &impl Abort, replica: &mut Replica<MemoryStore>, frames: &[Fram
 }
 
 // Hears everything that comes with these bytes. A busy replica runs everything.
-fn hear_piece(rt: &impl Abort, other: &mut Listener, bytes: &[u8]) {
+fn receive_piece(rt: &impl Abort, other: &mut StreamNode, bytes: &[u8]) {
     assert!(rt; other.stream.feed(bytes) == Ok(()));
     for _ in 0..u64::MAX {
-        match other.node.replica.hear_stream(&mut other.stream) {
+        match other.node.replica.receive_stream(&mut other.stream) {
             Ok(Pause::Short) => return,
             Ok(Pause::Other(frame)) => assert!(rt; frame == Frame::Flush),
             Ok(Pause::Busy) => run_all(rt, &mut other.node.replica),
@@ -90,8 +90,8 @@ fn hear_piece(rt: &impl Abort, other: &mut Listener, bytes: &[u8]) {
 }
 
 fn have_same_columns(rt: &impl Abort, one: &Replica<MemoryStore>, other: &Replica<MemoryStore>) {
-    let first = one.settled_columns().expect(rt, "no columns");
-    let second = other.settled_columns().expect(rt, "no columns");
+    let first = one.final_columns().expect(rt, "no columns");
+    let second = other.final_columns().expect(rt, "no columns");
     assert!(rt; first.checking() == second.checking());
     assert!(rt; first.savings() == second.savings());
 }
@@ -113,19 +113,19 @@ fn are_alike(rt: &impl Abort, one: &mut Node, other: &mut Node) {
     }
 }
 
-fn hear_alike(rt: &(impl Abort + AllocGlobal), frames: &[Frame], cut: usize) {
+fn receive_alike(rt: &(impl Abort + AllocGlobal), frames: &[Frame], cut: usize) {
     let mut one = opened_over(rt, None);
-    hear_each(rt, &mut one.replica, frames);
+    receive_each(rt, &mut one.replica, frames);
     let bytes = spelled(rt, frames);
     assert!(rt; cut <= bytes.len());
-    let mut other = new_listener(rt);
-    hear_piece(rt, &mut other, &bytes[..cut]);
-    hear_piece(rt, &mut other, &bytes[cut..]);
+    let mut other = new_stream_node(rt);
+    receive_piece(rt, &mut other, &bytes[..cut]);
+    receive_piece(rt, &mut other, &bytes[cut..]);
     are_alike(rt, &mut one, &mut other.node);
 }
 
 #[test]
-fn a_stream_is_heard_as_its_frames_however_it_is_cut(rt: HostRuntime) {
+fn a_stream_is_received_as_its_frames_however_it_is_cut(rt: HostRuntime) {
     let frames = [
         entry(&rt, 1, "deposit alice 1.00"),
         entry(&rt, 3, "check bob 5.00"),
@@ -138,62 +138,62 @@ fn a_stream_is_heard_as_its_frames_however_it_is_cut(rt: HostRuntime) {
         entry(&rt, 4, "deposit dora 1.00"),
     ];
     for cut in 0..spelled(&rt, &frames).len() + 1 {
-        hear_alike(&rt, &frames, cut);
+        receive_alike(&rt, &frames, cut);
     }
 }
 
 #[test]
-fn a_long_stream_is_heard_as_its_frames(rt: HostRuntime) {
+fn a_long_stream_is_received_as_its_frames(rt: HostRuntime) {
     let batch = BATCH_ENTRIES as u64;
     for last in [batch - 1, batch, batch + 1, 1_023, 1_024, 1_025, 2_500] {
         let frames = entries_up_to(&rt, last);
-        hear_alike(&rt, &frames, 0);
-        hear_alike(&rt, &frames, 30);
+        receive_alike(&rt, &frames, 0);
+        receive_alike(&rt, &frames, 30);
     }
 }
 
-// The bytes that are fed, the answer of hearing then, and the length of the log after it.
+// The bytes that are fed, the answer to them, and the length of the log after it.
 #[derive(Clone, Copy)]
-struct Hearing<'a> {
+struct StreamCase<'a> {
     bytes: &'a [u8],
-    answer: Result<Pause, HearingFault>,
+    answer: Result<Pause, ReceiveFault>,
     length: u64,
 }
 
-fn hears_so(rt: &impl Abort, other: &mut Listener, place: usize, hearing: &Hearing) {
-    assert!(rt; other.stream.feed(hearing.bytes) == Ok(()));
-    let told = other.node.replica.hear_stream(&mut other.stream);
-    is_so(rt, place, told == hearing.answer);
-    is_so(rt, place, other.node.replica.length() == hearing.length);
+fn receives_so(rt: &impl Abort, other: &mut StreamNode, position: usize, case: &StreamCase) {
+    assert!(rt; other.stream.feed(case.bytes) == Ok(()));
+    let answered = other.node.replica.receive_stream(&mut other.stream);
+    is_so(rt, position, answered == case.answer);
+    is_so(rt, position, other.node.replica.length() == case.length);
 }
 
 #[test]
 fn a_pause_is_made_at_each_frame_that_is_no_entry(rt: HostRuntime) {
     let bytes = spelled(&rt, &entries_up_to(&rt, 2));
     let flush = [0, 1, 6];
-    let mut other = new_listener(&rt);
-    for (place, hearing) in [
-        Hearing {
+    let mut other = new_stream_node(&rt);
+    for (position, case) in [
+        StreamCase {
             bytes: &[],
             answer: Ok(Pause::Short),
             length: 0,
         },
-        Hearing {
+        StreamCase {
             bytes: &bytes,
             answer: Ok(Pause::Short),
             length: 2,
         },
-        Hearing {
+        StreamCase {
             bytes: &flush,
             answer: Ok(Pause::Other(Frame::Flush)),
             length: 2,
         },
-        Hearing {
+        StreamCase {
             bytes: &flush[..2],
             answer: Ok(Pause::Short),
             length: 2,
         },
-        Hearing {
+        StreamCase {
             bytes: &flush[2..],
             answer: Ok(Pause::Other(Frame::Flush)),
             length: 2,
@@ -202,66 +202,66 @@ fn a_pause_is_made_at_each_frame_that_is_no_entry(rt: HostRuntime) {
     .iter()
     .enumerate()
     {
-        hears_so(&rt, &mut other, place, hearing);
+        receives_so(&rt, &mut other, position, case);
     }
 }
 
 #[test]
 fn no_entry_is_taken_while_too_many_are_unfinished(rt: HostRuntime) {
     let first = spelled(&rt, &entries_up_to(&rt, 1_030));
-    let mut other = new_listener(&rt);
-    let busy = Hearing {
+    let mut other = new_stream_node(&rt);
+    let busy = StreamCase {
         bytes: &[],
         answer: Ok(Pause::Busy),
         length: 1_024,
     };
-    hears_so(
+    receives_so(
         &rt,
         &mut other,
         0,
-        &Hearing {
+        &StreamCase {
             bytes: &first,
             ..busy
         },
     );
-    hears_so(&rt, &mut other, 1, &busy);
+    receives_so(&rt, &mut other, 1, &busy);
     runs(&rt, &mut other.node.replica, 1, Reply::Done);
-    hears_so(
+    receives_so(
         &rt,
         &mut other,
         2,
-        &Hearing {
+        &StreamCase {
             length: 1_025,
             ..busy
         },
     );
     run_all(&rt, &mut other.node.replica);
-    let short = Hearing {
+    let short = StreamCase {
         bytes: &[],
         answer: Ok(Pause::Short),
         length: 1_030,
     };
-    hears_so(&rt, &mut other, 3, &short);
+    receives_so(&rt, &mut other, 3, &short);
 }
 
 // No more bytes are fed.
-fn fails_so(rt: &impl Abort, other: &mut Listener, fault: HearingFault) {
-    let told = other.node.replica.hear_stream(&mut other.stream);
-    assert!(rt; told == Err(fault));
+fn fails_so(rt: &impl Abort, other: &mut StreamNode, fault: ReceiveFault) {
+    let answered = other.node.replica.receive_stream(&mut other.stream);
+    assert!(rt; answered == Err(fault));
 }
 
 #[test]
-fn what_came_before_a_bad_frame_is_heard(rt: HostRuntime) {
+fn what_came_before_a_bad_frame_is_received(rt: HostRuntime) {
     let good = spelled(&rt, &entries(&rt, &[1, 2, 4, 3]));
-    let bad = HearingFault::Stream(StreamFault::Bad(FrameFault::UnknownTag));
-    let failed = HearingFault::Stream(StreamFault::Failed);
-    let mut other = new_listener(&rt);
+    let bad = ReceiveFault::Stream(StreamFault::Bad(FrameFault::UnknownTag));
+    let failed = ReceiveFault::Stream(StreamFault::Failed);
+    let mut other = new_stream_node(&rt);
     assert!(rt; other.stream.feed(&good) == Ok(()));
-    hears_so(
+    receives_so(
         &rt,
         &mut other,
         0,
-        &Hearing {
+        &StreamCase {
             bytes: &[0, 1, 9],
             answer: Err(bad),
             length: 3,

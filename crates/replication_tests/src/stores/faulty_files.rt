@@ -38,8 +38,8 @@ pub(super) struct FailingFile {
 }
 
 // Fails if this is the call that has to fail.
-fn unless(told: &Cell<Call>, call: Call) -> io::Result<()> {
-    if told.get() == call {
+fn unless(failing: &Cell<Call>, call: Call) -> io::Result<()> {
+    if failing.get() == call {
         return Err(io::Error::from(ErrorKind::PermissionDenied));
     }
     Ok(())

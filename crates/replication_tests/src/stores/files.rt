@@ -27,7 +27,7 @@ enum Step<'a> {
 
 fn holds_fails<S: CheckpointStore>(rt: &impl Abort, store: &mut S, failures: u64) {
     assert!(rt; store.get().err() == Some(StoreFault::Device));
-    assert!(rt; store.holds(b"some bytes") == Err(StoreFault::Device));
+    assert!(rt; store.has_content(b"some bytes") == Err(StoreFault::Device));
     assert!(rt; store.failures() == failures);
 }
 
@@ -39,7 +39,7 @@ fn plays<P: FileWithSpare>(rt: &impl Abort, store: &mut FileStore<P>, steps: &[S
                 is_so(rt, place, store.probe() == answer);
                 is_so(rt, place, store.failures() == failures);
             }
-            Step::Holds(bytes) => holds(rt, store, bytes),
+            Step::Holds(bytes) => has_content(rt, store, bytes),
             Step::HoldsNothing => holds_nothing(rt, store),
             Step::HoldsFails(failures) => holds_fails(rt, store, failures),
         }

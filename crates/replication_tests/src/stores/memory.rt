@@ -7,16 +7,16 @@ fn a_put_ends_as_it_is_told(rt: HostRuntime) {
     let mut store = MemoryStore::new(rt.alloc());
     holds_nothing(&rt, &mut store);
     puts(&rt, &mut store, b"first", Ok(()), 0);
-    holds(&rt, &mut store, b"first");
+    has_content(&rt, &mut store, b"first");
     store.tell(How::Old);
     puts(&rt, &mut store, b"second", Err(StoreFault::Device), 1);
-    holds(&rt, &mut store, b"first");
+    has_content(&rt, &mut store, b"first");
     store.tell(How::New);
     puts(&rt, &mut store, b"third", Err(StoreFault::Device), 2);
-    holds(&rt, &mut store, b"third");
+    has_content(&rt, &mut store, b"third");
     // The next put succeeds again.
     puts(&rt, &mut store, b"fourth", Ok(()), 2);
-    holds(&rt, &mut store, b"fourth");
+    has_content(&rt, &mut store, b"fourth");
 }
 
 #[test]
@@ -27,5 +27,5 @@ fn a_first_put_that_fails_leaves_nothing_or_all(rt: HostRuntime) {
     holds_nothing(&rt, &mut store);
     store.tell(How::New);
     puts(&rt, &mut store, b"first", Err(StoreFault::Device), 2);
-    holds(&rt, &mut store, b"first");
+    has_content(&rt, &mut store, b"first");
 }

@@ -9,12 +9,12 @@ use std::io;
 #[derive(Drop)]
 struct Pair {
     alloc: Global,
-    held: Option<Vec<u8>>,
+    content: Option<Vec<u8>>,
     spare: Option<Vec<u8>>,
 }
 
 impl FileWithSpare for Pair {
-    ghost held = { λ pair. option_map (λ bytes. bytes.items) pair.held };
+    ghost content = { λ pair. option_map (λ bytes. bytes.items) pair.content };
 
     ghost spare = { λ pair. option_map (λ bytes. bytes.items) pair.spare };
 
@@ -30,7 +30,7 @@ impl FileWithSpare for Pair {
     fn place_spare(&mut self) -> io::Result<()> {
         match self.spare.take() {
             Some(spare) => {
-                self.held = Some(spare);
+                self.content = Some(spare);
                 Ok(())
             }
             None => Err(io::Error::from(io::ErrorKind::NotFound)),
@@ -45,10 +45,10 @@ impl FileWithSpare for Pair {
     }
 
     fn read(&mut self) -> Result<Option<Vec<u8>>, StoreFault> {
-        let Some(held) = &self.held else {
+        let Some(content) = &self.content else {
             return Ok(None);
         };
-        match held.clone() {
+        match content.clone() {
             Ok(copy) => Ok(Some(copy)),
             Err(_) => Err(StoreFault::OutOfMemory),
         }
@@ -59,12 +59,12 @@ impl FileWithSpare for Pair {
 fn a_store_over_an_honest_file(rt: HostRuntime) {
     let pair = Pair {
         alloc: rt.alloc(),
-        held: None,
+        content: None,
         spare: None,
     };
     let mut store = Box::new(rt.alloc(), FileStore::new(pair)).expect(&rt, "memory for a store");
     assert!(rt; store.probe() == Ok(()));
     holds_nothing(&rt, &mut *store);
     puts(&rt, &mut *store, b"some", Ok(()), 0);
-    holds(&rt, &mut *store, b"some");
+    has_content(&rt, &mut *store, b"some");
 }

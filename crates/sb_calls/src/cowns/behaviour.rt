@@ -1,6 +1,6 @@
 //! Behaviours over declared cowns.
 ghost use Rattle.std.specs.Prelude.{◌≡◌, ◌≤◌, ◌↔◌, ℕ, ℤ, true, List, length};
-ghost use Rattle.sb_calls.specs.Cowns.{IsRising, AreHeld};
+ghost use Rattle.sb_calls.specs.Cowns.{IsRising, AreCownValues};
 ghost use Rattle.sb_calls.specs.declared.reply.Reply.{Reply as AnyReply};
 
 use super::cown::Cown;
@@ -18,10 +18,10 @@ pub const BEHAVIOUR_COWNS: usize = 3;
 /// This trait says which cowns a behaviour needs. What the behaviour does to them stands in the
 /// contracts alone.
 pub trait Behaviour: Copy + Eq {
-    /// The numbers of the cowns that it declares.
+    /// The ids of the cowns that it declares.
     ghost touches: { Self → List ℕ };
 
-    /// Its reply, and what its cowns hold after it, from what they held before.
+    /// Its reply, and what its cowns contain after it, from what they contained before.
     ghost effect: { Self → List ℤ → AnyReply × List ℤ };
 
     /// The cowns that it declares, in rising order.
@@ -31,11 +31,11 @@ pub trait Behaviour: Copy + Eq {
     /// The declared cowns rise, so each occurs once.
     ghost rising: { (behaviour : Self) → IsRising (touches behaviour) };
 
-    ghost few: { (behaviour : Self) → length (touches behaviour) ≤ 3 };
+    ghost limit: { (behaviour : Self) → length (touches behaviour) ≤ 3 };
 
     /// It leaves allowed values in its cowns.
-    ghost keeps: { (behaviour : Self) (inputs : List ℤ) → AreHeld (touches behaviour) inputs
-        → AreHeld (touches behaviour) (effect behaviour inputs).1 };
+    ghost valid_outputs: { (behaviour : Self) (inputs : List ℤ) → AreCownValues (touches behaviour) inputs
+        → AreCownValues (touches behaviour) (effect behaviour inputs).1 };
 
     /// Behaviours compare as equal exactly if they are equal.
     ghost exact: { (a b : Self) → (Self.eq a b ≡ true) ↔ (a ≡ b) };
@@ -43,10 +43,10 @@ pub trait Behaviour: Copy + Eq {
 
 /// A behaviour that can run.
 pub trait Performs: Behaviour {
-    /// The reply, and what its cowns hold after it. Inputs and results are in the order of the
+    /// The reply, and what its cowns contain after it. Inputs and results are in the order of the
     /// cowns. It changes nothing itself.
     fn perform(self, inputs: &[Cents]) -> (Reply, ArrayVec<Cents, BEHAVIOUR_COWNS>)
-        requires { AreHeld (Self.touches self) inputs.now }
+        requires { AreCownValues (Self.touches self) inputs.now }
         ensures reply { result.0 ≡ (Self.effect self inputs.now).0 }
         ensures outputs { result.1.items ≡ (Self.effect self inputs.now).1 };
 }

@@ -1,6 +1,6 @@
 //! Reading and writing balances by cown.
 ghost use Rattle.std.specs.Prelude.{◌≡◌, ◌<◌, ◌≤◌, length, pos, get_or, slice_set};
-ghost use Rattle.sb_calls.specs.Cowns.{AreBelow, AreHeld, IsHeld, held_of, read_cowns, write_cowns};
+ghost use Rattle.sb_calls.specs.Cowns.{AreBelow, AreCownValues, IsCownValue, contents_of, read_cowns, write_cowns};
 
 use super::behaviour::BEHAVIOUR_COWNS;
 use super::cown::Cown;
@@ -8,11 +8,11 @@ use arrayvec::ArrayVec;
 use sb_amount::Cents;
 use sb_rows::{CUSTOMERS, Columns};
 
-/// What these cowns hold, in the same order.
+/// What these cowns contain, in the same order.
 pub fn read_cowns(columns: &Columns, cowns: &[Cown]) -> ArrayVec<Cents, BEHAVIOUR_COWNS>
-    requires few { length cowns.now ≤ 3 }
-    requires cowns { AreBelow (length (held_of columns.now)) cowns.now }
-    ensures { result.items ≡ read_cowns (held_of columns.now) cowns.now }
+    requires limit { length cowns.now ≤ 3 }
+    requires cowns { AreBelow (length (contents_of columns.now)) cowns.now }
+    ensures { result.items ≡ read_cowns (contents_of columns.now) cowns.now }
 {
     let mut values = ArrayVec::new();
     for cown in cowns {
@@ -21,45 +21,45 @@ pub fn read_cowns(columns: &Columns, cowns: &[Cown]) -> ArrayVec<Cents, BEHAVIOU
     values
 }
 
-/// Replaces what these cowns hold. Each gets the value at its own position.
+/// Replaces what these cowns contain. Each gets the value at its own position.
 pub fn write_cowns(columns: &mut Columns, cowns: &[Cown], values: &[Cents])
-    requires cowns { AreBelow (length (held_of columns.old)) cowns.now }
-    requires values { AreHeld cowns.now values.now }
-    ensures { held_of columns.new ≡ write_cowns (held_of columns.old) cowns.now values.now }
+    requires cowns { AreBelow (length (contents_of columns.old)) cowns.now }
+    requires values { AreCownValues cowns.now values.now }
+    ensures { contents_of columns.new ≡ write_cowns (contents_of columns.old) cowns.now values.now }
 {
     for place in 0..cowns.len() {
         write_cown(columns, cowns[place], values[place]);
     }
 }
 
-// What a cown holds.
-#[tactic(auto, using(crate::proofs::ReadingCowns::reading_a_cown))]
+// What a cown contains.
+#[tactic(auto, using(crate::proofs::CownPlaces::reading_a_cown))]
 fn read_cown(columns: &Columns, cown: Cown) -> Cents
-    requires { cown < length (held_of columns.now) }
-    ensures { result ≡ get_or (held_of columns.now) cown (pos 0) }
+    requires { cown < length (contents_of columns.now) }
+    ensures { result ≡ get_or (contents_of columns.now) cown (pos 0) }
 {
     // They are the columns of a bank.
     prove!(columns.customers() <= CUSTOMERS);
-    let number = cown.number();
-    let place = (number / 2) as u32;
-    if number % 2 == 0 {
+    let id = cown.id();
+    let place = (id / 2) as u32;
+    if id % 2 == 0 {
         columns.savings_of(place)
     } else {
         columns.checking_of(place)
     }
 }
 
-// Replaces what a cown holds.
-#[tactic(auto, using(crate::proofs::ReadingCowns::writing_a_cown))]
+// Replaces what a cown contains.
+#[tactic(auto, using(crate::proofs::CownPlaces::writing_a_cown))]
 fn write_cown(columns: &mut Columns, cown: Cown, value: Cents)
-    requires cown { cown < length (held_of columns.old) }
-    requires value { IsHeld cown value }
-    ensures { held_of columns.new ≡ slice_set (held_of columns.old) cown value }
+    requires cown { cown < length (contents_of columns.old) }
+    requires value { IsCownValue cown value }
+    ensures { contents_of columns.new ≡ slice_set (contents_of columns.old) cown value }
 {
     prove!(columns.customers() <= CUSTOMERS);
-    let number = cown.number();
-    let place = (number / 2) as u32;
-    if number % 2 == 0 {
+    let id = cown.id();
+    let place = (id / 2) as u32;
+    if id % 2 == 0 {
         columns.set_savings(place, value);
     } else {
         columns.set_checking(place, value);

@@ -9,7 +9,7 @@ use std::marker::Model;
 /// Cown `2i` is the savings and cown `2i + 1` the checking balance of the customer at place `i`.
 #[derive(Clone, Copy, Debug, Default, PartialEq, Eq)]
 pub struct Cown {
-    number: usize,
+    id: usize,
 }
 
 impl Model for Cown {
@@ -17,17 +17,17 @@ impl Model for Cown {
 
     ghost Value = { ℕ };
 
-    ghost view = { λ c. c.number };
+    ghost view = { λ c. c.id };
 
-    ghost inverse = { λ v. record { number = v } };
+    ghost inverse = { λ v. record { id = v } };
 }
 
 impl Cown {
-    /// The cown with this number.
-    pub fn new(number: usize) -> Cown
-        ensures { result ≡ number }
+    /// The cown with this id.
+    pub fn new(id: usize) -> Cown
+        ensures { result ≡ id }
     {
-        Cown { number }
+        Cown { id }
     }
 
     /// The cown of the savings of the customer at a place.
@@ -35,7 +35,7 @@ impl Cown {
         ensures { result ≡ savings_cown place }
     {
         Cown {
-            number: 2 * place as usize,
+            id: 2 * place as usize,
         }
     }
 
@@ -44,14 +44,14 @@ impl Cown {
         ensures { result ≡ checking_cown place }
     {
         Cown {
-            number: 2 * place as usize + 1,
+            id: 2 * place as usize + 1,
         }
     }
 
-    /// Its number.
-    pub fn number(self) -> usize
+    /// Its id.
+    pub fn id(self) -> usize
         ensures { result ≡ self }
     {
-        self.number
+        self.id
     }
 }

@@ -13,11 +13,11 @@ use sb_amount::Cents;
 /// The penalty of a check if savings and checking together are below its amount, in cents.
 pub const PENALTY: i64 = 100;
 
-// The reply to a call, and what its cowns hold after it.
+// The reply to a call, and what its cowns contain after it.
 pub(crate) type Effect = (Reply, ArrayVec<Cents, BEHAVIOUR_COWNS>);
 
 // A reply and one resulting value.
-fn leaving_one(reply: Reply, value: Cents) -> Effect
+fn reply_with_one(reply: Reply, value: Cents) -> Effect
     ensures reply { result.0 ≡ reply }
     ensures outputs { result.1.items ≡ value ∷ [] }
 {
@@ -27,7 +27,7 @@ fn leaving_one(reply: Reply, value: Cents) -> Effect
 }
 
 // A reply and two resulting values.
-fn leaving_two(reply: Reply, first: Cents, second: Cents) -> Effect
+fn reply_with_two(reply: Reply, first: Cents, second: Cents) -> Effect
     ensures reply { result.0 ≡ reply }
     ensures outputs { result.1.items ≡ first ∷ second ∷ [] }
 {
@@ -38,7 +38,7 @@ fn leaving_two(reply: Reply, first: Cents, second: Cents) -> Effect
 }
 
 // A reply and three resulting values.
-fn leaving_three(reply: Reply, first: Cents, second: Cents, third: Cents) -> Effect
+fn reply_with_three(reply: Reply, first: Cents, second: Cents, third: Cents) -> Effect
     ensures reply { result.0 ≡ reply }
     ensures outputs { result.1.items ≡ first ∷ second ∷ third ∷ [] }
 {
@@ -54,7 +54,7 @@ pub(crate) fn show(savings: Cents, checking: Cents) -> Effect
     ensures reply { result.0 ≡ replies.Shown (savings +ℤ checking) }
     ensures outputs { result.1.items ≡ savings ∷ checking ∷ [] }
 {
-    leaving_two(
+    reply_with_two(
         Reply::Shown(savings.value() + checking.value()),
         savings,
         checking,
@@ -67,11 +67,11 @@ pub(crate) fn deposit(amount: Cents, checking: Cents) -> Effect
     ensures outputs { result.1.items ≡ (deposit_effect amount checking).1 }
 {
     if amount.value() < 0 {
-        return leaving_one(Reply::Negative, checking);
+        return reply_with_one(Reply::Negative, checking);
     }
     match checking.plus(amount) {
-        Some(sum) => leaving_one(Reply::Done, sum),
-        None => leaving_one(Reply::OverLimit, checking),
+        Some(sum) => reply_with_one(Reply::Done, sum),
+        None => reply_with_one(Reply::OverLimit, checking),
     }
 }
 
@@ -83,11 +83,11 @@ pub(crate) fn change_savings(amount: Cents, savings: Cents) -> Effect
 {
     let sum = savings.value() + amount.value();
     if sum < 0 {
-        return leaving_one(Reply::WouldOverdraw, savings);
+        return reply_with_one(Reply::WouldOverdraw, savings);
     }
     match Cents::new(sum) {
-        Some(sum) => leaving_one(Reply::Done, sum),
-        None => leaving_one(Reply::OverLimit, savings),
+        Some(sum) => reply_with_one(Reply::Done, sum),
+        None => reply_with_one(Reply::OverLimit, savings),
     }
 }
 
@@ -97,12 +97,12 @@ pub(crate) fn pay_check(amount: Cents, savings: Cents, checking: Cents) -> Effec
     ensures outputs { result.1.items ≡ (check_effect amount savings checking).1 }
 {
     if amount.value() < 0 {
-        return leaving_two(Reply::Negative, savings, checking);
+        return reply_with_two(Reply::Negative, savings, checking);
     }
     let (cost, reply) = cost_of_check(savings, checking, amount);
     match Cents::new(checking.value() - cost) {
-        Some(left) => leaving_two(reply, savings, left),
-        None => leaving_two(Reply::OverLimit, savings, checking),
+        Some(left) => reply_with_two(reply, savings, left),
+        None => reply_with_two(Reply::OverLimit, savings, checking),
     }
 }
 
@@ -121,7 +121,7 @@ fn cost_of_check(savings: Cents, checking: Cents, amount: Cents) -> (i64, Reply)
 }
 
 // The sum of the three balances, or `None` if it is past the limit.
-fn all_of(received: Cents, savings: Cents, checking: Cents) -> Option<Cents>
+fn sum_of_balances(received: Cents, savings: Cents, checking: Cents) -> Option<Cents>
     ensures { let sum = (received +ℤ savings) +ℤ checking in
         SomeIff result (IsWithinLimit sum) sum }
 {
@@ -129,7 +129,7 @@ fn all_of(received: Cents, savings: Cents, checking: Cents) -> Option<Cents>
 }
 
 // The balance after everything was given away.
-fn nothing() -> Cents
+fn zero_balance() -> Cents
     ensures { result ≡ pos 0 }
 {
     Cents::new(0).unwrap()
@@ -140,9 +140,9 @@ pub(crate) fn amalgamate_giver_first(savings: Cents, checking: Cents, received: 
     ensures reply { result.0 ≡ (giver_first_effect savings checking received).0 }
     ensures outputs { result.1.items ≡ (giver_first_effect savings checking received).1 }
 {
-    match all_of(received, savings, checking) {
-        Some(sum) => leaving_three(Reply::Done, nothing(), nothing(), sum),
-        None => leaving_three(Reply::OverLimit, savings, checking, received),
+    match sum_of_balances(received, savings, checking) {
+        Some(sum) => reply_with_three(Reply::Done, zero_balance(), zero_balance(), sum),
+        None => reply_with_three(Reply::OverLimit, savings, checking, received),
     }
 }
 
@@ -151,9 +151,9 @@ pub(crate) fn amalgamate_taker_first(received: Cents, savings: Cents, checking: 
     ensures reply { result.0 ≡ (taker_first_effect received savings checking).0 }
     ensures outputs { result.1.items ≡ (taker_first_effect received savings checking).1 }
 {
-    match all_of(received, savings, checking) {
-        Some(sum) => leaving_three(Reply::Done, sum, nothing(), nothing()),
-        None => leaving_three(Reply::OverLimit, received, savings, checking),
+    match sum_of_balances(received, savings, checking) {
+        Some(sum) => reply_with_three(Reply::Done, sum, zero_balance(), zero_balance()),
+        None => reply_with_three(Reply::OverLimit, received, savings, checking),
     }
 }
 
@@ -170,14 +170,14 @@ fn payment(amount: Cents, checking: Cents, received: Cents) -> (Reply, Cents, Ce
         return (Reply::WouldOverdraw, checking, received);
     }
     match received.plus(amount) {
-        Some(sum) => (Reply::Done, what_is_left(checking, amount), sum),
+        Some(sum) => (Reply::Done, remaining_balance(checking, amount), sum),
         None => (Reply::OverLimit, checking, received),
     }
 }
 
 // The rest of a balance after at most all of it is taken.
-fn what_is_left(balance: Cents, amount: Cents) -> Cents
-    requires taken { pos 0 ≤ℤ amount }
+fn remaining_balance(balance: Cents, amount: Cents) -> Cents
+    requires not_negative { pos 0 ≤ℤ amount }
     requires enough { amount ≤ℤ balance }
     ensures { result ≡ balance -ℤ amount }
 {
@@ -190,7 +190,7 @@ pub(crate) fn pay_payer_first(amount: Cents, checking: Cents, received: Cents) -
     ensures outputs { result.1.items ≡ (payer_first_effect amount checking received).1 }
 {
     let (reply, checking, received) = payment(amount, checking, received);
-    leaving_two(reply, checking, received)
+    reply_with_two(reply, checking, received)
 }
 
 // Pays from one checking balance to another. The paid customer's cown comes first.
@@ -199,5 +199,5 @@ pub(crate) fn pay_paid_first(amount: Cents, received: Cents, checking: Cents) ->
     ensures outputs { result.1.items ≡ (paid_first_effect amount received checking).1 }
 {
     let (reply, checking, received) = payment(amount, checking, received);
-    leaving_two(reply, received, checking)
+    reply_with_two(reply, received, checking)
 }

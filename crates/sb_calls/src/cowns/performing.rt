@@ -4,9 +4,9 @@ ghost use Rattle.sb_rows.specs.Balances.{Balances};
 ghost use Rattle.sb_rows.specs.Rows.{SameCustomers};
 ghost use Rattle.sb_calls.specs.declared.call.Call.{Call};
 ghost use Rattle.sb_calls.specs.Behaviour.{declared_cowns, effect_of, cowns_of_two, checkings_of_two, effect_of_two, payment_effect};
-ghost use Rattle.sb_calls.specs.ByCowns.{DeclaresTouched, PerformsByCowns};
-ghost use Rattle.sb_calls.specs.Cowns.{AreHeld, held_of, read_cowns};
-ghost use Rattle.sb_calls.specs.Op.{resolved};
+ghost use Rattle.sb_calls.specs.CownLaws.{DeclaresTouched, PerformsByCowns};
+ghost use Rattle.sb_calls.specs.Cowns.{AreCownValues, contents_of, read_cowns};
+ghost use Rattle.sb_calls.specs.Op.{op_of};
 
 use super::behaviour::{BEHAVIOUR_COWNS, Behaviour, Performs};
 use super::cown::Cown;
@@ -24,8 +24,8 @@ use sb_amount::Cents;
 /// in the bank, or if its two names are the same.
 pub fn cowns_of(op: Op) -> ArrayVec<Cown, BEHAVIOUR_COWNS>
     ensures value { result.items ≡ declared_cowns op }
-    ensures touched { (directory : List (List ℕ)) (b : Balances) (call : Call)
-        → SameCustomers directory b → op ≡ resolved directory call
+    ensures touched_cells { (directory : List (List ℕ)) (b : Balances) (call : Call)
+        → SameCustomers directory b → op ≡ op_of directory call
         → DeclaresTouched directory b call result.items }
 {
     declared_by(op)
@@ -86,18 +86,18 @@ fn checkings_of_places(places: TwoPlaces) -> ArrayVec<Cown, BEHAVIOUR_COWNS>
     cowns
 }
 
-/// The reply to a call, and what its cowns hold after it, if they hold these inputs. Both are in
-/// the order of [`cowns_of`].
+/// The reply to a call, and what its cowns contain after it, if they contain these inputs. Both
+/// are in the order of [`cowns_of`].
 ///
 /// A refusal leaves the inputs.
 pub fn perform(op: Op, inputs: &[Cents]) -> (Reply, ArrayVec<Cents, BEHAVIOUR_COWNS>)
-    requires { AreHeld (declared_cowns op) inputs.now }
+    requires { AreCownValues (declared_cowns op) inputs.now }
     ensures reply { result.0 ≡ (effect_of op inputs.now).0 }
     ensures outputs { result.1.items ≡ (effect_of op inputs.now).1 }
-    // It is the procedure on all rows whose declared cowns hold these inputs.
+    // It is the procedure on all rows whose declared cowns contain these inputs.
     ensures procedure { (directory : List (List ℕ)) (b : Balances) (call : Call)
-        → SameCustomers directory b → op ≡ resolved directory call
-        → read_cowns (held_of b) (declared_cowns op) ≡ inputs.now
+        → SameCustomers directory b → op ≡ op_of directory call
+        → read_cowns (contents_of b) (declared_cowns op) ≡ inputs.now
         → PerformsByCowns directory call b (declared_cowns op) result.0 result.1.items }
 {
     effect_on(op, inputs)
@@ -105,7 +105,7 @@ pub fn perform(op: Op, inputs: &[Cents]) -> (Reply, ArrayVec<Cents, BEHAVIOUR_CO
 
 // The effect of an op on the values of its cowns.
 fn effect_on(op: Op, inputs: &[Cents]) -> Effect
-    requires { AreHeld (declared_cowns op) inputs.now }
+    requires { AreCownValues (declared_cowns op) inputs.now }
     ensures reply { result.0 ≡ (effect_of op inputs.now).0 }
     ensures outputs { result.1.items ≡ (effect_of op inputs.now).1 }
 {
@@ -123,7 +123,7 @@ fn effect_on(op: Op, inputs: &[Cents]) -> Effect
 
 // Moves both balances of one customer to another, in the order of their cowns.
 fn amalgamate(places: TwoPlaces, inputs: &[Cents]) -> Effect
-    requires { AreHeld (cowns_of_two places.0 places.1) inputs.now }
+    requires { AreCownValues (cowns_of_two places.0 places.1) inputs.now }
     ensures reply { result.0 ≡ (effect_of_two places.0 places.1 inputs.now).0 }
     ensures outputs { result.1.items ≡ (effect_of_two places.0 places.1 inputs.now).1 }
 {
@@ -139,7 +139,7 @@ fn amalgamate(places: TwoPlaces, inputs: &[Cents]) -> Effect
 
 // Moves an amount from one checking balance to another, in the order of their cowns.
 fn send_payment(places: TwoPlaces, amount: Cents, inputs: &[Cents]) -> Effect
-    requires { AreHeld (checkings_of_two places.0 places.1) inputs.now }
+    requires { AreCownValues (checkings_of_two places.0 places.1) inputs.now }
     ensures reply { result.0 ≡ (payment_effect places.0 places.1 amount inputs.now).0 }
     ensures outputs { result.1.items ≡ (payment_effect places.0 places.1 amount inputs.now).1 }
 {
@@ -153,17 +153,17 @@ fn send_payment(places: TwoPlaces, amount: Cents, inputs: &[Cents]) -> Effect
 
 impl Behaviour for Op {
     ghost use Rattle.sb_calls.specs.Behaviour.{declared_cowns, effect_of};
-    ghost use Rattle.sb_calls.specs.BehaviourLaws.{declared_rise, few_declared, effect_keeps, same_op};
+    ghost use Rattle.sb_calls.specs.inner.BehaviourLaws.{declared_cowns_rise, declared_limit, effect_in_range, same_op};
 
     ghost touches = { declared_cowns };
 
     ghost effect = { effect_of };
 
-    ghost rising = { declared_rise };
+    ghost rising = { declared_cowns_rise };
 
-    ghost few = { few_declared };
+    ghost limit = { declared_limit };
 
-    ghost keeps = { effect_keeps };
+    ghost valid_outputs = { effect_in_range };
 
     ghost exact = { same_op };
 

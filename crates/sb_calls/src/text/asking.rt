@@ -1,13 +1,13 @@
 //! The text of an asking line: a call, or `ask CLIENT REQUEST CALL`.
 ghost use Rattle.std.specs.Prelude.{◌≡◌, Ok, IfOk};
-ghost use Rattle.sb_calls.specs.declared.ask.Asked.{Asked as AnyAsked};
+ghost use Rattle.sb_calls.specs.declared.ask.AskLine.{AskLine as AnyAskLine};
 ghost use Rattle.sb_calls.specs.Ask as spec;
-ghost use Rattle.sb_calls.specs.Ask.{IsAsked, ask_line, asked_of, asked_of_words, after_ask, key_of};
+ghost use Rattle.sb_calls.specs.Ask.{IsAskLine, ask_line, ask_line_of, ask_line_of_words, keyed_ask, key_of};
 
 use super::fault::CallFault;
 use super::number::read_number;
 use super::reading::{call_with, read_call_words};
-use crate::ask::{Asked, Key};
+use crate::ask::{AskLine, Key};
 use sb_rows::Words;
 
 /// What an asking line asks.
@@ -16,38 +16,38 @@ use sb_rows::Words;
 /// are fewer than three words, with `BadNumber` if one of the two numbers isn't valid (the client's
 /// is at least 1, both are below 2^32, in decimal without leading zeros), and then with the faults
 /// of the call that follows.
-pub fn read_ask(line: &[u8]) -> Result<Asked, CallFault>
+pub fn read_ask(line: &[u8]) -> Result<AskLine, CallFault>
     // A line that is read spells what it asks.
-    ensures spelled { IfOk result (λ asked. IsAsked asked × (line.now ≡ ask_line asked)) }
+    ensures spelled { IfOk result (λ asked. IsAskLine asked × (line.now ≡ ask_line asked)) }
     // A line that spells an ask is read.
-    ensures taken { (asked : AnyAsked) → IsAsked asked → line.now ≡ ask_line asked
+    ensures complete { (asked : AnyAskLine) → IsAskLine asked → line.now ≡ ask_line asked
         → result ≡ Ok asked }
     // The result, exactly.
-    ensures exact { result ≡ asked_of line.now }
+    ensures exact { result ≡ ask_line_of line.now }
 {
-    asked_of(Words::of(line))
+    ask_line_of(Words::of(line))
 }
 
 // What the words of a line ask.
-fn asked_of(mut words: Words) -> Result<Asked, CallFault>
-    ensures { result ≡ asked_of_words words.entry }
+fn ask_line_of(mut words: Words) -> Result<AskLine, CallFault>
+    ensures { result ≡ ask_line_of_words words.entry }
 {
     let verb = words.next().ok_or(CallFault::UnknownVerb)?;
     if verb == b"ask".as_slice() {
-        return keyed(words);
+        return keyed_ask(words);
     }
     let call = call_with(verb, words)?;
-    Ok(Asked { key: None, call })
+    Ok(AskLine { key: None, call })
 }
 
 // What the words after `ask` ask: the two numbers of the key, and the call under it.
-fn keyed(mut words: Words) -> Result<Asked, CallFault>
-    ensures { result ≡ after_ask words.entry }
+fn keyed_ask(mut words: Words) -> Result<AskLine, CallFault>
+    ensures { result ≡ keyed_ask words.entry }
 {
     let (client, request) = (words.word()?, words.word()?);
     let key = key_of(client, request).ok_or(CallFault::BadNumber)?;
     let call = read_call_words(words)?;
-    Ok(Asked {
+    Ok(AskLine {
         key: Some(key),
         call,
     })

@@ -1,6 +1,6 @@
 //! Replies as text.
 ghost use Rattle.std.specs.Prelude.{◌≡◌};
-ghost use Rattle.sb_calls.specs.Reply.{reply_text};
+ghost use Rattle.sb_calls.specs.ReplyText.{reply_text};
 
 use crate::reply::Reply;
 use arrayvec::ArrayString;

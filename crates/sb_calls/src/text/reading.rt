@@ -19,7 +19,7 @@ pub fn read_call(line: &[u8]) -> Result<Call, CallFault>
     // A line that is read spells the call.
     ensures spelled { IfOk result (λ call. IsCall call × (line.now ≡ call_line call)) }
     // A line that spells a call is read.
-    ensures taken { (call : AnyCall) → IsCall call → line.now ≡ call_line call → result ≡ Ok call }
+    ensures complete { (call : AnyCall) → IsCall call → line.now ≡ call_line call → result ≡ Ok call }
     // The result, exactly.
     ensures exact { result ≡ call_of line.now }
 {

@@ -1,7 +1,7 @@
 //! Clients in memory, who connect one after another.
 ghost use Rattle.std.specs.Prelude.{Some};
 
-use crate::door::Door;
+use crate::listener::ClientListener;
 use std::alloc::{AllocError, Global};
 use std::cell::{Cell, RefCell};
 use std::collections::VecDeque;
@@ -33,17 +33,17 @@ pub struct Client<'a> {
 /// Everything that is sent to clients, how often the server hangs up before they do, and how long
 /// it waited for each of them, at a read and at a write.
 #[derive(Drop)]
-pub struct Told {
+pub struct Transcript {
     pub bytes: RefCell<Vec<u8>>,
     pub hung_up: Cell<usize>,
     pub read_limit: Cell<Option<Duration>>,
     pub write_limit: Cell<Option<Duration>>,
 }
 
-impl Told {
+impl Transcript {
     /// Before the first client.
-    pub fn new(alloc: Global) -> Told {
-        Told {
+    pub fn new(alloc: Global) -> Transcript {
+        Transcript {
             bytes: RefCell::new(Vec::new(alloc)),
             hung_up: Cell::new(0),
             read_limit: Cell::new(None),
@@ -56,7 +56,7 @@ impl Told {
 #[derive(Drop)]
 pub struct End<'c, 't> {
     client: Client<'c>,
-    told: &'t Told,
+    told: &'t Transcript,
 }
 
 impl Read for End<'_, '_> {
@@ -124,32 +124,32 @@ impl OpenStream for End<'_, '_> {
 
 /// Lets clients in, in order. After the last one it lets nobody in.
 #[derive(Drop)]
-pub struct Doorway<'c, 't> {
+pub struct TestListener<'c, 't> {
     pub coming: VecDeque<End<'c, 't>>,
 }
 
-impl<'c, 't> Doorway<'c, 't> {
-    /// The door for these clients, and the place where their answers go.
+impl<'c, 't> TestListener<'c, 't> {
+    /// The listener for these clients, and the place where their answers go.
     pub fn of(
         alloc: Global,
         clients: &[Client<'c>],
-        told: &'t Told,
-    ) -> Result<Doorway<'c, 't>, AllocError> {
+        told: &'t Transcript,
+    ) -> Result<TestListener<'c, 't>, AllocError> {
         let mut coming = VecDeque::new(alloc);
         for client in clients {
             let client = *client;
             coming.push_back(End { client, told })?;
         }
-        Ok(Doorway { coming })
+        Ok(TestListener { coming })
     }
 }
 
-impl<'c, 't> Door for Doorway<'c, 't> {
+impl<'c, 't> ClientListener for TestListener<'c, 't> {
     type Stream = End<'c, 't>;
 
-    ghost coming = { λ door. Some door.coming.items };
+    ghost coming = { λ listener. Some listener.coming.items };
 
-    fn let_in(&mut self) -> io::Result<End<'c, 't>> {
+    fn accept_client(&mut self) -> io::Result<End<'c, 't>> {
         match self.coming.pop_front() {
             Some(client) => Ok(client),
             None => Err(io::Error::from(ErrorKind::ConnectionAborted)),

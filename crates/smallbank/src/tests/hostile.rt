@@ -1,9 +1,9 @@
 //! Clients that keep a server waiting, or are gone before they are let in.
 ghost use Rattle.std.specs.Prelude.{None};
 
-use super::clients::{Client, Doorway, Manner, Told};
-use crate::door::{Door, ListenerDoor};
+use super::clients::{Client, Manner, TestListener, Transcript};
 use crate::hanging_up::pass_over;
+use crate::listener::{ClientListener, SocketListener};
 use crate::serving::{Plan, serve};
 use sb_checkpoint::MemoryStore;
 use sb_rows::read_opening;
@@ -82,9 +82,12 @@ impl OpenListener for Flaky {
 #[test]
 fn clients_that_are_gone_are_passed_by(rt: HostRuntime) {
     let calls = Cell::new(0);
-    let mut door = ListenerDoor::new(&rt, Flaky { calls });
-    assert!(&rt; door.let_in().is_ok());
-    let refused = door.let_in().map(|_| ()).map_err(|error| error.kind());
+    let mut listener = SocketListener::new(&rt, Flaky { calls });
+    assert!(&rt; listener.accept_client().is_ok());
+    let refused = listener
+        .accept_client()
+        .map(|_| ())
+        .map_err(|error| error.kind());
     assert!(&rt; refused == Err(ErrorKind::OutOfMemory));
 }
 
@@ -93,7 +96,7 @@ fn limits<R>(rt: &R, alloc: Global, patience: Option<usize>) -> (Option<Duration
 where
     R: Abort + Threads + Wait + Clock + Sync,
 {
-    let told = Told::new(alloc);
+    let told = Transcript::new(alloc);
     let silent = Client {
         sent: b"",
         manner: Manner::Plain,
@@ -105,10 +108,10 @@ where
         saves: false,
         patience,
     };
-    let door = Doorway::of(alloc, &[silent], &told).expect(rt, "a door");
+    let listener = TestListener::of(alloc, &[silent], &told).expect(rt, "a listener");
     let opening = read_opening(alloc, b"begin").expect(rt, "an opening");
     let store = MemoryStore::new(alloc);
-    let served = serve(rt, alloc, door, opening, store, plan, Vec::new(alloc));
+    let served = serve(rt, alloc, listener, opening, store, plan, Vec::new(alloc));
     assert!(rt; served.is_ok());
     (told.read_limit.get(), told.write_limit.get())
 }

@@ -1,7 +1,7 @@
 //! How faults are reported.
 use crate::fault::ProgramFault;
+use crate::report::told;
 use crate::serve_fault::ServeFault;
-use crate::told::told;
 use bank_server::{InputFault, RunFault};
 use sb_calls::CallFault;
 use schedule_player::ScheduleFault;

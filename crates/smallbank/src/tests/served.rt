@@ -1,9 +1,9 @@
 //! Banks that are served to clients in memory.
 ghost use Rattle.std.specs.Prelude.{◌≡◌, ◌≤◌, None, []};
-ghost use Rattle.bank_server.specs.Execution.{IsOpened};
-ghost use Rattle.bank_server.specs.Primary.{HasAll};
+ghost use Rattle.bank_server.specs.Execution.{HasNoEntries};
+ghost use Rattle.bank_server.specs.Primary.{HasWholeLog};
 
-use super::clients::{Client, Doorway, Manner, Told};
+use super::clients::{Client, Manner, TestListener, Transcript};
 use crate::serve_fault::ServeFault;
 use crate::server::Server;
 use crate::serving::{Plan, serve, serve_beside};
@@ -49,7 +49,7 @@ impl CheckpointStore for Forgetful {
     ghost model = { record {
       slot = λ store. None;
       IsHonest = λ store. ⊥;
-      failed = λ store. 0;
+      failures = λ store. 0;
       acts = λ old step new. Unit {0};
     } };
 
@@ -81,11 +81,11 @@ fn expect<S: CheckpointStore>(
     requires nodes { plan.nodes ≤ REPLICAS }
     requires workers { plan.workers ≤ WORKERS }
 {
-    let all = Told::new(alloc);
-    let door = Doorway::of(alloc, clients, &all).expect(rt, "a door");
+    let all = Transcript::new(alloc);
+    let listener = TestListener::of(alloc, clients, &all).expect(rt, "a listener");
     let opening = read_opening(alloc, OPENING).expect(rt, "an opening");
     let mut written: Vec<u8> = Vec::new(alloc);
-    let served = serve(rt, alloc, door, opening, store, plan, &mut written);
+    let served = serve(rt, alloc, listener, opening, store, plan, &mut written);
     assert!(rt; served.map(|_| ()) == ends);
     assert!(rt; written.as_slice() == printed.as_bytes());
     let hung_up = all.hung_up.get();
@@ -200,8 +200,8 @@ fn stores_that_fail(rt: HostRuntime) {
 // A bank with this opening.
 fn bank_of(rt: &impl Abort, alloc: Global, opening: &[u8]) -> Box<Primary<MemoryStore>>
     ensures log { result.value.log ≡ [] }
-    ensures all { HasAll result.value }
-    ensures opened { IsOpened result.value.node.board }
+    ensures whole_log { HasWholeLog result.value }
+    ensures opened { HasNoEntries result.value.node.board }
 {
     let opening = read_opening(alloc, opening).expect(rt, "an opening");
     let bank = Primary::open(alloc, opening, MemoryStore::new(alloc)).expect(rt, "a bank");
@@ -218,7 +218,7 @@ fn serve_one_beside(
 ) -> Result<(), ServeFault>
     requires { nodes ≤ REPLICAS }
 {
-    let told = Told::new(alloc);
+    let told = Transcript::new(alloc);
     let other = bank_of(rt, alloc, beside);
     let followers = ReadyFollowers::open(alloc, other.node(), nodes, 0).expect(rt, "followers");
     let server = Server {
@@ -230,7 +230,7 @@ fn serve_one_beside(
             saves: false,
             patience: None,
         },
-        door: Doorway::of(alloc, &[plain(ASKED)], &told).expect(rt, "a door"),
+        listener: TestListener::of(alloc, &[plain(ASKED)], &told).expect(rt, "a listener"),
         primary: Box::into_inner(bank_of(rt, alloc, OPENING)),
         writer: Vec::new(alloc),
     };

@@ -1,5 +1,5 @@
 //! Banks that are served over the system's sockets.
-use crate::door::ListenerDoor;
+use crate::listener::SocketListener;
 use crate::listening::listen;
 use crate::serve_fault::ServeFault;
 use crate::serving::{Plan, serve};
@@ -66,8 +66,8 @@ fn clients_over_sockets(rt: HostRuntime) {
                 saves: true,
                 patience: None,
             };
-            let door = ListenerDoor::new(&rt, listener);
-            serve(&rt, alloc, door, opening, store, plan, Vec::new(alloc))
+            let clients = SocketListener::new(&rt, listener);
+            serve(&rt, alloc, clients, opening, store, plan, Vec::new(alloc))
         },
         || -> io::Result<bool> {
             let first = is_told(&rt, port, &[DEPOSIT, b"GET /"], DONE)?;

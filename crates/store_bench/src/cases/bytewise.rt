@@ -5,11 +5,11 @@ use std::io::Read;
 
 /// Gives one byte at each read.
 #[derive(Drop)]
-pub(crate) struct Bytewise<'a> {
+pub(crate) struct BytewiseReader<'a> {
     pub(crate) left: &'a [u8],
 }
 
-impl Read for Bytewise<'_> {
+impl Read for BytewiseReader<'_> {
     fn read(&mut self, buf: &mut [u8]) -> io::Result<usize> {
         match self.left {
             [first, rest @ ..] if !buf.is_empty() => {

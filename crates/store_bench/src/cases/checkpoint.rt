@@ -33,12 +33,12 @@ const SECOND: &[u8] = b"SBCKPT02\x00\x00\x00\x00\x00\x00\x00\x05\x00\x00\x00\x03
 \x01\x00\x00\x00\x00\x00\x00\x00\x00";
 
 /// Reports the bytes that it is written as, once for each layout.
-pub(crate) fn tell(alloc: Global, report: &mut Report) -> Result<(), CaseFault> {
-    tell_one(alloc, FIRST, report)?;
-    tell_one(alloc, SECOND, report)
+pub(crate) fn play_case(alloc: Global, report: &mut Report) -> Result<(), CaseFault> {
+    play_layout(alloc, FIRST, report)?;
+    play_layout(alloc, SECOND, report)
 }
 
-fn tell_one(alloc: Global, bytes: &[u8], report: &mut Report) -> Result<(), CaseFault> {
+fn play_layout(alloc: Global, bytes: &[u8], report: &mut Report) -> Result<(), CaseFault> {
     let checkpoint = read(alloc, bytes, report)?;
     match write(alloc, &checkpoint, report) {
         Err(_) => {
@@ -47,7 +47,7 @@ fn tell_one(alloc: Global, bytes: &[u8], report: &mut Report) -> Result<(), Case
         }
         Ok(()) => {}
     }
-    Ok(report.tell_bytes()?)
+    Ok(report.add_bytes()?)
 }
 
 fn read(alloc: Global, bytes: &[u8], report: &mut Report) -> Result<Checkpoint, CaseFault>

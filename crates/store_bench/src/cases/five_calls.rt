@@ -22,7 +22,7 @@ amalgamate alice bob
 ";
 
 /// Reports the output of the run.
-pub(crate) fn tell<R: Threads + Wait + Clock + Sync>(
+pub(crate) fn play_case<R: Threads + Wait + Clock + Sync>(
     rt: &R,
     alloc: Global,
     report: &mut Report,
@@ -34,7 +34,7 @@ pub(crate) fn tell<R: Threads + Wait + Clock + Sync>(
         }
         ended => ended?,
     }
-    Ok(report.tell_text()?)
+    Ok(report.add_text()?)
 }
 
 fn run<R: Threads + Wait + Clock + Sync>(

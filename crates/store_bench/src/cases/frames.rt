@@ -20,7 +20,7 @@ const PIECES: &[&[u8]] = &[
 ];
 
 /// Reports the frames that come out, as they are spelled.
-pub(crate) fn tell(alloc: Global, report: &mut Report) -> Result<(), CaseFault> {
+pub(crate) fn play_case(alloc: Global, report: &mut Report) -> Result<(), CaseFault> {
     let mut stream = Stream::new(alloc);
     for piece in PIECES {
         feed(&mut stream, piece, report)?;
@@ -28,7 +28,7 @@ pub(crate) fn tell(alloc: Global, report: &mut Report) -> Result<(), CaseFault> 
     for _ in PIECES {
         hand_out(&mut stream, report)?;
     }
-    Ok(report.tell_bytes()?)
+    Ok(report.add_bytes()?)
 }
 
 // Bytes come.

@@ -45,14 +45,14 @@ impl Report {
     }
 
     /// Reports the text that a call wrote, as it is.
-    pub fn tell_text(&mut self) -> Result<(), AllocError> {
+    pub fn add_text(&mut self) -> Result<(), AllocError> {
         self.text.extend_from_slice(&self.written)?;
         self.written.clear();
         Ok(())
     }
 
     /// Reports the bytes that a call wrote, by their digits, on a line.
-    pub fn tell_bytes(&mut self) -> Result<(), AllocError> {
+    pub fn add_bytes(&mut self) -> Result<(), AllocError> {
         for byte in &self.written {
             self.text.push(DIGITS[(*byte / 16) as usize])?;
             self.text.push(DIGITS[(*byte % 16) as usize])?;

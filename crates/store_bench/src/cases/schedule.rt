@@ -8,13 +8,17 @@ use std::alloc::{AllocError, Global};
 
 /// A world, and the events that are to happen in it.
 #[derive(Drop)]
-pub(crate) struct Planned {
+pub(crate) struct ScheduledWorld {
     pub(crate) world: Box<World>,
     pub(crate) events: Vec<Event>,
 }
 
 /// A world at the opening of a schedule, before the first event.
-pub(crate) fn plan(alloc: Global, text: &str, report: &mut Report) -> Result<Planned, CaseFault> {
+pub(crate) fn plan(
+    alloc: Global,
+    text: &str,
+    report: &mut Report,
+) -> Result<ScheduledWorld, CaseFault> {
     let schedule = read(alloc, text, report)?;
     match open(alloc, schedule) {
         Err(_) => {
@@ -26,7 +30,7 @@ pub(crate) fn plan(alloc: Global, text: &str, report: &mut Report) -> Result<Pla
     }
 }
 
-fn open(alloc: Global, schedule: Schedule) -> Result<Planned, AllocError> {
+fn open(alloc: Global, schedule: Schedule) -> Result<ScheduledWorld, AllocError> {
     let Schedule {
         nodes,
         workers,
@@ -36,7 +40,7 @@ fn open(alloc: Global, schedule: Schedule) -> Result<Planned, AllocError> {
     } = schedule;
     let world = World::open(alloc, directory, columns, nodes, workers)?;
     let world = Box::new(alloc, world)?;
-    Ok(Planned { world, events })
+    Ok(ScheduledWorld { world, events })
 }
 
 fn read(alloc: Global, text: &str, report: &mut Report) -> Result<Schedule, CaseFault> {

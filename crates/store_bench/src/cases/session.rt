@@ -1,6 +1,6 @@
 //! A session of two asks, one of them repeated.
 
-use crate::cases::bytewise::Bytewise;
+use crate::cases::bytewise::BytewiseReader;
 use crate::cases::fault::CaseFault;
 use crate::cases::report::Report;
 use bank_server::{Primary, SessionFault, serve_session};
@@ -20,7 +20,7 @@ const SENT: &[u8] = b"\x00\x10\x01\x00\x00\x00\x07\x00\x00\x00\x01\x01\x05alice\
 \x00\x01\x06";
 
 /// Reports what is sent to the client.
-pub(crate) fn tell(alloc: Global, report: &mut Report) -> Result<(), CaseFault> {
+pub(crate) fn play_case(alloc: Global, report: &mut Report) -> Result<(), CaseFault> {
     let mut primary = opened(alloc, report)?;
     match serve(alloc, &mut primary, report) {
         Err(SessionFault::OutOfMemory) => {
@@ -29,7 +29,7 @@ pub(crate) fn tell(alloc: Global, report: &mut Report) -> Result<(), CaseFault> 
         }
         ended => ended?,
     }
-    Ok(report.tell_bytes()?)
+    Ok(report.add_bytes()?)
 }
 
 fn serve(
@@ -37,7 +37,7 @@ fn serve(
     primary: &mut Primary<MemoryStore>,
     report: &mut Report,
 ) -> Result<(), SessionFault> {
-    let mut reader = Bytewise { left: SENT };
+    let mut reader = BytewiseReader { left: SENT };
     serve_session(
         alloc,
         &mut reader,

@@ -84,16 +84,16 @@ restart 1
 ";
 
 /// Reports what happens in a schedule, and what the first replica holds at the end.
-pub(crate) fn tell(alloc: Global, text: &str, report: &mut Report) -> Result<(), CaseFault> {
+pub(crate) fn play_case(alloc: Global, text: &str, report: &mut Report) -> Result<(), CaseFault> {
     let mut planned = plan(alloc, text, report)?;
     for event in &planned.events {
-        tell_step(&mut planned.world, *event, report)?;
+        play_event(&mut planned.world, *event, report)?;
     }
-    tell_columns(&planned.world, report)
+    report_columns(&planned.world, report)
 }
 
 // Plays an event.
-fn tell_step(world: &mut World, event: Event, report: &mut Report) -> Result<(), CaseFault> {
+fn play_event(world: &mut World, event: Event, report: &mut Report) -> Result<(), CaseFault> {
     let note = match world.step(event) {
         Ok(note) => note,
         Err(StepFault::OutOfMemory) => {
@@ -104,7 +104,7 @@ fn tell_step(world: &mut World, event: Event, report: &mut Report) -> Result<(),
     Ok(push_notes(&[note], &mut report.text)?)
 }
 
-fn tell_columns(world: &World, report: &mut Report) -> Result<(), CaseFault> {
+fn report_columns(world: &World, report: &mut Report) -> Result<(), CaseFault> {
     if world.replicas() == 0 {
         return Err(CaseFault::Unfinished);
     }

@@ -4,7 +4,7 @@ use sb_calls::{Call, Key};
 
 #[test]
 fn a_request_keeps_its_number(rt: HostRuntime) {
-    plays(
+    play_steps(
         &rt,
         1,
         &[
@@ -19,7 +19,7 @@ fn a_request_keeps_its_number(rt: HostRuntime) {
 
 #[test]
 fn numbers_requests_in_the_order_of_first_asks(rt: HostRuntime) {
-    plays(
+    play_steps(
         &rt,
         1,
         &[
@@ -38,7 +38,7 @@ fn numbers_requests_in_the_order_of_first_asks(rt: HostRuntime) {
 
 #[test]
 fn shows_calls_by_number(rt: HostRuntime) {
-    plays(
+    play_steps(
         &rt,
         1,
         &[
@@ -55,7 +55,7 @@ fn shows_calls_by_number(rt: HostRuntime) {
 
 #[test]
 fn a_full_log_takes_repeats_alone(rt: HostRuntime) {
-    plays(
+    play_steps(
         &rt,
         1,
         &[
@@ -73,7 +73,7 @@ fn a_full_log_takes_repeats_alone(rt: HostRuntime) {
 
 #[test]
 fn room_for_more_calls_than_a_log_takes(rt: HostRuntime) {
-    plays_with_room(
+    play_steps_with_room(
         &rt,
         1_500_000,
         &[
@@ -87,15 +87,15 @@ fn room_for_more_calls_than_a_log_takes(rt: HostRuntime) {
 
 #[test]
 fn takes_more_calls_than_it_was_opened_for(rt: HostRuntime) {
-    plays_with_room(&rt, 2, &[Step::AskMany(40, "alice"), Step::Length(40)]);
+    play_steps_with_room(&rt, 2, &[Step::AskMany(40, "alice"), Step::Length(40)]);
     assert!(rt; Sequencer::with_capacity(rt.alloc(), 1, usize::MAX).is_err());
 }
 
 // The answer to an ask by a plain search of the numbered asks.
 fn plain_answer(log: &[(Key, Call)], key: Key, call: Call) -> Result<Numbered, AskFault> {
-    for (place, (asked, numbered)) in log.iter().enumerate() {
+    for (position, (asked, numbered)) in log.iter().enumerate() {
         if *asked == key {
-            let number = place as u64 + 1;
+            let number = position as u64 + 1;
             return if *numbered == call {
                 Ok(Numbered::Repeat(number))
             } else {
@@ -127,9 +127,9 @@ fn asks_both(
 
 // Checks that the log shows the calls of the plain one, in their order.
 fn shows_all(rt: &impl Abort, log: &Sequencer, plain: &[(Key, Call)]) {
-    for (place, (_, call)) in plain.iter().enumerate() {
+    for (position, (_, call)) in plain.iter().enumerate() {
         assert!(rt;
-            log.call(place as u64 + 1).copied() == Some(*call),
+            log.call(position as u64 + 1).copied() == Some(*call),
             "{place}"
         );
     }
@@ -137,7 +137,7 @@ fn shows_all(rt: &impl Abort, log: &Sequencer, plain: &[(Key, Call)]) {
 
 #[test]
 fn answers_as_a_plain_search_does(rt: HostRuntime) {
-    let mut log = opened(&rt, 1);
+    let mut log = new_sequencer(&rt, 1);
     let mut plain = Vec::new(rt.alloc());
     let calls = [balance(&rt, "alice"), balance(&rt, "bob")];
     for step in 0..500_u32 {

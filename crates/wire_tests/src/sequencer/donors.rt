@@ -3,7 +3,7 @@ use super::*;
 
 #[test]
 fn the_longest_checkpoint_is_given(rt: HostRuntime) {
-    plays(
+    play_steps(
         &rt,
         4,
         &[
@@ -26,7 +26,7 @@ fn the_longest_checkpoint_is_given(rt: HostRuntime) {
 
 #[test]
 fn nobody_gives_where_nobody_keeps_a_checkpoint(rt: HostRuntime) {
-    plays(
+    play_steps(
         &rt,
         2,
         &[
@@ -41,7 +41,7 @@ fn nobody_gives_where_nobody_keeps_a_checkpoint(rt: HostRuntime) {
 
 #[test]
 fn no_replica_gives_to_itself(rt: HostRuntime) {
-    plays(
+    play_steps(
         &rt,
         3,
         &[
@@ -57,7 +57,7 @@ fn no_replica_gives_to_itself(rt: HostRuntime) {
 
 #[test]
 fn of_equal_checkpoints_the_first_is_given(rt: HostRuntime) {
-    plays(
+    play_steps(
         &rt,
         4,
         &[
@@ -74,7 +74,7 @@ fn of_equal_checkpoints_the_first_is_given(rt: HostRuntime) {
 
 #[test]
 fn nobody_gives_what_a_replica_has(rt: HostRuntime) {
-    plays(
+    play_steps(
         &rt,
         2,
         &[
@@ -98,7 +98,7 @@ fn nobody_gives_what_a_replica_has(rt: HostRuntime) {
 
 #[test]
 fn an_unknown_replica_gets_nothing(rt: HostRuntime) {
-    plays(
+    play_steps(
         &rt,
         2,
         &[
@@ -113,7 +113,7 @@ fn an_unknown_replica_gets_nothing(rt: HostRuntime) {
 
 #[test]
 fn the_last_of_sixteen_gives(rt: HostRuntime) {
-    plays(
+    play_steps(
         &rt,
         16,
         &[

@@ -3,7 +3,7 @@ use super::*;
 
 #[test]
 fn sends_again_what_a_replica_lacks(rt: HostRuntime) {
-    plays(
+    play_steps(
         &rt,
         1,
         &[
@@ -20,7 +20,7 @@ fn sends_again_what_a_replica_lacks(rt: HostRuntime) {
 
 #[test]
 fn shows_entries_by_number(rt: HostRuntime) {
-    plays(
+    play_steps(
         &rt,
         1,
         &[

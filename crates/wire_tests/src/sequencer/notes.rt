@@ -3,7 +3,7 @@ use super::*;
 
 #[test]
 fn the_first_answer_is_kept(rt: HostRuntime) {
-    plays(
+    play_steps(
         &rt,
         1,
         &[
@@ -19,7 +19,7 @@ fn the_first_answer_is_kept(rt: HostRuntime) {
 
 #[test]
 fn shows_answers_by_key(rt: HostRuntime) {
-    plays(
+    play_steps(
         &rt,
         1,
         &[
@@ -38,7 +38,7 @@ fn shows_answers_by_key(rt: HostRuntime) {
 
 #[test]
 fn records_what_each_replica_has(rt: HostRuntime) {
-    plays(
+    play_steps(
         &rt,
         2,
         &[
@@ -55,7 +55,7 @@ fn records_what_each_replica_has(rt: HostRuntime) {
 
 #[test]
 fn records_the_checkpoint_of_each_replica(rt: HostRuntime) {
-    plays(
+    play_steps(
         &rt,
         2,
         &[
@@ -73,7 +73,7 @@ fn records_the_checkpoint_of_each_replica(rt: HostRuntime) {
 
 #[test]
 fn records_as_many_as_sixteen_replicas(rt: HostRuntime) {
-    plays(
+    play_steps(
         &rt,
         16,
         &[

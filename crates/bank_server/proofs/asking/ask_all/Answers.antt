@@ -1,10 +1,10 @@
 use Rattle.std.proofs.Common.{◌≡◌, ◌+◌, Ok, Err, [], ◌∷◌, ◌++◌, length, refl, sym, ap, subst, ◌∙◌, arith, length-append}
 use Rattle.sb_rows.specs.Text.{lines}
 use Rattle.bank_server.specs.Asks.{running_after}
-use Rattle.bank_server.specs.Asking.{IsAsking}
+use Rattle.bank_server.specs.AskResults.{LinesGiveStandings}
 use Rattle.bank_server.specs.Input.{asks_from, in_call}
 use Rattle.bank_server.specs.declared.fault.InputFault.TheVariants as faults
-use Rattle.bank_server.proofs.AskedLines.{asks_from-line, asks_from-fault, asks_from-end, after_push, standings_push, log_of-nil, running_after_le}
+use Rattle.bank_server.proofs.AskedLines.{asks_from-line, asks_from-fault, asks_from-end, after_push, standings_push, log_of_asks-nil, running_after_le}
 use Rattle.bank_server.proofs.asking.ask_all.Goals as goal
 
 pub loop-line-init : goal.loop-line-init
@@ -12,7 +12,7 @@ loop-line-init g c = (
   [],
   record {
     all = refl;
-    after = record { keys = tt; running_is = refl; log_is = c.requires.log ∙ sym log_of-nil };
+    after = record { keys = tt; running_is = refl; log_is = c.requires.log ∙ sym log_of_asks-nil };
     standings = c.requires.standings;
     room = omega arith;
     count = ap length c.requires.standings;
@@ -62,7 +62,7 @@ returns-clause-asked g c =
     let so_far = c.loop-line.invariant.1 in
     let all : asks_from c.args.first_line [] (lines c.args.text.now) ≡ Ok asks =
     sym so_far.all ∙ (ap (asks_from c.args.first_line asks) c.in_default.ensures.line ∙ asks_from-end c.args.first_line asks) in
-    subst (λ read. IsAsking read c.loop-line.primary.log c.loop-line.standings.items) (sym all)
+    subst (λ read. LinesGiveStandings read c.loop-line.primary.log c.loop-line.standings.items) (sym all)
     (record { log_is = so_far.after.log_is; standings_are = so_far.standings })
 
 pub returns-in-Err-clause-node : goal.returns-in-Err-clause-node

@@ -1,5 +1,5 @@
 use Rattle.std.proofs.Common.{sym}
-use Rattle.bank_server.proofs.Answered.{asks_one}
+use Rattle.bank_server.proofs.AnswerStandings.{asks_one}
 use Rattle.bank_server.proofs.asking.ask_key.Goals as goal
 
 pub returns-in-Some-clause-asked : goal.returns-in-Some-clause-asked

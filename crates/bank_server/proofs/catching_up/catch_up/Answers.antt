@@ -2,12 +2,12 @@ use Rattle.std.proofs.Common.{◌≡◌, ℕ, suc, ◌++◌, ◌∷◌, [], List
 use Rattle.std.specs.Prelude.{slice_get}
 use Rattle.std.specs.Option.{option_copied}
 use Rattle.std.proofs.lemmas.Result.{err_from_is_err_and}
-use Rattle.sb_calls.specs.Op.{resolved}
+use Rattle.sb_calls.specs.Op.{op_of}
 use Rattle.sb_calls.specs.declared.op.Op.{Op}
-use Rattle.sb_replica.specs.Replica.{BesideOf}
-use Rattle.sb_sequencer.specs.Numbering.{call_at}
-use Rattle.bank_server.specs.Primary.{ops_of}
-use Rattle.bank_server.proofs.Carried.{fault_behind, op_here, one_more_op}
+use Rattle.sb_replica.specs.Replica.{RestOf}
+use Rattle.sb_sequencer.specs.Numbering.{call_of_number}
+use Rattle.bank_server.specs.Primary.{log_ops}
+use Rattle.bank_server.proofs.LogOps.{fault_behind, op_here, one_more_op}
 use Rattle.bank_server.proofs.catching_up.catch_up.Goals as goal
 
 pub returns-in_err-submit-clause-fault : goal.returns-in_err-submit-clause-fault
@@ -26,20 +26,20 @@ loop-number-preserved g c =
     let so_far : List Op = c.loop-number.node.board.log in
     let call = c.unwrap-call.result.now in
     let op = c.resolve-op.result in
-    let looked_up : resolved names call ≡ op =
-    ap (λ (ns : List (List ℕ)). resolved ns call) (sym (c.directory.ensures ∙ ap (λ (b : BesideOf _). b.names) kept.beside)) ∙ sym c.resolve-op.ensures.value in
+    let looked_up : op_of names call ≡ op =
+    ap (λ (ns : List (List ℕ)). op_of ns call) (sym (c.directory.ensures ∙ ap (λ (b : RestOf _). b.names) kept.beside)) ∙ sym c.resolve-op.ensures.value in
     let next : suc (length so_far) ≡ c.loop-number.number = omega (arith, kept.count) in
-    let at : call_at log (suc (length so_far)) ≡ Some call = ap (call_at log) next ∙ sym c.call.ensures ∙ ap option_copied c.unwrap-call.ensures in
-    let here : slice_get (ops_of names log) (length so_far) ≡ Some op = op_here (resolved names) log (length so_far) call at ∙ ap Some looked_up in
-    let more = one_more_op (ops_of names log) so_far kept.behind.begins.0 op kept.behind.begins.1 here in
+    let at : call_of_number log (suc (length so_far)) ≡ Some call = ap (call_of_number log) next ∙ sym c.call.ensures ∙ ap option_copied c.unwrap-call.ensures in
+    let here : slice_get (log_ops names log) (length so_far) ≡ Some op = op_here (op_of names) log (length so_far) call at ∙ ap Some looked_up in
+    let more = one_more_op (log_ops names log) so_far kept.behind.begins.0 op kept.behind.begins.1 here in
     record {
       behind = record {
-        earlier = put.earlier ∙ kept.behind.earlier;
+        base_replies = put.base_replies ∙ kept.behind.base_replies;
         uncut = put.cut ∙ kept.behind.uncut;
         begins = (more.0, more.1 ∙ ap (λ (l : List Op). l ++ more.0) (sym put.log));
       };
       count = omega (arith, ap {B = ℕ} length put.log, length-append so_far (op ∷ []), kept.count);
       opening = put.opening ∙ kept.opening;
-      beside = c.submit.ensures.beside ∙ kept.beside;
+      beside = c.submit.ensures.rest ∙ kept.beside;
       none_out = λ none. put.none_out (kept.none_out none);
     }

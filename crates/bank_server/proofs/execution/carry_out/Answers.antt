@@ -21,7 +21,7 @@ returns-clause-one_by_one g c =
     (run.opening ∙ put.opening ∙ ap (λ b. b.opening) kept)
     (record {
       idle = idle;
-      earlier = run.earlier ∙ put.earlier ∙ ap (λ b. b.earlier) kept ∙ c.requires.opened.earlier;
+      base_replies = run.base_replies ∙ put.base_replies ∙ ap (λ b. b.base_replies) kept ∙ c.requires.opened.base_replies;
       log = run.log ∙ put.log ∙ ap (λ (l : List Op). l ++ c.args.ops.now) (ap (λ b. b.log) kept ∙ c.requires.opened.log);
     })
     is)

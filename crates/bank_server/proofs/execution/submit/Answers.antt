@@ -1,7 +1,7 @@
 use Rattle.std.proofs.Common.{◌≡◌, ap, subst, ◌∙◌}
 use Rattle.sb_calls.specs.declared.op.Op.{Op}
 use Rattle.cown_board.specs.Board.{BoardOf}
-use Rattle.cown_workers.specs.Draining.{Drains}
+use Rattle.cown_workers.specs.Draining.{PreservesLog}
 use Rattle.sb_replica.specs.Replica.{ReplicaOf, log_of}
 use Rattle.sb_replica_log.specs.Offers.{after_offer}
 use Rattle.sb_replica_log.specs.declared.offered.Offered.{Offered}
@@ -17,6 +17,6 @@ returns-clause-put g c =
     let before : Offered → BoardOf Op = λ answer. (after_offer (log_of c.args.replica.now) op answer).board in
     let after : Offered → BoardOf Op = λ answer. (after_offer (log_of c.settle.new.replica) op answer).board in
     let same : c.offer_entry.new.self.board ≡ old = ap board_of c.in_ok-offer_entry.ensures.state ∙ ap before c.in-Busy.is in
-    put_after_run op old mid c.offer_entry-2.new.self.board (subst (λ (b : BoardOf Op). Drains b mid) same c.settle.ensures.log)
+    put_after_run op old mid c.offer_entry-2.new.self.board (subst (λ (b : BoardOf Op). PreservesLog b mid) same c.settle.ensures.log)
     (idle_none_out mid c.in_ok-settle-in-Busy.ensures.idle)
     (ap board_of c.in_ok-offer_entry-2.ensures.state ∙ ap after c.in-Next-2.is)

@@ -1,5 +1,5 @@
 use Rattle.std.proofs.lemmas.Result.{err_from_is_err_and}
-use Rattle.bank_server.proofs.Carried.{fault_behind}
+use Rattle.bank_server.proofs.LogOps.{fault_behind}
 use Rattle.bank_server.proofs.execution.submit_all.Goals as goal
 
 pub returns-in_err-submit-clause-fault : goal.returns-in_err-submit-clause-fault

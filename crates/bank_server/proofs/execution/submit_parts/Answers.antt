@@ -1,7 +1,7 @@
 use Rattle.std.proofs.Common.{◌≡◌, ℕ, ◌+◌, ◌-◌, List, ◌++◌, take, drop, sym, ap, ◌∙◌, arith, append_assoc, rules}
 use Rattle.std.proofs.Math.Seq.{take-add}
 use Rattle.std.proofs.lemmas.Result.{err_from_is_err_and}
-use Rattle.bank_server.proofs.Carried.{fault_behind}
+use Rattle.bank_server.proofs.LogOps.{fault_behind}
 use Rattle.bank_server.proofs.execution.submit_parts.Goals as goal
 
 -- one more part is submitted
@@ -17,14 +17,14 @@ loop-done-preserved g c =
     let put = c.in_ok-submit_all.ensures.put in
     record {
       opening = put.opening ∙ kept.opening;
-      earlier = put.earlier ∙ kept.earlier;
+      base_replies = put.base_replies ∙ kept.base_replies;
       cut = put.cut ∙ kept.cut;
       log = next_part c.args.replica.now.board.log c.loop-done.replica.board.log c.submit_all.new.replica.board.log c.args.ops.now c.loop-done.done
           c.min.result kept.log put.log;
       within = omega (arith, c.min.ensures, kept.within, c.loop-done-test.true);
       none_out = λ none. put.none_out (kept.none_out none);
-      beside = c.submit_all.ensures.beside ∙ kept.beside;
-      told = search rules;
+      beside = c.submit_all.ensures.rest ∙ kept.beside;
+      sent = search rules;
       stays = search rules;
     }
 

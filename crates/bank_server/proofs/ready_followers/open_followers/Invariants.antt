@@ -8,7 +8,7 @@ abbrev pub invariant-loop-id : goal.invariant-loop-id
 invariant-loop-id l = record {
   counted : 1 ≤ l.id;
   within : l.id - 1 ≤ l.nodes - 1;
-  ends : length l.ends.items ≡ l.id - 1;
+  senders : length l.senders.items ≡ l.id - 1;
   as_many : length l.followers.items ≡ l.id - 1;
   opened : All (λ follower. IsAtOpening l.directory l.columns follower.replica.value) l.followers.items;
 }

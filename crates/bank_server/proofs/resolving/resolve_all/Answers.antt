@@ -1,27 +1,27 @@
 use Rattle.std.proofs.Common.{◌≡◌, ◌+◌, ◌++◌, ◌∷◌, [], List, Some, length, map, take, sym, ap, subst, ◌∙◌, arith}
 use Rattle.std.specs.Option.{option_copied}
 use Rattle.std.proofs.lemmas.List.Elements.{All-push}
-use Rattle.sb_calls.specs.Op.{IsOpWithin, resolved}
+use Rattle.sb_calls.specs.Op.{IsOpWithin, op_of}
 use Rattle.sb_calls.specs.declared.op.Op.{Op}
-use Rattle.sb_sequencer.specs.Numbering.{call_at}
+use Rattle.sb_sequencer.specs.Numbering.{call_of_number}
 use Rattle.bank_server.proofs.Boards.{one_more_call}
-use Rattle.bank_server.specs.Execution.{AreWithin}
+use Rattle.bank_server.specs.Execution.{AreOpsWithin}
 use Rattle.bank_server.specs.Output.{calls_of}
 use Rattle.bank_server.proofs.resolving.resolve_all.Goals as goal
 
-pub loop-place-preserved : goal.loop-place-preserved
-loop-place-preserved c =
+pub loop-index-preserved : goal.loop-index-preserved
+loop-index-preserved c =
     let directory = c.args.directory.now in
     let call = c.unwrap-call.result.now in
     let op = c.resolve.result in
-    let kept = c.loop-place.invariant in
-    let at : call_at c.args.log.now.log (c.loop-place.place + 1) ≡ Some call = sym c.call.ensures ∙ ap option_copied c.unwrap-call.ensures in
-    let so_far : List Op = map (resolved directory) (calls_of (take c.loop-place.place c.args.log.now.log)) in
+    let kept = c.loop-index.invariant in
+    let at : call_of_number c.args.log.now.log (c.loop-index.index + 1) ≡ Some call = sym c.call.ensures ∙ ap option_copied c.unwrap-call.ensures in
+    let so_far : List Op = map (op_of directory) (calls_of (take c.loop-index.index c.args.log.now.log)) in
     let pushed = c.in_ok-push.ensures.items in
     record {
       value = pushed ∙ ap (λ (ops : List Op). ops ++ op ∷ []) kept.value ∙ ap (λ (o : Op). so_far ++ o ∷ []) c.resolve.ensures.value
-          ∙ sym (one_more_call (resolved directory) c.args.log.now.log c.loop-place.place call at);
+          ∙ sym (one_more_call (op_of directory) c.args.log.now.log c.loop-index.index call at);
       count = omega (arith, kept.count, c.in_ok-push.ensures.len);
-      within = subst (AreWithin (length directory)) (sym pushed)
-          (All-push (IsOpWithin (length directory)) c.loop-place.ops.items op kept.within c.resolve.ensures.within);
+      within = subst (AreOpsWithin (length directory)) (sym pushed)
+          (All-push (IsOpWithin (length directory)) c.loop-index.ops.items op kept.within c.resolve.ensures.within);
     }

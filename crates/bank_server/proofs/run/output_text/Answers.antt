@@ -3,9 +3,9 @@ use Rattle.std.specs.List.{All}
 use Rattle.sb_checkpoint.specs.declared.memory_store.MemoryStore.{MemoryStore}
 use Rattle.sb_replica.specs.Replica.{ReplicaOf}
 use Rattle.bank_server.specs.Output.{calls_of}
-use Rattle.bank_server.specs.Prepared.{output_after}
+use Rattle.bank_server.specs.PreparedInput.{output_after}
 use Rattle.bank_server.specs.Primary.{RunsLog}
-use Rattle.bank_server.specs.Standing.{StandsAmong}
+use Rattle.bank_server.specs.Standing.{IsStandingWithin}
 use Rattle.bank_server.specs.declared.asking.Standing.{Standing}
 use Rattle.bank_server.proofs.Runs.{among, output}
 use Rattle.bank_server.proofs.run.output_text.Goals as goal
@@ -21,7 +21,7 @@ push_output-requires-clause-numbers g c =
     let prepared = c.args.prepared in
     let node = c.deref-2.result.now in
     let run = subst (λ (r : ReplicaOf MemoryStore). RunsLog prepared.primary r) (sym c.deref-2.ensures) c.in_ok-node.ensures.run in
-    subst (λ (standings : List Standing). All (StandsAmong (length node.board.log)) standings) (sym c.deref.ensures.value)
+    subst (λ (standings : List Standing). All (IsStandingWithin (length node.board.log)) standings) (sym c.deref.ensures.value)
     (among c.args.input.items prepared node c.requires.prepared run)
 
 pub returns-in-Ok-clause-value : goal.returns-in-Ok-clause-value

@@ -1,4 +1,4 @@
-use Rattle.cown_bench.proofs.TakingOut.{takes_out_as}
+use Rattle.cown_bench.proofs.DrainLaws.{takes_out_as}
 use Rattle.cown_bench.proofs.draining.drain.Goals as goal
 
 pub pop_as-requires-clause-rule : goal.pop_as-requires-clause-rule

@@ -1,4 +1,4 @@
-use Rattle.cown_board.proofs.PlayedLaws.{board_law}
+use Rattle.cown_board.proofs.BoardCallLaws.{board_law}
 use Rattle.cown_board.proofs.laws.true_to_the_log.Goals as goal
 
 pub returns : goal.returns

@@ -1,5 +1,5 @@
 use Rattle.std.proofs.Common.{refl}
-use Rattle.cown_board.proofs.MadeCalls.{makes_submit, makes_take, makes_finish}
+use Rattle.cown_board.proofs.CallContracts.{makes_submit, makes_take, makes_finish}
 use Rattle.cown_board.proofs.turn.take_turn.Goals as goal
 
 pub returns : goal.returns

@@ -1,8 +1,8 @@
 use Rattle.std.proofs.Common.{ℕ, ◌+◌, ◌<◌, List, length, drop, refl, sym, ap, ◌∙◌, subst, arith, eq-eqb}
 use Rattle.std.proofs.lemmas.Bool.{or_left}
 use Rattle.sb_calls.specs.Cowns.{IsRising}
-use Rattle.sb_calls.specs.OneByOne.{is_among}
-use Rattle.cown_queue.proofs.Changes.{changed, changed_more, drop-cown, held-rest, IsRising-rest, Releases-changed}
+use Rattle.sb_calls.specs.SerialRun.{is_among}
+use Rattle.cown_queue.proofs.ListChanges.{changed, changed_more, drop-cown, held-rest, IsRising-rest, Releases-changed}
 use Rattle.cown_queue.specs.Queues.{list_of}
 use Rattle.cown_queue.proofs.queues.pop_each.Goals as goal
 

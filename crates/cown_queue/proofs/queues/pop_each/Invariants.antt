@@ -1,8 +1,8 @@
 use Rattle.std.proofs.Common.{◌≡◌, ℕ, ◌<◌, ◌≤◌, true, length, drop}
 use Rattle.sb_calls.specs.Cowns.{IsRising}
-use Rattle.sb_calls.specs.OneByOne.{is_among}
+use Rattle.sb_calls.specs.SerialRun.{is_among}
 use Rattle.cown_queue.specs.Queues.{list_of}
-use Rattle.cown_queue.proofs.Changes.{changed}
+use Rattle.cown_queue.proofs.ListChanges.{changed}
 use Rattle.cown_queue.proofs.queues.pop_each.Given as goal
 
 abbrev pub invariant-loop-cown : goal.invariant-loop-cown

@@ -1,6 +1,6 @@
 use Rattle.std.proofs.Common.{ℕ, ◌+◌, ◌<◌, List, [], ◌∷◌, ◌++◌, length, drop, ap, ◌∙◌, arith}
 use Rattle.std.proofs.lemmas.List.{length-set}
-use Rattle.cown_queue.proofs.Changes.{changed, changed_more, AreBelow-at, Appends-changed}
+use Rattle.cown_queue.proofs.ListChanges.{changed, changed_more, AreBelow-at, Appends-changed}
 use Rattle.cown_queue.proofs.queues.push_each.Goals as goal
 
 pub push-requires-clause-cown : goal.push-requires-clause-cown
@@ -16,7 +16,7 @@ loop-cown-preserved c =
     record {
       lists = ap (changed add (drop (c.loop-cown.cown-index + 1) c.args.cowns.now)) c.push.ensures.lists
           ∙ changed_more add c.args.cowns.now c.loop-cown.cown-index c.cown-item.result _ _ within c.cown-item.is before.lists;
-      cowns_stay = ap length c.push.ensures.lists ∙ length-set _ _ _ ∙ before.cowns_stay;
+      cown_count = ap length c.push.ensures.lists ∙ length-set _ _ _ ∙ before.cown_count;
       free = omega arith;
       places = c.push.ensures.places ∙ before.places;
     }

@@ -1,6 +1,6 @@
 use Rattle.std.proofs.Common.{◌≡◌, ℕ, ◌<◌, Some, slice_get, List, [], ◌∷◌, ◌++◌, length, take, sym, ap, ◌∙◌, arith}
 use Rattle.cown_queue.specs.Queues.{list_of, IsInFront}
-use Rattle.cown_queue.proofs.Changes.{take-cown}
+use Rattle.cown_queue.proofs.ListChanges.{take-cown}
 use Rattle.cown_queue.proofs.tests.is_in_front.Goals as goal
 
 -- a list begins with the number that it has in front

@@ -1,6 +1,6 @@
 use Rattle.std.proofs.Common.{ℕ, ◌+◌, ◌<◌, ◌≤◌, List, [], ◌∷◌, ◌++◌, length, take, arith}
 use Rattle.sb_calls.specs.Cowns.{AreBelow, IsRising}
-use Rattle.cown_queue.proofs.Changes.{take-cown}
+use Rattle.cown_queue.proofs.ListChanges.{take-cown}
 use Rattle.cown_queue.proofs.tests.may_declare.Goals as goal
 
 -- one more cown below a bound
@@ -31,6 +31,6 @@ loop-cown-preserved c =
       below = rw more (AreBelow-push c.args.bound done cown before.below (omega arith));
       rising = rw more (IsRising-push done cown before.rising earlier);
       earlier = rw more
-          (AreBelow-push (c.number-number.result + 1) done cown (AreBelow-more c.loop-cown.least _ done (omega arith) before.earlier)
+          (AreBelow-push (c.id-id.result + 1) done cown (AreBelow-more c.loop-cown.least _ done (omega arith) before.earlier)
           (omega arith));
     }

@@ -2,10 +2,10 @@
 use Rattle.std.proofs.Common.{◌≡◌, sym, ◌∙◌}
 use Rattle.std.proofs.lemmas.Bool.{true≢false}
 use Rattle.std.proofs.lemmas.Result.{err_from_is_err_and}
-use Rattle.cown_board.specs.Board.{open_of}
-use Rattle.cown_workers.proofs.Changing.{Drains_trans}
-use Rattle.cown_workers.proofs.Exchanging.{Exchanged_trans, drained, given_up}
-use Rattle.cown_workers.proofs.Settled.{nothing_left}
+use Rattle.cown_board.specs.Board.{unfinished_of}
+use Rattle.cown_workers.proofs.BoardSteps.{PreservesLog_trans}
+use Rattle.cown_workers.proofs.CrewExchanges.{Exchanged_trans, drained, given_up}
+use Rattle.cown_workers.proofs.IdleBoards.{nothing_left}
 use Rattle.cown_workers.proofs.draining.drain.Goals as goal
 
 pub loop-runs-preserved : goal.loop-runs-preserved
@@ -14,9 +14,9 @@ loop-runs-preserved g c =
     record {
       exchanged = Exchanged_trans g.C.Crew.acts before.exchanged
           (Exchanged_trans g.C.Crew.acts c.give_ready.ensures.exchanged c.in_ok-finish_next.ensures.exchanged);
-      drains = Drains_trans before.drains (Drains_trans c.give_ready.ensures.log c.finish_next.ensures.log);
+      drains = PreservesLog_trans before.drains (PreservesLog_trans c.give_ready.ensures.log c.finish_next.ensures.log);
       none_out = λ nothing none. c.finish_next.ensures.none_out nothing (c.give_ready.ensures.none_out nothing (before.none_out nothing none));
-      beside = c.finish_next.ensures.beside ∙ c.give_ready.ensures.beside ∙ before.beside;
+      rest = c.finish_next.ensures.rest ∙ c.give_ready.ensures.rest ∙ before.rest;
     }
 
 pub returns-then-idle-clause-exchanged : goal.returns-then-idle-clause-exchanged
@@ -30,11 +30,11 @@ returns-in_err-finish_next-clause-exchanged g c =
     let exit = err_from_is_err_and c.from_residual.result c.from_residual.ensures.1 in
     rw exit.1
     (given_up g.C.Crew.acts (Exchanged_trans g.C.Crew.acts c.loop-runs.invariant.exchanged c.give_ready.ensures.exchanged)
-    last acted in_vain c.in_err-finish_next.ensures.gone)
+    last acted in_vain c.in_err-finish_next.ensures.crew_lost)
 
-pub returns-in_err-finish_next-clause-sure : goal.returns-in_err-finish_next-clause-sure
-returns-in_err-finish_next-clause-sure g c = λ nothing none.
+pub returns-in_err-finish_next-clause-succeeds : goal.returns-in_err-finish_next-clause-succeeds
+returns-in_err-finish_next-clause-succeeds g c = λ nothing none.
     let given = c.give_ready.ensures.none_out nothing (c.loop-runs.invariant.none_out nothing none) in
-    let all : open_of (g.R.Runs.board c.give_ready.new.runs) ≡ 0 =
-    nothing_left (g.R.Runs.board c.give_ready.new.runs) c.idle.ensures.beside given c.give_ready.ensures.none_ready in
+    let all : unfinished_of (g.R.Runs.board c.give_ready.new.runs) ≡ 0 =
+    nothing_left (g.R.Runs.board c.give_ready.new.runs) c.idle.ensures.same_length given c.give_ready.ensures.none_ready in
     absurd (true≢false (sym (c.idle.ensures.value.1 all) ∙ c.if-idle.false))

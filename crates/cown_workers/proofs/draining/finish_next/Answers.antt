@@ -1,8 +1,8 @@
 -- What is finished was out.
 use Rattle.std.proofs.Common.{Some, arith}
 use Rattle.sb_calls.specs.Behaviour.{declared_cowns, effect_of}
-use Rattle.cown_workers.proofs.Changing.{Finishes-drains, Finishes-counts}
-use Rattle.cown_workers.proofs.Exchanging.{Exchanged-one}
+use Rattle.cown_workers.proofs.BoardSteps.{Finishes-drains, Finishes-counts}
+use Rattle.cown_workers.proofs.CrewExchanges.{Exchanged-one}
 use Rattle.cown_workers.specs.Draining.{HandedOver}
 use Rattle.cown_workers.proofs.draining.finish_next.Goals as goal
 

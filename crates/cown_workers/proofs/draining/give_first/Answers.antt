@@ -1,9 +1,9 @@
 -- An op that was just handed out and comes back is finished at once.
 use Rattle.std.proofs.Common.{sym, ◌∙◌, arith}
 use Rattle.sb_calls.specs.Behaviour.{declared_cowns, effect_of}
-use Rattle.cown_workers.proofs.CarryingOut.{CarriesOut, accepts, carried, no_refusal, ran_in_place}
-use Rattle.cown_workers.proofs.Changing.{Takes-drains, Takes-counts}
-use Rattle.cown_workers.proofs.Exchanging.{Exchanged-one}
+use Rattle.cown_workers.proofs.InPlaceRuns.{CarriesOut, accepts, carried, no_refusal, ran_in_place}
+use Rattle.cown_workers.proofs.BoardSteps.{Takes-drains, Takes-counts}
+use Rattle.cown_workers.proofs.CrewExchanges.{Exchanged-one}
 use Rattle.cown_workers.specs.Draining.{Kept, CameBack}
 use Rattle.cown_workers.proofs.draining.give_first.Goals as goal
 use Rattle.cown_workers.proofs.draining.give_first.Given.{Over}

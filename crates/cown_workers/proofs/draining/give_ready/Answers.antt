@@ -1,7 +1,7 @@
 -- One more was given.
 use Rattle.std.proofs.Common.{◌∙◌, arith}
-use Rattle.cown_workers.proofs.Changing.{Drains_trans}
-use Rattle.cown_workers.proofs.Exchanging.{Exchanged_trans}
+use Rattle.cown_workers.proofs.BoardSteps.{PreservesLog_trans}
+use Rattle.cown_workers.proofs.CrewExchanges.{Exchanged_trans}
 use Rattle.cown_workers.proofs.draining.give_ready.Goals as goal
 
 pub loop-preserved : goal.loop-preserved
@@ -10,10 +10,10 @@ loop-preserved g c =
     let given = c.give_first.ensures in
     record {
       exchanged = Exchanged_trans g.C.Crew.acts before.exchanged given.exchanged;
-      drains = Drains_trans before.drains given.log;
+      drains = PreservesLog_trans before.drains given.log;
       unfinished = omega arith;
       none_out = λ nothing none. given.none_out nothing (before.none_out nothing none);
-      beside = given.beside ∙ before.beside;
+      rest = given.rest ∙ before.rest;
     }
 
 pub returns-clause-exchanged : goal.returns-clause-exchanged

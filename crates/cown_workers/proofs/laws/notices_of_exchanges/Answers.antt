@@ -1,5 +1,5 @@
 -- By the exchanges.
-use Rattle.cown_workers.proofs.Tracing.{traced-along}
+use Rattle.cown_workers.proofs.TracedSteps.{traced-along}
 use Rattle.cown_workers.proofs.laws.notices_of_exchanges.Goals as goal
 
 pub returns : goal.returns

@@ -1,6 +1,6 @@
 use Rattle.std.proofs.Common.{◌≡◌, ◌+◌, ◌+ℤ◌, sym, ap₂, ◌∙◌, subst, arith, w64, to_z, of_z}
 use Rattle.std.proofs.lemmas.Int.{to_z-of_z}
-use Rattle.lane_audit.specs.Audit.{IsNetOf}
+use Rattle.lane_audit.specs.inner.NetBounds.{IsPossibleNet}
 use Rattle.lane_audit.proofs.Audits.{net_fits, net_sum_more, within_more}
 use Rattle.lane_audit.proofs.auditing.net_of_all.Goals as goal
 
@@ -10,11 +10,11 @@ loop-place-preserved c =
     let added = to_z w64 c.loop-place.added-bits in
     let one = c.net_of_one-added.result in
     let plain : to_z w64 (of_z w64 one) ≡ one = to_z-of_z w64 one (record { sfits = c.net_of_one-added.type_inv }) in
-    let within : IsNetOf (i + 1) (added +ℤ to_z w64 (of_z w64 one)) =
-    within_more i added (to_z w64 (of_z w64 one)) c.loop-place.invariant.within (subst (IsNetOf 1) (sym plain) c.net_of_one-added.ensures.within) in
+    let within : IsPossibleNet (i + 1) (added +ℤ to_z w64 (of_z w64 one)) =
+    within_more i added (to_z w64 (of_z w64 one)) c.loop-place.invariant.within (subst (IsPossibleNet 1) (sym plain) c.net_of_one-added.ensures.within) in
     let back = to_z-of_z w64 (added +ℤ to_z w64 (of_z w64 one)) (net_fits (i + 1) _ (omega arith) within) in
     record {
       same = back ∙ ap₂ (λ a b. a +ℤ b) c.loop-place.invariant.same plain
           ∙ net_sum_more c.args.calls.now c.args.replies.now i _ _ c.loop-place-test.true (omega arith) c.index-calls-place.is c.net_of_one-added.ensures.value;
-      within = subst (IsNetOf (i + 1)) (sym back) within;
+      within = subst (IsPossibleNet (i + 1)) (sym back) within;
     }

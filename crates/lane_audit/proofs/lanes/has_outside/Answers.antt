@@ -1,7 +1,7 @@
 use Rattle.std.proofs.Common.{take, drop, arith}
 use Rattle.std.proofs.lemmas.Simd.{length-chunk}
 use Rattle.lane_audit.specs.Columns.{is_outside}
-use Rattle.lane_audit.proofs.LaneLemmas.{any_mask, outside_lanes, fits_block}
+use Rattle.lane_audit.proofs.LaneBits.{any_mask, outside_lanes, fits_block}
 use Rattle.lane_audit.proofs.lanes.has_outside.Goals as goal
 
 pub returns : goal.returns

@@ -1,5 +1,5 @@
 use Rattle.std.proofs.lemmas.Simd.{length-chunk}
-use Rattle.lane_audit.proofs.LaneLemmas.{fits_block, same_block}
+use Rattle.lane_audit.proofs.LaneBits.{fits_block, same_block}
 use Rattle.lane_audit.proofs.lanes.is_same_block.Goals as goal
 
 pub returns : goal.returns

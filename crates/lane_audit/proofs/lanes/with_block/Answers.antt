@@ -1,5 +1,5 @@
 use Rattle.std.proofs.Common.{◌∙◌}
-use Rattle.lane_audit.proofs.LaneLemmas.{added_lanes}
+use Rattle.lane_audit.proofs.LaneBits.{added_lanes}
 use Rattle.lane_audit.proofs.Totals.{added_exactly}
 use Rattle.lane_audit.proofs.lanes.with_block.Goals as goal
 

@@ -1,4 +1,4 @@
-use Rattle.lane_audit.proofs.LaneLemmas.{counted_lanes, fits_each}
+use Rattle.lane_audit.proofs.LaneBits.{counted_lanes, fits_each}
 use Rattle.lane_audit.proofs.lanes.with_counts.Goals as goal
 
 pub returns : goal.returns

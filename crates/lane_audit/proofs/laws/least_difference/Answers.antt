@@ -1,8 +1,8 @@
-use Rattle.lane_audit.proofs.LeastLemmas.{EqualWithout-holds, LeastDifference-holds}
+use Rattle.lane_audit.proofs.LeastDifferences.{EqualWithoutDifference-holds, LeastDifference-holds}
 use Rattle.lane_audit.proofs.laws.least_difference.Goals as goal
 
-pub returns-clause-found : goal.returns-clause-found
-returns-clause-found c = LeastDifference-holds
+pub returns-clause-difference : goal.returns-clause-difference
+returns-clause-difference c = LeastDifference-holds
 
-pub returns-clause-none : goal.returns-clause-none
-returns-clause-none c = EqualWithout-holds
+pub returns-clause-no_difference : goal.returns-clause-no_difference
+returns-clause-no_difference c = EqualWithoutDifference-holds

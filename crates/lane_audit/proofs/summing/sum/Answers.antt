@@ -11,7 +11,7 @@ pub sum_of_blocks-sum-requires : goal.sum_of_blocks-sum-requires
 sum_of_blocks-sum-requires c =
     let blocks = length (c.as_chunks.result.0.now) in
     record {
-      few = omega (arith, c.requires.few, ap length c.as_chunks.ensures.front, length-first_chunks 8 (length c.args.values.now / 8) c.args.values.now);
+      limit = omega (arith, c.requires.limit, ap length c.as_chunks.ensures.front, length-first_chunks 8 (length c.args.values.now / 8) c.args.values.now);
       within = subst (All (All IsWithinLimit)) (sym c.as_chunks.ensures.front)
           (blocks_fit IsWithinLimit 8 (length c.args.values.now / 8) c.args.values.now c.requires.within);
     }
@@ -19,7 +19,7 @@ sum_of_blocks-sum-requires c =
 pub loop-value-init : goal.loop-value-init
 loop-value-init c =
     to_z-of_z w64 c.sum_of_blocks-sum.result (record { sfits = c.sum_of_blocks-sum.type_inv })
-    ∙ front_total c.args.values.now c.requires.few c.requires.within _ _ c.as_chunks.ensures.front c.sum_of_blocks-sum.ensures
+    ∙ front_total c.args.values.now c.requires.limit c.requires.within _ _ c.as_chunks.ensures.front c.sum_of_blocks-sum.ensures
 
 -- the sum with one more value
 next : (c : goal.After-sum-1)
@@ -35,7 +35,7 @@ next c =
 pub overflow_add-sum : goal.overflow_add-sum
 overflow_add-sum c =
     subst (FitsSigned w64) (sym (next c))
-    (part_fits c.args.values.now c.requires.few c.requires.within (length c.args.values.now / 8 * 8 + (c.loop-value.value-index + 1)))
+    (part_fits c.args.values.now c.requires.limit c.requires.within (length c.args.values.now / 8 * 8 + (c.loop-value.value-index + 1)))
 
 pub loop-value-preserved : goal.loop-value-preserved
 loop-value-preserved c = to_z-of_z w64 _ (overflow_add-sum c) ∙ next c

@@ -14,7 +14,7 @@ with_block-sums-requires c =
     let blocks = c.args.blocks.now in
     let i = c.loop-block.block-index in
     let inside = c.loop-block-test.true in
-    bits_fit i c.loop-block.sums (joined (take i blocks)) (get_or blocks i []) (omega (arith, inside, c.requires.few))
+    bits_fit i c.loop-block.sums (joined (take i blocks)) (get_or blocks i []) (omega (arith, inside, c.requires.limit))
     (c.requires.within i [] inside) c.loop-block.invariant
 
 pub loop-block-preserved : goal.loop-block-preserved
@@ -23,7 +23,7 @@ loop-block-preserved c =
     let i = c.loop-block.block-index in
     let inside = c.loop-block-test.true in
     subst (BitsAre (i + 1) (map (of_z w64) c.with_block-sums.result)) (joined_more blocks i inside)
-    (BitsAre_more i c.loop-block.sums (joined (take i blocks)) (get_or blocks i []) c.with_block-sums.result (omega (arith, inside, c.requires.few))
+    (BitsAre_more i c.loop-block.sums (joined (take i blocks)) (get_or blocks i []) c.with_block-sums.result (omega (arith, inside, c.requires.limit))
     (c.told-blocks i inside) (c.requires.within i [] inside) c.loop-block.invariant c.with_block-sums.ensures)
 
 pub returns : goal.returns
@@ -32,5 +32,5 @@ returns c =
     let blocks = c.args.blocks.now in
     ap (λ bits. to_z w64 (fold_l (λ a b. (a + b) % 2 ^ 64) 0 bits)) sums.1
     ∙ reduce_sum_is c.loop-block.block-index sums.0 (joined (take c.loop-block.block-index blocks))
-    (omega (arith, c.requires.few, c.loop-block.auto.block-index-end)) sums.2
+    (omega (arith, c.requires.limit, c.loop-block.auto.block-index-end)) sums.2
     ∙ ap (λ bs. total (joined bs)) (take_all c.loop-block.block-index blocks c.loop-block-test.false)

@@ -5,6 +5,6 @@ use Rattle.lane_audit.proofs.tests.sum_of.Goals as goal
 
 pub sum-requires : goal.sum-requires
 sum-requires g c = record {
-  few = omega arith;
+  limit = omega arith;
   within = All-from_get_or IsWithinLimit c.args.values.now (pos 0) (λ k lt. c.loop-value.invariant k (omega arith));
 }

@@ -1,7 +1,7 @@
 -- The opening stays.
 use Rattle.std.proofs.Common.{◌≡◌, ◌*◌, length}
-use Rattle.sb_calls.specs.Cowns.{held_of}
+use Rattle.sb_calls.specs.Cowns.{contents_of}
 use Rattle.running_tests.proofs.bank.submit_all.Given as goal
 
 abbrev pub invariant-loop-line : goal.invariant-loop-line
-invariant-loop-line g l = length (held_of l.board.opening) ≡ 2 * length l.directory
+invariant-loop-line g l = length (contents_of l.board.opening) ≡ 2 * length l.directory

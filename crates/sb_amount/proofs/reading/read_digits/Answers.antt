@@ -7,7 +7,7 @@ use Rattle.std.specs.Char.{is_ascii_digit}
 use Rattle.std.specs.List.{list_all}
 use Rattle.sb_amount.specs.declared.cents.TheConstants.{LIMIT}
 use Rattle.sb_amount.specs.Reading.{is_point, cents_of_digits}
-use Rattle.sb_amount.proofs.Bodies.{is_body_byte}
+use Rattle.sb_amount.proofs.MoneyBodies.{is_body_byte}
 use Rattle.sb_amount.proofs.Digits.{is_point-digit, cents_of_digits-more_digit, cents_of_digits-more_other}
 use Rattle.sb_amount.proofs.reading.read_digits.Goals as goal
 use Rattle.sb_amount.proofs.reading.read_digits.Goals.{then-is_ascii_digit, else-is_ascii_digit+then-byte-eq46}

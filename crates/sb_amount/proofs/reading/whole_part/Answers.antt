@@ -1,6 +1,6 @@
 -- If there is one point, the decimals are right exactly if it is the third byte from the end.
 use Rattle.std.proofs.Common.{rules, sym, ◌∙◌}
-use Rattle.sb_amount.proofs.Bodies.{has_two_decimals-yes, has_two_decimals-points, has_two_decimals-short, has_two_decimals-other}
+use Rattle.sb_amount.proofs.MoneyBodies.{has_two_decimals-yes, has_two_decimals-points, has_two_decimals-short, has_two_decimals-other}
 use Rattle.sb_amount.proofs.reading.whole_part.Goals as goal
 use Rattle.sb_amount.proofs.reading.whole_part.Goals.{in_default-via-then-body-lt3, in_default-via-in-46+else-points-eq1, in_default-via-else-body-lt3+in_default-1}
 

@@ -1,8 +1,8 @@
 use Rattle.std.proofs.Common.{◌≡◌}
-use Rattle.sb_calls.proofs.AppliedOps.{declared_below, declared_held, applied_follows, applied_places}
+use Rattle.sb_calls.proofs.DeclaredCowns.{declared_below, declared_cown_values, applied_follows, applied_places}
 use Rattle.sb_calls.specs.Behaviour.{declared_cowns, effect_of}
-use Rattle.sb_calls.specs.BehaviourLaws.{effect_keeps}
-use Rattle.sb_calls.specs.Cowns.{held_of, read_cowns, write_cowns}
+use Rattle.sb_calls.specs.inner.BehaviourLaws.{effect_in_range}
+use Rattle.sb_calls.specs.Cowns.{contents_of, read_cowns, write_cowns}
 use Rattle.sb_calls.proofs.applying.apply.Goals as goal
 
 pub read_cowns-inputs-requires-clause-cowns : goal.read_cowns-inputs-requires-clause-cowns
@@ -12,8 +12,8 @@ read_cowns-inputs-requires-clause-cowns c =
 
 pub perform-reply-requires : goal.perform-reply-requires
 perform-reply-requires c =
-    let inputs : c.deref-2.result.now ≡ read_cowns (held_of c.args.columns.now) (declared_cowns c.args.op) = cc in
-    rw inputs (declared_held c.args.columns.now c.args.op c.customers.ensures.valid c.requires)
+    let inputs : c.deref-2.result.now ≡ read_cowns (contents_of c.args.columns.now) (declared_cowns c.args.op) = cc in
+    rw inputs (declared_cown_values c.args.columns.now c.args.op c.customers.ensures.valid c.requires)
 
 pub write_cowns-requires-clause-cowns : goal.write_cowns-requires-clause-cowns
 write_cowns-requires-clause-cowns c =
@@ -22,21 +22,21 @@ write_cowns-requires-clause-cowns c =
 
 pub write_cowns-requires-clause-values : goal.write_cowns-requires-clause-values
 write_cowns-requires-clause-values c =
-    let inputs = read_cowns (held_of c.args.columns.now) (declared_cowns c.args.op) in
+    let inputs = read_cowns (contents_of c.args.columns.now) (declared_cowns c.args.op) in
     let cowns : c.deref-3.result.now ≡ declared_cowns c.args.op = cc in
     let outputs : c.deref-4.result.now ≡ (effect_of c.args.op inputs).1 = cc in
-    rw (cowns, outputs) (effect_keeps c.args.op inputs (declared_held c.args.columns.now c.args.op c.customers.ensures.valid c.requires))
+    rw (cowns, outputs) (effect_in_range c.args.op inputs (declared_cown_values c.args.columns.now c.args.op c.customers.ensures.valid c.requires))
 
--- what is held afterwards
-written : (c : goal.Else-prove-2) → let inputs = read_cowns (held_of c.args.columns.now) (declared_cowns c.args.op) in
-    held_of c.write_cowns.new.columns ≡ write_cowns (held_of c.args.columns.now) (declared_cowns c.args.op) (effect_of c.args.op inputs).1
+-- the contents afterwards
+written : (c : goal.Else-prove-2) → let inputs = read_cowns (contents_of c.args.columns.now) (declared_cowns c.args.op) in
+    contents_of c.write_cowns.new.columns ≡ write_cowns (contents_of c.args.columns.now) (declared_cowns c.args.op) (effect_of c.args.op inputs).1
 written c = cc
 
 pub returns-clause-procedure : goal.returns-clause-procedure
 returns-clause-procedure c directory call same e =
-    let reply : c.perform-reply.result.0 ≡ (effect_of c.args.op (read_cowns (held_of c.args.columns.now) (declared_cowns c.args.op))).0 = cc in
+    let reply : c.perform-reply.result.0 ≡ (effect_of c.args.op (read_cowns (contents_of c.args.columns.now) (declared_cowns c.args.op))).0 = cc in
     rw reply (applied_follows c.args.columns.now c.write_cowns.new.columns c.args.op (written c) directory call same e c.customers-2.ensures.valid.same)
 
-pub returns-clause-places : goal.returns-clause-places
-returns-clause-places c =
+pub returns-clause-same_length : goal.returns-clause-same_length
+returns-clause-same_length c =
     applied_places c.args.columns.now c.write_cowns.new.columns c.args.op (written c) c.customers.ensures.valid.same c.customers-2.ensures.valid.same

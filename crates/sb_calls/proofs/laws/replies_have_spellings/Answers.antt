@@ -1,4 +1,4 @@
-use Rattle.sb_calls.proofs.ShownTotals.{replies_fit}
+use Rattle.sb_calls.proofs.ReplyTotals.{replies_fit}
 use Rattle.sb_calls.proofs.laws.replies_have_spellings.Goals as goal
 
 pub returns : goal.returns

@@ -1,5 +1,5 @@
 use Rattle.std.proofs.Common.{sym, ap, ◌∙◌}
-use Rattle.sb_checkpoint.proofs.Found.{bad_reply, no_reply_at}
+use Rattle.sb_checkpoint.proofs.FaultOrder.{bad_reply, no_reply_at}
 use Rattle.sb_checkpoint.proofs.fields.replies_of.Goals as goal
 
 pub returns-in_default-clause-fault : goal.returns-in_default-clause-fault

@@ -1,6 +1,6 @@
 use Rattle.std.proofs.Common.{◌+◌, ◌*◌, drop, map, ap, ◌∙◌, arith}
 use Rattle.std.specs.Simd.{first_chunks}
-use Rattle.sb_checkpoint.specs.Layouts.{layout_of}
+use Rattle.sb_checkpoint.specs.inner.Layouts.{layout_of}
 use Rattle.sb_checkpoint.specs.Reading.{stated_reply}
 use Rattle.sb_checkpoint.proofs.Chunks.{chunks_behind, reply_chunks}
 use Rattle.sb_checkpoint.proofs.fields.reply_cells.Goals as goal

@@ -1,4 +1,4 @@
-use Rattle.sb_checkpoint.proofs.Spelled.{one_checkpoint}
+use Rattle.sb_checkpoint.proofs.SpellingIsRead.{one_checkpoint}
 use Rattle.sb_checkpoint.proofs.laws.one_checkpoint.Goals as goal
 
 pub returns : goal.returns

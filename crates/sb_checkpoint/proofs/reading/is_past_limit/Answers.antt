@@ -1,7 +1,7 @@
 use Rattle.std.proofs.Common.{pos, ap, ◌∙◌}
 use Rattle.std.specs.Option.{is_some}
 use Rattle.sb_checkpoint.specs.Reading as spec
-use Rattle.sb_checkpoint.proofs.Passing.{position_any}
+use Rattle.sb_checkpoint.proofs.TestCounts.{position_any}
 use Rattle.sb_checkpoint.proofs.reading.is_past_limit.Goals as goal
 
 pub returns : goal.returns

@@ -4,11 +4,12 @@ use Rattle.std.proofs.lemmas.Int.{to_z-of_z}
 use Rattle.std.proofs.lemmas.List.Elements.{All-from_get_or}
 use Rattle.std.proofs.lemmas.Result.{err_from_is_err_and}
 use Rattle.sb_checkpoint.specs.Checkpoint.{CheckpointOf, Origin}
-use Rattle.sb_checkpoint.specs.Layouts.{layout_of}
-use Rattle.sb_checkpoint.specs.Reading.{IsFaultOf, opening_fault}
+use Rattle.sb_checkpoint.specs.inner.Layouts.{layout_of}
+use Rattle.sb_checkpoint.specs.inner.ReadingFaults.{IsFaultOf}
+use Rattle.sb_checkpoint.specs.Reading.{opening_fault}
 use Rattle.sb_checkpoint.proofs.Chunks.{length-amounts}
-use Rattle.sb_checkpoint.proofs.Found.{head_refuses, balances_refuse, opening_refuses, replies_refuse, no_fault}
-use Rattle.sb_checkpoint.proofs.Taken.{taken}
+use Rattle.sb_checkpoint.proofs.FaultOrder.{head_refuses, balances_refuse, opening_refuses, replies_refuse, no_fault}
+use Rattle.sb_checkpoint.proofs.ReadIsSpelling.{taken}
 use Rattle.sb_checkpoint.proofs.reading.read_checkpoint.Goals as goal
 
 pub returns-in_err-layout-clause-fault : goal.returns-in_err-layout-clause-fault

@@ -1,6 +1,6 @@
 use Rattle.std.proofs.Common.{◌∙◌, arith, inl, inr}
-use Rattle.sb_checkpoint.specs.Layouts.{layout_of}
-use Rattle.sb_checkpoint.proofs.Found.{replies_too_long, replies_without_fault}
+use Rattle.sb_checkpoint.specs.inner.Layouts.{layout_of}
+use Rattle.sb_checkpoint.proofs.FaultOrder.{replies_too_long, replies_without_fault}
 use Rattle.sb_checkpoint.proofs.reading.read_replies.Goals as goal
 use Rattle.sb_checkpoint.proofs.reading.read_replies.Goals.{then-count-gt-LOG_CALLS-via-then-count-gt-LOG_CALLS as too_many, then-count-gt-LOG_CALLS-via-else-count-gt-LOG_CALLS+then-size-bytes as too_long}
 

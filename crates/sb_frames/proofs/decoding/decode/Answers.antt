@@ -8,8 +8,8 @@ returns-clause-spelled c =
     found_is_spelled c.args.bytes.now c.first_frame.result
     (All-from_get_or (λ byte. byte < 256) c.args.bytes.now 0 (λ i lt. omega (arith, c.type_inv.bytes i))) c.first_frame.ensures
 
-pub returns-clause-taken : goal.returns-clause-taken
-returns-clause-taken c = λ frame k long h. c.first_frame.ensures ∙ spelled_is_found c.args.bytes.now frame k long h
+pub returns-clause-complete : goal.returns-clause-complete
+returns-clause-complete c = λ frame k long h. c.first_frame.ensures ∙ spelled_is_found c.args.bytes.now frame k long h
 
-pub returns-clause-settled : goal.returns-clause-settled
-returns-clause-settled c = λ more whole. decoded_settled c.args.bytes.now more (λ short. whole (c.first_frame.ensures ∙ short)) ∙ sym c.first_frame.ensures
+pub returns-clause-stable : goal.returns-clause-stable
+returns-clause-stable c = λ more whole. decoded_settled c.args.bytes.now more (λ short. whole (c.first_frame.ensures ∙ short)) ∙ sym c.first_frame.ensures

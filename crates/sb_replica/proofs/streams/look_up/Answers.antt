@@ -6,7 +6,7 @@ use Rattle.sb_frames.specs.Streaming.{HandsOut, Next, Step}
 use Rattle.sb_frames.specs.declared.frame.Frame.{Frame}
 use Rattle.sb_frames.specs.declared.frame.Frame.TheVariants.{Entry}
 use Rattle.sb_replica.proofs.TakenEntries.{take_one, takes_bytes}
-use Rattle.sb_replica.specs.Batches.{AreWithin, TakesEntries}
+use Rattle.sb_replica.specs.inner.Batches.{AreWithin, TakesEntries}
 use Rattle.sb_replica.specs.declared.streams.EntryOp.{EntryOp}
 use Rattle.sb_replica.proofs.streams.look_up.Goals as goal
 

@@ -1,5 +1,5 @@
 use Rattle.std.proofs.Common.{◌≡◌, ◌+◌, ◌≤◌, length}
-use Rattle.sb_replica.specs.Batches.{AreWithin, TakesEntries}
+use Rattle.sb_replica.specs.inner.Batches.{AreWithin, TakesEntries}
 use Rattle.sb_replica.proofs.streams.look_up.Given as goal
 
 -- this many entries were taken and looked up

@@ -5,9 +5,9 @@ use Rattle.std.proofs.lemmas.Result.{err_from_is_err_and}
 use Rattle.sb_calls.specs.Op.{IsOpWithin}
 use Rattle.sb_rows.specs.Balances.{Balances}
 use Rattle.sb_replica_log.specs.Log.{LogOf}
-use Rattle.sb_replica_log.specs.Offers.{offered}
+use Rattle.sb_replica_log.specs.Offers.{offer_answer}
 use Rattle.sb_replica_log.specs.declared.offered.Offered.TheVariants.{Next}
-use Rattle.sb_replica.proofs.HeardEntries.{batch_stays, offered_one_more}
+use Rattle.sb_replica.proofs.ReceivedEntries.{batch_stays, offered_one_more}
 use Rattle.sb_replica.specs.declared.streams.EntryOp.{EntryOp}
 use Rattle.sb_replica.proofs.streams.offer_all.Goals as goal
 
@@ -27,11 +27,11 @@ pub returns-in_err-offer_entry : goal.returns-in_err-offer_entry
 returns-in_err-offer_entry c =
     let exit = err_from_is_err_and c.from_residual.result c.from_residual.ensures.1 in
     rw exit.1 (record {
-      place = c.loop-entry.entry-index;
+      index = c.loop-entry.entry-index;
       entry = c.entry-item.result;
       there = slice_get_read c.args.batch.now (length c.args.batch.now) c.loop-entry.entry-index c.entry-item.result refl c.loop-entry-test.true c.entry-item.is;
       before = c.in_err-offer_entry.ensures.state ∙ c.loop-entry.invariant;
-      next = subst (λ (log : LogOf). offered log.board c.entry-item.result.number ≡ Next) (sym c.in_err-offer_entry.ensures.state)
+      next = subst (λ (log : LogOf). offer_answer log.board c.entry-item.result.number ≡ Next) (sym c.in_err-offer_entry.ensures.state)
           c.in_err-offer_entry.ensures.err;
     })
 

@@ -1,5 +1,5 @@
 use Rattle.std.proofs.Common.{◌≡◌, take}
-use Rattle.sb_replica.specs.Batches.{after_batch}
+use Rattle.sb_replica.specs.inner.Batches.{after_batch}
 use Rattle.sb_replica.proofs.streams.offer_all.Given as goal
 
 -- the entries so far were offered

@@ -1,4 +1,4 @@
-use Rattle.sb_rows.proofs.RowsLemmas.{get-rows_of, get-rows_of_absent, rows_of-with_row}
+use Rattle.sb_rows.proofs.RowsByPlace.{get-rows_of, get-rows_of_absent, rows_of-with_row}
 use Rattle.sb_rows.proofs.laws.rows_by_place.Goals as goal
 
 pub returns : goal.returns

@@ -1,7 +1,7 @@
 use Rattle.std.proofs.Common.{◌+◌, ℕ, ℤ, List, length, sym, ap, ◌∙◌, arith, length-append}
 use Rattle.sb_rows.specs.Balances.{Balances}
 use Rattle.sb_rows.specs.Customer.{customers_of}
-use Rattle.sb_rows.specs.CustomerLine.{customer}
+use Rattle.sb_rows.specs.inner.CustomerLine.{customer}
 use Rattle.sb_rows.proofs.Customers.{names_of-customers_of, length-customers_of, customers_of-push}
 use Rattle.sb_rows.proofs.reading.add_customer.Goals as goal
 
@@ -19,7 +19,7 @@ returns-clause-same c =
     record {
       names = c.in_ok-push.ensures.valid;
       balances = c.in_ok-push-2.ensures.valid;
-      places = omega (arith, names, balances, c.requires.places, length-append {A = List ℕ}, length-append {A = ℤ});
+      same_length = omega (arith, names, balances, c.requires.same_length, length-append {A = List ℕ}, length-append {A = ℤ});
     }
 
 pub returns-clause-adds : goal.returns-clause-adds

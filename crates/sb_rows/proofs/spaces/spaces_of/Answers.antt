@@ -1,7 +1,7 @@
 use Rattle.std.proofs.Common.{◌≡◌, ◌+◌, ◌-◌, ◌/◌, ◌%◌, ◌^◌, length, take, drop, ap, ◌∙◌, arith, length-drop, drop-drop}
 use Rattle.std.proofs.lemmas.List.{length-take, take_all}
-use Rattle.sb_rows.specs.Spaces.{spaces_of}
-use Rattle.sb_rows.proofs.Masks.{spaces_below, spaces_behind, spaces_parted}
+use Rattle.sb_rows.specs.inner.Spaces.{spaces_of}
+use Rattle.sb_rows.proofs.SpaceMasks.{spaces_below, spaces_behind, spaces_parted}
 use Rattle.sb_rows.proofs.spaces.spaces_of.Goals as goal
 
 pub loop-at-init : goal.loop-at-init

@@ -1,5 +1,5 @@
 use Rattle.std.proofs.Common.{◌≡◌, ◌≤◌, ◌%◌, length, drop}
-use Rattle.sb_rows.specs.Spaces.{spaces_of}
+use Rattle.sb_rows.specs.inner.Spaces.{spaces_of}
 use Rattle.sb_rows.proofs.spaces.spaces_of.Given as goal
 
 abbrev pub invariant-loop-at : goal.invariant-loop-at

@@ -1,6 +1,6 @@
 use Rattle.std.proofs.Common.{[], length, refl, sym, ◌∙◌, arith, eqb-true, drop_of_length-le}
 use Rattle.std.proofs.lemmas.Bool.{eqb-false}
-use Rattle.sb_rows.proofs.Parting.{lines-first, lines-whole, lines-nil, found_first, nothing_found, to_end}
+use Rattle.sb_rows.proofs.SplitAtFirstByte.{lines-first, lines-whole, lines-nil, found_first, nothing_found, to_end}
 use Rattle.sb_rows.specs.Text.{is_line_feed}
 use Rattle.sb_rows.proofs.text.next_line.Goals as goal
 

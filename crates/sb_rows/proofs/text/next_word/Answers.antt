@@ -1,4 +1,4 @@
-use Rattle.sb_rows.proofs.Parting.{words-first, words-whole, to_end}
+use Rattle.sb_rows.proofs.SplitAtFirstByte.{words-first, words-whole, to_end}
 use Rattle.sb_rows.proofs.text.next_word.Goals as goal
 
 pub returns-in-Some : goal.returns-in-Some

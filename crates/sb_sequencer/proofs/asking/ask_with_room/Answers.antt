@@ -2,7 +2,7 @@ use Rattle.std.proofs.Common.{rules, ◌≡◌, ◌+◌, ◌<◌, length, slice_
 use Rattle.std.specs.Map.{values_of, lookup}
 use Rattle.indexmap.specs.Entry.{entry_map, entry_index, entry_value, map_with_value}
 use Rattle.sb_sequencer.specs.Numbering.{same_key}
-use Rattle.sb_sequencer.proofs.Keys.{place_from_index, absent_from_map, entry_from_value, pushed_in_map}
+use Rattle.sb_sequencer.proofs.Keys.{index_within_log, absent_from_map, entry_from_value, pushed_in_map}
 use Rattle.sb_sequencer.proofs.asking.ask_with_room.Goals as goal
 
 -- a key that the log has: the entry's value is the call that was numbered
@@ -13,10 +13,10 @@ returns-in-Ok-Occupied-clause-answer c =
     let is = c.in-Ok-Occupied.field-0-is in
     let same : c.in-Ok-Occupied.found.map.now.entries ≡ log = ap (λ e. (entry_map e).entries) (sym is) ∙ c.in-Ok-Occupied.ensures.unchanged in
     let within : c.index.result < length log = omega (arith, c.index.ensures, c.in-Ok-Occupied.found.within, ap length same) in
-    let place = place_from_index log c.args.key c.index.result (c.index.ensures ∙ ap entry_index (sym is) ∙ c.in-Ok-Occupied.ensures.index) within in
+    let place = index_within_log log c.args.key c.index.result (c.index.ensures ∙ ap entry_index (sym is) ∙ c.in-Ok-Occupied.ensures.index) within in
     let numbered : slice_get (values_of log) c.index.result ≡ Some c.get.result.now =
     (λ j. slice_get (values_of (sym same j)) (c.index.ensures j)) ∙ c.get.ensures in
-    c.answered.ensures.answer log c.args.key place (entry_from_value log c.args.key c.get.result.now c.index.result place numbered)
+    c.answer_known.ensures.answer log c.args.key place (entry_from_value log c.args.key c.get.result.now c.index.result place numbered)
 
 -- a new key: the place that the map has for it is the log's end
 pub overflow_add-calls : goal.overflow_add-calls

@@ -2,7 +2,7 @@ use Rattle.std.proofs.Common.{◌++◌, ◌+◌, ap, map, drop, sym, ◌∙◌, 
 use Rattle.sb_rows.specs.Customer.{customers_of}
 use Rattle.sb_rows.specs.Opening.{customer_line}
 use Rattle.sb_rows.specs.Text.{unlines}
-use Rattle.sb_text.proofs.ByPlace.{lines_by_step, customers_end}
+use Rattle.sb_text.proofs.RowsByPlace.{lines_by_step, customers_end}
 use Rattle.sb_text.proofs.listing.list_customers.Goals as goal
 
 pub loop-place-preserved : goal.loop-place-preserved

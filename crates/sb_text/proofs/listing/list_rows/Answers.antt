@@ -4,7 +4,7 @@ use Rattle.sb_amount.specs.Money.{money}
 use Rattle.sb_rows.specs.Customer.{customers_of}
 use Rattle.sb_rows.specs.Opening.{customer_line}
 use Rattle.sb_rows.specs.Text.{unlines}
-use Rattle.sb_text.proofs.ByPlace.{row_lines_by_place, total_by_columns}
+use Rattle.sb_text.proofs.RowsByPlace.{row_lines_by_place, total_by_columns}
 use Rattle.sb_text.proofs.listing.list_rows.Goals as goal
 
 pub returns : goal.returns

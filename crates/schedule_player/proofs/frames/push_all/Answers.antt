@@ -1,6 +1,6 @@
 use Rattle.std.proofs.Common.{◌≡◌, ◌+◌, ◌<◌, [], ◌∷◌, ◌++◌, length, map, drop, sym, ap, subst, ◌∙◌, arith, append_assoc, length-append}
-use Rattle.schedule_player.specs.Numbered.{Every}
-use Rattle.schedule_player.specs.Seen.{frame_in, IsSpelled}
+use Rattle.schedule_player.specs.OneBased.{Every}
+use Rattle.schedule_player.specs.inner.MachineView.{frame_in, IsFrameBytes}
 use Rattle.schedule_player.proofs.Lists.{every_push, get_here, drop_one}
 use Rattle.schedule_player.proofs.SentFrames.{frame_sent}
 use Rattle.schedule_player.proofs.frames.push_all.Goals as goal
@@ -10,16 +10,16 @@ loop-frame-preserved c =
     let before = c.loop-frame.sent.items in
     let bytes = c.encode.result in
     let frames = c.args.frames.now in
-    let place = c.loop-frame.frame-index in
+    let position = c.loop-frame.frame-index in
     let frame = c.frame-item.result in
     let so_far = c.loop-frame.invariant in
     let items = c.push_reserved.ensures.items in
-    let rest = drop (place + 1) frames in
-    let within : place < length frames = omega (arith, c.loop-frame-test.true, c.loop-frame.auto.frame-index-end) in
-    let left : drop place frames ≡ frame ∷ rest = drop_one frames place frame (get_here frames place frame within c.frame-item.is) in
+    let rest = drop (position + 1) frames in
+    let within : position < length frames = omega (arith, c.loop-frame-test.true, c.loop-frame.auto.frame-index-end) in
+    let left : drop position frames ≡ frame ∷ rest = drop_one frames position frame (get_here frames position frame within c.frame-item.is) in
     record {
-      spelled = λ all. subst (Every (λ b. IsSpelled b.items)) (sym items)
-          (every_push (λ b. IsSpelled b.items) before bytes (so_far.spelled all) (record { frame = frame; spelled = c.encode.ensures }));
+      spelled = λ all. subst (Every (λ b. IsFrameBytes b.items)) (sym items)
+          (every_push (λ b. IsFrameBytes b.items) before bytes (so_far.spelled all) (record { frame = frame; spelled = c.encode.ensures }));
       frames =
           ap (λ sent. map (λ b. frame_in b.items) sent ++ rest) items
           ∙ ap (λ seen. seen ++ rest) (frame_sent (λ b. b.items) before bytes frame c.encode.ensures)

@@ -1,5 +1,5 @@
 use Rattle.std.proofs.Common.{◌≡◌, None}
-use Rattle.schedule_player.specs.Numbered.{copies}
+use Rattle.schedule_player.specs.OneBased.{copies}
 use Rattle.schedule_player.proofs.node.empty_hands.Given as goal
 
 abbrev pub invariant-loop : goal.invariant-loop

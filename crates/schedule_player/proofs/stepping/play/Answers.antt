@@ -1,9 +1,9 @@
 use Rattle.std.proofs.Common.{◌≡◌, ◌<◌, ◌+◌, suc, [], ◌∷◌, ◌++◌, length, take, sym, ap, subst, ◌∙◌, arith}
 use Rattle.std.proofs.lemmas.List.{length-append, take_all}
 use Rattle.sb_replica.proofs.IdleReplies.{take_one_more}
-use Rattle.schedule_player.specs.Played.{Plays}
+use Rattle.schedule_player.specs.EventLists.{PlaysEvents}
 use Rattle.schedule_player.proofs.Lists.{get_here}
-use Rattle.schedule_player.proofs.Playing.{plays_more, played_on}
+use Rattle.schedule_player.proofs.EventLists.{plays_more, played_on}
 use Rattle.schedule_player.proofs.stepping.play.Goals as goal
 
 pub loop-done-preserved : goal.loop-done-preserved
@@ -19,8 +19,8 @@ loop-done-preserved c =
     ap (λ n. take n events) next ∙ take_one_more events done event (get_here events done event within c.index-events-done.is) in
     record {
       plays =
-          subst (λ notes. Plays c.args.world.now (take (done + 1) events) notes c.step.new.self) (sym items)
-          (subst (λ es. Plays c.args.world.now es (c.loop-done.notes.items ++ c.in-Ok.note ∷ []) c.step.new.self) (sym longer)
+          subst (λ notes. PlaysEvents c.args.world.now (take (done + 1) events) notes c.step.new.self) (sym items)
+          (subst (λ es. PlaysEvents c.args.world.now es (c.loop-done.notes.items ++ c.in-Ok.note ∷ []) c.step.new.self) (sym longer)
           (plays_more c.args.world.now (take done events) c.loop-done.notes.items c.loop-done.world event c.in-Ok.note c.step.new.self
           so_far.plays c.in-Ok.ensures.moves));
       count =
@@ -37,4 +37,4 @@ returns-clause-played c schedule played =
     let all : take c.loop-done.done events ≡ events =
     take_all c.loop-done.done events (omega (arith, c.loop-done-test.false, c.loop-done.auto.done-end)) in
     played_on schedule c.args.world.now events c.loop-done.notes.items c.loop-done.world played
-    (subst (λ es. Plays c.args.world.now es c.loop-done.notes.items c.loop-done.world) all c.loop-done.invariant.plays)
+    (subst (λ es. PlaysEvents c.args.world.now es c.loop-done.notes.items c.loop-done.world) all c.loop-done.invariant.plays)

@@ -1,5 +1,5 @@
 use Rattle.std.proofs.Common.{rules, ◌≡◌, ◌≢◌, ◌++◌, ◌∷◌, string_bytes, ℕ, List, None, length}
-use Rattle.smallbank.proofs.Looking.{next_word, same_word, later_word, only_later, last_word, no_word}
+use Rattle.smallbank.proofs.OptionSearch.{next_word, same_word, later_word, only_later, last_word, no_word}
 use Rattle.smallbank.proofs.options.value.Goals as goal
 
 pub returns-in_err-next : goal.returns-in_err-next

@@ -1,7 +1,7 @@
 use Rattle.std.proofs.Common.{◌≡◌, ◌++◌, ◌∷◌, [], ℕ, List, sym, ap, subst, ◌∙◌, append-nil}
 use Rattle.std.specs.Prelude.{decimal}
 use Rattle.std.specs.Io.KnownBytes.{Appends}
-use Rattle.smallbank.specs.Served.{port_line}
+use Rattle.smallbank.specs.ServeOutput.{port_line}
 use Rattle.smallbank.proofs.printing.print_port.Goals as goal
 
 pub returns-clause-printed : goal.returns-clause-printed

@@ -4,5 +4,5 @@ use Rattle.std.specs.List.{All}
 use Rattle.sb_calls.specs.Replies.{IsReply}
 use Rattle.store_bench.proofs.checkpoints.all_replies.Given as goal
 
-abbrev pub invariant-loop-place : goal.invariant-loop-place
-invariant-loop-place l = (length l.replies.items ≡ l.place) × All IsReply l.replies.items
+abbrev pub invariant-loop-index : goal.invariant-loop-index
+invariant-loop-index l = (length l.replies.items ≡ l.index) × All IsReply l.replies.items

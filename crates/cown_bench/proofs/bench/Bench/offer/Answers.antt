@@ -1,4 +1,4 @@
-use Rattle.cown_bench.proofs.Moves.{offers_as}
+use Rattle.cown_bench.proofs.RuleSteps.{offers_as}
 use Rattle.cown_bench.proofs.bench.Bench.offer.Goals as goal
 
 pub push_as-requires-clause-rule : goal.push_as-requires-clause-rule

@@ -1,7 +1,7 @@
 use Rattle.std.proofs.Common.{Some, Ok, sym, subst, ◌∙◌}
-use Rattle.cown_board.proofs.PlayedCalls.{played_cut, played_pending, played_uncopied}
+use Rattle.cown_board.proofs.CallEffects.{played_cut, played_pending, played_uncopied}
 use Rattle.cown_board.specs.Board.{BoardOf}
-use Rattle.cown_board.specs.Played.{StaysTrueToLog, CutMade}
+use Rattle.cown_board.specs.BoardCalls.{StaysTrueToLog, CutMade}
 use Rattle.cown_board.proofs.board.Board.cut.Goals as goal
 
 pub returns-in-Some-clause-played : goal.returns-in-Some-clause-played

@@ -1,6 +1,6 @@
 use Rattle.std.proofs.Common.{sym}
-use Rattle.cown_board.proofs.PlayedCalls.{played_dropped}
-use Rattle.cown_board.proofs.TakenJob.{seen}
+use Rattle.cown_board.proofs.CallEffects.{played_dropped}
+use Rattle.cown_board.proofs.JobTake.{seen}
 use Rattle.cown_board.proofs.board.Board.drop_cut.Goals as goal
 
 pub returns-clause-played : goal.returns-clause-played

@@ -2,16 +2,16 @@ use Rattle.std.proofs.Common.{◌≡◌, ◌≤◌, true, false, Some, Err, leng
 use Rattle.std.specs.Prelude.{IfSome, slice_get}
 use Rattle.std.proofs.lemmas.Bool.{both_ways}
 use Rattle.std.proofs.lemmas.Option.{slice_get_read}
-use Rattle.sb_calls.specs.Cowns.{AreBelow, AreHeld, held_of, write_cowns}
+use Rattle.sb_calls.specs.Cowns.{AreBelow, AreCownValues, contents_of, write_cowns}
 use Rattle.cown_queue.specs.Queues.{IsInFront, Releases, fronts_of}
-use Rattle.cown_board.proofs.FinishedJob.{not_numbered, not_inside, refused_done, accepted_done, released_in_front, some_unfinished, outputs_held, board_finished, fronts_behind, room_for_fronts, cowns_of_cut, unfinished_in_cut, finishes_from}
-use Rattle.cown_board.proofs.TakenJob.{declared_in_held, seen}
+use Rattle.cown_board.proofs.JobFinish.{not_numbered, not_inside, refused_done, accepted_done, released_in_front, some_unfinished, outputs_held, board_finished, fronts_behind, room_for_fronts, cowns_of_cut, unfinished_in_cut, finishes_from}
+use Rattle.cown_board.proofs.JobTake.{declared_in_held, seen}
 use Rattle.cown_board.proofs.LogLaws.{injective}
-use Rattle.cown_board.proofs.PlayedCalls.{played_refused, played_finished}
+use Rattle.cown_board.proofs.CallEffects.{played_refused, played_finished}
 use Rattle.cown_board.specs.Board.{BoardOf, IsOutHere}
-use Rattle.cown_board.specs.Links.{ComesForward}
-use Rattle.cown_board.specs.Noted.{AreNoted}
-use Rattle.cown_board.specs.Played.{StaysTrueToLog, Returned}
+use Rattle.cown_board.specs.inner.Links.{ComesForward}
+use Rattle.cown_board.specs.inner.CutUpdates.{UpdatesAnyCut}
+use Rattle.cown_board.specs.BoardCalls.{StaysTrueToLog, Returned}
 use Rattle.cown_board.proofs.board.Board.finish.Goals as goal
 
 pub returns-in_default-clause-accepted : goal.returns-in_default-clause-accepted
@@ -34,7 +34,7 @@ returns-then-not-is_out_at-clause-accepted g c =
     let board = c.self.invariant in
     let done = c.args.done in
     subst (λ (v : BoardOf g.row.B.Denot). (false ≡ true → IsOutHere touches effect v done) × (IsOutHere touches effect v done → false ≡ true)) c.self.view_is
-    (refused_done touches effect board done (not_inside touches effect board c.in-Some.place done (sym c.number-number.ensures ∙ c.in-Some.ensures.1)
+    (refused_done touches effect board done (not_inside touches effect board c.in-Some.position done (sym c.number-number.ensures ∙ c.in-Some.ensures.1)
     (λ inside. both_ways c.is_out_at.result c.if-not-is_out_at.true (c.is_out_at.ensures.1 inside))))
 
 pub finish-requires-clause-front : goal.finish-requires-clause-front
@@ -42,13 +42,13 @@ finish-requires-clause-front g c linked =
     let touches = g.B.Behaviour.touches in
     let log = c.self.inside.log.items in
     let inside = c.is_out_at.ensures.0 c.if-not-is_out_at.false in
-    let here : slice_get log c.in-Some.place ≡ Some c.index.result.now =
-    slice_get_read log (length log) c.in-Some.place c.index.result.now refl
+    let here : slice_get log c.in-Some.position ≡ Some c.index.result.now =
+    slice_get_read log (length log) c.in-Some.position c.index.result.now refl
     (omega (arith, c.in-Some.ensures.0, c.len.ensures, c.self.inside.log.ok)) c.index.ensures in
     let same : c.index.result.now ≡ c.args.done.behaviour = injective (sym here ∙ inside.1) in
     let declared : c.as_slice.result.now ≡ touches c.args.done.behaviour = c.as_slice.ensures.value ∙ c.cowns-cowns.ensures ∙ ap touches same in
-    subst (λ cowns. IsInFront c.in-Some.place cowns c.self.inside.links.queues.lists) (sym declared)
-    (released_in_front touches g.B.Behaviour.effect c.self.invariant c.in-Some.place c.args.done (sym c.number-number.ensures ∙ c.in-Some.ensures.1) inside
+    subst (λ cowns. IsInFront c.in-Some.position cowns c.self.inside.links.queues.lists) (sym declared)
+    (released_in_front touches g.B.Behaviour.effect c.self.invariant c.in-Some.position c.args.done (sym c.number-number.ensures ∙ c.in-Some.ensures.1) inside
     linked)
 
 pub finish-requires-clause-behind : goal.finish-requires-clause-behind
@@ -56,19 +56,19 @@ finish-requires-clause-behind g c linked new released k =
     let touches = g.B.Behaviour.touches in
     let log = c.self.inside.log.items in
     let inside = c.is_out_at.ensures.0 c.if-not-is_out_at.false in
-    let here : slice_get log c.in-Some.place ≡ Some c.index.result.now =
-    slice_get_read log (length log) c.in-Some.place c.index.result.now refl
+    let here : slice_get log c.in-Some.position ≡ Some c.index.result.now =
+    slice_get_read log (length log) c.in-Some.position c.index.result.now refl
     (omega (arith, c.in-Some.ensures.0, c.len.ensures, c.self.inside.log.ok)) c.index.ensures in
     let same : c.index.result.now ≡ c.args.done.behaviour = injective (sym here ∙ inside.1) in
     let declared : c.as_slice.result.now ≡ touches c.args.done.behaviour = c.as_slice.ensures.value ∙ c.cowns-cowns.ensures ∙ ap touches same in
-    rw declared (fronts_behind touches g.B.Behaviour.effect c.self.invariant c.in-Some.place c.args.done
+    rw declared (fronts_behind touches g.B.Behaviour.effect c.self.invariant c.in-Some.position c.args.done
     (sym c.number-number.ensures ∙ c.in-Some.ensures.1) inside g.met.B.Behaviour.rising c.into_effect-reply.result.0 linked new
     (subst (λ cowns. Releases cowns c.self.inside.links.queues.lists new) declared released) k)
 
 pub finish-requires-clause-room : goal.finish-requires-clause-room
 finish-requires-clause-room g c =
     let inside = c.is_out_at.ensures.0 c.if-not-is_out_at.false in
-    let room = room_for_fronts g.B.Behaviour.touches g.B.Behaviour.effect c.self.invariant c.in-Some.place c.args.done
+    let room = room_for_fronts g.B.Behaviour.touches g.B.Behaviour.effect c.self.invariant c.in-Some.position c.args.done
     (sym c.number-number.ensures ∙ c.in-Some.ensures.1) inside in
     omega (arith, room, c.self.inside.links.ready.ready.ok)
 
@@ -76,64 +76,64 @@ pub write_cowns-requires-clause-cowns : goal.write_cowns-requires-clause-cowns
 write_cowns-requires-clause-cowns g c =
     let touches = g.B.Behaviour.touches in
     let log = c.self.inside.log.items in
-    let here : slice_get log c.in-Some.place ≡ Some c.index.result.now =
-    slice_get_read log (length log) c.in-Some.place c.index.result.now refl
+    let here : slice_get log c.in-Some.position ≡ Some c.index.result.now =
+    slice_get_read log (length log) c.in-Some.position c.index.result.now refl
     (omega (arith, c.in-Some.ensures.0, c.len.ensures, c.self.inside.log.ok)) c.index.ensures in
-    subst (AreBelow (length (held_of c.self.inside.columns))) (sym (c.as_slice-2.ensures.value ∙ c.cowns-cowns.ensures))
-    (declared_in_held touches g.B.Behaviour.effect c.self.invariant c.in-Some.place c.index.result.now here)
+    subst (AreBelow (length (contents_of c.self.inside.columns))) (sym (c.as_slice-2.ensures.value ∙ c.cowns-cowns.ensures))
+    (declared_in_held touches g.B.Behaviour.effect c.self.invariant c.in-Some.position c.index.result.now here)
 
 pub write_cowns-requires-clause-values : goal.write_cowns-requires-clause-values
 write_cowns-requires-clause-values g c =
     let touches = g.B.Behaviour.touches in
     let log = c.self.inside.log.items in
     let inside = c.is_out_at.ensures.0 c.if-not-is_out_at.false in
-    let here : slice_get log c.in-Some.place ≡ Some c.index.result.now =
-    slice_get_read log (length log) c.in-Some.place c.index.result.now refl
+    let here : slice_get log c.in-Some.position ≡ Some c.index.result.now =
+    slice_get_read log (length log) c.in-Some.position c.index.result.now refl
     (omega (arith, c.in-Some.ensures.0, c.len.ensures, c.self.inside.log.ok)) c.index.ensures in
     let same : c.index.result.now ≡ c.args.done.behaviour = injective (sym here ∙ inside.1) in
-    subst (λ cowns. AreHeld cowns c.as_slice-3.result.now) (sym (c.as_slice-2.ensures.value ∙ c.cowns-cowns.ensures ∙ ap touches same))
-    (outputs_held touches g.B.Behaviour.effect c.self.invariant c.in-Some.place c.args.done
-    (sym c.number-number.ensures ∙ c.in-Some.ensures.1) inside g.met.B.Behaviour.keeps
+    subst (λ cowns. AreCownValues cowns c.as_slice-3.result.now) (sym (c.as_slice-2.ensures.value ∙ c.cowns-cowns.ensures ∙ ap touches same))
+    (outputs_held touches g.B.Behaviour.effect c.self.invariant c.in-Some.position c.args.done
+    (sym c.number-number.ensures ∙ c.in-Some.ensures.1) inside g.met.B.Behaviour.valid_outputs
     c.as_slice-3.result.now (c.as_slice-3.ensures.value ∙ c.into_effect-reply.ensures.outputs))
 
-pub note_finished-requires-clause-cowns : goal.note_finished-requires-clause-cowns
-note_finished-requires-clause-cowns g c =
+pub update_cut-requires-clause-cowns : goal.update_cut-requires-clause-cowns
+update_cut-requires-clause-cowns g c =
     let touches = g.B.Behaviour.touches in
     let log = c.self.inside.log.items in
     let inside = c.is_out_at.ensures.0 c.if-not-is_out_at.false in
-    let here : slice_get log c.in-Some.place ≡ Some c.index.result.now =
-    slice_get_read log (length log) c.in-Some.place c.index.result.now refl
+    let here : slice_get log c.in-Some.position ≡ Some c.index.result.now =
+    slice_get_read log (length log) c.in-Some.position c.index.result.now refl
     (omega (arith, c.in-Some.ensures.0, c.len.ensures, c.self.inside.log.ok)) c.index.ensures in
     let same : c.index.result.now ≡ c.args.done.behaviour = injective (sym here ∙ inside.1) in
-    subst (λ cowns. IfSome c.self.inside.cut (λ cut. AreBelow (length (held_of cut.columns)) cowns))
+    subst (λ cowns. IfSome c.self.inside.cut (λ cut. AreBelow (length (contents_of cut.columns)) cowns))
     (sym (c.as_slice-4.ensures.value ∙ c.cowns-cowns.ensures ∙ ap touches same))
-    (cowns_of_cut touches g.B.Behaviour.effect c.self.invariant c.in-Some.place c.args.done (sym c.number-number.ensures ∙ c.in-Some.ensures.1) inside)
+    (cowns_of_cut touches g.B.Behaviour.effect c.self.invariant c.in-Some.position c.args.done (sym c.number-number.ensures ∙ c.in-Some.ensures.1) inside)
 
-pub note_finished-requires-clause-unfinished : goal.note_finished-requires-clause-unfinished
-note_finished-requires-clause-unfinished g c =
+pub update_cut-requires-clause-unfinished : goal.update_cut-requires-clause-unfinished
+update_cut-requires-clause-unfinished g c =
     let inside = c.is_out_at.ensures.0 c.if-not-is_out_at.false in
     subst (λ number. IfSome c.self.inside.cut (λ cut. number ≤ cut.number → 1 ≤ cut.unfinished)) (sym c.number-number.ensures)
-    (unfinished_in_cut g.B.Behaviour.touches g.B.Behaviour.effect c.self.invariant c.in-Some.place c.args.done
+    (unfinished_in_cut g.B.Behaviour.touches g.B.Behaviour.effect c.self.invariant c.in-Some.position c.args.done
     (sym c.number-number.ensures ∙ c.in-Some.ensures.1) inside)
 
-pub note_finished-requires-clause-values : goal.note_finished-requires-clause-values
-note_finished-requires-clause-values g c =
+pub update_cut-requires-clause-values : goal.update_cut-requires-clause-values
+update_cut-requires-clause-values g c =
     let touches = g.B.Behaviour.touches in
     let log = c.self.inside.log.items in
     let inside = c.is_out_at.ensures.0 c.if-not-is_out_at.false in
-    let here : slice_get log c.in-Some.place ≡ Some c.index.result.now =
-    slice_get_read log (length log) c.in-Some.place c.index.result.now refl
+    let here : slice_get log c.in-Some.position ≡ Some c.index.result.now =
+    slice_get_read log (length log) c.in-Some.position c.index.result.now refl
     (omega (arith, c.in-Some.ensures.0, c.len.ensures, c.self.inside.log.ok)) c.index.ensures in
     let same : c.index.result.now ≡ c.args.done.behaviour = injective (sym here ∙ inside.1) in
-    subst (λ cowns. AreHeld cowns c.as_slice-5.result.now) (sym (c.as_slice-4.ensures.value ∙ c.cowns-cowns.ensures ∙ ap touches same))
-    (outputs_held touches g.B.Behaviour.effect c.self.invariant c.in-Some.place c.args.done
-    (sym c.number-number.ensures ∙ c.in-Some.ensures.1) inside g.met.B.Behaviour.keeps
+    subst (λ cowns. AreCownValues cowns c.as_slice-5.result.now) (sym (c.as_slice-4.ensures.value ∙ c.cowns-cowns.ensures ∙ ap touches same))
+    (outputs_held touches g.B.Behaviour.effect c.self.invariant c.in-Some.position c.args.done
+    (sym c.number-number.ensures ∙ c.in-Some.ensures.1) inside g.met.B.Behaviour.valid_outputs
     c.as_slice-5.result.now (c.as_slice-5.ensures.value ∙ c.into_effect-reply.ensures.outputs))
 
 pub overflow_sub-self : goal.overflow_sub-self
 overflow_sub-self g c =
     let inside = c.is_out_at.ensures.0 c.if-not-is_out_at.false in
-    some_unfinished g.B.Behaviour.touches g.B.Behaviour.effect c.self.invariant c.in-Some.place c.args.done
+    some_unfinished g.B.Behaviour.touches g.B.Behaviour.effect c.self.invariant c.in-Some.position c.args.done
     (sym c.number-number.ensures ∙ c.in-Some.ensures.1) inside
 
 pub invariant_of-self : goal.invariant_of-self
@@ -141,8 +141,8 @@ invariant_of-self g c =
     let touches = g.B.Behaviour.touches in
     let log = c.self.inside.log.items in
     let inside = c.is_out_at.ensures.0 c.if-not-is_out_at.false in
-    let here : slice_get log c.in-Some.place ≡ Some c.index.result.now =
-    slice_get_read log (length log) c.in-Some.place c.index.result.now refl
+    let here : slice_get log c.in-Some.position ≡ Some c.index.result.now =
+    slice_get_read log (length log) c.in-Some.position c.index.result.now refl
     (omega (arith, c.in-Some.ensures.0, c.len.ensures, c.self.inside.log.ok)) c.index.ensures in
     let same : c.index.result.now ≡ c.args.done.behaviour = injective (sym here ∙ inside.1) in
     let declared : c.as_slice.result.now ≡ touches c.args.done.behaviour = c.as_slice.ensures.value ∙ c.cowns-cowns.ensures ∙ ap touches same in
@@ -150,19 +150,19 @@ invariant_of-self g c =
     let fourth : c.as_slice-4.result.now ≡ touches c.args.done.behaviour = c.as_slice-4.ensures.value ∙ c.cowns-cowns.ensures ∙ ap touches same in
     let third = c.as_slice-3.ensures.value in
     let links = c.finish.new.self in
-    board_finished touches g.B.Behaviour.effect c.self.invariant c.in-Some.place c.args.done
-    (sym c.number-number.ensures ∙ c.in-Some.ensures.1) inside g.met.B.Behaviour.keeps g.met.B.Behaviour.rising
+    board_finished touches g.B.Behaviour.effect c.self.invariant c.in-Some.position c.args.done
+    (sym c.number-number.ensures ∙ c.in-Some.ensures.1) inside g.met.B.Behaviour.valid_outputs g.met.B.Behaviour.rising
     c.into_effect-reply.result.0 c.as_slice-3.result.now c.write_cowns.new.columns links
     c.into_effect-reply.ensures.reply (third ∙ c.into_effect-reply.ensures.outputs)
-    (c.write_cowns.ensures ∙ ap (λ cowns. write_cowns (held_of c.self.inside.columns) cowns c.as_slice-3.result.now) again)
-    c.finish.ensures.linked c.finish.ensures.stay
+    (c.write_cowns.ensures ∙ ap (λ cowns. write_cowns (contents_of c.self.inside.columns) cowns c.as_slice-3.result.now) again)
+    c.finish.ensures.linked c.finish.ensures.unchanged
     (λ is. subst (λ cowns. Releases cowns c.self.inside.links.queues.lists links.queues.lists) declared (c.finish.ensures.released is))
     (λ is. subst (λ cowns. ComesForward (fronts_of links.queues.lists cowns) c.self.inside.links.ready links.ready) declared (c.finish.ensures.forward is))
-    c.finish.ensures.room c.note_finished.new.cut
-    (subst (λ number. AreNoted number (touches c.args.done.behaviour) c.as_slice-3.result.now c.self.inside.cut c.note_finished.new.cut) c.number-number.ensures
-    (subst (λ cowns. AreNoted c.number-number.result cowns c.as_slice-3.result.now c.self.inside.cut c.note_finished.new.cut) fourth
-    (subst (λ values. AreNoted c.number-number.result c.as_slice-4.result.now values c.self.inside.cut c.note_finished.new.cut)
-    (c.as_slice-5.ensures.value ∙ sym third) c.note_finished.ensures)))
+    c.finish.ensures.room c.update_cut.new.cut
+    (subst (λ number. UpdatesAnyCut number (touches c.args.done.behaviour) c.as_slice-3.result.now c.self.inside.cut c.update_cut.new.cut) c.number-number.ensures
+    (subst (λ cowns. UpdatesAnyCut c.number-number.result cowns c.as_slice-3.result.now c.self.inside.cut c.update_cut.new.cut) fourth
+    (subst (λ values. UpdatesAnyCut c.number-number.result c.as_slice-4.result.now values c.self.inside.cut c.update_cut.new.cut)
+    (c.as_slice-5.ensures.value ∙ sym third) c.update_cut.ensures)))
 
 pub returns-clause-accepted : goal.returns-clause-accepted
 returns-clause-accepted g c =
@@ -171,16 +171,16 @@ returns-clause-accepted g c =
     let done = c.args.done in
     let inside = c.is_out_at.ensures.0 c.if-not-is_out_at.false in
     subst (λ (v : BoardOf g.row.B.Denot). (true ≡ true → IsOutHere touches effect v done) × (IsOutHere touches effect v done → true ≡ true)) c.self.view_is
-    (accepted_done touches effect c.self.invariant c.in-Some.place done (sym c.number-number.ensures ∙ c.in-Some.ensures.1) inside)
+    (accepted_done touches effect c.self.invariant c.in-Some.position done (sym c.number-number.ensures ∙ c.in-Some.ensures.1) inside)
 
 pub returns-clause-outcome : goal.returns-clause-outcome
 returns-clause-outcome g c =
     let touches = g.B.Behaviour.touches in
     let effect = g.B.Behaviour.effect in
     let inside = c.is_out_at.ensures.0 c.if-not-is_out_at.false in
-    let finished = finishes_from touches effect c.self.invariant c.in-Some.place c.args.done
+    let finished = finishes_from touches effect c.self.invariant c.in-Some.position c.args.done
     (sym c.number-number.ensures ∙ c.in-Some.ensures.1) inside c.into_effect-reply.result.0 c.into_effect-reply.ensures.reply
-    c.number-number.result c.as_slice-4.result.now c.as_slice-5.result.now c.note_finished.new.cut c.note_finished.ensures in
+    c.number-number.result c.as_slice-4.result.now c.as_slice-5.result.now c.update_cut.new.cut c.update_cut.ensures in
     rw (sym c.self.view_is) finished
 
 pub returns-in_default-clause-played : goal.returns-in_default-clause-played
@@ -201,7 +201,7 @@ returns-then-not-is_out_at-clause-played g c =
     let done = c.args.done in
     subst (λ (v : BoardOf g.row.B.Denot). StaysTrueToLog touches effect v (Returned done (Err done)) v) c.self.view_is
     (played_refused touches effect (seen touches effect board) done
-    (not_inside touches effect board c.in-Some.place done (sym c.number-number.ensures ∙ c.in-Some.ensures.1)
+    (not_inside touches effect board c.in-Some.position done (sym c.number-number.ensures ∙ c.in-Some.ensures.1)
     (λ inside. both_ways c.is_out_at.result c.if-not-is_out_at.true (c.is_out_at.ensures.1 inside))))
 
 pub returns-clause-played : goal.returns-clause-played
@@ -209,7 +209,7 @@ returns-clause-played g c =
     let touches = g.B.Behaviour.touches in
     let effect = g.B.Behaviour.effect in
     let inside = c.is_out_at.ensures.0 c.if-not-is_out_at.false in
-    let finished = finishes_from touches effect c.self.invariant c.in-Some.place c.args.done
+    let finished = finishes_from touches effect c.self.invariant c.in-Some.position c.args.done
     (sym c.number-number.ensures ∙ c.in-Some.ensures.1) inside c.into_effect-reply.result.0 c.into_effect-reply.ensures.reply
-    c.number-number.result c.as_slice-4.result.now c.as_slice-5.result.now c.note_finished.new.cut c.note_finished.ensures in
+    c.number-number.result c.as_slice-4.result.now c.as_slice-5.result.now c.update_cut.new.cut c.update_cut.ensures in
     rw (sym c.self.view_is) (played_finished touches effect finished)

@@ -1,11 +1,11 @@
 use Rattle.std.proofs.Common.{rules, ◌≤◌, ◌≡◌, ◌+◌, ◌*◌, true, false, vec_capacity, Err, ◌++◌, ◌∷◌, [], List, length, ap, sym, ◌∙◌, subst, arith}
 use Rattle.std.specs.VecDeque.{deque_capacity}
-use Rattle.sb_calls.specs.Cowns.{AreBelow, held_of}
+use Rattle.sb_calls.specs.Cowns.{AreBelow, contents_of}
 use Rattle.cown_board.specs.Board.{BoardOf}
-use Rattle.cown_board.proofs.Changes.{IsBoard-pushed, few_ready, links_submitted}
-use Rattle.cown_board.proofs.PlayedCalls.{played_busy, played_full, played_no_memory, played_put}
-use Rattle.cown_board.specs.Links.{Stands, Stay}
-use Rattle.cown_board.specs.Played.{StaysTrueToLog, Submitted}
+use Rattle.cown_board.proofs.BoardSteps.{IsBoard-pushed, few_ready, links_submitted}
+use Rattle.cown_board.proofs.CallEffects.{played_busy, played_full, played_no_memory, played_put}
+use Rattle.cown_board.specs.inner.Links.{AddsToLinks, LeavesLinks}
+use Rattle.cown_board.specs.BoardCalls.{StaysTrueToLog, Submitted}
 use Rattle.cown_board.specs.declared.board.SubmitFault.TheVariants.{Busy, LogFull}
 use Rattle.cown_board.specs.declared.state.State.TheVariants.{Waiting}
 use Rattle.cown_board.proofs.board.Board.submit.Goals as goal
@@ -22,19 +22,19 @@ invariant_of-self-2 g c =
     let room = c.make_room.ensures in
     let links = c.self.inside.links in
     let new = c.submit.new.self in
-    let place : c.len-place.result ≡ length c.self.inside.log.items = omega (arith, c.len-place.ensures, room.log.1, c.self.inside.log.ok) in
-    let below : AreBelow (length (held_of c.self.inside.opening)) (touches c.args.behaviour) =
-    subst (λ (v : BoardOf g.row.B.Denot). AreBelow (length (held_of v.opening)) (touches c.args.behaviour)) (sym c.self.view_is) c.requires in
-    let put : links.linked ≡ true → Stands c.len-place.result (touches c.args.behaviour) links new = search rules in
-    let stay : links.linked ≡ false → Stay links new × ((c.self.inside.unfinished + 1) * 3 ≤ new.queues.places) = search rules in
-    let counts : c.len-place.result + 1 ≤ vec_capacity new.ready.behind = search rules in
+    let position : c.len-position.result ≡ length c.self.inside.log.items = omega (arith, c.len-position.ensures, room.log.1, c.self.inside.log.ok) in
+    let below : AreBelow (length (contents_of c.self.inside.opening)) (touches c.args.behaviour) =
+    subst (λ (v : BoardOf g.row.B.Denot). AreBelow (length (contents_of v.opening)) (touches c.args.behaviour)) (sym c.self.view_is) c.requires in
+    let put : links.linked ≡ true → AddsToLinks c.len-position.result (touches c.args.behaviour) links new = search rules in
+    let stay : links.linked ≡ false → LeavesLinks links new × ((c.self.inside.unfinished + 1) * 3 ≤ new.queues.places) = search rules in
+    let counts : c.len-position.result + 1 ≤ vec_capacity new.ready.behind = search rules in
     let wide : c.self.inside.unfinished + 1 + 3 ≤ deque_capacity new.ready.ready = search rules in
     IsBoard-pushed touches effect c.self.invariant c.args.behaviour c.push_reserved.new.self.items c.push_reserved-2.new.self.items new below
     (c.push_reserved.ensures.items ∙ ap (λ (xs : List g.row.B.Denot). xs ++ c.args.behaviour ∷ []) room.log.0)
     (c.push_reserved-2.ensures.items ∙ ap (λ xs. xs ++ Waiting ∷ []) room.states.0)
     (links_submitted touches effect c.self.invariant c.args.behaviour new below c.submit.ensures.linked
-    (λ is. subst (λ n. Stands n (touches c.args.behaviour) links new) place (put is))
-    stay (omega (arith, counts, place)) wide)
+    (λ is. subst (λ n. AddsToLinks n (touches c.args.behaviour) links new) position (put is))
+    stay (omega (arith, counts, position)) wide)
     c.if-self-eq-OPEN_BEHAVIOURS.false
     (λ full. c.if-self-len-eq-LOG_CALLS.false (omega (arith, full, c.len.ensures, c.self.inside.log.ok)))
 
@@ -79,6 +79,6 @@ returns-clause-played g c =
     let pushed = c.push_reserved.ensures.items ∙ ap (λ (xs : List g.row.B.Denot). xs ++ c.args.behaviour ∷ []) room.log.0 in
     let waits = c.push_reserved-2.ensures.items ∙ ap (λ xs. xs ++ Waiting ∷ []) room.states.0 in
     rw (pushed, waits, sym c.self.view_is)
-    (played_put touches effect c.self.invariant c.args.behaviour (c.self.inside.base + c.len-place.result + 1) c.if-self-eq-OPEN_BEHAVIOURS.false
+    (played_put touches effect c.self.invariant c.args.behaviour (c.self.inside.base + c.len-position.result + 1) c.if-self-eq-OPEN_BEHAVIOURS.false
     (λ full. c.if-self-len-eq-LOG_CALLS.false (omega (arith, full, c.len.ensures, c.self.inside.log.ok)))
-    (omega (arith, c.len-place.ensures, room.log.1, c.self.inside.log.ok)))
+    (omega (arith, c.len-position.ensures, room.log.1, c.self.inside.log.ok)))

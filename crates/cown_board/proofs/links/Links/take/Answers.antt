@@ -1,10 +1,11 @@
 use Rattle.std.proofs.Common.{◌≡◌, ◌-◌, ◌<◌, Some, length, true, refl, sym, ap, ◌∙◌, subst, arith}
 use Rattle.std.specs.Prelude.{slice_get}
 use Rattle.std.proofs.lemmas.Option.{slice_get_read}
-use Rattle.cown_board.proofs.Listed.{taken}
-use Rattle.cown_board.proofs.Unlinked.{first_ready, links_first, none_ready}
-use Rattle.cown_board.specs.Readiness.{ready_places}
-use Rattle.cown_board.specs.State.{is_waiting, state_is, waiting_at}
+use Rattle.cown_board.proofs.ReadyListLaws.{taken}
+use Rattle.cown_board.proofs.UnlinkedBoards.{first_ready, links_first, none_ready}
+use Rattle.cown_board.specs.Readiness.{ready_positions}
+use Rattle.cown_board.specs.State.{is_waiting, state_is}
+use Rattle.cown_board.specs.inner.StateTests.{waiting_at}
 use Rattle.cown_board.proofs.links.Links.take.Goals as goal
 
 pub returns-then-self-clause-outcome : goal.returns-then-self-clause-outcome
@@ -36,7 +37,7 @@ returns-then-waits-clause-outcome g c =
     let read : slice_get states first ≡ Some c.index.result.now =
     slice_get_read states (length states) first c.index.result.now refl (omega (arith, within, c.requires.beside)) c.index.ensures in
     let waits : waiting_at states first ≡ true = ap (state_is is_waiting) read ∙ sym c.waits.ensures ∙ c.if-waits.true in (
-      subst (λ i. slice_get (ready_places touches log states) i ≡ Some first) (sym c.if-index-eq0.true)
+      subst (λ i. slice_get (ready_positions touches log states) i ≡ Some first) (sym c.if-index-eq0.true)
           (first_ready touches log states first within (λ k lt. known.1.before k (omega (arith, lt, here))) waits),
       links_first touches g.B.Behaviour.effect log states c.args.unfinished cowns first c.args.self.now c.requires.links c.if-self.false here waits,
     )
@@ -45,7 +46,7 @@ pub returns-clause-outcome : goal.returns-clause-outcome
 returns-clause-outcome g c =
     let links = c.link.new.self in
     let cowns = length c.args.self.now.queues.lists in
-    taken g.B.Behaviour.touches g.B.Behaviour.effect c.args.log.now.items c.args.states.now.items cowns links c.link.ensures.all c.requires.cowns
+    taken g.B.Behaviour.touches g.B.Behaviour.effect c.args.log.now.items c.args.states.now.items cowns links c.link.ensures.all_linked c.requires.cowns
     c.take-2.result c.args.index c.args.unfinished (record links { ready = c.take-2.new.self }) c.link.ensures.linked refl
     (ap (λ b. b.items) c.take-2.ensures.behind)
     (λ some. let room = c.requires.links.room some in omega (arith, room, c.take-2.ensures.room, c.link.ensures.room)) c.take-2.ensures.outcome

@@ -1,6 +1,6 @@
 use Rattle.std.proofs.Common.{◌+◌, vec_capacity, sym, ap, ◌∙◌, arith}
 use Rattle.std.proofs.lemmas.List.{length_push}
-use Rattle.cown_queue.proofs.Linked.{AreTickets-linked, lists_of-linked, linked_more}
+use Rattle.cown_queue.proofs.ChainsOfCowns.{AreTickets-linked, lists_of-linked, linked_more}
 use Rattle.cown_queue.proofs.tickets.Tickets.add_places.Goals as goal
 
 pub invariant_of-self-in-loop-place : goal.invariant_of-self-in-loop-place

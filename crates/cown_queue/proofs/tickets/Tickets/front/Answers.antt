@@ -1,6 +1,6 @@
 use Rattle.std.proofs.Common.{◌≡◌, ◌<◌, ◌≤◌, Option, Some, None, slice_get, ℕ, length, sym, ap, ◌∙◌, subst, arith}
 use Rattle.cown_queue.proofs.TicketSteps.{ends_read, front_none, front_some, ticket_read}
-use Rattle.cown_queue.specs.Chains.{TicketLists, ends_at}
+use Rattle.cown_queue.specs.inner.Chains.{TicketLists, ends_at}
 use Rattle.cown_queue.specs.Queues.{list_of}
 use Rattle.cown_queue.proofs.tickets.Tickets.front.Goals as goal
 use Rattle.cown_queue.proofs.tickets.Tickets.front.Goals.{In_ok-first}
@@ -8,9 +8,9 @@ use Rattle.cown_queue.proofs.tickets.Tickets.front.Goals.{In_ok-first}
 -- the ends that were read are those of the cown
 at_cown : (c : In_ok-first) → (c.args.cown < length c.self.inside.ends.items) × (c.in_ok-first.field-0.now ≡ ends_at c.self.inside.ends.items c.args.cown)
 at_cown c =
-    let read = rw (c.deref.ensures.value, c.number.ensures) at c.in_ok-first.ensures.lookup.1 in
+    let read = rw (c.deref.ensures.value, c.id.ensures) at c.in_ok-first.ensures.lookup.1 in
     let within : c.args.cown < length c.self.inside.ends.items =
-    omega (arith, c.in_ok-first.ensures.lookup.3.0, c.number.ensures, ap length c.deref.ensures.value) in
+    omega (arith, c.in_ok-first.ensures.lookup.3.0, c.id.ensures, ap length c.deref.ensures.value) in
     (within, ends_read c.self.inside.ends.items c.args.cown c.in_ok-first.field-0.now within read)
 
 pub returns-in_err-get : goal.returns-in_err-get

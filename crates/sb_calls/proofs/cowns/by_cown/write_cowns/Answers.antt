@@ -1,5 +1,5 @@
 use Rattle.std.proofs.Common.{refl}
-use Rattle.sb_calls.proofs.HeldLaws.{length-AreHeld}
+use Rattle.sb_calls.proofs.CownContents.{length-AreCownValues}
 use Rattle.sb_calls.proofs.cowns.by_cown.write_cowns.Goals as goal
 
 pub loop-place-init : goal.loop-place-init
@@ -7,5 +7,5 @@ loop-place-init c = record {
   told = refl;
   below = c.requires.cowns;
   fits = c.requires.values;
-  long = length-AreHeld c.args.cowns.now c.args.values.now c.requires.values;
+  long = length-AreCownValues c.args.cowns.now c.args.values.now c.requires.values;
 }

@@ -1,12 +1,12 @@
 use Rattle.std.proofs.Common.{◌≡◌, length, drop}
-use Rattle.sb_calls.specs.Cowns.{AreBelow, AreHeld, held_of, write_cowns}
+use Rattle.sb_calls.specs.Cowns.{AreBelow, AreCownValues, contents_of, write_cowns}
 use Rattle.sb_calls.proofs.cowns.by_cown.write_cowns.Given as goal
 
 -- writing the rest leads to the same as writing everything
 abbrev pub invariant-loop-place : goal.invariant-loop-place
 invariant-loop-place l = record {
-  told : write_cowns (held_of l.columns) (drop l.place l.cowns) (drop l.place l.values) ≡ write_cowns (held_of l.fn.columns) l.cowns l.values;
-  below : AreBelow (length (held_of l.columns)) (drop l.place l.cowns);
-  fits : AreHeld (drop l.place l.cowns) (drop l.place l.values);
+  told : write_cowns (contents_of l.columns) (drop l.place l.cowns) (drop l.place l.values) ≡ write_cowns (contents_of l.fn.columns) l.cowns l.values;
+  below : AreBelow (length (contents_of l.columns)) (drop l.place l.cowns);
+  fits : AreCownValues (drop l.place l.cowns) (drop l.place l.values);
   long : length l.values ≡ length l.cowns;
 }

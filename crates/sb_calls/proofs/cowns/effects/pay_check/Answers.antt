@@ -11,7 +11,7 @@ returns-in-Some-clause-reply c =
     let left = left_of_check c.args.savings c.args.checking c.args.amount _ _ c.value-2.ensures.within c.value.ensures.within
     c.value-2.ensures.value c.cost_of_check-cost.ensures.cost in
     let paid = check_paid c.args.amount c.args.savings c.args.checking not_negative (subst IsWithinLimit left c.in-Some.ensures.0) in
-    rw paid (c.leaving_two-in-Some.ensures.reply ∙ c.cost_of_check-cost.ensures.reply)
+    rw paid (c.reply_with_two-in-Some.ensures.reply ∙ c.cost_of_check-cost.ensures.reply)
 
 pub returns-in-Some-clause-outputs : goal.returns-in-Some-clause-outputs
 returns-in-Some-clause-outputs c =
@@ -19,7 +19,7 @@ returns-in-Some-clause-outputs c =
     let left = left_of_check c.args.savings c.args.checking c.args.amount _ _ c.value-2.ensures.within c.value.ensures.within
     c.value-2.ensures.value c.cost_of_check-cost.ensures.cost in
     let paid = check_paid c.args.amount c.args.savings c.args.checking not_negative (subst IsWithinLimit left c.in-Some.ensures.0) in
-    rw paid (c.leaving_two-in-Some.ensures.outputs ∙ ap (λ x. c.args.savings ∷ x ∷ []) (c.in-Some.ensures.1 ∙ left))
+    rw paid (c.reply_with_two-in-Some.ensures.outputs ∙ ap (λ x. c.args.savings ∷ x ∷ []) (c.in-Some.ensures.1 ∙ left))
 
 pub returns-in-None-clause-reply : goal.returns-in-None-clause-reply
 returns-in-None-clause-reply c =
@@ -28,7 +28,7 @@ returns-in-None-clause-reply c =
     c.value-2.ensures.value c.cost_of_check-cost.ensures.cost in
     let over = check_over_limit c.args.amount c.args.savings c.args.checking c.value-2.ensures.within not_negative
     (λ fits. c.in-None.ensures (subst IsWithinLimit (sym left) fits)) in
-    rw over c.leaving_two-in-None.ensures.reply
+    rw over c.reply_with_two-in-None.ensures.reply
 
 pub returns-in-None-clause-outputs : goal.returns-in-None-clause-outputs
 returns-in-None-clause-outputs c =
@@ -37,4 +37,4 @@ returns-in-None-clause-outputs c =
     c.value-2.ensures.value c.cost_of_check-cost.ensures.cost in
     let over = check_over_limit c.args.amount c.args.savings c.args.checking c.value-2.ensures.within not_negative
     (λ fits. c.in-None.ensures (subst IsWithinLimit (sym left) fits)) in
-    rw over c.leaving_two-in-None.ensures.outputs
+    rw over c.reply_with_two-in-None.ensures.outputs

@@ -1,4 +1,4 @@
-use Rattle.sb_calls.proofs.EffectPerforms.{effect_performs}
+use Rattle.sb_calls.proofs.EffectIsProcedure.{effect_performs}
 use Rattle.sb_calls.proofs.cowns.performing.perform.Goals as goal
 
 pub returns-clause-procedure : goal.returns-clause-procedure

@@ -1,14 +1,14 @@
 use Rattle.std.proofs.Common.{ap, ◌∙◌}
-use Rattle.sb_calls.specs.Ask.{asked_of, asked_of_words}
-use Rattle.sb_calls.proofs.Asking.{ask_is_spelled, spelled_is_asked}
+use Rattle.sb_calls.specs.Ask.{ask_line_of, ask_line_of_words}
+use Rattle.sb_calls.proofs.AskSpelling.{ask_is_spelled, spelled_ask_is_read}
 use Rattle.sb_calls.proofs.text.asking.read_ask.Goals as goal
 
 pub returns-clause-exact : goal.returns-clause-exact
-unfolding asked_of
-returns-clause-exact c = c.asked_of.ensures ∙ ap asked_of_words c.of.ensures
+unfolding ask_line_of
+returns-clause-exact c = c.ask_line_of.ensures ∙ ap ask_line_of_words c.of.ensures
 
 pub returns-clause-spelled : goal.returns-clause-spelled
-returns-clause-spelled c = ask_is_spelled c.args.line.now c.asked_of.result (returns-clause-exact c)
+returns-clause-spelled c = ask_is_spelled c.args.line.now c.ask_line_of.result (returns-clause-exact c)
 
-pub returns-clause-taken : goal.returns-clause-taken
-returns-clause-taken c asked valid spelled = returns-clause-exact c ∙ ap asked_of spelled ∙ spelled_is_asked asked valid
+pub returns-clause-complete : goal.returns-clause-complete
+returns-clause-complete c asked valid spelled = returns-clause-exact c ∙ ap ask_line_of spelled ∙ spelled_ask_is_read asked valid

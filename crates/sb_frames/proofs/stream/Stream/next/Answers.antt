@@ -1,6 +1,6 @@
 use Rattle.std.proofs.Common.{◌≡◌, ◌∙◌, drop, sym, ap}
 use Rattle.sb_frames.specs.Streaming.{StreamState}
-use Rattle.sb_frames.proofs.HandingOut.{handed_out}
+use Rattle.sb_frames.proofs.NextFrame.{handed_out}
 use Rattle.sb_frames.proofs.stream.Stream.next.Goals as goal
 
 pub returns-in-Ok-clause-frame : goal.returns-in-Ok-clause-frame

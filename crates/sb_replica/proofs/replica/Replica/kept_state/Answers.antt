@@ -1,7 +1,7 @@
 use Rattle.std.proofs.Common.{option_map, List, ℕ, None, length, refl, subst}
 use Rattle.sb_checkpoint.specs.Stores.{StoreDoes}
 use Rattle.sb_replica.specs.Replica.{ReplicaOf, origin_of}
-use Rattle.sb_replica.specs.States.{IsStateOf, KeepsState}
+use Rattle.sb_replica.specs.States.{IsStateOf, ReadsState}
 use Rattle.sb_replica.proofs.NoEntries.{gives_none}
 use Rattle.sb_replica.proofs.replica.Replica.kept_state.Goals as goal
 
@@ -23,10 +23,10 @@ returns-then-length-eq0-clause-ok g c =
     subst (λ (b : List ℕ). IsStateOf origin size b) c.deref.ensures.value c.in_ok-length.ensures.length in
     subst
     (λ (old : ReplicaOf g.row.S.Denot).
-    KeepsState (StoreDoes g.S.CheckpointStore.model) old None (holding c.get.new.self))
+    ReadsState (StoreDoes g.S.CheckpointStore.model) old None (holding c.get.new.self))
     c.self.view_is
     (record {
-      held = option_map (λ bytes. bytes.items) c.in_ok-bytes.field-0;
+      content = option_map (λ bytes. bytes.items) c.in_ok-bytes.field-0;
       got = c.in_ok-bytes.ensures;
       gives = rw c.in-Some.is (gives_none origin size bytes state c.if-length-eq0.true);
       stays = refl;

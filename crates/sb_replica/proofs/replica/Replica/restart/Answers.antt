@@ -19,7 +19,7 @@ returns-clause-ok g c =
       held = held;
       store = c.get.new.self;
     } in
-    let gone_on : c.go_on_from.new.self ≡ holding log.held = c.go_on_from.ensures in
+    let gone_on : c.replace_log.new.self ≡ holding log.held = c.replace_log.ensures in
     subst (λ (new : ReplicaOf g.row.S.Denot). Restarts (StoreDoes store.model) c.args.self.now c.length.result new)
     (sym gone_on)
     (subst
@@ -27,9 +27,9 @@ returns-clause-ok g c =
     Restarts (StoreDoes store.model) old c.length.result (holding log.held))
     c.self.view_is
     (record {
-      held = option_map (λ bytes. bytes.items) c.in_ok-held.held;
-      got = c.in_ok-held.ensures;
+      content = option_map (λ bytes. bytes.items) c.in_ok-content.content;
+      got = c.in_ok-content.ensures;
       board = c.in_ok-log.ensures.log;
       length_is = c.length.ensures.value ∙ ap (λ (r : ReplicaOf g.row.S.Denot). length_of r.board) (c.self-2.view_is ∙ gone_on);
-      stays = ap holding c.in_ok-log.ensures.none;
+      stays = ap holding c.in_ok-log.ensures.no_held_entry;
     }))

@@ -1,10 +1,10 @@
 use Rattle.std.proofs.Common.{◌%◌, length, sym, ap, subst, ◌∙◌}
-use Rattle.sb_calls.proofs.AppliedOps.{declared_below}
+use Rattle.sb_calls.proofs.DeclaredCowns.{declared_below}
 use Rattle.sb_calls.specs.Op.{IsOpWithin}
-use Rattle.sb_replica_log.specs.Log.{LogOf, IsLog}
-use Rattle.sb_replica_log.specs.Offers.{taken}
-use Rattle.sb_replica_log.proofs.Keeping.{keeps_taken}
-use Rattle.sb_replica_log.proofs.Seen.{seen, seen_taken}
+use Rattle.sb_replica_log.specs.Log.{LogOf, IsReplicaLog}
+use Rattle.sb_replica_log.specs.Offers.{log_with_entry}
+use Rattle.sb_replica_log.proofs.LogInvariant.{keeps_taken}
+use Rattle.sb_replica_log.proofs.LogView.{seen, seen_taken}
 use Rattle.sb_replica_log.proofs.replica_log.ReplicaLog.take_next.Goals as goal
 
 pub submit-requires : goal.submit-requires
@@ -17,15 +17,15 @@ pub invariant_of-self : goal.invariant_of-self
 invariant_of-self c =
     let board = c.self.inside.board in
     let items = c.self.inside.held in
-    subst IsLog
-    (sym (seen_taken board items c.self.invariant c.args.op c.submit.new.self c.place_of.result c.in-Ok.ensures.ok
-    (c.place_of.ensures ∙ ap (λ n. n % 64) c.in-Ok.ensures.number)))
+    subst IsReplicaLog
+    (sym (seen_taken board items c.self.invariant c.args.op c.submit.new.self c.slot_of.result c.in-Ok.ensures.ok
+    (c.slot_of.ensures ∙ ap (λ n. n % 64) c.in-Ok.ensures.number)))
     (keeps_taken (seen board items) c.self.invariant c.args.op)
 
 pub returns-in-Ok-clause-state : goal.returns-in-Ok-clause-state
 returns-in-Ok-clause-state c =
     let board = c.self.inside.board in
     let items = c.self.inside.held in
-    seen_taken board items c.self.invariant c.args.op c.submit.new.self c.place_of.result c.in-Ok.ensures.ok
-    (c.place_of.ensures ∙ ap (λ n. n % 64) c.in-Ok.ensures.number)
-    ∙ ap (λ (log : LogOf). taken log c.args.op) c.self.view_is
+    seen_taken board items c.self.invariant c.args.op c.submit.new.self c.slot_of.result c.in-Ok.ensures.ok
+    (c.slot_of.ensures ∙ ap (λ n. n % 64) c.in-Ok.ensures.number)
+    ∙ ap (λ (log : LogOf). log_with_entry log c.args.op) c.self.view_is

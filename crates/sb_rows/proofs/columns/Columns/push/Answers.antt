@@ -1,7 +1,7 @@
 use Rattle.std.proofs.Common.{◌≡◌, ◌<◌, ◌++◌, [], ◌∷◌, length, ap, rules, arith}
 use Rattle.sb_rows.specs.Balances.{Balances}
 use Rattle.sb_rows.specs.declared.columns.TheConstants.{CUSTOMERS}
-use Rattle.sb_rows.proofs.Pushes.{IsBalances-push}
+use Rattle.sb_rows.proofs.CustomerPush.{IsBalances-push}
 use Rattle.sb_rows.proofs.columns.Columns.push.Goals as goal
 
 pub invariant_of-self-2 : goal.invariant_of-self-2

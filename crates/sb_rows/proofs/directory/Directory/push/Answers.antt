@@ -1,4 +1,4 @@
-use Rattle.sb_rows.proofs.Pushes.{IsDirectory-push, names-insert_key}
+use Rattle.sb_rows.proofs.CustomerPush.{IsDirectory-push, names-insert_key}
 use Rattle.sb_rows.proofs.directory.Directory.push.Goals as goal
 
 pub invariant_of-self-2 : goal.invariant_of-self-2

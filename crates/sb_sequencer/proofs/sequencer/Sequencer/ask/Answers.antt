@@ -2,9 +2,9 @@ use Rattle.std.proofs.Common.{ap, ◌∙◌}
 use Rattle.sb_calls.specs.declared.ask.Key.{Key}
 use Rattle.sb_calls.specs.declared.call.Call.{Call}
 use Rattle.sb_sequencer.specs.Log.{log_with}
-use Rattle.sb_sequencer.specs.Sequencer.{after_ask}
-use Rattle.sb_sequencer.proofs.Asked.{asked_rooms, asked_state, rooms_sequencer}
-use Rattle.sb_sequencer.proofs.Logs.{Numbers-from_step, log_with-answered}
+use Rattle.sb_sequencer.specs.Sequencer.{state_after_ask}
+use Rattle.sb_sequencer.proofs.SequencerAfterAsk.{asked_rooms, asked_state, rooms_sequencer}
+use Rattle.sb_sequencer.proofs.LogSteps.{first_asks-from_step, log_with-answered}
 use Rattle.sb_sequencer.proofs.sequencer.Sequencer.ask.Goals as goal
 
 -- at a full log
@@ -12,23 +12,23 @@ pub returns-then-is_full-clause-step : goal.returns-then-is_full-clause-step
 returns-then-is_full-clause-step c = log_with-answered c.args.self.now.log c.args.self.now.log _ _ c.ask_full.ensures.answer c.ask_full.ensures.log
 
 pub returns-then-is_full-clause-numbering : goal.returns-then-is_full-clause-numbering
-returns-then-is_full-clause-numbering c asks = Numbers-from_step asks c.args.self.now.log c.args.self.now.log _ _ (returns-then-is_full-clause-step c)
+returns-then-is_full-clause-numbering c asks = first_asks-from_step asks c.args.self.now.log c.args.self.now.log _ _ (returns-then-is_full-clause-step c)
 
 -- below the limit
 pub invariant_of-self : goal.invariant_of-self
 invariant_of-self c =
     let s = c.self.inside in
-    asked_rooms s.log.entries c.ask_with_room.new.log.entries s.recorded.items s.checkpoints.items s.kept.items
-    c.ask_with_room.new.kept.items _ _ _ _ c.self.invariant c.ask_with_room.ensures.answer c.ask_with_room.ensures.log
-    c.ask_with_room.ensures.kept c.ask_with_room.ensures.room
+    asked_rooms s.log.entries c.ask_with_room.new.log.entries s.recorded.items s.checkpoints.items s.answers.items
+    c.ask_with_room.new.answers.items _ _ _ _ c.self.invariant c.ask_with_room.ensures.answer c.ask_with_room.ensures.log
+    c.ask_with_room.ensures.unchanged c.ask_with_room.ensures.room
 
 pub returns-clause-state : goal.returns-clause-state
 returns-clause-state c =
     let ask : Key × Call = (record { client = c.args.client; request = c.args.request }, c.args.call.now) in
     let s = c.self.inside in
-    asked_state s.log.entries c.ask_with_room.new.log.entries s.recorded.items s.checkpoints.items s.kept.items
-    c.ask_with_room.new.kept.items ask c.ask_with_room.result c.self.invariant.kept c.ask_with_room.ensures.log c.ask_with_room.ensures.kept
-    ∙ ap (λ s. after_ask s ask c.ask_with_room.result) c.self.view_is
+    asked_state s.log.entries c.ask_with_room.new.log.entries s.recorded.items s.checkpoints.items s.answers.items
+    c.ask_with_room.new.answers.items ask c.ask_with_room.result c.self.invariant.answers c.ask_with_room.ensures.log c.ask_with_room.ensures.unchanged
+    ∙ ap (λ s. state_after_ask s ask c.ask_with_room.result) c.self.view_is
 
 pub returns-clause-step : goal.returns-clause-step
 returns-clause-step c other =
@@ -37,9 +37,9 @@ returns-clause-step c other =
     ∙ ap (λ s. log_with s.log ask) c.self.view_is
 
 pub returns-clause-numbering : goal.returns-clause-numbering
-returns-clause-numbering c asks = Numbers-from_step asks c.args.self.now.log c.ask_with_room.new.log.entries _ _ (returns-clause-step c)
+returns-clause-numbering c asks = first_asks-from_step asks c.args.self.now.log c.ask_with_room.new.log.entries _ _ (returns-clause-step c)
 
 pub returns-clause-valid : goal.returns-clause-valid
 returns-clause-valid c =
     let s = c.self.inside in
-    rooms_sequencer c.ask_with_room.new.log.entries s.recorded.items s.checkpoints.items c.ask_with_room.new.kept.items _ (invariant_of-self c)
+    rooms_sequencer c.ask_with_room.new.log.entries s.recorded.items s.checkpoints.items c.ask_with_room.new.answers.items _ (invariant_of-self c)

@@ -1,5 +1,5 @@
-use Rattle.sb_sequencer.proofs.Choosing.{IsDonorBefore}
+use Rattle.sb_sequencer.proofs.DonorChoice.{IsDonorBefore}
 use Rattle.sb_sequencer.proofs.sequencer.Sequencer.donor_above.Given as goal
 
-abbrev pub invariant-loop-place : goal.invariant-loop-place
-invariant-loop-place l = IsDonorBefore l.checkpoints l.replica l.length l.place l.most l.donor
+abbrev pub invariant-loop-position : goal.invariant-loop-position
+invariant-loop-position l = IsDonorBefore l.checkpoints l.replica l.length l.position l.most l.donor

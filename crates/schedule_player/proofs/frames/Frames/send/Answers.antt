@@ -1,6 +1,6 @@
 use Rattle.std.proofs.Common.{◌∷◌, [], ◌++◌, sym, ap, subst, ◌∙◌, map}
-use Rattle.schedule_player.specs.Numbered.{Every}
-use Rattle.schedule_player.specs.Seen.{frame_in, IsSpelled}
+use Rattle.schedule_player.specs.OneBased.{Every}
+use Rattle.schedule_player.specs.inner.MachineView.{frame_in, IsFrameBytes}
 use Rattle.schedule_player.proofs.Lists.{every_push}
 use Rattle.schedule_player.proofs.SentFrames.{frame_sent}
 use Rattle.schedule_player.proofs.frames.Frames.send.Goals as goal
@@ -13,6 +13,6 @@ returns-clause-sent c =
 
 pub invariant_of-self-2 : goal.invariant_of-self-2
 invariant_of-self-2 c =
-    subst (Every (λ bytes. IsSpelled bytes.items)) (sym c.in_ok-push.ensures.items)
-    (every_push (λ bytes. IsSpelled bytes.items) c.self.inside.sent.items c.encode.result c.self.invariant
+    subst (Every (λ bytes. IsFrameBytes bytes.items)) (sym c.in_ok-push.ensures.items)
+    (every_push (λ bytes. IsFrameBytes bytes.items) c.self.inside.sent.items c.encode.result c.self.invariant
     (record { frame = c.args.frame.now; spelled = c.encode.ensures }))

@@ -1,11 +1,11 @@
 use Rattle.std.proofs.Common.{◌≡◌, ℕ, Result, Err, sym, ap, ◌∙◌}
 use Rattle.cown_board.specs.declared.cut.CutFault.{CutFault}
 use Rattle.cown_board.specs.declared.cut.CutFault.TheVariants.{Pending, OutOfMemory}
-use Rattle.schedule_player.specs.NodeAlong.{seen_node}
+use Rattle.schedule_player.specs.inner.NodeInvariant.{machine_node}
 use Rattle.schedule_player.proofs.Lists.{no_hand}
 use Rattle.schedule_player.proofs.NodeMoves.{node_fails}
-use Rattle.schedule_player.proofs.Storing.{cuts_now, cuts_pending}
-use Rattle.schedule_player.proofs.Working.{cuts}
+use Rattle.schedule_player.proofs.CheckpointSteps.{cuts_now, cuts_pending}
+use Rattle.schedule_player.proofs.MemoryRefusals.{cuts}
 use Rattle.schedule_player.proofs.node.Node.cut.Goals as goal
 
 pub returns-in-Ok : goal.returns-in-Ok
@@ -25,5 +25,5 @@ pub returns-in-Err-OutOfMemory : goal.returns-in-Err-OutOfMemory
 returns-in-Err-OutOfMemory c bank r is =
     node_fails bank r c.args.self.now (record c.args.self.now { replica = c.cut.new.self }) is
     (ap (λ rep. record c.args.self.now { replica = rep }) c.in-Err-OutOfMemory.ensures.err)
-    (cuts (seen_node c.args.self.now) (no_hand c.args.self.now.replica.board.cut (λ number here.
+    (cuts (machine_node c.args.self.now) (no_hand c.args.self.now.replica.board.cut (λ number here.
     memory_pending number (ap (λ fault. Err fault) (sym c.in-Err-OutOfMemory.field-0-is) ∙ (c.in-Err-OutOfMemory.ensures.pending number).1 here))))

@@ -1,11 +1,11 @@
 use Rattle.std.proofs.Common.{[], sym, ap, ◌∙◌}
-use Rattle.cown_board.specs.Played.{opened_with}
-use Rattle.schedule_player.specs.Seen.{stages_of}
-use Rattle.schedule_player.proofs.Opening.{opens_so, opens_along}
+use Rattle.cown_board.specs.BoardCalls.{board_at_opening}
+use Rattle.schedule_player.specs.inner.MachineView.{stages_of}
+use Rattle.schedule_player.proofs.NodeOpening.{opens_so, opens_along}
 use Rattle.schedule_player.proofs.node.Node.open.Goals as goal
 
-pub returns-clause-seen : goal.returns-clause-seen
-returns-clause-seen c =
+pub returns-clause-node : goal.returns-clause-node
+returns-clause-node c =
     let replica = c.in_ok-open.ensures in
     opens_so
     (record {
@@ -18,8 +18,8 @@ returns-clause-seen c =
     c.args.workers (ap (λ x. stages_of x.board) replica) (ap (λ x. x.board.cut) replica) (ap (λ x. x.held) replica)
     (ap (λ x. x.store.slot) replica ∙ ap (λ s. s.slot) c.new.ensures) c.in_ok-hands.ensures c.new-2.ensures c.new-3.ensures c.new-4.ensures
 
-pub returns-clause-along : goal.returns-clause-along
-returns-clause-along c bank names opening same few =
+pub returns-clause-consistent : goal.returns-clause-consistent
+returns-clause-consistent c bank names opening same few =
     let replica = c.in_ok-open.ensures in
     opens_along bank c.args.id
     (record {
@@ -30,5 +30,5 @@ returns-clause-along c bank names opening same few =
       states = c.new-4.result;
     })
     c.args.workers same few (ap (λ x. x.id) replica) (ap (λ x. x.names) replica ∙ sym names) (ap (λ x. x.opening) replica ∙ sym opening)
-    (ap (λ x. x.board) replica ∙ ap (λ o. opened_with o []) (sym opening)) (ap (λ x. x.held) replica)
+    (ap (λ x. x.board) replica ∙ ap (λ o. board_at_opening o []) (sym opening)) (ap (λ x. x.held) replica)
     (ap (λ x. x.store.slot) replica ∙ ap (λ s. s.slot) c.new.ensures) c.in_ok-hands.ensures c.new-2.ensures c.new-3.ensures c.new-4.ensures

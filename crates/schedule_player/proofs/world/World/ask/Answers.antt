@@ -2,8 +2,8 @@ use Rattle.std.proofs.Common.{sym, subst}
 use Rattle.sb_calls.specs.declared.ask.Key.{Key}
 use Rattle.sb_calls.specs.declared.call.Call.{Call}
 use Rattle.sb_sequencer.specs.Sequencer.{IsSequencer}
-use Rattle.schedule_player.specs.WorldAlong.{IsWorld}
-use Rattle.schedule_player.proofs.Asking.{world_asked}
+use Rattle.schedule_player.specs.inner.WorldInvariant.{IsWorld}
+use Rattle.schedule_player.proofs.WorldAsk.{world_asked}
 use Rattle.schedule_player.proofs.world.World.ask.Goals as goal
 
 pub invariant_of-self : goal.invariant_of-self

@@ -1,11 +1,11 @@
 use Rattle.std.proofs.Common.{refl}
 use Rattle.cown_board.specs.Board.{IsAfterAll}
 use Rattle.sb_calls.specs.Behaviour.{declared_cowns, effect_of}
-use Rattle.schedule_player.specs.Played.{bank_after}
+use Rattle.schedule_player.specs.EventLists.{bank_after}
 use Rattle.schedule_player.specs.World.{bank_of}
-use Rattle.schedule_player.proofs.Comparing.{looked_up}
-use Rattle.schedule_player.proofs.Observed.{lent_idle, lent_rows}
-use Rattle.schedule_player.proofs.Playing.{played_bank}
+use Rattle.schedule_player.proofs.AuditResults.{looked_up}
+use Rattle.schedule_player.proofs.Observers.{lent_idle, lent_rows}
+use Rattle.schedule_player.proofs.EventLists.{played_bank}
 use Rattle.schedule_player.proofs.world.World.columns.Goals as goal
 
 pub returns-clause-idle : goal.returns-clause-idle
@@ -15,7 +15,7 @@ returns-clause-idle c =
     let found = looked_up w.directory w.opening w.sequencer w.nodes.items c.args.self.now c.args.replica node c.self.view_is c.self.invariant
     c.requires c.index.ensures in
     lent_idle c.args.self.now c.args.replica node found (λ columns. IsAfterAll declared_cowns effect_of node.replica.board columns.now)
-    c.settled_columns.result c.settled_columns.ensures.value
+    c.final_columns.result c.final_columns.ensures.value
 
 pub returns-clause-rows : goal.returns-clause-rows
 returns-clause-rows c =
@@ -23,8 +23,8 @@ returns-clause-rows c =
     let node = c.index.result.now in
     let found = looked_up w.directory w.opening w.sequencer w.nodes.items c.args.self.now c.args.replica node c.self.view_is c.self.invariant
     c.requires c.index.ensures in
-    lent_rows c.args.self.now c.args.replica node found (λ columns. columns.now) c.settled_columns.result (bank_of c.args.self.now)
-    c.settled_columns.ensures.value c.settled_columns.ensures.bank refl
+    lent_rows c.args.self.now c.args.replica node found (λ columns. columns.now) c.final_columns.result (bank_of c.args.self.now)
+    c.final_columns.ensures.value c.final_columns.ensures.bank refl
 
 pub returns-clause-by_log : goal.returns-clause-by_log
 returns-clause-by_log c schedule played =
@@ -32,5 +32,5 @@ returns-clause-by_log c schedule played =
     let node = c.index.result.now in
     let found = looked_up w.directory w.opening w.sequencer w.nodes.items c.args.self.now c.args.replica node c.self.view_is c.self.invariant
     c.requires c.index.ensures in
-    lent_rows c.args.self.now c.args.replica node found (λ columns. columns.now) c.settled_columns.result (bank_after schedule)
-    c.settled_columns.ensures.value c.settled_columns.ensures.bank (played_bank schedule c.args.self.now played)
+    lent_rows c.args.self.now c.args.replica node found (λ columns. columns.now) c.final_columns.result (bank_after schedule)
+    c.final_columns.ensures.value c.final_columns.ensures.bank (played_bank schedule c.args.self.now played)

@@ -1,5 +1,5 @@
-use Rattle.schedule_player.proofs.Comparing.{looked_up}
-use Rattle.schedule_player.proofs.Observed.{length_here}
+use Rattle.schedule_player.proofs.AuditResults.{looked_up}
+use Rattle.schedule_player.proofs.Observers.{length_here}
 use Rattle.schedule_player.proofs.world.World.length.Goals as goal
 
 pub returns : goal.returns

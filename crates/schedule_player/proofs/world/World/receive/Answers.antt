@@ -1,15 +1,15 @@
 use Rattle.std.proofs.Common.{◌≡◌, subst}
 use Rattle.std.specs.Prelude.{slice_set, IfOk, OnErr}
-use Rattle.sb_checkpoint.specs.Reading.{stated_length}
-use Rattle.schedule_player.specs.ReplicaMoves.{given}
-use Rattle.schedule_player.specs.World.{moved_at}
-use Rattle.schedule_player.proofs.GivenWorlds.{received}
-use Rattle.schedule_player.proofs.Moving.{Stepped, world_of}
+use Rattle.sb_checkpoint.specs.Reading.{stated_reply_count}
+use Rattle.schedule_player.specs.ReplicaMoves.{receive_move}
+use Rattle.schedule_player.specs.World.{move_at}
+use Rattle.schedule_player.proofs.WorldStates.{received}
+use Rattle.schedule_player.proofs.WorldStep.{Stepped, world_of}
 use Rattle.schedule_player.proofs.world.World.receive.Goals as goal
 
 -- the replica moves, and so the world does
 stepped : (c : goal.After-self-1) → let w = c.self.inside in
-    Stepped w.directory w.opening w.sequencer w.nodes.items c.args.replica c.receive.new.self (λ node. given node (stated_length c.args.bytes.items))
+    Stepped w.directory w.opening w.sequencer w.nodes.items c.args.replica c.receive.new.self (λ node. receive_move node (stated_reply_count c.args.bytes.items))
     c.receive.result
 stepped c =
     let w = c.self.inside in
@@ -23,7 +23,7 @@ pub returns-clause-moves : goal.returns-clause-moves
 returns-clause-moves c =
     let w = c.self.inside in
     let new = world_of w.directory w.opening w.sequencer (slice_set w.nodes.items c.args.replica c.receive.new.self) in
-    subst (λ old. IfOk c.receive.result (λ n. moved_at old c.args.replica (λ node. given node (stated_length c.args.bytes.items)) ≡ (new, n)))
+    subst (λ old. IfOk c.receive.result (λ n. move_at old c.args.replica (λ node. receive_move node (stated_reply_count c.args.bytes.items)) ≡ (new, n)))
     c.self.view_is (stepped c).moves
 
 pub returns-clause-err : goal.returns-clause-err

@@ -1,9 +1,9 @@
 use Rattle.std.proofs.Common.{subst}
-use Rattle.schedule_player.specs.TrueToLog.{IsTrueToLog}
-use Rattle.schedule_player.proofs.Worlds.{true_to_log}
+use Rattle.schedule_player.specs.LogAgreement.{WorldAgreesWithLog}
+use Rattle.schedule_player.proofs.WorldOpening.{true_to_log}
 use Rattle.schedule_player.proofs.world.World.replicas.Goals as goal
 
-pub returns-clause-true_to_log : goal.returns-clause-true_to_log
-returns-clause-true_to_log c =
+pub returns-clause-agrees_with_log : goal.returns-clause-agrees_with_log
+returns-clause-agrees_with_log c =
     let w = c.self.inside in
-    subst IsTrueToLog c.self.view_is (true_to_log w.directory w.opening w.sequencer w.nodes.items c.self.invariant)
+    subst WorldAgreesWithLog c.self.view_is (true_to_log w.directory w.opening w.sequencer w.nodes.items c.self.invariant)

@@ -1,7 +1,7 @@
-use Rattle.schedule_player.proofs.Comparing.{looked_up}
-use Rattle.schedule_player.proofs.Observed.{observed_reply, reply_here}
-use Rattle.schedule_player.proofs.Playing.{played_bank}
-use Rattle.schedule_player.specs.Played.{bank_after}
+use Rattle.schedule_player.proofs.AuditResults.{looked_up}
+use Rattle.schedule_player.proofs.Observers.{observed_reply, reply_here}
+use Rattle.schedule_player.proofs.EventLists.{played_bank}
+use Rattle.schedule_player.specs.EventLists.{bank_after}
 use Rattle.schedule_player.proofs.world.World.reply.Goals as goal
 
 pub returns-clause-value : goal.returns-clause-value

@@ -1,14 +1,14 @@
 use Rattle.std.proofs.Common.{◌+◌, ◌*◌}
-use Rattle.schedule_player.specs.Settling.{settling}
-use Rattle.schedule_player.proofs.Playing.{played_on}
+use Rattle.schedule_player.specs.Settling.{settle_events}
+use Rattle.schedule_player.proofs.EventLists.{played_on}
 use Rattle.schedule_player.proofs.SettledWorlds.{Settles, settles_so}
 use Rattle.schedule_player.proofs.world.World.settle.Goals as goal
 
-so : (c : goal.After-work_off) → Settles c.args.self.now c.args.replica (c.empty_hands-workers.result + 2 * c.work_off.result) c.work_off.new.self
+so : (c : goal.After-run_until_idle) → Settles c.args.self.now c.args.replica (c.finish_hands-workers.result + 2 * c.run_until_idle.result) c.run_until_idle.new.self
 so c =
-    let hands = c.empty_hands-workers in
-    settles_so c.args.self.now hands.new.self c.work_off.new.self c.args.replica hands.result c.work_off.result c.requires hands.ensures.able
-    hands.ensures.count hands.ensures.after c.work_off.ensures.count c.work_off.ensures.after
+    let hands = c.finish_hands-workers in
+    settles_so c.args.self.now hands.new.self c.run_until_idle.new.self c.args.replica hands.result c.run_until_idle.result c.requires hands.ensures.able
+    hands.ensures.count hands.ensures.after c.run_until_idle.ensures.count c.run_until_idle.ensures.after
 
 pub returns-clause-moves : goal.returns-clause-moves
 returns-clause-moves c = ((so c).notes, (so c).plays)
@@ -19,8 +19,8 @@ returns-clause-until c = (so c).until
 pub returns-clause-count : goal.returns-clause-count
 returns-clause-count c = (so c).count_is
 
-pub returns-clause-most : goal.returns-clause-most
-returns-clause-most c = (so c).most
+pub returns-clause-limit : goal.returns-clause-limit
+returns-clause-limit c = (so c).most
 
 pub returns-clause-idle : goal.returns-clause-idle
 returns-clause-idle c = (so c).idle
@@ -34,4 +34,4 @@ returns-clause-replicas c = (so c).replicas
 pub returns-clause-played : goal.returns-clause-played
 returns-clause-played c schedule played =
     let world = c.args.self.now in
-    played_on schedule world (settling world c.args.replica) (so c).notes c.work_off.new.self played (so c).plays
+    played_on schedule world (settle_events world c.args.replica) (so c).notes c.run_until_idle.new.self played (so c).plays

@@ -1,7 +1,7 @@
-use Rattle.schedule_player.specs.Played.{bank_after}
-use Rattle.schedule_player.proofs.Comparing.{looked_up}
-use Rattle.schedule_player.proofs.GivenWorlds.{state_here, state_by_log}
-use Rattle.schedule_player.proofs.Playing.{played_bank}
+use Rattle.schedule_player.specs.EventLists.{bank_after}
+use Rattle.schedule_player.proofs.AuditResults.{looked_up}
+use Rattle.schedule_player.proofs.WorldStates.{state_here, state_by_log}
+use Rattle.schedule_player.proofs.EventLists.{played_bank}
 use Rattle.schedule_player.proofs.world.World.state.Goals as goal
 
 pub returns-clause-value : goal.returns-clause-value
@@ -10,9 +10,9 @@ returns-clause-value c =
     let node = c.index.result.now in
     let found = looked_up w.directory w.opening w.sequencer w.nodes.items c.args.self.now c.args.replica node c.self.view_is c.self.invariant
     c.requires c.index.ensures in
-    state_here c.args.self.now c.args.replica node found c.args.place c.get.result c.get.ensures
+    state_here c.args.self.now c.args.replica node found c.args.position c.get.result c.get.ensures
 
 pub returns-clause-by_log : goal.returns-clause-by_log
 returns-clause-by_log c schedule played =
-    state_by_log c.args.self.now c.args.replica c.args.place (bank_after schedule) c.get.result (played_bank schedule c.args.self.now played)
+    state_by_log c.args.self.now c.args.replica c.args.position (bank_after schedule) c.get.result (played_bank schedule c.args.self.now played)
     (returns-clause-value c)

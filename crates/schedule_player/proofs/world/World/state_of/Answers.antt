@@ -1,16 +1,16 @@
 use Rattle.std.proofs.Common.{subst}
 use Rattle.std.specs.Prelude.{option_map, IfOk}
-use Rattle.schedule_player.specs.NodeAlong.{HasState}
+use Rattle.schedule_player.specs.inner.NodeInvariant.{HasState}
 use Rattle.schedule_player.specs.World.{bank_of}
-use Rattle.schedule_player.proofs.Comparing.{looked_up, seen_as}
+use Rattle.schedule_player.proofs.AuditResults.{looked_up, seen_as}
 use Rattle.schedule_player.proofs.world.World.state_of.Goals as goal
 
-pub returns-clause-kept : goal.returns-clause-kept
-returns-clause-kept c one here =
+pub returns-clause-has_state : goal.returns-clause-has_state
+returns-clause-has_state c one here =
     let w = c.self.inside in
     let node = c.index_mut.result.now in
     let found = looked_up w.directory w.opening w.sequencer w.nodes.items c.args.self.now c.args.donor node c.self.view_is c.self.invariant
     c.requires c.index_mut.ensures.value in
     subst (λ seen. IfOk c.state.result (λ state. HasState (bank_of c.args.self.now) seen (option_map (λ bytes. bytes.items) state)))
     (seen_as c.args.self.now c.args.donor node one found here)
-    (c.state.ensures.kept (bank_of c.args.self.now) c.args.donor found.along)
+    (c.state.ensures.has_state (bank_of c.args.self.now) c.args.donor found.consistent)

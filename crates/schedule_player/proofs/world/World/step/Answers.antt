@@ -1,12 +1,12 @@
-use Rattle.schedule_player.proofs.Playing.{played_if, comes_if, count_if}
+use Rattle.schedule_player.proofs.EventLists.{played_if, comes_if, count_if}
 use Rattle.schedule_player.proofs.world.World.step.Goals as goal
 
 pub returns-clause-played : goal.returns-clause-played
 returns-clause-played c schedule played =
     played_if schedule c.args.self.now c.args.event c.moves.result c.moves.new.self played c.moves.ensures.moves
 
-pub returns-clause-comes : goal.returns-clause-comes
-returns-clause-comes c = comes_if c.args.self.now c.args.event c.moves.result c.moves.new.self c.moves.ensures.moves
+pub returns-clause-may_occur : goal.returns-clause-may_occur
+returns-clause-may_occur c = comes_if c.args.self.now c.args.event c.moves.result c.moves.new.self c.moves.ensures.moves
 
 pub returns-clause-replicas : goal.returns-clause-replicas
 returns-clause-replicas c =

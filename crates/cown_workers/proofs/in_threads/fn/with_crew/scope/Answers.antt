@@ -1,4 +1,4 @@
--- The closure was called once, on the crew that the recruits make.
+-- The closure was called once, on the crew that was started.
 use Rattle.std.proofs.Common.{refl}
 use Rattle.cown_workers.proofs.in_threads.fn.with_crew.scope.Goals as goal
 

@@ -1,0 +1,22 @@
+use Rattle.std.proofs.Common.{◌++◌, refl}
+use Rattle.bank_server.specs.inner.SessionSteps.{session_state_of}
+use Rattle.bank_server.specs.Primary.{opening_rows_of}
+use Rattle.bank_server.proofs.FrameSteps.{hears_nothing, loses_behind}
+use Rattle.bank_server.proofs.WholeReplies.{if_err, on_ok}
+use Rattle.bank_server.proofs.buffers.handle_bytes.Goals as goal
+
+pub returns-then-is_err-clause-stops : goal.returns-then-is_err-clause-stops
+returns-then-is_err-clause-stops g c =
+    let at = session_state_of c.args.primary.now.log c.args.buffers.now (g.W.Write.contents c.args.writer.now) in
+    let unread = c.args.buffers.now.stream.unread ++ c.args.bytes.now in
+    record { there = at; rest = unread; handles = hears_nothing (opening_rows_of c.args.primary.now) at unread; at = λ more. tt; left = refl }
+
+pub returns-clause-none_out : goal.returns-clause-none_out
+returns-clause-none_out g c =
+    on_ok c.offer_rest.result (λ later none. later (c.in_ok-handle_frames.ensures.none_out none)) c.offer_rest.ensures.none_out
+
+pub returns-clause-crew_lost : goal.returns-clause-crew_lost
+returns-clause-crew_lost g c =
+    if_err c.offer_rest.result (λ fault. loses_behind g.C.Crew.keeps
+    c.args.primary.now.node.board c.handle_frames.new.primary.node.board fault
+    c.in_ok-handle_frames.ensures.none_out) c.offer_rest.ensures.crew_lost

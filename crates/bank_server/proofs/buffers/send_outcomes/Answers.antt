@@ -1,0 +1,36 @@
+use Rattle.std.proofs.Common.{◌≡◌, ◌++◌, List, ℕ, sym, ap, subst, ◌∙◌}
+use Rattle.std.specs.Io.KnownBytes.{Appends}
+use Rattle.std.specs.List.{flat_map}
+use Rattle.sb_calls.specs.Log.{replies_to}
+use Rattle.sb_frames.specs.Grammar.{spelling}
+use Rattle.sb_replica.specs.Replica.{ReplicaOf}
+use Rattle.bank_server.specs.Execution.{HasReplies}
+use Rattle.bank_server.specs.Output.{calls_of}
+use Rattle.bank_server.specs.Primary.{opening_rows_of}
+use Rattle.bank_server.specs.Session.{outcome_by}
+use Rattle.bank_server.specs.declared.pending.PendingAsk.{PendingAsk}
+use Rattle.bank_server.proofs.Boards.{idle_none_out}
+use Rattle.bank_server.proofs.SessionSteps.{flush_leads}
+use Rattle.bank_server.proofs.WholeReplies.{after_ok, tells_all}
+use Rattle.bank_server.proofs.buffers.send_outcomes.Goals as goal
+
+pub returns-clause-none_out : goal.returns-clause-none_out
+returns-clause-none_out g c = idle_none_out c.settle.new.self.node.board c.in_ok-settle.ensures.whole_log.idle
+
+pub returns-clause-leads : goal.returns-clause-leads
+returns-clause-leads g c =
+    let old = c.args.primary.now in
+    let new = c.settle.new.self in
+    let settled = c.in_ok-settle.ensures in
+    let replies = replies_to (opening_rows_of old) (calls_of old.log) in
+    let tells : HasReplies c.node.result.now.board replies =
+    subst (λ (node : ReplicaOf g.row.S.Denot). HasReplies node.board replies) (sym c.node.ensures.value)
+    (tells_all old new c.node.ensures.valid.customers settled.whole_log settled.log settled.bank) in
+    let spelled : List ℕ = flat_map (λ (w : PendingAsk). flat_map spelling (outcome_by replies w.key w.standing)) c.args.buffers.now.pending.items in
+    let out : c.push_outcomes.new.out.items ≡ spelled =
+    c.in_ok-push_outcomes.ensures replies tells
+    ∙ ap (λ (l : List ℕ). l ++ flat_map (λ (w : PendingAsk). flat_map spelling (outcome_by replies w.key w.standing)) c.deref.result.now) c.clear.ensures.items
+    ∙ ap (flat_map (λ (w : PendingAsk). flat_map spelling (outcome_by replies w.key w.standing))) c.deref.ensures.value in
+    flush_leads (opening_rows_of old) _ _ settled.log c.clear-2.ensures.items
+    (subst (λ (bytes : List ℕ). Appends (g.W.Write.contents c.args.writer.now) (g.W.Write.contents c.write_whole.new.writer) bytes)
+    (c.deref-2.ensures.value ∙ out) (after_ok c.write_whole.result c.if-is_err.ensures.value c.write_whole.ensures))

@@ -1,0 +1,13 @@
+-- Ops that are appended to a board's log.
+use Rattle.std.specs.Prelude.{◌≡◌, List, ◌++◌}
+use Rattle.sb_calls.specs.declared.op.Op.{Op}
+use Rattle.cown_board.specs.Board.{BoardOf}
+use Rattle.cown_workers.specs.Draining.{HasNoneOut}
+
+-- these ops are appended to the log, the cut stays, and if no op was out none is
+pub record AppendsOps (ops : List Op) (old new : BoardOf Op) : Type 0 where
+  pub opening : new.opening ≡ old.opening
+  pub base_replies : new.base_replies ≡ old.base_replies
+  pub log : new.log ≡ old.log ++ ops
+  pub cut : new.cut ≡ old.cut
+  pub none_out : HasNoneOut old → HasNoneOut new

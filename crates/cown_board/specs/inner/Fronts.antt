@@ -1,0 +1,26 @@
+-- Numbers in front of queues.
+use Rattle.std.specs.Prelude.{◌≡◌, ℕ, ◌==◌, Bool, false, not, Some, List, [], ◌∷◌, slice_get, is_some, count_by}
+use Rattle.cown_queue.specs.Queues.{list_of}
+use Rattle.cown_board.specs.Readiness.{touched_by}
+
+-- the number is the first at each of these cowns
+abbrev pub AreFronts : ℕ → List (List ℕ) → List ℕ → Type 0
+AreFronts number lists [] = Unit {0}
+AreFronts number lists (cown ∷ cowns) = (slice_get (list_of lists cown) 0 ≡ Some number) × AreFronts number lists cowns
+
+-- the number is the first of a list
+abbrev pub is_first : ℕ → List ℕ → Bool
+is_first number [] = false
+is_first number (n ∷ rest) = n == number
+
+-- at how many of these cowns the number isn't in front
+abbrev pub behind_at : ℕ → List (List ℕ) → List ℕ → ℕ
+behind_at number lists cowns = count_by (λ cown. not (is_first number (list_of lists cown))) cowns
+
+-- at how many of its cowns the behaviour at a position isn't in front
+abbrev pub behind_of : {B : Type 0} → (B → List ℕ) → List B → List (List ℕ) → ℕ → ℕ
+behind_of touches log lists position = behind_at position lists (touched_by touches (slice_get log position))
+
+-- a cown's queue isn't empty
+abbrev pub is_occupied : List (List ℕ) → ℕ → Bool
+is_occupied lists cown = is_some (slice_get (list_of lists cown) 0)

@@ -1,0 +1,28 @@
+-- One more worker has a thread.
+use Rattle.std.proofs.Common.{◌≡◌, [], ◌∷◌, ◌++◌, sym, ap, ◌∙◌, subst, length, append_assoc, length-append, arith}
+use Rattle.std.specs.List.{All}
+use Rattle.std.specs.Vec.Iter.{into_iter_items}
+use Rattle.std.proofs.lemmas.List.Elements.{All-push}
+use Rattle.cown_workers.specs.declared.thread_pool.PassOf.{PassOf}
+use Rattle.cown_workers.proofs.thread_pool.start_each.Goals as goal
+
+pub loop-worker-preserved : goal.loop-worker-preserved
+loop-worker-preserved g c =
+    let before = c.loop-worker.invariant in
+    let pushed = c.push_reserved.ensures in
+    let thread = c.in-Ok.thread in
+    let here : thread.promise.0.value ≡ c.args.bench.now = ap (λ (p : PassOf). p.0.value) c.in-Ok.ensures.ok ∙ c.of.ensures in
+    record {
+      rest = append_assoc c.loop-worker.yielded (c.in-Some.worker ∷ []) (into_iter_items c.next.new.self)
+          ∙ ap (λ l. c.loop-worker.yielded ++ l) (sym c.in-Some.ensures.steps.0) ∙ before.rest;
+      few = omega (
+        arith,
+        ap length pushed.items,
+        length-append c.loop-worker.threads.items (thread ∷ []),
+        length-append c.loop-worker.yielded (c.in-Some.worker ∷ []),
+        before.few,
+      );
+      room = omega (arith, pushed.capacity, before.room);
+      bench = subst (All (λ t. t.promise.0.value ≡ c.args.bench.now)) (sym pushed.items)
+          (All-push (λ t. t.promise.0.value ≡ c.args.bench.now) c.loop-worker.threads.items thread before.bench here);
+    }

@@ -1,0 +1,3 @@
+pub mod DrainSteps
+pub mod PassPicks
+pub mod Turns

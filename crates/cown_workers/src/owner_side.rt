@@ -1,0 +1,72 @@
+//! The owner's side of the bench and of the channel: it lays out jobs, and takes in results.
+ghost use Rattle.std.specs.Prelude.{◌≡◌, [], ◌∷◌, ◌++◌, replicate};
+
+use crate::inbox::Inbox;
+use crate::wake_up::WakeUp;
+use cown_bench::{Bench, OwnerPass, Work};
+use std::sync::Wait;
+use std::thread;
+use std::time::Clock;
+
+// What an owner and its workers share, as the owner has it.
+#[derive(Drop)]
+pub(crate) struct OwnerSide<'a, R: Wait + Clock> {
+    pub(crate) rt: &'a R,
+    pub(crate) bench: &'a Bench,
+    pub(crate) wake_up: &'a WakeUp,
+    pub(crate) pass: OwnerPass,
+    pub(crate) inbox: Inbox,
+}
+
+impl<'a, R: Wait + Clock> OwnerSide<'a, R> {
+    // Offers a `Stop` for each of this many workers, and waits until all have ended.
+    pub(crate) fn stop_workers(mut self, workers: usize) -> OwnerPass
+        requires { self.pass.bench ≡ self.bench.now }
+        ensures { result ≡ record self.entry.pass {
+          offered = self.entry.pass.offered ++ replicate workers Work.Stop;
+        } }
+    {
+        for _ in 0..workers {
+            self.offer_stop();
+        }
+        self.await_workers();
+        let OwnerSide { pass, .. } = self;
+        pass
+    }
+
+    // Each worker has an end of the channel, so nothing more comes once all have ended.
+    fn await_workers(&mut self)
+        ensures { self.new.pass ≡ self.old.pass }
+    {
+        let rt = self.rt;
+        for _ in rt.forever() {
+            if self.inbox.next(rt).is_none() {
+                return;
+            }
+        }
+        unreachable!()
+    }
+
+    // If the bench is full, results are taken in, so that no worker waits for room in the channel.
+    fn offer_stop(&mut self)
+        requires { self.old.pass.bench ≡ self.old.bench.now }
+        ensures pass { self.new.pass ≡ record self.old.pass {
+          offered = self.old.pass.offered ++ Work.Stop ∷ [];
+        } }
+        ensures bench { self.new.bench.now ≡ self.old.bench.now }
+    {
+        for _ in self.rt.forever() {
+            if self
+                .bench
+                .offer(self.rt, &mut self.pass, Work::Stop)
+                .is_ok()
+            {
+                self.wake_up.signal(self.rt, usize::MAX);
+                return;
+            }
+            let _ = self.inbox.try_recv(self.rt);
+            thread::yield_now();
+        }
+        unreachable!()
+    }
+}

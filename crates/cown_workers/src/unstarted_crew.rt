@@ -1,0 +1,111 @@
+//! A crew whose workers have no threads yet.
+ghost use Rattle.std.specs.Prelude.{◌≡◌, ◌+◌, ◌≤◌, All, length, count_by, is_some, IfOk, IfSome};
+ghost use Rattle.std.specs.Option.{option_to_list};
+ghost use Rattle.cown_workers.specs.inner.PassPicks.{is_stop, picked_with};
+
+use crate::bench_crew::BenchCrew;
+use crate::crew_fault::CrewFault;
+use crate::gate::Gate;
+use crate::owner_side::OwnerSide;
+use crate::thread_pool::ThreadPool;
+use crate::worker::Worker;
+use cown_bench::{WORKERS, WorkerPass};
+use std::alloc::Global;
+use std::marker::Model;
+use std::sync::Wait;
+use std::thread::{Scope, Threads};
+use std::time::Clock;
+
+// Everything of a crew but its threads. Contracts see it as the crew that it becomes.
+#[derive(Drop)]
+pub(crate) struct UnstartedCrew<'a, R: Wait + Clock, G: Gate> {
+    alloc: Global,
+    owner_side: OwnerSide<'a, R>,
+    gate: &'a G,
+    // The owner's own pass, if it helps.
+    own_pass: Option<WorkerPass>,
+    workers: Vec<Worker<'a, R, G>>,
+}
+
+impl<'a, R: Wait + Clock, G: Gate> Model for UnstartedCrew<'a, R, G> {
+    ghost use Rattle.std.specs.Prelude.{◌≡◌, ◌+◌, ◌≤◌, All, length, count_by, IfSome, is_some};
+    ghost use Rattle.std.specs.Option.{option_to_list};
+    ghost use Rattle.cown_bench.specs.declared.bench.TheConstants.{WORKERS};
+    ghost use Rattle.cown_workers.specs.BenchCrews.{BenchCrewOf};
+    ghost use Rattle.cown_workers.specs.inner.PassPicks.{is_stop, picked_with};
+
+    ghost Value = { BenchCrewOf };
+
+    ghost view = { λ unstarted_crew. record {
+      workers = length unstarted_crew.workers.items;
+      owner_helps = is_some unstarted_crew.own_pass;
+      offered = unstarted_crew.owner_side.pass.offered;
+      picked = picked_with unstarted_crew.own_pass;
+    } };
+
+    ghost invariant = { λ unstarted_crew. (unstarted_crew.owner_side.pass.bench ≡ unstarted_crew.owner_side.bench.now)
+        × IfSome unstarted_crew.own_pass (λ own_pass. own_pass.bench ≡ unstarted_crew.owner_side.bench.now)
+        × All (λ worker. worker.bench.now ≡ unstarted_crew.owner_side.bench.now) unstarted_crew.workers.items
+        × (length unstarted_crew.workers.items ≤ WORKERS)
+        × (unstarted_crew.owner_side.pass.workers ≡ length (option_to_list unstarted_crew.own_pass) + length unstarted_crew.workers.items)
+        × (1 ≤ length unstarted_crew.workers.items)
+        × (count_by is_stop unstarted_crew.owner_side.pass.offered ≡ 0) };
+}
+
+impl<'a, R: Wait + Clock, G: Gate> UnstartedCrew<'a, R, G> {
+    // All passes of the bench are with these.
+    pub(crate) fn new(
+        alloc: Global,
+        owner_side: OwnerSide<'a, R>,
+        gate: &'a G,
+        own_pass: Option<WorkerPass>,
+        workers: Vec<Worker<'a, R, G>>,
+    ) -> UnstartedCrew<'a, R, G>
+        requires owner { owner_side.pass.bench ≡ owner_side.bench.now }
+        requires hands { IfSome own_pass (λ own_pass. own_pass.bench ≡ owner_side.bench.now) }
+        requires workers { All (λ worker. worker.bench.now ≡ owner_side.bench.now) workers.items }
+        requires at_least_one { 1 ≤ length workers.items }
+        requires limit { length workers.items ≤ WORKERS }
+        requires all_passes { owner_side.pass.workers ≡ length (option_to_list own_pass) + length workers.items }
+        requires jobs { count_by is_stop owner_side.pass.offered ≡ 0 }
+        ensures { result ≡ record {
+          workers = length workers.entry.items;
+          owner_helps = is_some own_pass;
+          offered = owner_side.entry.pass.offered;
+          picked = picked_with own_pass;
+        } }
+    {
+        UnstartedCrew {
+            alloc,
+            owner_side,
+            gate,
+            own_pass,
+            workers,
+        }
+    }
+}
+
+impl<'a, R: Threads + Wait + Clock + Sync, G: Gate + Sync> UnstartedCrew<'a, R, G> {
+    // Starts a thread for each worker. If one can't be started, the others are sent home and
+    // joined.
+    pub(crate) fn start<E>(self, scope: &'a Scope<'a, E>) -> Result<BenchCrew<'a, R, G>, CrewFault>
+        ensures { IfOk result (λ crew. crew ≡ self.entry) }
+    {
+        let UnstartedCrew {
+            alloc,
+            owner_side,
+            gate,
+            own_pass,
+            workers,
+        } = self;
+        let wanted = workers.len();
+        let thread_pool = ThreadPool::start(scope, alloc, owner_side.bench, workers)?;
+        if thread_pool.len() < wanted {
+            let rt = owner_side.rt;
+            let _ = owner_side.stop_workers(thread_pool.len());
+            let _ = thread_pool.join(rt, own_pass);
+            return Err(CrewFault::CrewGone);
+        }
+        Ok(BenchCrew::new(owner_side, gate, own_pass, thread_pool))
+    }
+}

@@ -1,0 +1,144 @@
+//! Waking workers that sleep.
+ghost use Rattle.std.specs.Prelude.{◌≡◌, ℕ, ◌∷◌, ◌++◌, [], IfNone, IfSome};
+
+use cown_bench::{Bench, Work, WorkerPass};
+use crossbeam_channel::{Receiver, Sender, bounded};
+use std::alloc::{AllocError, Global};
+use std::sync::Wait;
+use std::sync::atomic::{AtomicUsize, Ordering};
+use std::time::{Clock, Duration};
+
+// The most milliseconds that a worker sleeps. No signal is missed, so this only bounds the cost of
+// a signal that is lost for an unknown reason. Sixteen workers that wake this seldom take almost no
+// processor time.
+const LONGEST: u64 = 50;
+
+// What an owner signals when it offers something and too few workers are awake.
+//
+// The owner offers, then reads how many sleep. A worker is counted as asleep, then looks at the
+// bench once more, and only then sleeps. All threads see these four steps in one order (`SeqCst`).
+// So either the owner's look comes after the worker was counted, and it signals; or it comes
+// before, and the worker finds what was offered.
+#[derive(Drop)]
+pub(crate) struct WakeUp {
+    workers: usize,
+    sleeping: AtomicUsize,
+    sender: Sender<()>,
+    receiver: Receiver<()>,
+}
+
+impl WakeUp {
+    // For this many workers.
+    pub(crate) fn new(alloc: Global, workers: usize) -> Result<WakeUp, AllocError> {
+        let (sender, receiver) = bounded(alloc, workers)?;
+        Ok(WakeUp {
+            workers,
+            sleeping: AtomicUsize::new(0),
+            sender,
+            receiver,
+        })
+    }
+
+    // Whether no worker is awake.
+    pub(crate) fn all_asleep(&self) -> bool {
+        self.sleeping.load(Ordering::SeqCst) == self.workers
+    }
+
+    // Wakes a worker, if one sleeps and fewer workers are awake than there are jobs with the crew.
+    // The jobs are on the bench already.
+    pub(crate) fn signal<R: Wait>(&self, rt: &R, jobs: usize) {
+        // This look needs no fence: each step on the bench is `SeqCst`, as this one is, so it can't
+        // come before the step that laid the job out.
+        let sleeping = self.sleeping.load(Ordering::SeqCst);
+        if sleeping > 0 && self.workers.saturating_sub(sleeping) < jobs {
+            // If the channel is full, each worker still has a signal to take.
+            let _ = self.sender.try_send(rt, ());
+        }
+    }
+
+    // Picks the first Work on the bench. If there is none, it waits until the owner signals, or for
+    // a while, and picks nothing.
+    pub(crate) fn pick_or_sleep<R: Wait + Clock>(
+        &self,
+        rt: &R,
+        bench: &Bench,
+        pass: &mut WorkerPass,
+    ) -> Option<Work>
+        requires { pass.old.bench ≡ bench.now }
+        ensures work_picked { IfSome result (λ work. (place : ℕ) × (pass.new ≡
+            record pass.old { picked = pass.old.picked ++ (place, work) ∷ [] })) }
+        ensures nothing_picked { IfNone result (pass.new ≡ pass.old) }
+    {
+        self.begin_sleep();
+        // Nobody signalled what was offered before this worker was counted.
+        let work = bench.pick(rt, pass);
+        if work.is_none() {
+            let _ = self.await_signal(rt);
+        }
+        self.end_sleep();
+        work
+    }
+
+    // Counts a worker as asleep.
+    pub(crate) fn begin_sleep(&self) {
+        self.sleeping.fetch_add(1, Ordering::SeqCst);
+    }
+
+    fn end_sleep(&self) {
+        self.sleeping.fetch_sub(1, Ordering::SeqCst);
+    }
+
+    // Waits until the owner signals, or for a while, and returns whether it did.
+    pub(crate) fn await_signal<R: Wait + Clock>(&self, rt: &R) -> bool {
+        self.receiver
+            .recv_timeout(rt, Duration::from_millis(LONGEST))
+            .is_ok()
+    }
+}
+
+// From outside one look at the bench can't be distinguished from another, nor a signal from a sleep
+// that ends by itself, so both are tested here. running_tests shows by public calls that workers
+// are woken at all.
+#[cfg(test)]
+mod tests {
+    use super::*;
+
+    #[test]
+    fn what_lies_on_the_bench_is_picked_before_a_sleep(rt: HostRuntime) {
+        let (bench, mut owner, mut passes) = Bench::new(rt.alloc(), 1).expect(&rt, "memory");
+        let wake_up = WakeUp::new(rt.alloc(), 1).expect(&rt, "memory");
+        let mut pass = passes.pop().expect(&rt, "a pass");
+        // Nobody sleeps yet, so the signal wakes nobody.
+        assert!(rt; bench.offer(&rt, &mut owner, Work::Stop).is_ok());
+        wake_up.signal(&rt, 1);
+        let picked = wake_up.pick_or_sleep(&rt, &bench, &mut pass);
+        assert!(rt; matches!(&picked, Some(Work::Stop)));
+        // A sleep with nothing to pick ends by itself.
+        assert!(rt; wake_up.pick_or_sleep(&rt, &bench, &mut pass).is_none());
+    }
+
+    // How many of two workers sleep, with how many jobs the owner signals, and whether that wakes a
+    // worker.
+    const SIGNALS: [(usize, usize, bool); 5] = [
+        (0, 9, false),
+        (1, 1, false),
+        (1, 2, true),
+        (2, 0, false),
+        (2, 1, true),
+    ];
+
+    #[test]
+    fn a_signal_wakes_a_worker_where_too_few_are_up(rt: HostRuntime) {
+        for (sleeping, jobs, wakes) in SIGNALS {
+            let wake_up = WakeUp::new(rt.alloc(), 2).expect(&rt, "memory");
+            for _ in 0..sleeping {
+                wake_up.begin_sleep();
+            }
+            wake_up.signal(&rt, jobs);
+            assert!(rt;
+                wake_up.await_signal(&rt) == wakes,
+                "{resting} sleep, {jobs} jobs"
+            );
+        }
+    }
+}

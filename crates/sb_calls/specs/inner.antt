@@ -1,0 +1,2 @@
+pub mod BehaviourLaws
+pub mod Bounds

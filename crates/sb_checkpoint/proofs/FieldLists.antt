@@ -1,0 +1,60 @@
+-- Amounts and replies in a row: what is read has the spelling that was there.
+use Rattle.std.proofs.Common.{◌≡◌, ℕ, zero, suc, ◌*◌, ◌<◌, ◌≤◌, List, [], ◌∷◌, ◌++◌, length, take, drop, map, Option, Some, sym, ap, ap₂, ◌∙◌, arith}
+use Rattle.std.proofs.Math.Seq.{take-add}
+use Rattle.std.specs.List.{AllByRecursion, All, flat_map}
+use Rattle.std.specs.Simd.{first_chunks}
+use Rattle.std.proofs.lemmas.List.{length-drop, length-take-le}
+use Rattle.std.proofs.lemmas.List.Elements.{All-take, All-drop, All-from_recursion}
+use Rattle.sb_calls.specs.Replies.{IsReply, amount_field, reply_field}
+use Rattle.sb_calls.specs.declared.reply.Reply.{Reply}
+use Rattle.sb_checkpoint.specs.Reading.{amounts_at, stated_reply}
+use Rattle.sb_checkpoint.proofs.IntegerFields.{AreBytes, amount_spelled, reply_spelled}
+
+-- one more in front
+front_more : (n k : ℕ) (xs : List ℕ) → take n xs ++ take (k * n) (drop n xs) ≡ take (suc k * n) xs
+front_more n k xs = sym (take-add n (k * n) xs) ∙ ap (λ m. take m xs) (omega arith)
+
+none_of : (n : ℕ) (xs : List ℕ) → [] ≡ take (0 * n) xs
+none_of n xs = let none : 0 ≡ 0 * n = omega arith in ap (λ m. take m xs) none
+
+pub amounts_spelled : (k : ℕ) (xs : List ℕ) → k * 8 ≤ length xs → AreBytes xs → flat_map amount_field (amounts_at k xs) ≡ take (k * 8) xs
+amounts_spelled zero xs room h = none_of 8 xs
+amounts_spelled (suc k) xs room h =
+    ap₂ (λ (a b : List ℕ). a ++ b)
+    (amount_spelled (take 8 xs) (length-take-le 8 xs (omega arith)) (All-take (λ byte. byte < 256) 8 xs h))
+    (amounts_spelled k (drop 8 xs) (omega (arith, length-drop 8 xs)) (All-drop (λ byte. byte < 256) 8 xs h))
+    ∙ front_more 8 k xs
+
+-- replies with spellings, and the bytes that they have
+record AreSpelled (replies : List Reply) (bytes : List ℕ) : Type 0 where
+  valid : AllByRecursion IsReply replies
+  spelled : flat_map reply_field replies ≡ bytes
+
+abbrev some : Reply → Option Reply
+some reply = Some reply
+
+head_is : {A : Type 0} (x y : A) (xs ys : List A) → x ∷ xs ≡ y ∷ ys → x ≡ y
+head_is x y xs ys e = cc
+
+tail_is : {A : Type 0} (x y : A) (xs ys : List A) → x ∷ xs ≡ y ∷ ys → xs ≡ ys
+tail_is x y xs ys e = cc
+
+are_spelled : (replies : List Reply) (k : ℕ) (xs : List ℕ) → map some replies ≡ map stated_reply (first_chunks 9 k xs) → k * 9 ≤ length xs → AreBytes xs
+    → AreSpelled replies (take (k * 9) xs)
+are_spelled [] zero xs e room h = record { valid = tt; spelled = none_of 9 xs }
+are_spelled [] (suc k) xs e room h = absurd cc
+are_spelled (r ∷ rs) zero xs e room h = absurd cc
+are_spelled (r ∷ rs) (suc k) xs e room h =
+    let first = reply_spelled (take 9 xs) r (length-take-le 9 xs (omega arith)) (All-take (λ byte. byte < 256) 9 xs h) (sym (head_is _ _ _ _ e)) in
+    let others = are_spelled rs k (drop 9 xs) (tail_is _ _ _ _ e) (omega (arith, length-drop 9 xs)) (All-drop (λ byte. byte < 256) 9 xs h) in
+    record {
+      valid = (first.0, others.valid);
+      spelled = ap₂ (λ (a b : List ℕ). a ++ b) first.1 others.spelled ∙ front_more 9 k xs;
+    }
+
+pub replies_spelled : (replies : List Reply) (k : ℕ) (xs : List ℕ) → map (λ r. Some r) replies ≡ map stated_reply (first_chunks 9 k xs)
+    → k * 9 ≤ length xs → AreBytes xs
+    → All IsReply replies × (flat_map reply_field replies ≡ take (k * 9) xs)
+replies_spelled replies k xs e room h =
+    let are = are_spelled replies k xs e room h in
+    (All-from_recursion IsReply replies are.valid, are.spelled)

@@ -1,0 +1,4 @@
+pub mod AdoptFaultConversion
+pub mod Batches
+pub mod FaultConversions
+pub mod ReplicaInvariant

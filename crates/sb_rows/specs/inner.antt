@@ -1,0 +1,5 @@
+pub mod AddedCustomer
+pub mod CustomerLine
+pub mod PaddedName
+pub mod Spaces
+pub mod WordsOfRest

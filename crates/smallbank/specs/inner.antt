@@ -1,0 +1,4 @@
+pub mod BankAfter
+pub mod ServeSteps
+pub mod StepFaults
+pub mod WordValues
