@@ -6,7 +6,7 @@ use Rattle.sb_calls.specs.SerialRun.{contents_after}
 use Rattle.sb_calls.specs.declared.op.Op.{Op}
 use Rattle.cown_board.specs.Board.{BoardOf, length_of, unfinished_of, reply_in}
 
--- what a board's cowns hold after all its entries; if it is idle, these are its columns
+-- what a board's cowns contain after all its entries; if it is idle, these are its columns
 abbrev pub final_contents : BoardOf Op → List ℤ
 final_contents board = contents_after declared_cowns effect_of (contents_of board.opening) board.log
 

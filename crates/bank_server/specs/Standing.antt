@@ -26,7 +26,7 @@ abbrev pub numbered_standing : ℕ → Call → Option (Key × Call) → Standin
 numbered_standing n call None = LogFull
 numbered_standing n call (Some entry) = if same_call entry.1 call then Number n else Mismatch n
 
--- the standing of an ask whose key has this place in the log, or none
+-- the standing of an ask whose key has this index in the log, or none
 abbrev pub standing_at : List (Key × Call) → Call → Option ℕ → Standing
 standing_at log call None = LogFull
 standing_at log call (Some k) = numbered_standing (k + 1) call (slice_get log k)

@@ -43,7 +43,8 @@ reply_in board number =
     else option_and_then finished_reply (slice_get board.states (number - 1 - length board.base_replies))
 
 module _ {B : Type 0} (touches : B → List ℕ) (effect : B → List ℤ → Reply × List ℤ) where
-  -- the inputs of the behaviour at a position: what its cowns hold after the behaviours before it
+  -- the inputs of the behaviour at a position: what its cowns contain after the behaviours before
+  -- it
   abbrev pub inputs_at : BoardOf B → ℕ → B → List ℤ
   inputs_at board position behaviour =
       inputs_of touches effect (contents_after_first touches effect (contents_of board.opening) board.log position) behaviour
@@ -59,8 +60,8 @@ module _ {B : Type 0} (touches : B → List ℕ) (effect : B → List ℤ → Re
   abbrev pub IsOutHere : BoardOf B → DoneOf B → Type 0
   IsOutHere board done = (position : ℕ) × IsOutAt board done position
 
-  -- the ready behaviour at an index is handed out, with what its cowns hold, and is out from then
-  -- on
+  -- the ready behaviour at an index is handed out, with what its cowns contain, and is out from
+  -- then on
   pub record Takes (old : BoardOf B) (index : ℕ) (job : JobOf B) (new : BoardOf B) : Type 0 where
     pub position : ℕ
     pub ready : slice_get (ready_positions touches old.log old.states) index ≡ Some position
@@ -76,17 +77,17 @@ module _ {B : Type 0} (touches : B → List ℕ) (effect : B → List ℤ → Re
     pub by_log : reply_by_log touches effect (contents_of old.opening) old.log (suc position) ≡ Some reply
     pub finished : new ≡ record old { states = slice_set old.states position (Finished reply) }
 
-  -- the columns hold what the whole log leaves
+  -- the columns are what the whole log leaves
   abbrev pub IsAfterAll : BoardOf B → Balances → Type 0
   IsAfterAll board columns = contents_of columns ≡ contents_after touches effect (contents_of board.opening) board.log
 
-  -- the columns hold what the log leaves up to a number
+  -- the columns are what the log leaves up to a number
   abbrev pub IsAfterFirst : BoardOf B → ℕ → Balances → Type 0
   IsAfterFirst board number columns =
       let position = number - length board.base_replies in
       contents_of columns ≡ contents_after_first touches effect (contents_of board.opening) board.log position
 
-  -- the columns of a cut: everything up to its length is finished, and the columns hold what that
+  -- the columns of a cut: everything up to its length is finished, and the columns are what that
   -- leaves; without columns there is no cut, or something up to its length is unfinished
   abbrev pub AreCutColumns : BoardOf B → Option Balances → Type 0
   AreCutColumns board (Some columns) =

@@ -229,7 +229,7 @@ impl<B: Behaviour> Board<B> {
     }
 
     /// Takes back the result of a behaviour that was handed out. The behaviour is then finished,
-    /// its cowns hold what it left, and its reply is returned. Any other result comes back, and
+    /// its cowns contain what it left, and its reply is returned. Any other result comes back, and
     /// nothing changes: it must be of a behaviour that is out, on the inputs that it was handed out
     /// with.
     pub fn finish(&mut self, done: Done<B>) -> Result<Reply, Done<B>>

@@ -8,8 +8,8 @@ use sb_amount::Cents;
 use sb_calls::{BEHAVIOUR_COWNS, Behaviour, Performs, Reply};
 use std::marker::Model;
 
-/// A behaviour that was handed out, with what its cowns hold. Until it is finished nobody else has
-/// these cowns.
+/// A behaviour that was handed out, with what its cowns contain. Until it is finished nobody else
+/// has these cowns.
 #[derive(Drop)]
 pub struct Job<B: Behaviour> {
     number: u64,

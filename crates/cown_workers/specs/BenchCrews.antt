@@ -23,13 +23,13 @@ pub record IsFresh (hired : ℕ) (admits : Bool) (crew : BenchCrewOf) : Type 0 w
   pub offered : crew.offered ≡ []
   pub picked : crew.picked ≡ []
 
--- the owner helps and picked this Work, at some place; nothing else changed
+-- the owner helps and picked this Work, at some position; nothing else changed
 abbrev pub PicksItself : BenchCrewOf → WorkOf → BenchCrewOf → Type 0
 PicksItself old work new =
     (old.owner_helps ≡ true) × ((place : ℕ) × (new ≡ record old { picked = old.picked ++ (place, work) ∷ [] }))
 
 -- what an owner hands over after it picked this Work: the result of a job. Nothing is said of a
--- `Stop`, because a crew isn't asked for anything once it goes home.
+-- `Stop`, because a crew isn't asked for anything once it shuts down.
 abbrev pub IsMadeOf : WorkOf → Option (DoneOf Op) → Type 0
 IsMadeOf (Run job) (Some done) = IsResultOf done job
 IsMadeOf (Run job) None = ⊥

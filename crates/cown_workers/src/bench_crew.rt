@@ -214,7 +214,7 @@ fn pick_and_carry_out<R: Wait, G: Gate>(
 {
     match bench.pick(rt, own_pass)? {
         Work::Run(job) => Some(carry_out(gate, job)),
-        // A crew isn't asked for anything once it goes home.
+        // A crew isn't asked for anything once it shuts down.
         Work::Stop => None,
     }
 }
@@ -238,7 +238,7 @@ mod tests {
 
     const TURNS: u32 = 1_000_000;
 
-    // Holds a job until the gate is opened, or for a limited number of turns.
+    // Keeps a job waiting until the latch is opened, or for a limited number of turns.
     #[derive(Default, Drop)]
     struct Latch {
         came: AtomicBool,

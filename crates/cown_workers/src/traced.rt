@@ -22,7 +22,7 @@ pub enum Notice {
     Came(u64),
 }
 
-/// The notice of no job, since their numbers begin with 1. It fills the places without a notice.
+/// The notice of no job, since their numbers begin with 1. It fills the slots without a notice.
 impl Default for Notice {
     fn default() -> Notice {
         Notice::Given(0)

@@ -86,7 +86,7 @@ impl<'a, R: Wait + Clock, G: Gate> UnstartedCrew<'a, R, G> {
 }
 
 impl<'a, R: Threads + Wait + Clock + Sync, G: Gate + Sync> UnstartedCrew<'a, R, G> {
-    // Starts a thread for each worker. If one can't be started, the others are sent home and
+    // Starts a thread for each worker. If one can't be started, the others are stopped and
     // joined.
     pub(crate) fn start<E>(self, scope: &'a Scope<'a, E>) -> Result<BenchCrew<'a, R, G>, CrewFault>
         ensures { IfOk result (λ crew. crew ≡ self.entry) }

@@ -137,7 +137,7 @@ mod tests {
             wake_up.signal(&rt, jobs);
             assert!(rt;
                 wake_up.await_signal(&rt) == wakes,
-                "{resting} sleep, {jobs} jobs"
+                "{sleeping} sleep, {jobs} jobs"
             );
         }
     }

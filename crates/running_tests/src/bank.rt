@@ -150,7 +150,7 @@ impl Bank {
         self.out.remove(position).run()
     }
 
-    // The place of the job with a number among those that are out.
+    // The position of the job with a number among those that are out.
     fn position_of(&self, number: u64) -> Option<usize>
         ensures { IfSome result (λ position. position < length self.now.out.items) }
     {

@@ -13,7 +13,7 @@ pub record FaultyStoreOf : Type 0 where
   pub at : ℕ
   pub leaves : Version
 
--- what is held after a put of these bytes failed
+-- the content after a put of these bytes failed
 abbrev pub content_of_version : Version → Option (List ℕ) → List ℕ → Option (List ℕ)
 content_of_version Old content bytes = content
 content_of_version New content bytes = Some bytes

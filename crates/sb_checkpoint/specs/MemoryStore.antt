@@ -16,7 +16,7 @@ abbrev pub saturating_increment : ℕ → ℕ
 saturating_increment failures = if failures == 2 ^ 64 - 1 then failures else suc failures
 
 -- a put ends as planned, and the next one succeeds; a get changes nothing, its device never fails,
--- and it is refused memory only if something is held
+-- and it is refused memory only if there is a content
 abbrev pub MemoryActs : MemoryStoreOf → StoreStep → MemoryStoreOf → Type 0
 MemoryActs old (Put bytes (Ok done)) new =
     (old.next ≡ how.Ok) × (new ≡ record old { slot = Some bytes })

@@ -66,7 +66,7 @@ pub(crate) fn stated_opening(bytes: &[u8], customers: usize) -> i64
 
 // ---- balances
 
-// The amounts from a place on, one for each customer.
+// The amounts from an offset on, one for each customer.
 pub(crate) fn read_amounts(
     alloc: Global,
     bytes: &[u8],

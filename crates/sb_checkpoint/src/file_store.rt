@@ -97,7 +97,7 @@ impl<P: FileWithSpare> CheckpointStore for FileStore<P> {
         }
     }
 
-    // A file that is compared piece by piece needn't be held in memory.
+    // A file that is compared piece by piece needn't be read whole.
     fn has_content(&mut self, bytes: &[u8]) -> Result<bool, StoreFault> {
         let answer = self.file.has_content(bytes);
         if let Err(StoreFault::Device) = answer {

@@ -1,4 +1,4 @@
-//! The layouts of a checkpoint: the places of its fields, and their sizes in bytes.
+//! The layouts of a checkpoint: the offsets of its fields, and their sizes in bytes.
 ghost use Rattle.std.specs.Prelude.{◌≡◌, option_map};
 ghost use Rattle.sb_checkpoint.specs.inner.Layouts.{layout_of};
 ghost use Rattle.sb_checkpoint.specs.Reading as spec;
@@ -15,7 +15,7 @@ pub(crate) const MAGIC_FIRST: [u8; 8] = *b"SBCKPT01";
 
 pub(crate) const MAGIC_SECOND: [u8; 8] = *b"SBCKPT02";
 
-/// The places of the length and of the number of customers.
+/// The offsets of the length and of the number of customers.
 pub(crate) const LENGTH_AT: usize = 8;
 
 pub(crate) const CUSTOMERS_AT: usize = 16;

@@ -9,11 +9,11 @@ use std::marker::Model;
 /// How a put ends.
 #[derive(Clone, Copy, Debug, PartialEq, Eq)]
 pub enum How {
-    /// It succeeds: the bytes are held.
+    /// It succeeds: the bytes are the content.
     Ok,
     /// The device fails, and the old bytes stay.
     Old,
-    /// The device fails, but the new bytes are held.
+    /// The device fails, but the new bytes are the content.
     New,
 }
 
@@ -59,7 +59,7 @@ impl MemoryStore {
         self.next = how;
     }
 
-    // Holds a copy of these bytes.
+    // Makes a copy of these bytes the content.
     pub(crate) fn set_content(&mut self, bytes: &[u8]) -> Result<(), StoreFault>
         ensures { MatchResult result
             (λ done. self.new ≡ record self.old { slot = Some bytes.now })

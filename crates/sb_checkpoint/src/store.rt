@@ -28,7 +28,7 @@ impl StoreFault {
     }
 }
 
-/// Holds the bytes that were put last.
+/// Stores the bytes that were put last: its content.
 ///
 /// What its contracts say of these bytes holds for an honest store. That a store in memory is
 /// honest is proved; for a file it is a premise.

@@ -9,7 +9,7 @@ use Rattle.sb_sequencer.specs.declared.answer.AskFault.{AskFault}
 use Rattle.sb_sequencer.specs.declared.answer.Numbered.{Numbered}
 use Rattle.sb_sequencer.specs.declared.answer.Numbered.TheVariants.{New, Repeat}
 
--- a sequencer: the log, the lengths last heard of each replica and of its checkpoint, and the
+-- a sequencer: the log, the lengths last received of each replica and of its checkpoint, and the
 -- answer kept for each number, if any
 pub record SequencerOf : Type 0 where
   pub log : List (Key × Call)
@@ -26,7 +26,7 @@ empty_sequencer nodes = record {
   answers = [];
 }
 
--- a sequencer is valid: it has one place for an answer for each call, and one checkpoint length for
+-- a sequencer is valid: it has one slot for an answer for each call, and one checkpoint length for
 -- each replica; no replica and no checkpoint is beyond the log
 pub record IsSequencer (s : SequencerOf) : Type 0 where
   pub log : IsLog s.log

@@ -8,8 +8,8 @@ use crate::note::HaveNote;
 use crate::sequencer::Sequencer;
 
 impl Sequencer {
-    /// Notes that a replica keeps a checkpoint of this length. The last length heard counts, even
-    /// if it is below the one before. It allocates nothing.
+    /// Notes that a replica keeps a checkpoint of this length. The last length received counts,
+    /// even if it is below the one before. It allocates nothing.
     pub fn on_have(&mut self, replica: u8, length: u64) -> HaveNote
         ensures note { result ≡ note_of_have self.old replica length }
         ensures state { self.new ≡ after_have self.old replica length }

@@ -1,5 +1,5 @@
-//! The sequencer: it numbers clients' requests into one log, and remembers what it hears from the
-//! replicas.
+//! The sequencer: it numbers clients' requests into one log, and remembers what it receives from
+//! the replicas.
 #![tactic(auto)]
 
 mod answer;

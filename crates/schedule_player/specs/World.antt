@@ -183,8 +183,8 @@ may_take_memory (note.Behind size) = true
 may_take_memory (note.Audit found) = adds_up found
 may_take_memory other = false
 
--- when memory may be refused: never to a take, a finish, or what the sequencer hears or is asked of
--- donors; to an ask only if it gets a new number; to a give if both replicas exist, since a
+-- when memory may be refused: never to a take, a finish, or what the sequencer receives or is asked
+-- of donors; to an ask only if it gets a new number; to a give if both replicas exist, since a
 -- checkpoint of no entry is read too; and to any other event only if the machine's note on it is
 -- one of these
 abbrev pub MayWantMemory : WorldOf → Event → Type 0

@@ -16,7 +16,7 @@ fn a_resend_sends_what_was_not_heard_of(rt: HostRuntime) {
         &mut world,
         &[
             ("to 0 17", Note::Nothing),
-            // The sequencer has heard nothing of it yet.
+            // The sequencer has received nothing of it yet.
             ("resend 0", Note::Resent(16)),
             ("to 0 32", Note::Repeat(16)),
             ("ack 0", Note::Sent(1)),

@@ -170,8 +170,8 @@ fn says(rt: &impl Abort, checkpoint: &Checkpoint, columns: &Columns, replies: &[
     assert!(rt; checkpoint.replies() == replies);
 }
 
-// Checks that the state at a place of those sent to the second replica has the first one's columns,
-// and these replies.
+// Checks that the state at a position of those sent to the second replica has the first one's
+// columns, and these replies.
 fn is_checkpoint(rt: &impl Abort, alloc: Global, world: &World, position: u32, replies: &[Reply]) {
     assert!(rt; world.replicas() == 2);
     let columns = world.columns(0).expect(rt, "columns");
@@ -179,7 +179,7 @@ fn is_checkpoint(rt: &impl Abort, alloc: Global, world: &World, position: u32, r
     says(rt, &checkpoint_of(rt, alloc, bytes), columns, replies);
 }
 
-// Checks that two states, each given by its replica and place, have the same bytes.
+// Checks that two states, each given by its replica and position, have the same bytes.
 fn are_alike(rt: &impl Abort, world: &World, one: (u32, u32), other: (u32, u32)) {
     assert!(rt; one.0 < world.replicas() && other.0 < world.replicas());
     assert!(rt; world.state(one.0, one.1) == world.state(other.0, other.1));

@@ -87,8 +87,8 @@ fn new_ask(request: u32, call: &Call) -> Event {
     }
 }
 
-// Sends the first entries, this many, to the first replica; the frame of each has the place of its
-// number.
+// Sends the first entries, this many, to the first replica; the frame of each has the position of
+// its number.
 pub(crate) fn sends(rt: &impl Abort, world: &mut World, count: u32) {
     for number in 1..=count {
         let event = Event::Send { replica: 0, number };
@@ -96,7 +96,7 @@ pub(crate) fn sends(rt: &impl Abort, world: &mut World, count: u32) {
     }
 }
 
-// The frames with these places arrive at the first replica, which accepts their entries.
+// The frames at these positions arrive at the first replica, which accepts their entries.
 pub(crate) fn accepts(rt: &impl Abort, world: &mut World, count: u32) {
     for position in 1..=count {
         let event = Event::To {

@@ -24,7 +24,7 @@ pub enum Event {
         /// The number of the entry.
         number: u32,
     },
-    /// The entries after the last length heard of a replica are sent to it, at most 16.
+    /// The entries after the last length received of a replica are sent to it, at most 16.
     Resend {
         /// The replica that gets it.
         replica: u32,

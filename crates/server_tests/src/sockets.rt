@@ -10,7 +10,7 @@ use std::net::{Shutdown, SocketAddr, TcpListener, TcpStream};
 use std::process::Abort;
 use std::thread;
 
-// Sends a session in pieces, the last ones after the first flush was answered, and hears everything
+// Sends a session in pieces, the last ones after the first flush was answered, and reads everything
 // that the server sends.
 fn asked(rt: &impl Abort, host: &HostRuntime, server: SocketAddr) -> Vec<u8> {
     let mut stream = TcpStream::connect(host, server).expect(rt, "a connection");

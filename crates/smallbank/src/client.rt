@@ -35,7 +35,7 @@ where
     S: CheckpointStore,
     C: Crew,
     requires one_each { IsLog primary.old.log }
-    // What the client sent was heard, and its asks are in the log.
+    // What the client sent was handled, and its asks are in the log.
     ensures session { IfSome (T.remaining stream.old) (λ sent.
         IsSession primary.old.log sent result primary.new.log) }
     ensures bank { PreservesBank primary.old primary.new }

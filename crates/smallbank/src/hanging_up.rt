@@ -49,7 +49,7 @@ pub(crate) fn pass_over<R: Clock, S: Read>(rt: &R, reader: &mut S, longest: Dura
     }
 }
 
-// Whether the start is this long ago. If the clock can't tell, the answer is yes.
+// Whether the start is this long ago. If the clock fails, the answer is yes.
 fn has_lasted<R: Clock>(rt: &R, began: &Instant, longest: Duration) -> bool {
     match began.elapsed(rt) {
         Ok(lasted) => lasted >= longest,

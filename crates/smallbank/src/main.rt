@@ -42,7 +42,7 @@ fn main(rt: HostRuntime) -> ExitCode {
         Ok(status) => status,
         Err(fault) => {
             let report = told(fault);
-            // If standard error fails too, the status still tells the fault.
+            // If standard error fails too, the status still says the fault.
             let _ = eprintln!(rt; "{report}");
             report.status
         }

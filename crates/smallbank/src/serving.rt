@@ -57,7 +57,7 @@ pub struct ServedBank<S: CheckpointStore, W> {
 ///
 /// Fails with
 /// - [`ServeFault::Run`] if a follower can't be started or differs from node 0, the crew is gone,
-///   no client can be let in, a write to the writer or the store's device fails, or memory is
+///   no client can be accepted, a write to the writer or the store's device fails, or memory is
 ///   refused,
 /// - [`ServeFault::ReadBack`] if the store doesn't give back what was put.
 ///

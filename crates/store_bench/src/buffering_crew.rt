@@ -16,7 +16,7 @@ pub struct BufferingCrew {
 }
 
 impl BufferingCrew {
-    /// A crew that holds nothing yet.
+    /// A crew that buffers nothing yet.
     pub fn new(alloc: Global) -> Result<BufferingCrew, AllocError>
         ensures { IfOk result (λ crew. crew.results.items ≡ []) }
     {

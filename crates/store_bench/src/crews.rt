@@ -89,7 +89,7 @@ fn in_place(
     )
 }
 
-// A crew that holds jobs executes this many calls.
+// A crew that buffers jobs executes this many calls.
 fn run_buffered(
     clock: &impl Clock,
     alloc: Global,

@@ -37,7 +37,7 @@ pub enum Fault {
     /// A stream takes no bytes.
     #[error("{0}")]
     Stream(#[from] StreamFault),
-    /// A replica hears no entries.
+    /// A replica receives no entries.
     #[error("{0}")]
     Hearing(#[from] ReceiveFault),
     /// A replica keeps no checkpoint.

@@ -1,4 +1,4 @@
-//! Replicas that are measured, and the entries that they hear.
+//! Replicas that are measured, and the entries that they receive.
 ghost use Rattle.std.specs.Prelude.{◌≡◌};
 
 use crate::bench_result::BenchResult;
@@ -60,7 +60,7 @@ fn push_entry(directory: &Directory, number: u64, frames: &mut Vec<u8>) -> Resul
     Ok(())
 }
 
-/// A replica hears frames, and executes all entries in place.
+/// A replica receives frames, and executes all entries in place.
 pub(crate) fn receive_all(
     alloc: Global,
     replica: &mut Replica<MemoryStore>,
@@ -75,7 +75,7 @@ pub(crate) fn receive_all(
     Ok(())
 }
 
-// It hears all whole frames of a stream. When its board is full, everything is executed.
+// It receives all whole frames of a stream. When its board is full, everything is executed.
 fn receive_message(replica: &mut Replica<MemoryStore>, stream: &mut Stream) -> Result<(), Fault> {
     // The checker takes the frame apart, and needs the types spelled out.
     let _parts: Option<(Frame, Call, WireReply, AskOutcome)> = None;

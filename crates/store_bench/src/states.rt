@@ -14,7 +14,7 @@ use sb_rows::CUSTOMERS;
 use std::alloc::Global;
 use std::time::{Clock, Duration, Instant};
 
-// The balances of each customer before any entry is heard.
+// The balances of each customer before any entry is received.
 const NOTHING: &str = "0.00 0.00";
 
 /// A replica at its opening adopts a state of the greatest size this often. The result is the
@@ -93,7 +93,7 @@ pub fn by_state(clock: &impl Clock, alloc: Global, absence: Absence) -> Result<B
     measured(&replica, time)
 }
 
-/// It hears the entries that it missed, and executes them. The result is the same.
+/// It receives the entries that it missed, and executes them. The result is the same.
 pub fn by_entries(
     clock: &impl Clock,
     alloc: Global,

@@ -61,7 +61,7 @@ pub enum CrewChoice {
     Wait {
         workers: usize,
     },
-    /// A crew that holds sixteen jobs executes this many calls, without threads.
+    /// A crew that buffers sixteen jobs executes this many calls, without threads.
     Buffered {
         payees: Payees,
         calls: u32,

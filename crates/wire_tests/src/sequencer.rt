@@ -1,4 +1,4 @@
-//! The sequencer: what it is asked, what it hears, and its answers.
+//! The sequencer: what it is asked, what it receives, and its answers.
 use crate::fixtures::{balance, entry};
 use crate::steps::is_so;
 use sb_calls::Reply;

@@ -44,7 +44,7 @@ module _ {B : Type 0} (touches : B → List ℕ) (effect : B → List ℤ → Re
     pub before : (j : ℕ) → j < k → touches_at log cown j ≡ true → unfinished_at states j ≡ false
     pub after : (j : ℕ) → k ≤ j → touches_at log cown j ≡ true → unfinished_at states j ≡ true
 
-  -- what the cowns hold agrees with the log run one by one
+  -- what the cowns contain agrees with the log run one by one
   pub record AgreesWithLog (opening : List ℤ) (log : List B) (states : List State) (held : List ℤ) : Type 0 where
     pub same_length : length log ≡ length states
     pub cown_count : length held ≡ length opening
@@ -53,7 +53,7 @@ module _ {B : Type 0} (touches : B → List ℕ) (effect : B → List ℤ → Re
     -- if two behaviours share a cown, the later one waits until the first one is finished
     pub ordered : (j k : ℕ) → j < k → k < length log → unfinished_at states j ≡ true
         → conflict_at touches log j k ≡ true → waiting_at states k ≡ true
-    -- a cown that is finished up to k holds what the first k behaviours leave
+    -- a cown that is finished up to k contains what the first k behaviours leave
     pub finished_up_to : (cown k : ℕ) → k ≤ length log → IsFinishedUpTo log states cown k
         → get_or held cown (pos 0) ≡ get_or (contents_after_first touches effect opening log k) cown (pos 0)
     pub replies : (k : ℕ) (reply : Reply) → slice_get states k ≡ Some (Finished reply)
@@ -93,7 +93,7 @@ module _ {B : Type 0} (touches : B → List ℕ) (effect : B → List ℤ → Re
     -- a finish may make up to three more behaviours ready
     pub room : 0 < unfinished → unfinished + 3 ≤ deque_capacity links.ready.ready
 
-  -- a cut holds what the board would hold if it had taken only the numbers up to the cut
+  -- a cut has what the board would contain if it had taken only the numbers up to the cut
   pub record IsCut (opening : List ℤ) (base : ℕ) (log : List B) (states : List State) (cut : Cut) : Type 0 where
     pub after : base ≤ cut.number
     pub within : cut.number ≤ base + length log

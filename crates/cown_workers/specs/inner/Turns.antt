@@ -8,7 +8,7 @@ use Rattle.cown_bench.specs.declared.work.Work.TheVariants.{Run, Stop}
 use Rattle.cown_workers.specs.declared.worker.Turn.{Turn}
 use Rattle.cown_workers.specs.declared.worker.Turn.TheVariants.{Waited, HandedOver, Stopped}
 
--- the worker picked this Work, at some place
+-- the worker picked this Work, at some position
 abbrev pub Picks : WorkerOf → WorkOf → WorkerOf → Type 0
 Picks old work new = (place : ℕ) × (new ≡ record old { picked = old.picked ++ (place, work) ∷ [] })
 

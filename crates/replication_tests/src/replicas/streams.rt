@@ -65,7 +65,7 @@ fn run_all(rt: &impl Abort, replica: &mut Replica<MemoryStore>) {
     }
 }
 
-// Hears the bytes of each frame. A busy replica runs everything first.
+// Receives the bytes of each frame. A busy replica runs everything first.
 fn receive_each(rt: &impl Abort, replica: &mut Replica<MemoryStore>, frames: &[Frame]) {
     for frame in frames {
         let bytes = encode(frame);
@@ -76,7 +76,7 @@ fn receive_each(rt: &impl Abort, replica: &mut Replica<MemoryStore>, frames: &[F
     }
 }
 
-// Hears everything that comes with these bytes. A busy replica runs everything.
+// Receives everything that comes with these bytes. A busy replica runs everything.
 fn receive_piece(rt: &impl Abort, other: &mut StreamNode, bytes: &[u8]) {
     assert!(rt; other.stream.feed(bytes) == Ok(()));
     for _ in 0..u64::MAX {

@@ -10,7 +10,7 @@ use Rattle.cown_board.specs.Board.{BoardOf, length_of}
 use Rattle.cown_board.specs.Job.{JobOf}
 use Rattle.cown_board.specs.declared.state.State.TheVariants.{Finished}
 
--- given what the cowns held at the opening, and all ops of the log
+-- given what the cowns contained at the opening, and all ops of the log
 module _ (opening : List ℤ) (log : List Op) where
   -- these are the log's replies to the numbers from 1 on
   abbrev pub AreReplies : List Reply → Type 0

@@ -129,7 +129,7 @@ pub struct TestListener<'c, 't> {
 }
 
 impl<'c, 't> TestListener<'c, 't> {
-    /// The listener for these clients, and the place where their answers go.
+    /// The listener for these clients, and where their answers go.
     pub fn of(
         alloc: Global,
         clients: &[Client<'c>],

@@ -49,7 +49,7 @@ fn a_drip_is_left(rt: HostRuntime) {
     assert!(&rt; reads_within(&rt, Duration::from_secs(3_600)) == 4_096);
 }
 
-/// A listener whose clients are gone before they are let in, except the third; then its device
+/// A listener whose clients are gone before they are accepted, except the third; then its device
 /// fails.
 #[derive(Drop)]
 struct Flaky {

@@ -130,7 +130,7 @@ fn shows_all(rt: &impl Abort, log: &Sequencer, plain: &[(Key, Call)]) {
     for (position, (_, call)) in plain.iter().enumerate() {
         assert!(rt;
             log.call(position as u64 + 1).copied() == Some(*call),
-            "{place}"
+            "{position}"
         );
     }
 }

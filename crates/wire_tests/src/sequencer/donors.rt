@@ -14,7 +14,7 @@ fn the_longest_checkpoint_is_given(rt: HostRuntime) {
             Step::Donor(0, Some((2, 7))),
             Step::Have(3, 6, HaveNote::Recorded),
             Step::Donor(0, Some((2, 7))),
-            // The last length that was heard is the one that counts.
+            // The last length that was received is the one that counts.
             Step::Have(2, 5, HaveNote::Recorded),
             Step::Donor(0, Some((3, 6))),
             // A length that isn't recorded doesn't count.

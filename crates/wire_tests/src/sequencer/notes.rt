@@ -27,7 +27,7 @@ fn shows_answers_by_key(rt: HostRuntime) {
             Step::AnswerOf(1, 2, None),
             Step::Answer(3, Reply::Shown(7), AnswerNote::Kept),
             Step::AnswerOf(1, 2, Some(Reply::Shown(7))),
-            // Below and above the place that was filled, and for a key without a number.
+            // Below and above the slot that was filled, and for a key without a number.
             Step::AnswerOf(1, 1, None),
             Step::AnswerOf(1, 3, None),
             Step::Ask(1, 3, "alice", Ok(Numbered::New(4))),
