@@ -14,21 +14,21 @@ pub returns-then-is_empty : goal.returns-then-is_empty
 returns-then-is_empty c =
     let none : length (without_sign c.args.text.now) ≡ 0 = search rules in
     let read = read_money-empty c.args.text.now none in
-    record { spelled = tt; taken = taken_from_read c.args.text.now _ (sym read); exact = sym read }
+    record { spelled = tt; complete = taken_from_read c.args.text.now _ (sym read); exact = sym read }
 
 pub returns-in_default : goal.returns-in_default
 returns-in_default c =
     let start : HasBody c.args.text.now c.split_sign-is_negative.result.1.now =
     record { is = c.split_sign-is_negative.ensures.body; some = sym c.is_empty.ensures ∙ c.if-is_empty.false } in
     let read = read_money-not_digit c.args.text.now _ start c.in_default.ensures in
-    record { spelled = tt; taken = taken_from_read c.args.text.now _ (sym read); exact = sym read }
+    record { spelled = tt; complete = taken_from_read c.args.text.now _ (sym read); exact = sym read }
 
 pub returns-in_default-whole_part : goal.returns-in_default-whole_part
 returns-in_default-whole_part c =
     let start : HasBody c.args.text.now c.split_sign-is_negative.result.1.now =
     record { is = c.split_sign-is_negative.ensures.body; some = sym c.is_empty.ensures ∙ c.if-is_empty.false } in
     let read = read_money-bad_decimals c.args.text.now _ start c.in-Some.ensures.0 c.in_default-whole_part.ensures in
-    record { spelled = tt; taken = taken_from_read c.args.text.now _ (sym read); exact = sym read }
+    record { spelled = tt; complete = taken_from_read c.args.text.now _ (sym read); exact = sym read }
 
 pub returns-then-not-is_canonical : goal.returns-then-not-is_canonical
 returns-then-not-is_canonical c =
@@ -42,12 +42,12 @@ returns-then-not-is_canonical c =
       | then-not-is_canonical-via-then-not-is_canonical w ↦
           let read = read_money-not_canonical text body passed
           (or_left (not (is_canonical (before_first is_point body))) (bytes_eq text (codes "-0.00")) (ap not (whole ∙ w.if-not-is_canonical.true))) in
-          record { spelled = tt; taken = taken_from_read text _ (sym read); exact = sym read }
+          record { spelled = tt; complete = taken_from_read text _ (sym read); exact = sym read }
       | then-not-is_canonical-via-else-not-is_canonical+then-eq w ↦
           let same : bytes_eq text (codes "-0.00") ≡ true = ap (bytes_eq text) (sym w.as_slice.ensures) ∙ sym w.eq.ensures ∙ w.if-eq.true in
           let read = read_money-not_canonical text body passed
           (or_right (not (is_canonical (before_first is_point body))) (bytes_eq text (codes "-0.00")) same) in
-          record { spelled = tt; taken = taken_from_read text _ (sym read); exact = sym read }
+          record { spelled = tt; complete = taken_from_read text _ (sym read); exact = sym read }
     ]
 
 -- what the code's `-size` is, and `size`
@@ -81,4 +81,4 @@ returns c =
           rw plain (w.cents-is ∙ ap (λ z. to_z w64 (of_z w64 z)) size ∙ plain_is n (omega arith))
     ] in
     let read = c.ok_or.ensures.value ∙ read_money-sized text body passed canonical x c.new.result signed c.new.ensures in
-    record { spelled = spelled_from_read text c.ok_or.result read; taken = taken_from_read text c.ok_or.result read; exact = read }
+    record { spelled = spelled_from_read text c.ok_or.result read; complete = taken_from_read text c.ok_or.result read; exact = read }
