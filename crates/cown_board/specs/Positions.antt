@@ -1,5 +1,5 @@
 -- Positions in a list, counted from 0, at which a test holds.
-use Rattle.std.specs.Prelude.{ℕ, zero, suc, Bool, true, not, ◌&&◌, List, [], ◌∷◌, ◌++◌}
+use Rattle.std.specs.Prelude.{ℕ, zero, suc, Bool, true, not, ◌&&◌, if◌then◌else◌, List, [], ◌∷◌, ◌++◌}
 
 -- the positions below m at which f holds, in rising order (by recursion, because the proofs take
 -- the same steps)

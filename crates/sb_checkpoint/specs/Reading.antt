@@ -1,5 +1,5 @@
 -- The fault of bytes that are read as a checkpoint: the first in order.
-use Rattle.std.specs.Prelude.{FitsSigned, ◌≡◌, ℕ, ◌+◌, ◌*◌, ℤ, pos, neg_ℤ, ◌+ℤ◌, ◌<◌, ◌≤◌, int_lt, nat_lt, nat_eq, ◌==◌, Bool, true, false, ◌||◌, not, Option, Some, None, List, length, take, drop, get_or, map, option_and_then}
+use Rattle.std.specs.Prelude.{FitsSigned, ◌≡◌, ℕ, ◌+◌, ◌*◌, ℤ, pos, neg_ℤ, ◌+ℤ◌, ◌<◌, ◌≤◌, int_lt, nat_lt, nat_eq, ◌==◌, Bool, true, false, ◌||◌, not, if◌then◌else◌, Option, Some, None, List, length, take, drop, get_or, map, option_and_then}
 use Rattle.std.specs.Int.{w32, w64, from_be_bytes, cast_signed}
 use Rattle.std.specs.List.{All, list_any, starts_with}
 use Rattle.std.specs.Option.{option_or}

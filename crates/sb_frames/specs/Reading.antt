@@ -1,5 +1,5 @@
 -- Fields read from the left: the value and the bytes after it, or the fault.
-use Rattle.std.specs.Prelude.{ℕ, ℤ, neg_ℤ, int_le, nat_lt, ◌==◌, Bool, ◌&&◌, ◌||◌, Result, Ok, Err, List, [], ◌∷◌, length, take, drop}
+use Rattle.std.specs.Prelude.{ℕ, ℤ, neg_ℤ, int_le, nat_lt, ◌==◌, Bool, ◌&&◌, ◌||◌, if◌then◌else◌, Result, Ok, Err, List, [], ◌∷◌, length, take, drop}
 use Rattle.std.specs.Int.{Width, w64, byte_len, from_be_bytes, cast_signed}
 use Rattle.sb_amount.specs.declared.cents.TheConstants.{LIMIT}
 use Rattle.sb_rows.specs.Name.{is_name}

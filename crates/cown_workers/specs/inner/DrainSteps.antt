@@ -3,7 +3,7 @@ use Rattle.std.specs.Prelude.{ℕ, List, count_by}
 use Rattle.sb_calls.specs.declared.op.Op.{Op}
 use Rattle.cown_board.specs.Board.{BoardOf}
 use Rattle.cown_board.specs.State.{is_waiting}
-use Rattle.cown_workers.specs.Draining.{Exchanges, CrewStep, TakesSteps}
+use Rattle.cown_workers.specs.Draining.{CrewStep, Exchanges, TakesSteps}
 
 -- the number of waiting ops
 abbrev pub waiting_count : BoardOf Op → ℕ
