@@ -57,10 +57,10 @@ returns g c =
     (elim c.match-offer_all.branch [
       | in-Ok w ↦
           (subst heard (sym (w.result-is ∙ w.batch_end.ensures))
-          (batch_heard old new log from rest batch c.look_up-end.result limit looked.looks_up looked.whole looked.early looked.less some room
+          (batch_heard old new log from rest batch c.look_up-end.result limit looked.looks_up looked.batch_is_full looked.batch_is_short looked.consumes_bytes some room
           (w.in-Ok.ensures ∙ ap (after_batch inside.log) all) refl))
       | in-Err w ↦
           (subst heard (sym w.result-is)
-          (refused old new log from rest batch c.look_up-end.result limit looked.looks_up looked.whole looked.early few room
+          (refused old new log from rest batch c.look_up-end.result limit looked.looks_up looked.batch_is_full looked.batch_is_short few room
           (subst (λ (ops : List EntryOp). IsRefusedAmong inside.log ops log) all w.in-Err.ensures) refl))
     ])
