@@ -4,7 +4,7 @@ use Rattle.sb_calls.specs.declared.reply.Reply.{Reply}
 use Rattle.sb_frames.specs.Grammar.{spelling}
 use Rattle.bank_server.specs.Execution.{HasReplies}
 use Rattle.bank_server.specs.Session.{outcome_by}
-use Rattle.bank_server.proofs.telling.push_outcomes.Given as goal
+use Rattle.bank_server.proofs.outcome_frames.push_outcomes.Given as goal
 
 -- what is written and what is left to write are all
 abbrev pub invariant-loop-ask : goal.invariant-loop-ask

@@ -7,7 +7,7 @@ use Rattle.schedule_player.specs.inner.NodeInvariant.{IsNodeAt, machine_node}
 use Rattle.schedule_player.specs.OneBased.{copies}
 use Rattle.schedule_player.specs.ReplicaMoves.{opened_node}
 use Rattle.schedule_player.specs.declared.node.Node.{Node}
-use Rattle.schedule_player.proofs.opened.open_nodes.Given as goal
+use Rattle.schedule_player.proofs.opening.open_nodes.Given as goal
 
 -- this many are open, each under its own number
 abbrev pub invariant-loop-id : goal.invariant-loop-id

@@ -57,7 +57,7 @@ loop-self-preserved c =
           ∙ ap (λ w. (world_move (world_move w (event.Take r 1 0)).0 (event.Finish r 1)).0) is
           ∙ sym (after_pair world r done)
           ∙ ap (λ n. after_events world (work_events r n)) (sym next);
-      limit = omega (arith, all, some);
+      few = omega (arith, all, some);
     }
 
 pub returns-clause-count : goal.returns-clause-count
