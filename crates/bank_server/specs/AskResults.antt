@@ -1,5 +1,5 @@
 -- The result of asking for each line.
-use Rattle.std.specs.Prelude.{◌≡◌, ℕ, Option, Some, None, Result, Ok, Err, List, ◌∷◌, [], ◌++◌, map}
+use Rattle.std.specs.Prelude.{◌≡◌, ℕ, Option, Some, None, Result, Ok, Err, List, ◌∷◌, ◌++◌, map}
 use Rattle.sb_calls.specs.declared.ask.AskLine.{AskLine}
 use Rattle.sb_calls.specs.declared.ask.Key.{Key}
 use Rattle.sb_calls.specs.declared.call.Call.{Call}
@@ -15,7 +15,6 @@ use Rattle.bank_server.specs.Standing.{standing_of}
 use Rattle.bank_server.specs.Output.{log_of_asks}
 use Rattle.bank_server.specs.declared.asking.Standing.{Standing}
 use Rattle.bank_server.specs.declared.asking.Standing.TheVariants.{Number, Mismatch, LogFull}
-use Rattle.bank_server.specs.declared.fault.RunFault.TheVariants.{OutOfMemory}
 
 -- the log is that of these asks, and each ask has its standing in it
 pub record AsksGiveStandings (asks : List AskLine) (log : List (Key × Call)) (standings : List Standing) : Type 0 where

@@ -1,7 +1,6 @@
 -- What a fault of a run means.
 use Rattle.std.specs.Prelude.{◌≡◌, ◌<◌, ◌≤◌, ℕ, Bool, false, Option, Result, Ok, Err, List}
 use Rattle.std.specs.Io.KnownBytes.{Appends, Keeps}
-use Rattle.sb_text.specs.declared.input.ReadFault.TheVariants as reading
 use Rattle.cown_workers.specs.declared.crew_fault.CrewFault.{CrewFault}
 use Rattle.cown_workers.specs.declared.crew_fault.CrewFault.TheVariants as crew
 use Rattle.cown_board.specs.Board.{BoardOf}

@@ -1,8 +1,7 @@
 -- What a fault of a session means.
-use Rattle.std.specs.Prelude.{◌≡◌, ℕ, Bool, false, []}
+use Rattle.std.specs.Prelude.{◌≡◌, ℕ, Bool, false}
 use Rattle.cown_board.specs.Board.{BoardOf}
 use Rattle.cown_workers.specs.Draining.{HasNoneOut}
-use Rattle.cown_workers.specs.declared.crew_fault.CrewFault.TheVariants as crew
 use Rattle.sb_calls.specs.declared.op.Op.{Op}
 use Rattle.bank_server.specs.declared.session_fault.SessionFault.{SessionFault}
 use Rattle.bank_server.specs.declared.session_fault.SessionFault.TheVariants.{Frame, Unexpected, CrewGone, Device, OutOfMemory}

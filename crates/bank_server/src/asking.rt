@@ -1,5 +1,6 @@
 //! The asks of an input, numbered into the log.
-ghost use Rattle.std.specs.Prelude.{◌≡◌, ◌+◌, ◌<◌, ◌≤◌, ◌^◌, None, List, [], length, IfOk, OnErr, MatchOption, MatchResult};
+ghost use Rattle.std.specs.Prelude.{◌≡◌, ℕ, ◌+◌, ◌<◌, ◌≤◌, ◌^◌, ◌++◌, None, List, [], length, IfOk, OnOk, OnErr, MatchOption, MatchResult};
+ghost use Rattle.std.specs.List.{All};
 ghost use Rattle.sb_rows.specs.Text.{lines};
 ghost use Rattle.sb_calls.specs.Ask.{IsKey};
 ghost use Rattle.sb_calls.specs.declared.ask.AskLine.{AskLine as AnyAskLine};
@@ -7,8 +8,9 @@ ghost use Rattle.sb_calls.specs.declared.ask.Key.{Key as AnyKey};
 ghost use Rattle.sb_calls.specs.declared.call.Call.{Call as AnyCall};
 ghost use Rattle.sb_sequencer.specs.Numbering.{IsLog, first_asks};
 ghost use Rattle.bank_server.specs.AskResults.{LinesGiveStandings, standing_of_answer};
-ghost use Rattle.bank_server.specs.inner.AskSteps.{IsAfterAsks, HasLogNumber, AddsLineAsk, AddsAsk, ExtendsLog};
+ghost use Rattle.bank_server.specs.inner.AskSteps.{IsAfterAsks, HasLogNumber, HasStandings, AddsLineAsk, AddsAsk, ExtendsLog};
 ghost use Rattle.bank_server.specs.Asks.{key_of_line, running_after};
+ghost use Rattle.bank_server.specs.declared.fault.RunFault.TheVariants.{OutOfMemory};
 ghost use Rattle.bank_server.specs.Faults.{IsTextFaultOf};
 ghost use Rattle.bank_server.specs.Input.{asks_from, in_call};
 ghost use Rattle.bank_server.specs.Standing.{IsStandingWithin};
@@ -25,6 +27,9 @@ use std::alloc::{AllocError, Global};
 // The usual number of bytes of an asking line. It gives the room to reserve; if lines are shorter,
 // the lists grow.
 const USUAL_LINE: usize = 32;
+
+// How many lines are read before the first of them is asked.
+const BATCH_LINES: usize = 32;
 
 /// The standing of an ask in the log.
 #[derive(Clone, Copy, Debug, PartialEq, Eq)]
@@ -59,16 +64,19 @@ pub fn ask_lines<S: CheckpointStore>(
         (λ fault. IsTextFaultOf fault (in_call (asks_from first_line [] (lines text.now)))) }
     ensures node { primary.new.node ≡ primary.old.node }
 {
+    let mut batch = Vec::with_capacity(alloc, BATCH_LINES)?;
     let mut standings = Vec::with_capacity(alloc, usual_lines(text.len()))?;
-    ask_all(text, first_line, primary, &mut standings)?;
+    ask_all(text, first_line, primary, &mut batch, &mut standings)?;
     Ok(standings)
 }
 
-// Asks for each line of a text, with an empty log.
+// Asks for each line of a text, with an empty log. The batch gives room for the lines that are read
+// before the first of them is asked.
 fn ask_all<S: CheckpointStore>(
     text: &[u8],
     first_line: usize,
     primary: &mut Primary<S>,
+    batch: &mut Vec<AskLine>,
     standings: &mut Vec<Standing>,
 ) -> Result<(), RunFault>
     requires line { first_line + length text.now < 2 ^ 64 }
@@ -81,21 +89,106 @@ fn ask_all<S: CheckpointStore>(
 {
     let mut running = 1u64;
     let mut left = text;
-    while let Some((line, rest)) = next_line(left) {
-        let asked = match read_ask(line) {
-            Ok(asked) => asked,
+    while !left.is_empty() {
+        left = read_batch(left, first_line + standings.len(), batch)?;
+        reserve_new(primary, running, batch)?;
+        running = ask_batch(primary, running, batch, standings)?;
+    }
+    Ok(())
+}
+
+// Reads the next lines of a text, up to a limit, in place of what the batch had, and answers the
+// text after them. The first of them has this number.
+fn read_batch<'a>(
+    text: &'a [u8],
+    first_line: usize,
+    batch: &mut Vec<AskLine>,
+) -> Result<&'a [u8], RunFault>
+    requires line { first_line + length text.now < 2 ^ 64 }
+    requires some { 0 < length text.now }
+    ensures read { (first : ℕ) (before : List AnyAskLine) → first_line ≡ first + length before
+        → MatchResult result
+        (λ rest. asks_from first before (lines text.now) ≡ asks_from first (before ++ batch.new.items) (lines rest.now))
+        (λ fault. IsTextFaultOf fault (in_call (asks_from first before (lines text.now)))) }
+    ensures keys { OnOk result (All (λ asked. IsKey asked.key) batch.new.items) }
+    ensures within { IfOk result (λ rest. length rest.now + length batch.new.items ≤ length text.now) }
+    ensures shorter { IfOk result (λ rest. length rest.now < length text.now) }
+{
+    // The checker takes an ask apart, and needs the type spelled out.
+    let _parts: Option<Call> = None;
+    batch.clear();
+    let mut left = text;
+    for taken in 0..BATCH_LINES {
+        let Some((line, rest)) = next_line(left) else {
+            return Ok(&[]);
+        };
+        match read_ask(line) {
+            Ok(asked) => batch.push(asked)?,
             Err(fault) => {
                 return Err(RunFault::Input {
-                    line: first_line + standings.len(),
+                    line: first_line + batch.len(),
                     fault: InputFault::Call(fault),
                 });
             }
-        };
-        standings.push(ask(primary, running, &asked)?)?;
-        running = next_running(running, asked.key);
+        }
         left = rest;
     }
-    Ok(())
+    Ok(left)
+}
+
+// Makes room for those of these lines that are new. The keys are looked up one right after another,
+// so that no look-up waits for the memory of the one before.
+fn reserve_new<S: CheckpointStore>(
+    primary: &mut Primary<S>,
+    first_running: u64,
+    batch: &[AskLine],
+) -> Result<(), AllocError>
+    requires { first_running + length batch.now < 2 ^ 64 }
+    ensures { primary.new ≡ primary.old }
+{
+    let mut new = 0;
+    let mut running = first_running;
+    for asked in batch {
+        if is_new(primary.log(), running, asked.key) {
+            new += 1;
+        }
+        running = next_running(running, asked.key);
+    }
+    primary.reserve(new)
+}
+
+// Whether the log has no number for a line.
+fn is_new(log: &Sequencer, running: u64, key: Option<Key>) -> bool {
+    match key_of(running, key) {
+        Some(key) => log.number_of(key.client, key.request).is_none(),
+        None => false,
+    }
+}
+
+// Asks for each of these lines, if the next line without a key has this running number. Answers the
+// running number after them.
+fn ask_batch<S: CheckpointStore>(
+    primary: &mut Primary<S>,
+    first_running: u64,
+    batch: &[AskLine],
+    standings: &mut Vec<Standing>,
+) -> Result<u64, RunFault>
+    requires keys { All (λ asked. IsKey asked.key) batch.now }
+    requires running { first_running + length batch.now < 2 ^ 64 }
+    ensures asked { (asks : List AnyAskLine) → HasStandings asks first_running primary.old.log standings.old.items
+        → MatchResult result
+        (λ running. HasStandings (asks ++ batch.now) running primary.new.log standings.new.items)
+        (λ fault. fault ≡ OutOfMemory) }
+    ensures running { IfOk result (λ running. running ≤ first_running + length batch.now) }
+    ensures count { OnOk result (length standings.new.items ≡ length standings.old.items + length batch.now) }
+    ensures node { primary.new.node ≡ primary.old.node }
+{
+    let mut running = first_running;
+    for asked in batch {
+        standings.push(ask(primary, running, asked)?)?;
+        running = next_running(running, asked.key);
+    }
+    Ok(running)
 }
 
 // The next running number, if the line before had this key and this running number.

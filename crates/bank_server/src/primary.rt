@@ -92,6 +92,15 @@ impl<S: CheckpointStore> Primary<S> {
         &self.node
     }
 
+    /// Makes room in the log for this many more calls, or for as many as it takes. If memory is
+    /// refused, nothing is lost.
+    pub(crate) fn reserve(&mut self, additional: usize) -> Result<(), AllocError>
+        ensures { self.new ≡ self.old }
+    {
+        let room = LOG_CALLS - self.log.length() as usize;
+        self.log.reserve(additional.min(room))
+    }
+
     /// Asks for a call under a key, and answers the standing of the ask in the log.
     ///
     /// Fails if memory is refused; nothing changes then.

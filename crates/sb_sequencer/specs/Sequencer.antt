@@ -1,5 +1,5 @@
 -- A sequencer: its log, and what the replicas reported.
-use Rattle.std.specs.Prelude.{◌≡◌, ℕ, ◌-◌, ◌≤◌, Option, None, List, [], ◌∷◌, ◌++◌, length, replicate, Result, Ok, Err}
+use Rattle.std.specs.Prelude.{◌≡◌, ℕ, ◌≤◌, Option, None, List, [], ◌∷◌, ◌++◌, length, replicate, Result, Ok, Err}
 use Rattle.std.specs.List.{All}
 use Rattle.sb_calls.specs.declared.ask.Key.{Key}
 use Rattle.sb_calls.specs.declared.call.Call.{Call}

@@ -7,7 +7,7 @@ ghost use Rattle.sb_sequencer.specs.Answer.{AnswersAsk, LogAfter, ExtendsFirstAs
 ghost use Rattle.sb_sequencer.specs.Entries.{entries_after, entry_of, entries_to_resend};
 ghost use Rattle.sb_sequencer.specs.Log.{log_with};
 ghost use Rattle.sb_sequencer.specs.Notes.{IsAnswerNote, after_ack, after_answer, answer_of, note_of_ack};
-ghost use Rattle.sb_sequencer.specs.Numbering.{IsLog, call_of_number};
+ghost use Rattle.sb_sequencer.specs.Numbering.{IsLog, call_of_number, number_of_key};
 ghost use Rattle.sb_sequencer.specs.Sequencer.{IsSequencer, state_after_ask, empty_sequencer};
 
 use crate::answer::{AskFault, Numbered};
@@ -113,6 +113,23 @@ impl Sequencer {
         let index = number.checked_sub(1)?;
         let (_, call) = self.log.get_index(index as usize)?;
         Some(call)
+    }
+
+    /// The number of a request, counted from 1, or `None` if it has none.
+    #[inline]
+    pub fn number_of(&self, client: u32, request: u32) -> Option<u64>
+        ensures { result ≡ number_of_key self.now.log (record { client = client; request = request }) }
+    {
+        let index = self.log.get_index_of(&Key { client, request })?;
+        Some(index as u64 + 1)
+    }
+
+    /// Makes room for this many more calls, so that numbering them moves no others. If memory is
+    /// refused, nothing is lost.
+    pub fn reserve(&mut self, additional: usize) -> Result<(), AllocError>
+        ensures { self.new ≡ self.old }
+    {
+        self.log.reserve(additional)
     }
 
     // Whether the log takes no more calls.

@@ -1,5 +1,5 @@
 -- One ask after another: the log, the keys and the standings so far.
-use Rattle.std.specs.Prelude.{◌≡◌, ℕ, Result, Ok, Err, List, ◌∷◌, [], ◌++◌, ◌+◌}
+use Rattle.std.specs.Prelude.{◌≡◌, ℕ, Result, Ok, Err, List, ◌∷◌, [], ◌++◌, map}
 use Rattle.std.specs.List.{AllByRecursion}
 use Rattle.sb_calls.specs.Ask.{IsKey}
 use Rattle.sb_calls.specs.declared.ask.AskLine.{AskLine}
@@ -15,7 +15,6 @@ use Rattle.bank_server.specs.LogNumber.{IsLogNumber}
 use Rattle.bank_server.specs.Standing.{standing_of}
 use Rattle.bank_server.specs.Output.{log_of_asks}
 use Rattle.bank_server.specs.declared.asking.Standing.{Standing}
-use Rattle.bank_server.specs.declared.asking.Standing.TheVariants.{Mismatch, LogFull}
 use Rattle.bank_server.specs.declared.fault.RunFault.{RunFault}
 use Rattle.bank_server.specs.declared.fault.RunFault.TheVariants.{OutOfMemory}
 
@@ -29,6 +28,11 @@ pub record IsAfterAsks (asks : List AskLine) (running : ℕ) (log : List (Key ×
   pub keys : AllByRecursion (λ asked. IsKey asked.key) asks
   pub running_is : running ≡ running_from 1 asks
   pub log_is : log ≡ log_of_asks asks
+
+-- after these asks they also have their standings
+pub record HasStandings (asks : List AskLine) (running : ℕ) (log : List (Key × Call)) (standings : List Standing) : Type 0 where
+  pub after : IsAfterAsks asks running log
+  pub standings_are : standings ≡ map (standing_of log) (asks_with_keys asks)
 
 -- the number in the answer, if there is one, is one of a log
 abbrev pub HasLogNumber : Result Numbered AskFault → Type 0
