@@ -50,6 +50,7 @@ fn same_values(a: &[Cents], b: &[Cents]) -> bool
 
 // Whether the behaviour at a position is out, and the result is of this behaviour, on what its
 // cowns contain.
+#[inline(always)]
 pub(crate) fn is_out_at<B: Behaviour>(
     columns: &Columns,
     log: &Vec<B>,

@@ -210,6 +210,8 @@ impl<B: Behaviour> Board<B> {
     /// on. Returns `None`, and changes nothing, if there is none.
     ///
     /// A behaviour is ready while it waits and no unfinished one before it shares a cown with it.
+    // Inlined, as `finish` is, so that jobs and results aren't passed through memory.
+    #[inline(always)]
     pub fn take_at(&mut self, index: usize) -> Option<Job<B>>
         ensures outcome { MatchOption result
             ((length (ready_positions B.touches self.old.log self.old.states) ≤ index) × (self.new ≡ self.old))
@@ -232,6 +234,7 @@ impl<B: Behaviour> Board<B> {
     /// its cowns contain what it left, and its reply is returned. Any other result comes back, and
     /// nothing changes: it must be of a behaviour that is out, on the inputs that it was handed out
     /// with.
+    #[inline(always)]
     pub fn finish(&mut self, done: Done<B>) -> Result<Reply, Done<B>>
         ensures accepted { IsOk result ↔ IsOutHere B.touches B.effect self.old done }
         ensures outcome { MatchResult result

@@ -44,6 +44,7 @@ impl ReadyList {
 
     // Makes room for a log of this length with this many unfinished behaviours, and for those that
     // become ready when one of them finishes. If memory is refused, nothing is lost.
+    #[inline(always)]
     pub(crate) fn reserve(&mut self, log_length: usize, unfinished: usize) -> Result<(), AllocError>
         requires { unfinished ≤ 1024 }
         ensures behind { (self.new.behind.items ≡ self.old.behind.items) ×
@@ -55,8 +56,11 @@ impl ReadyList {
         ensures behind_room { OnOk result (log_length ≤ vec_capacity self.new.behind) }
         ensures ready_room { OnOk result (unfinished + 3 ≤ deque_capacity self.new.ready) }
     {
-        self.reserve_counts(log_length)?;
         let wanted = unfinished + BEHAVIOUR_COWNS;
+        if log_length <= self.behind.capacity() && wanted <= self.ready.capacity() {
+            return Ok(());
+        }
+        self.reserve_counts(log_length)?;
         self.ready.reserve(wanted.saturating_sub(self.ready.len()))
     }
 

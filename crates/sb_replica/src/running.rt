@@ -16,10 +16,12 @@ impl<S: CheckpointStore> Runs for Replica<S> {
 
     ghost rest = { λ replica. (rest_of replica, replica.held) };
 
+    #[inline(always)]
     fn take_at(&mut self, index: usize) -> Option<Job<Op>> {
         self.log.take_at(index)
     }
 
+    #[inline(always)]
     fn finish(&mut self, done: Done<Op>) -> Result<Reply, Done<Op>> {
         self.log.finish(done)
     }

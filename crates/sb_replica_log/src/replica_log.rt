@@ -245,10 +245,12 @@ impl Runs for ReplicaLog {
 
     ghost rest = { λ log. log.held };
 
+    #[inline(always)]
     fn take_at(&mut self, index: usize) -> Option<Job<Op>> {
         self.board.take_at(index)
     }
 
+    #[inline(always)]
     fn finish(&mut self, done: Done<Op>) -> Result<Reply, Done<Op>> {
         self.board.finish(done)
     }
