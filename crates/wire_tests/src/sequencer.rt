@@ -17,7 +17,11 @@ enum Step {
     Ask(u32, u32, &'static str, Result<Numbered, AskFault>),
     // Client 1 asks for this many calls, the first of the log, with its requests from 0 on.
     AskMany(u32, &'static str),
+    // Room is made for this many more calls.
+    Reserve(usize),
     Length(u64),
+    // The number of a client's request.
+    NumberOf(u32, u32, Option<u64>),
     // The call with this number.
     Shows(u64, Option<&'static str>),
     // The entry with this number has this call.
@@ -96,7 +100,11 @@ fn play_step(rt: &impl Abort, log: &mut Sequencer, position: usize, step: &Step)
             is_so(rt, position, log.ask(client, request, &call) == answer);
         }
         Step::AskMany(count, customer) => asks_many(rt, log, count, customer),
+        Step::Reserve(calls) => is_so(rt, position, log.reserve(calls).is_ok()),
         Step::Length(length) => is_so(rt, position, log.length() == length),
+        Step::NumberOf(client, request, number) => {
+            is_so(rt, position, log.number_of(client, request) == number);
+        }
         Step::Shows(number, customer) => shows(rt, log, number, customer),
         Step::Entry(number, customer) => enters(rt, log, number, customer),
         Step::Answer(number, reply, note) => {

@@ -151,3 +151,22 @@ fn answers_as_a_plain_search_does(rt: HostRuntime) {
     }
     shows_all(&rt, &log, &plain);
 }
+
+#[test]
+fn numbers_of_requests_and_room_for_more(rt: HostRuntime) {
+    let steps = [
+        Step::NumberOf(1, 7, None),
+        Step::Reserve(1_000_000),
+        Step::Length(0),
+        Step::Ask(1, 7, "bob", Ok(Numbered::New(1))),
+        Step::Ask(7, 1, "bob", Ok(Numbered::New(2))),
+        Step::Ask(1, 7, "carol", Err(AskFault::Mismatch(1))),
+        Step::Reserve(0),
+        Step::Reserve(3),
+        Step::NumberOf(1, 7, Some(1)),
+        Step::NumberOf(7, 1, Some(2)),
+        Step::NumberOf(7, 7, None),
+        Step::Length(2),
+    ];
+    play_steps(&rt, 1, &steps);
+}
