@@ -1,9 +1,11 @@
 pub mod Bodies
 pub mod Calls
+pub mod EntryOps
 pub mod FieldSequences
 pub mod Frames
 pub mod IntegerFields
 pub mod Names
+pub mod NextEntry
 pub mod NextFrame
 pub mod Outcomes
 pub mod ReadingSteps

@@ -1,1 +1,2 @@
+pub mod EntryReading
 pub mod FieldReading

@@ -127,7 +127,7 @@ fn frame_of(body: &[u8]) -> Result<Frame, FrameFault>
 }
 
 // The body length that the first two bytes state.
-fn stated_length(bytes: &[u8]) -> usize
+pub(crate) fn stated_length(bytes: &[u8]) -> usize
     requires { LENGTH_BYTES ≤ length bytes.now }
     ensures { result ≡ spec.stated_length bytes.now }
 {

@@ -4,6 +4,7 @@
 mod call;
 mod decoding;
 mod encoding;
+mod entry_op;
 mod fault;
 mod fields;
 mod frame;
@@ -14,6 +15,7 @@ mod writing;
 
 pub use decoding::decode;
 pub use encoding::encode;
+pub use entry_op::EntryOp;
 pub use fault::{FrameFault, StreamFault};
 pub use frame::{AskOutcome, Frame, MAX_BODY, MAX_FRAME};
 pub use laws::{frames_of_bytes, limits, one_spelling, spelled_is_decoded};

@@ -1,12 +1,16 @@
 //! A stream of bytes, read as frames.
-ghost use Rattle.std.specs.Prelude.{◌≡◌, ◌↔◌, [], Err, IsTrue, false, true, IfNone, IfOk, IfSome, OnErr};
+ghost use Rattle.std.specs.Prelude.{◌≡◌, ◌↔◌, [], Err, IsTrue, false, true, IfNone, IfOk, IfSome, OnErr, length};
 ghost use Rattle.sb_frames.specs.Streaming.{StreamState, empty_stream, Feeds, next_of, Step, Feed, Next, HandsOut, IsShort, FailsBy};
+ghost use Rattle.sb_calls.specs.Op.{IsOpWithin};
+ghost use Rattle.sb_frames.specs.Entries.{HasEntry, TakesEntry};
 ghost use Rattle.sb_frames.specs.declared.fault.StreamFault.{StreamFault as AnyStreamFault};
 
 use crate::decoding::decode;
+use crate::entry_op::{EntryOp, first_entry};
 use crate::fault::{FrameFault, StreamFault};
 use crate::frame::Frame;
 use bytes::BytesMut;
+use sb_rows::Directory;
 use std::alloc::Global;
 use std::marker::Model;
 
@@ -89,6 +93,23 @@ impl Stream {
                 Err(StreamFault::Bad(fault))
             }
         }
+    }
+
+    /// The entry at the front of the unread bytes, with its names looked up in a directory, or
+    /// `None` if no whole entry is there: then nothing changes, and [`Stream::next`] says what is.
+    /// It allocates nothing.
+    #[inline]
+    pub fn next_entry(&mut self, directory: &Directory) -> Option<EntryOp>
+        ensures entry { IfSome result (λ entry. TakesEntry directory.now self.old entry self.new) }
+        ensures none { IfNone result ((¬ HasEntry self.old) × (self.new ≡ self.old)) }
+        ensures within { IfSome result (λ entry. IsOpWithin (length directory.now) entry.op) }
+    {
+        if self.broken {
+            return None;
+        }
+        let (entry, size) = first_entry(&self.buffer, directory)?;
+        self.buffer.advance(size);
+        Some(entry)
     }
 
     /// Whether the bytes so far are whole frames, and all of them were handed out. It allocates

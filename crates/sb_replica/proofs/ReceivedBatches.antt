@@ -13,6 +13,7 @@ use Rattle.sb_calls.specs.declared.reply.Reply.{Reply}
 use Rattle.sb_rows.specs.Balances.{Balances}
 use Rattle.sb_frames.specs.Grammar.{IsFrame}
 use Rattle.sb_frames.specs.Streaming.{IsShort, StreamState}
+use Rattle.sb_frames.specs.declared.entry_op.EntryOp.{EntryOp}
 use Rattle.sb_frames.specs.declared.fault.StreamFault.{StreamFault}
 use Rattle.sb_frames.specs.declared.frame.Frame.{Frame}
 use Rattle.sb_replica_log.specs.Log.{LogOf}
@@ -29,7 +30,6 @@ use Rattle.sb_replica.specs.Streams.{FailsHere, HandsOutAll, ReceivesAll, Receiv
 use Rattle.sb_replica.specs.declared.fault.ReceiveFault.TheVariants as fault
 use Rattle.sb_replica.specs.declared.pause.Pause.{Pause}
 use Rattle.sb_replica.specs.declared.pause.Pause.TheVariants.{Short, Other, Busy}
-use Rattle.sb_replica.specs.declared.streams.EntryOp.{EntryOp}
 use Rattle.sb_replica.specs.declared.streams.TheConstants.{BATCH_ENTRIES}
 
 -- ---- entries

@@ -14,6 +14,7 @@ use Rattle.cown_board.specs.Board.{BoardOf, length_of, unfinished_of}
 use Rattle.cown_board.specs.declared.board.TheConstants.{OPEN_BEHAVIOURS}
 use Rattle.cown_board.specs.declared.state.State.TheVariants.{Waiting}
 use Rattle.sb_frames.specs.Grammar.{IsFrame}
+use Rattle.sb_frames.specs.declared.entry_op.EntryOp.{EntryOp}
 use Rattle.sb_replica_log.specs.Log.{LogOf}
 use Rattle.sb_replica_log.specs.Offers.{offer_answer, after_offer}
 use Rattle.sb_replica_log.specs.declared.offered.Offered.{Offered}
@@ -26,7 +27,6 @@ use Rattle.sb_replica.specs.Frames.{frame_answer, entry_answer}
 use Rattle.sb_replica.specs.Replica.{ReplicaOf, log_of, with_log}
 use Rattle.sb_replica.specs.Streams.{ReceivedFrame, ReceivesAll, IsEntryInTime, frames_of}
 use Rattle.sb_replica.specs.declared.heard.Heard.TheVariants as answers
-use Rattle.sb_replica.specs.declared.streams.EntryOp.{EntryOp}
 
 -- one entry leaves at most one more unfinished
 opens_one : (log : LogOf) (op : Op) (answer : Offered) → unfinished_of (after_offer log op answer).board ≤ unfinished_of log.board + 1

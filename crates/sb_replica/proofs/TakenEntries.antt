@@ -10,12 +10,12 @@ use Rattle.sb_calls.specs.declared.op.Op.{Op}
 use Rattle.sb_frames.proofs.Sizes.{body_size}
 use Rattle.sb_frames.specs.Grammar.{IsFrame, body}
 use Rattle.sb_frames.specs.Streaming.{HandsOut, Next, Step, StreamState}
+use Rattle.sb_frames.specs.declared.entry_op.EntryOp.{EntryOp}
 use Rattle.sb_frames.specs.declared.frame.Frame.{Frame}
 use Rattle.sb_frames.specs.declared.frame.Frame.TheVariants.{Entry}
 use Rattle.sb_replica.proofs.ReceivedStreams.{handed_append}
 use Rattle.sb_replica.specs.inner.Batches.{TakesEntries, entry_frame, entry_op}
 use Rattle.sb_replica.specs.Streams.{HandsOutAll}
-use Rattle.sb_replica.specs.declared.streams.EntryOp.{EntryOp}
 
 -- one more
 pub take_one : (names : List (List ℕ)) (a b c : StreamState) (batch : List EntryOp) (number : ℕ) (call : Call) (op : Op) → TakesEntries names a batch b

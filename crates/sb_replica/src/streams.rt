@@ -1,18 +1,18 @@
 //! Frames from a stream.
-ghost use Rattle.std.specs.Prelude.{◌≡◌, ◌≢◌, ◌↔◌, ◌<◌, ◌≤◌, ◌+◌, [], Ok, None, IfOk, MatchResult, length};
+ghost use Rattle.std.specs.Prelude.{◌≡◌, ◌≢◌, ◌↔◌, ◌<◌, ◌≤◌, ◌+◌, [], Ok, Some, None, IfOk, MatchResult, length};
 ghost use Rattle.cown_board.specs.Board.{unfinished_of};
+ghost use Rattle.sb_frames.specs.Entries.{HasEntry};
 ghost use Rattle.sb_replica.specs.inner.Batches as spec;
-ghost use Rattle.sb_replica.specs.inner.Batches.{AreWithin, ReceivesBatch, IsRefusedAmong, LooksUp, after_batch};
-ghost use Rattle.sb_replica.specs.Streams.{ReceivesUntil, ReceivesUntilFault};
+ghost use Rattle.sb_replica.specs.inner.Batches.{AreWithin, EndsBatch, ReceivesBatch, IsRefusedAmong, LooksUp, after_batch};
+ghost use Rattle.sb_replica.specs.Streams.{FailsHere, ReceivesUntil, ReceivesUntilFault};
 
 use crate::fault::ReceiveFault;
 use crate::pause::Pause;
 use crate::replica::Replica;
 use arrayvec::ArrayVec;
 use cown_board::OPEN_BEHAVIOURS;
-use sb_calls::{Op, resolve};
 use sb_checkpoint::CheckpointStore;
-use sb_frames::{Frame, Stream, StreamFault};
+use sb_frames::{EntryOp, Stream, StreamFault};
 use sb_replica_log::ReplicaLog;
 use sb_rows::Directory;
 use std::alloc::AllocError;
@@ -20,24 +20,21 @@ use std::alloc::AllocError;
 /// The number of entries that are looked up before the first of them is offered.
 pub const BATCH_ENTRIES: usize = 64;
 
-// The op of an entry, with the entry's number.
-#[derive(Clone, Copy)]
-struct EntryOp {
-    number: u64,
-    op: Op,
-}
+type Batch = ArrayVec<EntryOp, BATCH_ENTRIES>;
 
-// What fills a slot of a batch before an entry does.
-impl Default for EntryOp {
-    fn default() -> EntryOp {
-        EntryOp {
-            number: 0,
-            op: Op::NoCustomer,
-        }
+// Why a batch ends where the stream has no entry.
+fn pause_at(stream: &mut Stream) -> Result<Pause, StreamFault>
+    requires { ¬ HasEntry stream.old }
+    ensures outcome { MatchResult result
+        (λ pause. EndsBatch stream.old (Ok (Some pause)) stream.new)
+        (λ fault. FailsHere stream.old fault stream.new) }
+    ensures consumes_bytes { length stream.new.unread ≤ length stream.old.unread }
+{
+    match stream.next()? {
+        Some(frame) => Ok(Pause::Other(frame)),
+        None => Ok(Pause::Short),
     }
 }
-
-type Batch = ArrayVec<EntryOp, BATCH_ENTRIES>;
 
 // Takes entries from a stream, up to a limit, and looks up their names. Answers what ended it
 // before the limit.
@@ -56,13 +53,10 @@ fn look_up(
     ensures consumes_bytes { length stream.new.unread + length batch.new.items ≤ length stream.old.unread }
 {
     for taken in 0..limit {
-        match stream.next()? {
-            Some(Frame::Entry { number, call }) => {
-                let op = resolve(directory, &call);
-                batch.push(EntryOp { number, op });
-            }
-            Some(other) => return Ok(Some(Pause::Other(other))),
-            None => return Ok(Some(Pause::Short)),
+        match stream.next_entry(directory) {
+            // By its fields, since the proof of this function needs the op's type in it.
+            Some(EntryOp { number, op }) => batch.push(EntryOp { number, op }),
+            None => return Ok(Some(pause_at(stream)?)),
         }
     }
     Ok(None)

@@ -7,6 +7,7 @@ use Rattle.cown_board.specs.Board.{unfinished_of}
 use Rattle.cown_board.specs.declared.board.TheConstants.{OPEN_BEHAVIOURS}
 use Rattle.sb_frames.specs.Grammar.{IsFrame}
 use Rattle.sb_frames.specs.Streaming.{StreamState, IsShort}
+use Rattle.sb_frames.specs.declared.entry_op.EntryOp.{EntryOp}
 use Rattle.sb_frames.specs.declared.fault.StreamFault.{StreamFault}
 use Rattle.sb_frames.specs.declared.frame.Frame.{Frame}
 use Rattle.sb_frames.specs.declared.frame.Frame.TheVariants.{Entry}
@@ -19,7 +20,6 @@ use Rattle.sb_replica.specs.declared.fault.ReceiveFault.{ReceiveFault}
 use Rattle.sb_replica.specs.declared.fault.ReceiveFault.TheVariants.{Stream}
 use Rattle.sb_replica.specs.declared.pause.Pause.{Pause}
 use Rattle.sb_replica.specs.declared.pause.Pause.TheVariants.{Short, Other, Busy}
-use Rattle.sb_replica.specs.declared.streams.EntryOp.{EntryOp}
 
 -- a numbered call as an Entry frame, and as an op with its names looked up
 abbrev pub entry_frame : ℕ × Call → Frame

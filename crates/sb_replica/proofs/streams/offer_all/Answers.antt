@@ -4,11 +4,11 @@ use Rattle.std.proofs.lemmas.Option.{slice_get_read}
 use Rattle.std.proofs.lemmas.Result.{err_from_is_err_and}
 use Rattle.sb_calls.specs.Op.{IsOpWithin}
 use Rattle.sb_rows.specs.Balances.{Balances}
+use Rattle.sb_frames.specs.declared.entry_op.EntryOp.{EntryOp}
 use Rattle.sb_replica_log.specs.Log.{LogOf}
 use Rattle.sb_replica_log.specs.Offers.{offer_answer}
 use Rattle.sb_replica_log.specs.declared.offered.Offered.TheVariants.{Next}
 use Rattle.sb_replica.proofs.ReceivedEntries.{batch_stays, offered_one_more}
-use Rattle.sb_replica.specs.declared.streams.EntryOp.{EntryOp}
 use Rattle.sb_replica.proofs.streams.offer_all.Goals as goal
 
 pub offer_entry-requires : goal.offer_entry-requires

@@ -1,4 +1,4 @@
-use Rattle.std.proofs.Common.{option_map, List, ℕ, None, length, refl, subst}
+use Rattle.std.proofs.Common.{option_map, List, ℕ, None, refl, subst}
 use Rattle.sb_checkpoint.specs.Stores.{StoreDoes}
 use Rattle.sb_replica.specs.Replica.{ReplicaOf, origin_of}
 use Rattle.sb_replica.specs.States.{IsStateOf, ReadsState}

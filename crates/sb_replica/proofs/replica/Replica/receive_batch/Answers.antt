@@ -2,12 +2,12 @@ use Rattle.std.proofs.Common.{◌≡◌, ◌+◌, ◌<◌, ◌≤◌, arith, Opt
 use Rattle.cown_board.specs.Board.{BoardOf, unfinished_of}
 use Rattle.cown_board.specs.declared.board.TheConstants.{OPEN_BEHAVIOURS}
 use Rattle.sb_calls.specs.declared.op.Op.{Op}
+use Rattle.sb_frames.specs.declared.entry_op.EntryOp.{EntryOp}
 use Rattle.sb_replica.proofs.ReceivedBatches.{batch_heard, batch_keeps, refused}
 use Rattle.sb_replica.specs.inner.Batches.{ReceivesBatch, IsRefusedAmong, after_batch}
 use Rattle.sb_replica.specs.Replica.{ReplicaOf}
 use Rattle.sb_replica.specs.declared.fault.ReceiveFault.{ReceiveFault}
 use Rattle.sb_replica.specs.declared.pause.Pause.{Pause}
-use Rattle.sb_replica.specs.declared.streams.EntryOp.{EntryOp}
 use Rattle.sb_replica.specs.declared.streams.TheConstants.{BATCH_ENTRIES}
 use Rattle.sb_replica.proofs.replica.Replica.receive_batch.Goals as goal
 use Rattle.sb_replica.proofs.replica.Replica.receive_batch.Goals.{in-Ok, in-Err}

@@ -1,0 +1,129 @@
+-- The entry that a stream hands out, and where it has none.
+use Rattle.std.proofs.Common.{◌≡◌, ℕ, ◌<◌, ◌≤◌, Bool, true, false, cond, eqb, List, length, drop, Option, Some, None, Result, Ok, Err, refl, sym, ap, subst, ◌∙◌}
+use Rattle.std.specs.Result.{result_ok}
+use Rattle.sb_calls.specs.Op.{IsOpWithin, at_place, at_two_places, op_of}
+use Rattle.sb_calls.specs.declared.call.Call.{Call}
+use Rattle.sb_calls.specs.declared.call.Call.TheVariants as calls
+use Rattle.sb_calls.specs.declared.op.Op.{Op}
+use Rattle.sb_calls.specs.declared.op.Op.TheVariants.{Balance, DepositChecking, TransactSavings, Amalgamate, WriteCheck, SendPayment, SameCustomer}
+use Rattle.sb_rows.proofs.NamePlaces.{place_of_within}
+use Rattle.sb_rows.specs.Directory.{place_of}
+use Rattle.sb_frames.specs.Decoding.{decode_result}
+use Rattle.sb_frames.specs.Entries.{HasEntry, TakesEntry}
+use Rattle.sb_frames.specs.Streaming.{AreBytes, StreamState, next_by}
+use Rattle.sb_frames.specs.declared.entry_op.EntryOp.{EntryOp}
+use Rattle.sb_frames.specs.declared.fault.FrameFault.{FrameFault}
+use Rattle.sb_frames.specs.declared.fault.FrameFault.TheVariants.{Short, BadLength, UnknownTag, BadName, BadAmount, BadReply, BadStatus}
+use Rattle.sb_frames.specs.declared.fault.StreamFault.{StreamFault}
+use Rattle.sb_frames.specs.declared.frame.Frame.{Frame}
+use Rattle.sb_frames.specs.declared.frame.Frame.TheVariants.{Entry}
+use Rattle.sb_frames.specs.inner.EntryReading.{first_entry}
+use Rattle.sb_frames.proofs.EntryOps.{entry_with, first_entry_is_frame, frame_has_first_entry}
+use Rattle.sb_frames.proofs.Frames.{decoded_takes}
+use Rattle.sb_frames.proofs.NextFrame.{handed_out}
+
+-- ---- an entry is taken
+
+pub ok_of : (names : List (List ℕ)) (unread : List ℕ) (entry : EntryOp) (size : ℕ) → result_ok (first_entry names unread) ≡ Some (entry, size)
+    → first_entry names unread ≡ Ok (entry, size)
+ok_of names unread entry size e = of (first_entry names unread) e where
+  of : (read : Result (EntryOp × ℕ) FrameFault) → result_ok read ≡ Some (entry, size) → read ≡ Ok (entry, size)
+  of (Ok found) e = cc
+  of (Err fault) e = absurd cc
+
+abbrev After : Type 0
+After = Result (Option Frame) StreamFault × StreamState
+
+-- this frame, with the stream after it
+abbrev handing_out : Frame → List ℕ → Bool → After
+handing_out frame unread failed = (Ok (Some frame), record { unread = unread; failed = failed })
+
+-- what the first entry of the unread bytes says of the stream that goes behind it
+pub taken : (names : List (List ℕ)) (old : StreamState) (unread left : List ℕ) (failed : Bool) (entry : EntryOp) (size : ℕ) → AreBytes unread
+    → unread ≡ old.unread → old.failed ≡ false
+    → first_entry names unread ≡ Ok (entry, size) → left ≡ drop size unread → failed ≡ false
+    → TakesEntry names old entry (record { unread = left; failed = failed })
+taken names old unread left failed entry size are seen fine e rest going =
+    let found = first_entry_is_frame names unread entry size e in
+    let frame = Entry entry.number found.0 in
+    let decoded : decode_result old.unread ≡ Ok (frame, size) = ap decode_result (sym seen) ∙ found.1 in
+    let spells = (decoded_takes unread frame size are found.1).1 in
+    let behind : drop size old.unread ≡ left = ap (drop size) (sym seen) ∙ sym rest in
+    record {
+      call = found.0;
+      next = rw (fine, decoded) (ap (λ (xs : List ℕ). handing_out frame xs false) behind ∙ ap (λ (b : Bool). handing_out frame left b) (sym going));
+      looked_up = found.2;
+      handed_out = handed_out old (record { unread = left; failed = failed }) unread frame size seen spells rest going;
+    }
+
+pub size_within : (names : List (List ℕ)) (unread : List ℕ) (entry : EntryOp) (size : ℕ) → AreBytes unread → first_entry names unread ≡ Ok (entry, size)
+    → size ≤ length unread
+size_within names unread entry size are e =
+    let found = first_entry_is_frame names unread entry size e in
+    (decoded_takes unread (Entry entry.number found.0) size are found.1).0
+
+-- ---- its op has only customers of the directory
+
+place_within : (names : List (List ℕ)) (op : ℕ → Op) (name : List ℕ) (place : Option ℕ) → place_of names name ≡ place
+    → ((p : ℕ) → p < length names → IsOpWithin (length names) (op p)) → IsOpWithin (length names) (at_place op place)
+place_within names op name None e h = tt
+place_within names op name (Some p) e h = h p (place_of_within names name p e)
+
+unless_same : (n : ℕ) (same : Bool) (op : Op) → IsOpWithin n op → IsOpWithin n (cond same SameCustomer op)
+unless_same n true op h = tt
+unless_same n false op h = h
+
+places_within : (names : List (List ℕ)) (op : ℕ × ℕ → Op) (from to : List ℕ) (f t : Option ℕ) → place_of names from ≡ f → place_of names to ≡ t
+    → ((p q : ℕ) → p < length names → q < length names → IsOpWithin (length names) (op (p, q))) → IsOpWithin (length names) (at_two_places op f t)
+places_within names op from to None t d e h = tt
+places_within names op from to (Some p) None d e h = tt
+places_within names op from to (Some p) (Some q) d e h =
+    unless_same (length names) (eqb p q) (op (p, q)) (h p q (place_of_within names from p d) (place_of_within names to q e))
+
+op_within : (names : List (List ℕ)) (call : Call) → IsOpWithin (length names) (op_of names call)
+op_within names (calls.Balance name) = place_within names Balance name (place_of names name) refl (λ p h. h)
+op_within names (calls.DepositChecking name amount) =
+    place_within names (λ place. DepositChecking place amount) name (place_of names name) refl (λ p h. h)
+op_within names (calls.TransactSavings name amount) =
+    place_within names (λ place. TransactSavings place amount) name (place_of names name) refl (λ p h. h)
+op_within names (calls.Amalgamate from to) =
+    places_within names Amalgamate from to (place_of names from) (place_of names to) refl refl (λ p q g h. (g, h))
+op_within names (calls.WriteCheck name amount) = place_within names (λ place. WriteCheck place amount) name (place_of names name) refl (λ p h. h)
+op_within names (calls.SendPayment from to amount) =
+    places_within names (λ places. SendPayment places amount) from to (place_of names from) (place_of names to) refl refl (λ p q g h. (g, h))
+
+pub entry_within : (names : List (List ℕ)) (unread : List ℕ) (entry : EntryOp) (size : ℕ) → first_entry names unread ≡ Ok (entry, size)
+    → IsOpWithin (length names) entry.op
+entry_within names unread entry size e =
+    let found = first_entry_is_frame names unread entry size e in
+    subst (λ (op : Op). IsOpWithin (length names) op) (sym found.2) (op_within names found.0)
+
+-- ---- no entry is there
+
+next_decoded : (unread : List ℕ) (read : Result (Frame × ℕ) FrameFault) (frame : Frame) (after : StreamState)
+    → next_by read unread ≡ (Ok (Some frame), after) → (size : ℕ) × (read ≡ Ok (frame, size))
+next_decoded unread (Ok found) frame after e =
+    let answer : Ok (Some found.0) ≡ Ok (Some frame) = ap (λ (a : After). a.0) e in
+    let is : found.0 ≡ frame = cc in
+    (found.1, ap (λ (f : Frame). Ok (f, found.1)) is)
+next_decoded unread (Err Short) frame after e = let answer = ap (λ (a : After). a.0) e in absurd cc
+next_decoded unread (Err BadLength) frame after e = let answer = ap (λ (a : After). a.0) e in absurd cc
+next_decoded unread (Err UnknownTag) frame after e = let answer = ap (λ (a : After). a.0) e in absurd cc
+next_decoded unread (Err BadName) frame after e = let answer = ap (λ (a : After). a.0) e in absurd cc
+next_decoded unread (Err BadAmount) frame after e = let answer = ap (λ (a : After). a.0) e in absurd cc
+next_decoded unread (Err BadReply) frame after e = let answer = ap (λ (a : After). a.0) e in absurd cc
+next_decoded unread (Err BadStatus) frame after e = let answer = ap (λ (a : After). a.0) e in absurd cc
+
+-- a stream that has failed has no entry
+pub failed_has_none : (old : StreamState) → old.failed ≡ true → HasEntry old → ⊥
+failed_has_none old failed h =
+    let answer = ap (λ (a : After). a.0) (rw failed at h.3) in
+    absurd cc
+
+pub none_is_there : (names : List (List ℕ)) (old : StreamState) (unread : List ℕ) → unread ≡ old.unread → old.failed ≡ false
+    → result_ok (first_entry names unread) ≡ None → HasEntry old → ⊥
+none_is_there names old unread seen fine none h =
+    let read = next_decoded old.unread (decode_result old.unread) (Entry h.0 h.1) h.2 (rw fine at h.3) in
+    let found = frame_has_first_entry names unread h.0 h.1 read.0 (ap decode_result seen ∙ read.1) in
+    let some : result_ok (first_entry names unread) ≡ Some (entry_with h.0 (op_of names h.1), read.0) = ap result_ok found in
+    absurd cc

@@ -1,0 +1,180 @@
+//! Entries of the log, read with their names looked up.
+ghost use Rattle.std.specs.Prelude.{◌≡◌, ◌≤◌, ℕ, length, IfOk, IfErr};
+ghost use Rattle.std.specs.Result.{result_ok};
+ghost use Rattle.sb_calls.specs.Op.{at_two_places};
+ghost use Rattle.sb_calls.specs.declared.op.Op.{Op as AnyOp};
+ghost use Rattle.sb_calls.specs.declared.op.Op.TheVariants as op;
+ghost use Rattle.sb_frames.specs.Streaming.{AreBytes};
+ghost use Rattle.sb_frames.specs.inner.EntryReading as spec;
+ghost use Rattle.sb_frames.specs.inner.FieldReading.{TakesField};
+
+use crate::call::{
+    AMALGAMATE, BALANCE, DEPOSIT_CHECKING, SEND_PAYMENT, TRANSACT_SAVINGS, WRITE_CHECK,
+};
+use crate::decoding::{ENTRY, stated_length};
+use crate::fault::FrameFault;
+use crate::fields::Fields;
+use crate::frame::{LENGTH_BYTES, MAX_BODY};
+use sb_amount::Cents;
+use sb_calls::{Op, TwoPlaces};
+use sb_rows::Directory;
+
+/// An entry of the log, with its names looked up.
+#[derive(Clone, Copy, Debug, PartialEq, Eq)]
+pub struct EntryOp {
+    /// The number of the entry in the log.
+    pub number: u64,
+    /// The call of the entry.
+    pub op: Op,
+}
+
+// What fills a slot of a batch before an entry does.
+impl Default for EntryOp {
+    fn default() -> EntryOp {
+        EntryOp {
+            number: 0,
+            op: Op::NoCustomer,
+        }
+    }
+}
+
+// The place of the customer whose name comes next.
+#[inline]
+#[tactic(auto, unfolding(crate::specs::inner::EntryReading::place_at))]
+fn read_place(fields: &mut Fields, directory: &Directory) -> Result<Option<u32>, FrameFault>
+    ensures { TakesField result fields.new (spec.place_at directory.now fields.old) }
+{
+    Ok(directory.place(&fields.name()?))
+}
+
+// The places of two customers, or the op where one is missing or both are the same.
+#[inline]
+fn two_places(from: Option<u32>, to: Option<u32>) -> Result<TwoPlaces, Op>
+    ensures places { IfOk result (λ places. (op : ℕ × ℕ → AnyOp) → at_two_places op from to ≡ op places) }
+    ensures refusal { IfErr result (λ refusal. (op : ℕ × ℕ → AnyOp) → at_two_places op from to ≡ refusal) }
+{
+    let from = from.ok_or(Op::NoCustomer)?;
+    let to = to.ok_or(Op::NoCustomer)?;
+    TwoPlaces::new(from, to).ok_or(Op::SameCustomer)
+}
+
+#[inline]
+fn amalgamate(from: Option<u32>, to: Option<u32>) -> Op
+    ensures { result ≡ at_two_places op.Amalgamate from to }
+{
+    match two_places(from, to) {
+        Ok(places) => Op::Amalgamate(places),
+        Err(refusal) => refusal,
+    }
+}
+
+#[inline]
+fn send_payment(from: Option<u32>, to: Option<u32>, amount: Cents) -> Op
+    ensures { result ≡ at_two_places (λ places. op.SendPayment places amount) from to }
+{
+    match two_places(from, to) {
+        Ok(places) => Op::SendPayment(places, amount),
+        Err(refusal) => refusal,
+    }
+}
+
+// A call's op. Every kind has a name first: it is read and looked up before the kind is examined, so
+// that the code for it stands once where this function is inlined.
+#[inline]
+#[tactic(auto, unfolding(crate::specs::inner::EntryReading::op_at))]
+fn read_op(fields: &mut Fields, directory: &Directory) -> Result<Op, FrameFault>
+    ensures { TakesField result fields.new (spec.op_at directory.now fields.old) }
+{
+    let kind = fields.byte()?;
+    let place = read_place(fields, directory)?;
+    match kind {
+        BALANCE => Ok(match place {
+            Some(place) => Op::Balance(place),
+            None => Op::NoCustomer,
+        }),
+        DEPOSIT_CHECKING => {
+            let amount = fields.amount()?;
+            Ok(match place {
+                Some(place) => Op::DepositChecking(place, amount),
+                None => Op::NoCustomer,
+            })
+        }
+        TRANSACT_SAVINGS => {
+            let amount = fields.amount()?;
+            Ok(match place {
+                Some(place) => Op::TransactSavings(place, amount),
+                None => Op::NoCustomer,
+            })
+        }
+        AMALGAMATE => Ok(amalgamate(place, read_place(fields, directory)?)),
+        WRITE_CHECK => {
+            let amount = fields.amount()?;
+            Ok(match place {
+                Some(place) => Op::WriteCheck(place, amount),
+                None => Op::NoCustomer,
+            })
+        }
+        SEND_PAYMENT => {
+            let to = read_place(fields, directory)?;
+            Ok(send_payment(place, to, fields.amount()?))
+        }
+        _ => Err(FrameFault::UnknownTag),
+    }
+}
+
+#[inline]
+#[tactic(auto, unfolding(crate::specs::inner::EntryReading::entry_op_at))]
+fn read_entry_op(fields: &mut Fields, directory: &Directory) -> Result<EntryOp, FrameFault>
+    ensures { TakesField result fields.new (spec.entry_op_at directory.now fields.old) }
+{
+    Ok(EntryOp {
+        number: fields.u64()?,
+        op: read_op(fields, directory)?,
+    })
+}
+
+// The entry of a body, if it is one. Nothing may follow its fields.
+#[inline]
+#[tactic(auto, unfolding(crate::specs::inner::EntryReading::body_entry))]
+fn entry_of(body: &[u8], directory: &Directory) -> Option<EntryOp>
+    ensures { result ≡ result_ok (spec.body_entry directory.now body.now) }
+{
+    let mut fields = Fields::of(body);
+    if fields.byte().ok()? != ENTRY {
+        return None;
+    }
+    let entry = read_entry_op(&mut fields, directory).ok()?;
+    if fields.is_empty() { Some(entry) } else { None }
+}
+
+// The entry whose body has this length, after the two bytes that state it.
+#[inline]
+#[tactic(auto, unfolding(crate::specs::inner::EntryReading::entry_with_length))]
+fn with_length(size: usize, bytes: &[u8], directory: &Directory) -> Option<(EntryOp, usize)>
+    requires { LENGTH_BYTES ≤ length bytes.now }
+    ensures { result ≡ result_ok (spec.entry_with_length directory.now size bytes.now) }
+{
+    if size == 0 || MAX_BODY < size {
+        return None;
+    }
+    let end = LENGTH_BYTES + size;
+    if bytes.len() < end {
+        return None;
+    }
+    let entry = entry_of(&bytes[LENGTH_BYTES..end], directory)?;
+    Some((entry, end))
+}
+
+/// The entry at the front of the bytes, and the number of bytes that it takes, or `None` if no whole
+/// entry is there.
+#[inline]
+#[tactic(auto, unfolding(crate::specs::inner::EntryReading::first_entry))]
+pub(crate) fn first_entry(bytes: &[u8], directory: &Directory) -> Option<(EntryOp, usize)>
+    ensures entry { result ≡ result_ok (spec.first_entry directory.now bytes.now) }
+    ensures bytes { AreBytes bytes.now }
+{
+    if bytes.len() < LENGTH_BYTES {
+        return None;
+    }
+    with_length(stated_length(bytes), bytes, directory)
+}
