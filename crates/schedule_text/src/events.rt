@@ -7,32 +7,83 @@ use sb_calls::Call;
 use sb_checkpoint::How;
 use std::alloc::{AllocError, Global};
 use std::marker::Model;
+use std::mem::size_of;
 
 // An event without its call, if it is an ask.
 #[derive(Clone, Copy)]
 enum ShortEvent {
-    Ask { client: u32, request: u32 },
-    Send { replica: u32, number: u32 },
-    Resend { replica: u32 },
-    To { replica: u32, position: u32 },
-    Ack { replica: u32 },
-    Answer { replica: u32, number: u32 },
-    From { replica: u32, position: u32 },
-    Take { replica: u32, worker: u32, index: u32 },
-    Finish { replica: u32, worker: u32 },
-    Mark { replica: u32, how: How },
-    Restart { replica: u32 },
-    Cut { replica: u32 },
-    Next { replica: u32 },
-    Have { replica: u32 },
-    Donor { replica: u32 },
-    Give { donor: u32, replica: u32 },
-    Adopt { replica: u32, position: u32 },
-    Audit { first: u32, second: u32 },
+    Ask {
+        client: u32,
+        request: u32,
+    },
+    Send {
+        replica: u32,
+        number: u32,
+    },
+    Resend {
+        replica: u32,
+    },
+    To {
+        replica: u32,
+        position: u32,
+    },
+    Ack {
+        replica: u32,
+    },
+    Answer {
+        replica: u32,
+        number: u32,
+    },
+    From {
+        replica: u32,
+        position: u32,
+    },
+    Take {
+        replica: u32,
+        worker: u32,
+        index: u32,
+    },
+    Finish {
+        replica: u32,
+        worker: u32,
+    },
+    Mark {
+        replica: u32,
+        how: How,
+    },
+    Restart {
+        replica: u32,
+    },
+    Cut {
+        replica: u32,
+    },
+    Next {
+        replica: u32,
+    },
+    Have {
+        replica: u32,
+    },
+    Donor {
+        replica: u32,
+    },
+    Give {
+        donor: u32,
+        replica: u32,
+    },
+    Adopt {
+        replica: u32,
+        position: u32,
+    },
+    Audit {
+        first: u32,
+        second: u32,
+    },
 }
 
-/// The events of a schedule, in order. Most take 16 bytes each: the calls of asks stand in a list
-/// of their own.
+const _: () = prove!(size_of::<ShortEvent>() == 16);
+
+/// The events of a schedule, in order. Each takes 16 bytes, and the call of an ask stands in a list
+/// of its own.
 #[derive(Drop)]
 pub struct Events {
     short: Vec<ShortEvent>,
@@ -169,7 +220,15 @@ impl<'a> EventWalk<'a> {
             ShortEvent::Ack { replica } => Event::Ack { replica },
             ShortEvent::Answer { replica, number } => Event::Answer { replica, number },
             ShortEvent::From { replica, position } => Event::From { replica, position },
-            ShortEvent::Take { replica, worker, index } => Event::Take { replica, worker, index },
+            ShortEvent::Take {
+                replica,
+                worker,
+                index,
+            } => Event::Take {
+                replica,
+                worker,
+                index,
+            },
             ShortEvent::Finish { replica, worker } => Event::Finish { replica, worker },
             ShortEvent::Mark { replica, how } => Event::Mark { replica, how },
             ShortEvent::Restart { replica } => Event::Restart { replica },
@@ -189,14 +248,26 @@ fn without_call(event: &Event) -> ShortEvent
     ensures { result ≡ spec.without_call event.now }
 {
     match *event {
-        Event::Ask { client, request, .. } => ShortEvent::Ask { client, request },
+        Event::Ask {
+            client,
+            request,
+            ..
+        } => ShortEvent::Ask { client, request },
         Event::Send { replica, number } => ShortEvent::Send { replica, number },
         Event::Resend { replica } => ShortEvent::Resend { replica },
         Event::To { replica, position } => ShortEvent::To { replica, position },
         Event::Ack { replica } => ShortEvent::Ack { replica },
         Event::Answer { replica, number } => ShortEvent::Answer { replica, number },
         Event::From { replica, position } => ShortEvent::From { replica, position },
-        Event::Take { replica, worker, index } => ShortEvent::Take { replica, worker, index },
+        Event::Take {
+            replica,
+            worker,
+            index,
+        } => ShortEvent::Take {
+            replica,
+            worker,
+            index,
+        },
         Event::Finish { replica, worker } => ShortEvent::Finish { replica, worker },
         Event::Mark { replica, how } => ShortEvent::Mark { replica, how },
         Event::Restart { replica } => ShortEvent::Restart { replica },

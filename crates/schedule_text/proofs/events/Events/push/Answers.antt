@@ -1,4 +1,4 @@
-use Rattle.std.proofs.Common.{◌≡◌, ◌∷◌, ◌++◌, [], length, ap, sym, subst, ◌∙◌}
+use Rattle.std.proofs.Common.{◌∷◌, ◌++◌, [], length, ap, sym, ◌∙◌}
 use Rattle.std.specs.Prelude.{count_by}
 use Rattle.schedule_text.specs.inner.ShortEvents.{events_with_calls, is_short_ask}
 use Rattle.schedule_text.proofs.ShortEvents.{as_many_calls, events_with_calls-ask, events_with_calls-other}
