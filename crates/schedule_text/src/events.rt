@@ -147,7 +147,7 @@ impl Events {
         // The checker goes through an event's parts, and needs the types stated.
         let _parts: Option<(Call, How)> = None;
         let short = without_call(&event);
-        match call_of(event) {
+        match call_in(event) {
             None => self.short.push(short)?,
             Some(call) => {
                 self.calls.reserve(1)?;
@@ -281,9 +281,9 @@ fn without_call(event: &Event) -> ShortEvent
     }
 }
 
-// The call of an event, if it is an ask.
-fn call_of(event: Event) -> Option<Call>
-    ensures { result ≡ spec.call_of event }
+// The call in an event, if it is an ask.
+fn call_in(event: Event) -> Option<Call>
+    ensures { result ≡ spec.call_in event }
 {
     // The checker goes through an event's parts, and needs the types stated.
     let _parts: Option<How> = None;

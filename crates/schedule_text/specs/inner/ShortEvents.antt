@@ -32,10 +32,10 @@ without_call (event.Give donor replica) = short.Give donor replica
 without_call (event.Adopt replica position) = short.Adopt replica position
 without_call (event.Audit first second) = short.Audit first second
 
--- the call of an event, if it is an ask
-abbrev pub call_of : Event → Option Call
-call_of (event.Ask client request call) = Some call
-call_of other = None
+-- the call in an event, if it is an ask
+abbrev pub call_in : Event → Option Call
+call_in (event.Ask client request call) = Some call
+call_in other = None
 
 -- the events, if each ask among them has the next of these calls
 abbrev pub events_with_calls : List ShortEvent → List Call → List Event
