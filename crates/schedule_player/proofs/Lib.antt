@@ -23,6 +23,7 @@ pub mod NodeMoves
 pub mod NodeOpening
 pub mod Observers
 pub mod OutInHands
+pub mod PlayedLines
 pub mod PossibleNotes
 pub mod ReceivedFrames
 pub mod RecordedLengths

@@ -28,7 +28,7 @@ impl From<AllocError> for StepFault {
 #[derive(Clone, Copy, Debug, PartialEq, Eq, Error)]
 #[error("out of memory")]
 pub struct PlayFault {
-    /// The number of events that happened before the one that didn't.
+    /// The number of events that happened.
     pub done: usize,
 }
 

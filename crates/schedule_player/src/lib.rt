@@ -22,6 +22,6 @@ mod world;
 pub use fault::{PlayFault, ScheduleFault, StepFault};
 pub use laws::{recorded_lengths, replication};
 pub use running::run_schedule;
-pub use schedule_text::{AuditNote, Column, Event, Note};
-pub use stepping::play;
+pub use schedule_text::{AuditNote, Column, Event, Events, Note};
+pub use stepping::{play, play_lines};
 pub use world::World;

@@ -12,10 +12,10 @@ ghost use Rattle.schedule_text.specs.declared.note.Note.{Note as AnyNote};
 
 use crate::fault::ScheduleFault;
 use crate::states::push_states;
-use crate::stepping::play;
+use crate::stepping::play_lines;
 use crate::world::World;
 use sb_text::{read_all, write_whole};
-use schedule_text::{Event, Schedule, push_notes, read_schedule};
+use schedule_text::{Events, Schedule, read_schedule};
 use std::alloc::Global;
 use std::io::{Read, Write};
 
@@ -81,16 +81,15 @@ fn output_of(alloc: Global, schedule: Schedule) -> Result<Vec<u8>, ScheduleFault
 fn play_and_list(
     alloc: Global,
     world: &mut World,
-    events: &[Event],
+    events: &Events,
 ) -> Result<Vec<u8>, ScheduleFault>
     ensures { MatchResult result
         (λ output. (notes : List AnyNote) × (PlaysEvents world.old events.now notes world.new
         × (output.items ≡ unlines (played_lines notes world.new))))
         (λ fault. fault ≡ faults.OutOfMemory) }
 {
-    let notes = play(alloc, world, events)?;
     let mut output = Vec::new(alloc);
-    push_notes(&notes, &mut output)?;
+    play_lines(world, events, &mut output)?;
     push_states(world, &mut output)?;
     Ok(output)
 }

@@ -1,8 +1,10 @@
 //! Events, one after another.
-ghost use Rattle.std.specs.Prelude.{◌≡◌, ◌⊎◌, ◌<◌, List, [], ◌∷◌, take, length, slice_get, IfOk, IfErr, OnErr, IsTrue};
+ghost use Rattle.std.specs.Prelude.{◌≡◌, ◌⊎◌, ◌<◌, ◌≤◌, List, [], ◌∷◌, ◌++◌, map, take, length, slice_get, IfOk, IfErr, OnOk, OnErr, IsTrue};
+ghost use Rattle.sb_rows.specs.Text.{unlines};
 ghost use Rattle.schedule_player.specs.PossibleNotes.{may_occur};
 ghost use Rattle.schedule_player.specs.EventLists.{IsWorldAfter, PlaysEvents, with_events};
 ghost use Rattle.schedule_player.specs.World.{MayWantMemory, Moves, NextMayWantMemory};
+ghost use Rattle.schedule_text.specs.NoteText.{note_line};
 ghost use Rattle.schedule_text.specs.ScheduleText.{ScheduleOf};
 ghost use Rattle.schedule_text.specs.declared.event.Event.TheVariants as event;
 ghost use Rattle.schedule_text.specs.declared.note.Note.{Note as AnyNote};
@@ -11,7 +13,7 @@ use crate::fault::{PlayFault, StepFault};
 use crate::world::World;
 use sb_calls::Call;
 use sb_checkpoint::How;
-use schedule_text::{Event, Note};
+use schedule_text::{Event, Events, Note, push_note};
 use std::alloc::Global;
 
 impl World {
@@ -107,4 +109,43 @@ pub fn play(alloc: Global, world: &mut World, events: &[Event]) -> Result<Vec<No
         }
     }
     Ok(notes)
+}
+
+/// Plays events one after another, and writes a line for each note.
+///
+/// Fails at the first event for which memory is refused, or after the first event whose line is
+/// refused memory. The fault has the number of events that happened.
+pub fn play_lines(world: &mut World, events: &Events, out: &mut Vec<u8>) -> Result<(), PlayFault>
+    // All events happened, and the lines are those of their notes.
+    ensures plays { OnOk result ((notes : List AnyNote)
+        × PlaysEvents world.old events.now notes world.new
+        × (out.new.items ≡ out.old.items ++ unlines (map note_line notes))) }
+    // As many events happened as the fault says, and nothing else.
+    ensures stopped { IfErr result (λ fault. (fault.done ≤ length events.now)
+        × ((notes : List AnyNote) × PlaysEvents world.old (take fault.done events.now) notes world.new)) }
+    // Memory may be refused for the next one or, after the first, for the line of the last one.
+    ensures wanted { IfErr result (λ fault. (0 < fault.done)
+        ⊎ NextMayWantMemory world.new (slice_get events.now fault.done)) }
+    ensures replicas { length world.new.nodes ≡ length world.old.nodes }
+    // After whatever schedule, the new world is the one after that schedule and these events.
+    ensures played { (schedule : ScheduleOf) → IsWorldAfter schedule world.old
+        → OnOk result (IsWorldAfter (with_events schedule events.now) world.new) }
+{
+    // The checker takes the event apart, and needs the types spelled out.
+    let _parts: Option<(Call, How)> = None;
+    let mut left = events.walk();
+    while let Some(event) = left.next() {
+        let note = match world.step(event) {
+            Ok(note) => note,
+            Err(StepFault::OutOfMemory) => {
+                let done = events.len() - left.len() - 1;
+                return Err(PlayFault { done });
+            }
+        };
+        if push_note(note, out).is_err() {
+            let done = events.len() - left.len();
+            return Err(PlayFault { done });
+        }
+    }
+    Ok(())
 }

@@ -10,6 +10,8 @@ mod devices;
 #[cfg(test)]
 mod disorder;
 #[cfg(test)]
+mod event_lists;
+#[cfg(test)]
 mod events;
 #[cfg(test)]
 mod every_restart;

@@ -1,13 +1,13 @@
 //! Notes as text.
 use sb_calls::Reply;
-use schedule_text::{AuditNote, Column, Note, push_notes};
+use schedule_text::{AuditNote, Column, Note, push_note, push_notes};
 use std::alloc::Global;
 use std::process::Abort;
 
 // Writes one note, and compares its line.
 fn expect_line(rt: &impl Abort, alloc: Global, note: Note, line: &str) {
     let mut out = Vec::new(alloc);
-    push_notes(&[note], &mut out).expect(rt, "memory");
+    assert!(rt; push_note(note, &mut out) == Ok(()), "{line}");
     assert!(rt; out.as_slice() == line.as_bytes(), "{line}");
 }
 

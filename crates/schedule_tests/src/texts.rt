@@ -1,4 +1,5 @@
 //! The schedules that texts spell.
+use crate::event_lists::are_events;
 use sb_calls::Call;
 use sb_checkpoint::How;
 use sb_rows::{LineFault, Name};
@@ -67,7 +68,7 @@ fn reads_events(rt: HostRuntime) {
     };
     let restart = Event::Restart { replica: 1 };
     let wanted = [ask, send, mark, restart];
-    assert!(rt; schedule.events.as_slice() == wanted.as_slice());
+    are_events(&rt, &schedule.events, &wanted);
 }
 
 #[test]

@@ -1,3 +1,4 @@
 pub mod EventLines
 pub mod Heads
 pub mod OpeningFaults
+pub mod ShortEvents

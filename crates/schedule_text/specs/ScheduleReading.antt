@@ -12,7 +12,7 @@ schedule_value schedule = record {
   workers = schedule.workers;
   names = schedule.directory;
   balances = schedule.columns;
-  events = schedule.events.items;
+  events = schedule.events;
 }
 
 -- the schedule that the text says, or its first fault; memory may be refused instead

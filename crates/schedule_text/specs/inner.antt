@@ -1,2 +1,3 @@
 pub mod Head
 pub mod LineFaults
+pub mod ShortEvents

@@ -8,6 +8,7 @@ ghost use Rattle.schedule_text.specs.inner.LineFaults.{BlamesLine};
 ghost use Rattle.schedule_text.specs.ScheduleText.{events_from, in_events};
 
 use crate::event::Event;
+use crate::events::Events;
 use crate::fault::{EventFault, ScheduleLineFault, TextFault};
 use crate::parsing::{parse_number, parse_one, parse_three, parse_two};
 use sb_calls::{Call, read_call_words};
@@ -179,15 +180,15 @@ pub(crate) fn read_events(
     alloc: Global,
     text: &[u8],
     first_line: usize,
-) -> Result<Vec<Event>, TextFault>
+) -> Result<Events, TextFault>
     requires { first_line + length text.now < 2 ^ 64 }
     ensures { MatchResult result
-        (λ events. events_from first_line [] (lines text.now) ≡ Ok events.items)
+        (λ events. events_from first_line [] (lines text.now) ≡ Ok events)
         (λ fault. BlamesLine fault (in_events (events_from first_line [] (lines text.now)))) }
 {
     // The checker goes through an event's parts, and needs the types stated.
     let _parts: Option<(Call, How)> = None;
-    let mut events = Vec::with_capacity(alloc, text.len() / USUAL_LINE)?;
+    let mut events = Events::with_capacity(alloc, text.len() / USUAL_LINE)?;
     let mut left = text;
     while let Some((line, rest)) = next_line(left) {
         let event = event_at(line, first_line + events.len())?;

@@ -3,6 +3,7 @@
 
 mod event;
 mod event_text;
+mod events;
 mod fault;
 mod head;
 mod note;
@@ -13,8 +14,9 @@ mod schedule;
 
 pub use event::Event;
 pub use event_text::read_event;
+pub use events::{EventWalk, Events};
 pub use fault::{EventFault, ScheduleLineFault, TextFault};
 pub use note::{AuditNote, Column, Note};
-pub use note_text::{push_notes, push_numbered};
+pub use note_text::{push_note, push_notes, push_numbered};
 pub use reading::read_schedule;
 pub use schedule::Schedule;

@@ -17,13 +17,21 @@ pub fn push_notes(notes: &[Note], out: &mut Vec<u8>) -> Result<(), AllocError>
 {
     for note in notes {
         push_note(*note, out)?;
-        out.push(b'\n')?;
     }
     Ok(())
 }
 
+/// Writes the line of a note.
+pub fn push_note(note: Note, out: &mut Vec<u8>) -> Result<(), AllocError>
+    ensures { OnOk result (out.new.items ≡ out.old.items ++ unlines (note_line note ∷ [])) }
+{
+    push_words(note, out)?;
+    out.push(b'\n')?;
+    Ok(())
+}
+
 // Writes a note without the end of its line.
-fn push_note(note: Note, out: &mut Vec<u8>) -> Result<(), AllocError>
+fn push_words(note: Note, out: &mut Vec<u8>) -> Result<(), AllocError>
     ensures { OnOk result (out.new.items ≡ out.old.items ++ note_line note) }
 {
     match note {

@@ -2,7 +2,7 @@
 ghost use Rattle.sb_rows.specs.Rows.{SameCustomers};
 ghost use Rattle.schedule_text.specs.inner.Head.{IsHead};
 
-use crate::event::Event;
+use crate::events::Events;
 use sb_rows::{Columns, Directory};
 
 /// The meaning of the text of a schedule.
@@ -17,7 +17,7 @@ pub struct Schedule {
     /// Their balances at the opening.
     pub columns: Columns,
     /// The events in order.
-    pub events: Vec<Event>,
+    pub events: Events,
     ghost same_customers: { SameCustomers directory columns },
     ghost head: { IsHead nodes workers },
 }

@@ -2,7 +2,7 @@
 
 use crate::cases::fault::CaseFault;
 use crate::cases::report::Report;
-use schedule_player::{Event, World};
+use schedule_player::{Events, World};
 use schedule_text::{Schedule, TextFault, read_schedule};
 use std::alloc::{AllocError, Global};
 
@@ -10,7 +10,7 @@ use std::alloc::{AllocError, Global};
 #[derive(Drop)]
 pub(crate) struct ScheduledWorld {
     pub(crate) world: Box<World>,
-    pub(crate) events: Vec<Event>,
+    pub(crate) events: Events,
 }
 
 /// A world at the opening of a schedule, before the first event.

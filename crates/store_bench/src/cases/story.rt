@@ -86,8 +86,9 @@ restart 1
 /// Reports what happens in a schedule, and what the first replica holds at the end.
 pub(crate) fn play_case(alloc: Global, text: &str, report: &mut Report) -> Result<(), CaseFault> {
     let mut planned = plan(alloc, text, report)?;
-    for event in &planned.events {
-        play_event(&mut planned.world, *event, report)?;
+    let mut left = planned.events.walk();
+    while let Some(event) = left.next() {
+        play_event(&mut planned.world, event, report)?;
     }
     report_columns(&planned.world, report)
 }

@@ -8,14 +8,13 @@ use Rattle.schedule_player.proofs.running.play_and_list.Goals as goal
 -- the notes, and then the final states
 pub returns : goal.returns
 returns c =
-    let world = c.play.new.world in
-    let notes = c.in_ok-notes.notes.items in
+    let world = c.play_lines.new.world in
+    let played = c.in_ok-play_lines.ensures.plays in
     let states = states_from world 0 world.nodes in
-    let told = c.in_ok-push_notes.ensures
-    ∙ (λ j. c.new-output.ensures.items j ++ unlines (map note_line (c.deref.ensures.value j))) in (
-      notes,
+    let told = played.2 ∙ ap (λ out. out ++ unlines (map note_line played.0)) c.new-output.ensures.items in (
+      played.0,
       (
-        c.in_ok-notes.ensures.plays,
-        c.in_ok-push_states.ensures ∙ ap (λ out. out ++ unlines states) told ∙ sym (both_lines (map note_line notes) states),
+        played.1,
+        c.in_ok-push_states.ensures ∙ ap (λ out. out ++ unlines states) told ∙ sym (both_lines (map note_line played.0) states),
       ),
     )

@@ -8,7 +8,7 @@ use Rattle.schedule_text.proofs.event_text.read_events.Goals as goal
 pub returns-in_err-event : goal.returns-in_err-event
 returns-in_err-event c =
     let first = c.args.first_line in
-    let before = c.loop-line.events.items in
+    let before = c.loop-line.events in
     let exit = err_from_is_err_and c.from_residual-in_err-event.result c.from_residual-in_err-event.ensures.1 in
     rw (exit.1, exit.2)
     (events_from-fault first (first + c.len.result) before c.in-Some.line.now (lines c.in-Some.rest.now) _ _
@@ -17,12 +17,12 @@ returns-in_err-event c =
 pub loop-line-preserved : goal.loop-line-preserved
 loop-line-preserved c =
     let first = c.args.first_line in
-    let before = c.loop-line.events.items in
+    let before = c.loop-line.events in
     let more = events_from-line first before c.in-Some.line.now (lines c.in-Some.rest.now) c.in_ok-event.event c.in_ok-event.ensures in
-    let told = ap length c.in_ok-push.ensures.items in
+    let told = ap length c.in_ok-push.ensures.ok in
     record {
       all =
-          ap (λ events. events_from first events (lines c.in-Some.rest.now)) c.in_ok-push.ensures.items
+          ap (λ events. events_from first events (lines c.in-Some.rest.now)) c.in_ok-push.ensures.ok
           ∙ (sym more ∙ (ap (events_from first before) (sym c.in-Some.ensures.line) ∙ c.loop-line.invariant.all));
       room = omega (arith, told, length-append before (c.in_ok-event.event ∷ []), c.loop-line.invariant.room, c.in-Some.ensures.shorter);
     }
@@ -30,4 +30,4 @@ loop-line-preserved c =
 pub returns : goal.returns
 returns c =
     sym c.loop-line.invariant.all
-    ∙ (ap (events_from c.args.first_line c.loop-line.events.items) c.in_default.ensures.line ∙ events_from-end c.args.first_line c.loop-line.events.items)
+    ∙ (ap (events_from c.args.first_line c.loop-line.events) c.in_default.ensures.line ∙ events_from-end c.args.first_line c.loop-line.events)

@@ -1,0 +1,36 @@
+use Rattle.std.proofs.Common.{◌≡◌, ◌-◌, ◌∷◌, ◌++◌, [], sym, ap, ◌∙◌, arith, append_assoc}
+use Rattle.schedule_player.proofs.EventLists.{plays_more, played_on}
+use Rattle.schedule_player.proofs.PlayedLines.{count_of, if_written, stops_at, up_to_last, up_to_next}
+use Rattle.schedule_player.proofs.stepping.play_lines.Goals as goal
+
+pub returns-then-is_err-clause-stopped : goal.returns-then-is_err-clause-stopped
+returns-then-is_err-clause-stopped c =
+    let so_far = c.loop-event.invariant.so_far in
+    let events = c.args.events.now in
+    let left = c.next.new.self in
+    let event = c.in-Some.event in
+    let done = so_far.done ++ event ∷ [] in
+    let all : done ++ left ≡ events =
+    append_assoc so_far.done (event ∷ []) left ∙ ap (λ es. so_far.done ++ es) (sym c.in-Some.ensures) ∙ so_far.all in
+    let plays =
+    plays_more c.args.world.now so_far.done so_far.notes c.loop-event.world event c.in-Ok.note c.step.new.self
+    so_far.plays c.in-Ok.ensures.moves in
+    let many = count_of done left events all in
+    let stops = stops_at c.args.world.now events left c.step.new.self done (so_far.notes ++ c.in-Ok.note ∷ [])
+    (c.len-then-is_err.result - c.len-then-is_err-2.result) all plays (omega (arith, many, c.len-then-is_err.ensures, c.len-then-is_err-2.ensures)) in
+    (stops.within, (stops.notes, stops.plays))
+
+pub loop-event-preserved : goal.loop-event-preserved
+loop-event-preserved c = record {
+  so_far =
+      up_to_next c.args.world.now c.args.events.now c.loop-event.left c.next.new.self c.loop-event.world c.step.new.self c.args.out.now.items
+      c.loop-event.out.items c.push_note.new.out.items c.in-Some.event c.in-Ok.note c.loop-event.invariant.so_far c.in-Some.ensures c.in-Ok.ensures.moves
+      (if_written c.push_note.result (sym c.is_err.ensures.value ∙ c.if-is_err.false) c.push_note.ensures);
+  replicas = c.in-Ok.ensures.replicas ∙ c.loop-event.invariant.replicas;
+}
+
+pub returns-clause-played : goal.returns-clause-played
+returns-clause-played c schedule played =
+    let all = up_to_last c.args.world.now c.args.events.now c.loop-event.left c.loop-event.world c.args.out.now.items c.loop-event.out.items
+    c.loop-event.invariant.so_far c.in_default.ensures.0 in
+    played_on schedule c.args.world.now c.args.events.now all.0 c.loop-event.world played all.1

@@ -1,0 +1,294 @@
+//! The events of a schedule, in order.
+ghost use Rattle.std.specs.Prelude.{◌≡◌, ◌==◌, [], ◌∷◌, ◌++◌, length, IfOk, MatchOption, OnOk, OnErr};
+ghost use Rattle.schedule_text.specs.inner.ShortEvents as spec;
+
+use crate::event::Event;
+use sb_calls::Call;
+use sb_checkpoint::How;
+use std::alloc::{AllocError, Global};
+use std::marker::Model;
+use std::mem::size_of;
+
+// An event without its call, if it is an ask.
+#[derive(Clone, Copy)]
+enum ShortEvent {
+    Ask {
+        client: u32,
+        request: u32,
+    },
+    Send {
+        replica: u32,
+        number: u32,
+    },
+    Resend {
+        replica: u32,
+    },
+    To {
+        replica: u32,
+        position: u32,
+    },
+    Ack {
+        replica: u32,
+    },
+    Answer {
+        replica: u32,
+        number: u32,
+    },
+    From {
+        replica: u32,
+        position: u32,
+    },
+    Take {
+        replica: u32,
+        worker: u32,
+        index: u32,
+    },
+    Finish {
+        replica: u32,
+        worker: u32,
+    },
+    Mark {
+        replica: u32,
+        how: How,
+    },
+    Restart {
+        replica: u32,
+    },
+    Cut {
+        replica: u32,
+    },
+    Next {
+        replica: u32,
+    },
+    Have {
+        replica: u32,
+    },
+    Donor {
+        replica: u32,
+    },
+    Give {
+        donor: u32,
+        replica: u32,
+    },
+    Adopt {
+        replica: u32,
+        position: u32,
+    },
+    Audit {
+        first: u32,
+        second: u32,
+    },
+}
+
+const _: () = prove!(size_of::<ShortEvent>() == 16);
+
+/// The events of a schedule, in order. Each takes 16 bytes, and the call of an ask stands in a list
+/// of its own.
+#[derive(Drop)]
+pub struct Events {
+    short: Vec<ShortEvent>,
+    calls: Vec<Call>,
+}
+
+impl Model for Events {
+    ghost use Rattle.std.specs.Prelude.{◌≡◌, List, count_by, length};
+    ghost use Rattle.schedule_text.specs.declared.event.Event.{Event as AnyEvent};
+    ghost use Rattle.schedule_text.specs.inner.ShortEvents.{events_with_calls, is_short_ask};
+
+    ghost Value = { List AnyEvent };
+
+    ghost view = { λ e. events_with_calls e.short.items e.calls.items };
+
+    // Each ask has its call, and there is no other.
+    ghost invariant = { λ e. count_by is_short_ask e.short.items ≡ length e.calls.items };
+}
+
+impl Events {
+    /// No events.
+    pub fn new(alloc: Global) -> Events
+        ensures { result ≡ [] }
+    {
+        Events {
+            short: Vec::new(alloc),
+            calls: Vec::new(alloc),
+        }
+    }
+
+    /// No events, with room for so many. A call takes room of its own.
+    pub fn with_capacity(alloc: Global, capacity: usize) -> Result<Events, AllocError>
+        ensures { IfOk result (λ events. events ≡ []) }
+    {
+        let short = Vec::with_capacity(alloc, capacity)?;
+        Ok(Events {
+            short,
+            calls: Vec::new(alloc),
+        })
+    }
+
+    /// The number of events.
+    pub fn len(&self) -> usize
+        ensures { result ≡ length self.now }
+    {
+        self.short.len()
+    }
+
+    /// Whether there are no events.
+    pub fn is_empty(&self) -> bool
+        ensures { result ≡ (length self.now == 0) }
+    {
+        self.short.is_empty()
+    }
+
+    /// Adds an event after the last one. If memory is refused, nothing changes.
+    pub fn push(&mut self, event: Event) -> Result<(), AllocError>
+        ensures ok { OnOk result (self.new ≡ self.old ++ event ∷ []) }
+        ensures err { OnErr result (self.new ≡ self.old) }
+    {
+        // The checker goes through an event's parts, and needs the types stated.
+        let _parts: Option<(Call, How)> = None;
+        let short = without_call(&event);
+        match call_in(event) {
+            None => self.short.push(short)?,
+            Some(call) => {
+                self.calls.reserve(1)?;
+                self.short.push(short)?;
+                self.calls.push_reserved(call);
+            }
+        }
+        Ok(())
+    }
+
+    /// The events from the first one on.
+    pub fn walk(&self) -> EventWalk<'_>
+        ensures { result ≡ self.now }
+    {
+        EventWalk {
+            short: &self.short,
+            calls: &self.calls,
+        }
+    }
+}
+
+/// The events of a schedule that weren't come to yet, in order.
+#[derive(Drop)]
+pub struct EventWalk<'a> {
+    short: &'a [ShortEvent],
+    calls: &'a [Call],
+}
+
+impl<'a> Model for EventWalk<'a> {
+    ghost use Rattle.std.specs.Prelude.{◌≡◌, List, count_by, length};
+    ghost use Rattle.schedule_text.specs.declared.event.Event.{Event as AnyEvent};
+    ghost use Rattle.schedule_text.specs.inner.ShortEvents.{events_with_calls, is_short_ask};
+
+    ghost Value = { List AnyEvent };
+
+    ghost view = { λ w. events_with_calls w.short.now w.calls.now };
+
+    ghost invariant = { λ w. count_by is_short_ask w.short.now ≡ length w.calls.now };
+}
+
+impl<'a> EventWalk<'a> {
+    /// The number of events that weren't come to yet.
+    pub fn len(&self) -> usize
+        ensures { result ≡ length self.now }
+    {
+        self.short.len()
+    }
+
+    /// Takes the next event, or returns `None` if there is none.
+    pub fn next(&mut self) -> Option<Event>
+        ensures { MatchOption result
+            ((self.old ≡ []) × (self.new ≡ []))
+            (λ event. self.old ≡ event ∷ self.new) }
+    {
+        let (first, rest) = self.short.split_first()?;
+        self.short = rest;
+        Some(match *first {
+            ShortEvent::Ask { client, request } => {
+                let (call, calls) = self.calls.split_first()?;
+                self.calls = calls;
+                Event::Ask {
+                    client,
+                    request,
+                    call: *call,
+                }
+            }
+            ShortEvent::Send { replica, number } => Event::Send { replica, number },
+            ShortEvent::Resend { replica } => Event::Resend { replica },
+            ShortEvent::To { replica, position } => Event::To { replica, position },
+            ShortEvent::Ack { replica } => Event::Ack { replica },
+            ShortEvent::Answer { replica, number } => Event::Answer { replica, number },
+            ShortEvent::From { replica, position } => Event::From { replica, position },
+            ShortEvent::Take {
+                replica,
+                worker,
+                index,
+            } => Event::Take {
+                replica,
+                worker,
+                index,
+            },
+            ShortEvent::Finish { replica, worker } => Event::Finish { replica, worker },
+            ShortEvent::Mark { replica, how } => Event::Mark { replica, how },
+            ShortEvent::Restart { replica } => Event::Restart { replica },
+            ShortEvent::Cut { replica } => Event::Cut { replica },
+            ShortEvent::Next { replica } => Event::Next { replica },
+            ShortEvent::Have { replica } => Event::Have { replica },
+            ShortEvent::Donor { replica } => Event::Donor { replica },
+            ShortEvent::Give { donor, replica } => Event::Give { donor, replica },
+            ShortEvent::Adopt { replica, position } => Event::Adopt { replica, position },
+            ShortEvent::Audit { first, second } => Event::Audit { first, second },
+        })
+    }
+}
+
+// An event without its call, if it is an ask.
+fn without_call(event: &Event) -> ShortEvent
+    ensures { result ≡ spec.without_call event.now }
+{
+    match *event {
+        Event::Ask {
+            client,
+            request,
+            ..
+        } => ShortEvent::Ask { client, request },
+        Event::Send { replica, number } => ShortEvent::Send { replica, number },
+        Event::Resend { replica } => ShortEvent::Resend { replica },
+        Event::To { replica, position } => ShortEvent::To { replica, position },
+        Event::Ack { replica } => ShortEvent::Ack { replica },
+        Event::Answer { replica, number } => ShortEvent::Answer { replica, number },
+        Event::From { replica, position } => ShortEvent::From { replica, position },
+        Event::Take {
+            replica,
+            worker,
+            index,
+        } => ShortEvent::Take {
+            replica,
+            worker,
+            index,
+        },
+        Event::Finish { replica, worker } => ShortEvent::Finish { replica, worker },
+        Event::Mark { replica, how } => ShortEvent::Mark { replica, how },
+        Event::Restart { replica } => ShortEvent::Restart { replica },
+        Event::Cut { replica } => ShortEvent::Cut { replica },
+        Event::Next { replica } => ShortEvent::Next { replica },
+        Event::Have { replica } => ShortEvent::Have { replica },
+        Event::Donor { replica } => ShortEvent::Donor { replica },
+        Event::Give { donor, replica } => ShortEvent::Give { donor, replica },
+        Event::Adopt { replica, position } => ShortEvent::Adopt { replica, position },
+        Event::Audit { first, second } => ShortEvent::Audit { first, second },
+    }
+}
+
+// The call in an event, if it is an ask.
+fn call_in(event: Event) -> Option<Call>
+    ensures { result ≡ spec.call_in event }
+{
+    // The checker goes through an event's parts, and needs the types stated.
+    let _parts: Option<How> = None;
+    match event {
+        Event::Ask { call, .. } => Some(call),
+        _ => None,
+    }
+}
