@@ -3,7 +3,6 @@ ghost use Rattle.std.specs.Prelude.{◌≡◌, ◌≤◌, ℕ, length, IfOk, IfE
 ghost use Rattle.std.specs.Result.{result_ok};
 ghost use Rattle.sb_calls.specs.Op.{at_two_places};
 ghost use Rattle.sb_calls.specs.declared.op.Op.{Op as AnyOp};
-ghost use Rattle.sb_calls.specs.declared.op.Op.TheVariants as op;
 ghost use Rattle.sb_frames.specs.Streaming.{AreBytes};
 ghost use Rattle.sb_frames.specs.inner.EntryReading as spec;
 ghost use Rattle.sb_frames.specs.inner.FieldReading.{TakesField};
@@ -15,7 +14,6 @@ use crate::decoding::{ENTRY, stated_length};
 use crate::fault::FrameFault;
 use crate::fields::Fields;
 use crate::frame::{LENGTH_BYTES, MAX_BODY};
-use sb_amount::Cents;
 use sb_calls::{Op, TwoPlaces};
 use sb_rows::Directory;
 
@@ -58,26 +56,6 @@ fn two_places(from: Option<u32>, to: Option<u32>) -> Result<TwoPlaces, Op>
     TwoPlaces::new(from, to).ok_or(Op::SameCustomer)
 }
 
-#[inline]
-fn amalgamate(from: Option<u32>, to: Option<u32>) -> Op
-    ensures { result ≡ at_two_places op.Amalgamate from to }
-{
-    match two_places(from, to) {
-        Ok(places) => Op::Amalgamate(places),
-        Err(refusal) => refusal,
-    }
-}
-
-#[inline]
-fn send_payment(from: Option<u32>, to: Option<u32>, amount: Cents) -> Op
-    ensures { result ≡ at_two_places (λ places. op.SendPayment places amount) from to }
-{
-    match two_places(from, to) {
-        Ok(places) => Op::SendPayment(places, amount),
-        Err(refusal) => refusal,
-    }
-}
-
 // A call's op. Every kind has a name first: it is read and looked up before the kind is examined, so
 // that the code for it stands once where this function is inlined.
 #[inline]
@@ -88,35 +66,42 @@ fn read_op(fields: &mut Fields, directory: &Directory) -> Result<Op, FrameFault>
     let kind = fields.byte()?;
     let place = read_place(fields, directory)?;
     match kind {
-        BALANCE => Ok(match place {
-            Some(place) => Op::Balance(place),
-            None => Op::NoCustomer,
-        }),
+        BALANCE => match place {
+            Some(place) => Ok(Op::Balance(place)),
+            None => Ok(Op::NoCustomer),
+        },
         DEPOSIT_CHECKING => {
             let amount = fields.amount()?;
-            Ok(match place {
-                Some(place) => Op::DepositChecking(place, amount),
-                None => Op::NoCustomer,
-            })
+            match place {
+                Some(place) => Ok(Op::DepositChecking(place, amount)),
+                None => Ok(Op::NoCustomer),
+            }
         }
         TRANSACT_SAVINGS => {
             let amount = fields.amount()?;
-            Ok(match place {
-                Some(place) => Op::TransactSavings(place, amount),
-                None => Op::NoCustomer,
-            })
+            match place {
+                Some(place) => Ok(Op::TransactSavings(place, amount)),
+                None => Ok(Op::NoCustomer),
+            }
         }
-        AMALGAMATE => Ok(amalgamate(place, read_place(fields, directory)?)),
+        AMALGAMATE => match two_places(place, read_place(fields, directory)?) {
+            Ok(places) => Ok(Op::Amalgamate(places)),
+            Err(refusal) => Ok(refusal),
+        },
         WRITE_CHECK => {
             let amount = fields.amount()?;
-            Ok(match place {
-                Some(place) => Op::WriteCheck(place, amount),
-                None => Op::NoCustomer,
-            })
+            match place {
+                Some(place) => Ok(Op::WriteCheck(place, amount)),
+                None => Ok(Op::NoCustomer),
+            }
         }
         SEND_PAYMENT => {
             let to = read_place(fields, directory)?;
-            Ok(send_payment(place, to, fields.amount()?))
+            let amount = fields.amount()?;
+            match two_places(place, to) {
+                Ok(places) => Ok(Op::SendPayment(places, amount)),
+                Err(refusal) => Ok(refusal),
+            }
         }
         _ => Err(FrameFault::UnknownTag),
     }
