@@ -1,6 +1,6 @@
 -- A log of calls on a board.
 use Rattle.std.proofs.Common.{◌≡◌, ◌≢◌, inl, inr, ℕ, zero, suc, ◌+◌, ◌<◌, ◌≤◌, Bool, true, false, Option, Some, None, List, [], ◌∷◌, ◌++◌, length, ◌-◌, map, take, refl, sym, ap, subst, ◌∙◌, arith}
-use Rattle.std.specs.Prelude.{slice_get, option_and_then, ◌==◌, nat_le, if◌then◌else◌, IsSome, IfSome}
+use Rattle.std.specs.Prelude.{slice_get, option_and_then, option_map, ◌==◌, nat_le, if◌then◌else◌, IsSome, IfSome}
 use Rattle.std.proofs.lemmas.Bool.{cases_lt, true≢false, lt-leb, ne_eqb}
 use Rattle.std.proofs.lemmas.List.{length-map, take_all}
 use Rattle.sb_rows.specs.Balances.{Balances, IsBalances}
@@ -108,6 +108,23 @@ call_here : (log : List (Key × Call)) (k : ℕ) (call : Call) → call_of_numbe
 call_here [] k call h = absurd (no_call h)
 call_here (entry ∷ log) zero call h = (entry, refl, some_call h)
 call_here (entry ∷ log) (suc k) call h = call_here log k call h
+
+-- a log has a call with each number up to its length
+call_below : (log : List (Key × Call)) (k : ℕ) → k < length log → (call : Call) × (call_of_number log (suc k) ≡ Some call)
+call_below [] k h = absurd (omega arith)
+call_below (entry ∷ log) zero h = (entry.1, refl)
+call_below (entry ∷ log) (suc k) h = call_below log k (omega arith)
+
+is_there : {T U : Type 0} (f : T → U) (o : Option T) (u : U) → option_map f o ≡ Some u → IsSome o
+is_there f None u h = absurd (none_is_some h)
+is_there f (Some x) u h = refl
+
+pub has_call : {T : Type 0} (f : T → Call) (log : List (Key × Call)) (k : ℕ) (o : Option T) → option_map f o ≡ call_of_number log (k + 1)
+    → k < length log → IsSome o
+has_call f log k o found h =
+    let next : k + 1 ≡ suc k = omega arith in
+    let call = call_below log k h in
+    is_there f o call.0 (found ∙ ap (call_of_number log) next ∙ call.1)
 
 take_one_more : {A : Type 0} (xs : List A) (k : ℕ) (x : A) → slice_get xs k ≡ Some x → take (suc k) xs ≡ take k xs ++ x ∷ []
 take_one_more [] k x h = absurd (none_is_some h)

@@ -5,8 +5,16 @@ use Rattle.cown_workers.specs.Draining.{PreservesLog}
 use Rattle.sb_replica.specs.Replica.{ReplicaOf, log_of}
 use Rattle.sb_replica_log.specs.Offers.{after_offer}
 use Rattle.sb_replica_log.specs.declared.offered.Offered.{Offered}
-use Rattle.bank_server.proofs.Boards.{put_after_run, idle_none_out}
+use Rattle.bank_server.proofs.Boards.{put_after, put_after_run, idle_none_out}
 use Rattle.bank_server.proofs.execution.submit.Goals as goal
+
+pub returns-in-Next-clause-put : goal.returns-in-Next-clause-put
+returns-in-Next-clause-put g c =
+    let op = c.args.op.now in
+    let board_of : ReplicaOf g.row.S.Denot → BoardOf Op = λ r. r.board in
+    let after : Offered → BoardOf Op = λ answer. (after_offer (log_of c.args.replica.now) op answer).board in
+    put_after op c.args.replica.now.board c.offer_entry.new.self.board
+    (ap board_of c.in_ok-offer_entry.ensures.state ∙ ap after c.in-Next.is)
 
 pub returns-clause-put : goal.returns-clause-put
 returns-clause-put g c =

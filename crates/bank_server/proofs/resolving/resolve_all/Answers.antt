@@ -1,13 +1,24 @@
 use Rattle.std.proofs.Common.{◌≡◌, ◌+◌, ◌++◌, ◌∷◌, [], List, Some, length, map, take, sym, ap, subst, ◌∙◌, arith}
 use Rattle.std.specs.Option.{option_copied}
+use Rattle.std.proofs.lemmas.List.{take_all}
 use Rattle.std.proofs.lemmas.List.Elements.{All-push}
 use Rattle.sb_calls.specs.Op.{IsOpWithin, op_of}
+use Rattle.sb_calls.specs.declared.ask.Key.{Key}
+use Rattle.sb_calls.specs.declared.call.Call.{Call}
 use Rattle.sb_calls.specs.declared.op.Op.{Op}
 use Rattle.sb_sequencer.specs.Numbering.{call_of_number}
-use Rattle.bank_server.proofs.Boards.{one_more_call}
+use Rattle.bank_server.proofs.Boards.{has_call, one_more_call}
 use Rattle.bank_server.specs.Execution.{AreOpsWithin}
 use Rattle.bank_server.specs.Output.{calls_of}
 use Rattle.bank_server.proofs.resolving.resolve_all.Goals as goal
+
+pub unwrap-call-requires : goal.unwrap-call-requires
+unwrap-call-requires c = has_call _ c.args.log.now.log c.loop-index.index c.call.result c.call.ensures (omega arith)
+
+pub returns-clause-value : goal.returns-clause-value
+returns-clause-value c = c.loop-index.invariant.value
+    ∙ ap (λ (log : List (Key × Call)). map (op_of c.args.directory.now) (calls_of log))
+    (take_all c.loop-index.index c.args.log.now.log (omega arith))
 
 pub loop-index-preserved : goal.loop-index-preserved
 loop-index-preserved c =
