@@ -13,4 +13,4 @@ pub returns : goal.returns
 returns c =
     ap (option_map (λ (index : ℕ). index + 1))
     (sym (index_from_map c.self.inside.log.entries c.args.self.now.log _ (Some c.in_ok-index.index) (ap
-        (λ s. s.log) c.self.view_is) c.in_ok-index.ensures.index))
+    (λ s. s.log) c.self.view_is) c.in_ok-index.ensures.index))
