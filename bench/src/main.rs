@@ -1,5 +1,6 @@
 //! Runs the product and the plain program on the same inputs. Both must write the same bytes, and
-//! one table shows the time and the memory of each.
+//! one table shows the time and the memory of each. The plain program remembers requests that have a
+//! key, and in a second measure every request, as the product does.
 //!
 //! `beside PRODUCT PLAIN FOLDER`; inputs and outputs are kept in the folder. `beside workload SEED
 //! CUSTOMERS LINES` writes a workload to standard output, `beside row NUMBER` that of a row of the
@@ -85,24 +86,24 @@ impl Bench {
         let mut file = BufWriter::new(File::create(&input)?);
         workload.write(&mut file)?;
         file.flush()?;
-        let outputs = (
-            self.folder.join("product.txt"),
-            self.folder.join("plain.txt"),
-        );
+        let written = self.folder.join("product.txt");
+        let written_plain = self.folder.join("plain.txt");
         let mut product = Vec::new();
         let mut plain = Vec::new();
+        let mut every_line = Vec::new();
         for _ in 0..RUNS {
-            product.push(run(&self.product, &input, &outputs.0)?);
-            plain.push(run(&self.plain, &input, &outputs.1)?);
-        }
-        if !same_bytes(&outputs.0, &outputs.1)? {
-            return Err(format!("their outputs differ on {}", input.display()).into());
+            product.push(run(&self.product, &[], &input, &written)?);
+            every_line.push(run(&self.plain, &["every-line"], &input, &written_plain)?);
+            check_same(&written, &written_plain, &input)?;
+            plain.push(run(&self.plain, &[], &input, &written_plain)?);
+            check_same(&written, &written_plain, &input)?;
         }
         print_row(
             calls,
             workload,
             Measure::median(&product),
             Measure::median(&plain),
+            Measure::median(&every_line),
         );
         Ok(())
     }
@@ -112,6 +113,14 @@ fn output(program: &Path, input: &Path) -> io::Result<Output> {
     Command::new(program)
         .stdin(Stdio::from(File::open(input)?))
         .output()
+}
+
+fn check_same(product: &Path, plain: &Path, input: &Path) -> Answer<()> {
+    if same_bytes(product, plain)? {
+        Ok(())
+    } else {
+        Err(format!("their outputs differ on {}", input.display()).into())
+    }
 }
 
 // In pieces: what this process holds in memory would count as the measured program's.
@@ -132,28 +141,38 @@ fn same_bytes(first: &Path, second: &Path) -> io::Result<bool> {
     }
 }
 
-fn print_row(calls: &str, workload: &Workload, product: Measure, plain: Measure) {
+fn print_row(
+    calls: &str,
+    workload: &Workload,
+    product: Measure,
+    plain: Measure,
+    every_line: Measure,
+) {
     let milliseconds = |measure: &Measure| measure.time.as_secs_f64() * 1e3;
     let megabytes = |measure: &Measure| measure.peak_kib as f64 / 1024.0;
     println!(
-        "| {calls} | {} | {} | {:.1} | {:.1} | {:.2} | {:.0} | {:.1} | {:.1} | {:.2} |",
+        "| {calls} | {} | {} | {:.1} | {:.1} | {:.2} | {:.1} | {:.2} | {:.0} | {:.1} | {:.1} | {:.2} | {:.1} |",
         workload.customers,
         workload.lines,
         milliseconds(&product),
         milliseconds(&plain),
         milliseconds(&product) / milliseconds(&plain),
+        milliseconds(&every_line),
+        milliseconds(&product) / milliseconds(&every_line),
         f64::from(workload.lines) / product.time.as_secs_f64(),
         megabytes(&product),
         megabytes(&plain),
         megabytes(&product) / megabytes(&plain),
+        megabytes(&every_line),
     );
 }
 
 fn print_head() {
     println!(
-        "| calls | customers | lines | ms | ms, plain | ratio | lines a second | MiB | MiB, plain | ratio |"
+        "| calls | customers | lines | ms | ms, plain | ratio | ms, plain that remembers every line | ratio \
+        | lines a second | MiB | MiB, plain | ratio | MiB, every line |"
     );
-    println!("|---|---|---|---|---|---|---|---|---|---|");
+    println!("|---|---|---|---|---|---|---|---|---|---|---|---|---|");
 }
 
 fn main() -> Answer<()> {

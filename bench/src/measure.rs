@@ -40,10 +40,12 @@ unsafe extern "C" {
     fn wait4(pid: i32, status: *mut i32, options: i32, usage: *mut Usage) -> i32;
 }
 
-/// Runs a program from the file `input` to the file `output`, which it must end with status 0.
-pub fn run(program: &Path, input: &Path, output: &Path) -> io::Result<Measure> {
+/// Runs a program with these words from the file `input` to the file `output`, which it must end
+/// with status 0.
+pub fn run(program: &Path, words: &[&str], input: &Path, output: &Path) -> io::Result<Measure> {
     let mut command = Command::new(program);
     command
+        .args(words)
         .stdin(Stdio::from(File::open(input)?))
         .stdout(Stdio::from(File::create(output)?));
     let start = Instant::now();

@@ -2,6 +2,8 @@
 //!
 //! One buffer for the input, a hash map from names to places, columns of cents, one buffer for the
 //! output. Calls are executed as they are read. If a line is at fault, the output is dropped.
+//!
+//! Requests that have a key are remembered; with the word `every-line` all are, as the product does.
 
 #[path = "../shared/mod.rs"]
 mod shared;
@@ -11,6 +13,7 @@ use shared::input::{Call, Key, LineFault, asking, lines};
 use shared::output::{Reply, push_mismatch, push_reply, push_rows};
 use shared::{LIMIT, LOG_CALLS, PENALTY};
 use std::collections::HashMap;
+use std::env;
 use std::io::{self, Read, Write};
 use std::process::ExitCode;
 
@@ -121,14 +124,40 @@ impl Bank<'_> {
 
 // ---- a run
 
-fn output_of(input: &[u8]) -> Result<Vec<u8>, LineFault> {
+/// Which requests are remembered.
+#[derive(Clone, Copy, PartialEq, Eq)]
+enum Memory {
+    Keyed,
+    EveryLine,
+}
+
+/// Gives a request without a key one of client 0, if every line is remembered.
+struct Keys {
+    memory: Memory,
+    running: u32,
+}
+
+impl Keys {
+    #[inline]
+    fn key_of(&mut self, key: Option<Key>) -> Option<Key> {
+        if key.is_none() && self.memory == Memory::EveryLine {
+            self.running += 1;
+            return Some((0, self.running));
+        }
+        key
+    }
+}
+
+fn output_of(input: &[u8], memory: Memory) -> Result<Vec<u8>, LineFault> {
     let mut lines = lines(input).zip(1..);
+    let mut keys = Keys { memory, running: 0 };
     let mut bank = Bank::read(&mut lines)?;
     let mut requests: HashMap<Key, Numbered> = HashMap::new();
     let mut out = Vec::new();
     let mut length = 0;
     for (text, line) in lines {
         let (key, call) = asking(text).map_err(|fault| LineFault { line, fault })?;
+        let key = keys.key_of(key);
         if let Some(first) = key.and_then(|key| requests.get(&key)) {
             if first.call == call {
                 push_reply(&mut out, first.number, first.reply);
@@ -162,10 +191,10 @@ fn output_of(input: &[u8]) -> Result<Vec<u8>, LineFault> {
     Ok(out)
 }
 
-fn run() -> io::Result<Result<(), LineFault>> {
+fn run(memory: Memory) -> io::Result<Result<(), LineFault>> {
     let mut input = Vec::new();
     io::stdin().lock().read_to_end(&mut input)?;
-    match output_of(&input) {
+    match output_of(&input, memory) {
         Ok(output) => {
             let mut stdout = io::stdout().lock();
             stdout.write_all(&output)?;
@@ -177,7 +206,11 @@ fn run() -> io::Result<Result<(), LineFault>> {
 }
 
 fn main() -> ExitCode {
-    match run() {
+    let memory = match env::args().nth(1).as_deref() {
+        Some("every-line") => Memory::EveryLine,
+        _ => Memory::Keyed,
+    };
+    match run(memory) {
         Ok(Ok(())) => ExitCode::SUCCESS,
         Ok(Err(LineFault { line, fault })) => {
             eprintln!("smallbank: line {line}: {fault}");
