@@ -91,7 +91,7 @@ fn ask_all<S: CheckpointStore>(
     let mut left = text;
     while !left.is_empty() {
         left = read_batch(left, first_line + standings.len(), batch)?;
-        reserve_new(primary, running, batch)?;
+        reserve_new(primary, batch)?;
         running = ask_batch(primary, running, batch, standings)?;
     }
     Ok(())
@@ -140,28 +140,24 @@ fn read_batch<'a>(
 // so that no look-up waits for the memory of the one before.
 fn reserve_new<S: CheckpointStore>(
     primary: &mut Primary<S>,
-    first_running: u64,
     batch: &[AskLine],
 ) -> Result<(), AllocError>
-    requires { first_running + length batch.now < 2 ^ 64 }
     ensures { primary.new ≡ primary.old }
 {
     let mut new = 0;
-    let mut running = first_running;
     for asked in batch {
-        if is_new(primary.log(), running, asked.key) {
+        if is_new(primary.log(), asked.key) {
             new += 1;
         }
-        running = next_running(running, asked.key);
     }
     primary.reserve(new)
 }
 
-// Whether the log has no number for a line.
-fn is_new(log: &Sequencer, running: u64, key: Option<Key>) -> bool {
-    match key_of(running, key) {
+// Whether the log has no number for a line. For one without a key it never has.
+fn is_new(log: &Sequencer, key: Option<Key>) -> bool {
+    match key {
         Some(key) => log.number_of(key.client, key.request).is_none(),
-        None => false,
+        None => true,
     }
 }
 
