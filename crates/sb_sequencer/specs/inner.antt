@@ -1,3 +1,4 @@
+pub mod KeyHash
 pub mod Padding
 pub mod Rooms
 pub mod StoredAnswers

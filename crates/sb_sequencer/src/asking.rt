@@ -7,7 +7,7 @@ ghost use Rattle.sb_sequencer.specs.Numbering.{index_of_key};
 
 use crate::answer::{AskFault, Numbered};
 use crate::answers::make_room;
-use indexmap::IndexMap;
+use crate::key_hasher::Log;
 use indexmap::map::Entry;
 use sb_calls::{Call, Key, LOG_CALLS, Reply};
 
@@ -36,7 +36,7 @@ pub(crate) fn answer_known(index: usize, numbered: &Call, call: &Call) -> Result
 // Answers an ask at a log that takes one more call. It searches once, and appends a new key once
 // there is room for an answer to it.
 pub(crate) fn ask_with_room(
-    log: &mut IndexMap<Key, Call>,
+    log: &mut Log,
     answers: &mut Vec<Option<Reply>>,
     key: Key,
     call: &Call,

@@ -6,6 +6,7 @@ mod answer;
 mod answers;
 mod asking;
 mod donors;
+mod key_hasher;
 mod laws;
 mod note;
 mod sequencer;

@@ -13,12 +13,13 @@ ghost use Rattle.sb_sequencer.specs.Sequencer.{IsSequencer, state_after_ask, emp
 use crate::answer::{AskFault, Numbered};
 use crate::answers::{store_answer, stored_answer};
 use crate::asking::{answer_known, ask_with_room};
+use crate::key_hasher::Log;
 use crate::note::{AckNote, AnswerNote};
 use arrayvec::ArrayVec;
-use indexmap::IndexMap;
 use sb_calls::{Call, Key, LOG_CALLS, Reply, WireReply};
 use sb_frames::{AskOutcome, Frame};
 use std::alloc::{AllocError, Global};
+use std::hash::BuildHasherDefault;
 use std::marker::Model;
 
 /// The greatest number of replicas of a sequencer.
@@ -32,7 +33,7 @@ pub const RESEND: usize = 16;
 /// answer to each call.
 #[derive(Drop)]
 pub struct Sequencer {
-    log: IndexMap<Key, Call>,
+    log: Log,
     recorded: ArrayVec<u64, REPLICAS>,
     pub(crate) checkpoints: ArrayVec<u64, REPLICAS>,
     // There is room for an answer to each call. It is filled up to the last answer.
@@ -77,7 +78,7 @@ impl Sequencer {
         ensures { result ≡ empty_sequencer nodes }
     {
         Sequencer {
-            log: IndexMap::new(alloc),
+            log: Log::with_hasher(alloc, BuildHasherDefault::new()),
             recorded: zeros(nodes),
             checkpoints: zeros(nodes),
             answers: Vec::new(alloc),
@@ -91,7 +92,7 @@ impl Sequencer {
         ensures { IfOk result (λ sequencer. sequencer ≡ empty_sequencer nodes) }
     {
         Ok(Sequencer {
-            log: IndexMap::with_capacity(alloc, calls)?,
+            log: Log::with_capacity_and_hasher(alloc, calls, BuildHasherDefault::new())?,
             recorded: zeros(nodes),
             checkpoints: zeros(nodes),
             answers: Vec::with_capacity(alloc, calls)?,
