@@ -33,11 +33,13 @@ fn ask_line_of(mut words: Words) -> Result<AskLine, CallFault>
     ensures { result ≡ ask_line_of_words words.entry }
 {
     let verb = words.next().ok_or(CallFault::UnknownVerb)?;
-    if verb == b"ask".as_slice() {
-        return keyed_ask(words);
+    match verb {
+        b"ask" => keyed_ask(words),
+        _ => {
+            let call = call_with(verb, words)?;
+            Ok(AskLine { key: None, call })
+        }
     }
-    let call = call_with(verb, words)?;
-    Ok(AskLine { key: None, call })
 }
 
 // What the words after `ask` ask: the two numbers of the key, and the call under it.

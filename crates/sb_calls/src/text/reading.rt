@@ -40,30 +40,30 @@ pub fn read_call_words(mut words: Words) -> Result<Call, CallFault>
 pub(crate) fn call_with(verb: &[u8], words: Words) -> Result<Call, CallFault>
     ensures { result ≡ call_of_words (verb.now ∷ words.entry) }
 {
-    if verb == b"balance".as_slice() {
-        return one_name(words).map(Call::Balance);
+    match verb {
+        b"balance" => one_name(words).map(Call::Balance),
+        b"deposit" => {
+            let (name, amount) = name_and_amount(words)?;
+            Ok(Call::DepositChecking(name, amount))
+        }
+        b"savings" => {
+            let (name, amount) = name_and_amount(words)?;
+            Ok(Call::TransactSavings(name, amount))
+        }
+        b"check" => {
+            let (name, amount) = name_and_amount(words)?;
+            Ok(Call::WriteCheck(name, amount))
+        }
+        b"amalgamate" => {
+            let (from, to) = two_names(words)?;
+            Ok(Call::Amalgamate(from, to))
+        }
+        b"pay" => {
+            let (from, to, amount) = two_names_and_amount(words)?;
+            Ok(Call::SendPayment(from, to, amount))
+        }
+        _ => Err(CallFault::UnknownVerb),
     }
-    if verb == b"deposit".as_slice() {
-        let (name, amount) = name_and_amount(words)?;
-        return Ok(Call::DepositChecking(name, amount));
-    }
-    if verb == b"savings".as_slice() {
-        let (name, amount) = name_and_amount(words)?;
-        return Ok(Call::TransactSavings(name, amount));
-    }
-    if verb == b"check".as_slice() {
-        let (name, amount) = name_and_amount(words)?;
-        return Ok(Call::WriteCheck(name, amount));
-    }
-    if verb == b"amalgamate".as_slice() {
-        let (from, to) = two_names(words)?;
-        return Ok(Call::Amalgamate(from, to));
-    }
-    if verb == b"pay".as_slice() {
-        let (from, to, amount) = two_names_and_amount(words)?;
-        return Ok(Call::SendPayment(from, to, amount));
-    }
-    Err(CallFault::UnknownVerb)
 }
 
 // The one remaining name. It serves every call that takes a name.
