@@ -2,4 +2,5 @@ pub mod Digits
 pub mod Faults
 pub mod Money
 pub mod MoneyBodies
+pub mod MoneyLengths
 pub mod Points

@@ -14,4 +14,4 @@ pub use canonical::is_canonical;
 pub use cents::{Cents, LIMIT};
 pub use fault::MoneyFault;
 pub use laws::limits;
-pub use printing::{print, print_total};
+pub use printing::{print, print_total, write_total};

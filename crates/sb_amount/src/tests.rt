@@ -134,6 +134,25 @@ fn amounts_that_are_printed(rt: HostRuntime) {
     expect_words(&rt, print_total(i64::MAX).as_str(), "92233720368547758.07");
 }
 
+// Checks that this many cents are written as this text, up to the last byte and no further.
+fn expect_written(rt: &impl Abort, number: i64, text: &str) {
+    let mut bytes = [b'#'; 24];
+    let start = write_total(number, &mut bytes, 23);
+    let (before, rest) = bytes.split_at(start);
+    let written = rest.strip_suffix(b"#");
+    expect(rt, written == Some(text.as_bytes()), text);
+    expect(rt, before.iter().all(|byte| *byte == b'#'), text);
+}
+
+#[test]
+fn totals_that_are_written(rt: HostRuntime) {
+    for (number, text) in PRINTED {
+        expect_written(&rt, *number, text);
+    }
+    expect_written(&rt, i64::MIN, "-92233720368547758.08");
+    expect_written(&rt, i64::MAX, "92233720368547758.07");
+}
+
 // The sum of two amounts, or `None` if there is none.
 fn sum_of(rt: &impl Abort, a: i64, b: i64) -> Option<i64> {
     let first = Cents::new(a).expect(rt, "an amount within the limit");
