@@ -13,5 +13,5 @@ mod tests;
 pub use canonical::is_canonical;
 pub use cents::{Cents, LIMIT};
 pub use fault::MoneyFault;
-pub use laws::limits;
+pub use laws::{limits, totals_are_short};
 pub use printing::{print, print_total, write_total};

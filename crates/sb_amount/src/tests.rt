@@ -137,6 +137,7 @@ fn amounts_that_are_printed(rt: HostRuntime) {
 // Checks that this many cents are written as this text, up to the last byte and no further.
 fn expect_written(rt: &impl Abort, number: i64, text: &str) {
     let mut bytes = [b'#'; 24];
+    totals_are_short(number);
     let start = write_total(number, &mut bytes, 23);
     let (before, rest) = bytes.split_at(start);
     let written = rest.strip_suffix(b"#");
