@@ -1,17 +1,20 @@
-//! How a log's replies relate to its calls, and its rows to their total.
-ghost use Rattle.std.specs.Prelude.{◌≡◌, ℕ, suc, pos, List, slice_get};
+//! How a log's replies relate to its calls, and its rows to their total, and how long a reply is.
+ghost use Rattle.std.specs.Prelude.{◌≡◌, ◌≤◌, ℕ, suc, pos, List, length, slice_get};
 ghost use Rattle.sb_calls.specs.declared.call.Call.{Call};
 ghost use Rattle.sb_calls.specs.Log.{replies_to, reply_to};
 ghost use Rattle.sb_calls.specs.Net.{TotalByNet};
 ghost use Rattle.sb_calls.specs.CownLaws.{LogsByCowns, RepliesHaveSpellings};
 ghost use Rattle.sb_calls.specs.Conflicts.{ConflictsByName};
 ghost use Rattle.sb_calls.specs.Replies.{RepliesHaveOneCode};
+ghost use Rattle.sb_calls.specs.ReplyText.{reply_text};
 ghost use Rattle.sb_calls.specs.Touches.{Locality};
 ghost use Rattle.sb_rows.specs.Rows.{Rows};
 
 use crate::call::LOG_CALLS;
 use crate::cowns::{BEHAVIOUR_COWNS, PENALTY};
+use crate::reply::Reply;
 use crate::wire_reply::TOTAL_LIMIT;
+use sb_amount::totals_are_short;
 
 /// The limits, as numbers: a log takes a million calls, the penalty of a check is 100 cents, a
 /// behaviour declares at most 3 cowns, and a total that is shown is at most twice the limit of a
@@ -53,6 +56,16 @@ pub fn logs_by_cowns()
 pub fn replies_have_spellings()
     ensures { RepliesHaveSpellings }
 {}
+
+/// The text of a reply takes at most 32 bytes, whatever total it shows.
+#[inline]
+pub fn replies_are_short(reply: Reply)
+    ensures { length (reply_text reply) ≤ 32 }
+{
+    if let Reply::Shown(total) = reply {
+        totals_are_short(total);
+    }
+}
 
 /// Two calls share a declared cown exactly if they share a touched balance.
 pub fn conflicts_by_name()

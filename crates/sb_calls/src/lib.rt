@@ -20,12 +20,14 @@ pub use cowns::{
     BEHAVIOUR_COWNS, Behaviour, Cown, PENALTY, Performs, cowns_of, perform, read_cowns, write_cowns,
 };
 pub use laws::{
-    calls_are_local, conflicts_by_name, limits, logs_by_cowns, replies_have_one_code,
-    replies_have_spellings, replies_one_by_one, total_by_net,
+    calls_are_local, conflicts_by_name, limits, logs_by_cowns, replies_are_short,
+    replies_have_one_code, replies_have_spellings, replies_one_by_one, total_by_net,
 };
 pub use net_change::net;
 pub use op::{Op, resolve};
 pub use reply::Reply;
-pub use text::{CallFault, print_reply, read_ask, read_call, read_call_words, read_number};
+pub use text::{
+    CallFault, print_reply, read_ask, read_call, read_call_words, read_number, write_reply,
+};
 pub use two_places::TwoPlaces;
 pub use wire_reply::{TOTAL_LIMIT, WireReply};

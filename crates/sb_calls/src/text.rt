@@ -9,5 +9,5 @@ mod reading;
 pub use asking::read_ask;
 pub use fault::CallFault;
 pub use number::read_number;
-pub use printing::print_reply;
+pub use printing::{print_reply, write_reply};
 pub use reading::{read_call, read_call_words};
