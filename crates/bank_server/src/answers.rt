@@ -1,5 +1,5 @@
 //! The answers to the asking lines, and the rows after them.
-ghost use Rattle.std.specs.Prelude.{◌≡◌, ◌≤◌, ◌-◌, List, Some, [], ◌∷◌, ◌++◌, length, map, slice_get, decimal, codes, OnOk};
+ghost use Rattle.std.specs.Prelude.{◌≡◌, ◌≤◌, ◌-◌, List, Some, [], ◌∷◌, ◌++◌, drop, length, map, slice_get, decimal, codes, OnOk};
 ghost use Rattle.std.specs.List.{All};
 ghost use Rattle.sb_rows.specs.Text.{unlines};
 ghost use Rattle.sb_calls.specs.Replies.{IsReply};
@@ -13,12 +13,16 @@ ghost use Rattle.bank_server.specs.Standing.{IsStandingWithin, standing_line, re
 use crate::asking::Standing;
 use crate::log_number::LogNumber;
 use cown_board::Runs;
-use itoa::Buffer;
-use sb_calls::{Reply, print_reply};
+use itoa::{Buffer, write_digits};
+use sb_calls::{Reply, replies_are_short, write_reply};
 use sb_checkpoint::CheckpointStore;
 use sb_replica::Replica;
 use sb_text::list_rows;
 use std::alloc::AllocError;
+
+// The length of the array in which a line is written: more than a number, a space, a reply and a
+// line feed take.
+const LINE_BYTES: usize = 64;
 
 /// Writes a line for each ask, by its standing in the log that a replica executed, and then the
 /// rows and their total.
@@ -75,12 +79,10 @@ fn push_answer<S: CheckpointStore>(
         → OnOk result (out.new.items ≡ out.old.items ++ standing_line replies standing ++ 10 ∷ []) }
 {
     match standing {
-        Standing::Number(number) => push_reply(number, reply_to(replica, number), out)?,
-        Standing::Mismatch(number) => push_mismatch(number, out)?,
-        Standing::LogFull => out.extend_from_slice(b"log full")?,
+        Standing::Number(number) => push_reply(number, reply_to(replica, number), out),
+        Standing::Mismatch(number) => push_mismatch(number, out),
+        Standing::LogFull => out.extend_from_slice(b"log full\n"),
     }
-    out.push(b'\n')?;
-    Ok(())
 }
 
 /// The reply of a replica to a number of its log.
@@ -97,23 +99,36 @@ pub(crate) fn reply_to<S: CheckpointStore>(replica: &Replica<S>, number: LogNumb
     replica.reply(u64::from(number.value())).unwrap()
 }
 
-// Writes a number and its reply.
+// Writes the line of a number and its reply.
 fn push_reply(number: LogNumber, reply: Reply, out: &mut Vec<u8>) -> Result<(), AllocError>
-    ensures { OnOk result (out.new.items ≡ out.old.items ++ reply_line number (Some reply)) }
+    ensures { OnOk result (out.new.items ≡ out.old.items ++ reply_line number (Some reply) ++ 10 ∷ []) }
 {
-    let mut buffer = Buffer::new();
-    out.extend_from_slice(buffer.format(number.value()).as_bytes())?;
-    out.push(b' ')?;
-    out.extend_from_slice(print_reply(reply).as_str().as_bytes())?;
-    Ok(())
+    let mut line = [b'\n'; LINE_BYTES];
+    let start = write_reply_line(number, reply, &mut line);
+    out.extend_from_slice(&line[start..])
 }
 
-// Writes the number of another call under the same key.
+// Writes the line of a number and its reply from its end, which has the line feed already, and
+// answers where it starts.
+#[inline]
+fn write_reply_line(number: LogNumber, reply: Reply, line: &mut [u8; LINE_BYTES]) -> usize
+    requires { drop (LINE_BYTES - 1) line.old ≡ 10 ∷ [] }
+    ensures written { drop result line.new ≡ reply_line number (Some reply) ++ 10 ∷ [] }
+    ensures within { result ≤ LINE_BYTES }
+{
+    replies_are_short(reply);
+    let space = write_reply(reply, line, LINE_BYTES - 1) - 1;
+    line[space] = b' ';
+    write_digits(u64::from(number.value()), line, space)
+}
+
+// Writes the line of a number that has another call under the same key.
 fn push_mismatch(number: LogNumber, out: &mut Vec<u8>) -> Result<(), AllocError>
-    ensures { OnOk result (out.new.items ≡ out.old.items ++ codes "mismatch " ++ decimal number) }
+    ensures { OnOk result (out.new.items ≡ out.old.items ++ (codes "mismatch " ++ decimal number) ++ 10 ∷ []) }
 {
     let mut buffer = Buffer::new();
     out.extend_from_slice(b"mismatch ")?;
     out.extend_from_slice(buffer.format(number.value()).as_bytes())?;
+    out.push(b'\n')?;
     Ok(())
 }
