@@ -1,6 +1,6 @@
 -- A log of calls on a board.
-use Rattle.std.proofs.Common.{◌≡◌, ◌≢◌, inl, inr, ℕ, zero, suc, ◌+◌, ◌<◌, ◌≤◌, Bool, true, false, Option, Some, None, List, [], ◌∷◌, ◌++◌, length, ◌-◌, map, take, refl, sym, ap, subst, ◌∙◌, arith}
-use Rattle.std.specs.Prelude.{slice_get, option_and_then, option_map, ◌==◌, nat_le, if◌then◌else◌, IsSome, IfSome}
+use Rattle.std.proofs.Common.{◌≡◌, ◌≢◌, inl, inr, ℕ, zero, suc, ◌+◌, ◌<◌, ◌≤◌, Bool, true, false, Option, Some, None, List, [], ◌∷◌, ◌++◌, length, ◌-◌, map, refl, sym, ap, subst, ◌∙◌, arith}
+use Rattle.std.specs.Prelude.{slice_get, option_and_then, ◌==◌, nat_le, if◌then◌else◌, IsSome, IfSome}
 use Rattle.std.proofs.lemmas.Bool.{cases_lt, true≢false, lt-leb, ne_eqb}
 use Rattle.std.proofs.lemmas.List.{length-map, take_all}
 use Rattle.sb_rows.specs.Balances.{Balances, IsBalances}
@@ -14,7 +14,6 @@ use Rattle.sb_calls.specs.Log.{replies_to, rows_after}
 use Rattle.sb_calls.specs.SerialRun.{reply_by_log, contents_after}
 use Rattle.sb_calls.specs.Op.{op_of}
 use Rattle.sb_calls.specs.Procedures.{procedure}
-use Rattle.sb_calls.specs.declared.ask.Key.{Key}
 use Rattle.sb_calls.specs.declared.call.Call.{Call}
 use Rattle.sb_calls.specs.declared.op.Op.{Op}
 use Rattle.sb_calls.specs.declared.reply.Reply.{Reply}
@@ -24,27 +23,9 @@ use Rattle.cown_board.specs.State.{is_unfinished, state_is, finished_reply}
 use Rattle.cown_board.specs.declared.state.State.{State}
 use Rattle.cown_board.specs.declared.state.State.TheVariants.{Waiting, Out, Finished}
 use Rattle.cown_workers.specs.Draining.{HasNoneOut, PreservesLog}
-use Rattle.sb_sequencer.specs.Numbering.{call_of_number}
 use Rattle.sb_replica_log.specs.Offers.{board_with_entry}
 use Rattle.bank_server.specs.inner.Appends.{AppendsOps}
 use Rattle.bank_server.specs.Execution.{IsWholeLog, IsOneByOne, HasReplies}
-use Rattle.bank_server.specs.Output.{calls_of}
-
-none_is_some : {A : Type 0} {x : A} → ◌≡◌ {A = Option A} None (Some x) → ⊥
-none_is_some h = cc
-
-some_is : {A : Type 0} {x y : A} → ◌≡◌ {A = Option A} (Some x) (Some y) → x ≡ y
-some_is h = cc
-
-no_call : {call : Call} → ◌≡◌ {A = Option Call} None (Some call) → ⊥
-no_call h = cc
-
-some_call : {a b : Call} → ◌≡◌ {A = Option Call} (Some a) (Some b) → a ≡ b
-some_call h = cc
-
-map_more : (f : Call → Op) (log : List (Key × Call)) (entry : Key × Call) → map f (calls_of (log ++ entry ∷ [])) ≡ map f (calls_of log) ++ f entry.1 ∷ []
-map_more f [] entry = refl
-map_more f (e ∷ log) entry = ap (λ ops. f e.1 ∷ ops) (map_more f log entry)
 
 no_out : ◌≡◌ {A = Option State} None (Some Out) → ⊥
 no_out h = cc
@@ -100,46 +81,6 @@ drains_same old new is = record {
   cut = ap (λ (b : BoardOf Op). b.cut) is;
   finished = λ k reply at. ap (λ (b : BoardOf Op). slice_get b.states k) is ∙ at;
 }
-
--- ---- the log so far
-
-call_here : (log : List (Key × Call)) (k : ℕ) (call : Call) → call_of_number log (suc k) ≡ Some call → (entry : Key × Call) × (slice_get log k ≡ Some entry)
-    × (entry.1 ≡ call)
-call_here [] k call h = absurd (no_call h)
-call_here (entry ∷ log) zero call h = (entry, refl, some_call h)
-call_here (entry ∷ log) (suc k) call h = call_here log k call h
-
--- a log has a call with each number up to its length
-call_below : (log : List (Key × Call)) (k : ℕ) → k < length log → (call : Call) × (call_of_number log (suc k) ≡ Some call)
-call_below [] k h = absurd (omega arith)
-call_below (entry ∷ log) zero h = (entry.1, refl)
-call_below (entry ∷ log) (suc k) h = call_below log k (omega arith)
-
-is_there : {T U : Type 0} (f : T → U) (o : Option T) (u : U) → option_map f o ≡ Some u → IsSome o
-is_there f None u h = absurd (none_is_some h)
-is_there f (Some x) u h = refl
-
-pub has_call : {T : Type 0} (f : T → Call) (log : List (Key × Call)) (k : ℕ) (o : Option T) → option_map f o ≡ call_of_number log (k + 1)
-    → k < length log → IsSome o
-has_call f log k o found h =
-    let next : k + 1 ≡ suc k = omega arith in
-    let call = call_below log k h in
-    is_there f o call.0 (found ∙ ap (call_of_number log) next ∙ call.1)
-
-take_one_more : {A : Type 0} (xs : List A) (k : ℕ) (x : A) → slice_get xs k ≡ Some x → take (suc k) xs ≡ take k xs ++ x ∷ []
-take_one_more [] k x h = absurd (none_is_some h)
-take_one_more (y ∷ xs) zero x h = ap (λ z. z ∷ []) (some_is h)
-take_one_more (y ∷ xs) (suc k) x h = ap (λ t. y ∷ t) (take_one_more xs k x h)
-
-pub one_more_call : (f : Call → Op) (log : List (Key × Call)) (k : ℕ) (call : Call) → call_of_number log (k + 1) ≡ Some call
-    → map f (calls_of (take (k + 1) log)) ≡ map f (calls_of (take k log)) ++ f call ∷ []
-one_more_call f log k call h =
-    let next : k + 1 ≡ suc k = omega arith in
-    let found = call_here log k call (ap (call_of_number log) (sym next) ∙ h) in
-    ap (λ n. map f (calls_of (take n log))) next
-    ∙ ap (λ l. map f (calls_of l)) (take_one_more log k found.0 found.1)
-    ∙ map_more f (take k log) found.0
-    ∙ ap (λ c. map f (calls_of (take k log)) ++ f c ∷ []) found.2
 
 -- ---- the replies
 

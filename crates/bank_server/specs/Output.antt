@@ -8,6 +8,7 @@ use Rattle.sb_calls.specs.declared.ask.AskLine.{AskLine}
 use Rattle.sb_calls.specs.declared.ask.Key.{Key}
 use Rattle.sb_calls.specs.declared.call.Call.{Call}
 use Rattle.sb_sequencer.specs.Numbering.{first_asks}
+pub use Rattle.sb_sequencer.specs.Numbering.{calls_of}
 use Rattle.sb_text.specs.Listing.{row_lines}
 use Rattle.bank_server.specs.Asks.{asks_with_keys}
 use Rattle.bank_server.specs.Input.{InputText, input_of}
@@ -17,10 +18,6 @@ use Rattle.bank_server.specs.declared.fault.InputFault.{InputFault}
 -- the log: the first asks of each key, at most 1,000,000
 abbrev pub log_of_asks : List AskLine → List (Key × Call)
 log_of_asks asks = first_asks (asks_with_keys asks)
-
--- the calls of a log
-abbrev pub calls_of : List (Key × Call) → List Call
-calls_of log = map (λ entry. entry.1) log
 
 -- one line for each asking line, by its standing in the log and the replies to the log
 unfoldable pub answer_lines : Rows → List AskLine → List (List ℕ)

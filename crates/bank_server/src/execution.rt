@@ -11,18 +11,22 @@ ghost use Rattle.bank_server.specs.Execution.{AreOpsWithin, IsWholeLog, IsOneByO
 ghost use Rattle.bank_server.specs.Faults.{IsExecutionFault};
 
 use crate::followers::Followers;
+use crate::resolving::resolve_part;
 use cown_workers::{Crew, CrewFault, CrewGone, drain};
-use sb_calls::{LOG_CALLS, Op};
+use sb_calls::{Call, LOG_CALLS, Op};
 use sb_checkpoint::CheckpointStore;
 use sb_replica::Replica;
 use sb_replica_log::Offered;
 use sb_sequencer::Sequencer;
+use std::alloc::Global;
 use std::sync::Wait;
 
-// The number of entries in a part. The followers are sent a part before it is submitted.
+// The number of entries in a part. The followers are sent a part before it is submitted, and its
+// names are looked up, so that the directory and the queues don't push each other out of the
+// processor's caches.
 pub(crate) const PART: usize = 1024;
 
-/// Executes the ops of a log on a replica that has none yet, each as soon as its cowns are free.
+/// Executes the calls of a log on a replica that has none yet, each as soon as its cowns are free.
 /// The followers are sent each part of the log before it is submitted, and execute it too. Without
 /// listeners no log is needed.
 ///
@@ -31,56 +35,57 @@ pub(crate) const PART: usize = 1024;
 ///   never does,
 /// - [`CrewFault::OutOfMemory`] if memory is refused.
 pub(crate) fn carry_out<S: CheckpointStore, C: Crew, R: Wait>(
-    ops: &[Op],
+    alloc: Global,
+    calls: &[Call],
     log: Option<&Sequencer>,
     replica: &mut Replica<S>,
     crew: &mut C,
     followers: &mut Followers<'_, R>,
 ) -> Result<(), CrewFault>
     requires opened { HasNoEntries replica.old.board }
-    requires limit { length ops.now ≤ LOG_CALLS }
-    requires within { AreOpsWithin (length replica.old.names) ops.now }
+    requires limit { length calls.now ≤ LOG_CALLS }
     requires log_given { IfNone log (followers.old.listening ≡ 0) }
-    ensures finished { OnOk result (IsWholeLog ops.now replica.new.board) }
+    ensures finished { OnOk result (IsWholeLog (map (op_of replica.old.names) calls.now) replica.new.board) }
     ensures opening { OnOk result (replica.new.board.opening ≡ replica.old.board.opening) }
-    // If these are the ops of calls, the result is as if the calls were executed one by one.
-    ensures one_by_one { OnOk result ((calls : List AnyCall)
-        → SameCustomers replica.old.names replica.old.board.opening
-        → ops.now ≡ map (op_of replica.old.names) calls
-        → IsOneByOne replica.old.names calls replica.old.board.opening replica.new.board) }
+    // The result is as if the calls were executed one by one.
+    ensures one_by_one { OnOk result (SameCustomers replica.old.names replica.old.board.opening
+        → IsOneByOne replica.old.names calls.now replica.old.board.opening replica.new.board) }
     ensures rest { rest_of replica.new ≡ rest_of replica.old }
-    ensures sent { OnOk result (length ops.now ≤ followers.new.sent) }
+    ensures sent { OnOk result (length calls.now ≤ followers.new.sent) }
     ensures unchanged { followers.new ≡ record followers.old { sent = followers.new.sent } }
     ensures fault { IfErr result (IsExecutionFault C.keeps replica.old.board) }
 {
-    replica.reserve(ops.len())?;
-    submit_parts(ops, log, replica, crew, followers)?;
+    replica.reserve(calls.len())?;
+    submit_parts(alloc, calls, log, replica, crew, followers)?;
     followers.flush()?;
     settle(replica, crew)
 }
 
-// Submits these ops in parts, each after it was sent to the followers.
+// Submits these calls in parts, each after it was sent to the followers and its names were looked
+// up.
 fn submit_parts<S: CheckpointStore, C: Crew, R: Wait>(
-    ops: &[Op],
+    alloc: Global,
+    calls: &[Call],
     log: Option<&Sequencer>,
     replica: &mut Replica<S>,
     crew: &mut C,
     followers: &mut Followers<'_, R>,
 ) -> Result<(), CrewFault>
-    requires limit { length_of replica.old.board + length ops.now ≤ LOG_CALLS }
-    requires within { AreOpsWithin (length replica.old.names) ops.now }
+    requires limit { length_of replica.old.board + length calls.now ≤ LOG_CALLS }
     requires log_given { IfNone log (followers.old.listening ≡ 0) }
-    ensures put { OnOk result (AppendsOps ops.now replica.old.board replica.new.board) }
+    ensures put { OnOk result (AppendsOps (map (op_of replica.old.names) calls.now) replica.old.board replica.new.board) }
     ensures rest { rest_of replica.new ≡ rest_of replica.old }
-    ensures sent { OnOk result (length ops.now ≤ followers.new.sent) }
+    ensures sent { OnOk result (length calls.now ≤ followers.new.sent) }
     ensures unchanged { followers.new ≡ record followers.old { sent = followers.new.sent } }
     ensures fault { IfErr result (IsExecutionFault C.keeps replica.old.board) }
 {
+    let mut ops = Vec::with_capacity(alloc, PART)?;
     let mut done = 0;
-    while done < ops.len() {
-        let end = done + PART.min(ops.len() - done);
+    while done < calls.len() {
+        let end = done + PART.min(calls.len() - done);
         followers.send_up_to(log, end)?;
-        submit_all(&ops[done..end], replica, crew)?;
+        resolve_part(&calls[done..end], replica.directory(), &mut ops)?;
+        submit_all(&ops, replica, crew)?;
         done = end;
     }
     Ok(())

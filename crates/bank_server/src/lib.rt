@@ -39,7 +39,6 @@ pub use pending::PendingAsk;
 pub use prepared_input::{PreparedInput, prepare};
 pub use primary::Primary;
 pub use ready_followers::ReadyFollowers;
-pub use resolving::resolve_all;
 pub use run::run_text;
 pub use save_fault::SaveFault;
 pub use session::serve_session;

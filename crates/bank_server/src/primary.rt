@@ -6,7 +6,7 @@ ghost use Rattle.cown_board.specs.Board.{length_of, unfinished_of};
 ghost use Rattle.cown_workers.specs.Draining.{HasNoneOut};
 ghost use Rattle.sb_checkpoint.specs.Stores.{StoreDoes};
 ghost use Rattle.sb_replica.specs.Replica.{rest_of};
-ghost use Rattle.sb_sequencer.specs.Numbering.{IsLog, first_asks};
+ghost use Rattle.sb_sequencer.specs.Numbering.{IsLog, calls_of, first_asks};
 ghost use Rattle.sb_sequencer.specs.Sequencer.{empty_sequencer};
 ghost use Rattle.bank_server.specs.inner.AskSteps.{AddsAsk};
 ghost use Rattle.bank_server.specs.Execution.{HasNoEntries};
@@ -21,7 +21,6 @@ use crate::boxed_replica::open_boxed;
 use crate::catching_up::catch_up;
 use crate::execution::{carry_out, settle};
 use crate::followers::Followers;
-use crate::resolving::resolve_all;
 use crate::save_fault::SaveFault;
 use crate::session_fault::SessionFault;
 use cown_workers::{Crew, CrewFault};
@@ -153,8 +152,7 @@ impl<S: CheckpointStore> Primary<S> {
     /// Has node 0 execute the whole log, of which it has nothing yet, together with its followers,
     /// and gives it back.
     ///
-    /// All names are looked up at once, and the log is dropped before the first entry is submitted,
-    /// unless followers listen.
+    /// Unless followers listen, the log's keys are dropped before the first entry is submitted.
     ///
     /// Fails with
     /// - [`CrewFault::CrewGone`] if the crew leaves something unfinished, which one that keeps no
@@ -174,9 +172,13 @@ impl<S: CheckpointStore> Primary<S> {
     {
         let Primary { alloc, log, node } = self;
         let mut node = node;
-        let ops = resolve_all(alloc, &log, node.directory())?;
-        let log = log_for_followers(log, followers);
-        carry_out(&ops, log.as_deref(), &mut node, crew, followers)?;
+        if followers.is_empty() {
+            // The board can take the place of the keys in memory.
+            let calls = take_calls(log);
+            carry_out(alloc, &calls, None, &mut node, crew, followers)?;
+            return Ok(node);
+        }
+        carry_out(alloc, log.calls(), Some(&log), &mut node, crew, followers)?;
         Ok(node)
     }
 
@@ -222,17 +224,9 @@ fn boxed_log(alloc: Global, entries: usize) -> Result<Box<Sequencer>, AllocError
     Ok(Box::new(alloc, log)?)
 }
 
-// The log, if a follower listens. Otherwise it is dropped, so that the board can take its place in
-// memory.
-fn log_for_followers<R: Wait>(
-    log: Box<Sequencer>,
-    followers: &Followers<'_, R>,
-) -> Option<Box<Sequencer>>
-    ensures { MatchOption result (followers.now.listening ≡ 0) (λ kept. kept ≡ log) }
+// The calls of a log, of which nothing else is needed. The function owns nothing else.
+fn take_calls(log: Box<Sequencer>) -> Vec<Call>
+    ensures { result.items ≡ calls_of log.value.log }
 {
-    if followers.is_empty() {
-        None
-    } else {
-        Some(log)
-    }
+    Box::into_inner(log).into_calls()
 }

@@ -1,5 +1,5 @@
 -- Valid names.
-use Rattle.std.specs.Prelude.{ℕ, ◌-◌, nat_le, ◌==◌, Bool, ◌&&◌, ◌||◌, IsTrue, List, [], length}
+use Rattle.std.specs.Prelude.{ℕ, nat_le, ◌==◌, Bool, ◌&&◌, ◌||◌, IsTrue, List, length}
 use Rattle.std.specs.List.{list_all}
 use Rattle.sb_rows.specs.declared.name.TheConstants.{NAME_BYTES}
 

@@ -1,5 +1,5 @@
 -- The result of reading an opening, compared with what the text says.
-use Rattle.std.specs.Prelude.{◌≡◌, ℕ, Result, Ok, Err, []}
+use Rattle.std.specs.Prelude.{◌≡◌, ℕ, Result, Ok, Err}
 use Rattle.sb_rows.specs.Opening.{OpeningText}
 use Rattle.sb_rows.specs.declared.fault.LineFault.{LineFault}
 use Rattle.sb_rows.specs.declared.fault.OpeningFault.{OpeningFault}

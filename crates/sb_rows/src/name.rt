@@ -21,6 +21,9 @@ pub struct Name {
     len: u8,
     // The text, with zeros after it.
     bytes: [u8; NAME_BYTES],
+    // Always 0. With it the second name of a call ends at a multiple of 4, so that calls are copied
+    // by pieces that don't overlap. Reading such a piece back at once doesn't stall.
+    pad: u8,
 }
 
 impl Model for Name {
@@ -32,13 +35,17 @@ impl Model for Name {
 
     ghost view = { λ n. take n.len n.bytes };
 
-    ghost invariant = { λ n. IsPaddedName n.bytes n.len };
+    ghost invariant = { λ n. IsPaddedName n.bytes n.len n.pad };
 
-    ghost inverse = { λ text. record { bytes = text ++ replicate (NAME_BYTES - length text) 0; len = length text } };
+    ghost inverse = { λ text. record {
+      bytes = text ++ replicate (NAME_BYTES - length text) 0;
+      len = length text;
+      pad = 0;
+    } };
 
     ghost inverse_ok = { λ n h i.
-        let back = padded_from_text n.bytes n.len h in
-        record { bytes = back.0 i; len = back.1 i } };
+        let back = padded_from_text n.bytes n.len n.pad h in
+        record { bytes = back.0 i; len = back.1 i; pad = back.2 i } };
 }
 
 // Whether a text is a valid name.
@@ -61,6 +68,7 @@ impl Name {
         Some(Name {
             bytes,
             len: text.len() as u8,
+            pad: 0,
         })
     }
 

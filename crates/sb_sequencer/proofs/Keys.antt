@@ -1,16 +1,14 @@
 -- Keys by value, and where one stands.
-use Rattle.std.proofs.Common.{◌≡◌, ℕ, ◌+◌, ◌<◌, ◌≤◌, Bool, true, false, true≢false, not, cond, nat_lt, Option, Some, None, is_some, unwrap_or, get_or, All, List, [], ◌∷◌, ◌++◌, length, map, position, slice_get, refl, sym, ap, ◌∙◌, arith}
+use Rattle.std.proofs.Common.{◌≡◌, ℕ, ◌+◌, ◌≤◌, Bool, true, false, not, cond, nat_lt, Option, Some, None, is_some, unwrap_or, get_or, All, List, [], ◌∷◌, length, map, position, slice_get, refl, sym, ap, ◌∙◌, arith}
 use Rattle.std.specs.List.{prefix_len, position_or_len}
-use Rattle.std.specs.Map.{keys_of, values_of, lookup}
+use Rattle.std.specs.Map.{keys_of, values_of}
 use Rattle.std.specs.Option.{option_map}
-use Rattle.std.proofs.lemmas.Bool.{and_parts, and_from, eqb-true, eq-eqb, lt-ltb, ltb-false, or_parts, cond-true, cond-false}
+use Rattle.std.proofs.lemmas.Bool.{and_parts, and_from, eqb-true, eq-eqb, ltb-false}
 use Rattle.std.proofs.lemmas.List.{length-map}
 use Rattle.std.proofs.lemmas.List.Folds.{list_any_none, list_any_at}
 use Rattle.std.proofs.lemmas.List.Quantifiers.{position-Some}
 use Rattle.std.proofs.lemmas.List.Sums.{fails_before_first}
-use Rattle.std.proofs.lemmas.Option.{get_or_from_slice_get, slice_get-get_or, slice_get-map}
-use Rattle.indexmap.specs.IndexMap.{insert_entry}
-use Rattle.indexmap.proofs.MapLemmas.{some_index}
+use Rattle.std.proofs.lemmas.Option.{slice_get-get_or, slice_get-map}
 use Rattle.sb_calls.specs.declared.ask.Key.{Key}
 use Rattle.sb_calls.specs.declared.call.Call.{Call}
 use Rattle.sb_sequencer.specs.Numbering.{same_key, has_key, index_of_key}
@@ -33,34 +31,10 @@ prefix_len-map f test [] = refl
 prefix_len-map f test (x ∷ xs) = ap (λ n. cond (test (f x)) (1 + n) 0) (prefix_len-map f test xs)
 
 -- a key stands among the keys where its entry stands
-place_of_key-keys : (log : List (Key × Call)) (key : Key) → position (same_key key) (keys_of log) ≡ index_of_key log key
+pub place_of_key-keys : (log : List (Key × Call)) (key : Key) → position (same_key key) (keys_of log) ≡ index_of_key log key
 place_of_key-keys log key =
     λ j. let n = prefix_len-map (λ entry. entry.0) (λ other. not (same_key key other)) log j in
     cond (nat_lt n (length-map log (λ entry. entry.0) j)) (Some n) None
-
--- so what a map finds among its keys is the key's place in the log
-pub index_from_map : (entries log : List (Key × Call)) (key : Key) (found : Option ℕ) → entries ≡ log
-    → found ≡ position (same_key key) (keys_of entries) → index_of_key log key ≡ found
-index_from_map entries log key found same is =
-    ap (λ xs. index_of_key xs key) (sym same) ∙ sym (place_of_key-keys entries key) ∙ sym is
-
--- the index that a map gives a key, where it is within the log, is the key's place
-pub index_within_log : (log : List (Key × Call)) (key : Key) (place : ℕ) → place ≡ position_or_len (same_key key) (keys_of log) → place < length log
-    → index_of_key log key ≡ Some place
-index_within_log log key place is within =
-    let n = position_or_len (same_key key) (keys_of log) in
-    let long = length-map log (λ entry. entry.0) in
-    let there : n < length (keys_of log) = omega (arith, is, within, long) in
-    sym (place_of_key-keys log key) ∙ cond-true (nat_lt n (length (keys_of log))) (Some n) None (lt-ltb n _ there) ∙ ap Some (sym is)
-
-none_if_not_some : (found : Option ℕ) → is_some found ≡ false → found ≡ None
-none_if_not_some None e = refl
-none_if_not_some (Some place) e = absurd (true≢false e)
-
--- a key that a map doesn't have has no place
-pub absent_from_map : (log : List (Key × Call)) (key : Key) → lookup (same_key key) log ≡ None → index_of_key log key ≡ None
-absent_from_map log key e =
-    sym (place_of_key-keys log key) ∙ none_if_not_some _ (some_index (same_key key) log ∙ ap is_some e)
 
 -- what the test of a place tells
 none_by_test : (b : Bool) (n : ℕ) → cond b (Some n) None ≡ None → b ≡ false
@@ -85,19 +59,7 @@ has_key-place (first ∷ rest) key = by (index_of_key (first ∷ rest) key) refl
         let there = position-Some (λ entry. same_key key entry.0) (first ∷ rest) place first e in
         list_any_at (λ entry. same_key key entry.0) (first ∷ rest) place first there.0 there.1
 
--- the entry that a map finds for a key stands at the key's place, and has the key
-pub entry_from_map : (entries log : List (Key × Call)) (key stored : Key) (call : Call) (place : ℕ) → entries ≡ log
-    → Some place ≡ position (same_key key) (keys_of entries) → slice_get entries place ≡ Some (stored, call)
-    → (index_of_key log key ≡ Some place) × (slice_get log place ≡ Some (key, call))
-entry_from_map entries log key stored call place same is at =
-    let e = index_from_map entries log key (Some place) same is in
-    let here : slice_get log place ≡ Some (stored, call) = ap (λ xs. slice_get xs place) (sym same) ∙ at in
-    let there = position-Some (λ entry. same_key key entry.0) log place (stored, call) e in
-    let stands = get_or_from_slice_get log place (stored, call) (stored, call) here in
-    let one : key ≡ stored = same_key_same key stored (ap (λ entry. same_key key entry.0) (sym stands) ∙ there.1) in
-    (e, here ∙ ap (λ k. Some (k, call)) (sym one))
-
--- the value at the key's place is its entry's
+-- the call at the key's place is its entry's
 pub entry_from_value : (log : List (Key × Call)) (key : Key) (call : Call) (place : ℕ) → index_of_key log key ≡ Some place
     → slice_get (values_of log) place ≡ Some call → slice_get log place ≡ Some (key, call)
 entry_from_value log key call place e is =
@@ -108,17 +70,3 @@ entry_from_value log key call place e is =
     let numbered_is : entry.1 ≡ call = ap (λ value. unwrap_or value call) numbered in
     let one : key ≡ entry.0 = same_key_same key entry.0 there.1 in
     at ∙ (λ j. Some (sym one j, numbered_is j))
-
--- a map puts a new key last
-pub insert_entry-last : (log : List (Key × Call)) (key : Key) (call : Call) → has_key log key ≡ false
-    → insert_entry same_key log key call ≡ log ++ (key, call) ∷ []
-insert_entry-last [] key call e = refl
-insert_entry-last (entry ∷ log) key call e =
-    let parts = or_parts (same_key key entry.0) (has_key log key) e in
-    cond-false (same_key key entry.0) _ _ parts.0 ∙ ap (λ rest. entry ∷ rest) (insert_entry-last log key call parts.1)
-
--- also where it holds the log as its entries
-pub pushed_in_map : (entries after log : List (Key × Call)) (key : Key) (call : Call) → entries ≡ log → index_of_key log key ≡ None
-    → after ≡ insert_entry same_key entries key call → after ≡ log ++ (key, call) ∷ []
-pushed_in_map entries after log key call same new is =
-    is ∙ ap (λ xs. insert_entry same_key xs key call) same ∙ insert_entry-last log key call (has_key-place log key ∙ ap is_some new)

@@ -2,6 +2,7 @@ pub mod DonorChoice
 pub mod Entries
 pub mod FirstAsks
 pub mod Keys
+pub mod LogColumns
 pub mod LogSteps
 pub mod Padding
 pub mod SequencerAfterAsk

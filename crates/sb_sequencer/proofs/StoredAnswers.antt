@@ -1,6 +1,5 @@
 -- Answers that are kept, in the sequencer's own terms.
-use Rattle.std.proofs.Common.{◌≡◌, ℕ, zero, suc, ◌+◌, ◌-◌, ◌<◌, ◌≤◌, inl, inr, Option, Some, None, List, [], ◌∷◌, ◌++◌, length, position, replicate, slice_get, slice_set, refl, sym, ap, ◌∙◌, arith}
-use Rattle.std.specs.Map.{keys_of}
+use Rattle.std.proofs.Common.{◌≡◌, ℕ, zero, suc, ◌+◌, ◌-◌, ◌<◌, ◌≤◌, inl, inr, Option, Some, None, List, [], ◌∷◌, ◌++◌, length, replicate, slice_get, slice_set, refl, sym, ap, ◌∙◌, arith}
 use Rattle.std.specs.Option.{option_and_then, option_flatten}
 use Rattle.std.proofs.lemmas.Bool.{cases_lt}
 use Rattle.std.proofs.lemmas.List.{set-append_left, length-set}
@@ -9,12 +8,11 @@ use Rattle.sb_calls.specs.declared.call.Call.{Call}
 use Rattle.sb_calls.specs.declared.reply.Reply.{Reply}
 use Rattle.sb_sequencer.specs.inner.StoredAnswers.{StoresAnswer}
 use Rattle.sb_sequencer.specs.Notes.{IsAnswerNote, after_answer, answer_of}
-use Rattle.sb_sequencer.specs.Numbering.{same_key}
+use Rattle.sb_sequencer.specs.Numbering.{index_of_key}
 use Rattle.sb_sequencer.specs.Sequencer.{SequencerOf}
 use Rattle.sb_sequencer.specs.inner.Padding.{padded_answers}
 use Rattle.sb_sequencer.specs.declared.note.AnswerNote.{AnswerNote}
 use Rattle.sb_sequencer.specs.declared.note.AnswerNote.TheVariants.{Kept, Repeat, Odd, Unknown}
-use Rattle.sb_sequencer.proofs.Keys.{index_from_map}
 use Rattle.sb_sequencer.proofs.Padding.{padded_answers-full, length-padded_answers, padded_answers-padded_answers}
 
 -- ---- places that are filled without an answer change nothing
@@ -118,14 +116,14 @@ pub flatten-padded_answers : (places : ℕ) (kept : List (Option Reply)) (place 
     → option_flatten (slice_get (padded_answers places kept) place) ≡ option_flatten (slice_get kept place)
 flatten-padded_answers places kept place = flatten-append kept (places - length kept) place
 
--- so the answer for a key is what is kept at the place that a map finds for it
+-- so the answer for a key is what is kept at the place that the log has for it
 pub answer_at : (log : List (Key × Call)) (recorded checkpoints : List ℕ) (kept : List (Option Reply)) (s : SequencerOf) (key : Key) (found : Option ℕ)
     → record { log = log; recorded = recorded; checkpoints = checkpoints; answers = padded_answers (length log) kept } ≡ s
-    → found ≡ position (same_key key) (keys_of log)
+    → found ≡ index_of_key log key
     → answer_of s key ≡ option_and_then (λ place. option_flatten (slice_get kept place)) found
 answer_at log recorded checkpoints kept s key found is e =
     ap (λ sequencer. answer_of sequencer key) (sym is)
-    ∙ ap (option_and_then (λ place. option_flatten (slice_get (padded_answers (length log) kept) place))) (index_from_map log log key found refl e)
+    ∙ ap (option_and_then (λ place. option_flatten (slice_get (padded_answers (length log) kept) place))) (sym e)
     ∙ there found
   where
     there : (place : Option ℕ) → option_and_then (λ at. option_flatten (slice_get (padded_answers (length log) kept) at)) place

@@ -1,5 +1,5 @@
 -- The numbering: the first ask of each key, in order.
-use Rattle.std.specs.Prelude.{◌≢◌, ℕ, zero, suc, ◌≤◌, ◌+◌, ◌==◌, Bool, ◌&&◌, if◌then◌else◌, Option, None, List, [], ◌∷◌, ◌++◌, length, take, slice_get, position}
+use Rattle.std.specs.Prelude.{◌≢◌, ℕ, zero, suc, ◌≤◌, ◌+◌, ◌==◌, Bool, ◌&&◌, if◌then◌else◌, Option, None, List, [], ◌∷◌, ◌++◌, length, map, take, slice_get, position}
 use Rattle.std.specs.List.{list_any, AllPairs}
 use Rattle.std.specs.Option.{option_map}
 use Rattle.sb_calls.specs.declared.ask.Key.{Key}
@@ -31,6 +31,10 @@ index_of_key log key = position (λ entry. same_key key entry.0) log
 -- the number of a key in a log, from 1
 abbrev pub number_of_key : List (Key × Call) → Key → Option ℕ
 number_of_key log key = option_map (λ index. index + 1) (index_of_key log key)
+
+-- the calls of a log, in order
+abbrev pub calls_of : List (Key × Call) → List Call
+calls_of log = map (λ entry. entry.1) log
 
 -- the call with a number, counted from 1
 abbrev pub call_of_number : List (Key × Call) → ℕ → Option Call

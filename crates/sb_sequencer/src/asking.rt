@@ -7,8 +7,7 @@ ghost use Rattle.sb_sequencer.specs.Numbering.{index_of_key};
 
 use crate::answer::{AskFault, Numbered};
 use crate::answers::make_room;
-use crate::key_hasher::Log;
-use indexmap::map::Entry;
+use crate::log::Log;
 use sb_calls::{Call, Key, LOG_CALLS, Reply};
 
 // Whether two calls are equal. For the prover alone: here `==` gets its clause.
@@ -33,32 +32,28 @@ pub(crate) fn answer_known(index: usize, numbered: &Call, call: &Call) -> Result
     }
 }
 
-// Answers an ask at a log that takes one more call. It searches once, and appends a new key once
-// there is room for an answer to it.
+// Answers an ask at a log that takes one more call. It appends a new key once there is room for an
+// answer to it.
 pub(crate) fn ask_with_room(
     log: &mut Log,
     answers: &mut Vec<Option<Reply>>,
     key: Key,
     call: &Call,
 ) -> Result<Numbered, AskFault>
-    requires calls { length log.old.entries < LOG_CALLS }
-    requires limit { length answers.old.items ≤ length log.old.entries }
-    requires room { length log.old.entries ≤ vec_capacity answers.old }
-    ensures answer { AnswersAsk log.old.entries (key, call.now) result }
-    ensures log { LogAfter log.old.entries (key, call.now) result log.new.entries }
+    requires calls { length log.old < LOG_CALLS }
+    requires limit { length answers.old.items ≤ length log.old }
+    requires room { length log.old ≤ vec_capacity answers.old }
+    ensures answer { AnswersAsk log.old (key, call.now) result }
+    ensures log { LogAfter log.old (key, call.now) result log.new }
     ensures unchanged { answers.new.items ≡ answers.old.items }
-    ensures room { length log.new.entries ≤ vec_capacity answers.new }
+    ensures room { length log.new ≤ vec_capacity answers.new }
 {
-    match log.entry(key) {
-        Ok(Entry::Occupied(found)) => answer_known(found.index(), found.get(), call),
-        Ok(Entry::Vacant(room)) => {
-            let calls = room.index() + 1;
-            if make_room(answers, calls).is_err() {
-                return Err(AskFault::OutOfMemory);
-            }
-            room.insert(*call);
-            Ok(Numbered::New(calls as u64))
-        }
-        Err(_) => Err(AskFault::OutOfMemory),
+    if let Some((index, numbered)) = log.find(&key) {
+        return answer_known(index, numbered, call);
     }
+    let calls = log.len() + 1;
+    if make_room(answers, calls).is_err() || log.push(key, call).is_err() {
+        return Err(AskFault::OutOfMemory);
+    }
+    Ok(Numbered::New(calls as u64))
 }

@@ -1,19 +1,14 @@
-//! The map of a log, and the hasher of its keys.
+//! The hasher of a log's keys.
 ghost use Rattle.std.specs.Prelude.{◌≡◌};
 ghost use Rattle.sb_sequencer.specs.inner.KeyHash.{first_number};
 
-use indexmap::IndexMap;
-use sb_calls::{Call, Key};
-use std::hash::{BuildHasherDefault, Hasher};
+use std::hash::Hasher;
 
-/// The calls of a log by their keys, in order.
-pub(crate) type Log = IndexMap<Key, Call, BuildHasherDefault<KeyHasher>>;
-
-// How many requests in a row of one client share a group of the map's index: a power of 2. A group
+// How many requests in a row of one client share a group of the set's index: a power of 2. A group
 // has 12 lanes, so a second block of 8 in it spills into the next group.
 const BLOCK: u64 = 8;
 
-// The map takes a tag from the top 8 of the 32 bits of a hash that it uses. So this is how far
+// The set takes a tag from the top 8 of the 32 bits of a hash that it uses. So this is how far
 // apart the places in a block are.
 const TAG_STEP: u64 = (1 << 32) / BLOCK;
 
@@ -23,8 +18,8 @@ const SEED: u64 = 0x243f_6a88_85a3_08d3;
 const MULTIPLIER: u64 = 0x9e37_79b9_7f4a_7c15;
 
 /// Hashes the keys of a log. A client numbers its requests in a row, so neighbours share a group
-/// of the map's index: what the look-up of one loads, the next finds in the cache. Their tags
-/// differ, so the map tells them apart without a look at their keys.
+/// of the set's index: what the look-up of one loads, the next finds in the cache. Their tags
+/// differ, so the set tells them apart without a look at their keys.
 ///
 /// The order of the log and every answer are the same under any hasher. The seed is fixed, as the
 /// default's is: whoever picks the keys can make them collide, which only costs time.

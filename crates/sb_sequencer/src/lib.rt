@@ -8,6 +8,7 @@ mod asking;
 mod donors;
 mod key_hasher;
 mod laws;
+mod log;
 mod note;
 mod sequencer;
 

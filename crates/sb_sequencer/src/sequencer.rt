@@ -7,19 +7,18 @@ ghost use Rattle.sb_sequencer.specs.Answer.{AnswersAsk, LogAfter, ExtendsFirstAs
 ghost use Rattle.sb_sequencer.specs.Entries.{entries_after, entry_of, entries_to_resend};
 ghost use Rattle.sb_sequencer.specs.Log.{log_with};
 ghost use Rattle.sb_sequencer.specs.Notes.{IsAnswerNote, after_ack, after_answer, answer_of, note_of_ack};
-ghost use Rattle.sb_sequencer.specs.Numbering.{IsLog, call_of_number, number_of_key};
+ghost use Rattle.sb_sequencer.specs.Numbering.{IsLog, call_of_number, calls_of, number_of_key};
 ghost use Rattle.sb_sequencer.specs.Sequencer.{IsSequencer, state_after_ask, empty_sequencer};
 
 use crate::answer::{AskFault, Numbered};
 use crate::answers::{store_answer, stored_answer};
 use crate::asking::{answer_known, ask_with_room};
-use crate::key_hasher::Log;
+use crate::log::Log;
 use crate::note::{AckNote, AnswerNote};
 use arrayvec::ArrayVec;
 use sb_calls::{Call, Key, LOG_CALLS, Reply, WireReply};
 use sb_frames::{AskOutcome, Frame};
 use std::alloc::{AllocError, Global};
-use std::hash::BuildHasherDefault;
 use std::marker::Model;
 
 /// The greatest number of replicas of a sequencer.
@@ -49,13 +48,13 @@ impl Model for Sequencer {
     ghost Value = { SequencerOf };
 
     ghost view = { λ s. record {
-      log = s.log.entries;
+      log = s.log;
       recorded = s.recorded.items;
       checkpoints = s.checkpoints.items;
-      answers = padded_answers (length s.log.entries) s.answers.items;
+      answers = padded_answers (length s.log) s.answers.items;
     } };
 
-    ghost invariant = { λ s. HasRooms s.log.entries s.recorded.items s.checkpoints.items s.answers.items
+    ghost invariant = { λ s. HasRooms s.log s.recorded.items s.checkpoints.items s.answers.items
         (vec_capacity s.answers) };
 }
 
@@ -78,7 +77,7 @@ impl Sequencer {
         ensures { result ≡ empty_sequencer nodes }
     {
         Sequencer {
-            log: Log::with_hasher(alloc, BuildHasherDefault::new()),
+            log: Log::new(alloc),
             recorded: zeros(nodes),
             checkpoints: zeros(nodes),
             answers: Vec::new(alloc),
@@ -92,7 +91,7 @@ impl Sequencer {
         ensures { IfOk result (λ sequencer. sequencer ≡ empty_sequencer nodes) }
     {
         Ok(Sequencer {
-            log: Log::with_capacity_and_hasher(alloc, calls, BuildHasherDefault::new())?,
+            log: Log::with_capacity(alloc, calls)?,
             recorded: zeros(nodes),
             checkpoints: zeros(nodes),
             answers: Vec::with_capacity(alloc, calls)?,
@@ -112,8 +111,22 @@ impl Sequencer {
         ensures { option_copied result ≡ call_of_number self.now.log number }
     {
         let index = number.checked_sub(1)?;
-        let (_, call) = self.log.get_index(index as usize)?;
-        Some(call)
+        self.log.get(index as usize)
+    }
+
+    /// The calls of the log, in order.
+    pub fn calls(&self) -> &[Call]
+        ensures { result.now ≡ calls_of self.now.log }
+    {
+        self.log.calls()
+    }
+
+    /// The calls of the log, in order. All else is dropped.
+    pub fn into_calls(self) -> Vec<Call>
+        ensures { result.items ≡ calls_of self.log }
+    {
+        let Sequencer { log, .. } = self;
+        log.into_calls()
     }
 
     /// The number of a request, counted from 1, or `None` if it has none.
@@ -121,7 +134,7 @@ impl Sequencer {
     pub fn number_of(&self, client: u32, request: u32) -> Option<u64>
         ensures { result ≡ number_of_key self.now.log (record { client = client; request = request }) }
     {
-        let index = self.log.get_index_of(&Key { client, request })?;
+        let index = self.log.index_of(&Key { client, request })?;
         Some(index as u64 + 1)
     }
 
@@ -147,8 +160,8 @@ impl Sequencer {
         ensures answer { AnswersAsk self.now.log (key, call.now) result }
         ensures log { LogAfter self.now.log (key, call.now) result self.now.log }
     {
-        match self.log.get_full(&key) {
-            Some((index, _, numbered)) => answer_known(index, numbered, call),
+        match self.log.find(&key) {
+            Some((index, numbered)) => answer_known(index, numbered, call),
             None => Err(AskFault::LogFull),
         }
     }
@@ -266,7 +279,7 @@ impl Sequencer {
     pub fn answer_of(&self, client: u32, request: u32) -> Option<Reply>
         ensures { result ≡ answer_of self.now (record { client = client; request = request }) }
     {
-        let index = self.log.get_index_of(&Key { client, request })?;
+        let index = self.log.index_of(&Key { client, request })?;
         stored_answer(self.answers.as_slice(), index)
     }
 }

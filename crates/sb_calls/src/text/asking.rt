@@ -1,12 +1,13 @@
 //! The text of an asking line: a call, or `ask CLIENT REQUEST CALL`.
-ghost use Rattle.std.specs.Prelude.{◌≡◌, Ok, IfOk};
+ghost use Rattle.std.specs.Prelude.{◌≡◌, ◌∷◌, Some, Ok, Err, IfOk, MatchResult};
+ghost use Rattle.sb_calls.specs.Call.{call_of_words};
 ghost use Rattle.sb_calls.specs.declared.ask.AskLine.{AskLine as AnyAskLine};
 ghost use Rattle.sb_calls.specs.Ask as spec;
-ghost use Rattle.sb_calls.specs.Ask.{IsAskLine, ask_line, ask_line_of, ask_line_of_words, keyed_ask, key_of};
+ghost use Rattle.sb_calls.specs.Ask.{IsAskLine, ask_line, ask_line_of, ask_line_of_words, keyed_ask, key_of, under_key};
 
 use super::fault::CallFault;
 use super::number::read_number;
-use super::reading::{call_with, read_call_words};
+use super::reading::call_with;
 use crate::ask::{AskLine, Key};
 use sb_rows::Words;
 
@@ -32,27 +33,38 @@ pub fn read_ask(line: &[u8]) -> Result<AskLine, CallFault>
 fn ask_line_of(mut words: Words) -> Result<AskLine, CallFault>
     ensures { result ≡ ask_line_of_words words.entry }
 {
+    let (key, verb) = key_and_verb(&mut words)?;
+    let call = call_with(verb, words)?;
+    Ok(AskLine { key, call })
+}
+
+// The key, if the first word is `ask`, and the verb of the call.
+#[inline]
+fn key_and_verb<'a>(words: &mut Words<'a>) -> Result<(Option<Key>, &'a [u8]), CallFault>
+    ensures { MatchResult result
+        (λ both. ask_line_of_words words.old ≡ under_key both.0 (call_of_words (both.1.now ∷ words.new)))
+        (λ fault. ask_line_of_words words.old ≡ Err fault) }
+{
     let verb = words.next().ok_or(CallFault::UnknownVerb)?;
     match verb {
-        b"ask" => keyed_ask(words),
-        _ => {
-            let call = call_with(verb, words)?;
-            Ok(AskLine { key: None, call })
+        b"ask" => {
+            let key = next_key(words)?;
+            let verb = words.next().ok_or(CallFault::UnknownVerb)?;
+            Ok((Some(key), verb))
         }
+        _ => Ok((None, verb)),
     }
 }
 
-// What the words after `ask` ask: the two numbers of the key, and the call under it.
-fn keyed_ask(mut words: Words) -> Result<AskLine, CallFault>
-    ensures { result ≡ keyed_ask words.entry }
+// The key that the next two words spell.
+#[inline]
+fn next_key(words: &mut Words) -> Result<Key, CallFault>
+    ensures { MatchResult result
+        (λ key. keyed_ask words.old ≡ under_key (Some key) (call_of_words words.new))
+        (λ fault. keyed_ask words.old ≡ Err fault) }
 {
     let (client, request) = (words.word()?, words.word()?);
-    let key = key_of(client, request).ok_or(CallFault::BadNumber)?;
-    let call = read_call_words(words)?;
-    Ok(AskLine {
-        key: Some(key),
-        call,
-    })
+    key_of(client, request).ok_or(CallFault::BadNumber)
 }
 
 // The key with these two numbers. A client is never 0.

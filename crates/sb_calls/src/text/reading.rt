@@ -37,6 +37,8 @@ pub fn read_call_words(mut words: Words) -> Result<Call, CallFault>
 }
 
 // The call with a verb and the words after it.
+// Inlined, so that a call is written where it stays, and not passed through memory.
+#[inline(always)]
 pub(crate) fn call_with(verb: &[u8], words: Words) -> Result<Call, CallFault>
     ensures { result ≡ call_of_words (verb.now ∷ words.entry) }
 {

@@ -6,22 +6,25 @@ use Rattle.std.proofs.Common.{sym, ap, ◌∙◌, arith, length-take-le, take-ap
 use Rattle.sb_rows.specs.declared.name.TheConstants.{NAME_BYTES}
 use Rattle.sb_rows.specs.Name.{IsName}
 
--- the array has a name of this length, with zeros after it
-pub record IsPaddedName (array : List ℕ) (size : ℕ) : Type 0 where
+-- the array has a name of this length, with zeros after it, and so is the byte behind it
+pub record IsPaddedName (array : List ℕ) (size pad : ℕ) : Type 0 where
   pub capacity : length array ≡ NAME_BYTES
   pub within : size ≤ NAME_BYTES
   pub valid : IsName (take size array)
   pub zeros : drop size array ≡ replicate (NAME_BYTES - size) 0
+  pub empty : pad ≡ 0
 
--- the array and the length of a stored name, from its text
-pub padded_from_text : (array : List ℕ) (size : ℕ) → IsPaddedName array size
+-- the array, the length and the byte behind of a stored name, from its text
+pub padded_from_text : (array : List ℕ) (size pad : ℕ) → IsPaddedName array size pad
     → (take size array ++ replicate (NAME_BYTES - length (take size array)) 0 ≡ array)
     × (length (take size array) ≡ size)
-padded_from_text array size h =
+    × (0 ≡ pad)
+padded_from_text array size pad h =
     let same : length (take size array) ≡ size = length-take-le size array (omega (arith, h.capacity, h.within)) in (
       ap (λ n. take size array ++ replicate (NAME_BYTES - n) 0) same
           ∙ ap (λ rest. take size array ++ rest) (sym h.zeros) ∙ take-append-drop size array,
       same,
+      sym h.empty,
     )
 
 -- equal names have equal hashes

@@ -1,5 +1,5 @@
 -- The words of a line after some were taken.
-use Rattle.std.specs.Prelude.{ℕ, ◌-◌, Option, Some, None, List, []}
+use Rattle.std.specs.Prelude.{ℕ, Option, Some, None, List, []}
 use Rattle.sb_rows.specs.Text.{words}
 
 -- the words of the text after a word, if there is one

@@ -1,5 +1,6 @@
-use Rattle.std.proofs.Common.{Result, Ok, Err, List, ap, ◌∙◌, ◌++◌}
+use Rattle.std.proofs.Common.{Result, Ok, Err, List, map, refl, ap, ◌∙◌, ◌++◌}
 use Rattle.std.specs.Prelude.{OnOk}
+use Rattle.sb_calls.specs.Op.{op_of}
 use Rattle.sb_calls.specs.declared.op.Op.{Op}
 use Rattle.sb_replica.specs.Replica.{ReplicaOf}
 use Rattle.bank_server.proofs.Boards.{one_by_one}
@@ -16,13 +17,16 @@ returns-clause-one_by_one g c =
     let kept = ap (λ (r : ReplicaOf g.row.S.Denot). r.board) c.in_ok-reserve.ensures in
     let put = c.in_ok-submit_parts.ensures.put in
     let run = c.settle.ensures.log in
+    let ops = map (op_of c.args.replica.now.names) c.args.calls.now in
     on_ok c.settle.result
-    (λ idle calls same is. one_by_one c.args.replica.now.names old.opening calls c.args.ops.now c.settle.new.replica.board same
+    (λ idle same. one_by_one c.args.replica.now.names old.opening c.args.calls.now ops c.settle.new.replica.board same
     (run.opening ∙ put.opening ∙ ap (λ b. b.opening) kept)
     (record {
       idle = idle;
       base_replies = run.base_replies ∙ put.base_replies ∙ ap (λ b. b.base_replies) kept ∙ c.requires.opened.base_replies;
-      log = run.log ∙ put.log ∙ ap (λ (l : List Op). l ++ c.args.ops.now) (ap (λ b. b.log) kept ∙ c.requires.opened.log);
+      log = run.log ∙ put.log
+          ∙ ap (λ (r : ReplicaOf g.row.S.Denot). r.board.log ++ map (op_of r.names) c.args.calls.now) c.in_ok-reserve.ensures
+          ∙ ap (λ (l : List Op). l ++ ops) c.requires.opened.log;
     })
-    is)
+    refl)
     c.settle.ensures.idle

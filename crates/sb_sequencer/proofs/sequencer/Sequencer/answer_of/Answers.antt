@@ -7,11 +7,11 @@ pub returns-in_err-index : goal.returns-in_err-index
 returns-in_err-index c =
     let s = c.self.inside in
     c.from_residual.ensures
-    ∙ sym (answer_at s.log.entries s.recorded.items s.checkpoints.items s.answers.items c.args.self.now _ None c.self.view_is c.in_err-index.ensures.index)
+    ∙ sym (answer_at s.log s.recorded.items s.checkpoints.items s.answers.items c.args.self.now _ None c.self.view_is c.in_err-index.ensures.value)
 
 pub returns : goal.returns
 returns c =
     let s = c.self.inside in
     c.stored_answer.ensures ∙ ap (λ answers. option_flatten (slice_get answers c.in_ok-index.index)) c.as_slice.ensures.value
-    ∙ sym (answer_at s.log.entries s.recorded.items s.checkpoints.items s.answers.items c.args.self.now _ (Some c.in_ok-index.index) c.self.view_is
-    c.in_ok-index.ensures.index)
+    ∙ sym (answer_at s.log s.recorded.items s.checkpoints.items s.answers.items c.args.self.now _ (Some c.in_ok-index.index) c.self.view_is
+    c.in_ok-index.ensures.value)

@@ -18,7 +18,7 @@ returns-then-is_full-clause-numbering c asks = first_asks-from_step asks c.args.
 pub invariant_of-self : goal.invariant_of-self
 invariant_of-self c =
     let s = c.self.inside in
-    asked_rooms s.log.entries c.ask_with_room.new.log.entries s.recorded.items s.checkpoints.items s.answers.items
+    asked_rooms s.log c.ask_with_room.new.log s.recorded.items s.checkpoints.items s.answers.items
     c.ask_with_room.new.answers.items _ _ _ _ c.self.invariant c.ask_with_room.ensures.answer c.ask_with_room.ensures.log
     c.ask_with_room.ensures.unchanged c.ask_with_room.ensures.room
 
@@ -26,20 +26,20 @@ pub returns-clause-state : goal.returns-clause-state
 returns-clause-state c =
     let ask : Key × Call = (record { client = c.args.client; request = c.args.request }, c.args.call.now) in
     let s = c.self.inside in
-    asked_state s.log.entries c.ask_with_room.new.log.entries s.recorded.items s.checkpoints.items s.answers.items
+    asked_state s.log c.ask_with_room.new.log s.recorded.items s.checkpoints.items s.answers.items
     c.ask_with_room.new.answers.items ask c.ask_with_room.result c.self.invariant.answers c.ask_with_room.ensures.log c.ask_with_room.ensures.unchanged
     ∙ ap (λ s. state_after_ask s ask c.ask_with_room.result) c.self.view_is
 
 pub returns-clause-step : goal.returns-clause-step
 returns-clause-step c other =
     let ask : Key × Call = (record { client = c.args.client; request = c.args.request }, c.args.call.now) in
-    log_with-answered c.self.inside.log.entries c.ask_with_room.new.log.entries ask _ c.ask_with_room.ensures.answer c.ask_with_room.ensures.log other
+    log_with-answered c.self.inside.log c.ask_with_room.new.log ask _ c.ask_with_room.ensures.answer c.ask_with_room.ensures.log other
     ∙ ap (λ s. log_with s.log ask) c.self.view_is
 
 pub returns-clause-numbering : goal.returns-clause-numbering
-returns-clause-numbering c asks = first_asks-from_step asks c.args.self.now.log c.ask_with_room.new.log.entries _ _ (returns-clause-step c)
+returns-clause-numbering c asks = first_asks-from_step asks c.args.self.now.log c.ask_with_room.new.log _ _ (returns-clause-step c)
 
 pub returns-clause-valid : goal.returns-clause-valid
 returns-clause-valid c =
     let s = c.self.inside in
-    rooms_sequencer c.ask_with_room.new.log.entries s.recorded.items s.checkpoints.items c.ask_with_room.new.answers.items _ (invariant_of-self c)
+    rooms_sequencer c.ask_with_room.new.log s.recorded.items s.checkpoints.items c.ask_with_room.new.answers.items _ (invariant_of-self c)
