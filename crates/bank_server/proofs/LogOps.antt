@@ -9,9 +9,8 @@ use Rattle.cown_board.specs.Board.{BoardOf}
 use Rattle.cown_workers.specs.Draining.{HasNoneOut}
 use Rattle.cown_workers.specs.declared.crew_fault.CrewFault.{CrewFault}
 use Rattle.cown_workers.specs.declared.crew_fault.CrewFault.TheVariants as crew
-use Rattle.sb_sequencer.specs.Numbering.{call_of_number}
+use Rattle.sb_sequencer.specs.Numbering.{call_of_number, calls_of}
 use Rattle.bank_server.specs.Faults.{IsExecutionFault}
-use Rattle.bank_server.specs.Output.{calls_of}
 use Rattle.bank_server.specs.SessionFaults.{LosesCrew}
 use Rattle.bank_server.specs.inner.FlushFaults.{session_of_crew_fault}
 

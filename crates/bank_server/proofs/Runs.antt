@@ -8,7 +8,8 @@ use Rattle.sb_checkpoint.specs.declared.memory_store.MemoryStore.{MemoryStore}
 use Rattle.sb_calls.specs.declared.op.Op.{Op}
 use Rattle.sb_rows.specs.Balances.{Balances}
 use Rattle.bank_server.specs.Execution.{IsWholeLog, HasNoEntries}
-use Rattle.bank_server.specs.Output.{calls_of, output_of}
+use Rattle.sb_sequencer.specs.Numbering.{calls_of}
+use Rattle.bank_server.specs.Output.{output_of}
 use Rattle.bank_server.specs.PreparedInput.{IsPreparedInputOf, output_after}
 use Rattle.bank_server.specs.Primary.{PrimaryOf, RunsLog, node_at_opening, log_ops}
 use Rattle.bank_server.specs.Standing.{IsStandingWithin}

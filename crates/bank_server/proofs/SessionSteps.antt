@@ -11,9 +11,8 @@ use Rattle.sb_calls.specs.declared.call.Call.{Call}
 use Rattle.sb_frames.specs.Grammar.{spelling}
 use Rattle.sb_frames.specs.declared.frame.Frame.{Frame}
 use Rattle.sb_frames.specs.declared.frame.Frame.TheVariants.{Ask, Flush}
-use Rattle.sb_sequencer.specs.Numbering.{first_asks}
+use Rattle.sb_sequencer.specs.Numbering.{first_asks, calls_of}
 use Rattle.bank_server.specs.inner.AskSteps.{AddsAsk}
-use Rattle.bank_server.specs.Output.{calls_of}
 use Rattle.bank_server.specs.inner.SessionSteps.{Reaches, Leads, SessionState, unflushed_asks, pending_ask}
 use Rattle.bank_server.specs.Session.{IsFromClient, asks_in, outcome_by, outcome_of, outcomes_of, flushed_asks}
 use Rattle.bank_server.specs.Standing.{standing_of}

@@ -17,7 +17,8 @@ use Rattle.bank_server.specs.Asks.{asks_with_keys}
 use Rattle.bank_server.specs.Input.{InputText, asks_from, in_opening, in_call}
 use Rattle.bank_server.specs.Standing.{IsStandingWithin, standing_of, standing_line}
 use Rattle.bank_server.proofs.Standings.{all_among}
-use Rattle.bank_server.specs.Output.{log_of_asks, calls_of, answer_lines, output_lines, output_of}
+use Rattle.sb_sequencer.specs.Numbering.{calls_of}
+use Rattle.bank_server.specs.Output.{log_of_asks, answer_lines, output_lines, output_of}
 use Rattle.bank_server.specs.declared.asking.Standing.{Standing}
 
 map_map : {A B C : Type 0} (f : B → C) (g : A → B) (xs : List A) → map f (map g xs) ≡ map (λ x. f (g x)) xs

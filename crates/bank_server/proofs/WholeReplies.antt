@@ -7,7 +7,7 @@ use Rattle.sb_calls.specs.Log.{replies_to}
 use Rattle.sb_calls.specs.declared.ask.Key.{Key}
 use Rattle.sb_calls.specs.declared.call.Call.{Call}
 use Rattle.bank_server.specs.Execution.{HasReplies}
-use Rattle.bank_server.specs.Output.{calls_of}
+use Rattle.sb_sequencer.specs.Numbering.{calls_of}
 use Rattle.bank_server.specs.Primary.{HasWholeLog, PreservesBank, PrimaryOf, opening_rows_of}
 use Rattle.bank_server.proofs.Boards.{all_replies}
 

@@ -1,21 +1,15 @@
 -- What executing the log on a board keeps.
 use Rattle.std.specs.Prelude.{◌≡◌, ℕ, suc, ◌<◌, List, [], length, slice_get}
 use Rattle.sb_calls.specs.Behaviour.{declared_cowns, effect_of}
-use Rattle.std.specs.List.{All}
 use Rattle.sb_rows.specs.Balances.{Balances, IsBalances}
 use Rattle.sb_rows.specs.Rows.{SameCustomers, rows_of}
 use Rattle.sb_calls.specs.Cowns.{contents_of}
 use Rattle.sb_calls.specs.Log.{rows_after, replies_to}
 use Rattle.sb_calls.specs.SerialRun.{reply_by_log}
-use Rattle.sb_calls.specs.Op.{IsOpWithin}
 use Rattle.sb_calls.specs.declared.call.Call.{Call}
 use Rattle.sb_calls.specs.declared.op.Op.{Op}
 use Rattle.sb_calls.specs.declared.reply.Reply.{Reply}
 use Rattle.cown_board.specs.Board.{BoardOf, unfinished_of, IsAfterAll}
-
--- the places of each op are among this many customers
-abbrev pub AreOpsWithin : ℕ → List Op → Type 0
-AreOpsWithin customers ops = All (IsOpWithin customers) ops
 
 -- the board has no entries, and none came before it
 pub record HasNoEntries (board : BoardOf Op) : Type 0 where

@@ -7,8 +7,7 @@ use Rattle.sb_calls.specs.Log.{rows_after, replies_to}
 use Rattle.sb_calls.specs.declared.ask.AskLine.{AskLine}
 use Rattle.sb_calls.specs.declared.ask.Key.{Key}
 use Rattle.sb_calls.specs.declared.call.Call.{Call}
-use Rattle.sb_sequencer.specs.Numbering.{first_asks}
-pub use Rattle.sb_sequencer.specs.Numbering.{calls_of}
+use Rattle.sb_sequencer.specs.Numbering.{calls_of, first_asks}
 use Rattle.sb_text.specs.Listing.{row_lines}
 use Rattle.bank_server.specs.Asks.{asks_with_keys}
 use Rattle.bank_server.specs.Input.{InputText, input_of}

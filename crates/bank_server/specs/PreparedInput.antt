@@ -8,7 +8,8 @@ use Rattle.sb_calls.specs.Log.{rows_after, replies_to}
 use Rattle.sb_calls.specs.declared.call.Call.{Call}
 use Rattle.sb_text.specs.Listing.{row_lines}
 use Rattle.bank_server.specs.Execution.{HasNoEntries}
-use Rattle.bank_server.specs.Output.{calls_of, output_of}
+use Rattle.sb_sequencer.specs.Numbering.{calls_of}
+use Rattle.bank_server.specs.Output.{output_of}
 use Rattle.bank_server.specs.Standing.{IsStandingWithin, standing_line}
 use Rattle.bank_server.specs.declared.asking.Standing.{Standing}
 use Rattle.bank_server.specs.declared.prepared_input.PreparedInput.{PreparedInput}

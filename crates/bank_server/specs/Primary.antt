@@ -10,9 +10,8 @@ use Rattle.cown_board.specs.Board.{BoardOf}
 use Rattle.cown_board.specs.BoardCalls.{board_at_opening}
 use Rattle.sb_replica_log.specs.Log.{none_held}
 use Rattle.sb_replica.specs.Replica.{ReplicaOf, rest_of}
-use Rattle.sb_sequencer.specs.Numbering.{IsLog}
+use Rattle.sb_sequencer.specs.Numbering.{IsLog, calls_of}
 use Rattle.bank_server.specs.Execution.{IsWholeLog, IsOneByOne}
-use Rattle.bank_server.specs.Output.{calls_of}
 
 -- the ops of a log's calls, by these names
 abbrev pub log_ops : List (List ℕ) → List (Key × Call) → List Op

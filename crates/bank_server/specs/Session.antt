@@ -9,8 +9,7 @@ use Rattle.sb_calls.specs.declared.reply.Reply.{Reply}
 use Rattle.sb_frames.specs.declared.frame.AskOutcome.TheVariants as ended
 use Rattle.sb_frames.specs.declared.frame.Frame.{Frame}
 use Rattle.sb_frames.specs.declared.frame.Frame.TheVariants.{Ask, Entry, Ack, Answer, Outcome, Flush, Have}
-use Rattle.sb_sequencer.specs.Numbering.{first_asks}
-use Rattle.bank_server.specs.Output.{calls_of}
+use Rattle.sb_sequencer.specs.Numbering.{first_asks, calls_of}
 use Rattle.bank_server.specs.Standing.{standing_of}
 use Rattle.bank_server.specs.declared.asking.Standing.{Standing}
 use Rattle.bank_server.specs.declared.asking.Standing.TheVariants.{Number, Mismatch, LogFull}

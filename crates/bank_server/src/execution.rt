@@ -6,8 +6,8 @@ ghost use Rattle.sb_calls.specs.declared.call.Call.{Call as AnyCall};
 ghost use Rattle.cown_board.specs.Board.{length_of, unfinished_of};
 ghost use Rattle.cown_workers.specs.Draining.{PreservesLog, HasNoneOut};
 ghost use Rattle.sb_replica.specs.Replica.{rest_of};
-ghost use Rattle.bank_server.specs.inner.Appends.{AppendsOps};
-ghost use Rattle.bank_server.specs.Execution.{AreOpsWithin, IsWholeLog, IsOneByOne, HasNoEntries};
+ghost use Rattle.bank_server.specs.inner.Appends.{AreOpsWithin, AppendsOps};
+ghost use Rattle.bank_server.specs.Execution.{IsWholeLog, IsOneByOne, HasNoEntries};
 ghost use Rattle.bank_server.specs.Faults.{IsExecutionFault};
 
 use crate::followers::Followers;

@@ -1,7 +1,7 @@
 //! Looking up the names of a part of a log.
 ghost use Rattle.std.specs.Prelude.{◌≡◌, length, map, OnOk};
 ghost use Rattle.sb_calls.specs.Op.{op_of};
-ghost use Rattle.bank_server.specs.Execution.{AreOpsWithin};
+ghost use Rattle.bank_server.specs.inner.Appends.{AreOpsWithin};
 
 use sb_calls::{Call, Op, resolve};
 use sb_rows::Directory;

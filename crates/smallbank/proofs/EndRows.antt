@@ -7,7 +7,7 @@ use Rattle.sb_calls.specs.Behaviour.{declared_cowns, effect_of}
 use Rattle.sb_calls.specs.Log.{rows_after}
 use Rattle.cown_board.specs.Board.{IsAfterAll, unfinished_of}
 use Rattle.sb_replica.specs.Replica.{ReplicaOf}
-use Rattle.bank_server.specs.Output.{calls_of}
+use Rattle.sb_sequencer.specs.Numbering.{calls_of}
 use Rattle.bank_server.specs.Primary.{HasWholeLog, IsPrimary, PrimaryOf, log_ops}
 use Rattle.bank_server.proofs.Boards.{one_by_one}
 

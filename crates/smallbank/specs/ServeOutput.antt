@@ -9,7 +9,7 @@ use Rattle.sb_calls.specs.Log.{rows_after}
 use Rattle.sb_calls.specs.declared.ask.Key.{Key}
 use Rattle.sb_calls.specs.declared.call.Call.{Call}
 use Rattle.sb_text.specs.Listing.{row_lines}
-use Rattle.bank_server.specs.Output.{calls_of}
+use Rattle.sb_sequencer.specs.Numbering.{calls_of}
 use Rattle.bank_server.specs.SessionFaults.{session_fault_number}
 use Rattle.bank_server.specs.declared.session_fault.SessionFault.TheVariants.{Frame, Unexpected, CrewGone, Device, OutOfMemory}
 use Rattle.smallbank.specs.Sessions.{End, ServesFirst}

@@ -5,7 +5,7 @@ use Rattle.sb_calls.specs.Log.{replies_to}
 use Rattle.sb_frames.specs.Grammar.{spelling}
 use Rattle.sb_replica.specs.Replica.{ReplicaOf}
 use Rattle.bank_server.specs.Execution.{HasReplies}
-use Rattle.bank_server.specs.Output.{calls_of}
+use Rattle.sb_sequencer.specs.Numbering.{calls_of}
 use Rattle.bank_server.specs.Primary.{opening_rows_of}
 use Rattle.bank_server.specs.Session.{outcome_by}
 use Rattle.bank_server.specs.declared.pending.PendingAsk.{PendingAsk}

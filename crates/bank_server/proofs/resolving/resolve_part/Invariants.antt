@@ -1,6 +1,6 @@
 use Rattle.std.proofs.Common.{◌≡◌, length, map, take}
 use Rattle.sb_calls.specs.Op.{op_of}
-use Rattle.bank_server.specs.Execution.{AreOpsWithin}
+use Rattle.bank_server.specs.inner.Appends.{AreOpsWithin}
 use Rattle.bank_server.proofs.resolving.resolve_part.Given as goal
 
 -- the calls so far are looked up

@@ -2,7 +2,7 @@ use Rattle.std.proofs.Common.{Ok, List, ◌++◌, length, sym, ap, subst, ◌∙
 use Rattle.std.specs.List.{All}
 use Rattle.sb_checkpoint.specs.declared.memory_store.MemoryStore.{MemoryStore}
 use Rattle.sb_replica.specs.Replica.{ReplicaOf}
-use Rattle.bank_server.specs.Output.{calls_of}
+use Rattle.sb_sequencer.specs.Numbering.{calls_of}
 use Rattle.bank_server.specs.PreparedInput.{output_after}
 use Rattle.bank_server.specs.Primary.{RunsLog}
 use Rattle.bank_server.specs.Standing.{IsStandingWithin}
