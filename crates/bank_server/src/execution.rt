@@ -2,7 +2,6 @@
 ghost use Rattle.std.specs.Prelude.{◌≡◌, ◌≢◌, ◌≤◌, ◌<◌, ◌+◌, List, [], ◌∷◌, false, length, map, IfErr, IfNone, OnOk, OnErr};
 ghost use Rattle.sb_rows.specs.Rows.{SameCustomers};
 ghost use Rattle.sb_calls.specs.Op.{IsOpWithin, op_of};
-ghost use Rattle.sb_calls.specs.declared.call.Call.{Call as AnyCall};
 ghost use Rattle.cown_board.specs.Board.{length_of, unfinished_of};
 ghost use Rattle.cown_workers.specs.Draining.{PreservesLog, HasNoneOut};
 ghost use Rattle.sb_replica.specs.Replica.{rest_of};

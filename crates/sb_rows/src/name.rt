@@ -22,7 +22,7 @@ pub struct Name {
     // The text, with zeros after it.
     bytes: [u8; NAME_BYTES],
     // Always 0. With it the second name of a call ends at a multiple of 4, so that calls are copied
-    // by pieces that don't overlap. Reading such a piece back at once doesn't stall.
+    // by fewer pieces that overlap. Reading a piece back at once stalls only where they do.
     pad: u8,
 }
 
