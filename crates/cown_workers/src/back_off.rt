@@ -45,6 +45,14 @@ impl BackOff {
         }
     }
 
+    // A job is done. Once the longest wait was reached, only a signal begins anew: a worker that
+    // woke by itself sleeps again as soon as it finds nothing.
+    pub(crate) fn ease(&mut self) {
+        if !self.is_over() {
+            *self = BackOff::new();
+        }
+    }
+
     // Whether it has reached its longest wait. Then it is time to sleep until a signal.
     pub(crate) fn is_over(&self) -> bool {
         self.micros >= LONGEST

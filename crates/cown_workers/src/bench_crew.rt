@@ -107,9 +107,17 @@ impl<'a, R: Wait + Clock, G: Gate> BenchCrew<'a, R, G> {
         self.owner_side.inbox.try_recv(rt).ok()
     }
 
-    // Executes the first job on the bench, if the owner helps and there is one. After a while of
-    // this it wakes workers for the other jobs. A worker that sleeps looks at the bench by itself too,
-    // but later.
+    // Wakes one more worker, if the crew has had jobs for a while. One job is for the owner, if it
+    // helps. A worker that sleeps looks at the bench by itself too, but later.
+    fn wake_another(&self) {
+        let own_jobs = if self.own_pass.is_some() { 1 } else { 0 };
+        let jobs = self.jobs.saturating_sub(own_jobs);
+        if jobs > 0 && self.streak.is_long(self.owner_side.rt) {
+            self.owner_side.wake_up.signal(self.owner_side.rt, jobs);
+        }
+    }
+
+    // Executes the first job on the bench, if the owner helps and there is one.
     fn help(&mut self) -> Option<Done<Op>>
         ensures job_picked { IfSome result (λ done. (job : JobOf Op) ×
             PicksItself self.old (Work.Run job) self.new × IsResultOf done job) }
@@ -118,11 +126,6 @@ impl<'a, R: Wait + Clock, G: Gate> BenchCrew<'a, R, G> {
         let Some(own_pass) = &mut self.own_pass else {
             return None;
         };
-        if self.jobs > 1 && self.streak.is_long(self.owner_side.rt) {
-            self.owner_side
-                .wake_up
-                .signal(self.owner_side.rt, self.jobs - 1);
-        }
         pick_and_carry_out(
             self.owner_side.rt,
             self.owner_side.bench,
@@ -172,11 +175,9 @@ impl<'a, R: Wait + Clock, G: Gate> Crew for BenchCrew<'a, R, G> {
                     self.streak.begin(self.owner_side.rt);
                 }
                 self.jobs = self.jobs.saturating_add(1);
-                // An owner that helps begins alone.
+                // An owner that helps begins alone, another with one worker.
                 if self.own_pass.is_none() {
-                    self.owner_side
-                        .wake_up
-                        .signal(self.owner_side.rt, self.jobs);
+                    self.owner_side.wake_up.signal(self.owner_side.rt, 1);
                 }
                 Ok(())
             }
@@ -186,13 +187,15 @@ impl<'a, R: Wait + Clock, G: Gate> Crew for BenchCrew<'a, R, G> {
     }
 
     fn next(&mut self) -> Option<Done<Op>> {
-        let rt = self.owner_side.rt;
         let done = match self.handed_over() {
             Some(done) => done,
-            None => match self.help() {
-                Some(done) => done,
-                None => self.owner_side.inbox.next(rt)?,
-            },
+            None => {
+                self.wake_another();
+                match self.help() {
+                    Some(done) => done,
+                    None => self.owner_side.next_result(self.jobs)?,
+                }
+            }
         };
         self.jobs = self.jobs.saturating_sub(1);
         Some(done)
@@ -302,7 +305,7 @@ mod tests {
     }
 
     // Only the worker picks from the bench.
-    fn signals_each_job<'s, E, R: Threads + Wait + Clock + Sync + Abort>(
+    fn signals_at_once<'s, E, R: Threads + Wait + Clock + Sync + Abort>(
         scope: &'s Scope<'s, E>,
         rt: &'s R,
         alloc: Global,
@@ -344,8 +347,11 @@ mod tests {
         let mut crew = BenchCrew::new(owner_side, &OpenGate, None, thread_pool);
         gives(rt, alloc, &mut crew);
         assert!(rt; wake_up.await_signal(rt));
+        // The worker stays at the latch, so no result comes soon. The owner signals again, and
+        // sleeps.
+        assert!(rt; crew.next().is_some());
+        assert!(rt; wake_up.await_signal(rt));
         // It signals a `Stop` too.
-        latch.open.store(true, Ordering::SeqCst);
         crew.close();
         assert!(rt; wake_up.await_signal(rt));
     }
@@ -432,14 +438,14 @@ mod tests {
                 if helps {
                     signals_after_a_streak(scope, rt, alloc, shared, pass, passes);
                 } else {
-                    signals_each_job(scope, rt, alloc, shared, pass, passes);
+                    signals_at_once(scope, rt, alloc, shared, pass, passes);
                 }
             },
         );
     }
 
     #[test]
-    fn an_owner_that_only_waits_signals_each_job(rt: HostRuntime) {
+    fn an_owner_that_only_waits_signals_at_once_and_before_it_sleeps(rt: HostRuntime) {
         with_bench(&rt, rt.alloc(), false);
     }
 

@@ -97,16 +97,20 @@ impl Inbox {
         self.receiver.try_recv_as::<Free, R>(rt, &mut self.pass)
     }
 
-    // The next result of a worker, or `None` if all are gone.
-    pub(crate) fn next<R: Wait>(&mut self, rt: &R) -> Option<Done<Op>> {
+    // The next result, if one comes within some fifty microseconds.
+    pub(crate) fn look_out<R: Wait>(&mut self, rt: &R) -> Result<Done<Op>, TryRecvError> {
         for look in 0..LOOKS {
             match self.try_recv(rt) {
-                Ok(done) => return Some(done),
-                Err(TryRecvError::Disconnected) => return None,
                 Err(TryRecvError::Empty) if look < SPINS => spin(),
                 Err(TryRecvError::Empty) => thread::yield_now(),
+                looked => return looked,
             }
         }
+        Err(TryRecvError::Empty)
+    }
+
+    // The next result of a worker, or `None` if all are gone. It sleeps until there is one.
+    pub(crate) fn next<R: Wait>(&mut self, rt: &R) -> Option<Done<Op>> {
         self.receiver.recv_as::<Free, R>(rt, &mut self.pass).ok()
     }
 }

@@ -4,6 +4,9 @@ ghost use Rattle.std.specs.Prelude.{◌≡◌, [], ◌∷◌, ◌++◌, replicat
 use crate::inbox::Inbox;
 use crate::wake_up::WakeUp;
 use cown_bench::{Bench, OwnerPass, Work};
+use cown_board::Done;
+use crossbeam_channel::TryRecvError;
+use sb_calls::Op;
 use std::sync::Wait;
 use std::thread;
 use std::time::Clock;
@@ -19,6 +22,21 @@ pub(crate) struct OwnerSide<'a, R: Wait + Clock> {
 }
 
 impl<'a, R: Wait + Clock> OwnerSide<'a, R> {
+    // The next result of a worker, or `None` if all are gone. If none comes soon, the jobs are
+    // long. Then it wakes workers for all jobs that are with the crew, and sleeps.
+    pub(crate) fn next_result(&mut self, jobs: usize) -> Option<Done<Op>>
+        ensures pass { self.new.pass ≡ self.old.pass }
+        ensures bench { self.new.bench.now ≡ self.old.bench.now }
+    {
+        match self.inbox.look_out(self.rt) {
+            Err(TryRecvError::Empty) => {
+                self.wake_up.signal_all(self.rt, jobs);
+                self.inbox.next(self.rt)
+            }
+            looked => looked.ok(),
+        }
+    }
+
     // Offers a `Stop` for each of this many workers, and waits until all have ended.
     pub(crate) fn stop_workers(mut self, workers: usize) -> OwnerPass
         requires { self.pass.bench ≡ self.bench.now }

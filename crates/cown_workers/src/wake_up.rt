@@ -1,6 +1,7 @@
 //! Waking workers that sleep.
 ghost use Rattle.std.specs.Prelude.{◌≡◌, ℕ, ◌∷◌, ◌++◌, [], IfNone, IfSome};
 
+use crate::back_off::BackOff;
 use cown_bench::{Bench, Work, WorkerPass};
 use crossbeam_channel::{Receiver, Sender, bounded};
 use std::alloc::{AllocError, Global};
@@ -47,22 +48,37 @@ impl WakeUp {
     // Wakes a worker, if one sleeps and fewer workers are awake than there are jobs with the crew.
     // The jobs are on the bench already.
     pub(crate) fn signal<R: Wait>(&self, rt: &R, jobs: usize) {
-        // This look needs no fence: each step on the bench is `SeqCst`, as this one is, so it can't
-        // come before the step that laid the job out.
-        let sleeping = self.sleeping.load(Ordering::SeqCst);
-        if sleeping > 0 && self.workers.saturating_sub(sleeping) < jobs {
+        if self.too_few(jobs) > 0 {
             // If the channel is full, each worker still has a signal to take.
             let _ = self.sender.try_send(rt, ());
         }
     }
 
+    // Wakes as many workers as there are too few awake for the jobs with the crew, which are on the
+    // bench already.
+    pub(crate) fn signal_all<R: Wait>(&self, rt: &R, jobs: usize) {
+        for _ in 0..self.too_few(jobs) {
+            let _ = self.sender.try_send(rt, ());
+        }
+    }
+
+    // How many workers sleep that these jobs want awake.
+    fn too_few(&self, jobs: usize) -> usize {
+        // This look needs no fence: each step on the bench is `SeqCst`, as this one is, so it can't
+        // come before the step that laid the job out.
+        let sleeping = self.sleeping.load(Ordering::SeqCst);
+        let awake = self.workers.saturating_sub(sleeping);
+        sleeping.min(jobs.saturating_sub(awake))
+    }
+
     // Picks the first Work on the bench. If there is none, it waits until the owner signals, or for
-    // a while, and picks nothing.
+    // a while, and picks nothing. A signal lets the worker begin to wait anew.
     pub(crate) fn pick_or_sleep<R: Wait + Clock>(
         &self,
         rt: &R,
         bench: &Bench,
         pass: &mut WorkerPass,
+        back_off: &mut BackOff,
     ) -> Option<Work>
         requires { pass.old.bench ≡ bench.now }
         ensures work_picked { IfSome result (λ work. (place : ℕ) × (pass.new ≡
@@ -72,8 +88,8 @@ impl WakeUp {
         self.begin_sleep();
         // Nobody signalled what was offered before this worker was counted.
         let work = bench.pick(rt, pass);
-        if work.is_none() {
-            let _ = self.await_signal(rt);
+        if work.is_none() && self.await_signal(rt) {
+            *back_off = BackOff::new();
         }
         self.end_sleep();
         work
@@ -102,6 +118,7 @@ impl WakeUp {
 #[cfg(test)]
 mod tests {
     use super::*;
+    use std::process::Abort;
 
     #[test]
     fn what_lies_on_the_bench_is_picked_before_a_sleep(rt: HostRuntime) {
@@ -111,34 +128,76 @@ mod tests {
         // Nobody sleeps yet, so the signal wakes nobody.
         assert!(rt; bench.offer(&rt, &mut owner, Work::Stop).is_ok());
         wake_up.signal(&rt, 1);
-        let picked = wake_up.pick_or_sleep(&rt, &bench, &mut pass);
+        let mut back_off = BackOff::new();
+        let picked = wake_up.pick_or_sleep(&rt, &bench, &mut pass, &mut back_off);
         assert!(rt; matches!(&picked, Some(Work::Stop)));
         // A sleep with nothing to pick ends by itself.
-        assert!(rt; wake_up.pick_or_sleep(&rt, &bench, &mut pass).is_none());
+        let nothing = wake_up.pick_or_sleep(&rt, &bench, &mut pass, &mut back_off);
+        assert!(rt; nothing.is_none());
     }
 
-    // How many of two workers sleep, with how many jobs the owner signals, and whether that wakes a
-    // worker.
-    const SIGNALS: [(usize, usize, bool); 5] = [
-        (0, 9, false),
-        (1, 1, false),
-        (1, 2, true),
-        (2, 0, false),
-        (2, 1, true),
+    // More often than a worker waits before it sleeps.
+    const LONG: u32 = 100;
+
+    #[test]
+    fn only_a_signal_lets_a_worker_wait_anew(rt: HostRuntime) {
+        let (bench, _owner, mut passes) = Bench::new(rt.alloc(), 1).expect(&rt, "memory");
+        let wake_up = two_workers(&rt, rt.alloc(), 1);
+        let mut pass = passes.pop().expect(&rt, "a pass");
+        let mut back_off = BackOff::new();
+        for _ in 0..LONG {
+            back_off.wait(&rt);
+        }
+        back_off.ease();
+        assert!(rt; back_off.is_over());
+        let _ = wake_up.pick_or_sleep(&rt, &bench, &mut pass, &mut back_off);
+        assert!(rt; back_off.is_over());
+        wake_up.signal(&rt, 2);
+        let _ = wake_up.pick_or_sleep(&rt, &bench, &mut pass, &mut back_off);
+        assert!(rt; !back_off.is_over());
+    }
+
+    // Two workers, this many of which sleep.
+    fn two_workers<R: Abort>(rt: &R, alloc: Global, sleeping: usize) -> WakeUp {
+        let wake_up = WakeUp::new(alloc, 2).expect(rt, "memory");
+        for _ in 0..sleeping {
+            wake_up.begin_sleep();
+        }
+        wake_up
+    }
+
+    // How many signals, of at most three, are to be taken.
+    fn signals<R: Wait + Clock>(rt: &R, wake_up: &WakeUp) -> usize {
+        let mut taken = 0;
+        for _ in 0..3 {
+            if wake_up.await_signal(rt) {
+                taken += 1;
+            }
+        }
+        taken
+    }
+
+    // How many of two workers sleep, how many jobs there are, and how many of those that sleep are
+    // to wake.
+    const SIGNALS: [(usize, usize, usize); 6] = [
+        (0, 9, 0),
+        (1, 1, 0),
+        (1, 2, 1),
+        (2, 0, 0),
+        (2, 1, 1),
+        (2, 9, 2),
     ];
 
     #[test]
     fn a_signal_wakes_a_worker_where_too_few_are_up(rt: HostRuntime) {
-        for (sleeping, jobs, wakes) in SIGNALS {
-            let wake_up = WakeUp::new(rt.alloc(), 2).expect(&rt, "memory");
-            for _ in 0..sleeping {
-                wake_up.begin_sleep();
-            }
+        for (sleeping, jobs, wanted) in SIGNALS {
+            let wake_up = two_workers(&rt, rt.alloc(), sleeping);
             wake_up.signal(&rt, jobs);
-            assert!(rt;
-                wake_up.await_signal(&rt) == wakes,
-                "{sleeping} sleep, {jobs} jobs"
-            );
+            let taken = signals(&rt, &wake_up);
+            assert!(rt; taken == wanted.min(1), "{sleeping} sleep, {jobs} jobs");
+            wake_up.signal_all(&rt, jobs);
+            let taken = signals(&rt, &wake_up);
+            assert!(rt; taken == wanted, "{sleeping} sleep, {jobs} jobs, all");
         }
     }
 }

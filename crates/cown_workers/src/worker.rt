@@ -48,7 +48,7 @@ impl<'a, R: Wait + Clock, G: Gate> Worker<'a, R, G> {
         for _ in rt.forever() {
             match self.turn(&mut back_off) {
                 Turn::Waited => {}
-                Turn::HandedOver(_) => back_off = BackOff::new(),
+                Turn::HandedOver(_) => back_off.ease(),
                 Turn::Stopped => {
                     let Worker { pass, .. } = self;
                     return pass;
@@ -93,7 +93,7 @@ fn pick_or_wait<R: Wait + Clock>(
         return work;
     }
     if back_off.is_over() {
-        return wake_up.pick_or_sleep(rt, bench, pass);
+        return wake_up.pick_or_sleep(rt, bench, pass, back_off);
     }
     back_off.wait(rt);
     None
