@@ -168,10 +168,10 @@ mod tests {
 
     // How many signals, of at most three, are to be taken.
     fn signals<R: Wait + Clock>(rt: &R, wake_up: &WakeUp) -> usize {
-        let mut taken = 0;
+        let mut taken: usize = 0;
         for _ in 0..3 {
             if wake_up.await_signal(rt) {
-                taken += 1;
+                taken = taken.saturating_add(1);
             }
         }
         taken
