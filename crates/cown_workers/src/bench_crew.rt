@@ -113,7 +113,7 @@ impl<'a, R: Wait + Clock, G: Gate> BenchCrew<'a, R, G> {
         let own_jobs = if self.own_pass.is_some() { 1 } else { 0 };
         let jobs = self.jobs.saturating_sub(own_jobs);
         if jobs > 0 && self.streak.is_long(self.owner_side.rt) {
-            self.owner_side.wake_up.signal(self.owner_side.rt, jobs);
+            let _ = self.owner_side.wake_up.signal(self.owner_side.rt, jobs);
         }
     }
 
@@ -177,7 +177,7 @@ impl<'a, R: Wait + Clock, G: Gate> Crew for BenchCrew<'a, R, G> {
                 self.jobs = self.jobs.saturating_add(1);
                 // An owner that helps begins alone, another with one worker.
                 if self.own_pass.is_none() {
-                    self.owner_side.wake_up.signal(self.owner_side.rt, 1);
+                    let _ = self.owner_side.wake_up.signal(self.owner_side.rt, 1);
                 }
                 Ok(())
             }
@@ -198,6 +198,7 @@ impl<'a, R: Wait + Clock, G: Gate> Crew for BenchCrew<'a, R, G> {
             }
         };
         self.jobs = self.jobs.saturating_sub(1);
+        self.streak.count();
         Some(done)
     }
 }
@@ -346,11 +347,15 @@ mod tests {
         };
         let mut crew = BenchCrew::new(owner_side, &OpenGate, None, thread_pool);
         gives(rt, alloc, &mut crew);
+        gives(rt, alloc, &mut crew);
         assert!(rt; wake_up.await_signal(rt));
-        // The worker stays at the latch, so no result comes soon. The owner signals again, and
-        // sleeps.
+        assert!(rt; !wake_up.await_signal(rt));
+        // The worker stays at the latch, so no result comes soon. The owner signals once more for
+        // each job, and sleeps.
         assert!(rt; crew.next().is_some());
         assert!(rt; wake_up.await_signal(rt));
+        assert!(rt; wake_up.await_signal(rt));
+        assert!(rt; !wake_up.await_signal(rt));
         // It signals a `Stop` too.
         crew.close();
         assert!(rt; wake_up.await_signal(rt));
@@ -404,19 +409,22 @@ mod tests {
         gives(rt, alloc, &mut crew);
         // Listening takes longer than the owner stays alone.
         assert!(rt; !wake_up.await_signal(rt));
+        assert!(rt; crew.streak.done == 0);
         assert!(rt; crew.next().is_some());
+        assert!(rt; crew.streak.done == 1);
         assert!(rt; wake_up.await_signal(rt));
         latch.open.store(true, Ordering::SeqCst);
         crew.close();
     }
 
-    // An owner that helps or only waits, and a worker that the owner counts as asleep.
+    // An owner that helps or only waits, a worker, and two that the owner counts as asleep.
     fn with_bench(rt: &(impl Threads + Wait + Clock + Sync + Abort), alloc: Global, helps: bool) {
         let pickers = if helps { 2 } else { 1 };
         let (bench, pass, passes) = Bench::new(alloc, pickers).expect(rt, "memory");
-        let wake_up = WakeUp::new(alloc, 1).expect(rt, "memory");
+        let wake_up = WakeUp::new(alloc, 2).expect(rt, "memory");
         let other_wake_up = WakeUp::new(alloc, 1).expect(rt, "memory");
         let latch = Latch::default();
+        wake_up.begin_sleep();
         wake_up.begin_sleep();
         let shared = Shared {
             bench: &bench,

@@ -3,7 +3,7 @@ ghost use Rattle.std.specs.Prelude.{◌≡◌, [], ◌∷◌, ◌++◌, replicat
 
 use crate::inbox::Inbox;
 use crate::wake_up::WakeUp;
-use cown_bench::{Bench, OwnerPass, Work};
+use cown_bench::{Bench, OwnerPass, WORKERS, Work};
 use cown_board::Done;
 use crossbeam_channel::TryRecvError;
 use sb_calls::Op;
@@ -22,19 +22,12 @@ pub(crate) struct OwnerSide<'a, R: Wait + Clock> {
 }
 
 impl<'a, R: Wait + Clock> OwnerSide<'a, R> {
-    // The next result of a worker, or `None` if all are gone. If none comes soon, the jobs are
-    // long. Then it wakes workers for all jobs that are with the crew, and sleeps.
+    // The next result of a worker, or `None` if all are gone.
     pub(crate) fn next_result(&mut self, jobs: usize) -> Option<Done<Op>>
         ensures pass { self.new.pass ≡ self.old.pass }
         ensures bench { self.new.bench.now ≡ self.old.bench.now }
     {
-        match self.inbox.look_out(self.rt) {
-            Err(TryRecvError::Empty) => {
-                self.wake_up.signal_all(self.rt, jobs);
-                self.inbox.next(self.rt)
-            }
-            looked => looked.ok(),
-        }
+        await_result(self.rt, &mut self.inbox, self.wake_up, jobs)
     }
 
     // Offers a `Stop` for each of this many workers, and waits until all have ended.
@@ -79,7 +72,7 @@ impl<'a, R: Wait + Clock> OwnerSide<'a, R> {
                 .offer(self.rt, &mut self.pass, Work::Stop)
                 .is_ok()
             {
-                self.wake_up.signal(self.rt, usize::MAX);
+                let _ = self.wake_up.signal(self.rt, usize::MAX);
                 return;
             }
             let _ = self.inbox.try_recv(self.rt);
@@ -87,4 +80,24 @@ impl<'a, R: Wait + Clock> OwnerSide<'a, R> {
         }
         unreachable!()
     }
+}
+
+// The next result of a worker, or `None` if all are gone. Each time that none comes soon, it wakes
+// one more worker, until as many are awake as there are jobs with the crew. Then it sleeps.
+fn await_result<R: Wait>(
+    rt: &R,
+    inbox: &mut Inbox,
+    wake_up: &WakeUp,
+    jobs: usize,
+) -> Option<Done<Op>> {
+    for _ in 0..=WORKERS {
+        match inbox.look_out(rt) {
+            Err(TryRecvError::Empty) => {}
+            looked => return looked.ok(),
+        }
+        if !wake_up.signal(rt, jobs) {
+            break;
+        }
+    }
+    inbox.next(rt)
 }

@@ -20,6 +20,9 @@ const LONGEST: u64 = 50;
 // bench once more, and only then sleeps. All threads see these four steps in one order (`SeqCst`).
 // So either the owner's look comes after the worker was counted, and it signals; or it comes
 // before, and the worker finds what was offered.
+//
+// A worker that takes a signal looks at the bench after that. So a signal that nobody has taken yet
+// does for what is offered meanwhile too.
 #[derive(Drop)]
 pub(crate) struct WakeUp {
     workers: usize,
@@ -45,30 +48,20 @@ impl WakeUp {
         self.sleeping.load(Ordering::SeqCst) == self.workers
     }
 
-    // Wakes a worker, if one sleeps and fewer workers are awake than there are jobs with the crew.
-    // The jobs are on the bench already.
-    pub(crate) fn signal<R: Wait>(&self, rt: &R, jobs: usize) {
-        if self.too_few(jobs) > 0 {
-            // If the channel is full, each worker still has a signal to take.
-            let _ = self.sender.try_send(rt, ());
-        }
+    // Wakes a worker, if one sleeps and fewer workers are awake than there are jobs with the crew,
+    // and returns whether it did. The jobs are on the bench already.
+    pub(crate) fn signal<R: Wait>(&self, rt: &R, jobs: usize) -> bool {
+        // If the channel is full, each worker still has a signal to take.
+        self.are_too_few(jobs) && self.sender.try_send(rt, ()).is_ok()
     }
 
-    // Wakes as many workers as there are too few awake for the jobs with the crew, which are on the
-    // bench already.
-    pub(crate) fn signal_all<R: Wait>(&self, rt: &R, jobs: usize) {
-        for _ in 0..self.too_few(jobs) {
-            let _ = self.sender.try_send(rt, ());
-        }
-    }
-
-    // How many workers sleep that these jobs want awake.
-    fn too_few(&self, jobs: usize) -> usize {
+    // Whether a worker sleeps, without a signal to take, that these jobs want awake.
+    fn are_too_few(&self, jobs: usize) -> bool {
         // This look needs no fence: each step on the bench is `SeqCst`, as this one is, so it can't
         // come before the step that laid the job out.
-        let sleeping = self.sleeping.load(Ordering::SeqCst);
-        let awake = self.workers.saturating_sub(sleeping);
-        sleeping.min(jobs.saturating_sub(awake))
+        let asleep = self.sleeping.load(Ordering::SeqCst);
+        let sleeping = asleep.saturating_sub(self.sender.len());
+        sleeping > 0 && self.workers.saturating_sub(sleeping) < jobs
     }
 
     // Picks the first Work on the bench. If there is none, it waits until the owner signals, or for
@@ -127,7 +120,7 @@ mod tests {
         let mut pass = passes.pop().expect(&rt, "a pass");
         // Nobody sleeps yet, so the signal wakes nobody.
         assert!(rt; bench.offer(&rt, &mut owner, Work::Stop).is_ok());
-        wake_up.signal(&rt, 1);
+        assert!(rt; !wake_up.signal(&rt, 1));
         let mut back_off = BackOff::new();
         let picked = wake_up.pick_or_sleep(&rt, &bench, &mut pass, &mut back_off);
         assert!(rt; matches!(&picked, Some(Work::Stop)));
@@ -152,7 +145,7 @@ mod tests {
         assert!(rt; back_off.is_over());
         let _ = wake_up.pick_or_sleep(&rt, &bench, &mut pass, &mut back_off);
         assert!(rt; back_off.is_over());
-        wake_up.signal(&rt, 2);
+        assert!(rt; wake_up.signal(&rt, 2));
         let _ = wake_up.pick_or_sleep(&rt, &bench, &mut pass, &mut back_off);
         assert!(rt; !back_off.is_over());
     }
@@ -192,12 +185,14 @@ mod tests {
     fn a_signal_wakes_a_worker_where_too_few_are_up(rt: HostRuntime) {
         for (sleeping, jobs, wanted) in SIGNALS {
             let wake_up = two_workers(&rt, rt.alloc(), sleeping);
-            wake_up.signal(&rt, jobs);
+            assert!(rt; wake_up.signal(&rt, jobs) == (wanted > 0));
             let taken = signals(&rt, &wake_up);
             assert!(rt; taken == wanted.min(1), "{sleeping} sleep, {jobs} jobs");
-            wake_up.signal_all(&rt, jobs);
+            for _ in 0..3 {
+                let _ = wake_up.signal(&rt, jobs);
+            }
             let taken = signals(&rt, &wake_up);
-            assert!(rt; taken == wanted, "{sleeping} sleep, {jobs} jobs, all");
+            assert!(rt; taken == wanted, "{sleeping} sleep, {jobs} jobs, again");
         }
     }
 }
