@@ -7,14 +7,13 @@ use schedule_text::{Event, EventFault, read_event};
 use std::process::Abort;
 
 #[test]
-fn reads_a_line_of_each_event(rt: HostRuntime) {
+fn reads_a_line_of_each_event_of_the_log(rt: HostRuntime) {
     let bob = Name::new(b"bob").expect(&rt, "a name");
     let amount = Cents::new(1_000).expect(&rt, "an amount");
-    let call = Call::DepositChecking(bob, amount);
     let ask = Event::Ask {
         client: 7,
         request: 2,
-        call,
+        call: Call::DepositChecking(bob, amount),
     };
     let send = Event::Send {
         replica: 0,
@@ -32,6 +31,21 @@ fn reads_a_line_of_each_event(rt: HostRuntime) {
         replica: 5,
         position: 8,
     };
+    for (line, event) in [
+        ("ask 7 2 deposit bob 10.00", ask),
+        ("send 0 5", send),
+        ("resend 1", Event::Resend { replica: 1 }),
+        ("to 2 6", to),
+        ("ack 3", Event::Ack { replica: 3 }),
+        ("answer 4 7", answer),
+        ("from 5 8", from),
+    ] {
+        assert!(rt; read_event(line.as_bytes()) == Ok(event), "{line}");
+    }
+}
+
+#[test]
+fn reads_a_line_of_each_event_of_a_replica(rt: HostRuntime) {
     let take = Event::Take {
         replica: 6,
         worker: 16,
@@ -46,13 +60,6 @@ fn reads_a_line_of_each_event(rt: HostRuntime) {
         second: 2,
     };
     for (line, event) in [
-        ("ask 7 2 deposit bob 10.00", ask),
-        ("send 0 5", send),
-        ("resend 1", Event::Resend { replica: 1 }),
-        ("to 2 6", to),
-        ("ack 3", Event::Ack { replica: 3 }),
-        ("answer 4 7", answer),
-        ("from 5 8", from),
         ("take 6 16 9", take),
         ("finish 7 1", finish),
         ("restart 1", Event::Restart { replica: 1 }),

@@ -42,52 +42,54 @@ fn plays(rt: &(impl Abort + AllocGlobal), case: &Case) {
 
 const FAULT: StoreFault = StoreFault::Device;
 
+const CASES: [Case; 6] = [
+    Case {
+        at: 0,
+        leaves: Version::Old,
+        puts: [Ok(()), Ok(())],
+        gets: [Ok(Some(b"first")), Ok(Some(b"second"))],
+        failures: [0, 0, 0, 0],
+    },
+    Case {
+        at: 1,
+        leaves: Version::Old,
+        puts: [Err(FAULT), Ok(())],
+        gets: [Ok(None), Ok(Some(b"second"))],
+        failures: [1, 1, 1, 1],
+    },
+    Case {
+        at: 1,
+        leaves: Version::New,
+        puts: [Err(FAULT), Ok(())],
+        gets: [Ok(Some(b"first")), Ok(Some(b"second"))],
+        failures: [1, 1, 1, 1],
+    },
+    Case {
+        at: 2,
+        leaves: Version::New,
+        puts: [Ok(()), Ok(())],
+        gets: [Err(FAULT), Ok(Some(b"second"))],
+        failures: [0, 1, 1, 1],
+    },
+    Case {
+        at: 3,
+        leaves: Version::Old,
+        puts: [Ok(()), Err(FAULT)],
+        gets: [Ok(Some(b"first")), Ok(Some(b"first"))],
+        failures: [0, 0, 1, 1],
+    },
+    Case {
+        at: 4,
+        leaves: Version::Old,
+        puts: [Ok(()), Ok(())],
+        gets: [Ok(Some(b"first")), Err(FAULT)],
+        failures: [0, 0, 0, 1],
+    },
+];
+
 #[test]
 fn one_call_fails(rt: HostRuntime) {
-    for case in [
-        Case {
-            at: 0,
-            leaves: Version::Old,
-            puts: [Ok(()), Ok(())],
-            gets: [Ok(Some(b"first")), Ok(Some(b"second"))],
-            failures: [0, 0, 0, 0],
-        },
-        Case {
-            at: 1,
-            leaves: Version::Old,
-            puts: [Err(FAULT), Ok(())],
-            gets: [Ok(None), Ok(Some(b"second"))],
-            failures: [1, 1, 1, 1],
-        },
-        Case {
-            at: 1,
-            leaves: Version::New,
-            puts: [Err(FAULT), Ok(())],
-            gets: [Ok(Some(b"first")), Ok(Some(b"second"))],
-            failures: [1, 1, 1, 1],
-        },
-        Case {
-            at: 2,
-            leaves: Version::New,
-            puts: [Ok(()), Ok(())],
-            gets: [Err(FAULT), Ok(Some(b"second"))],
-            failures: [0, 1, 1, 1],
-        },
-        Case {
-            at: 3,
-            leaves: Version::Old,
-            puts: [Ok(()), Err(FAULT)],
-            gets: [Ok(Some(b"first")), Ok(Some(b"first"))],
-            failures: [0, 0, 1, 1],
-        },
-        Case {
-            at: 4,
-            leaves: Version::Old,
-            puts: [Ok(()), Ok(())],
-            gets: [Ok(Some(b"first")), Err(FAULT)],
-            failures: [0, 0, 0, 1],
-        },
-    ] {
-        plays(&rt, &case);
+    for case in &CASES {
+        plays(&rt, case);
     }
 }
