@@ -101,8 +101,13 @@ mod tests {
             for _ in 0..jobs {
                 streak.count();
             }
-            clock.micros.store(micros.saturating_add(7), Ordering::SeqCst);
-            assert!(rt; streak.is_long(&clock) == long, "{jobs} jobs, {micros} microseconds");
+            clock
+                .micros
+                .store(micros.saturating_add(7), Ordering::SeqCst);
+            assert!(rt;
+                streak.is_long(&clock) == long,
+                "{jobs} jobs, {micros} microseconds"
+            );
         }
     }
 
