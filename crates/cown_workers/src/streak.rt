@@ -61,11 +61,11 @@ mod tests {
 
     // A clock that a test sets.
     #[derive(Default, Drop)]
-    struct Set {
+    struct ManualClock {
         micros: AtomicU64,
     }
 
-    impl Clock for Set {
+    impl Clock for ManualClock {
         fn monotonic(&self) -> io::Result<Duration> {
             Ok(Duration::from_micros(self.micros.load(Ordering::SeqCst)))
         }
@@ -93,7 +93,7 @@ mod tests {
 
     #[test]
     fn a_streak_of_short_jobs_is_not_long(rt: HostRuntime) {
-        let clock = Set::default();
+        let clock = ManualClock::default();
         let mut streak = Streak::new();
         for (jobs, micros, long) in STREAKS {
             clock.micros.store(7, Ordering::SeqCst);
@@ -113,6 +113,6 @@ mod tests {
 
     #[test]
     fn a_streak_is_long_without_a_clock(rt: HostRuntime) {
-        assert!(rt; Streak::new().is_long(&Set::default()));
+        assert!(rt; Streak::new().is_long(&ManualClock::default()));
     }
 }
