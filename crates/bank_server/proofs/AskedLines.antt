@@ -1,7 +1,8 @@
 -- What lines ask, one line at a time.
-use Rattle.std.proofs.Common.{◌≡◌, ℕ, ◌+◌, ◌≤◌, Option, Some, None, Ok, Err, List, [], ◌∷◌, ◌++◌, length, map, refl, sym, ap, ◌∙◌, arith}
+use Rattle.std.proofs.Common.{◌≡◌, ℕ, ◌+◌, ◌≤◌, Option, Some, None, Result, Ok, Err, IsOk, MatchResult, subst, true≢false, List, [], ◌∷◌, ◌++◌, length, map, refl, sym, ap, ◌∙◌, arith}
 use Rattle.sb_rows.specs.Opening.{◌>>=◌, at_line}
-use Rattle.sb_calls.specs.Ask.{ask_line_of, IsKey}
+use Rattle.sb_calls.specs.Ask.{ask_line_of, IsAskLine, IsKey}
+use Rattle.sb_calls.proofs.AskSpelling.{ask_is_spelled}
 use Rattle.sb_calls.specs.declared.ask.AskLine.{AskLine}
 use Rattle.sb_calls.specs.declared.ask.Key.{Key}
 use Rattle.sb_calls.specs.declared.call.Call.{Call}
@@ -27,6 +28,30 @@ pub asks_from-fault : (first : ℕ) (before : List AskLine) (line : List ℕ) (l
     → asks_from first before (line ∷ ls) ≡ Err (first + length before, fault)
 unfolding asks_from
 asks_from-fault first before line ls fault e = ap (λ r. at_line (first + length before) r >>= λ a. asks_from first (before ++ a ∷ []) ls) e
+
+-- an ask that was read is a valid one
+pub asked_is_valid : (line : List ℕ) (asked : AskLine) → ask_line_of line ≡ Ok asked → IsAskLine asked
+asked_is_valid line asked e = (ask_is_spelled line (Ok asked) (sym e)).0
+
+-- what was appended without a fault was asked
+pub pushed_is_asked : {A : Type 0} (P : Type 0) (read : Result AskLine CallFault) (result : Result A CallFault) (old new : List AskLine)
+    → MatchResult read (λ asked. IsOk result × (new ≡ old ++ asked ∷ [])) (λ fault. (result ≡ Err fault) × P)
+    → IsOk result → (asked : AskLine) × (read ≡ Ok asked) × (new ≡ old ++ asked ∷ [])
+pushed_is_asked P (Ok asked) result old new h ok = (asked, refl, h.1)
+pushed_is_asked P (Err fault) result old new h ok = absurd (true≢false (sym (subst IsOk h.0 ok)))
+
+-- the fault of a result, or this one
+fault_or : {A : Type 0} → CallFault → Result A CallFault → CallFault
+fault_or default (Ok value) = default
+fault_or default (Err fault) = fault
+
+-- a fault of what was to be appended is that of the line
+pub fault_is_asked : {A : Type 0} (P : Type 0) (read : Result AskLine CallFault) (result : Result A CallFault) (old new : List AskLine) (fault : CallFault)
+    → MatchResult read (λ asked. IsOk result × (new ≡ old ++ asked ∷ [])) (λ fault. (result ≡ Err fault) × P)
+    → result ≡ Err fault → (read ≡ Err fault) × P
+unfolding fault_or
+fault_is_asked P (Ok asked) result old new fault h e = absurd (true≢false (sym (subst IsOk e h.0)))
+fault_is_asked P (Err other) result old new fault h e = (ap Err (ap (fault_or other) (sym h.0 ∙ e)), h.1)
 
 -- if no line is left, those before are all
 pub asks_from-end : (first : ℕ) (before : List AskLine) → asks_from first before [] ≡ Ok before

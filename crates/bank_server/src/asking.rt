@@ -18,7 +18,7 @@ ghost use Rattle.bank_server.specs.Standing.{IsStandingWithin};
 use crate::fault::{InputFault, RunFault};
 use crate::log_number::LogNumber;
 use crate::primary::Primary;
-use sb_calls::{AskLine, Call, Key, LOG_CALLS, read_ask};
+use sb_calls::{AskLine, Call, Key, LOG_CALLS, push_ask};
 use sb_checkpoint::CheckpointStore;
 use sb_rows::next_line;
 use sb_sequencer::{AskFault, Numbered, Sequencer};
@@ -114,22 +114,18 @@ fn read_batch<'a>(
     ensures within { IfOk result (λ rest. length rest.now + length batch.new.items ≤ length text.now) }
     ensures shorter { IfOk result (λ rest. length rest.now < length text.now) }
 {
-    // The checker takes an ask apart, and needs the type spelled out.
-    let _parts: Option<Call> = None;
     batch.clear();
+    batch.reserve(BATCH_LINES)?;
     let mut left = text;
     for taken in 0..BATCH_LINES {
         let Some((line, rest)) = next_line(left) else {
             return Ok(&[]);
         };
-        match read_ask(line) {
-            Ok(asked) => batch.push(asked)?,
-            Err(fault) => {
-                return Err(RunFault::Input {
-                    line: first_line + batch.len(),
-                    fault: InputFault::Call(fault),
-                });
-            }
+        if let Err(fault) = push_ask(line, batch) {
+            return Err(RunFault::Input {
+                line: first_line + batch.len(),
+                fault: InputFault::Call(fault),
+            });
         }
         left = rest;
     }

@@ -2,7 +2,7 @@
 ghost use Rattle.std.specs.Prelude.{◌≡◌, ◌↔◌, [], length, IsTrue};
 
 use crossbeam_channel::Sender;
-use sb_frames::{Frame, encode};
+use sb_frames::{Frame, encode, encode_entry};
 use sb_sequencer::Sequencer;
 use std::alloc::{AllocError, Global};
 use std::sync::{Arc, Wait};
@@ -43,10 +43,9 @@ impl<'a, R: Wait> FollowerChannels<'a, R> {
             return Ok(());
         }
         let mut bytes = Vec::with_capacity(self.alloc, USUAL_PART)?;
-        for index in from..to {
-            if let Some(entry) = log.entry(index as u64 + 1) {
-                bytes.extend_from_slice(&encode(&entry))?;
-            }
+        let calls = log.calls();
+        for index in from..to.min(calls.len()) {
+            bytes.extend_from_slice(&encode_entry(index as u64 + 1, &calls[index]))?;
         }
         self.send(bytes)
     }

@@ -1,2 +1,3 @@
 pub mod BehaviourLaws
 pub mod Bounds
+pub mod Verbs

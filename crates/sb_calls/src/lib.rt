@@ -27,7 +27,8 @@ pub use net_change::net;
 pub use op::{Op, resolve};
 pub use reply::Reply;
 pub use text::{
-    CallFault, print_reply, read_ask, read_call, read_call_words, read_number, write_reply,
+    CallFault, print_reply, push_ask, read_ask, read_call, read_call_words, read_number,
+    write_reply,
 };
 pub use two_places::TwoPlaces;
 pub use wire_reply::{TOTAL_LIMIT, WireReply};

@@ -5,8 +5,9 @@ mod fault;
 mod number;
 mod printing;
 mod reading;
+mod verb;
 
-pub use asking::read_ask;
+pub use asking::{push_ask, read_ask};
 pub use fault::CallFault;
 pub use number::read_number;
 pub use printing::{print_reply, write_reply};

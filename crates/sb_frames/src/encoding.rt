@@ -1,70 +1,100 @@
 //! Frames encoded as bytes.
-ghost use Rattle.std.specs.Prelude.{◌≡◌, ◌≤◌, length};
+ghost use Rattle.std.specs.Prelude.{◌≡◌, ◌+◌, ◌≤◌, ◌++◌, length};
+ghost use Rattle.sb_calls.specs.Call.{IsCall};
+ghost use Rattle.sb_calls.specs.Replies.{IsReply};
 ghost use Rattle.sb_frames.specs.Grammar as grammar;
 ghost use Rattle.sb_frames.specs.Grammar.{IsFrame, Spells};
+ghost use Rattle.sb_frames.specs.declared.frame.Frame.TheVariants.{Answer, Entry};
 
 use crate::decoding::{ACK, ANSWER, ASK, ENTRY, FLUSH, HAVE, OUTCOME};
-use crate::frame::{Frame, MAX_FRAME};
-use crate::writing::{Body, put, put_call, put_outcome, put_replica_and_length, put_reply};
+use crate::frame::{Frame, MAX_BODY, MAX_FRAME};
+use crate::lengths::{body_length, entry_length};
+use crate::writing::{Bytes, put, put_call, put_outcome, put_replica_and_length, put_reply};
 use arrayvec::ArrayVec;
+use sb_calls::{Call, WireReply};
 
-// The tag and the fields.
+/// The bytes of a frame: the length of its body, its tag and its fields. It allocates nothing.
+pub fn encode(frame: &Frame) -> ArrayVec<u8, MAX_FRAME>
+    ensures { Spells frame.now result.items }
+{
+    let mut bytes = ArrayVec::new();
+    put(&mut bytes, &body_length(frame).to_be_bytes());
+    put_body(&mut bytes, frame);
+    bytes
+}
+
+/// The bytes of the frame of a call of the log, as [`encode`] gives them.
+#[inline]
+pub fn encode_entry(number: u64, call: &Call) -> ArrayVec<u8, MAX_FRAME>
+    ensures { Spells (Entry number call.now) result.items }
+{
+    let mut bytes = ArrayVec::new();
+    put(&mut bytes, &entry_length(call).to_be_bytes());
+    put_entry(&mut bytes, number, call);
+    bytes
+}
+
+// The tag and the fields, at most as many bytes as a body has.
 #[tactic(auto, unfolding(sb_calls::specs::Replies::integer_field))]
-fn body_of(frame: &Frame) -> Body
-    ensures spelled { result.items ≡ grammar.body frame.now }
+fn put_body(bytes: &mut Bytes, frame: &Frame)
+    requires room { length bytes.old.items + MAX_BODY ≤ MAX_FRAME }
+    ensures spelled { bytes.new.items ≡ bytes.old.items ++ grammar.body frame.now }
     ensures valid { IsFrame frame.now }
 {
-    let mut body = Body::new();
     match frame {
         Frame::Ask {
             client,
             request,
             call,
         } => {
-            put(&mut body, &[ASK]);
-            put(&mut body, &client.to_be_bytes());
-            put(&mut body, &request.to_be_bytes());
-            put_call(&mut body, call);
+            put(bytes, &[ASK]);
+            put(bytes, &client.to_be_bytes());
+            put(bytes, &request.to_be_bytes());
+            put_call(bytes, call);
         }
-        Frame::Entry { number, call } => {
-            put(&mut body, &[ENTRY]);
-            put(&mut body, &number.to_be_bytes());
-            put_call(&mut body, call);
-        }
+        Frame::Entry { number, call } => put_entry(bytes, *number, call),
         Frame::Ack { replica, length } => {
-            put_replica_and_length(&mut body, ACK, *replica, *length);
+            put_replica_and_length(bytes, ACK, *replica, *length);
         }
-        Frame::Answer { number, reply } => {
-            put(&mut body, &[ANSWER]);
-            put(&mut body, &number.to_be_bytes());
-            put_reply(&mut body, *reply);
-        }
+        Frame::Answer { number, reply } => put_answer(bytes, *number, *reply),
         Frame::Outcome {
             client,
             request,
             outcome,
         } => {
-            put(&mut body, &[OUTCOME]);
-            put(&mut body, &client.to_be_bytes());
-            put(&mut body, &request.to_be_bytes());
-            put_outcome(&mut body, *outcome);
+            put(bytes, &[OUTCOME]);
+            put(bytes, &client.to_be_bytes());
+            put(bytes, &request.to_be_bytes());
+            put_outcome(bytes, *outcome);
         }
-        Frame::Flush => put(&mut body, &[FLUSH]),
+        Frame::Flush => put(bytes, &[FLUSH]),
         Frame::Have { replica, length } => {
-            put_replica_and_length(&mut body, HAVE, *replica, *length);
+            put_replica_and_length(bytes, HAVE, *replica, *length);
         }
     }
-    body
 }
 
-/// The bytes of a frame: the length of its body, its tag and its fields. It allocates nothing.
-pub fn encode(frame: &Frame) -> ArrayVec<u8, MAX_FRAME>
-    ensures { Spells frame.now result.items }
+// An entry's tag, its number and its call.
+#[inline]
+#[tactic(auto, unfolding(sb_calls::specs::Replies::integer_field))]
+fn put_entry(bytes: &mut Bytes, number: u64, call: &Call)
+    requires room { length bytes.old.items + MAX_BODY ≤ MAX_FRAME }
+    ensures spelled { bytes.new.items ≡ bytes.old.items ++ grammar.body (Entry number call.now) }
+    ensures valid { IsCall call.now }
 {
-    let body = body_of(frame);
-    let length = body.len() as u16;
-    let mut bytes = ArrayVec::new();
-    bytes.try_extend_from_slice(&length.to_be_bytes()).unwrap();
-    bytes.try_extend_from_slice(&body).unwrap();
-    bytes
+    put(bytes, &[ENTRY]);
+    put(bytes, &number.to_be_bytes());
+    put_call(bytes, call);
+}
+
+// An answer's tag, its number and its reply.
+#[tactic(auto, unfolding(sb_calls::specs::Replies::integer_field))]
+fn put_answer(bytes: &mut Bytes, number: u64, reply: WireReply)
+    requires room { length bytes.old.items + MAX_BODY ≤ MAX_FRAME }
+    ensures spelled { bytes.new.items ≡ bytes.old.items ++ grammar.body (Answer number reply) }
+    ensures valid { IsReply reply }
+{
+    put(bytes, &[ANSWER]);
+    put(bytes, &number.to_be_bytes());
+    put_reply(bytes, reply);
 }

@@ -9,12 +9,13 @@ mod fault;
 mod fields;
 mod frame;
 mod laws;
+mod lengths;
 mod outcome;
 mod stream;
 mod writing;
 
 pub use decoding::decode;
-pub use encoding::encode;
+pub use encoding::{encode, encode_entry};
 pub use entry_op::EntryOp;
 pub use fault::{FrameFault, StreamFault};
 pub use frame::{AskOutcome, Frame, MAX_BODY, MAX_FRAME};

@@ -1,6 +1,6 @@
 //! Frames as bytes, and bytes as frames.
 use crate::fixtures::{bytes, frame_bytes};
-use sb_frames::{Frame, FrameFault, decode, encode};
+use sb_frames::{Frame, FrameFault, decode, encode, encode_entry};
 use std::process::Abort;
 
 mod faults;
@@ -11,6 +11,9 @@ mod spellings;
 // follows them.
 fn both_ways(rt: &impl Abort, frame: Frame, spelling: &[u8], what: &str) {
     assert!(rt; encode(&frame).as_slice() == spelling, "{what}");
+    if let Frame::Entry { number, call } = frame {
+        assert!(rt; encode_entry(number, &call).as_slice() == spelling, "{what}");
+    }
     assert!(rt; decode(spelling) == Ok((frame, spelling.len())), "{what}");
 }
 

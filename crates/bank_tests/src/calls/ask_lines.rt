@@ -1,6 +1,7 @@
 //! Asking lines, with keys and without.
 use crate::fixtures::{cents, expect, name};
-use sb_calls::{Call, CallFault, read_ask};
+use sb_calls::{AskLine, Call, CallFault, push_ask, read_ask};
+use std::alloc::Global;
 use std::process::Abort;
 
 // Checks that a line asks for this call, with this client's request as its key, or without a key.
@@ -68,5 +69,34 @@ fn expect_fault(rt: &impl Abort, line: &str, fault: CallFault) {
 fn lines_at_fault(rt: HostRuntime) {
     for (line, fault) in FAULTS {
         expect_fault(&rt, line, *fault);
+    }
+}
+
+// Checks that a line appends what it asks to a list, or nothing if it is at fault.
+fn expect_pushed(rt: &impl Abort, alloc: Global, line: &str) {
+    let mut asks: Vec<AskLine> = Vec::with_capacity(alloc, 2).expect(rt, "ample memory");
+    let before = push_ask(b"balance bob", &mut asks);
+    expect(rt, before.is_ok() && asks.len() == 1, "the line before");
+    let pushed = push_ask(line.as_bytes(), &mut asks);
+    match read_ask(line.as_bytes()) {
+        Ok(asked) => expect(rt, pushed.is_ok() && asks.get(1) == Some(&asked), line),
+        Err(fault) => expect(rt, pushed.err() == Some(fault) && asks.len() == 1, line),
+    }
+}
+
+#[test]
+fn lines_that_are_appended(rt: HostRuntime) {
+    for line in [
+        "balance alice",
+        "ask 1 2 deposit alice 5.00",
+        "savings alice -10.00",
+        "check bob 20.01",
+        "ask 3 4 amalgamate alice bob",
+        "pay bob alice 20.00",
+    ] {
+        expect_pushed(&rt, rt.alloc(), line);
+    }
+    for (line, _) in FAULTS {
+        expect_pushed(&rt, rt.alloc(), line);
     }
 }

@@ -1,5 +1,5 @@
 //! The text of an asking line: a call, or `ask CLIENT REQUEST CALL`.
-ghost use Rattle.std.specs.Prelude.{◌≡◌, ◌∷◌, Some, Ok, Err, IfOk, MatchResult};
+ghost use Rattle.std.specs.Prelude.{◌≡◌, ◌<◌, [], ◌∷◌, ◌++◌, Some, Ok, Err, IfOk, IsOk, MatchResult, vec_len, vec_capacity};
 ghost use Rattle.sb_calls.specs.Call.{call_of_words};
 ghost use Rattle.sb_calls.specs.declared.ask.AskLine.{AskLine as AnyAskLine};
 ghost use Rattle.sb_calls.specs.Ask as spec;
@@ -7,7 +7,7 @@ ghost use Rattle.sb_calls.specs.Ask.{IsAskLine, ask_line, ask_line_of, ask_line_
 
 use super::fault::CallFault;
 use super::number::read_number;
-use super::reading::call_with;
+use super::reading::{call_with, push_call};
 use crate::ask::{AskLine, Key};
 use sb_rows::Words;
 
@@ -36,6 +36,32 @@ fn ask_line_of(mut words: Words) -> Result<AskLine, CallFault>
     let (key, verb) = key_and_verb(&mut words)?;
     let call = call_with(verb, words)?;
     Ok(AskLine { key, call })
+}
+
+/// Appends what an asking line asks to a list, in room that was reserved.
+///
+/// Fails as [`read_ask`] does; nothing changes then.
+pub fn push_ask(line: &[u8], asks: &mut Vec<AskLine>) -> Result<(), CallFault>
+    requires room { vec_len asks.old < vec_capacity asks.old }
+    ensures pushed { MatchResult (ask_line_of line.now)
+        (λ asked. IsOk result × (asks.new.items ≡ asks.old.items ++ asked ∷ []))
+        (λ fault. (result ≡ Err fault) × (asks.new ≡ asks.old)) }
+    ensures capacity { vec_capacity asks.new ≡ vec_capacity asks.old }
+{
+    push_words(Words::of(line), asks)
+}
+
+// The same, of the line's words.
+#[inline(always)]
+fn push_words(mut words: Words, asks: &mut Vec<AskLine>) -> Result<(), CallFault>
+    requires room { vec_len asks.old < vec_capacity asks.old }
+    ensures pushed { MatchResult (ask_line_of_words words.entry)
+        (λ asked. IsOk result × (asks.new.items ≡ asks.old.items ++ asked ∷ []))
+        (λ fault. (result ≡ Err fault) × (asks.new ≡ asks.old)) }
+    ensures capacity { vec_capacity asks.new ≡ vec_capacity asks.old }
+{
+    let (key, verb) = key_and_verb(&mut words)?;
+    push_call(verb, words, key, asks)
 }
 
 // The key, if the first word is `ask`, and the verb of the call.

@@ -1,13 +1,16 @@
 //! The text of a call: `balance N`, `deposit N V`, `savings N V`, `check N V`, `amalgamate N N2`
 //! or `pay N N2 V`.
-ghost use Rattle.std.specs.Prelude.{◌≡◌, ℕ, ℤ, List, ◌∷◌, Ok, IfOk, if◌then◌else◌};
+ghost use Rattle.std.specs.Prelude.{◌≡◌, ◌<◌, ℕ, ℤ, List, [], ◌∷◌, ◌++◌, Ok, Err, IfOk, IsOk, MatchResult, vec_len, vec_capacity, if◌then◌else◌};
 ghost use Rattle.std.specs.Result.{result_map_both};
 ghost use Rattle.sb_amount.specs.Reading.{read_money};
 ghost use Rattle.sb_rows.specs.Name.{is_name};
+ghost use Rattle.sb_calls.specs.Ask.{under_key};
 ghost use Rattle.sb_calls.specs.declared.call.Call.{Call as AnyCall};
 ghost use Rattle.sb_calls.specs.Call.{IsCall, call_line, call_of, call_of_words, of_name, of_name_and_amount, of_two_names, of_two_names_and_amount, with_amount};
 
 use super::fault::CallFault;
+use super::verb::Verb;
+use crate::ask::{AskLine, Key};
 use crate::call::Call;
 use sb_amount::Cents;
 use sb_rows::{Name, Words};
@@ -37,35 +40,87 @@ pub fn read_call_words(mut words: Words) -> Result<Call, CallFault>
 }
 
 // The call with a verb and the words after it.
-// Inlined, so that a call is written where it stays, and not passed through memory.
-#[inline(always)]
+#[inline]
 pub(crate) fn call_with(verb: &[u8], words: Words) -> Result<Call, CallFault>
     ensures { result ≡ call_of_words (verb.now ∷ words.entry) }
 {
-    match verb {
-        b"balance" => one_name(words).map(Call::Balance),
-        b"deposit" => {
+    match Verb::of(verb).ok_or(CallFault::UnknownVerb)? {
+        Verb::Balance => one_name(words).map(Call::Balance),
+        Verb::Deposit => {
             let (name, amount) = name_and_amount(words)?;
             Ok(Call::DepositChecking(name, amount))
         }
-        b"savings" => {
+        Verb::Savings => {
             let (name, amount) = name_and_amount(words)?;
             Ok(Call::TransactSavings(name, amount))
         }
-        b"check" => {
+        Verb::Check => {
             let (name, amount) = name_and_amount(words)?;
             Ok(Call::WriteCheck(name, amount))
         }
-        b"amalgamate" => {
+        Verb::Amalgamate => {
             let (from, to) = two_names(words)?;
             Ok(Call::Amalgamate(from, to))
         }
-        b"pay" => {
+        Verb::Pay => {
             let (from, to, amount) = two_names_and_amount(words)?;
             Ok(Call::SendPayment(from, to, amount))
         }
-        _ => Err(CallFault::UnknownVerb),
     }
+}
+
+// Appends the call with a verb and the words after it, under a key, in room that was reserved. Each
+// kind of call is written where it stays, and not passed through memory.
+#[inline(always)]
+pub(crate) fn push_call(
+    verb: &[u8],
+    words: Words,
+    key: Option<Key>,
+    asks: &mut Vec<AskLine>,
+) -> Result<(), CallFault>
+    requires room { vec_len asks.old < vec_capacity asks.old }
+    ensures pushed { MatchResult (under_key key (call_of_words (verb.now ∷ words.entry)))
+        (λ asked. IsOk result × (asks.new.items ≡ asks.old.items ++ asked ∷ []))
+        (λ fault. (result ≡ Err fault) × (asks.new ≡ asks.old)) }
+    ensures capacity { vec_capacity asks.new ≡ vec_capacity asks.old }
+{
+    match Verb::of(verb).ok_or(CallFault::UnknownVerb)? {
+        Verb::Balance => {
+            let name = one_name(words)?;
+            push(asks, key, Call::Balance(name))
+        }
+        Verb::Deposit => {
+            let (name, amount) = name_and_amount(words)?;
+            push(asks, key, Call::DepositChecking(name, amount))
+        }
+        Verb::Savings => {
+            let (name, amount) = name_and_amount(words)?;
+            push(asks, key, Call::TransactSavings(name, amount))
+        }
+        Verb::Check => {
+            let (name, amount) = name_and_amount(words)?;
+            push(asks, key, Call::WriteCheck(name, amount))
+        }
+        Verb::Amalgamate => {
+            let (from, to) = two_names(words)?;
+            push(asks, key, Call::Amalgamate(from, to))
+        }
+        Verb::Pay => {
+            let (from, to, amount) = two_names_and_amount(words)?;
+            push(asks, key, Call::SendPayment(from, to, amount))
+        }
+    }
+    Ok(())
+}
+
+// Appends a call under a key, in room that was reserved.
+#[inline(always)]
+fn push(asks: &mut Vec<AskLine>, key: Option<Key>, call: Call)
+    requires { vec_len asks.old < vec_capacity asks.old }
+    ensures items { asks.new.items ≡ asks.old.items ++ (record { key = key; call = call }) ∷ [] }
+    ensures capacity { vec_capacity asks.new ≡ vec_capacity asks.old }
+{
+    asks.push_reserved(AskLine { key, call });
 }
 
 // The one remaining name. It serves every call that takes a name.

@@ -1,4 +1,4 @@
-use Rattle.std.proofs.Common.{◌≡◌, ℕ, ◌+◌, ◌≤◌, List, ◌++◌, length}
+use Rattle.std.proofs.Common.{◌≡◌, ℕ, ◌+◌, ◌≤◌, List, ◌++◌, length, vec_capacity}
 use Rattle.std.specs.List.{All}
 use Rattle.sb_calls.specs.Ask.{IsKey}
 use Rattle.sb_calls.specs.declared.ask.AskLine.{AskLine}
@@ -12,6 +12,7 @@ invariant-loop-taken l = record {
   all : (first : ℕ) (before : List AskLine)
       → asks_from first before (lines l.fn.text) ≡ asks_from first (before ++ l.batch.items) (lines l.left);
   count : length l.batch.items ≡ l.taken;
+  room : 32 ≤ vec_capacity l.batch;
   keys : All (λ asked. IsKey asked.key) l.batch.items;
   within : length l.left + length l.batch.items ≤ length l.fn.text;
 }
