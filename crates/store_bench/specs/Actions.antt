@@ -5,8 +5,6 @@ use Rattle.store_bench.specs.declared.payees.Payees.TheVariants.{One, Many}
 use Rattle.store_bench.specs.declared.words.Absence.{Absence}
 use Rattle.store_bench.specs.declared.words.CrewChoice.{CrewChoice}
 use Rattle.store_bench.specs.declared.words.CrewChoice.TheVariants.{InPlace, InThreads, Wait, Buffered}
-use Rattle.store_bench.specs.declared.words.Action.{Action}
-use Rattle.store_bench.specs.declared.words.Action.TheVariants.{Measure, Cases}
 use Rattle.store_bench.specs.declared.words.Measurement.{Measurement}
 use Rattle.store_bench.specs.declared.words.Measurement.TheVariants.{Drain, Write, Read, Adopt, Open, ByState, ByEntries}
 
@@ -44,8 +42,3 @@ module _ {A : Type 0} where
   GivesMeasurement (Open count) words = NamesAction words 3 (codes "open") × HasIntegerAt words 2 count
   GivesMeasurement (ByState absence) words = NamesAction words 5 (codes "by-state") × GivesAbsence absence words
   GivesMeasurement (ByEntries absence) words = NamesAction words 5 (codes "by-entries") × GivesAbsence absence words
-
-  -- the words are the program's name, and what it does
-  abbrev pub GivesAction : Action → List (String A) → Type 0
-  GivesAction (Measure measurement) words = GivesMeasurement measurement words
-  GivesAction Cases words = NamesAction words 2 (codes "cases")

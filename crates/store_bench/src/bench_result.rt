@@ -1,8 +1,8 @@
-//! The result of a measured action.
+//! The result of a measurement.
 
 use std::time::Duration;
 
-/// What is printed of an action, and the time of its measured part.
+/// What is printed of a measurement, and the time of its measured part.
 #[derive(Clone, Copy)]
 pub struct BenchResult {
     /// The number of calls, or of a checkpoint's bytes or replies.

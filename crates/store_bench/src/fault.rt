@@ -1,6 +1,5 @@
-//! Why nothing is measured or reported.
+//! Why nothing is measured.
 
-use crate::cases::fault::CaseFault;
 use cown_board::SubmitFault;
 use cown_workers::{CrewFault, CrewGone};
 use sb_checkpoint::CheckpointFault;
@@ -10,7 +9,7 @@ use std::alloc::AllocError;
 use std::io;
 use thiserror::Error;
 
-/// Why nothing is measured or reported.
+/// Why nothing is measured.
 #[derive(Debug, Error, Drop)]
 pub enum Fault {
     /// The number of workers isn't from 1 to 16.
@@ -49,9 +48,6 @@ pub enum Fault {
     /// A replica doesn't adopt a state.
     #[error("{0}")]
     Adopt(#[from] AdoptFault),
-    /// A case goes wrong.
-    #[error("{0}")]
-    Case(#[from] CaseFault),
     /// Memory was refused.
     #[error("out of memory")]
     OutOfMemory(#[from(alloc)] AllocError),

@@ -1,17 +1,8 @@
 //! The program's words.
 ghost use Rattle.std.specs.Prelude.{◌≡◌, IfSome, IsTrue, Some, map, slice_get, string_bytes};
-ghost use Rattle.store_bench.specs.Actions.{NamesAction, GivesDrain, GivesMeasurement, GivesAbsence, GivesAction, HasIntegerAt};
+ghost use Rattle.store_bench.specs.Actions.{NamesAction, GivesDrain, GivesMeasurement, GivesAbsence, HasIntegerAt};
 
 use crate::payees::Payees;
-
-/// What the program does.
-#[derive(Clone, Copy)]
-pub enum Action {
-    /// It measures something.
-    Measure(Measurement),
-    /// It plays its cases.
-    Cases,
-}
 
 /// What is measured.
 #[derive(Clone, Copy)]
@@ -69,17 +60,7 @@ pub enum CrewChoice {
 }
 
 /// Reads the program's words; the first is its name.
-pub fn read_words(words: &[String]) -> Option<Action>
-    ensures { IfSome result (λ action. GivesAction action words.now) }
-{
-    if names_action(words, 2, "cases") {
-        return Some(Action::Cases);
-    }
-    Some(Action::Measure(read_measurement(words)?))
-}
-
-// What is measured.
-fn read_measurement(words: &[String]) -> Option<Measurement>
+pub fn read_words(words: &[String]) -> Option<Measurement>
     ensures { IfSome result (λ measurement. GivesMeasurement measurement words.now) }
 {
     if names_action(words, 3, "write") {

@@ -1,9 +1,9 @@
 //! Schedules that are played event by event.
 
-use crate::cases::amounts::push_amounts;
-use crate::cases::fault::CaseFault;
-use crate::cases::report::Report;
-use crate::cases::schedule::plan;
+use crate::amounts::push_amounts;
+use crate::fault::CaseFault;
+use crate::report::Report;
+use crate::schedule::plan;
 use schedule_player::{Event, StepFault, World};
 use schedule_text::push_notes;
 use std::alloc::Global;

@@ -2,8 +2,8 @@
 ghost use Rattle.std.specs.Prelude.{IfOk};
 ghost use Rattle.sb_checkpoint.specs.Checkpoint.{IsCheckpoint};
 
-use crate::cases::fault::CaseFault;
-use crate::cases::report::Report;
+use crate::fault::CaseFault;
+use crate::report::Report;
 use sb_checkpoint::{Checkpoint, CheckpointFault, read_checkpoint, write_checkpoint};
 use std::alloc::{AllocError, Global};
 

@@ -1,7 +1,7 @@
 //! A stream of frames.
 
-use crate::cases::fault::CaseFault;
-use crate::cases::report::Report;
+use crate::fault::CaseFault;
+use crate::report::Report;
 use sb_calls::{Call, WireReply};
 use sb_frames::{AskOutcome, Stream, StreamFault, encode};
 use std::alloc::Global;

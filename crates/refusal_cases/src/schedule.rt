@@ -1,7 +1,7 @@
 //! A schedule as a world at its opening, with its events.
 
-use crate::cases::fault::CaseFault;
-use crate::cases::report::Report;
+use crate::fault::CaseFault;
+use crate::report::Report;
 use schedule_player::{Events, World};
 use schedule_text::{Schedule, TextFault, read_schedule};
 use std::alloc::{AllocError, Global};

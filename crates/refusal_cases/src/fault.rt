@@ -1,4 +1,4 @@
-//! Why a case goes wrong.
+//! Why a case goes wrong, and why nothing is reported.
 
 use bank_server::{RunFault, SessionFault};
 use sb_checkpoint::CheckpointFault;
@@ -7,6 +7,7 @@ use sb_rows::OpeningFault;
 use schedule_player::StepFault;
 use schedule_text::TextFault;
 use std::alloc::AllocError;
+use std::io;
 use thiserror::Error;
 
 /// Why a case goes wrong. For `OutOfMemory`, a call that was repeated was refused memory again.
@@ -39,4 +40,18 @@ pub enum CaseFault {
     /// Memory was refused.
     #[error("out of memory")]
     OutOfMemory(#[from(alloc)] AllocError),
+}
+
+/// Why nothing is reported.
+#[derive(Debug, Error, Drop)]
+pub enum Fault {
+    /// A case goes wrong.
+    #[error("{0}")]
+    Case(#[from] CaseFault),
+    /// Memory was refused.
+    #[error("out of memory")]
+    OutOfMemory(#[from(alloc)] AllocError),
+    /// The words aren't read, or printing failed.
+    #[error("{0}")]
+    Device(#[from] io::Error),
 }

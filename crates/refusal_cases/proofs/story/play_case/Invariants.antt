@@ -1,5 +1,5 @@
 use Rattle.std.proofs.Common.{length}
-use Rattle.store_bench.proofs.cases.story.play_case.Given as goal
+use Rattle.refusal_cases.proofs.story.play_case.Given as goal
 
 abbrev pub decreases-loop-event : goal.decreases-loop-event
 decreases-loop-event l = length l.left

@@ -1,8 +1,8 @@
 //! A session of two asks, one of them repeated.
 
-use crate::cases::bytewise::BytewiseReader;
-use crate::cases::fault::CaseFault;
-use crate::cases::report::Report;
+use crate::bytewise::BytewiseReader;
+use crate::fault::CaseFault;
+use crate::report::Report;
 use bank_server::{Primary, SessionFault, serve_session};
 use cown_workers::InlineCrew;
 use sb_checkpoint::MemoryStore;

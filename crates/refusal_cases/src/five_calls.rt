@@ -1,7 +1,7 @@
 //! A run of five calls on one node, without workers.
 
-use crate::cases::fault::CaseFault;
-use crate::cases::report::Report;
+use crate::fault::CaseFault;
+use crate::report::Report;
 use bank_server::{RunFault, run_text};
 use cown_workers::OpenGate;
 use std::alloc::Global;
