@@ -12,7 +12,10 @@ mod spellings;
 fn both_ways(rt: &impl Abort, frame: Frame, spelling: &[u8], what: &str) {
     assert!(rt; encode(&frame).as_slice() == spelling, "{what}");
     if let Frame::Entry { number, call } = frame {
-        assert!(rt; encode_entry(number, &call).as_slice() == spelling, "{what}");
+        assert!(rt;
+            encode_entry(number, &call).as_slice() == spelling,
+            "{what}"
+        );
     }
     assert!(rt; decode(spelling) == Ok((frame, spelling.len())), "{what}");
 }
