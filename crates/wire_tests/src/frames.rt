@@ -7,6 +7,16 @@ mod faults;
 mod limits;
 mod spellings;
 
+// Checks that an entry is spelled so from its call too.
+fn entry_by_its_call(rt: &impl Abort, frame: &Frame, spelling: &[u8], what: &str) {
+    if let Frame::Entry { number, call } = frame {
+        assert!(rt;
+            encode_entry(*number, call).as_slice() == spelling,
+            "{what}"
+        );
+    }
+}
+
 // Checks the frame's spelling, and that it is decoded from these bytes and no fewer, whatever
 // follows them.
 fn both_ways(rt: &impl Abort, frame: Frame, spelling: &[u8], what: &str) {
