@@ -14,28 +14,28 @@ use thiserror::Error;
 #[derive(Clone, Copy, Debug, Error)]
 pub enum CaseFault {
     /// A run ends without its output.
-    #[error("{0}")]
+    #[error(transparent)]
     Run(#[from] RunFault),
     /// An opening isn't read.
-    #[error("{0}")]
+    #[error(transparent)]
     Opening(#[from] OpeningFault),
     /// A session ends early.
-    #[error("{0}")]
+    #[error(transparent)]
     Session(#[from] SessionFault),
     /// A schedule isn't read.
-    #[error("{0}")]
+    #[error(transparent)]
     Schedule(#[from] TextFault),
     /// An event doesn't happen.
-    #[error("{0}")]
+    #[error(transparent)]
     Step(#[from] StepFault),
     /// Something is unfinished after the last event.
     #[error("unfinished")]
     Unfinished,
     /// A checkpoint isn't read.
-    #[error("{0}")]
+    #[error(transparent)]
     Checkpoint(#[from] CheckpointFault),
     /// A stream takes no bytes, or gives no frame.
-    #[error("{0}")]
+    #[error(transparent)]
     Stream(#[from] StreamFault),
     /// Memory was refused.
     #[error("out of memory")]
@@ -46,12 +46,12 @@ pub enum CaseFault {
 #[derive(Debug, Error, Drop)]
 pub enum Fault {
     /// A case goes wrong.
-    #[error("{0}")]
+    #[error(transparent)]
     Case(#[from] CaseFault),
     /// Memory was refused.
     #[error("out of memory")]
     OutOfMemory(#[from(alloc)] AllocError),
     /// The words aren't read, or printing failed.
-    #[error("{0}")]
+    #[error(transparent)]
     Device(#[from] io::Error),
 }

@@ -19,39 +19,39 @@ pub enum Fault {
     #[error("no bank")]
     Bank,
     /// The board doesn't take this many calls.
-    #[error("{0}")]
+    #[error(transparent)]
     Submit(#[from] SubmitFault),
     /// The crew can't be started.
-    #[error("{0}")]
+    #[error(transparent)]
     Crew(#[from] CrewFault),
     /// The crew handed over nothing more.
-    #[error("{0}")]
+    #[error(transparent)]
     Gone(#[from] CrewGone),
     /// The board isn't idle.
     #[error("unfinished")]
     Unfinished,
     /// A checkpoint isn't read.
-    #[error("{0}")]
+    #[error(transparent)]
     Checkpoint(#[from] CheckpointFault),
     /// A stream takes no bytes.
-    #[error("{0}")]
+    #[error(transparent)]
     Stream(#[from] StreamFault),
     /// A replica receives no entries.
-    #[error("{0}")]
-    Hearing(#[from] ReceiveFault),
+    #[error(transparent)]
+    Receive(#[from] ReceiveFault),
     /// A replica keeps no checkpoint.
-    #[error("{0}")]
+    #[error(transparent)]
     Mark(#[from] MarkFault),
     /// A replica doesn't go back to its checkpoint.
-    #[error("{0}")]
+    #[error(transparent)]
     Restart(#[from] RestartFault),
     /// A replica doesn't adopt a state.
-    #[error("{0}")]
+    #[error(transparent)]
     Adopt(#[from] AdoptFault),
     /// Memory was refused.
     #[error("out of memory")]
     OutOfMemory(#[from(alloc)] AllocError),
     /// Printing or the clock failed.
-    #[error("{0}")]
+    #[error(transparent)]
     Device(#[from] io::Error),
 }
