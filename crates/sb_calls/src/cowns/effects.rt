@@ -63,8 +63,7 @@ pub(crate) fn show(savings: Cents, checking: Cents) -> Effect
 
 // Adds an amount to checking.
 pub(crate) fn deposit(amount: Cents, checking: Cents) -> Effect
-    ensures reply { result.0 ≡ (deposit_effect amount checking).0 }
-    ensures outputs { result.1.items ≡ (deposit_effect amount checking).1 }
+    ensures { (result.0, result.1.items) ≡ deposit_effect amount checking }
 {
     if amount.value() < 0 {
         return reply_with_one(Reply::Negative, checking);
@@ -78,8 +77,7 @@ pub(crate) fn deposit(amount: Cents, checking: Cents) -> Effect
 // Adds an amount, which may be negative, to savings.
 pub(crate) fn change_savings(amount: Cents, savings: Cents) -> Effect
     requires { pos 0 ≤ℤ savings }
-    ensures reply { result.0 ≡ (savings_effect amount savings).0 }
-    ensures outputs { result.1.items ≡ (savings_effect amount savings).1 }
+    ensures { (result.0, result.1.items) ≡ savings_effect amount savings }
 {
     let sum = savings.value() + amount.value();
     if sum < 0 {
@@ -93,8 +91,7 @@ pub(crate) fn change_savings(amount: Cents, savings: Cents) -> Effect
 
 // Takes the cost of a check from checking.
 pub(crate) fn pay_check(amount: Cents, savings: Cents, checking: Cents) -> Effect
-    ensures reply { result.0 ≡ (check_effect amount savings checking).0 }
-    ensures outputs { result.1.items ≡ (check_effect amount savings checking).1 }
+    ensures { (result.0, result.1.items) ≡ check_effect amount savings checking }
 {
     if amount.value() < 0 {
         return reply_with_two(Reply::Negative, savings, checking);
@@ -108,9 +105,10 @@ pub(crate) fn pay_check(amount: Cents, savings: Cents, checking: Cents) -> Effec
 
 // The cost of a check, and the reply if it is paid.
 fn cost_of_check(savings: Cents, checking: Cents, amount: Cents) -> (i64, Reply)
-    ensures cost { result.0 ≡ check_cost savings checking amount }
-    ensures reply { result.1
-        ≡ if int_lt (savings +ℤ checking) amount then replies.Penalised else replies.Done }
+    ensures { result ≡ (
+      check_cost savings checking amount,
+      if int_lt (savings +ℤ checking) amount then replies.Penalised else replies.Done,
+    ) }
 {
     let available = savings.value() + checking.value();
     if available < amount.value() {
@@ -137,8 +135,7 @@ fn zero_balance() -> Cents
 
 // Moves both balances of the giver to the taker. The giver's cowns come first.
 pub(crate) fn amalgamate_giver_first(savings: Cents, checking: Cents, received: Cents) -> Effect
-    ensures reply { result.0 ≡ (giver_first_effect savings checking received).0 }
-    ensures outputs { result.1.items ≡ (giver_first_effect savings checking received).1 }
+    ensures { (result.0, result.1.items) ≡ giver_first_effect savings checking received }
 {
     match sum_of_balances(received, savings, checking) {
         Some(sum) => reply_with_three(Reply::Done, zero_balance(), zero_balance(), sum),
@@ -148,8 +145,7 @@ pub(crate) fn amalgamate_giver_first(savings: Cents, checking: Cents, received: 
 
 // Moves both balances of the giver to the taker. The taker's cown comes first.
 pub(crate) fn amalgamate_taker_first(received: Cents, savings: Cents, checking: Cents) -> Effect
-    ensures reply { result.0 ≡ (taker_first_effect received savings checking).0 }
-    ensures outputs { result.1.items ≡ (taker_first_effect received savings checking).1 }
+    ensures { (result.0, result.1.items) ≡ taker_first_effect received savings checking }
 {
     match sum_of_balances(received, savings, checking) {
         Some(sum) => reply_with_three(Reply::Done, sum, zero_balance(), zero_balance()),
@@ -159,9 +155,7 @@ pub(crate) fn amalgamate_taker_first(received: Cents, savings: Cents, checking: 
 
 // The reply to a payment, and the balances of the payer and of the paid customer after it.
 fn payment(amount: Cents, checking: Cents, received: Cents) -> (Reply, Cents, Cents)
-    ensures reply { result.0 ≡ (payment amount checking received).0 }
-    ensures checking { result.1 ≡ (payment amount checking received).1 }
-    ensures received { result.2 ≡ (payment amount checking received).2 }
+    ensures { result ≡ payment amount checking received }
 {
     if amount.value() < 0 {
         return (Reply::Negative, checking, received);
@@ -186,8 +180,7 @@ fn remaining_balance(balance: Cents, amount: Cents) -> Cents
 
 // Pays from one checking balance to another. The payer's cown comes first.
 pub(crate) fn pay_payer_first(amount: Cents, checking: Cents, received: Cents) -> Effect
-    ensures reply { result.0 ≡ (payer_first_effect amount checking received).0 }
-    ensures outputs { result.1.items ≡ (payer_first_effect amount checking received).1 }
+    ensures { (result.0, result.1.items) ≡ payer_first_effect amount checking received }
 {
     let (reply, checking, received) = payment(amount, checking, received);
     reply_with_two(reply, checking, received)
@@ -195,8 +188,7 @@ pub(crate) fn pay_payer_first(amount: Cents, checking: Cents, received: Cents) -
 
 // Pays from one checking balance to another. The paid customer's cown comes first.
 pub(crate) fn pay_paid_first(amount: Cents, received: Cents, checking: Cents) -> Effect
-    ensures reply { result.0 ≡ (paid_first_effect amount received checking).0 }
-    ensures outputs { result.1.items ≡ (paid_first_effect amount received checking).1 }
+    ensures { (result.0, result.1.items) ≡ paid_first_effect amount received checking }
 {
     let (reply, checking, received) = payment(amount, checking, received);
     reply_with_two(reply, received, checking)

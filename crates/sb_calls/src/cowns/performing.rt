@@ -106,8 +106,7 @@ pub fn perform(op: Op, inputs: &[Cents]) -> (Reply, ArrayVec<Cents, BEHAVIOUR_CO
 // The effect of an op on the values of its cowns.
 fn effect_on(op: Op, inputs: &[Cents]) -> Effect
     requires { AreCownValues (declared_cowns op) inputs.now }
-    ensures reply { result.0 ≡ (effect_of op inputs.now).0 }
-    ensures outputs { result.1.items ≡ (effect_of op inputs.now).1 }
+    ensures { (result.0, result.1.items) ≡ effect_of op inputs.now }
 {
     match op {
         Op::Balance(_) => show(inputs[0], inputs[1]),
@@ -124,8 +123,7 @@ fn effect_on(op: Op, inputs: &[Cents]) -> Effect
 // Moves both balances of one customer to another, in the order of their cowns.
 fn amalgamate(places: TwoPlaces, inputs: &[Cents]) -> Effect
     requires { AreCownValues (cowns_of_two places.0 places.1) inputs.now }
-    ensures reply { result.0 ≡ (effect_of_two places.0 places.1 inputs.now).0 }
-    ensures outputs { result.1.items ≡ (effect_of_two places.0 places.1 inputs.now).1 }
+    ensures { (result.0, result.1.items) ≡ effect_of_two places.0 places.1 inputs.now }
 {
     let first = inputs[0];
     let second = inputs[1];
@@ -140,8 +138,7 @@ fn amalgamate(places: TwoPlaces, inputs: &[Cents]) -> Effect
 // Moves an amount from one checking balance to another, in the order of their cowns.
 fn send_payment(places: TwoPlaces, amount: Cents, inputs: &[Cents]) -> Effect
     requires { AreCownValues (checkings_of_two places.0 places.1) inputs.now }
-    ensures reply { result.0 ≡ (payment_effect places.0 places.1 amount inputs.now).0 }
-    ensures outputs { result.1.items ≡ (payment_effect places.0 places.1 amount inputs.now).1 }
+    ensures { (result.0, result.1.items) ≡ payment_effect places.0 places.1 amount inputs.now }
 {
     let payer_is_first = places.from() < places.to();
     if payer_is_first {

@@ -44,7 +44,10 @@ pub fn read_call_words(mut words: Words) -> Result<Call, CallFault>
 pub(crate) fn call_with(verb: &[u8], words: Words) -> Result<Call, CallFault>
     ensures { result ≡ call_of_words (verb.now ∷ words.entry) }
 {
-    match Verb::of(verb).ok_or(CallFault::UnknownVerb)? {
+    let Some(verb) = Verb::of(verb) else {
+        return Err(CallFault::UnknownVerb);
+    };
+    match verb {
         Verb::Balance => one_name(words).map(Call::Balance),
         Verb::Deposit => {
             let (name, amount) = name_and_amount(words)?;
@@ -84,7 +87,10 @@ pub(crate) fn push_call(
         (λ fault. (result ≡ Err fault) × (asks.new ≡ asks.old)) }
     ensures capacity { vec_capacity asks.new ≡ vec_capacity asks.old }
 {
-    match Verb::of(verb).ok_or(CallFault::UnknownVerb)? {
+    let Some(verb) = Verb::of(verb) else {
+        return Err(CallFault::UnknownVerb);
+    };
+    match verb {
         Verb::Balance => {
             let name = one_name(words)?;
             push(asks, key, Call::Balance(name))

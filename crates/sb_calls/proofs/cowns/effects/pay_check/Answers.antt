@@ -1,40 +1,23 @@
-use Rattle.std.proofs.Common.{◌∷◌, [], ◌≡◌, pos, false, sym, ap, subst, ◌∙◌, arith}
+use Rattle.std.proofs.Common.{◌≡◌, pos, false, refl, sym, ap, subst, arith}
 use Rattle.std.specs.Prelude.{int_lt}
 use Rattle.std.proofs.lemmas.Int.{ints}
 use Rattle.sb_amount.specs.Limit.{IsWithinLimit}
 use Rattle.sb_calls.proofs.EffectCases.{left_of_check, check_paid, check_over_limit}
 use Rattle.sb_calls.proofs.cowns.effects.pay_check.Goals as goal
 
-pub returns-in-Some-clause-reply : goal.returns-in-Some-clause-reply
-returns-in-Some-clause-reply c =
+pub returns-in-Some : goal.returns-in-Some
+returns-in-Some c =
     let not_negative : int_lt c.args.amount (pos 0) ≡ false = grind (arith, ints, c.value.ensures.value, c.if-value-lt0.false) in
     let left = left_of_check c.args.savings c.args.checking c.args.amount _ _ c.value-2.ensures.within c.value.ensures.within
-    c.value-2.ensures.value c.cost_of_check-cost.ensures.cost in
+    c.value-2.ensures.value (ap (λ cost. cost.0) c.cost_of_check-cost.ensures) in
     let paid = check_paid c.args.amount c.args.savings c.args.checking not_negative (subst IsWithinLimit left c.in-Some.ensures.0) in
-    rw paid (c.reply_with_two-in-Some.ensures.reply ∙ c.cost_of_check-cost.ensures.reply)
+    rw (paid, c.reply_with_two-in-Some.ensures.reply, c.reply_with_two-in-Some.ensures.outputs, ap (λ cost. cost.1) c.cost_of_check-cost.ensures, c.in-Some.ensures.1, left) refl
 
-pub returns-in-Some-clause-outputs : goal.returns-in-Some-clause-outputs
-returns-in-Some-clause-outputs c =
+pub returns-in-None : goal.returns-in-None
+returns-in-None c =
     let not_negative : int_lt c.args.amount (pos 0) ≡ false = grind (arith, ints, c.value.ensures.value, c.if-value-lt0.false) in
     let left = left_of_check c.args.savings c.args.checking c.args.amount _ _ c.value-2.ensures.within c.value.ensures.within
-    c.value-2.ensures.value c.cost_of_check-cost.ensures.cost in
-    let paid = check_paid c.args.amount c.args.savings c.args.checking not_negative (subst IsWithinLimit left c.in-Some.ensures.0) in
-    rw paid (c.reply_with_two-in-Some.ensures.outputs ∙ ap (λ x. c.args.savings ∷ x ∷ []) (c.in-Some.ensures.1 ∙ left))
-
-pub returns-in-None-clause-reply : goal.returns-in-None-clause-reply
-returns-in-None-clause-reply c =
-    let not_negative : int_lt c.args.amount (pos 0) ≡ false = grind (arith, ints, c.value.ensures.value, c.if-value-lt0.false) in
-    let left = left_of_check c.args.savings c.args.checking c.args.amount _ _ c.value-2.ensures.within c.value.ensures.within
-    c.value-2.ensures.value c.cost_of_check-cost.ensures.cost in
+    c.value-2.ensures.value (ap (λ cost. cost.0) c.cost_of_check-cost.ensures) in
     let over = check_over_limit c.args.amount c.args.savings c.args.checking c.value-2.ensures.within not_negative
     (λ fits. c.in-None.ensures (subst IsWithinLimit (sym left) fits)) in
-    rw over c.reply_with_two-in-None.ensures.reply
-
-pub returns-in-None-clause-outputs : goal.returns-in-None-clause-outputs
-returns-in-None-clause-outputs c =
-    let not_negative : int_lt c.args.amount (pos 0) ≡ false = grind (arith, ints, c.value.ensures.value, c.if-value-lt0.false) in
-    let left = left_of_check c.args.savings c.args.checking c.args.amount _ _ c.value-2.ensures.within c.value.ensures.within
-    c.value-2.ensures.value c.cost_of_check-cost.ensures.cost in
-    let over = check_over_limit c.args.amount c.args.savings c.args.checking c.value-2.ensures.within not_negative
-    (λ fits. c.in-None.ensures (subst IsWithinLimit (sym left) fits)) in
-    rw over c.reply_with_two-in-None.ensures.outputs
+    rw (over, c.reply_with_two-in-None.ensures.reply, c.reply_with_two-in-None.ensures.outputs) refl
