@@ -60,13 +60,9 @@ fn push_customer(
     ensures { let line = customer_line (record { name = name.now; savings = savings; checking = checking }) in
         OnOk result (out.new.items ≡ out.old.items ++ line ++ 10 ∷ []) }
 {
-    out.extend_from_slice(name.text())?;
-    out.push(b' ')?;
-    out.extend_from_slice(print(savings).as_str().as_bytes())?;
-    out.push(b' ')?;
-    out.extend_from_slice(print(checking).as_str().as_bytes())?;
-    out.push(b'\n')?;
-    Ok(())
+    push_field(out, name.text(), b' ')?;
+    push_field(out, print(savings).as_str().as_bytes(), b' ')?;
+    push_field(out, print(checking).as_str().as_bytes(), b'\n')
 }
 
 // Writes the line of the total.
@@ -74,7 +70,15 @@ fn push_total(out: &mut Vec<u8>, total: i64) -> Result<(), AllocError>
     ensures { OnOk result (out.new.items ≡ out.old.items ++ (codes "total " ++ money total) ++ 10 ∷ []) }
 {
     out.extend_from_slice(b"total ")?;
-    out.extend_from_slice(print_total(total).as_str().as_bytes())?;
-    out.push(b'\n')?;
+    push_field(out, print_total(total).as_str().as_bytes(), b'\n')
+}
+
+// Writes a field, and the byte that ends it.
+#[inline]
+fn push_field(out: &mut Vec<u8>, field: &[u8], end: u8) -> Result<(), AllocError>
+    ensures { OnOk result (out.new.items ≡ out.old.items ++ field.now ++ end ∷ []) }
+{
+    out.extend_from_slice(field)?;
+    out.push(end)?;
     Ok(())
 }

@@ -1,4 +1,5 @@
-use Rattle.std.proofs.Common.{◌++◌, ◌+◌, ap, map, drop, sym, ◌∙◌, arith, append-nil}
+use Rattle.std.proofs.Common.{[], ◌++◌, ◌+◌, ◌<◌, length, ap, map, drop, sym, ◌∙◌, refl, arith, append-nil}
+use Rattle.std.proofs.lemmas.Option.{slice_get-get_or}
 use Rattle.sb_rows.specs.Customer.{customers_of}
 use Rattle.sb_rows.specs.Opening.{customer_line}
 use Rattle.sb_rows.specs.Text.{unlines}
@@ -18,3 +19,11 @@ returns c =
     let b = c.args.columns.now in
     let none = customers_end c.args.directory.now b.savings b.checking c.loop-place.place (omega arith) in
     sym (append-nil c.loop-place.out.items) ∙ (ap (λ rest. c.loop-place.out.items ++ unlines (map customer_line rest)) (sym none) ∙ c.loop-place.invariant)
+
+pub overflow_cast-place-end : goal.overflow_cast-place-end
+overflow_cast-place-end c = omega (arith, c.len-place-end.ensures.value, c.requires.names.limit)
+
+pub unwrap-name-requires : goal.unwrap-name-requires
+unwrap-name-requires c =
+    let within : c.loop-place.place < length c.args.directory.now = omega (arith, c.loop-place-test.true, c.len-place-end.ensures.value) in
+    rw (c.name.ensures, slice_get-get_or c.args.directory.now c.loop-place.place [] within) refl
