@@ -1,5 +1,5 @@
 //! The opening text: a line `NAME SAVINGS CHECKING` for each customer, then the line `begin`.
-ghost use Rattle.std.specs.Prelude.{◌≡◌, ℕ, ◌≤◌, List, ◌++◌, length, drop, IfOk, MatchResult};
+ghost use Rattle.std.specs.Prelude.{◌≡◌, ℕ, ◌≤◌, List, [], ◌++◌, length, drop, Ok, Err, IfOk, MatchResult};
 ghost use Rattle.sb_rows.specs.Customer.{Customer, IsBank, names_of, balances_of, customers_of};
 ghost use Rattle.sb_rows.specs.Opening.{opening_lines, opening_of};
 ghost use Rattle.sb_rows.specs.inner.AddedCustomer.{AddsCustomer};
@@ -48,17 +48,36 @@ fn read_lines(alloc: Global, text: &[u8]) -> Result<Opening, OpeningFault>
 {
     let mut directory = Directory::new(alloc);
     let mut columns = Columns::new(alloc);
+    let consumed = read_customers(&mut directory, &mut columns, text)?;
+    Ok(Opening {
+        directory,
+        columns,
+        consumed,
+    })
+}
+
+// Adds the customers of the opening at the front of a text, and answers how many bytes it takes.
+fn read_customers(
+    directory: &mut Directory,
+    columns: &mut Columns,
+    text: &[u8],
+) -> Result<usize, OpeningFault>
+    requires empty { directory.old ≡ [] }
+    requires same { SameCustomers directory.old columns.old }
+    ensures same { IfOk result (λ _. SameCustomers directory.new columns.new) }
+    ensures exact { MatchResult result
+        (λ consumed. opening_of text.now
+        ≡ Ok (record { names = directory.new; balances = columns.new; consumed = consumed }))
+        (λ fault. Reads (Err fault) (opening_of text.now)) }
+    ensures within { IfOk result (λ consumed. consumed ≤ length text.now) }
+{
     let mut rest = text;
     while let Some((line, after)) = next_line(rest) {
         rest = after;
         if line == b"begin".as_slice() {
-            return Ok(Opening {
-                directory,
-                columns,
-                consumed: text.len() - rest.len(),
-            });
+            return Ok(text.len() - rest.len());
         }
-        add_customer(&mut directory, &mut columns, line)?;
+        add_customer(directory, columns, line)?;
     }
     Err(OpeningFault::Line {
         line: directory.len() + 1,

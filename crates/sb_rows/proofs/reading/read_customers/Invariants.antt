@@ -3,7 +3,7 @@ use Rattle.sb_rows.specs.Customer.{customers_of}
 use Rattle.sb_rows.specs.Opening.{customers_from}
 use Rattle.sb_rows.specs.Rows.{SameCustomers}
 use Rattle.sb_rows.specs.Text.{lines, after_lines}
-use Rattle.sb_rows.proofs.reading.read_lines.Given as goal
+use Rattle.sb_rows.proofs.reading.read_customers.Given as goal
 
 -- the lines so far are those of the customers so far; the rest is unread
 abbrev pub invariant-loop-line : goal.invariant-loop-line

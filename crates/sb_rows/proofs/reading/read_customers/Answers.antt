@@ -6,7 +6,7 @@ use Rattle.sb_rows.specs.Text.{lines, after_lines, after_line}
 use Rattle.sb_rows.specs.declared.fault.LineFault.TheVariants.{NoBegin}
 use Rattle.sb_rows.proofs.Customers.{length-customers_of}
 use Rattle.sb_rows.proofs.OpeningSteps.{customers_from-begin, customers_from-more, customers_from-nil, after_lines-next, opening_of-ok, opening_of-fault, Reads-fault}
-use Rattle.sb_rows.proofs.reading.read_lines.Goals as goal
+use Rattle.sb_rows.proofs.reading.read_customers.Goals as goal
 
 pub returns-then-eq-clause-exact : goal.returns-then-eq-clause-exact
 returns-then-eq-clause-exact c =
