@@ -12,6 +12,10 @@ use Rattle.sb_rows.proofs.NamePlaces.{has_place}
 use Rattle.sb_rows.specs.declared.fault.LineFault.{LineFault}
 use Rattle.sb_rows.specs.declared.fault.LineFault.TheVariants.{BadName, DoubleName}
 
+-- three words, known one by one
+pub three_words : (all rest more : List (List ℕ)) (a b c : List ℕ) → all ≡ a ∷ rest → rest ≡ b ∷ more → more ≡ c ∷ [] → all ≡ a ∷ b ∷ c ∷ []
+three_words all rest more a b c first second third = cc
+
 -- the faults of a name come first
 fault_first : (valid double : Bool) (rest : Result Customer LineFault) (fault : LineFault)
     → (if not valid then Some BadName else if double then Some DoubleName else None) ≡ Some fault

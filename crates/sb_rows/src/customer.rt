@@ -1,5 +1,5 @@
 //! The line of one customer in an opening text.
-ghost use Rattle.std.specs.Prelude.{◌≡◌, ℕ, ◌<◌, List, [], ◌∷◌, length, pos, ◌≤ℤ◌, Ok, Err, Some, None, IfOk, IsErr, MatchOption, MatchResult};
+ghost use Rattle.std.specs.Prelude.{◌≡◌, ℕ, ◌<◌, List, length, pos, ◌≤ℤ◌, Ok, Err, Some, None, IfOk, IsErr, MatchOption, MatchResult};
 ghost use Rattle.sb_amount.specs.Reading.{read_money};
 ghost use Rattle.sb_rows.specs.Customer.{Customer, names_of};
 ghost use Rattle.sb_rows.specs.inner.CustomerLine.{customer, IsNewName, name_fault};
@@ -12,7 +12,7 @@ use crate::columns::CUSTOMERS;
 use crate::directory::Directory;
 use crate::fault::LineFault;
 use crate::name::Name;
-use crate::words::{Words, WrongWords};
+use crate::words::Words;
 use sb_amount::Cents;
 
 // The parts of a customer's line.
@@ -68,18 +68,6 @@ fn read_amounts(place: usize, savings: &[u8], checking: &[u8]) -> Result<(Cents,
     Ok((savings, checking))
 }
 
-// The three words of a line.
-#[inline]
-fn three_words<'a>(line: &'a [u8]) -> Result<(&'a [u8], &'a [u8], &'a [u8]), WrongWords>
-    ensures { MatchResult result
-        (λ three. words line.entry.now ≡ three.0.now ∷ three.1.now ∷ three.2.now ∷ [])
-        (λ _. (customers : List Customer)
-        → customer_of customers (words line.entry.now) ≡ Err LineFault.BadLine) }
-{
-    let mut words = Words::of(line);
-    Ok((words.word()?, words.word()?, words.last()?))
-}
-
 // The customer of a line, or the line's first fault, if `before` has the names of the lines before
 // it.
 pub(crate) fn read_customer(before: &Directory, line: &[u8]) -> Result<CustomerLine, LineFault>
@@ -91,7 +79,10 @@ pub(crate) fn read_customer(before: &Directory, line: &[u8]) -> Result<CustomerL
     ensures room { IfOk result (λ c. length before.now < CUSTOMERS) }
     ensures not_negative { IfOk result (λ c. pos 0 ≤ℤ c.savings) }
 {
-    let (name, savings, checking) = three_words(line)?;
+    let mut words = Words::of(line);
+    let (Ok(name), Ok(savings), Ok(checking)) = (words.word(), words.word(), words.last()) else {
+        return Err(LineFault::BadLine);
+    };
     let name = read_name(before, name)?;
     let (savings, checking) = read_amounts(before.len(), savings, checking)?;
     Ok(CustomerLine {

@@ -1,5 +1,6 @@
 //! The text of an asking line: a call, or `ask CLIENT REQUEST CALL`.
-ghost use Rattle.std.specs.Prelude.{◌≡◌, ◌<◌, [], ◌∷◌, ◌++◌, Some, Ok, Err, IfOk, IsOk, MatchResult, vec_len, vec_capacity};
+ghost use Rattle.std.specs.Prelude.{◌≡◌, ◌<◌, [], ◌∷◌, ◌++◌, Some, Ok, Err, IfOk, IsOk, MatchResult, vec_len, vec_capacity, codes};
+ghost use Rattle.std.specs.Str.{bytes_eq};
 ghost use Rattle.sb_calls.specs.Call.{call_of_words};
 ghost use Rattle.sb_calls.specs.declared.ask.AskLine.{AskLine as AnyAskLine};
 ghost use Rattle.sb_calls.specs.Ask as spec;
@@ -71,15 +72,23 @@ fn key_and_verb<'a>(words: &mut Words<'a>) -> Result<(Option<Key>, &'a [u8]), Ca
         (λ both. ask_line_of_words words.old ≡ under_key both.0 (call_of_words (both.1.now ∷ words.new)))
         (λ fault. ask_line_of_words words.old ≡ Err fault) }
 {
-    let verb = words.next().ok_or(CallFault::UnknownVerb)?;
-    match verb {
-        b"ask" => {
-            let key = next_key(words)?;
-            let verb = words.next().ok_or(CallFault::UnknownVerb)?;
-            Ok((Some(key), verb))
-        }
-        _ => Ok((None, verb)),
+    let Some(verb) = words.next() else {
+        return Err(CallFault::UnknownVerb);
+    };
+    if !is_ask(verb) {
+        return Ok((None, verb));
     }
+    let key = next_key(words)?;
+    let verb = words.next().ok_or(CallFault::UnknownVerb)?;
+    Ok((Some(key), verb))
+}
+
+// Whether a line that begins with this word has a key.
+#[inline(always)]
+fn is_ask(word: &[u8]) -> bool
+    ensures { result ≡ bytes_eq word.now (codes "ask") }
+{
+    matches!(word, b"ask")
 }
 
 // The key that the next two words spell.
@@ -89,7 +98,9 @@ fn next_key(words: &mut Words) -> Result<Key, CallFault>
         (λ key. keyed_ask words.old ≡ under_key (Some key) (call_of_words words.new))
         (λ fault. keyed_ask words.old ≡ Err fault) }
 {
-    let (client, request) = (words.word()?, words.word()?);
+    let (Ok(client), Ok(request)) = (words.word(), words.word()) else {
+        return Err(CallFault::WrongWords);
+    };
     key_of(client, request).ok_or(CallFault::BadNumber)
 }
 

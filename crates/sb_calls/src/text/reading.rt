@@ -146,7 +146,9 @@ fn name_and_amount(mut words: Words) -> Result<(Name, Cents), CallFault>
         → result_map_both (λ both. call both.0 both.1) (λ fault. fault) result
         ≡ of_name_and_amount call words.entry }
 {
-    let (name, amount) = (words.word()?, words.last()?);
+    let (Ok(name), Ok(amount)) = (words.word(), words.last()) else {
+        return Err(CallFault::WrongWords);
+    };
     Ok((name_of(name)?, amount_of(amount)?))
 }
 
@@ -157,7 +159,9 @@ fn two_names(mut words: Words) -> Result<(Name, Name), CallFault>
         → result_map_both (λ both. call both.0 both.1) (λ fault. fault) result
         ≡ of_two_names call words.entry }
 {
-    let (from, to) = (words.word()?, words.last()?);
+    let (Ok(from), Ok(to)) = (words.word(), words.last()) else {
+        return Err(CallFault::WrongWords);
+    };
     Ok((name_of(from)?, name_of(to)?))
 }
 
@@ -168,7 +172,9 @@ fn two_names_and_amount(mut words: Words) -> Result<(Name, Name, Cents), CallFau
         → result_map_both (λ all. call all.0 all.1 all.2) (λ fault. fault) result
         ≡ of_two_names_and_amount call words.entry }
 {
-    let (from, to, amount) = (words.word()?, words.word()?, words.last()?);
+    let (Ok(from), Ok(to), Ok(amount)) = (words.word(), words.word(), words.last()) else {
+        return Err(CallFault::WrongWords);
+    };
     Ok((name_of(from)?, name_of(to)?, amount_of(amount)?))
 }
 
