@@ -11,7 +11,8 @@ returns-in-Some c =
     let left = left_of_check c.args.savings c.args.checking c.args.amount _ _ c.value-2.ensures.within c.value.ensures.within
     c.value-2.ensures.value (ap (λ cost. cost.0) c.cost_of_check-cost.ensures) in
     let paid = check_paid c.args.amount c.args.savings c.args.checking not_negative (subst IsWithinLimit left c.in-Some.ensures.0) in
-    rw (paid, c.reply_with_two-in-Some.ensures.reply, c.reply_with_two-in-Some.ensures.outputs, ap (λ cost. cost.1) c.cost_of_check-cost.ensures, c.in-Some.ensures.1, left) refl
+    let reply = ap (λ cost. cost.1) c.cost_of_check-cost.ensures in
+    rw (paid, c.reply_with_two-in-Some.ensures.reply, c.reply_with_two-in-Some.ensures.outputs, reply, c.in-Some.ensures.1, left) refl
 
 pub returns-in-None : goal.returns-in-None
 returns-in-None c =
