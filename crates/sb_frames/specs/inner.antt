@@ -1,2 +1,3 @@
+pub mod CallReading
 pub mod EntryReading
 pub mod FieldReading

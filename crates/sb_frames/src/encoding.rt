@@ -9,7 +9,9 @@ ghost use Rattle.sb_frames.specs.declared.frame.Frame.TheVariants.{Answer, Entry
 use crate::decoding::{ACK, ANSWER, ASK, ENTRY, FLUSH, HAVE, OUTCOME};
 use crate::frame::{Frame, MAX_BODY, MAX_FRAME};
 use crate::lengths::{body_length, entry_length};
-use crate::writing::{Bytes, put, put_call, put_outcome, put_replica_and_length, put_reply};
+use crate::writing::{
+    Bytes, put, put_call, put_outcome, put_replica_and_length, put_reply, put_tag_and_request,
+};
 use arrayvec::ArrayVec;
 use sb_calls::{Call, WireReply};
 
@@ -47,9 +49,7 @@ fn put_body(bytes: &mut Bytes, frame: &Frame)
             request,
             call,
         } => {
-            put(bytes, &[ASK]);
-            put(bytes, &client.to_be_bytes());
-            put(bytes, &request.to_be_bytes());
+            put_tag_and_request(bytes, ASK, *client, *request);
             put_call(bytes, call);
         }
         Frame::Entry { number, call } => put_entry(bytes, *number, call),
@@ -62,9 +62,7 @@ fn put_body(bytes: &mut Bytes, frame: &Frame)
             request,
             outcome,
         } => {
-            put(bytes, &[OUTCOME]);
-            put(bytes, &client.to_be_bytes());
-            put(bytes, &request.to_be_bytes());
+            put_tag_and_request(bytes, OUTCOME, *client, *request);
             put_outcome(bytes, *outcome);
         }
         Frame::Flush => put(bytes, &[FLUSH]),

@@ -1,9 +1,10 @@
 //! Entries of the log, read with their names looked up.
-ghost use Rattle.std.specs.Prelude.{◌≡◌, ◌≤◌, ℕ, length, IfOk, IfErr};
+ghost use Rattle.std.specs.Prelude.{◌≡◌, ◌≤◌, ℕ, List, length, IfOk, IfErr};
 ghost use Rattle.std.specs.Result.{result_ok};
 ghost use Rattle.sb_calls.specs.Op.{at_two_places};
 ghost use Rattle.sb_calls.specs.declared.op.Op.{Op as AnyOp};
 ghost use Rattle.sb_frames.specs.Streaming.{AreBytes};
+ghost use Rattle.sb_frames.specs.inner.CallReading.{HasNameAndAmount, HasTwoNames};
 ghost use Rattle.sb_frames.specs.inner.EntryReading as spec;
 ghost use Rattle.sb_frames.specs.inner.FieldReading.{TakesField};
 
@@ -56,6 +57,49 @@ fn two_places(from: Option<u32>, to: Option<u32>) -> Result<TwoPlaces, Op>
     TwoPlaces::new(from, to).ok_or(Op::SameCustomer)
 }
 
+// The op of a call with a name and an amount, after the place of its name.
+#[inline]
+fn read_op_with_amount(kind: u8, place: Option<u32>, fields: &mut Fields) -> Result<Op, FrameFault>
+    requires { HasNameAndAmount kind }
+    ensures { (names : List (List ℕ))
+        → TakesField result fields.new (spec.op_of_kind names kind place fields.old) }
+{
+    let amount = fields.amount()?;
+    let Some(place) = place else {
+        return Ok(Op::NoCustomer);
+    };
+    match kind {
+        DEPOSIT_CHECKING => Ok(Op::DepositChecking(place, amount)),
+        TRANSACT_SAVINGS => Ok(Op::TransactSavings(place, amount)),
+        _ => Ok(Op::WriteCheck(place, amount)),
+    }
+}
+
+// The op of a call with two names, after the place of the first.
+#[inline]
+fn read_op_of_two(
+    kind: u8,
+    from: Option<u32>,
+    fields: &mut Fields,
+    directory: &Directory,
+) -> Result<Op, FrameFault>
+    requires { HasTwoNames kind }
+    ensures { TakesField result fields.new (spec.op_of_kind directory.now kind from fields.old) }
+{
+    let places = two_places(from, read_place(fields, directory)?);
+    if kind == AMALGAMATE {
+        return match places {
+            Ok(places) => Ok(Op::Amalgamate(places)),
+            Err(refusal) => Ok(refusal),
+        };
+    }
+    let amount = fields.amount()?;
+    match places {
+        Ok(places) => Ok(Op::SendPayment(places, amount)),
+        Err(refusal) => Ok(refusal),
+    }
+}
+
 // A call's op. Every kind has a name first: it is read and looked up before the kind is examined, so
 // that the code for it stands once where this function is inlined.
 #[inline]
@@ -70,39 +114,10 @@ fn read_op(fields: &mut Fields, directory: &Directory) -> Result<Op, FrameFault>
             Some(place) => Ok(Op::Balance(place)),
             None => Ok(Op::NoCustomer),
         },
-        DEPOSIT_CHECKING => {
-            let amount = fields.amount()?;
-            match place {
-                Some(place) => Ok(Op::DepositChecking(place, amount)),
-                None => Ok(Op::NoCustomer),
-            }
+        DEPOSIT_CHECKING | TRANSACT_SAVINGS | WRITE_CHECK => {
+            read_op_with_amount(kind, place, fields)
         }
-        TRANSACT_SAVINGS => {
-            let amount = fields.amount()?;
-            match place {
-                Some(place) => Ok(Op::TransactSavings(place, amount)),
-                None => Ok(Op::NoCustomer),
-            }
-        }
-        AMALGAMATE => match two_places(place, read_place(fields, directory)?) {
-            Ok(places) => Ok(Op::Amalgamate(places)),
-            Err(refusal) => Ok(refusal),
-        },
-        WRITE_CHECK => {
-            let amount = fields.amount()?;
-            match place {
-                Some(place) => Ok(Op::WriteCheck(place, amount)),
-                None => Ok(Op::NoCustomer),
-            }
-        }
-        SEND_PAYMENT => {
-            let to = read_place(fields, directory)?;
-            let amount = fields.amount()?;
-            match two_places(place, to) {
-                Ok(places) => Ok(Op::SendPayment(places, amount)),
-                Err(refusal) => Ok(refusal),
-            }
-        }
+        AMALGAMATE | SEND_PAYMENT => read_op_of_two(kind, place, fields, directory),
         _ => Err(FrameFault::UnknownTag),
     }
 }

@@ -1,6 +1,6 @@
 //! Fields appended to a frame's bytes.
 ghost use Rattle.std.specs.Prelude.{◌≡◌, ◌+◌, ◌≤◌, ◌∷◌, ◌++◌, length};
-ghost use Rattle.std.specs.Int.{w64};
+ghost use Rattle.std.specs.Int.{w32, w64};
 ghost use Rattle.sb_amount.specs.Limit.{IsWithinLimit};
 ghost use Rattle.sb_calls.specs.Call.{IsCall};
 ghost use Rattle.sb_calls.specs.Replies.{IsReply, amount_field, integer_field, reply_field};
@@ -22,21 +22,26 @@ use sb_rows::{NAME_BYTES, Name};
 pub(crate) type Bytes = ArrayVec<u8, MAX_FRAME>;
 
 // The greatest size of each field in bytes: a name with its length, cents, a call of a name and an
-// amount with its kind, any call (the longest has two names and an amount), a reply with its code,
-// an outcome with its status, and a replica's number and a length with their tag.
+// amount with its kind, two names with a kind, any call (the longest has two names and an amount), a reply with its code,
+// an outcome with its status, a replica's number and a length with their tag, and the two numbers of
+// a request with their tag.
 pub(crate) const NAME_FIELD: usize = 1 + NAME_BYTES;
 
 pub(crate) const AMOUNT_FIELD: usize = 8;
 
 const NAME_AND_AMOUNT: usize = 1 + NAME_FIELD + AMOUNT_FIELD;
 
-pub(crate) const CALL_FIELD: usize = 1 + 2 * NAME_FIELD + AMOUNT_FIELD;
+const TWO_NAMES: usize = 1 + 2 * NAME_FIELD;
+
+pub(crate) const CALL_FIELD: usize = TWO_NAMES + AMOUNT_FIELD;
 
 pub(crate) const REPLY_FIELD: usize = 1 + AMOUNT_FIELD;
 
 pub(crate) const OUTCOME_FIELD: usize = 1 + REPLY_FIELD;
 
 pub(crate) const REPLICA_AND_LENGTH: usize = 2 + 8;
+
+pub(crate) const TAG_AND_REQUEST: usize = 1 + 4 + 4;
 
 /// Appends bytes.
 #[inline]
@@ -55,6 +60,19 @@ pub(crate) fn put_replica_and_length(bytes: &mut Bytes, tag: u8, replica: u8, si
 {
     put(bytes, &[tag, replica]);
     put(bytes, &size.to_be_bytes());
+}
+
+/// A tag, a client's number and a request's number, in `TAG_AND_REQUEST` bytes.
+#[inline]
+#[tactic(auto, unfolding(sb_calls::specs::Replies::integer_field))]
+pub(crate) fn put_tag_and_request(bytes: &mut Bytes, tag: u8, client: u32, request: u32)
+    requires { length bytes.old.items + TAG_AND_REQUEST ≤ MAX_FRAME }
+    ensures { bytes.new.items
+        ≡ bytes.old.items ++ (tag ∷ (integer_field w32 client ++ integer_field w32 request)) }
+{
+    put(bytes, &[tag]);
+    put(bytes, &client.to_be_bytes());
+    put(bytes, &request.to_be_bytes());
 }
 
 // Appends at most `NAME_FIELD` bytes.
@@ -92,6 +110,20 @@ fn put_name_and_amount(bytes: &mut Bytes, kind: u8, name: &Name, amount: Cents)
     put_cents(bytes, amount.value());
 }
 
+// The kind and the names of a call that takes two, at most `TWO_NAMES` bytes.
+#[inline]
+fn put_two_names(bytes: &mut Bytes, kind: u8, from: &Name, to: &Name)
+    requires { length bytes.old.items + TWO_NAMES ≤ MAX_FRAME }
+    ensures spelled { bytes.new.items
+        ≡ bytes.old.items ++ (kind ∷ (name_field from.now ++ name_field to.now)) }
+    ensures room { length bytes.new.items ≤ length bytes.old.items + TWO_NAMES }
+    ensures valid { IsName from.now × IsName to.now }
+{
+    put(bytes, &[kind]);
+    put_name(bytes, from);
+    put_name(bytes, to);
+}
+
 /// Appends at most `CALL_FIELD` bytes.
 #[inline]
 pub(crate) fn put_call(bytes: &mut Bytes, call: &Call)
@@ -111,15 +143,11 @@ pub(crate) fn put_call(bytes: &mut Bytes, call: &Call)
             put_name_and_amount(bytes, TRANSACT_SAVINGS, name, *amount);
         }
         Call::Amalgamate(from, to) => {
-            put(bytes, &[AMALGAMATE]);
-            put_name(bytes, from);
-            put_name(bytes, to);
+            put_two_names(bytes, AMALGAMATE, from, to);
         }
         Call::WriteCheck(name, amount) => put_name_and_amount(bytes, WRITE_CHECK, name, *amount),
         Call::SendPayment(from, to, amount) => {
-            put(bytes, &[SEND_PAYMENT]);
-            put_name(bytes, from);
-            put_name(bytes, to);
+            put_two_names(bytes, SEND_PAYMENT, from, to);
             put_cents(bytes, amount.value());
         }
     }
