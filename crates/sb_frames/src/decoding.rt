@@ -1,11 +1,10 @@
 //! Frames decoded from bytes.
-ghost use Rattle.std.specs.Prelude.{◌≡◌, ◌≢◌, ℕ, ◌≤◌, List, ◌++◌, Ok, Err, IfOk, length, take};
+ghost use Rattle.std.specs.Prelude.{◌≡◌, ◌≢◌, ◌⊎◌, ℕ, ◌≤◌, List, ◌++◌, Ok, Err, IfOk, length, take};
 ghost use Rattle.sb_frames.specs.Decoding as spec;
 ghost use Rattle.sb_frames.specs.Decoding.{decode_result};
 ghost use Rattle.sb_frames.specs.Grammar.{Spells};
 ghost use Rattle.sb_frames.specs.inner.FieldReading.{TakesField};
 ghost use Rattle.sb_frames.specs.declared.frame.Frame.{Frame as AnyFrame};
-ghost use Rattle.sb_frames.specs.declared.frame.Frame.TheVariants.{Ack, Have};
 
 use crate::call::read_call;
 use crate::fault::FrameFault;
@@ -51,14 +50,19 @@ fn read_entry(fields: &mut Fields) -> Result<Frame, FrameFault>
     })
 }
 
+// A frame with a replica's number and a length.
 #[tactic(auto, unfolding(crate::specs::Decoding::replica_and_length_at))]
-fn read_ack(fields: &mut Fields) -> Result<Frame, FrameFault>
-    ensures { TakesField result fields.new (spec.replica_and_length_at Ack fields.old) }
+fn read_report(tag: u8, fields: &mut Fields) -> Result<Frame, FrameFault>
+    requires { (tag ≡ ACK) ⊎ (tag ≡ HAVE) }
+    ensures { TakesField result fields.new (spec.frame_of_tag tag fields.old) }
 {
-    Ok(Frame::Ack {
-        replica: fields.byte()?,
-        length: fields.u64()?,
-    })
+    let replica = fields.byte()?;
+    let length = fields.u64()?;
+    if tag == ACK {
+        Ok(Frame::Ack { replica, length })
+    } else {
+        Ok(Frame::Have { replica, length })
+    }
 }
 
 #[tactic(auto, unfolding(crate::specs::Decoding::answer_at))]
@@ -82,16 +86,6 @@ fn read_outcome_frame(fields: &mut Fields) -> Result<Frame, FrameFault>
     })
 }
 
-#[tactic(auto, unfolding(crate::specs::Decoding::replica_and_length_at))]
-fn read_have(fields: &mut Fields) -> Result<Frame, FrameFault>
-    ensures { TakesField result fields.new (spec.replica_and_length_at Have fields.old) }
-{
-    Ok(Frame::Have {
-        replica: fields.byte()?,
-        length: fields.u64()?,
-    })
-}
-
 // The frame, by its tag. This function and those it calls are inlined: otherwise each would copy
 // the frame that it hands on.
 #[inline]
@@ -102,11 +96,10 @@ fn read_tagged(fields: &mut Fields) -> Result<Frame, FrameFault>
     match fields.byte()? {
         ASK => read_ask(fields),
         ENTRY => read_entry(fields),
-        ACK => read_ack(fields),
+        tag @ (ACK | HAVE) => read_report(tag, fields),
         ANSWER => read_answer(fields),
         OUTCOME => read_outcome_frame(fields),
         FLUSH => Ok(Frame::Flush),
-        HAVE => read_have(fields),
         _ => Err(FrameFault::UnknownTag),
     }
 }
