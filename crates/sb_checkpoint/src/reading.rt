@@ -7,6 +7,7 @@ ghost use Rattle.sb_checkpoint.specs.inner.Layouts.{layout_of};
 ghost use Rattle.sb_checkpoint.specs.Reading as spec;
 ghost use Rattle.sb_checkpoint.specs.Reading.{stated_checking, stated_replies, stated_savings, stated_size};
 ghost use Rattle.sb_checkpoint.specs.Reading.{balances_fault, first_fault, head_fault, is_below_zero, opening_fault, replies_fault};
+ghost use Rattle.sb_checkpoint.specs.inner.PartsOfCheckpoint.{IsHead, AreColumns, AreReplies};
 ghost use Rattle.sb_checkpoint.specs.inner.ReadingFaults.{IsFaultOf};
 ghost use Rattle.sb_checkpoint.specs.Reading.{IsRefusedBy};
 
@@ -28,12 +29,8 @@ use std::alloc::Global;
 #[tactic(auto, unfolding(crate::specs::Reading::head_fault))]
 fn read_head(bytes: &[u8], customers: usize) -> Result<(Layout, usize), CheckpointFault>
     requires { customers ≤ CUSTOMERS }
-    ensures layout { IfOk result (λ head. spec.stated_layout bytes.now ≡ Some (layout_of head.0)) }
-    ensures length { IfOk result (λ head. head.1 ≡ spec.stated_reply_count bytes.now) }
-    ensures customers { OnOk result (spec.stated_customers bytes.now ≡ customers) }
-    ensures room { IfOk result (λ head. stated_size (layout_of head.0) bytes.now ≤ length bytes.now) }
-    ensures fault { MatchResult result
-        (λ _. head_fault bytes.now customers ≡ None)
+    ensures { MatchResult result
+        (λ head. IsHead bytes.now customers (layout_of head.0) head.1)
         (λ fault. head_fault bytes.now customers ≡ Some fault) }
 {
     let Some(layout) = Layout::of(bytes) else {
@@ -76,11 +73,7 @@ fn read_columns(alloc: Global, bytes: &[u8], customers: usize) -> Result<Columns
     requires customers { customers ≡ spec.stated_customers bytes.now }
     requires limit { customers ≤ CUSTOMERS }
     requires room { EMPTY_FIRST + BALANCES * customers ≤ length bytes.now }
-    ensures savings { IfOk result (λ columns. columns.savings ≡ stated_savings bytes.now) }
-    ensures checking { IfOk result (λ columns. columns.checking ≡ stated_checking bytes.now) }
-    ensures valid { IfOk result IsBalances }
-    ensures fault { MatchResult result
-        (λ _. balances_fault bytes.now ≡ None) (IsFaultOf (balances_fault bytes.now)) }
+    ensures { MatchResult result (AreColumns bytes.now) (IsFaultOf (balances_fault bytes.now)) }
 {
     let savings = read_amounts(alloc, bytes, HEAD, customers)?;
     let checking = read_amounts(alloc, bytes, HEAD + AMOUNT * customers, customers)?;
@@ -129,10 +122,8 @@ fn read_replies(
     requires customers { customers ≡ spec.stated_customers bytes.now }
     requires count { count ≡ spec.stated_reply_count bytes.now }
     requires room { stated_size (layout_of layout) bytes.now ≤ length bytes.now }
-    ensures replies { IfOk result
-        (λ replies. map (λ r. Some r) replies.items ≡ stated_replies (layout_of layout) bytes.now) }
-    ensures fault { MatchResult result
-        (λ _. replies_fault (layout_of layout) bytes.now ≡ None)
+    ensures { MatchResult result
+        (λ replies. AreReplies bytes.now (layout_of layout) replies.items)
         (IsFaultOf (replies_fault (layout_of layout) bytes.now)) }
 {
     let replies = replies_of(alloc, reply_cells(bytes, layout, customers, count))?;

@@ -16,14 +16,14 @@ pub returns-in_err-layout-clause-fault : goal.returns-in_err-layout-clause-fault
 returns-in_err-layout-clause-fault c =
     let p = err_from_is_err_and c.from_residual.result c.from_residual.ensures.1 in
     let origin : Origin = record { customers = c.args.customers; opening_total = c.args.opening_total } in
-    rw (p.1, p.2) (head_refuses c.args.bytes.now origin _ c.in_err-layout.ensures.fault)
+    rw (p.1, p.2) (head_refuses c.args.bytes.now origin _ c.in_err-layout.ensures)
 
 pub returns-in_err-columns-clause-fault : goal.returns-in_err-columns-clause-fault
 returns-in_err-columns-clause-fault c =
     let p = err_from_is_err_and c.from_residual-in_err-columns.result c.from_residual-in_err-columns.ensures.1 in
     let origin : Origin = record { customers = c.args.customers; opening_total = c.args.opening_total } in
     let head = c.in_ok-layout.ensures in
-    rw (p.1, p.2) (balances_refuse c.args.bytes.now origin (layout_of c.in_ok-layout.layout) head.layout head.fault _ c.in_err-columns.ensures.fault)
+    rw (p.1, p.2) (balances_refuse c.args.bytes.now origin (layout_of c.in_ok-layout.layout) head.layout head.fault _ c.in_err-columns.ensures)
 
 pub returns-in_err-check_opening-clause-fault : goal.returns-in_err-check_opening-clause-fault
 returns-in_err-check_opening-clause-fault c =
@@ -43,7 +43,7 @@ returns-in_err-replies-clause-fault c =
     let layout = layout_of c.in_ok-layout.layout in
     let same = subst (λ t. opening_fault layout c.args.bytes.now t ≡ None) (to_z-of_z w64 _ c.ranges.opening_total) c.in_ok-check_opening.ensures in
     rw (p.1, p.2)
-    (replies_refuse c.args.bytes.now origin layout head.layout head.fault _ c.in_ok-columns.ensures.fault same c.in_err-replies.ensures.fault)
+    (replies_refuse c.args.bytes.now origin layout head.layout head.fault _ c.in_ok-columns.ensures.fault same c.in_err-replies.ensures)
 
 pub returns-clause-fault : goal.returns-clause-fault
 returns-clause-fault c =
