@@ -1,5 +1,6 @@
 //! The fields of a checkpoint, read in place.
-ghost use Rattle.std.specs.Prelude.{◌≡◌, if◌then◌else◌, ◌+◌, ◌*◌, ◌≤◌, IfOk, IfErr, Some, None, length, map, drop};
+ghost use Rattle.std.specs.Prelude.{◌≡◌, if◌then◌else◌, ◌+◌, ◌*◌, ◌≤◌, IfOk, IfErr, Some, None, length, map, take, drop};
+ghost use Rattle.std.specs.Int.{w64, from_be_bytes};
 ghost use Rattle.std.specs.List.{list_any};
 ghost use Rattle.sb_checkpoint.specs.inner.Layouts.{layout_of};
 ghost use Rattle.sb_checkpoint.specs.Reading as spec;
@@ -17,15 +18,22 @@ use std::alloc::{AllocError, Global};
 
 // ---- numbers
 
+// The number in the first eight bytes.
+fn leading_number(cells: &[u8]) -> u64
+    requires { 8 ≤ length cells.now }
+    ensures { result ≡ from_be_bytes w64 (take 8 cells.now) }
+{
+    u64::from_be_bytes([
+        cells[0], cells[1], cells[2], cells[3], cells[4], cells[5], cells[6], cells[7],
+    ])
+}
+
 #[tactic(auto, unfolding(crate::specs::Reading::stated_reply_count))]
 pub(crate) fn stated_reply_count(bytes: &[u8]) -> u64
     requires { HEAD ≤ length bytes.now }
     ensures { result ≡ spec.stated_reply_count bytes.now }
 {
-    let cells = &bytes[LENGTH_AT..];
-    u64::from_be_bytes([
-        cells[0], cells[1], cells[2], cells[3], cells[4], cells[5], cells[6], cells[7],
-    ])
+    leading_number(&bytes[LENGTH_AT..])
 }
 
 #[tactic(auto, unfolding(crate::specs::Reading::stated_customers))]
@@ -44,10 +52,7 @@ pub(crate) fn stated_total(bytes: &[u8], customers: usize) -> i64
     requires room { EMPTY_FIRST + BALANCES * customers ≤ length bytes.now }
     ensures { result ≡ spec.stated_total bytes.now }
 {
-    let cells = &bytes[HEAD + BALANCES * customers..];
-    i64::from_be_bytes([
-        cells[0], cells[1], cells[2], cells[3], cells[4], cells[5], cells[6], cells[7],
-    ])
+    leading_number(&bytes[HEAD + BALANCES * customers..]).cast_signed()
 }
 
 // The opening total, in the second layout.
@@ -58,10 +63,7 @@ pub(crate) fn stated_opening(bytes: &[u8], customers: usize) -> i64
     requires room { EMPTY_SECOND + BALANCES * customers ≤ length bytes.now }
     ensures { result ≡ spec.stated_opening bytes.now }
 {
-    let cells = &bytes[EMPTY_FIRST + BALANCES * customers..];
-    i64::from_be_bytes([
-        cells[0], cells[1], cells[2], cells[3], cells[4], cells[5], cells[6], cells[7],
-    ])
+    leading_number(&bytes[EMPTY_FIRST + BALANCES * customers..]).cast_signed()
 }
 
 // ---- balances
