@@ -1,9 +1,10 @@
 -- Amounts and replies in a row: what is read has the spelling that was there.
-use Rattle.std.proofs.Common.{◌≡◌, ℕ, zero, suc, ◌*◌, ◌<◌, ◌≤◌, List, [], ◌∷◌, ◌++◌, length, take, drop, map, Option, Some, sym, ap, ap₂, ◌∙◌, arith}
+use Rattle.std.proofs.Common.{◌≡◌, ℕ, zero, suc, ◌+◌, ◌*◌, ◌<◌, ◌≤◌, List, [], ◌∷◌, ◌++◌, length, get_or, take, drop, map, Option, Some, sym, ap, ap₂, ◌∙◌, append_assoc, arith}
 use Rattle.std.proofs.Math.Seq.{take-add}
 use Rattle.std.specs.List.{AllByRecursion, All, flat_map}
 use Rattle.std.specs.Simd.{first_chunks}
-use Rattle.std.proofs.lemmas.List.{length-drop, length-take-le}
+use Rattle.std.proofs.lemmas.List.{append-nil, length-drop, length-take-le, take_more, take_all}
+use Rattle.std.proofs.lemmas.List.Concat.{flat_map-append}
 use Rattle.std.proofs.lemmas.List.Elements.{All-take, All-drop, All-from_recursion}
 use Rattle.sb_calls.specs.Replies.{IsReply, amount_field, reply_field}
 use Rattle.sb_calls.specs.declared.reply.Reply.{Reply}
@@ -58,3 +59,20 @@ pub replies_spelled : (replies : List Reply) (k : ℕ) (xs : List ℕ) → map (
 replies_spelled replies k xs e room h =
     let are = are_spelled replies k xs e room h in
     (All-from_recursion IsReply replies are.valid, are.spelled)
+
+-- ---- fields that are appended one by one
+
+module _ {A : Type 0} (field : A → List ℕ) (values : List A) (index : ℕ) (front : List ℕ) where
+  -- the field of one more value
+  pub one_more : (default : A) (old new : List ℕ) → index < length values → old ≡ front ++ flat_map field (take index values)
+      → new ≡ old ++ field (get_or values index default) → new ≡ front ++ flat_map field (take (index + 1) values)
+  one_more default old new inside before is =
+      let next = get_or values index default in
+      let fields = flat_map field (take index values) in
+      is ∙ ap (λ ys. ys ++ field next) before ∙ append_assoc front fields (field next)
+      ∙ ap (λ ys. front ++ ys) (ap (λ ys. fields ++ ys) (sym (append-nil (field next))) ∙ sym (flat_map-append field (take index values) (next ∷ []))
+      ∙ ap (flat_map field) (sym (take_more values index default inside)))
+
+  -- the fields of all values
+  pub all_there : (whole : List ℕ) → length values ≤ index → whole ≡ front ++ flat_map field (take index values) → whole ≡ front ++ flat_map field values
+  all_there whole end is = is ∙ ap (λ xs. front ++ flat_map field xs) (take_all index values end)
