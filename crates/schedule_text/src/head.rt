@@ -1,5 +1,6 @@
 //! The first line of a schedule: how many replicas there are, and how many workers each has.
 ghost use Rattle.std.specs.Prelude.{◌≡◌, ◌≤◌, ◌<◌, Ok, Some, None, IfOk, IfSome, MatchOption, MatchResult};
+ghost use Rattle.sb_calls.specs.Ask as asks;
 ghost use Rattle.sb_rows.specs.Text.{lines, words, after_line};
 ghost use Rattle.schedule_text.specs.inner.Head.{IsHead};
 ghost use Rattle.schedule_text.specs.inner.LineFaults.{BlamesLine};
@@ -33,8 +34,12 @@ pub(crate) fn read_head(text: &[u8]) -> Result<(u8, u8, &[u8]), TextFault>
     ensures within { IfOk result (λ head. IsHead head.0 head.1) }
     ensures after { IfOk result (λ head. head.2.now ≡ after_line text.now) }
 {
-    let (line, rest) = next_line(text).ok_or(BAD_HEAD)?;
-    let (nodes, workers) = head_of(line).ok_or(BAD_HEAD)?;
+    let Some((line, rest)) = next_line(text) else {
+        return Err(BAD_HEAD);
+    };
+    let Some((nodes, workers)) = head_of(line) else {
+        return Err(BAD_HEAD);
+    };
     Ok((nodes, workers, rest))
 }
 
@@ -57,6 +62,17 @@ fn parse_counts(line: &[u8]) -> Option<(u32, u32)>
         (head_of_words (words line.now) ≡ None)
         (λ two. head_of_words (words line.now) ≡ head_with (Some two.0) (Some two.1)) }
 {
+    let (nodes, workers) = number_words(line)?;
+    Some((read_number(nodes)?, read_number(workers)?))
+}
+
+// The words for the two numbers of a line that is otherwise spelled as a head.
+fn number_words(line: &[u8]) -> Option<(&[u8], &[u8])>
+    ensures { MatchOption result
+        (head_of_words (words line.now) ≡ None)
+        (λ two. head_of_words (words line.now)
+        ≡ head_with (asks.read_number two.0.now) (asks.read_number two.1.now)) }
+{
     let mut words = Words::of(line);
     let (first, nodes, third) = (words.next()?, words.next()?, words.next()?);
     let Ok(workers) = words.last() else {
@@ -65,7 +81,7 @@ fn parse_counts(line: &[u8]) -> Option<(u32, u32)>
     if first != b"nodes".as_slice() || third != b"workers".as_slice() {
         return None;
     }
-    Some((read_number(nodes)?, read_number(workers)?))
+    Some((nodes, workers))
 }
 
 // A number from 1 to the most.

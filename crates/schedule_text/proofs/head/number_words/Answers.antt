@@ -1,6 +1,6 @@
 use Rattle.std.proofs.Common.{sym, ◌∙◌}
 use Rattle.schedule_text.proofs.Heads.{no_head}
-use Rattle.schedule_text.proofs.head.parse_counts.Goals as goal
+use Rattle.schedule_text.proofs.head.number_words.Goals as goal
 
 pub returns-in_default : goal.returns-in_default
 returns-in_default c =
