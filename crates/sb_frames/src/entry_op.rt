@@ -52,8 +52,9 @@ fn two_places(from: Option<u32>, to: Option<u32>) -> Result<TwoPlaces, Op>
     ensures places { IfOk result (λ places. (op : ℕ × ℕ → AnyOp) → at_two_places op from to ≡ op places) }
     ensures refusal { IfErr result (λ refusal. (op : ℕ × ℕ → AnyOp) → at_two_places op from to ≡ refusal) }
 {
-    let from = from.ok_or(Op::NoCustomer)?;
-    let to = to.ok_or(Op::NoCustomer)?;
+    let (Some(from), Some(to)) = (from, to) else {
+        return Err(Op::NoCustomer);
+    };
     TwoPlaces::new(from, to).ok_or(Op::SameCustomer)
 }
 
@@ -140,10 +141,12 @@ fn entry_of(body: &[u8], directory: &Directory) -> Option<EntryOp>
     ensures { result ≡ result_ok (spec.body_entry directory.now body.now) }
 {
     let mut fields = Fields::of(body);
-    if fields.byte().ok()? != ENTRY {
+    let Ok(ENTRY) = fields.byte() else {
         return None;
-    }
-    let entry = read_entry_op(&mut fields, directory).ok()?;
+    };
+    let Ok(entry) = read_entry_op(&mut fields, directory) else {
+        return None;
+    };
     if fields.is_empty() { Some(entry) } else { None }
 }
 
