@@ -1,7 +1,8 @@
 //! A file in a folder of the system.
-ghost use Rattle.std.specs.Prelude.{◌≡◌, ◌↔◌, None, IfOk, IfSome, IsTrue, OnOk};
+ghost use Rattle.std.specs.Prelude.{◌≡◌, ◌↔◌, ◌++◌, None, IfOk, IfSome, IsTrue, OnOk};
 ghost use Rattle.std.specs.Io.KnownBytes.{Appends};
-ghost use Rattle.sb_checkpoint.specs.FolderFile.{file_in};
+ghost use Rattle.std.specs.Path.{path_buf_bytes};
+ghost use Rattle.sb_checkpoint.specs.FolderFile.{file_in, spare_ending};
 
 use crate::file_with_spare::FileWithSpare;
 use crate::store::StoreFault;
@@ -58,16 +59,24 @@ impl<F: Files + Drop> FolderFile<F> {
     {
         let folder = PathBuf::from_str(alloc, folder)?;
         let path = folder.join(alloc, name)?;
-        let mut spare = String::from_str(alloc, path.as_str())?;
-        spare.push_str(".tmp")?;
+        let spare = spare_of(alloc, &path)?;
         Ok(FolderFile {
             alloc,
             files,
             folder,
             path,
-            spare: PathBuf::from(spare),
+            spare,
         })
     }
+}
+
+// The path of a file's spare.
+fn spare_of(alloc: Global, path: &PathBuf) -> Result<PathBuf, AllocError>
+    ensures { IfOk result (λ spare. path_buf_bytes spare ≡ path_buf_bytes path.now ++ spare_ending) }
+{
+    let mut spare = String::from_str(alloc, path.as_str())?;
+    spare.push_str(".tmp")?;
+    Ok(PathBuf::from(spare))
 }
 
 // Appends these bytes, and syncs them. An interrupted write is repeated.

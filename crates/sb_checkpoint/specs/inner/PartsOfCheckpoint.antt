@@ -1,5 +1,5 @@
 -- What was read of a checkpoint's bytes, part by part.
-use Rattle.std.specs.Prelude.{◌≡◌, ℕ, ◌≤◌, Option, Some, None, List, length, map}
+use Rattle.std.specs.Prelude.{◌≡◌, ℕ, ◌≤◌, Some, None, List, length, map}
 use Rattle.sb_calls.specs.declared.reply.Reply.{Reply}
 use Rattle.sb_rows.specs.Balances.{Balances, IsBalances}
 use Rattle.sb_checkpoint.specs.Checkpoint.{Layout}
