@@ -22,9 +22,9 @@ use sb_rows::{NAME_BYTES, Name};
 pub(crate) type Bytes = ArrayVec<u8, MAX_FRAME>;
 
 // The greatest size of each field in bytes: a name with its length, cents, a call of a name and an
-// amount with its kind, two names with a kind, any call (the longest has two names and an amount), a reply with its code,
-// an outcome with its status, a replica's number and a length with their tag, and the two numbers of
-// a request with their tag.
+// amount with its kind, two names with a kind, any call (the longest has two names and an amount),
+// a reply with its code, an outcome with its status, a replica's number and a length with their
+// tag, and the two numbers of a request with their tag.
 pub(crate) const NAME_FIELD: usize = 1 + NAME_BYTES;
 
 pub(crate) const AMOUNT_FIELD: usize = 8;
