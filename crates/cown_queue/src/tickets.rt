@@ -1,6 +1,8 @@
 //! Tickets for the numbers that wait, in one table for all cowns.
-ghost use Rattle.std.specs.Prelude.{◌≡◌, ◌+◌, ◌<◌, [], ◌∷◌, ◌++◌, max, drop, length, replicate, slice_get, slice_set, IfOk, OnOk, OnErr};
+ghost use Rattle.std.specs.Prelude.{◌≡◌, ◌+◌, ◌<◌, ◌≤◌, [], ◌∷◌, ◌++◌, max, drop, length, replicate, slice_get, slice_set, vec_capacity, IfOk, OnOk, OnErr};
 ghost use Rattle.cown_queue.specs.Queues.{list_of, queued_in};
+ghost use Rattle.cown_queue.specs.inner.Chains.{KeepsChains};
+ghost use Rattle.cown_queue.specs.declared.tickets.TheConstants.{NONE};
 
 use sb_calls::Cown;
 use std::alloc::{AllocError, Global};
@@ -119,16 +121,7 @@ impl Tickets {
         if count > NONE as usize - places {
             return Err(AllocError);
         }
-        self.table.reserve(count)?;
-        self.free.reserve(places + count - self.free.len())?;
-        for place in places..places + count {
-            self.table.push_reserved(Ticket {
-                number: 0,
-                next: NONE,
-            });
-            self.free.push_reserved(place as u32);
-        }
-        Ok(())
+        add_free(&mut self.table, &mut self.free, count)
     }
 
     /// Appends a number to the queue of a cown. Its ticket takes a free place.
@@ -182,5 +175,43 @@ impl Tickets {
     {
         let first = self.ends.get(cown.id())?.first;
         Some(self.table.get(first as usize)?.number)
+    }
+}
+
+// Adds this many free places to a table, or none of them.
+fn add_free(table: &mut Vec<Ticket>, free: &mut Vec<u32>, count: usize) -> Result<(), AllocError>
+    requires fits { length table.old.items + count ≤ NONE }
+    requires free { length free.old.items ≤ length table.old.items }
+    requires room { length table.old.items ≤ vec_capacity free.old }
+    ensures linked { KeepsChains table.old.items free.old.items table.new.items free.new.items }
+    ensures fits { length table.new.items ≤ NONE }
+    ensures room { length table.new.items ≤ vec_capacity free.new }
+    ensures ok { OnOk result ((length table.new.items ≡ length table.old.items + count) ×
+        (length free.new.items ≡ length free.old.items + count)) }
+    ensures err { OnErr result ((table.new.items ≡ table.old.items) × (free.new.items ≡ free.old.items)) }
+{
+    table.reserve(count)?;
+    free.reserve(table.len() + count - free.len())?;
+    push_places(table, free, count);
+    Ok(())
+}
+
+// Appends this many free places to a table, in the memory that there is.
+fn push_places(table: &mut Vec<Ticket>, free: &mut Vec<u32>, count: usize)
+    requires fits { length table.old.items + count ≤ NONE }
+    requires table_room { length table.old.items + count ≤ vec_capacity table.old }
+    requires free_room { length free.old.items + count ≤ vec_capacity free.old }
+    ensures linked { KeepsChains table.old.items free.old.items table.new.items free.new.items }
+    ensures table { length table.new.items ≡ length table.old.items + count }
+    ensures free { length free.new.items ≡ length free.old.items + count }
+    ensures room { vec_capacity free.new ≡ vec_capacity free.old }
+{
+    let places = table.len();
+    for place in places..places + count {
+        table.push_reserved(Ticket {
+            number: 0,
+            next: NONE,
+        });
+        free.push_reserved(place as u32);
     }
 }

@@ -71,6 +71,11 @@ pub record AreChains (table : List Ticket) (ends : List Ends) (free : List ℕ) 
       → sum_by (times place) chains + times place free ≡ (if nat_lt place (length table) then 1 else 0)
   pub all : queued_in lists + length free ≡ length table
 
+-- whatever the tickets are linked to stays so after these changes of the table and the free places
+abbrev pub KeepsChains : List Ticket → List ℕ → List Ticket → List ℕ → Type 0
+KeepsChains table free grown freed =
+    (ends : List Ends) (lists : List (List ℕ)) → AreChains table ends free lists → AreChains grown ends freed lists
+
 -- the tickets are linked, no place is the one that means no ticket, and the list of free places has
 -- memory for all places
 pub record AreTickets (table : List Ticket) (ends : List Ends) (free : List ℕ) (capacity : ℕ) : Type 0 where
