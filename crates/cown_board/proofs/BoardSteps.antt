@@ -20,7 +20,7 @@ use Rattle.cown_board.proofs.QueueChanges.{first_queued, queues_submitted, queue
 use Rattle.cown_board.proofs.StateChanges.{state_here, waiting_is_open}
 use Rattle.cown_board.proofs.SubmitInvariant.{keeps_submitted}
 use Rattle.cown_board.proofs.TakeInvariant.{keeps_taken}
-use Rattle.cown_board.proofs.UnlinkedBoards.{none_finished, none_submitted}
+use Rattle.cown_board.proofs.UnlinkedBoards.{links_stay, none_finished, none_submitted}
 use Rattle.cown_board.specs.inner.DuePositions.{is_due, occurrences}
 use Rattle.cown_board.specs.inner.Fronts.{is_occupied}
 use Rattle.cown_board.specs.inner.BoardInvariant.{IsLinked, AreLinks, BoardInside, AreCounts, IsBoard, AreQueues, touches_at}
@@ -125,6 +125,15 @@ module _ {B : Type 0} (touches : B → List ℕ) (effect : B → List ℤ → Re
     length_limit = board.length_limit;
     cut = board.cut;
   }
+
+  -- the same if they have at least as much room
+  pub IsBoard-stays : (new : Links) → new.linked ≡ inside.links.linked → LeavesLinks inside.links new → inside.links.queues.places ≤ new.queues.places
+      → vec_capacity inside.links.ready.behind ≤ vec_capacity new.ready.behind → deque_capacity inside.links.ready.ready ≤ deque_capacity new.ready.ready
+      → IsBoard touches effect (record inside { links = new })
+  IsBoard-stays new same stay places counts room =
+      IsBoard-linked new
+      (links_stay touches effect inside.log inside.states inside.unfinished (length (contents_of inside.opening)) inside.links new board.links same stay
+      places counts room)
 
   module _ (k : ℕ) (b : B) (here : slice_get inside.log k ≡ Some b) (out : slice_get inside.states k ≡ Some Out)
       (rising : (b : B) → IsRising (touches b)) where

@@ -1,7 +1,6 @@
 //! Whether a result is that of a behaviour that is out.
 ghost use Rattle.std.specs.Prelude.{◌≡◌, ◌≢◌, ◌<◌, ◌+◌, ◌↔◌, ℕ, Some, suc, length, slice_get, IsTrue, MatchOption};
 ghost use Rattle.sb_calls.specs.Cowns.{AreBelow, contents_of, read_cowns};
-ghost use Rattle.cown_board.specs.inner.StateTests as spec;
 
 use crate::job::Done;
 use crate::state::State;
@@ -28,7 +27,7 @@ pub(crate) fn position_of(base: u64, log_length: usize, number: u64) -> Option<u
 
 // Whether a state is out. For the prover alone: the test gets its clause here.
 fn is_out(state: State) -> bool
-    ensures { result ≡ spec.is_out state }
+    ensures { IsTrue result ↔ (state ≡ State.Out) }
 {
     matches!(state, State::Out)
 }

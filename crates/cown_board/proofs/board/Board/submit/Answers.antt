@@ -1,8 +1,11 @@
-use Rattle.std.proofs.Common.{rules, ◌≤◌, ◌≡◌, ◌+◌, ◌*◌, true, false, vec_capacity, Err, ◌++◌, ◌∷◌, [], List, length, ap, sym, ◌∙◌, subst, arith}
+use Rattle.std.proofs.Common.{rules, ◌≤◌, ◌≡◌, ◌+◌, ◌*◌, true, false, vec_capacity, Ok, Err, ◌++◌, ◌∷◌, [], List, length, ap, sym, ◌∙◌, subst, arith}
+use Rattle.std.specs.Prelude.{Result, OnErr}
+use Rattle.std.specs.Result.{is_err}
+use Rattle.std.proofs.lemmas.Bool.{false≢true}
 use Rattle.std.specs.VecDeque.{deque_capacity}
 use Rattle.sb_calls.specs.Cowns.{AreBelow, contents_of}
 use Rattle.cown_board.specs.Board.{BoardOf}
-use Rattle.cown_board.proofs.BoardSteps.{IsBoard-pushed, few_ready, links_submitted}
+use Rattle.cown_board.proofs.BoardSteps.{IsBoard-pushed, IsBoard-stays, few_ready, links_submitted}
 use Rattle.cown_board.proofs.CallEffects.{played_busy, played_full, played_no_memory, played_put}
 use Rattle.cown_board.specs.inner.Links.{AddsToLinks, LeavesLinks}
 use Rattle.cown_board.specs.BoardCalls.{StaysTrueToLog, Submitted}
@@ -10,10 +13,26 @@ use Rattle.cown_board.specs.declared.board.SubmitFault.TheVariants.{Busy, LogFul
 use Rattle.cown_board.specs.declared.state.State.TheVariants.{Waiting}
 use Rattle.cown_board.proofs.board.Board.submit.Goals as goal
 
+-- what holds of an error
+on_err : {T E P : Type 0} (r : Result T E) → is_err r ≡ true → OnErr r P → P
+on_err (Ok value) is p = absurd (false≢true is)
+on_err (Err fault) is p = p
+
 pub submit-requires-clause-ready : goal.submit-requires-clause-ready
 submit-requires-clause-ready g c is =
     let few = few_ready g.B.Behaviour.touches g.B.Behaviour.effect c.self.invariant is in
     omega (arith, few, c.self.inside.links.ready.ready.ok)
+
+pub invariant_of-self : goal.invariant_of-self
+invariant_of-self g c = let room = c.make_room.ensures in rw (room.log.0, room.states.0) c.self.invariant
+
+pub invariant_of-self-then-is_err-2 : goal.invariant_of-self-then-is_err-2
+invariant_of-self-then-is_err-2 g c =
+    let room = c.make_room.ensures in
+    let put = c.submit.ensures in
+    rw (room.log.0, room.states.0)
+    (IsBoard-stays g.B.Behaviour.touches g.B.Behaviour.effect c.self.invariant c.submit.new.self put.linked
+    (on_err c.submit.result (sym c.is_err-2.ensures.value ∙ c.if-is_err-2.true) put.err) put.places put.counts put.room)
 
 pub invariant_of-self-2 : goal.invariant_of-self-2
 invariant_of-self-2 g c =

@@ -1,0 +1,18 @@
+use Rattle.std.proofs.Common.{refl, le_refl}
+use Rattle.cown_board.specs.inner.Links.{LeavesLinks}
+use Rattle.cown_board.proofs.BoardSteps.{IsBoard-stays}
+use Rattle.cown_board.proofs.board.Board.reserve.Goals as goal
+
+pub invariant_of-self : goal.invariant_of-self
+invariant_of-self g c = rw c.reserve.ensures.items c.self.invariant
+
+pub invariant_of-self-in_err-reserve-2 : goal.invariant_of-self-in_err-reserve-2
+invariant_of-self-in_err-reserve-2 g c = rw (c.reserve.ensures.items, c.reserve-2.ensures.items) c.self.invariant
+
+pub invariant_of-self-2 : goal.invariant_of-self-2
+invariant_of-self-2 g c =
+    let put = c.reserve-3.ensures in
+    let stay : LeavesLinks c.self.inside.links c.reserve-3.new.self = record { lists = rw put.queues refl; behind = put.behind; ready = rw put.ready refl } in
+    rw (c.reserve.ensures.items, c.reserve-2.ensures.items)
+    (IsBoard-stays g.B.Behaviour.touches g.B.Behaviour.effect c.self.invariant c.reserve-3.new.self put.linked stay (rw put.queues (le_refl _)) put.counts
+    (rw put.ready (le_refl _)))
