@@ -60,6 +60,19 @@ where
         inbox,
     };
     let unstarted_crew = UnstartedCrew::new(alloc, owner_side, gate, own_pass, hired);
+    run(rt, unstarted_crew, f)
+}
+
+// Hands a crew to `f` while its workers are in their threads.
+fn run<R, G, T, F>(rt: &R, unstarted_crew: UnstartedCrew<'_, R, G>, f: F) -> Result<T, CrewFault>
+where
+    R: Threads + Wait + Clock + Sync,
+    G: Gate + Sync,
+    F: FnOnce(&mut BenchCrew<'_, R, G>) -> T,
+    requires { F.IsAlwaysCallable f }
+    ensures { IfOk result (λ answer. (after : BenchCrewOf) ×
+        FnOnceReturnsAtMut F.FnOnce f unstarted_crew.entry answer after × ShutsDown after) }
+{
     thread::scope(
         thread::scope_env(),
         rt,
@@ -122,33 +135,29 @@ fn workers_at<'a, R: Wait + Clock, G: Gate>(
 {
     let mut workers = Vec::with_capacity(alloc, passes.len())?;
     for pass in passes {
-        push_worker(rt, bench, pass, gate, wake_up, &mut outbox, &mut workers)?;
+        workers.push_reserved(worker_at(rt, bench, pass, gate, wake_up, &mut outbox)?);
     }
     Ok(workers)
 }
 
-fn push_worker<'a, R: Wait + Clock, G: Gate>(
+// A worker with this pass, and with an outbox of its own.
+fn worker_at<'a, R: Wait + Clock, G: Gate>(
     rt: &'a R,
     bench: &'a Bench,
     pass: WorkerPass,
     gate: &'a G,
     wake_up: &'a WakeUp,
     outbox: &mut Outbox,
-    workers: &mut Vec<Worker<'a, R, G>>,
-) -> Result<(), AllocError>
-    requires pass { pass.bench ≡ bench.now }
-    requires bench { All (λ worker. worker.bench.now ≡ bench.now) workers.old.items }
-    ensures as_many { OnOk result (length workers.new.items ≡ length workers.old.items + 1) }
-    ensures bench { OnOk result (All (λ worker. worker.bench.now ≡ bench.now) workers.new.items) }
+) -> Result<Worker<'a, R, G>, AllocError>
+    requires { pass.bench ≡ bench.now }
+    ensures { IfOk result (λ worker. worker.bench.now ≡ bench.now) }
 {
-    let outbox = outbox.another()?;
-    workers.push(Worker {
+    Ok(Worker {
         rt,
         bench,
         pass,
         gate,
         wake_up,
-        outbox,
-    })?;
-    Ok(())
+        outbox: outbox.another()?,
+    })
 }

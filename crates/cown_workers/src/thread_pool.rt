@@ -1,5 +1,5 @@
 //! The threads of a crew's workers.
-ghost use Rattle.std.specs.Prelude.{◌≡◌, ◌+◌, ◌≤◌, [], ◌++◌, List, All, length, map, vec_capacity, IfOk};
+ghost use Rattle.std.specs.Prelude.{◌≡◌, ◌+◌, ◌≤◌, [], ◌++◌, List, All, length, map, vec_capacity, IfOk, IfSome};
 ghost use Rattle.std.specs.Option.{option_to_list};
 ghost use Rattle.cown_bench.specs.BenchPasses.{WorkerOf};
 ghost use Rattle.cown_workers.specs.inner.PassPicks.{EndsAtStop};
@@ -96,12 +96,27 @@ where
     ensures bench { All (λ thread. thread.promise.0.value ≡ bench.now) threads.new.items }
 {
     for worker in workers {
-        let promise = PassOf(Snapshot::of(bench));
-        match scope.spawn_with(promise, move || worker.work()) {
-            Ok(thread) => threads.push_reserved(thread),
-            Err(_) => return,
-        }
+        let Some(thread) = start_one(scope, bench, worker) else {
+            return;
+        };
+        threads.push_reserved(thread);
     }
+}
+
+// Starts a worker's thread, if it can be started.
+fn start_one<'s, E, R, G>(
+    scope: &'s Scope<'s, E>,
+    bench: &'s Bench,
+    worker: Worker<'s, R, G>,
+) -> Option<WorkerThread>
+where
+    R: Wait + Clock + Sync,
+    G: Gate + Sync,
+    requires { worker.bench.now ≡ bench.now }
+    ensures { IfSome result (λ thread. thread.promise.0.value ≡ bench.now) }
+{
+    let promise = PassOf(Snapshot::of(bench));
+    scope.spawn_with(promise, move || worker.work()).ok()
 }
 
 // A list that has room, and begins with this pass if there is one.

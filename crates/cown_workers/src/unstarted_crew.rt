@@ -101,11 +101,22 @@ impl<'a, R: Threads + Wait + Clock + Sync, G: Gate + Sync> UnstartedCrew<'a, R, 
         let wanted = workers.len();
         let thread_pool = ThreadPool::start(scope, alloc, owner_side.bench, workers)?;
         if thread_pool.len() < wanted {
-            let rt = owner_side.rt;
-            let _ = owner_side.stop_workers(thread_pool.len());
-            let _ = thread_pool.join(rt, own_pass);
+            stop_and_join(owner_side, own_pass, thread_pool);
             return Err(CrewFault::CrewGone);
         }
         Ok(BenchCrew::new(owner_side, gate, own_pass, thread_pool))
     }
+}
+
+// Stops and joins the workers that have a thread.
+fn stop_and_join<R: Threads + Wait + Clock>(
+    owner_side: OwnerSide<'_, R>,
+    own_pass: Option<WorkerPass>,
+    thread_pool: ThreadPool,
+)
+    requires { owner_side.pass.bench ≡ owner_side.bench.now }
+{
+    let rt = owner_side.rt;
+    let _ = owner_side.stop_workers(thread_pool.len());
+    let _ = thread_pool.join(rt, own_pass);
 }

@@ -40,7 +40,7 @@ pub returns : goal.returns
 returns g c =
     let made = c.new-unstarted_crew.ensures in
     record {
-      answer = IfOk-weaker c.scoped.result _ _
+      answer = IfOk-weaker c.run.result _ _
           (λ answer (after, called, home). (
             c.new-unstarted_crew.result,
             after,
@@ -57,5 +57,5 @@ returns g c =
             called,
             home,
           ))
-          c.scoped.ensures.1;
+          c.run.ensures;
     }

@@ -1,20 +1,23 @@
 -- One more pass has a worker.
-use Rattle.std.proofs.Common.{◌∷◌, ◌++◌, [], sym, ap, ◌∙◌, append_assoc, length-append, arith}
+use Rattle.std.proofs.Common.{◌≡◌, ◌+◌, List, ◌∷◌, ◌++◌, [], length, sym, ap, ◌∙◌, append_assoc, length-append}
+use Rattle.std.proofs.lemmas.List.Elements.{All-push}
 use Rattle.std.specs.Vec.Iter.{into_iter_items}
 use Rattle.cown_workers.proofs.in_threads.workers_at.Goals as goal
+
+-- one more worker, and one more pass
+one_more_each : {A B : Type 0} (workers : List A) (old_workers : List A) (old_passes : List B) (worker : A) (pass : B)
+    → workers ≡ old_workers ++ worker ∷ [] → length old_workers ≡ length old_passes → length workers ≡ length (old_passes ++ pass ∷ [])
+one_more_each workers old_workers old_passes worker pass pushed same =
+    ap length pushed ∙ length-append old_workers (worker ∷ []) ∙ ap (λ n. n + 1) same ∙ sym (length-append old_passes (pass ∷ []))
 
 pub loop-pass-preserved : goal.loop-pass-preserved
 loop-pass-preserved g c =
     let before = c.loop-pass.invariant in
-    let pushed = c.in_ok-push_worker.ensures in
+    let pushed = c.push_reserved.ensures in
     record {
       rest = append_assoc c.loop-pass.yielded (c.in-Some.pass ∷ []) (into_iter_items c.next.new.self)
           ∙ ap (λ l. c.loop-pass.yielded ++ l) (sym c.in-Some.ensures.steps.0) ∙ before.rest;
-      as_many = omega (
-        arith,
-        pushed.as_many,
-        length-append c.loop-pass.yielded (c.in-Some.pass ∷ []),
-        before.as_many,
-      );
-      bench = pushed.bench;
+      room = rw pushed.capacity before.room;
+      as_many = one_more_each _ c.loop-pass.workers.items c.loop-pass.yielded _ c.in-Some.pass pushed.items before.as_many;
+      bench = rw pushed.items (All-push (λ w. w.bench.now ≡ c.args.bench.now) c.loop-pass.workers.items _ before.bench c.in_ok-worker_at.ensures);
     }

@@ -10,8 +10,7 @@ pub loop-worker-preserved : goal.loop-worker-preserved
 loop-worker-preserved g c =
     let before = c.loop-worker.invariant in
     let pushed = c.push_reserved.ensures in
-    let thread = c.in-Ok.thread in
-    let here : thread.promise.0.value ≡ c.args.bench.now = ap (λ (p : PassOf). p.0.value) c.in-Ok.ensures.ok ∙ c.of.ensures in
+    let thread = c.in-Some-start_one.thread in
     record {
       rest = append_assoc c.loop-worker.yielded (c.in-Some.worker ∷ []) (into_iter_items c.next.new.self)
           ∙ ap (λ l. c.loop-worker.yielded ++ l) (sym c.in-Some.ensures.steps.0) ∙ before.rest;
@@ -24,5 +23,5 @@ loop-worker-preserved g c =
       );
       room = omega (arith, pushed.capacity, before.room);
       bench = subst (All (λ t. t.promise.0.value ≡ c.args.bench.now)) (sym pushed.items)
-          (All-push (λ t. t.promise.0.value ≡ c.args.bench.now) c.loop-worker.threads.items thread before.bench here);
+          (All-push (λ t. t.promise.0.value ≡ c.args.bench.now) c.loop-worker.threads.items thread before.bench c.in-Some-start_one.ensures);
     }
