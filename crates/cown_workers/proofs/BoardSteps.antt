@@ -18,6 +18,9 @@ use Rattle.cown_board.proofs.LogLaws.{injective}
 use Rattle.cown_workers.specs.Draining.{PreservesLog, IsResultOf, HasNoneOut}
 use Rattle.cown_workers.specs.inner.DrainSteps.{waiting_count}
 
+pub PreservesLog_same : (board : BoardOf Op) → PreservesLog board board
+PreservesLog_same board = record { opening = refl; base_replies = refl; log = refl; cut = refl; finished = λ k reply finished. finished }
+
 pub PreservesLog_trans : {a b c : BoardOf Op} → PreservesLog a b → PreservesLog b c → PreservesLog a c
 PreservesLog_trans first second = record {
   opening = second.opening ∙ first.opening;

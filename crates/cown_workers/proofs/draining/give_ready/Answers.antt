@@ -1,8 +1,20 @@
 -- One more was given.
-use Rattle.std.proofs.Common.{◌∙◌, arith}
-use Rattle.cown_workers.proofs.BoardSteps.{PreservesLog_trans}
-use Rattle.cown_workers.proofs.CrewExchanges.{Exchanged_trans}
+use Rattle.std.proofs.Common.{ℕ, ◌≤◌, refl, ◌∙◌, le_refl, arith}
+use Rattle.cown_workers.proofs.BoardSteps.{PreservesLog_same, PreservesLog_trans}
+use Rattle.cown_workers.proofs.CrewExchanges.{Exchanged-none, Exchanged_trans}
 use Rattle.cown_workers.proofs.draining.give_ready.Goals as goal
+
+no_more : (new mid old : ℕ) → new ≤ mid → mid ≤ old → new ≤ old
+no_more new mid old most more = omega arith
+
+pub loop-init : goal.loop-init
+loop-init g c = record {
+  exchanged = Exchanged-none g.C.Crew.acts c.args.crew.now (g.R.Runs.board c.args.runs.now);
+  drains = PreservesLog_same (g.R.Runs.board c.args.runs.now);
+  unfinished = le_refl _;
+  none_out = λ _ none. none;
+  rest = refl;
+}
 
 pub loop-preserved : goal.loop-preserved
 loop-preserved g c =
@@ -11,7 +23,7 @@ loop-preserved g c =
     record {
       exchanged = Exchanged_trans g.C.Crew.acts before.exchanged given.exchanged;
       drains = PreservesLog_trans before.drains given.log;
-      unfinished = omega arith;
+      unfinished = no_more _ _ _ given.unfinished before.unfinished;
       none_out = λ nothing none. given.none_out nothing (before.none_out nothing none);
       rest = given.rest ∙ before.rest;
     }
