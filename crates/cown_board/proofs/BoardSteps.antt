@@ -3,7 +3,7 @@ use Rattle.std.proofs.Common.{◌≡◌, inl, inr, ℕ, suc, ◌+◌, ◌-◌, �
 use Rattle.std.specs.Prelude.{◌==◌, count_by, slice_get, slice_set}
 use Rattle.std.specs.VecDeque.{deque_capacity}
 use Rattle.std.proofs.lemmas.Bool.{and_parts, cases_Bool}
-use Rattle.std.proofs.lemmas.List.{length-replicate}
+use Rattle.std.proofs.lemmas.List.{length-replicate, take_all}
 use Rattle.std.proofs.lemmas.Option.{slice_get_within, IfSome_then}
 use Rattle.sb_rows.specs.Balances.{Balances}
 use Rattle.sb_calls.specs.Cowns.{AreBelow, IsRising, contents_of, write_cowns}
@@ -24,7 +24,7 @@ use Rattle.cown_board.proofs.UnlinkedBoards.{links_stay, none_finished, none_sub
 use Rattle.cown_board.specs.inner.DuePositions.{is_due, occurrences}
 use Rattle.cown_board.specs.inner.Fronts.{is_occupied}
 use Rattle.cown_board.specs.inner.BoardInvariant.{IsLinked, AreLinks, BoardInside, AreCounts, IsBoard, AreQueues, touches_at}
-use Rattle.cown_board.specs.inner.Links.{ComesForward, IsUnlinked, AddsToLinks, LeavesLinks}
+use Rattle.cown_board.specs.inner.Links.{ComesForward, IsUnlinked, AddsToLinks, LeavesLinks, HasSameRoom}
 use Rattle.cown_board.specs.inner.CutUpdates.{UpdatesAnyCut}
 use Rattle.cown_board.specs.Readiness.{conflict_at, touched_by}
 use Rattle.cown_board.specs.State.{is_unfinished, unfinished_at}
@@ -126,14 +126,34 @@ module _ {B : Type 0} (touches : B → List ℕ) (effect : B → List ℤ → Re
     cut = board.cut;
   }
 
+  -- the same with a cut at its length
+  pub IsBoard-cut : (number : ℕ) (columns : Balances) → number ≡ inside.base + length inside.log → columns ≡ inside.now
+      → IsBoard touches effect (record inside { cut = Some (record { number = number; columns = columns; unfinished = inside.unfinished }) })
+  IsBoard-cut number columns here same =
+      let all : length inside.log ≤ number - inside.base = omega (arith, here) in
+      let log = take_all (number - inside.base) inside.log all in
+      let states = take_all (number - inside.base) inside.states (omega (arith, all, board.keeps.same_length)) in
+      record {
+        base_length = board.base_length;
+        keeps = board.keeps;
+        links = board.links;
+        unfinished = board.unfinished;
+        unfinished_limit = board.unfinished_limit;
+        length_limit = board.length_limit;
+        cut = record {
+          after = omega (arith, here);
+          within = omega (arith, here);
+          keeps = rw (log, states, same) board.keeps;
+          unfinished = rw states board.unfinished;
+        };
+      }
+
   -- the same if they have at least as much room
-  pub IsBoard-stays : (new : Links) → new.linked ≡ inside.links.linked → LeavesLinks inside.links new → inside.links.queues.places ≤ new.queues.places
-      → vec_capacity inside.links.ready.behind ≤ vec_capacity new.ready.behind → deque_capacity inside.links.ready.ready ≤ deque_capacity new.ready.ready
-      → IsBoard touches effect (record inside { links = new })
-  IsBoard-stays new same stay places counts room =
+  pub IsBoard-stays : (new : Links) → HasSameRoom inside.links new → LeavesLinks inside.links new → IsBoard touches effect (record inside { links = new })
+  IsBoard-stays new room stay =
       IsBoard-linked new
-      (links_stay touches effect inside.log inside.states inside.unfinished (length (contents_of inside.opening)) inside.links new board.links same stay
-      places counts room)
+      (links_stay touches effect inside.log inside.states inside.unfinished (length (contents_of inside.opening)) inside.links new board.links room.linked
+      stay room.places room.counts room.ready)
 
   module _ (k : ℕ) (b : B) (here : slice_get inside.log k ≡ Some b) (out : slice_get inside.states k ≡ Some Out)
       (rising : (b : B) → IsRising (touches b)) where

@@ -5,7 +5,7 @@ ghost use Rattle.sb_calls.specs.Cowns.{AreBelow, IsRising};
 ghost use Rattle.cown_queue.specs.Queues.{IsInFront, Releases, fronts_of};
 ghost use Rattle.cown_board.specs.inner.DuePositions.{occurrences};
 ghost use Rattle.cown_board.specs.inner.BoardInvariant.{IsLinked, AreCowns, AreLinks};
-ghost use Rattle.cown_board.specs.inner.Links.{ComesForward, IsUnlinked, AddsToLinks, LeavesLinks};
+ghost use Rattle.cown_board.specs.inner.Links.{ComesForward, IsUnlinked, LeavesLinks, HasSameRoom, TakesIn};
 ghost use Rattle.cown_board.specs.Readiness.{ready_positions};
 
 use crate::fronts::count_occupied;
@@ -66,16 +66,9 @@ impl Links {
         requires unfinished { unfinished ≤ 1024 }
         requires counts { self.old.linked ≡ true → vec_len self.old.ready.behind ≡ position }
         requires ready { self.old.linked ≡ true → deque_len self.old.ready.ready < unfinished }
-        ensures linked { self.new.linked ≡ self.old.linked }
-        ensures counts { vec_capacity self.old.ready.behind ≤ vec_capacity self.new.ready.behind }
-        ensures room { deque_capacity self.old.ready.ready ≤ deque_capacity self.new.ready.ready }
-        ensures places { self.old.queues.places ≤ self.new.queues.places }
+        ensures room { HasSameRoom self.old self.new }
+        ensures ok { OnOk result (TakesIn position unfinished (B.touches behaviour) self.old self.new) }
         ensures err { OnErr result (LeavesLinks self.old self.new) }
-        ensures counts_room { OnOk result (position + 1 ≤ vec_capacity self.new.ready.behind) }
-        ensures ready_room { OnOk result (unfinished + 3 ≤ deque_capacity self.new.ready.ready) }
-        ensures put { OnOk result (self.old.linked ≡ true → AddsToLinks position (B.touches behaviour) self.old self.new) }
-        ensures unchanged { OnOk result (self.old.linked ≡ false →
-            LeavesLinks self.old self.new × (unfinished * 3 ≤ self.new.queues.places)) }
     {
         self.ready.reserve(position as usize + 1, unfinished)?;
         if !self.linked {

@@ -1,5 +1,6 @@
 -- The links between unfinished behaviours, after each step and before there are any.
 use Rattle.std.specs.Prelude.{◌≡◌, ℕ, ◌+◌, ◌-◌, ◌*◌, ◌<◌, ◌≤◌, ◌==◌, Bool, true, false, if◌then◌else◌, List, [], ◌∷◌, ◌++◌, All, length, get_or, replicate, count_by, vec_capacity}
+use Rattle.std.specs.VecDeque.{deque_capacity}
 use Rattle.cown_queue.specs.Queues.{Appends}
 use Rattle.cown_board.specs.inner.DuePositions.{AreDue, occurrences}
 use Rattle.cown_board.specs.inner.Fronts.{is_occupied}
@@ -23,6 +24,20 @@ pub record AddsToLinks (position : ℕ) (cowns : List ℕ) (old new : Links) : T
   pub ready : new.ready.ready.items
       ≡ (if count_by (is_occupied old.queues.lists) cowns == 0 then old.ready.ready.items ++ position ∷ []
       else old.ready.ready.items)
+
+-- there is at least as much room, and the links stay linked or not
+pub record HasSameRoom (old new : Links) : Type 0 where
+  pub linked : new.linked ≡ old.linked
+  pub counts : vec_capacity old.ready.behind ≤ vec_capacity new.ready.behind
+  pub ready : deque_capacity old.ready.ready ≤ deque_capacity new.ready.ready
+  pub places : old.queues.places ≤ new.queues.places
+
+-- a position is added at these cowns, or if nothing is linked, there is room to link it later
+pub record TakesIn (position unfinished : ℕ) (cowns : List ℕ) (old new : Links) : Type 0 where
+  pub counts : position + 1 ≤ vec_capacity new.ready.behind
+  pub ready : unfinished + 3 ≤ deque_capacity new.ready.ready
+  pub linked : old.linked ≡ true → AddsToLinks position cowns old new
+  pub unlinked : old.linked ≡ false → LeavesLinks old new × (unfinished * 3 ≤ new.queues.places)
 
 -- each of these positions is in front at one more cown for each time that it occurs; a position in
 -- front at all its cowns is then ready

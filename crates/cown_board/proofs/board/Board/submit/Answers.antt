@@ -1,13 +1,12 @@
-use Rattle.std.proofs.Common.{rules, ◌≤◌, ◌≡◌, ◌+◌, ◌*◌, true, false, vec_capacity, Ok, Err, ◌++◌, ◌∷◌, [], List, length, ap, sym, ◌∙◌, subst, arith}
-use Rattle.std.specs.Prelude.{Result, OnErr}
+use Rattle.std.proofs.Common.{◌≤◌, ◌≡◌, ◌+◌, true, false, vec_capacity, Ok, Err, ◌++◌, ◌∷◌, [], List, length, ap, sym, ◌∙◌, subst, arith}
+use Rattle.std.specs.Prelude.{Result, OnErr, OnOk}
 use Rattle.std.specs.Result.{is_err}
 use Rattle.std.proofs.lemmas.Bool.{false≢true}
-use Rattle.std.specs.VecDeque.{deque_capacity}
 use Rattle.sb_calls.specs.Cowns.{AreBelow, contents_of}
 use Rattle.cown_board.specs.Board.{BoardOf}
 use Rattle.cown_board.proofs.BoardSteps.{IsBoard-pushed, IsBoard-stays, few_ready, links_submitted}
 use Rattle.cown_board.proofs.CallEffects.{played_busy, played_full, played_no_memory, played_put}
-use Rattle.cown_board.specs.inner.Links.{AddsToLinks, LeavesLinks}
+use Rattle.cown_board.specs.inner.Links.{AddsToLinks}
 use Rattle.cown_board.specs.BoardCalls.{StaysTrueToLog, Submitted}
 use Rattle.cown_board.specs.declared.board.SubmitFault.TheVariants.{Busy, LogFull}
 use Rattle.cown_board.specs.declared.state.State.TheVariants.{Waiting}
@@ -17,6 +16,11 @@ use Rattle.cown_board.proofs.board.Board.submit.Goals as goal
 on_err : {T E P : Type 0} (r : Result T E) → is_err r ≡ true → OnErr r P → P
 on_err (Ok value) is p = absurd (false≢true is)
 on_err (Err fault) is p = p
+
+-- what holds of a value
+on_ok : {T E P : Type 0} (r : Result T E) → is_err r ≡ false → OnOk r P → P
+on_ok (Ok value) is p = p
+on_ok (Err fault) is p = absurd (false≢true (sym is))
 
 pub submit-requires-clause-ready : goal.submit-requires-clause-ready
 submit-requires-clause-ready g c is =
@@ -29,10 +33,9 @@ invariant_of-self g c = let room = c.make_room.ensures in rw (room.log.0, room.s
 pub invariant_of-self-then-is_err-2 : goal.invariant_of-self-then-is_err-2
 invariant_of-self-then-is_err-2 g c =
     let room = c.make_room.ensures in
-    let put = c.submit.ensures in
     rw (room.log.0, room.states.0)
-    (IsBoard-stays g.B.Behaviour.touches g.B.Behaviour.effect c.self.invariant c.submit.new.self put.linked
-    (on_err c.submit.result (sym c.is_err-2.ensures.value ∙ c.if-is_err-2.true) put.err) put.places put.counts put.room)
+    (IsBoard-stays g.B.Behaviour.touches g.B.Behaviour.effect c.self.invariant c.submit.new.self c.submit.ensures.room
+    (on_err c.submit.result (sym c.is_err-2.ensures.value ∙ c.if-is_err-2.true) c.submit.ensures.err))
 
 pub invariant_of-self-2 : goal.invariant_of-self-2
 invariant_of-self-2 g c =
@@ -44,16 +47,13 @@ invariant_of-self-2 g c =
     let position : c.len-position.result ≡ length c.self.inside.log.items = omega (arith, c.len-position.ensures, room.log.1, c.self.inside.log.ok) in
     let below : AreBelow (length (contents_of c.self.inside.opening)) (touches c.args.behaviour) =
     subst (λ (v : BoardOf g.row.B.Denot). AreBelow (length (contents_of v.opening)) (touches c.args.behaviour)) (sym c.self.view_is) c.requires in
-    let put : links.linked ≡ true → AddsToLinks c.len-position.result (touches c.args.behaviour) links new = search rules in
-    let stay : links.linked ≡ false → LeavesLinks links new × ((c.self.inside.unfinished + 1) * 3 ≤ new.queues.places) = search rules in
-    let counts : c.len-position.result + 1 ≤ vec_capacity new.ready.behind = search rules in
-    let wide : c.self.inside.unfinished + 1 + 3 ≤ deque_capacity new.ready.ready = search rules in
+    let put = on_ok c.submit.result (sym c.is_err-2.ensures.value ∙ c.if-is_err-2.false) c.submit.ensures.ok in
     IsBoard-pushed touches effect c.self.invariant c.args.behaviour c.push_reserved.new.self.items c.push_reserved-2.new.self.items new below
     (c.push_reserved.ensures.items ∙ ap (λ (xs : List g.row.B.Denot). xs ++ c.args.behaviour ∷ []) room.log.0)
     (c.push_reserved-2.ensures.items ∙ ap (λ xs. xs ++ Waiting ∷ []) room.states.0)
-    (links_submitted touches effect c.self.invariant c.args.behaviour new below c.submit.ensures.linked
-    (λ is. subst (λ n. AddsToLinks n (touches c.args.behaviour) links new) position (put is))
-    stay (omega (arith, counts, position)) wide)
+    (links_submitted touches effect c.self.invariant c.args.behaviour new below c.submit.ensures.room.linked
+    (λ is. subst (λ n. AddsToLinks n (touches c.args.behaviour) links new) position (put.linked is))
+    put.unlinked (subst (λ n. n + 1 ≤ vec_capacity new.ready.behind) position put.counts) put.ready)
     c.if-self-eq-OPEN_BEHAVIOURS.false
     (λ full. c.if-self-len-eq-LOG_CALLS.false (omega (arith, full, c.len.ensures, c.self.inside.log.ok)))
 
