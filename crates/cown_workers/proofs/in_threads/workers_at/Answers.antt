@@ -1,6 +1,7 @@
 -- One more pass has a worker.
-use Rattle.std.proofs.Common.{◌≡◌, ◌+◌, List, ◌∷◌, ◌++◌, [], length, sym, ap, ◌∙◌, append_assoc, length-append}
-use Rattle.std.proofs.lemmas.List.Elements.{All-push}
+use Rattle.std.proofs.Common.{◌≡◌, ◌+◌, List, ◌∷◌, ◌++◌, [], length, sym, ap, ◌∙◌, subst, append_assoc, length-append}
+use Rattle.std.proofs.lemmas.List.Elements.{All-head, All-push, All-rest}
+use Rattle.std.specs.List.{All}
 use Rattle.std.specs.Vec.Iter.{into_iter_items}
 use Rattle.cown_workers.proofs.in_threads.workers_at.Goals as goal
 
@@ -10,11 +11,18 @@ one_more_each : {A B : Type 0} (workers : List A) (old_workers : List A) (old_pa
 one_more_each workers old_workers old_passes worker pass pushed same =
     ap length pushed ∙ length-append old_workers (worker ∷ []) ∙ ap (λ n. n + 1) same ∙ sym (length-append old_passes (pass ∷ []))
 
+pub worker_at-requires : goal.worker_at-requires
+worker_at-requires g c =
+    All-head (λ pass. pass.bench ≡ c.args.bench.now) c.in-Some.pass (into_iter_items c.next.new.self)
+    (subst (All (λ pass. pass.bench ≡ c.args.bench.now)) c.in-Some.ensures.steps.0 c.loop-pass.invariant.left)
+
 pub loop-pass-preserved : goal.loop-pass-preserved
 loop-pass-preserved g c =
     let before = c.loop-pass.invariant in
     let pushed = c.push_reserved.ensures in
     record {
+      left = All-rest (λ pass. pass.bench ≡ c.args.bench.now) c.in-Some.pass (into_iter_items c.next.new.self) (into_iter_items c.loop-pass.pass-iterator) c.in-Some.ensures.steps.0
+          before.left;
       rest = append_assoc c.loop-pass.yielded (c.in-Some.pass ∷ []) (into_iter_items c.next.new.self)
           ∙ ap (λ l. c.loop-pass.yielded ++ l) (sym c.in-Some.ensures.steps.0) ∙ before.rest;
       room = rw pushed.capacity before.room;

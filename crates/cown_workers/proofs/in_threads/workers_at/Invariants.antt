@@ -6,6 +6,7 @@ use Rattle.cown_workers.proofs.in_threads.workers_at.Given as goal
 
 abbrev pub invariant-loop-pass : goal.invariant-loop-pass
 invariant-loop-pass g l = record {
+  left : All (λ pass. pass.bench ≡ l.bench) (into_iter_items l.pass-iterator);
   rest : l.yielded ++ into_iter_items l.pass-iterator ≡ l.fn.passes.items;
   room : length l.fn.passes.items ≤ vec_capacity l.workers;
   as_many : length l.workers.items ≡ length l.yielded;

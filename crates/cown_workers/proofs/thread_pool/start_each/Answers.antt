@@ -1,10 +1,16 @@
 -- One more worker has a thread.
-use Rattle.std.proofs.Common.{◌≡◌, [], ◌∷◌, ◌++◌, sym, ap, ◌∙◌, subst, length, append_assoc, length-append, arith}
+use Rattle.std.proofs.Common.{rules, ◌≡◌, [], ◌∷◌, ◌++◌, sym, ap, ◌∙◌, subst, length, append_assoc, length-append, arith}
 use Rattle.std.specs.List.{All}
 use Rattle.std.specs.Vec.Iter.{into_iter_items}
-use Rattle.std.proofs.lemmas.List.Elements.{All-push}
-use Rattle.cown_workers.specs.declared.thread_pool.PassOf.{PassOf}
+use Rattle.std.proofs.lemmas.List.Elements.{All-head, All-push, All-rest}
 use Rattle.cown_workers.proofs.thread_pool.start_each.Goals as goal
+
+pub start_one-requires : goal.start_one-requires
+start_one-requires g c =
+    let here : c.in-Some.worker.bench.now ≡ c.args.bench.now =
+    All-head (λ worker. worker.bench.now ≡ c.args.bench.now) c.in-Some.worker (into_iter_items c.next.new.self)
+    (subst (All (λ worker. worker.bench.now ≡ c.args.bench.now)) c.in-Some.ensures.steps.0 c.loop-worker.invariant.left) in
+    search rules
 
 pub loop-worker-preserved : goal.loop-worker-preserved
 loop-worker-preserved g c =
@@ -12,6 +18,8 @@ loop-worker-preserved g c =
     let pushed = c.push_reserved.ensures in
     let thread = c.in-Some-start_one.thread in
     record {
+      left = All-rest (λ worker. worker.bench.now ≡ c.args.bench.now) c.in-Some.worker (into_iter_items c.next.new.self) (into_iter_items c.loop-worker.worker-iterator) c.in-Some.ensures.steps.0
+          before.left;
       rest = append_assoc c.loop-worker.yielded (c.in-Some.worker ∷ []) (into_iter_items c.next.new.self)
           ∙ ap (λ l. c.loop-worker.yielded ++ l) (sym c.in-Some.ensures.steps.0) ∙ before.rest;
       few = omega (
