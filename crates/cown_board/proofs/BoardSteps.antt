@@ -24,7 +24,7 @@ use Rattle.cown_board.proofs.UnlinkedBoards.{links_stay, none_finished, none_sub
 use Rattle.cown_board.specs.inner.DuePositions.{is_due, occurrences}
 use Rattle.cown_board.specs.inner.Fronts.{is_occupied}
 use Rattle.cown_board.specs.inner.BoardInvariant.{IsLinked, AreLinks, BoardInside, AreCounts, IsBoard, AreQueues, touches_at}
-use Rattle.cown_board.specs.inner.Links.{ComesForward, IsUnlinked, AddsToLinks, LeavesLinks, HasSameRoom}
+use Rattle.cown_board.specs.inner.Links.{ComesForward, IsUnlinked, AddsToLinks, LeavesLinks, KeepsRoom}
 use Rattle.cown_board.specs.inner.CutUpdates.{UpdatesAnyCut}
 use Rattle.cown_board.specs.Readiness.{conflict_at, touched_by}
 use Rattle.cown_board.specs.State.{is_unfinished, unfinished_at}
@@ -149,7 +149,7 @@ module _ {B : Type 0} (touches : B → List ℕ) (effect : B → List ℤ → Re
       }
 
   -- the same if they have at least as much room
-  pub IsBoard-stays : (new : Links) → HasSameRoom inside.links new → LeavesLinks inside.links new → IsBoard touches effect (record inside { links = new })
+  pub IsBoard-stays : (new : Links) → KeepsRoom inside.links new → LeavesLinks inside.links new → IsBoard touches effect (record inside { links = new })
   IsBoard-stays new room stay =
       IsBoard-linked new
       (links_stay touches effect inside.log inside.states inside.unfinished (length (contents_of inside.opening)) inside.links new board.links room.linked

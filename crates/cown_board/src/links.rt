@@ -5,7 +5,7 @@ ghost use Rattle.sb_calls.specs.Cowns.{AreBelow, IsRising};
 ghost use Rattle.cown_queue.specs.Queues.{IsInFront, Releases, fronts_of};
 ghost use Rattle.cown_board.specs.inner.DuePositions.{occurrences};
 ghost use Rattle.cown_board.specs.inner.BoardInvariant.{IsLinked, AreCowns, AreLinks};
-ghost use Rattle.cown_board.specs.inner.Links.{ComesForward, IsUnlinked, LeavesLinks, HasSameRoom, TakesIn};
+ghost use Rattle.cown_board.specs.inner.Links.{ComesForward, IsUnlinked, LeavesLinks, KeepsRoom, TakesIn};
 ghost use Rattle.cown_board.specs.Readiness.{ready_positions};
 
 use crate::fronts::count_occupied;
@@ -66,7 +66,7 @@ impl Links {
         requires unfinished { unfinished ≤ 1024 }
         requires counts { self.old.linked ≡ true → vec_len self.old.ready.behind ≡ position }
         requires ready { self.old.linked ≡ true → deque_len self.old.ready.ready < unfinished }
-        ensures room { HasSameRoom self.old self.new }
+        ensures room { KeepsRoom self.old self.new }
         ensures ok { OnOk result (TakesIn position unfinished (B.touches behaviour) self.old self.new) }
         ensures err { OnErr result (LeavesLinks self.old self.new) }
     {

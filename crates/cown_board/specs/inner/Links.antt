@@ -26,7 +26,7 @@ pub record AddsToLinks (position : ℕ) (cowns : List ℕ) (old new : Links) : T
       else old.ready.ready.items)
 
 -- there is at least as much room, and the links stay linked or not
-pub record HasSameRoom (old new : Links) : Type 0 where
+pub record KeepsRoom (old new : Links) : Type 0 where
   pub linked : new.linked ≡ old.linked
   pub counts : vec_capacity old.ready.behind ≤ vec_capacity new.ready.behind
   pub ready : deque_capacity old.ready.ready ≤ deque_capacity new.ready.ready

@@ -1,5 +1,5 @@
 use Rattle.std.proofs.Common.{refl, le_refl}
-use Rattle.cown_board.specs.inner.Links.{LeavesLinks, HasSameRoom}
+use Rattle.cown_board.specs.inner.Links.{LeavesLinks, KeepsRoom}
 use Rattle.cown_board.proofs.BoardSteps.{IsBoard-stays}
 use Rattle.cown_board.proofs.board.Board.reserve.Goals as goal
 
@@ -13,7 +13,7 @@ pub invariant_of-self-2 : goal.invariant_of-self-2
 invariant_of-self-2 g c =
     let put = c.reserve-3.ensures in
     let stay : LeavesLinks c.self.inside.links c.reserve-3.new.self = record { lists = rw put.queues refl; behind = put.behind; ready = rw put.ready refl } in
-    let room : HasSameRoom c.self.inside.links c.reserve-3.new.self = record {
+    let room : KeepsRoom c.self.inside.links c.reserve-3.new.self = record {
       linked = put.linked;
       counts = put.counts;
       ready = rw put.ready (le_refl _);
