@@ -56,9 +56,9 @@ pub(crate) fn read_call(fields: &mut Fields) -> Result<Call, FrameFault>
 {
     match fields.byte()? {
         BALANCE => Ok(Call::Balance(fields.name()?)),
-        kind @ (DEPOSIT_CHECKING | TRANSACT_SAVINGS | WRITE_CHECK) => read_name_and_amount(
-            kind, fields,
-        ),
+        kind @ (DEPOSIT_CHECKING | TRANSACT_SAVINGS | WRITE_CHECK) => {
+            read_name_and_amount(kind, fields)
+        }
         kind @ (AMALGAMATE | SEND_PAYMENT) => read_two_names(kind, fields),
         _ => Err(FrameFault::UnknownTag),
     }
