@@ -7,7 +7,7 @@ ghost use Rattle.sb_checkpoint.specs.inner.Layouts.{layout_of};
 ghost use Rattle.sb_checkpoint.specs.Reading as spec;
 ghost use Rattle.sb_checkpoint.specs.Reading.{stated_checking, stated_replies, stated_savings, stated_size};
 ghost use Rattle.sb_checkpoint.specs.Reading.{balances_fault, first_fault, head_fault, is_below_zero, opening_fault, replies_fault};
-ghost use Rattle.sb_checkpoint.specs.inner.PartsOfCheckpoint.{IsHead, AreColumns, AreReplies};
+ghost use Rattle.sb_checkpoint.specs.inner.PartsOfCheckpoint.{IsStatedHead, AreStatedColumns, AreStatedReplies};
 ghost use Rattle.sb_checkpoint.specs.inner.ReadingFaults.{IsFaultOf};
 ghost use Rattle.sb_checkpoint.specs.Reading.{IsRefusedBy};
 
@@ -30,7 +30,7 @@ use std::alloc::Global;
 fn read_head(bytes: &[u8], customers: usize) -> Result<(Layout, usize), CheckpointFault>
     requires { customers ≤ CUSTOMERS }
     ensures { MatchResult result
-        (λ head. IsHead bytes.now customers (layout_of head.0) head.1)
+        (λ head. IsStatedHead bytes.now customers (layout_of head.0) head.1)
         (λ fault. head_fault bytes.now customers ≡ Some fault) }
 {
     let Some(layout) = Layout::of(bytes) else {
@@ -73,7 +73,7 @@ fn read_columns(alloc: Global, bytes: &[u8], customers: usize) -> Result<Columns
     requires customers { customers ≡ spec.stated_customers bytes.now }
     requires limit { customers ≤ CUSTOMERS }
     requires room { EMPTY_FIRST + BALANCES * customers ≤ length bytes.now }
-    ensures { MatchResult result (AreColumns bytes.now) (IsFaultOf (balances_fault bytes.now)) }
+    ensures { MatchResult result (AreStatedColumns bytes.now) (IsFaultOf (balances_fault bytes.now)) }
 {
     let savings = read_amounts(alloc, bytes, HEAD, customers)?;
     let checking = read_amounts(alloc, bytes, HEAD + AMOUNT * customers, customers)?;
@@ -123,7 +123,7 @@ fn read_replies(
     requires count { count ≡ spec.stated_reply_count bytes.now }
     requires room { stated_size (layout_of layout) bytes.now ≤ length bytes.now }
     ensures { MatchResult result
-        (λ replies. AreReplies bytes.now (layout_of layout) replies.items)
+        (λ replies. AreStatedReplies bytes.now (layout_of layout) replies.items)
         (IsFaultOf (replies_fault (layout_of layout) bytes.now)) }
 {
     let replies = replies_of(alloc, reply_cells(bytes, layout, customers, count))?;
