@@ -11,11 +11,9 @@ ghost use Rattle.schedule_text.specs.declared.event.Event.TheVariants as event;
 use crate::fault::StepFault;
 use crate::world::World;
 use lane_audit::{audit, bank_total, first_difference, least_difference};
-use sb_calls::{Call, Reply};
+use sb_calls::Reply;
 use sb_rows::Columns;
-use sb_sequencer::Sequencer;
 use schedule_text::{AuditNote, Column};
-use std::alloc::{AllocError, Global};
 
 // The first place at which two banks' columns differ; savings come before checking balances.
 fn first_place(left: &Columns, right: &Columns) -> Option<(Column, usize)>
@@ -32,37 +30,22 @@ fn first_place(left: &Columns, right: &Columns) -> Option<(Column, usize)>
     Some((Column::Checking, place))
 }
 
-// The first calls of a log.
-fn first_calls(alloc: Global, sequencer: &Sequencer, count: usize) -> Result<Vec<Call>, AllocError>
-    requires { count ≤ length sequencer.now.log }
-    ensures { IfOk result (λ calls. calls.items ≡ take count (map (λ entry. entry.1) sequencer.now.log)) }
-{
-    let mut calls = Vec::with_capacity(alloc, count)?;
-    for index in 0..count {
-        let Some(call) = sequencer.call(index as u64 + 1) else {
-            unreachable!();
-        };
-        calls.push(*call)?;
-    }
-    Ok(calls)
-}
-
 impl World {
     // The bank's total with the number of overdrawn customers, or that the total isn't what the
     // opening and the calls make it.
-    fn books(&self, columns: &Columns, replies: &[Reply]) -> Result<AuditNote, AllocError>
+    fn books(&self, columns: &Columns, replies: &[Reply]) -> AuditNote
         requires limit { length replies.now ≤ length self.now.sequencer.log }
         requires rows { IsRowsAt (bank_of self.now) (length replies.now) columns.now }
         requires replies { replies.now ≡ take (length replies.now)
             (replies_to (opening_rows (bank_of self.now)) (bank_of self.now).calls) }
-        ensures { IfOk result (λ found. found ≡ books_after (bank_of self.now) (length replies.now)) }
+        ensures { result ≡ books_after (bank_of self.now) (length replies.now) }
     {
-        let calls = first_calls(self.alloc, &self.sequencer, replies.len())?;
-        let found = audit(columns, bank_total(&self.opening), &calls, replies);
+        let calls = &self.sequencer.calls()[..replies.len()];
+        let found = audit(columns, bank_total(&self.opening), calls, replies);
         if found.total == found.expected {
-            Ok(AuditNote::Same(found.total, found.overdrawn))
+            AuditNote::Same(found.total, found.overdrawn)
         } else {
-            Ok(AuditNote::OffBooks(found.total, found.expected))
+            AuditNote::OffBooks(found.total, found.expected)
         }
     }
 
@@ -92,6 +75,6 @@ impl World {
             return Ok(AuditNote::Differ(column, place));
         }
         let replies = one.replies()?;
-        Ok(self.books(left, &replies)?)
+        Ok(self.books(left, &replies))
     }
 }

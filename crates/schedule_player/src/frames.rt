@@ -34,8 +34,10 @@ impl Model for Frames {
 pub(crate) fn item_at<T>(items: &[T], position: u32) -> Option<&T>
     ensures { option_copied result ≡ nth_item items.now position }
 {
-    let position = position.checked_sub(1)?;
-    items.get(position as usize)
+    if position == 0 {
+        return None;
+    }
+    items.get(position as usize - 1)
 }
 
 // Appends the bytes of frames, in room that is there.

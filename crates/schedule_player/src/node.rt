@@ -1,7 +1,9 @@
 //! A replica with its workers' hands, and everything that was ever sent to it and from it.
-ghost use Rattle.std.specs.Prelude.{◌≡◌, ℕ, suc, ◌<◌, ◌≤◌, None, List, length, MatchOption, IfOk};
+ghost use Rattle.std.specs.Prelude.{◌≡◌, ℕ, suc, ◌<◌, ◌≤◌, None, List, [], length, MatchOption, IfOk};
 ghost use Rattle.sb_rows.specs.Balances.{Balances};
 ghost use Rattle.sb_rows.specs.Rows.{SameCustomers};
+ghost use Rattle.cown_board.specs.BoardCalls.{board_at_opening};
+ghost use Rattle.sb_replica_log.specs.Log.{none_held};
 ghost use Rattle.sb_sequencer.specs.Entries.{entry_of, entries_to_resend};
 ghost use Rattle.schedule_player.specs.Bank.{BankOf};
 ghost use Rattle.schedule_player.specs.inner.NodeInvariant.{MovesTo, IsNodeAt, Steps, machine_node};
@@ -59,24 +61,47 @@ fn empty_hands(alloc: Global, workers: usize) -> Result<Vec<Option<Job<Op>>>, Al
     Ok(hands)
 }
 
+// A replica at the opening, with names and columns of its own. The function owns little else, so that
+// a `?` has little to drop.
+fn open_replica(
+    alloc: Global,
+    id: u8,
+    directory: &Directory,
+    opening: &Columns,
+) -> Result<Replica<MemoryStore>, AllocError>
+    requires { length opening.now.savings ≡ length directory.now }
+    ensures { IfOk result (λ replica. replica ≡ record {
+      id = id;
+      names = directory.now;
+      opening = opening.now;
+      board = board_at_opening opening.now [];
+      held = none_held;
+      store = record { slot = None; next = How.Ok; failures = 0 };
+    }) }
+{
+    let names = directory.copy()?;
+    let columns = opening.copy()?;
+    Replica::open(alloc, id, names, columns, MemoryStore::new(alloc))
+}
+
 impl Node {
     /// A replica with this many workers at the opening. It is one of every bank with this opening.
     pub fn open(
         alloc: Global,
         id: u8,
-        directory: Directory,
-        opening: Columns,
+        directory: &Directory,
+        opening: &Columns,
         workers: usize,
     ) -> Result<Node, AllocError>
-        requires { length opening.savings ≡ length directory }
+        requires { length opening.now.savings ≡ length directory.now }
         ensures node { IfOk result (λ node. machine_node node ≡ opened_node workers) }
-        ensures consistent { (bank : BankOf) → (bank.names ≡ directory) → (bank.opening ≡ opening)
+        ensures consistent { (bank : BankOf) → (bank.names ≡ directory.now) → (bank.opening ≡ opening.now)
             → SameCustomers bank.names bank.opening → length bank.calls ≤ LOG_CALLS
             → IfOk result (IsNodeAt bank id) }
     {
         let hands = empty_hands(alloc, workers)?;
         Ok(Node {
-            replica: Replica::open(alloc, id, directory, opening, MemoryStore::new(alloc))?,
+            replica: open_replica(alloc, id, directory, opening)?,
             hands,
             inbound: Frames::new(alloc),
             outbound: Frames::new(alloc),

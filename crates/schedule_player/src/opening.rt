@@ -33,13 +33,7 @@ fn open_nodes(
 {
     let mut all = Vec::with_capacity(alloc, nodes as usize)?;
     for id in 0..nodes {
-        let node = Node::open(
-            alloc,
-            id,
-            directory.copy()?,
-            opening.copy()?,
-            workers as usize,
-        )?;
+        let node = Node::open(alloc, id, directory, opening, workers as usize)?;
         all.push_reserved(node);
     }
     Ok(all)
@@ -67,7 +61,6 @@ impl World {
     {
         let replicas = open_nodes(alloc, &directory, &opening, nodes, workers)?;
         Ok(World {
-            alloc,
             directory,
             opening,
             sequencer: Sequencer::open(alloc, nodes as usize),

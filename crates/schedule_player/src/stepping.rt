@@ -99,7 +99,9 @@ pub fn play(alloc: Global, world: &mut World, events: &[Event]) -> Result<Vec<No
     ensures played { (schedule : ScheduleOf) → IsWorldAfter schedule world.old
         → IfOk result (λ _. IsWorldAfter (with_events schedule events.now) world.new) }
 {
-    let mut notes = Vec::with_capacity(alloc, events.len()).map_err(|_| PlayFault { done: 0 })?;
+    let Ok(mut notes) = Vec::with_capacity(alloc, events.len()) else {
+        return Err(PlayFault { done: 0 });
+    };
     // The checker takes the event apart, and needs the types spelled out.
     let _parts: Option<(Call, How)> = None;
     for (done, event) in events.iter().enumerate() {

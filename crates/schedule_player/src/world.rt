@@ -12,14 +12,12 @@ use sb_calls::Call;
 use sb_rows::{Columns, Directory};
 use sb_sequencer::{AskFault, Numbered, Sequencer};
 use schedule_text::{Event, Note};
-use std::alloc::Global;
 use std::marker::Model;
 
 /// A sequencer, its replicas with their workers, all frames that were ever sent between them, and
 /// all states that were ever sent to a replica.
 #[derive(Drop)]
 pub struct World {
-    pub(crate) alloc: Global,
     pub(crate) directory: Directory,
     pub(crate) opening: Columns,
     pub(crate) sequencer: Sequencer,

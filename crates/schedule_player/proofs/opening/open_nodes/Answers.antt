@@ -24,7 +24,7 @@ loop-id-preserved c =
             let is_id : c.loop-id.id ≡ r = omega (arith, e, size) in
             subst (IsNodeAt bank r) last.1
             (subst (λ n. IsNodeAt bank n node) is_id
-            (c.in_ok-node.ensures.consistent bank (names ∙ sym c.in_ok-copy.ensures) (opening ∙ sym c.in_ok-copy-2.ensures) same few))
+            (c.in_ok-node.ensures.consistent bank names opening same few))
       ];
       size =
           let longer = ap length items ∙ length-append before (node ∷ []) in

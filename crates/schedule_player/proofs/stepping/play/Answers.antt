@@ -20,15 +20,15 @@ loop-done-preserved c =
     record {
       plays =
           subst (λ notes. PlaysEvents c.args.world.now (take (done + 1) events) notes c.step.new.self) (sym items)
-          (subst (λ es. PlaysEvents c.args.world.now es (c.loop-done.notes.items ++ c.in-Ok.note ∷ []) c.step.new.self) (sym longer)
-          (plays_more c.args.world.now (take done events) c.loop-done.notes.items c.loop-done.world event c.in-Ok.note c.step.new.self
-          so_far.plays c.in-Ok.ensures.moves));
+          (subst (λ es. PlaysEvents c.args.world.now es (c.loop-done.notes.items ++ c.in-Ok-step.note ∷ []) c.step.new.self) (sym longer)
+          (plays_more c.args.world.now (take done events) c.loop-done.notes.items c.loop-done.world event c.in-Ok-step.note c.step.new.self
+          so_far.plays c.in-Ok-step.ensures.moves));
       count =
-          let more = ap length items ∙ length-append c.loop-done.notes.items (c.in-Ok.note ∷ []) in
+          let more = ap length items ∙ length-append c.loop-done.notes.items (c.in-Ok-step.note ∷ []) in
           let count = so_far.count in
           omega (arith, more, count);
       room = let room = so_far.room in let same = c.push_reserved.ensures.capacity in omega (arith, room, same);
-      replicas = c.in-Ok.ensures.replicas ∙ so_far.replicas;
+      replicas = c.in-Ok-step.ensures.replicas ∙ so_far.replicas;
     }
 
 pub returns-clause-played : goal.returns-clause-played

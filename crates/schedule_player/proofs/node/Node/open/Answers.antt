@@ -6,29 +6,29 @@ use Rattle.schedule_player.proofs.node.Node.open.Goals as goal
 
 pub returns-clause-node : goal.returns-clause-node
 returns-clause-node c =
-    let replica = c.in_ok-open.ensures in
+    let replica = c.in_ok-open_replica.ensures in
     opens_so
     (record {
-      replica = c.in_ok-open.field-0;
+      replica = c.in_ok-open_replica.field-0;
       hands = c.in_ok-hands.hands;
-      inbound = c.new-2.result;
-      outbound = c.new-3.result;
-      states = c.new-4.result;
+      inbound = c.new.result;
+      outbound = c.new-2.result;
+      states = c.new-3.result;
     })
     c.args.workers (ap (λ x. stages_of x.board) replica) (ap (λ x. x.board.cut) replica) (ap (λ x. x.held) replica)
-    (ap (λ x. x.store.slot) replica ∙ ap (λ s. s.slot) c.new.ensures) c.in_ok-hands.ensures c.new-2.ensures c.new-3.ensures c.new-4.ensures
+    (ap (λ x. x.store.slot) replica) c.in_ok-hands.ensures c.new.ensures c.new-2.ensures c.new-3.ensures
 
 pub returns-clause-consistent : goal.returns-clause-consistent
 returns-clause-consistent c bank names opening same few =
-    let replica = c.in_ok-open.ensures in
+    let replica = c.in_ok-open_replica.ensures in
     opens_along bank c.args.id
     (record {
-      replica = c.in_ok-open.field-0;
+      replica = c.in_ok-open_replica.field-0;
       hands = c.in_ok-hands.hands;
-      inbound = c.new-2.result;
-      outbound = c.new-3.result;
-      states = c.new-4.result;
+      inbound = c.new.result;
+      outbound = c.new-2.result;
+      states = c.new-3.result;
     })
     c.args.workers same few (ap (λ x. x.id) replica) (ap (λ x. x.names) replica ∙ sym names) (ap (λ x. x.opening) replica ∙ sym opening)
     (ap (λ x. x.board) replica ∙ ap (λ o. board_at_opening o []) (sym opening)) (ap (λ x. x.held) replica)
-    (ap (λ x. x.store.slot) replica ∙ ap (λ s. s.slot) c.new.ensures) c.in_ok-hands.ensures c.new-2.ensures c.new-3.ensures c.new-4.ensures
+    (ap (λ x. x.store.slot) replica) c.in_ok-hands.ensures c.new.ensures c.new-2.ensures c.new-3.ensures

@@ -106,10 +106,6 @@ pub returns-in_err-replies-clause-wanted : goal.returns-in_err-replies-clause-wa
 returns-in_err-replies-clause-wanted c =
     on_err c.from_residual.result (wants (goal.at.returns-in_err-replies-clause-wanted c).Else-length)
 
-pub returns-in_err-books-clause-wanted : goal.returns-in_err-books-clause-wanted
-returns-in_err-books-clause-wanted c =
-    on_err c.from_residual-in_err-books.result (wants (goal.at.returns-in_err-books-clause-wanted c).Else-length)
-
 -- ---- the books
 
 -- the replies are those of the first replica's whole log
@@ -150,7 +146,7 @@ books-requires-clause-replies c =
 pub returns-clause-value : goal.returns-clause-value
 returns-clause-value c one other seen_one seen_other =
     let looks = (goal.at.returns-clause-value c).After-index-2 in
-    c.in_ok-books.ensures
+    c.books.ensures
     ∙ same_length (bank_of c.args.self.now) c.args.first c.args.second c.index.result.now c.index-2.result.now (look_one looks).consistent
     (look_other looks).consistent (length c.deref.result.now) c.in-Some.ensures.value.0 c.in-Some-final_columns.ensures.value.0
     (size (goal.at.returns-clause-value c).After-deref) (alike (goal.at.returns-clause-value c).Else-length)

@@ -15,14 +15,13 @@ returns-then-found c =
     (λ j. audit.Same ((to_z-of_z w64 found.result.total fits ∙ found.ensures.total) j) (found.ensures.overdrawn j))
     ∙ books_are (bank_of c.args.self.now) (length c.args.replies.now) c.args.columns.now c.requires.rows
 
-pub returns : goal.returns
-returns c =
+pub returns-else-found : goal.returns-else-found
+returns-else-found c =
     let found = c.audit-found in
     let bank = bank_of c.args.self.now in
     let same : SameCustomers bank.names bank.opening = subst (λ w. SameCustomers w.names w.opening) c.self.view_is c.self.invariant.customers in
     let balance = books_balance bank (length c.args.replies.now) c.args.columns.now same c.requires.rows in
-    let calls = c.deref.ensures.value ∙ c.in_ok-calls.ensures ∙ ap (λ w. take (length c.args.replies.now) (map
-    (λ entry. entry.1) w.sequencer.log)) c.self.view_is in
+    let calls = ap (take (length c.args.replies.now)) (c.calls.ensures ∙ ap (λ w. map (λ entry. entry.1) w.sequencer.log) c.self.view_is) in
     let fits : FitsSigned w64 c.bank_total.result = search rules in
     let opening = to_z-of_z w64 c.bank_total.result fits ∙ c.bank_total.ensures.value ∙ ap
     (λ w. total w.opening.savings +ℤ total w.opening.checking) c.self.view_is in
