@@ -1,6 +1,6 @@
 -- Events of a list that were played, with the lines of their notes.
-use Rattle.std.proofs.Common.{◌≡◌, false, ℕ, ◌+◌, ◌≤◌, Result, Ok, Err, List, [], ◌∷◌, ◌++◌, length, map, take, refl, sym, ap, subst, ◌∙◌, arith, append_assoc, length-append}
-use Rattle.std.specs.Prelude.{OnOk, is_err}
+use Rattle.std.proofs.Common.{◌≡◌, false, ℕ, ◌+◌, ◌≤◌, Result, Ok, Err, Some, List, [], ◌∷◌, ◌++◌, length, map, take, refl, sym, ap, subst, ◌∙◌, arith, append_assoc, length-append}
+use Rattle.std.specs.Prelude.{OnOk, is_err, slice_get}
 use Rattle.std.proofs.Math.Seq.{take-append_seam}
 use Rattle.std.proofs.lemmas.Grind.{flat_map-append}
 use Rattle.std.proofs.lemmas.List.{append-nil, map-append}
@@ -81,3 +81,14 @@ stops_at old events left new done notes count all plays many =
       notes = notes;
       plays = subst (λ es. PlaysEvents old es notes new) (sym front) plays;
     }
+
+-- the next one is the first of those that are left
+pub next_is : (done left events : List Event) (happens : Event) (count : ℕ) → done ++ happens ∷ left ≡ events
+    → count + length (happens ∷ left) ≡ length events → slice_get events count ≡ Some happens
+next_is done left events happens count all many =
+    let same : count ≡ length done = omega (arith, count_of done (happens ∷ left) events all, many) in
+    (λ j. slice_get (sym all j) (same j)) ∙ at_seam done
+  where
+    at_seam : (before : List Event) → slice_get (before ++ happens ∷ left) (length before) ≡ Some happens
+    at_seam [] = refl
+    at_seam (first ∷ rest) = at_seam rest

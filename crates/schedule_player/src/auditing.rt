@@ -1,5 +1,5 @@
 //! Compares two replicas with each other, and one of them with the books.
-ghost use Rattle.std.specs.Prelude.{◌≡◌, ◌<◌, ◌≤◌, Some, None, length, map, take, slice_get, IfOk, OnErr};
+ghost use Rattle.std.specs.Prelude.{◌≡◌, ◌<◌, ◌≤◌, Some, None, length, take, slice_get, IfOk, OnErr};
 ghost use Rattle.sb_rows.specs.Balances.{IsBalances};
 ghost use Rattle.sb_calls.specs.Log.{replies_to};
 ghost use Rattle.schedule_player.specs.Bank.{opening_rows};

@@ -1,6 +1,8 @@
-use Rattle.std.proofs.Common.{◌≡◌, ◌-◌, ◌∷◌, ◌++◌, [], sym, ap, ◌∙◌, arith, append_assoc}
+use Rattle.std.proofs.Common.{◌≡◌, ◌-◌, ◌∷◌, ◌++◌, [], inr, length, sym, ap, subst, ◌∙◌, arith, append_assoc}
+use Rattle.schedule_player.specs.EventLists.{PlaysEvents}
+use Rattle.schedule_player.specs.World.{MayWantMemory, NextMayWantMemory}
 use Rattle.schedule_player.proofs.EventLists.{plays_more, played_on}
-use Rattle.schedule_player.proofs.PlayedLines.{count_of, if_written, stops_at, up_to_last, up_to_next}
+use Rattle.schedule_player.proofs.PlayedLines.{count_of, if_written, next_is, stops_at, up_to_last, up_to_next}
 use Rattle.schedule_player.proofs.stepping.play_lines.Goals as goal
 
 pub returns-then-is_err-clause-stopped : goal.returns-then-is_err-clause-stopped
@@ -19,6 +21,30 @@ returns-then-is_err-clause-stopped c =
     let stops = stops_at c.args.world.now events left c.step.new.self done (so_far.notes ++ c.in-Ok.note ∷ [])
     (c.len-then-is_err.result - c.len-then-is_err-2.result) all plays (omega (arith, many, c.len-then-is_err.ensures, c.len-then-is_err-2.ensures)) in
     (stops.within, (stops.notes, stops.plays))
+
+-- at a refused event, the events before it happened
+pub returns-in-Err-OutOfMemory-clause-stopped : goal.returns-in-Err-OutOfMemory-clause-stopped
+returns-in-Err-OutOfMemory-clause-stopped c =
+    let so_far = c.loop-event.invariant.so_far in
+    let plays : PlaysEvents c.args.world.now so_far.done so_far.notes c.step.new.self =
+    subst (λ w. PlaysEvents c.args.world.now so_far.done so_far.notes w) (sym c.in-Err-OutOfMemory.ensures.err) so_far.plays in
+    let many = count_of so_far.done c.loop-event.left c.args.events.now so_far.all in
+    let longer = ap length c.in-Some.ensures in
+    let stops = stops_at c.args.world.now c.args.events.now c.loop-event.left c.step.new.self so_far.done so_far.notes
+    (c.len.result - c.len-in-Err-OutOfMemory.result - 1) so_far.all plays (omega (arith, many, longer, c.len.ensures, c.len-in-Err-OutOfMemory.ensures)) in
+    (stops.within, (stops.notes, stops.plays))
+
+pub returns-in-Err-OutOfMemory-clause-wanted : goal.returns-in-Err-OutOfMemory-clause-wanted
+returns-in-Err-OutOfMemory-clause-wanted c =
+    let so_far = c.loop-event.invariant.so_far in
+    let events = c.args.events.now in
+    let many = count_of so_far.done c.loop-event.left events so_far.all in
+    let longer = ap length c.in-Some.ensures in
+    let next = next_is so_far.done c.next.new.self events c.in-Some.event (c.len.result - c.len-in-Err-OutOfMemory.result - 1)
+    (ap (λ es. so_far.done ++ es) (sym c.in-Some.ensures) ∙ so_far.all)
+    (omega (arith, many, longer, c.len.ensures, c.len-in-Err-OutOfMemory.ensures)) in
+    inr (subst (NextMayWantMemory c.step.new.self) (sym next)
+    (subst (λ w. MayWantMemory w c.in-Some.event) (sym c.in-Err-OutOfMemory.ensures.err) c.in-Err-OutOfMemory.ensures.wanted))
 
 pub loop-event-preserved : goal.loop-event-preserved
 loop-event-preserved c = record {

@@ -5,6 +5,7 @@ use Rattle.schedule_player.specs.inner.NodeInvariant.{IsStateOfLog}
 use Rattle.schedule_player.specs.ReplicaMoves.{receive_move}
 use Rattle.schedule_player.specs.World.{bank_of, move_at}
 use Rattle.schedule_player.proofs.WorldStates.{there, counted, has_these, gives}
+use Rattle.schedule_player.proofs.WorldStep.{on_err}
 use Rattle.schedule_player.proofs.world.World.give.Goals as goal
 
 pub receive-requires-clause-state : goal.receive-requires-clause-state
@@ -30,3 +31,21 @@ returns-clause-moves c =
     (ap (λ world. move_at world c.args.replica (λ node. receive_move node size)) c.in_ok-bytes.ensures.same
     ∙ gives now c.args.donor c.args.replica size donor.0 donor.1 has.1 has.2)
     c.receive.ensures.moves
+
+pub returns-clause-wanted : goal.returns-clause-wanted
+returns-clause-wanted c =
+    let w = c.self.inside in
+    let now = c.args.self.now in
+    on_err c.receive.result (
+      counted w.directory w.opening w.sequencer w.nodes.items now c.args.donor c.len.result c.self.view_is (omega (arith, c.len.ensures)) c.if-donor-len.false,
+      counted w.directory w.opening w.sequencer w.nodes.items now c.args.replica c.len-else-donor-len.result c.self.view_is (omega (arith, c.len-else-donor-len.ensures)) c.if-replica-len.false,
+    )
+
+pub returns-in_err-bytes-clause-wanted : goal.returns-in_err-bytes-clause-wanted
+returns-in_err-bytes-clause-wanted c =
+    let w = c.self.inside in
+    let now = c.args.self.now in
+    on_err c.from_residual.result (
+      counted w.directory w.opening w.sequencer w.nodes.items now c.args.donor c.len.result c.self.view_is (omega (arith, c.len.ensures)) c.if-donor-len.false,
+      counted w.directory w.opening w.sequencer w.nodes.items now c.args.replica c.len-else-donor-len.result c.self.view_is (omega (arith, c.len-else-donor-len.ensures)) c.if-replica-len.false,
+    )
