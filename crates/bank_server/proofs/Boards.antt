@@ -14,6 +14,7 @@ use Rattle.sb_calls.specs.Log.{replies_to, rows_after}
 use Rattle.sb_calls.specs.SerialRun.{reply_by_log, contents_after}
 use Rattle.sb_calls.specs.Op.{op_of}
 use Rattle.sb_calls.specs.Procedures.{procedure}
+use Rattle.sb_calls.specs.declared.ask.Key.{Key}
 use Rattle.sb_calls.specs.declared.call.Call.{Call}
 use Rattle.sb_calls.specs.declared.op.Op.{Op}
 use Rattle.sb_calls.specs.declared.reply.Reply.{Reply}
@@ -25,7 +26,10 @@ use Rattle.cown_board.specs.declared.state.State.TheVariants.{Waiting, Out, Fini
 use Rattle.cown_workers.specs.Draining.{HasNoneOut, PreservesLog}
 use Rattle.sb_replica_log.specs.Offers.{board_with_entry}
 use Rattle.bank_server.specs.inner.Appends.{AppendsOps}
+use Rattle.sb_replica.specs.Replica.{ReplicaOf}
+use Rattle.sb_sequencer.specs.Numbering.{calls_of}
 use Rattle.bank_server.specs.Execution.{IsWholeLog, IsOneByOne, HasReplies}
+use Rattle.bank_server.specs.Primary.{RunsLog}
 
 no_out : ◌≡◌ {A = Option State} None (Some Out) → ⊥
 no_out h = cc
@@ -209,4 +213,18 @@ pub one_by_one : (directory : List (List ℕ)) (b : Balances) (calls : List Call
 one_by_one directory b calls ops board same opening carried is = record {
   replies = all_replies directory b calls board same opening (carried.log ∙ is) carried.idle carried.base_replies;
   rows = λ c valid after. all_rows directory b c calls board same valid opening (carried.log ∙ is) after;
+}
+
+-- so a node that executed the calls of a log ran it
+pub runs_log : {S : Type 0} (old new : ReplicaOf S) (log : List (Key × Call)) (calls : List Call) → calls_of log ≡ calls
+    → SameCustomers old.names old.board.opening → new.names ≡ old.names → new.board.opening ≡ old.board.opening
+    → IsWholeLog (map (op_of old.names) calls) new.board → RunsLog (record { log = log; node = old }) new
+runs_log old new log calls same customers names opening carried = record {
+  names_are = names;
+  opening_is = opening;
+  log_is = carried.log ∙ ap (map (op_of old.names)) (sym same);
+  one_by_one =
+      one_by_one new.names new.board.opening (calls_of log) (map (op_of old.names) calls) new.board
+      (subst (λ n. SameCustomers n new.board.opening) (sym names) (subst (SameCustomers old.names) (sym opening) customers))
+      refl carried (λ j. map (op_of (sym names j)) (sym same j));
 }

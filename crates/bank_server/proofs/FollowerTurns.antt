@@ -1,12 +1,11 @@
 -- The turns of a follower.
-use Rattle.std.proofs.Common.{◌≡◌, Option, Some, None, Result, Ok, Err, List, [], ◌∷◌, ◌++◌, refl, sym, ap, subst}
+use Rattle.std.proofs.Common.{◌≡◌, Option, Result, Ok, Err, List, [], ◌∷◌, ◌++◌, refl, ap, subst}
 use Rattle.std.specs.Prelude.{IfSome, MatchResult}
 use Rattle.std.specs.Result.{result_ok}
 use Rattle.std.specs.List.{AllByRecursion}
 use Rattle.cown_workers.specs.Draining.{TakesSteps, CrewStep, IsDrained, EndsInVain, KeepsNoJob}
 use Rattle.sb_calls.specs.declared.op.Op.{Op}
 use Rattle.sb_replica.specs.Replica.{RestOf, ReplicaOf, rest_of}
-use Rattle.sb_replica.specs.declared.pause.Pause.{Pause}
 use Rattle.bank_server.specs.inner.FollowerTurns.{FollowerOf, RunsAll, TakesTurn, TakesTurns, Turn}
 
 -- one more turn
@@ -20,18 +19,6 @@ pub steps_in_place : {C : Type 0} (steps : List CrewStep) (old new : C) → Take
     → AllByRecursion KeepsNoJob steps
 steps_in_place [] old new acts = tt
 steps_in_place (step ∷ steps) old new acts = (acts.1, steps_in_place steps acts.0 new acts.2)
-
-some_is : {A : Type 0} {x y : A} → ◌≡◌ {A = Option A} (Some x) (Some y) → x ≡ y
-some_is h = cc
-
-none_is_some : {A B : Type 0} {x : A} → ◌≡◌ {A = Option A} (Some x) None → B
-none_is_some h = absurd cc
-
--- what holds of an answer holds of the pause in it
-pub of_pause : {E : Type 0} (answer : Result Pause E) (pause : Pause) (P : Pause → Type 0) (Q : E → Type 0) → Some pause ≡ result_ok answer
-    → MatchResult answer P Q → P pause
-of_pause (Ok found) pause P Q is holds = subst P (sym (some_is is)) holds
-of_pause (Err fault) pause P Q is holds = none_is_some is
 
 -- a board that was drained in place ran everything
 pub runs_all : {S C E : Type 0} (old new : ReplicaOf S) (before after : C) (answer : Result (Unit {0}) E)

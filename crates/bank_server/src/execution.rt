@@ -2,12 +2,16 @@
 ghost use Rattle.std.specs.Prelude.{◌≡◌, ◌≢◌, ◌≤◌, ◌<◌, ◌+◌, List, [], ◌∷◌, false, length, map, IfErr, IfNone, OnOk, OnErr};
 ghost use Rattle.sb_rows.specs.Rows.{SameCustomers};
 ghost use Rattle.sb_calls.specs.Op.{IsOpWithin, op_of};
+ghost use Rattle.sb_calls.specs.declared.ask.Key.{Key};
+ghost use Rattle.sb_calls.specs.declared.call.Call.{Call as AnyCall};
 ghost use Rattle.cown_board.specs.Board.{length_of, unfinished_of};
 ghost use Rattle.cown_workers.specs.Draining.{PreservesLog, HasNoneOut};
 ghost use Rattle.sb_replica.specs.Replica.{rest_of};
 ghost use Rattle.bank_server.specs.inner.Appends.{AreOpsWithin, AppendsOps};
-ghost use Rattle.bank_server.specs.Execution.{IsWholeLog, IsOneByOne, HasNoEntries};
+ghost use Rattle.sb_sequencer.specs.Numbering.{calls_of};
+ghost use Rattle.bank_server.specs.Execution.{HasNoEntries};
 ghost use Rattle.bank_server.specs.Faults.{IsExecutionFault};
+ghost use Rattle.bank_server.specs.Primary.{RunsLog};
 
 use crate::followers::Followers;
 use crate::resolving::resolve_part;
@@ -42,14 +46,12 @@ pub(crate) fn carry_out<S: CheckpointStore, C: Crew, R: Wait>(
     followers: &mut Followers<'_, R>,
 ) -> Result<(), CrewFault>
     requires opened { HasNoEntries replica.old.board }
+    requires customers { SameCustomers replica.old.names replica.old.board.opening }
     requires limit { length calls.now ≤ LOG_CALLS }
     requires log_given { IfNone log (followers.old.listening ≡ 0) }
-    ensures finished { OnOk result (IsWholeLog (map (op_of replica.old.names) calls.now) replica.new.board) }
-    ensures opening { OnOk result (replica.new.board.opening ≡ replica.old.board.opening) }
     // The result is as if the calls were executed one by one.
-    ensures one_by_one { OnOk result (SameCustomers replica.old.names replica.old.board.opening
-        → IsOneByOne replica.old.names calls.now replica.old.board.opening replica.new.board) }
-    ensures rest { rest_of replica.new ≡ rest_of replica.old }
+    ensures run { (log : List (Key × AnyCall)) → calls_of log ≡ calls.now
+        → OnOk result (RunsLog (record { log = log; node = replica.old }) replica.new) }
     ensures sent { OnOk result (length calls.now ≤ followers.new.sent) }
     ensures unchanged { followers.new ≡ record followers.old { sent = followers.new.sent } }
     ensures fault { IfErr result (IsExecutionFault C.keeps replica.old.board) }

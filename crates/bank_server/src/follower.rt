@@ -59,7 +59,10 @@ fn handle_rest<R: Wait>(
         (record { replica = replica.new; stream = stream.new })) }
 {
     for _ in rt.forever() {
-        match replica.receive_stream(stream).ok()? {
+        let Ok(pause) = replica.receive_stream(stream) else {
+            return None;
+        };
+        match pause {
             Pause::Short => return Some(()),
             Pause::Busy | Pause::Other(Frame::Flush) => carry_out_all(replica)?,
             // Nothing else is sent to a follower.

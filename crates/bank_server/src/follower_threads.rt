@@ -1,6 +1,7 @@
 //! Followers in threads: how they are started and compared.
-ghost use Rattle.std.specs.Prelude.{IfErr};
+ghost use Rattle.std.specs.Prelude.{◌≡◌, IfErr};
 ghost use Rattle.bank_server.specs.Faults.{IsFollowersFault};
+ghost use Rattle.bank_server.specs.declared.fault.RunFault.TheVariants.{Strayed};
 
 use crate::agreement::agree;
 use crate::fault::RunFault;
@@ -30,12 +31,24 @@ pub(crate) fn start<'s, E, R: Wait + Sync>(
         let Some(follower) = followers.next() else {
             return Err(RunFault::Strayed(number));
         };
-        match scope.spawn(move || follower.follow(rt)) {
-            Ok(thread) => threads.push(thread)?,
-            Err(_) => return Err(RunFault::Strayed(number)),
-        }
+        threads.push(start_one(scope, rt, follower, number)?)?;
     }
     Ok(threads)
+}
+
+// Starts the thread of the follower with this number.
+fn start_one<'s, E, R: Wait + Sync>(
+    scope: &'s Scope<'s, E>,
+    rt: &'s R,
+    follower: Follower,
+    number: usize,
+) -> Result<JoinHandle<Box<Replica<MemoryStore>>>, RunFault>
+    ensures fault { IfErr result (λ fault. fault ≡ Strayed number) }
+{
+    match scope.spawn(move || follower.follow(rt)) {
+        Ok(thread) => Ok(thread),
+        Err(_) => Err(RunFault::Strayed(number)),
+    }
 }
 
 /// Compares node 0 with each follower, once its thread has ended.

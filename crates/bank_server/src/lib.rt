@@ -23,6 +23,7 @@ mod ready_followers;
 mod resolving;
 mod run;
 mod save_fault;
+mod saving;
 mod session;
 mod session_fault;
 mod team;

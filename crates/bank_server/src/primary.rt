@@ -2,6 +2,7 @@
 ghost use Rattle.std.specs.Prelude.{◌≡◌, ◌≢◌, ◌≤◌, ◌↔◌, [], List, length, false, IfOk, IfErr, IsErrOf, MatchOption, OnOk, OnErr};
 ghost use Rattle.sb_calls.specs.declared.ask.Key.{Key as AnyKey};
 ghost use Rattle.sb_calls.specs.declared.call.Call.{Call as AnyCall};
+ghost use Rattle.sb_rows.specs.Rows.{SameCustomers};
 ghost use Rattle.cown_board.specs.Board.{length_of, unfinished_of};
 ghost use Rattle.cown_workers.specs.Draining.{HasNoneOut};
 ghost use Rattle.sb_checkpoint.specs.Stores.{StoreDoes};
@@ -18,10 +19,11 @@ ghost use Rattle.bank_server.specs.Standing.{IsStandingWithin};
 
 use crate::asking::{Standing, ask_key};
 use crate::boxed_replica::open_boxed;
-use crate::catching_up::catch_up;
-use crate::execution::{carry_out, settle};
+use crate::catching_up::{catch_up, execute_rest};
+use crate::execution::carry_out;
 use crate::followers::Followers;
 use crate::save_fault::SaveFault;
+use crate::saving::save_node;
 use crate::session_fault::SessionFault;
 use cown_workers::{Crew, CrewFault};
 use sb_calls::{Call, Key, LOG_CALLS};
@@ -70,8 +72,8 @@ impl<S: CheckpointStore> Primary<S> {
         ensures log { IfOk result (λ primary. primary.log ≡ []) }
         ensures node { IfOk result (λ primary. primary.node ≡ node_at_opening opening store) }
     {
-        let log = boxed_log(alloc, entries.min(LOG_CALLS))?;
         let node = open_boxed(alloc, 0, opening.directory, opening.columns, store)?;
+        let log = boxed_log(alloc, entries.min(LOG_CALLS))?;
         Ok(Primary { alloc, log, node })
     }
 
@@ -124,7 +126,7 @@ impl<S: CheckpointStore> Primary<S> {
         ensures fault { IfErr result IsSettleFault }
         ensures crew_lost { IfErr result (LosesCrew C.keeps self.old.node.board) }
     {
-        Ok(catch_up(&self.log, &mut self.node, crew)?)
+        catch_up(&self.log, &mut self.node, crew)
     }
 
     /// Has node 0 execute the whole log.
@@ -144,9 +146,7 @@ impl<S: CheckpointStore> Primary<S> {
         ensures fault { IfErr result IsSettleFault }
         ensures crew_lost { IfErr result (LosesCrew C.keeps self.old.node.board) }
     {
-        let node = &mut *self.node;
-        catch_up(&self.log, node, crew)?;
-        Ok(settle(node, crew)?)
+        execute_rest(&self.log, &mut self.node, crew)
     }
 
     /// Has node 0 execute the whole log, of which it has nothing yet, together with its followers,
@@ -172,13 +172,7 @@ impl<S: CheckpointStore> Primary<S> {
     {
         let Primary { alloc, log, node } = self;
         let mut node = node;
-        if followers.is_empty() {
-            // The board can take the place of the keys in memory.
-            let calls = take_calls(log);
-            carry_out(alloc, &calls, None, &mut node, crew, followers)?;
-            return Ok(node);
-        }
-        carry_out(alloc, log.calls(), Some(&log), &mut node, crew, followers)?;
+        execute_log(alloc, log, &mut node, crew, followers)?;
         Ok(node)
     }
 
@@ -205,13 +199,7 @@ impl<S: CheckpointStore> Primary<S> {
         ensures honest { S.model.IsHonest self.old.node.store → ¬ IsErrOf result SaveFault.ReadBack }
         ensures unchanged { self.new ≡ record self.old { node = record self.old.node { store = self.new.node.store } } }
     {
-        let node = &mut *self.node;
-        let put = node.put_checkpoint()?;
-        let same = node.store_has_content(&put)?;
-        if !same {
-            return Err(SaveFault::ReadBack);
-        }
-        Ok(node.length())
+        save_node(&mut self.node)
     }
 }
 
@@ -222,6 +210,31 @@ fn boxed_log(alloc: Global, entries: usize) -> Result<Box<Sequencer>, AllocError
 {
     let log = Sequencer::with_capacity(alloc, 1, entries)?;
     Ok(Box::new(alloc, log)?)
+}
+
+// Executes a log on a node that has nothing of it yet. Unless followers listen, all but its calls is
+// dropped before.
+fn execute_log<S: CheckpointStore, R: Wait, C: Crew>(
+    alloc: Global,
+    log: Box<Sequencer>,
+    node: &mut Replica<S>,
+    crew: &mut C,
+    followers: &mut Followers<'_, R>,
+) -> Result<(), CrewFault>
+    requires valid { IsLog log.value.log }
+    requires opened { HasNoEntries node.old.board }
+    requires customers { SameCustomers node.old.names node.old.board.opening }
+    ensures run { OnOk result (RunsLog (record { log = log.value.log; node = node.old }) node.new) }
+    ensures sent { OnOk result (length log.value.log ≤ followers.new.sent) }
+    ensures unchanged { followers.new ≡ record followers.old { sent = followers.new.sent } }
+    ensures fault { IfErr result (IsExecutionFault C.keeps node.old.board) }
+{
+    if followers.is_empty() {
+        // The board can take the place of the keys in memory.
+        let calls = take_calls(log);
+        return carry_out(alloc, &calls, None, node, crew, followers);
+    }
+    carry_out(alloc, log.calls(), Some(&log), node, crew, followers)
 }
 
 // The calls of a log, of which nothing else is needed. The function owns nothing else.

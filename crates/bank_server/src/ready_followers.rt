@@ -106,11 +106,10 @@ fn push_follower(
         × (followers.new.items ≡ followers.old.items ++ follower ∷ [])) }
 {
     let (end, inbox) = bounded(alloc, MESSAGES)?;
-    let stream = Stream::new(alloc);
     senders.push(end)?;
     followers.push(Follower {
         replica,
-        stream,
+        stream: Stream::new(alloc),
         inbox,
     })?;
     Ok(())
@@ -127,8 +126,9 @@ fn open_copy(
     requires { length columns.now.savings ≡ length directory.now }
     ensures { IfOk result (λ node. IsAtOpening directory.now columns.now node.value) }
 {
-    let store = MemoryStore::new(alloc);
-    let mut node = open_boxed(alloc, id, directory.copy()?, columns.copy()?, store)?;
+    let names = directory.copy()?;
+    let own = columns.copy()?;
+    let mut node = open_boxed(alloc, id, names, own, MemoryStore::new(alloc))?;
     node.reserve(entries)?;
     Ok(node)
 }

@@ -7,15 +7,15 @@ use Rattle.sb_calls.specs.declared.op.Op.{Op}
 use Rattle.sb_replica.specs.Replica.{RestOf}
 use Rattle.sb_sequencer.specs.Numbering.{call_of_number}
 use Rattle.bank_server.specs.Primary.{log_ops}
-use Rattle.bank_server.proofs.LogOps.{fault_behind, op_here, one_more_op}
+use Rattle.bank_server.proofs.LogOps.{fault_behind, loses_crew, op_here, one_more_op}
 use Rattle.bank_server.proofs.catching_up.catch_up.Goals as goal
 
-pub returns-in_err-submit-clause-fault : goal.returns-in_err-submit-clause-fault
-returns-in_err-submit-clause-fault g c =
+pub returns-in_err-submit-clause-crew_lost : goal.returns-in_err-submit-clause-crew_lost
+returns-in_err-submit-clause-crew_lost g c =
     let p = err_from_is_err_and c.from_residual.result c.from_residual.ensures.1 in
-    let kept = c.loop-number.invariant in
-    rw (p.1, p.2) (fault_behind g.C.Crew.keeps c.args.node.now.board c.loop-number.node.board
-    c.in_err-submit.field-0.0 kept.none_out c.in_err-submit.ensures.fault)
+    let fault = c.in_err-submit.field-0.0 in
+    rw (p.1, p.2) (loses_crew g.C.Crew.keeps c.args.node.now.board fault
+    (fault_behind g.C.Crew.keeps c.args.node.now.board c.loop-number.node.board fault c.loop-number.invariant.none_out c.in_err-submit.ensures.fault))
 
 pub loop-number-preserved : goal.loop-number-preserved
 loop-number-preserved g c =

@@ -1,25 +1,17 @@
-use Rattle.std.proofs.Common.{subst}
-use Rattle.std.proofs.lemmas.Result.{err_from_is_err_and}
+use Rattle.std.proofs.Common.{◌≡◌, ap, subst, ◌∙◌}
+use Rattle.std.specs.Prelude.{IfErr, OnOk}
 use Rattle.cown_workers.specs.Draining.{HasNoneOut}
 use Rattle.sb_replica.specs.Replica.{ReplicaOf}
-use Rattle.bank_server.specs.Faults.{IsExecutionFault}
 use Rattle.bank_server.specs.Primary.{PrimaryOf}
 use Rattle.bank_server.specs.SessionFaults.{LosesCrew}
-use Rattle.bank_server.specs.inner.FlushFaults.{session_of_crew_fault}
-use Rattle.bank_server.proofs.LogOps.{loses_crew}
 use Rattle.bank_server.proofs.primary.Primary.offer_rest.Goals as goal
 
-pub returns-in_err-catch_up-clause-crew_lost : goal.returns-in_err-catch_up-clause-crew_lost
-returns-in_err-catch_up-clause-crew_lost g c =
-    let p = err_from_is_err_and c.from_residual.result c.from_residual.ensures.1 in
-    let fault = c.in_err-catch_up.field-0.0 in
-    let keeps = g.C.Crew.keeps in
-    rw (p.1, p.2) (subst (λ (v : PrimaryOf g.row.S.Denot). LosesCrew keeps v.node.board (session_of_crew_fault fault)) c.self.view_is
-    (loses_crew keeps c.self.inside.node.value.board fault
-    (subst (λ (r : ReplicaOf g.row.S.Denot). IsExecutionFault keeps r.board fault) c.deref_mut.ensures.value c.in_err-catch_up.ensures.fault)))
+pub returns-clause-crew_lost : goal.returns-clause-crew_lost
+returns-clause-crew_lost g c =
+    let node : c.deref_mut.result.now ≡ c.args.self.now.node = c.deref_mut.ensures.value ∙ ap (λ (p : PrimaryOf g.row.S.Denot). p.node) c.self.view_is in
+    subst (λ (r : ReplicaOf g.row.S.Denot). IfErr c.catch_up.result (LosesCrew g.C.Crew.keeps r.board)) node c.catch_up.ensures.crew_lost
 
 pub returns-clause-none_out : goal.returns-clause-none_out
 returns-clause-none_out g c =
-    subst (λ (v : PrimaryOf g.row.S.Denot). HasNoneOut v.node.board → HasNoneOut c.catch_up.new.node.board) c.self.view_is
-    (subst (λ (r : ReplicaOf g.row.S.Denot). HasNoneOut r.board → HasNoneOut c.catch_up.new.node.board) c.deref_mut.ensures.value
-    c.in_ok-catch_up.ensures.none_out)
+    let node : c.deref_mut.result.now ≡ c.args.self.now.node = c.deref_mut.ensures.value ∙ ap (λ (p : PrimaryOf g.row.S.Denot). p.node) c.self.view_is in
+    subst (λ (r : ReplicaOf g.row.S.Denot). OnOk c.catch_up.result (HasNoneOut r.board → HasNoneOut c.catch_up.new.node.board)) node c.catch_up.ensures.none_out

@@ -1,46 +1,39 @@
-use Rattle.std.proofs.Common.{rules, subst}
-use Rattle.std.proofs.lemmas.Result.{err_from_is_err_and}
-use Rattle.sb_checkpoint.specs.Stores.{StoreDoes, StoreStep}
-use Rattle.sb_replica.specs.Marking.{PutsBytes}
+use Rattle.std.proofs.Common.{◌≡◌, ap, subst, ◌∙◌}
+use Rattle.std.specs.Prelude.{◌≢◌, ◌↔◌, IfErr, IfOk, IsErrOf, OnOk}
+use Rattle.cown_board.specs.Board.{length_of, unfinished_of}
+use Rattle.sb_checkpoint.specs.Stores.{StoreDoes}
 use Rattle.sb_replica.specs.Replica.{ReplicaOf}
 use Rattle.bank_server.specs.Primary.{PrimaryOf}
-use Rattle.bank_server.specs.Saving.{IsSaveFaultOf, Saves}
-use Rattle.bank_server.specs.inner.SaveFaults.{save_of_store_fault}
-use Rattle.bank_server.specs.declared.save_fault.SaveFault.TheVariants.{ReadBack}
-use Rattle.bank_server.proofs.Saves.{not_read, read_back, read_other}
+use Rattle.bank_server.specs.Saving.{IsSaveFaultOf, Saves, StoresCheckpoint}
+use Rattle.bank_server.specs.declared.save_fault.SaveFault.TheVariants.{Busy, ReadBack}
 use Rattle.bank_server.proofs.primary.Primary.save.Goals as goal
-
-pub returns-in_err-same-clause-fault : goal.returns-in_err-same-clause-fault
-returns-in_err-same-clause-fault g c =
-    let p = err_from_is_err_and c.from_residual-in_err-same.result c.from_residual-in_err-same.ensures.1 in
-    let fault = c.in_err-same.field-0.0 in
-    let does : g.row.S.Denot → StoreStep → g.row.S.Denot → Type 0 = StoreDoes g.S.CheckpointStore.model in
-    let new = c.store_has_content.new.self in
-    let puts = subst (λ (old : ReplicaOf g.row.S.Denot). PutsBytes does old c.in_ok-put.put.items c.put_checkpoint.new.self) c.deref_mut-node.ensures.value
-    c.in_ok-put.ensures.ok in
-    rw (p.1, p.2)
-    (subst (λ (v : PrimaryOf g.row.S.Denot). IsSaveFaultOf does v.node (save_of_store_fault fault) new) c.self.view_is
-    (not_read does c.self.inside.node.value c.put_checkpoint.new.self new c.in_ok-put.put.items puts
-    c.store_has_content.ensures.unchanged c.self.invariant.behind.uncut fault c.in_err-same.ensures.compares))
-
-pub returns-then-not-same-clause-fault : goal.returns-then-not-same-clause-fault
-returns-then-not-same-clause-fault g c =
-    let does : g.row.S.Denot → StoreStep → g.row.S.Denot → Type 0 = StoreDoes g.S.CheckpointStore.model in
-    let new = c.store_has_content.new.self in
-    let puts = subst (λ (old : ReplicaOf g.row.S.Denot). PutsBytes does old c.in_ok-put.put.items c.put_checkpoint.new.self) c.deref_mut-node.ensures.value
-    c.in_ok-put.ensures.ok in
-    let compared = c.in_ok-same.ensures.compares in
-    subst (λ (v : PrimaryOf g.row.S.Denot). IsSaveFaultOf does v.node ReadBack new) c.self.view_is
-    (read_other does c.self.inside.node.value c.put_checkpoint.new.self new c.in_ok-put.put.items puts
-    c.store_has_content.ensures.unchanged c.self.invariant.behind.uncut compared.content compared.get (search rules))
 
 pub returns-clause-saved : goal.returns-clause-saved
 returns-clause-saved g c =
-    let does : g.row.S.Denot → StoreStep → g.row.S.Denot → Type 0 = StoreDoes g.S.CheckpointStore.model in
-    let new = c.store_has_content.new.self in
-    let puts = subst (λ (old : ReplicaOf g.row.S.Denot). PutsBytes does old c.in_ok-put.put.items c.put_checkpoint.new.self) c.deref_mut-node.ensures.value
-    c.in_ok-put.ensures.ok in
-    let compared = c.in_ok-same.ensures.compares in
-    subst (λ (v : PrimaryOf g.row.S.Denot). Saves does v.node new) c.self.view_is
-    (read_back does c.self.inside.node.value c.put_checkpoint.new.self new c.in_ok-put.put.items puts
-    c.store_has_content.ensures.unchanged c.self.invariant.behind.uncut compared.content compared.get (search rules))
+    let node : c.deref_mut.result.now ≡ c.args.self.now.node = c.deref_mut.ensures.value ∙ ap (λ (p : PrimaryOf g.row.S.Denot). p.node) c.self.view_is in
+    subst (λ (r : ReplicaOf g.row.S.Denot). OnOk c.save_node.result (Saves (StoreDoes g.S.CheckpointStore.model) r c.save_node.new.node)) node c.save_node.ensures.saved
+
+pub returns-clause-size : goal.returns-clause-size
+returns-clause-size g c =
+    let node : c.deref_mut.result.now ≡ c.args.self.now.node = c.deref_mut.ensures.value ∙ ap (λ (p : PrimaryOf g.row.S.Denot). p.node) c.self.view_is in
+    subst (λ (r : ReplicaOf g.row.S.Denot). IfOk c.save_node.result (λ size. size ≡ length_of r.board)) node c.save_node.ensures.size
+
+pub returns-clause-stored : goal.returns-clause-stored
+returns-clause-stored g c =
+    let node : c.deref_mut.result.now ≡ c.args.self.now.node = c.deref_mut.ensures.value ∙ ap (λ (p : PrimaryOf g.row.S.Denot). p.node) c.self.view_is in
+    subst (λ (r : ReplicaOf g.row.S.Denot). OnOk c.save_node.result (g.S.CheckpointStore.model.IsHonest r.store → StoresCheckpoint g.S.CheckpointStore.model.slot r c.save_node.new.node)) node c.save_node.ensures.stored
+
+pub returns-clause-fault : goal.returns-clause-fault
+returns-clause-fault g c =
+    let node : c.deref_mut.result.now ≡ c.args.self.now.node = c.deref_mut.ensures.value ∙ ap (λ (p : PrimaryOf g.row.S.Denot). p.node) c.self.view_is in
+    subst (λ (r : ReplicaOf g.row.S.Denot). IfErr c.save_node.result (λ fault. IsSaveFaultOf (StoreDoes g.S.CheckpointStore.model) r fault c.save_node.new.node)) node c.save_node.ensures.fault
+
+pub returns-clause-busy : goal.returns-clause-busy
+returns-clause-busy g c =
+    let node : c.deref_mut.result.now ≡ c.args.self.now.node = c.deref_mut.ensures.value ∙ ap (λ (p : PrimaryOf g.row.S.Denot). p.node) c.self.view_is in
+    subst (λ (r : ReplicaOf g.row.S.Denot). IsErrOf c.save_node.result Busy ↔ (unfinished_of r.board ≢ 0)) node c.save_node.ensures.busy
+
+pub returns-clause-honest : goal.returns-clause-honest
+returns-clause-honest g c =
+    let node : c.deref_mut.result.now ≡ c.args.self.now.node = c.deref_mut.ensures.value ∙ ap (λ (p : PrimaryOf g.row.S.Denot). p.node) c.self.view_is in
+    subst (λ (r : ReplicaOf g.row.S.Denot). g.S.CheckpointStore.model.IsHonest r.store → ¬ IsErrOf c.save_node.result ReadBack) node c.save_node.ensures.honest
