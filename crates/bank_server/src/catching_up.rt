@@ -48,6 +48,7 @@ pub(crate) fn catch_up<S: CheckpointStore, C: Crew>(
 /// Fails with [`SessionFault::CrewGone`] if the crew leaves something unfinished, and with
 /// [`SessionFault::OutOfMemory`] if memory is refused. Then too the node has a beginning of the
 /// log.
+#[inline]
 pub(crate) fn execute_rest<S: CheckpointStore, C: Crew>(
     log: &Sequencer,
     node: &mut Replica<S>,
