@@ -1,6 +1,4 @@
 //! Calls on a board, executed by a crew.
-ghost use Rattle.std.specs.Prelude.{◌≤◌, IfOk};
-
 use crate::bank::Bank;
 use crate::bench_result::BenchResult;
 use crate::buffering_crew::BufferingCrew;
@@ -41,35 +39,11 @@ fn time_of<R: Threads + Wait + Clock + Sync>(
             workers,
             steps,
             calls,
-        } => in_threads(
-            rt,
-            alloc,
-            crew_size(workers)?,
-            &ComputeGate::of(steps),
-            bank,
-            calls,
-        ),
+        } => in_threads(rt, alloc, workers, &ComputeGate::of(steps), bank, calls),
         CrewChoice::Wait { workers } => {
-            in_threads(
-                rt,
-                alloc,
-                crew_size(workers)?,
-                &WaitGate { clock: rt },
-                bank,
-                1,
-            )
+            in_threads(rt, alloc, workers, &WaitGate { clock: rt }, bank, 1)
         }
     }
-}
-
-// This number of workers, if a crew may have as many.
-fn crew_size(workers: usize) -> Result<usize, Fault>
-    ensures { IfOk result (λ workers. (1 ≤ workers) × (workers ≤ 16)) }
-{
-    if workers < 1 || workers > 16 {
-        return Err(Fault::Workers);
-    }
-    Ok(workers)
 }
 
 // One thread executes this many calls.
@@ -113,7 +87,8 @@ fn deposit(
     Ok(start.elapsed(clock)?)
 }
 
-// This many workers execute this many calls; starting and ending the threads counts too.
+// This many workers execute this many calls; starting and ending the threads counts too. Fails if a
+// crew can't have as many.
 fn in_threads<R, G>(
     rt: &R,
     alloc: Global,
@@ -125,9 +100,10 @@ fn in_threads<R, G>(
 where
     R: Threads + Wait + Clock + Sync,
     G: Gate + Sync,
-    requires workers { 1 ≤ workers }
-    requires limit { workers ≤ 16 }
 {
+    if workers < 1 || workers > 16 {
+        return Err(Fault::Workers);
+    }
     let start = Instant::now(rt)?;
     with_crew(rt, alloc, workers, gate, move |crew| {
         bank.deposit(crew, Payees::Many, calls)

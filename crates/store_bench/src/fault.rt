@@ -21,22 +21,16 @@ pub enum Fault {
     /// The board doesn't take this many calls.
     #[error(transparent)]
     Submit(#[from] SubmitFault),
-    /// The crew can't be started.
+    /// The crew can't be started, or hands over nothing more.
     #[error(transparent)]
     Crew(#[from] CrewFault),
-    /// The crew handed over nothing more.
-    #[error(transparent)]
-    Gone(#[from] CrewGone),
     /// The board isn't idle.
     #[error("unfinished")]
     Unfinished,
     /// A checkpoint isn't read.
     #[error(transparent)]
     Checkpoint(#[from] CheckpointFault),
-    /// A stream takes no bytes.
-    #[error(transparent)]
-    Stream(#[from] StreamFault),
-    /// A replica receives no entries.
+    /// A replica receives no entries, or their stream takes no bytes.
     #[error(transparent)]
     Receive(#[from] ReceiveFault),
     /// A replica keeps no checkpoint.
@@ -54,4 +48,16 @@ pub enum Fault {
     /// Printing or the clock failed.
     #[error(transparent)]
     Device(#[from] io::Error),
+}
+
+impl From<CrewGone> for Fault {
+    fn from(_gone: CrewGone) -> Fault {
+        Fault::Crew(CrewFault::CrewGone)
+    }
+}
+
+impl From<StreamFault> for Fault {
+    fn from(fault: StreamFault) -> Fault {
+        Fault::Receive(ReceiveFault::Stream(fault))
+    }
 }

@@ -1,5 +1,5 @@
 //! The banks that are measured.
-ghost use Rattle.std.specs.Prelude.{◌≡◌, ◌++◌, Ok, IfOk, OnOk, codes, string_bytes};
+ghost use Rattle.std.specs.Prelude.{◌≡◌, ◌++◌, Ok, IfOk, OnOk, codes, length, string_bytes};
 ghost use Rattle.sb_rows.specs.Opening.{opening_of};
 ghost use Rattle.store_bench.specs.Banks.{IsBankOf, generated_line, generated_lines};
 
@@ -14,12 +14,7 @@ pub fn open_bank(alloc: Global, customers: u32, balances: &str) -> Result<Openin
         IsBankOf customers balances.now opening.directory opening.columns) }
 {
     let text = bank_text(alloc, customers, balances)?;
-    let opening = read_text(alloc, text.as_str())?;
-    // It has as many customers as the caller wants, whatever the balances are.
-    if opening.directory.len() != customers as usize {
-        return Err(Fault::Bank);
-    }
-    Ok(opening)
+    read_text(alloc, text.as_str(), customers)
 }
 
 // A line for each customer, and the line that ends them.
@@ -44,12 +39,18 @@ fn push_customer(alloc: Global, place: u32, balances: &str, text: &mut String) -
     Ok(())
 }
 
-fn read_text(alloc: Global, text: &str) -> Result<Opening, Fault>
-    ensures { IfOk result (λ opening. opening_of text.now ≡ Ok (record {
+// The opening that a text spells, if it has this many customers, as the caller wants whatever the
+// balances are.
+fn read_text(alloc: Global, text: &str, customers: u32) -> Result<Opening, Fault>
+    ensures count { IfOk result (λ opening. length opening.directory ≡ customers) }
+    ensures read { IfOk result (λ opening. opening_of text.now ≡ Ok (record {
       names = opening.directory;
       balances = opening.columns;
       consumed = opening.consumed;
     })) }
 {
-    read_opening(alloc, text.as_bytes()).map_err(|_| Fault::Bank)
+    match read_opening(alloc, text.as_bytes()) {
+        Ok(opening) if opening.directory.len() == customers as usize => Ok(opening),
+        _ => Err(Fault::Bank),
+    }
 }

@@ -63,16 +63,23 @@ pub enum CrewChoice {
 pub fn read_words(words: &[String]) -> Option<Measurement>
     ensures { IfSome result (λ measurement. GivesMeasurement measurement words.now) }
 {
-    if names_action(words, 3, "write") {
-        let count = parse_u32(words, 2)?;
+    if let Some(count) = count_after(words, "write") {
         return Some(Measurement::Write { count });
     }
-    if names_action(words, 3, "read") {
-        let count = parse_u32(words, 2)?;
+    if let Some(count) = count_after(words, "read") {
         return Some(Measurement::Read { count });
     }
-    if let Some(measurement) = read_states(words) {
-        return Some(measurement);
+    if let Some(count) = count_after(words, "adopt") {
+        return Some(Measurement::Adopt { count });
+    }
+    if let Some(count) = count_after(words, "open") {
+        return Some(Measurement::Open { count });
+    }
+    if let Some(absence) = absence_after(words, "by-state") {
+        return Some(Measurement::ByState(absence));
+    }
+    if let Some(absence) = absence_after(words, "by-entries") {
+        return Some(Measurement::ByEntries(absence));
     }
     let choice = match read_threadless(words) {
         Some(choice) => choice,
@@ -81,63 +88,22 @@ pub fn read_words(words: &[String]) -> Option<Measurement>
     Some(Measurement::Drain(choice))
 }
 
-// What is measured of states.
-fn read_states(words: &[String]) -> Option<Measurement>
-    ensures { IfSome result (λ measurement. GivesMeasurement measurement words.now) }
-{
-    if names_action(words, 3, "adopt") {
-        let count = parse_u32(words, 2)?;
-        return Some(Measurement::Adopt { count });
-    }
-    if names_action(words, 3, "open") {
-        let count = parse_u32(words, 2)?;
-        return Some(Measurement::Open { count });
-    }
-    if names_action(words, 5, "by-state") {
-        return Some(Measurement::ByState(read_absence(words)?));
-    }
-    if names_action(words, 5, "by-entries") {
-        return Some(Measurement::ByEntries(read_absence(words)?));
-    }
-    None
-}
-
-// What a replica missed, by the three numbers after the second word.
-fn read_absence(words: &[String]) -> Option<Absence>
-    ensures { IfSome result (λ absence. GivesAbsence absence words.now) }
-{
-    let customers = parse_u32(words, 2)?;
-    let before = parse_u32(words, 3)?;
-    let entries = parse_u32(words, 4)?;
-    Some(Absence {
-        customers,
-        before,
-        entries,
-    })
-}
-
 // Calls that are executed without threads.
 fn read_threadless(words: &[String]) -> Option<CrewChoice>
     ensures { IfSome result (λ choice. GivesDrain choice words.now) }
 {
+    if let Some(calls) = count_after(words, "one-customer") {
+        let payees = Payees::One;
+        return Some(CrewChoice::Buffered { payees, calls });
+    }
+    if let Some(calls) = count_after(words, "many-customers") {
+        let payees = Payees::Many;
+        return Some(CrewChoice::Buffered { payees, calls });
+    }
     if names_action(words, 4, "none") {
         let steps = parse_u64(words, 2)?;
         let calls = parse_u32(words, 3)?;
         return Some(CrewChoice::InPlace { steps, calls });
-    }
-    if names_action(words, 3, "one-customer") {
-        let calls = parse_u32(words, 2)?;
-        return Some(CrewChoice::Buffered {
-            payees: Payees::One,
-            calls,
-        });
-    }
-    if names_action(words, 3, "many-customers") {
-        let calls = parse_u32(words, 2)?;
-        return Some(CrewChoice::Buffered {
-            payees: Payees::Many,
-            calls,
-        });
     }
     None
 }
@@ -160,6 +126,37 @@ fn read_threaded(words: &[String]) -> Option<CrewChoice>
         });
     }
     None
+}
+
+// The number after the second word, if that is this one and there are no further words.
+fn count_after(words: &[String], action: &str) -> Option<u32>
+    ensures { IfSome result
+        (λ count. NamesAction words.now 3 action.now × HasIntegerAt words.now 2 count) }
+{
+    if names_action(words, 3, action) {
+        parse_u32(words, 2)
+    } else {
+        None
+    }
+}
+
+// What a replica missed, by the three numbers after the second word, if that is this one and there
+// are no further words.
+fn absence_after(words: &[String], action: &str) -> Option<Absence>
+    ensures { IfSome result
+        (λ absence. NamesAction words.now 5 action.now × GivesAbsence absence words.now) }
+{
+    if !names_action(words, 5, action) {
+        return None;
+    }
+    let customers = parse_u32(words, 2)?;
+    let before = parse_u32(words, 3)?;
+    let entries = parse_u32(words, 4)?;
+    Some(Absence {
+        customers,
+        before,
+        entries,
+    })
 }
 
 // Whether there are this many words, and the second is this one.
