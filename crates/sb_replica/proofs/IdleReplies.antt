@@ -1,11 +1,12 @@
 -- The replies of an idle board, by number.
-use Rattle.std.proofs.Common.{◌≡◌, ℕ, zero, suc, ◌+◌, ◌-◌, ◌<◌, false, Option, Some, None, List, [], ◌∷◌, ◌++◌, length, take, refl, sym, ap, ◌∙◌, arith, inl, inr}
-use Rattle.std.specs.Prelude.{if◌then◌else◌, nat_le, ◌==◌, option_and_then}
+use Rattle.std.proofs.Common.{◌≡◌, ℕ, zero, suc, ◌+◌, ◌-◌, ◌<◌, false, Option, Some, None, List, [], ◌∷◌, ◌++◌, length, take, refl, sym, ap, subst, ◌∙◌, arith, inl, inr}
+use Rattle.std.specs.Prelude.{if◌then◌else◌, nat_le, ◌==◌, option_and_then, IsSome}
 use Rattle.std.specs.List.{slice_get, filter_map}
 use Rattle.std.proofs.lemmas.Bool.{true≢false, cases_lt, lt-leb, le-leb, ne_eqb}
 use Rattle.std.proofs.lemmas.List.{length-append}
 use Rattle.std.proofs.lemmas.Option.{slice_get_cases}
 use Rattle.sb_calls.specs.declared.op.Op.{Op}
+use Rattle.sb_calls.specs.declared.reply.Reply.{Reply}
 use Rattle.cown_board.specs.Board.{BoardOf, length_of, unfinished_of, reply_in}
 use Rattle.cown_board.specs.State.{is_unfinished, state_is, finished_reply}
 use Rattle.cown_board.specs.declared.state.State.{State}
@@ -67,13 +68,10 @@ take_one_more [] k x h = absurd cc
 take_one_more (y ∷ xs) zero x h = ap (λ z. z ∷ []) cc
 take_one_more (y ∷ xs) (suc k) x h = ap (λ t. y ∷ t) (take_one_more xs k x h)
 
-none_is_some : {A : Type 0} {x : A} → ◌≡◌ {A = Option A} None (Some x) → ⊥
-none_is_some h = cc
-
 -- none is missing
-pub none_missing : (board : BoardOf Op) (place : ℕ) → unfinished_of board ≡ 0 → length board.log ≡ length board.states → place < length_of board
-    → reply_in board (place + 1) ≡ None → ⊥
-none_missing board place idle beside lt none = elim (slice_get_cases (board_replies board) place).1 [
-  | inl here ↦ (none_is_some (sym none ∙ reply_at board place idle ∙ here.2))
-  | inr past ↦ (omega (arith, past.0, lt, length_held board idle beside))
+pub is_there : (board : BoardOf Op) (place : ℕ) (reply : Option Reply) → unfinished_of board ≡ 0 → length board.log ≡ length board.states
+    → place < length_of board → reply ≡ reply_in board (place + 1) → IsSome reply
+is_there board place reply idle beside lt is = elim (slice_get_cases (board_replies board) place).1 [
+  | inl here ↦ subst IsSome (sym (is ∙ reply_at board place idle ∙ here.2)) refl
+  | inr past ↦ absurd (omega (arith, past.0, lt, length_held board idle beside))
 ]

@@ -1,5 +1,7 @@
 pub mod AcceptedEntries
+pub mod AdoptedStates
 pub mod BoardReplies
+pub mod ChangedLogs
 pub mod IdleReplies
 pub mod MarkedReplies
 pub mod NoEntries
@@ -7,5 +9,6 @@ pub mod ReceivedBatches
 pub mod ReceivedBytes
 pub mod ReceivedEntries
 pub mod ReceivedStreams
+pub mod Refusals
 pub mod RightHeads
 pub mod TakenEntries

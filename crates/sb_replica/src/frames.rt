@@ -112,9 +112,9 @@ impl<S: CheckpointStore> Replica<S> {
             Accepts self.old.board number self.new.board }
     {
         let next = self.log.length() + 1;
-        match self.log.advance() {
-            Ok(offered) => Ok(held_entry_answer(next, offered)),
-            Err(_) => Err(ReplicaFault::OutOfMemory),
-        }
+        let Ok(offered) = self.log.advance() else {
+            return Err(ReplicaFault::OutOfMemory);
+        };
+        Ok(held_entry_answer(next, offered))
     }
 }

@@ -126,10 +126,7 @@ impl<S: CheckpointStore> Replica<S> {
         let length = self.marked_length();
         let mut draft = Draft::begin(self.alloc, columns, self.opening_total(), length as usize)?;
         for place in 0..length {
-            let Some(reply) = self.reply(place + 1) else {
-                unreachable!();
-            };
-            draft.push(reply);
+            draft.push(self.reply(place + 1).unwrap());
         }
         Ok(draft.finish())
     }
@@ -141,15 +138,11 @@ impl<S: CheckpointStore> Replica<S> {
         ensures valid { IfOk result (λ replies. All IsReply replies.items) }
         ensures limit { IfOk result (λ replies. length replies.items ≤ LOG_CALLS) }
     {
-        // Each entry is finished.
-        prove!(self.log.idle());
-        let length = self.length();
+        let length = self.log.length();
         let mut replies = Vec::with_capacity(self.alloc, length as usize)?;
         for place in 0..length {
-            let Some(reply) = self.reply(place + 1) else {
-                unreachable!();
-            };
-            replies.push(reply)?;
+            // Each entry is finished.
+            replies.push(self.reply(place + 1).unwrap())?;
         }
         Ok(replies)
     }

@@ -77,7 +77,6 @@ impl<S: CheckpointStore> Replica<S> {
 
     // The balances and the replies that the store holds, or those of the opening if it holds
     // nothing.
-    #[tactic(auto, using(crate::proofs::RightHeads::right_head))]
     fn stored_parts(&self, content: Option<Vec<u8>>) -> Result<(Columns, Vec<Reply>), RestartFault>
         ensures content { IfOk result (λ parts. IsStoredAs self.now.opening (origin_of self.now)
             (option_map (λ bytes. bytes.items) content)

@@ -64,7 +64,6 @@ impl<S: CheckpointStore> Replica<S> {
     ///
     /// Fails if the bytes aren't a checkpoint of this bank, or if memory is refused; nothing
     /// changes then.
-    #[tactic(auto, using(crate::proofs::RightHeads::right_head))]
     pub fn adopt(&mut self, bytes: &[u8]) -> Result<Adopted, AdoptFault>
         ensures outcome { MatchResult result
             (λ adopted. Adopts self.old bytes.now adopted self.new)

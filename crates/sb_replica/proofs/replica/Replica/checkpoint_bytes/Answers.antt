@@ -12,7 +12,7 @@ use Rattle.sb_checkpoint.specs.Checkpoint.{Second, SpellsInLayout}
 use Rattle.cown_board.specs.Board.{length_of}
 use Rattle.sb_replica.specs.Marking.{up_to_cut}
 use Rattle.sb_replica.specs.Replica.{origin_of, board_replies}
-use Rattle.sb_replica.proofs.IdleReplies.{reply_at, length_held, none_missing, take_one_more}
+use Rattle.sb_replica.proofs.IdleReplies.{reply_at, length_held, is_there, take_one_more}
 use Rattle.sb_replica.proofs.MarkedReplies.{marked_beside, marked_reply}
 use Rattle.sb_replica.proofs.replica.Replica.checkpoint_bytes.Goals as goal
 
@@ -24,32 +24,32 @@ one_more before replies reply =
     ∙ ap (λ bytes. flat_map reply_field replies ++ bytes) (append-nil (reply_field reply)))
     ∙ sym (append_assoc before (flat_map reply_field replies) (reply_field reply))
 
-pub unreachable-requires : goal.unreachable-requires
-unreachable-requires g c =
+pub unwrap-requires : goal.unwrap-requires
+unwrap-requires g c =
     let board = c.args.self.now.board in
-    let lt : c.loop-place.place < length_of (up_to_cut board) =
-    subst (λ n. c.loop-place.place < n) c.marked_length-length.ensures.value c.loop-place-test.true in
-    none_missing (up_to_cut board) c.loop-place.place c.requires (marked_beside board c.marked_length-length.ensures.same_length) lt
-    (sym (marked_reply board c.loop-place.place lt) ∙ sym c.reply.ensures.value ∙ c.in_default.is)
+    let place = c.loop-place.place in
+    let lt : place < length_of (up_to_cut board) = subst (λ n. place < n) c.marked_length-length.ensures.value c.loop-place-test.true in
+    is_there (up_to_cut board) place c.reply.result c.requires (marked_beside board c.marked_length-length.ensures.same_length) lt
+    (c.reply.ensures.value ∙ marked_reply board place lt)
 
 pub loop-place-preserved : goal.loop-place-preserved
 loop-place-preserved g c =
     let board = c.args.self.now.board in
     let held = board_replies (up_to_cut board) in
     let place = c.loop-place.place in
-    let reply = c.in-Some.reply in
+    let reply = c.unwrap.result in
     let next : place + 1 ≡ suc place = omega arith in
     let lt : place < length_of (up_to_cut board) = subst (λ n. place < n) c.marked_length-length.ensures.value c.loop-place-test.true in
     let more : take (place + 1) held ≡ take place held ++ reply ∷ [] =
     ap (λ n. take n held) next ∙ take_one_more held place reply
-    (sym (reply_at (up_to_cut board) place c.requires) ∙ sym (marked_reply board place lt) ∙ sym c.reply.ensures.value ∙ c.in-Some.is) in
+    (sym (reply_at (up_to_cut board) place c.requires) ∙ sym (marked_reply board place lt) ∙ sym c.reply.ensures.value ∙ c.unwrap.ensures) in
     record {
       bytes = ap (λ d. d.bytes) c.push.ensures ∙ ap (λ bytes. bytes ++ reply_field reply) c.loop-place.invariant.bytes
           ∙ sym (ap (λ xs. c.in_ok-draft.draft.bytes ++ flat_map reply_field xs) more
           ∙ one_more c.in_ok-draft.draft.bytes (take place held) reply);
       missing = omega (arith, ap (λ d. d.missing) c.push.ensures, c.loop-place.invariant.missing, c.loop-place-test.true);
       valid = subst (All IsReply) (sym more)
-          (All-push IsReply (take place held) reply c.loop-place.invariant.valid (subst (λ o. IfSome o IsReply) c.in-Some.is c.reply.ensures.valid));
+          (All-push IsReply (take place held) reply c.loop-place.invariant.valid (subst (λ o. IfSome o IsReply) c.unwrap.ensures c.reply.ensures.valid));
     }
 
 pub returns : goal.returns

@@ -1,6 +1,8 @@
-use Rattle.std.proofs.Common.{option_map, List, ℕ, None, refl, subst}
+use Rattle.std.proofs.Common.{option_map, List, ℕ, None, inl, refl, subst}
+use Rattle.std.proofs.lemmas.Result.{err_from_is_err_and}
 use Rattle.sb_checkpoint.specs.Stores.{StoreDoes}
 use Rattle.sb_replica.specs.Replica.{ReplicaOf, origin_of}
+use Rattle.sb_replica.specs.Restarting.{IsRestartFaultOf, of_store_fault}
 use Rattle.sb_replica.specs.States.{IsStateOf, ReadsState}
 use Rattle.sb_replica.proofs.NoEntries.{gives_none}
 use Rattle.sb_replica.proofs.replica.Replica.kept_state.Goals as goal
@@ -29,5 +31,43 @@ returns-then-length-eq0-clause-ok g c =
       content = option_map (λ bytes. bytes.items) c.in_ok-bytes.field-0;
       got = c.in_ok-bytes.ensures;
       gives = rw c.in-Some.is (gives_none origin size bytes state c.if-length-eq0.true);
+      stays = refl;
+    })
+
+pub returns-in_err-bytes-clause-err : goal.returns-in_err-bytes-clause-err
+returns-in_err-bytes-clause-err g c =
+    let p = err_from_is_err_and c.from_residual.result c.from_residual.ensures.1 in
+    rw (p.1, p.2)
+    (subst
+    (λ (old : ReplicaOf g.row.S.Denot).
+    IsRestartFaultOf (StoreDoes g.S.CheckpointStore.model) old (of_store_fault c.in_err-bytes.field-0.0) (record {
+      id = c.self.inside.id;
+      names = c.self.inside.directory;
+      opening = c.self.inside.opening;
+      board = c.self.inside.log.board;
+      held = c.self.inside.log.held;
+      store = c.get.new.self;
+    }))
+    c.self.view_is
+    (refl, inl (c.in_err-bytes.field-0.0, c.in_err-bytes.ensures, refl)))
+
+pub returns-in_default-clause-ok : goal.returns-in_default-clause-ok
+returns-in_default-clause-ok g c =
+    let inside = c.self.inside in
+    subst
+    (λ (old : ReplicaOf g.row.S.Denot).
+    ReadsState (StoreDoes g.S.CheckpointStore.model) old None (record {
+      id = inside.id;
+      names = inside.directory;
+      opening = inside.opening;
+      board = inside.log.board;
+      held = inside.log.held;
+      store = c.get.new.self;
+    }))
+    c.self.view_is
+    (record {
+      content = option_map (λ bytes. bytes.items) c.in_ok-bytes.field-0;
+      got = c.in_ok-bytes.ensures;
+      gives = rw c.in_default.is (inl refl);
       stays = refl;
     })

@@ -1,0 +1,44 @@
+use Rattle.std.proofs.Common.{List, length, ◌≤◌, refl, subst}
+use Rattle.std.proofs.lemmas.Result.{err_from_is_err_and}
+use Rattle.sb_calls.specs.declared.reply.Reply.{Reply}
+use Rattle.sb_replica.proofs.AdoptedStates.{adopts}
+use Rattle.sb_replica.proofs.Refusals.{adopt_refusal}
+use Rattle.sb_replica.proofs.RightHeads.{right_head}
+use Rattle.sb_replica.specs.Replica.{origin_of}
+use Rattle.sb_replica.specs.States.{IsStateOf}
+use Rattle.sb_replica.proofs.replica.Replica.adopt.Goals as goal
+
+pub returns-in_err-checkpoint : goal.returns-in_err-checkpoint
+returns-in_err-checkpoint g c =
+    let p = err_from_is_err_and c.from_residual.result c.from_residual.ensures.1 in
+    rw (p.1, p.2) (record { outcome = (adopt_refusal (origin_of c.args.self.now) c.args.bytes.now c.in_err-checkpoint.field-0.0 c.in_err-checkpoint.ensures.fault, refl) })
+
+pub returns-in_err-log_on : goal.returns-in_err-log_on
+returns-in_err-log_on g c =
+    let p = err_from_is_err_and c.from_residual-in_err-log_on.result c.from_residual-in_err-log_on.ensures.1 in
+    rw (p.1, p.2) (record { outcome = (right_head c.args.bytes.now _ _ c.in_ok-checkpoint.ensures.fault, refl) })
+
+pub returns-then-length-own : goal.returns-then-length-own
+returns-then-length-own g c =
+    let checkpoint = c.in_ok-checkpoint.checkpoint in
+    let few = subst (λ (replies : List Reply). length replies ≤ c.length-own.result) c.replies.ensures c.if-length-own.true in
+    let state : IsStateOf (origin_of c.args.self.now) (length checkpoint.replies) c.args.bytes.now = record {
+      checkpoint = checkpoint;
+      spelled = c.in_ok-checkpoint.ensures.checkpoint;
+      customers_are = c.in_ok-checkpoint.ensures.customers;
+      size_is = refl;
+    } in
+    record { outcome = (c.length-own.ensures.value, (length checkpoint.replies, state, few), refl) }
+
+pub returns : goal.returns
+returns g c =
+    let old = c.args.self.now in
+    let new = c.replace_log.new.self in
+    let checkpoint = c.in_ok-checkpoint.checkpoint in
+    let kept = c.in_ok-checkpoint.ensures in
+    let parts = c.into_parts-columns in
+    record {
+      outcome = adopts {S = g.row.S.Denot} old new c.args.bytes.now checkpoint c.replies.result.now parts.result.0 parts.result.1.items c.in_ok-log_on.field-0
+          c.length-own.result c.length-own.ensures.value c.if-length-own.false c.replies.ensures kept.checkpoint kept.customers parts.ensures.columns
+          parts.ensures.replies c.in_ok-log_on.ensures c.replace_log.ensures;
+    }
