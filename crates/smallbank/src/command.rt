@@ -34,77 +34,20 @@ prints, once a client has deposited 1.00 for alice
   alice 100.00 51.00
   total 151.00";
 
-// An option that takes a number.
-struct Count {
-    name: &'static str,
-    // The least and the greatest number, and the range as help shows it.
-    first: i64,
-    last: i64,
-    shown: &'static str,
-    // The default, if there is one.
-    standard: Option<&'static str>,
-    help: &'static str,
-}
-
-const NODES: Count = Count {
-    name: "nodes",
-    first: 1,
-    last: sb_sequencer::REPLICAS as i64,
-    shown: "1..16",
-    standard: Some("1"),
-    help: "How many nodes carry the calls out, each in a thread; all must end alike",
-};
-
-const WORKERS: Count = Count {
-    name: "workers",
-    first: 0,
-    last: cown_bench::WORKERS as i64,
-    shown: "0..16",
-    standard: Some("0"),
-    help: "How many threads work for the first node; with 0 it works alone",
-};
-
-const PORT: Count = Count {
-    name: "port",
-    first: 0,
-    last: 65_535,
-    shown: "0..65535",
-    standard: None,
-    help: "Where to listen, at 127.0.0.1; with 0 at any free port",
-};
-
-const SESSIONS: Count = Count {
-    name: "sessions",
-    first: 1,
-    last: 1_000,
-    shown: "1..1000",
-    standard: Some("1"),
-    help: "How many clients are served before the program ends",
-};
-
-const PATIENCE: Count = Count {
-    name: "patience",
-    first: 1,
-    last: 86_400,
-    shown: "1..86400",
-    standard: None,
-    help: "For how many seconds a client is waited for, at each read and each write; without it for ever",
-};
-
 /// The command whose grammar the program's words follow.
 pub fn command<'a>(alloc: Global) -> Result<Command<'a>, AllocError> {
     let run = run(alloc)?;
-    let serve = serve(alloc)?;
-    let parts = Vec::from_array(alloc, [run, play(alloc), serve])?;
-    Command::new(alloc, "smallbank")
+    let bank = Command::new(alloc, "smallbank")
         .version(VERSION)
         .about("A SmallBank store, proved")
-        .subcommands(parts)
+        .subcommand(run)?
+        .subcommand(play(alloc))?;
+    bank.subcommand(serve(alloc)?)
 }
 
 // The subcommand that runs calls.
 fn run<'a>(alloc: Global) -> Result<Command<'a>, AllocError> {
-    let args = Vec::from_array(alloc, [number(alloc, &NODES), number(alloc, &WORKERS)])?;
+    let args = Vec::from_array(alloc, [nodes(alloc), workers(alloc)])?;
     Command::new(alloc, "run")
         .about("Runs calls from standard input")
         .long_about(RUN)
@@ -120,12 +63,12 @@ fn play<'a>(alloc: Global) -> Command<'a> {
 // The subcommand that serves.
 fn serve<'a>(alloc: Global) -> Result<Command<'a>, AllocError> {
     let args = [
-        number(alloc, &PORT).required(true),
-        number(alloc, &SESSIONS),
-        number(alloc, &NODES),
-        number(alloc, &WORKERS),
+        port(alloc),
+        sessions(alloc),
+        nodes(alloc),
+        workers(alloc),
         store(alloc),
-        number(alloc, &PATIENCE),
+        patience(alloc),
     ];
     let args = Vec::from_array(alloc, args)?;
     Command::new(alloc, "serve")
@@ -135,17 +78,42 @@ fn serve<'a>(alloc: Global) -> Result<Command<'a>, AllocError> {
         .args(args)
 }
 
-// An option that takes a number, as it is described to clap.
-fn number<'a>(alloc: Global, option: &Count) -> Arg<'a> {
-    let arg = Arg::new(alloc, option.name)
-        .long(option.name)
-        .value_name(option.shown)
-        .value_parser(value_parser!(usize).range(option.first..=option.last))
-        .help(option.help);
-    match option.standard {
-        Some(standard) => arg.default_value(standard),
-        None => arg,
-    }
+fn nodes<'a>(alloc: Global) -> Arg<'a> {
+    number(alloc, "nodes", "1..16", 1, sb_sequencer::REPLICAS as i64)
+        .default_value("1")
+        .help("How many nodes carry the calls out, each in a thread; all must end alike")
+}
+
+fn workers<'a>(alloc: Global) -> Arg<'a> {
+    number(alloc, "workers", "0..16", 0, cown_bench::WORKERS as i64)
+        .default_value("0")
+        .help("How many threads work for the first node; with 0 it works alone")
+}
+
+fn port<'a>(alloc: Global) -> Arg<'a> {
+    number(alloc, "port", "0..65535", 0, 65_535)
+        .required(true)
+        .help("Where to listen, at 127.0.0.1; with 0 at any free port")
+}
+
+fn sessions<'a>(alloc: Global) -> Arg<'a> {
+    number(alloc, "sessions", "1..1000", 1, 1_000)
+        .default_value("1")
+        .help("How many clients are served before the program ends")
+}
+
+fn patience<'a>(alloc: Global) -> Arg<'a> {
+    number(alloc, "patience", "1..86400", 1, 86_400).help(
+        "For how many seconds a client is waited for, at each read and each write; without it for ever",
+    )
+}
+
+// An option that takes a number in this range, which help shows so.
+fn number<'a>(alloc: Global, name: &'a str, shown: &'a str, first: i64, last: i64) -> Arg<'a> {
+    Arg::new(alloc, name)
+        .long(name)
+        .value_name(shown)
+        .value_parser(value_parser!(usize).range(first..=last))
 }
 
 // The folder of node 0's checkpoint.
