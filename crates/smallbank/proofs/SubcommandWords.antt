@@ -1,8 +1,8 @@
 -- What the words after the subcommand say is what all words say.
-use Rattle.std.proofs.Common.{◌≡◌, ◌≤◌, ◌-◌, ◌∷◌, [], List, String, Option, Some, None, IfSome, arith, length, length-drop, take, drop, subst}
+use Rattle.std.proofs.Common.{◌≡◌, ℕ, string_bytes, ◌≤◌, ◌-◌, ◌∷◌, [], List, String, Option, Some, None, IfSome, arith, length, length-drop, take, drop, subst}
 use Rattle.std.proofs.lemmas.List.{take_all}
-use Rattle.smallbank.specs.inner.WordValues.{IsRunOf, IsServeOf}
-use Rattle.smallbank.specs.Words.{GivesValues}
+use Rattle.std.specs.Prelude.{codes}
+use Rattle.smallbank.specs.inner.WordValues.{IsReadOf, IsRunOf, IsServeOf}
 use Rattle.smallbank.specs.declared.words.Words.{Words}
 use Rattle.smallbank.specs.declared.words.Words.TheVariants.{Run, Play, Serve}
 
@@ -17,27 +17,36 @@ module _ {A : Type 0} where
       let all : take (length words - 2) (drop 2 words) ≡ drop 2 words = take_all (length words - 2) (drop 2 words) (omega (arith, length-drop 2 words)) in
       subst (λ options. IfSome read (λ r. IsOf options r)) all said
 
-  run_says : (read : Option Words) (words : List (String A)) → 2 ≤ length words → IfSome read (λ r. IsRunOf (drop 2 words) r) → IfSome read (λ r. GivesValues r words)
-  run_says None words long said = tt
-  run_says (Some (Run nodes workers)) [] long said = absurd (omega (arith, long))
-  run_says (Some (Run nodes workers)) (name ∷ []) long said = absurd (omega (arith, long))
-  run_says (Some (Run nodes workers)) (name ∷ program ∷ options) long said = said.1
-  run_says (Some Play) words long said = absurd said
-  run_says (Some (Serve port plan store)) words long said = absurd said
+  -- the word after the program's name
+  abbrev pub IsSecond : List ℕ → List (String A) → Type 0
+  IsSecond word [] = ⊥
+  IsSecond word (name ∷ []) = ⊥
+  IsSecond word (name ∷ program ∷ options) = string_bytes program ≡ word
 
-  serve_says : (read : Option Words) (words : List (String A)) → 2 ≤ length words
-      → IfSome read (λ r. IsServeOf (drop 2 words) r) → IfSome read (λ r. GivesValues r words)
-  serve_says None words long said = tt
-  serve_says (Some (Run nodes workers)) words long said = absurd said
-  serve_says (Some Play) words long said = absurd said
-  serve_says (Some (Serve port plan store)) [] long said = absurd (omega (arith, long))
-  serve_says (Some (Serve port plan store)) (name ∷ []) long said = absurd (omega (arith, long))
-  serve_says (Some (Serve port plan store)) (name ∷ program ∷ options) long said = said.1
+  run_says : (read : Option Words) (words : List (String A)) → IsSecond (codes "run") words
+      → IfSome read (λ r. IsRunOf (drop 2 words) r) → IfSome read (λ r. IsReadOf words r)
+  run_says None words named said = tt
+  run_says (Some (Run nodes workers)) [] named said = absurd named
+  run_says (Some (Run nodes workers)) (name ∷ []) named said = absurd named
+  run_says (Some (Run nodes workers)) (name ∷ program ∷ options) named said = (named, said.0, said.1)
+  run_says (Some Play) words named said = absurd said
+  run_says (Some (Serve port plan store)) words named said = absurd said
+
+  serve_says : (read : Option Words) (words : List (String A)) → IsSecond (codes "serve") words
+      → IfSome read (λ r. IsServeOf (drop 2 words) r) → IfSome read (λ r. IsReadOf words r)
+  serve_says None words named said = tt
+  serve_says (Some (Run nodes workers)) words named said = absurd said
+  serve_says (Some Play) words named said = absurd said
+  serve_says (Some (Serve port plan store)) [] named said = absurd named
+  serve_says (Some (Serve port plan store)) (name ∷ []) named said = absurd named
+  serve_says (Some (Serve port plan store)) (name ∷ program ∷ options) named said = (named, said.0, said.1)
 
   -- for all words, those after `run`
-  pub says_of : (read : Option Words) (words : List (String A)) → 2 ≤ length words → By IsRunOf read words → IfSome read (λ r. GivesValues r words)
-  says_of read words long said = run_says read words long (all_after IsRunOf read words long said)
+  pub says_of : (read : Option Words) (words : List (String A)) → 2 ≤ length words → IsSecond (codes "run") words
+      → By IsRunOf read words → IfSome read (λ r. IsReadOf words r)
+  says_of read words long named said = run_says read words named (all_after IsRunOf read words long said)
 
   -- for all words, those after `serve`
-  pub says_of_serve : (read : Option Words) (words : List (String A)) → 2 ≤ length words → By IsServeOf read words → IfSome read (λ r. GivesValues r words)
-  says_of_serve read words long said = serve_says read words long (all_after IsServeOf read words long said)
+  pub says_of_serve : (read : Option Words) (words : List (String A)) → 2 ≤ length words → IsSecond (codes "serve") words
+      → By IsServeOf read words → IfSome read (λ r. IsReadOf words r)
+  says_of_serve read words long named said = serve_says read words named (all_after IsServeOf read words long said)

@@ -1,8 +1,8 @@
 //! The program's words.
-ghost use Rattle.std.specs.Prelude.{◌≡◌, IfErr, IfOk, IfSome};
+ghost use Rattle.std.specs.Prelude.{◌≡◌, IfErr, IfOk, IfSome, true};
 ghost use Rattle.clap.specs.Values.{kind_of};
-ghost use Rattle.smallbank.specs.Words.{InRange, IsRefusal, NamesProgram, GivesValues};
-ghost use Rattle.smallbank.specs.inner.WordValues.{IsPlanOf, IsRunOf, IsServeOf};
+ghost use Rattle.smallbank.specs.Words.{InRange, IsPlanInRange, IsRefusal, NamesProgram, GivesValues};
+ghost use Rattle.smallbank.specs.inner.WordValues.{IsPlanOf, IsReadOf, IsRunOf, IsServeOf};
 
 use crate::command::command;
 use crate::options::{parse_count, parse_number, parse_optional, value};
@@ -92,9 +92,7 @@ fn check<'a>(command: &mut Command<'a>, words: &'a [String]) -> Result<(), Error
 
 // What the words after the program's name say.
 fn parse_words<'a>(words: &'a [String]) -> Option<Words<'a>>
-    ensures names { IfSome result (λ read. NamesProgram read words.entry.now) }
-    ensures range { IfSome result (λ read. InRange read) }
-    ensures values { IfSome result (λ read. GivesValues read words.entry.now) }
+    ensures { IfSome result (λ read. IsReadOf words.entry.now read) }
 {
     let [_, program, ..] = words else {
         return Some(Words::Run {
@@ -118,8 +116,12 @@ fn parse_words<'a>(words: &'a [String]) -> Option<Words<'a>>
 fn run<'a>(options: &'a [String]) -> Option<Words<'a>>
     ensures { IfSome result (λ read. IsRunOf options.entry.now read) }
 {
-    let nodes = parse_count(options, "--nodes", 1)?;
-    let workers = parse_count(options, "--workers", 0)?;
+    let (Some(nodes), Some(workers)) = (
+        parse_count(options, "--nodes", 1),
+        parse_count(options, "--workers", 0),
+    ) else {
+        return None;
+    };
     if (1..=REPLICAS).contains(&nodes) && workers <= WORKERS {
         Some(Words::Run { nodes, workers })
     } else {
@@ -131,7 +133,9 @@ fn run<'a>(options: &'a [String]) -> Option<Words<'a>>
 fn serve<'a>(options: &'a [String]) -> Option<Words<'a>>
     ensures { IfSome result (λ read. IsServeOf options.entry.now read) }
 {
-    let port = u16::try_from(parse_number(options, "--port")?).ok()?;
+    let Ok(port) = u16::try_from(parse_number(options, "--port")?) else {
+        return None;
+    };
     let store = value(options, "--store");
     let plan = plan_of(options, store.is_some())?;
     Some(Words::Serve { port, plan, store })
@@ -141,20 +145,34 @@ fn serve<'a>(options: &'a [String]) -> Option<Words<'a>>
 fn plan_of(options: &[String], saves: bool) -> Option<Plan>
     ensures { IfSome result (λ plan. IsPlanOf options.now saves plan) }
 {
-    let plan = Plan {
-        sessions: parse_count(options, "--sessions", 1)?,
-        nodes: parse_count(options, "--nodes", 1)?,
-        workers: parse_count(options, "--workers", 0)?,
-        saves,
-        patience: parse_optional(options, "--patience")?,
+    let (Some(sessions), Some(nodes), Some(workers), Some(patience)) = (
+        parse_count(options, "--sessions", 1),
+        parse_count(options, "--nodes", 1),
+        parse_count(options, "--workers", 0),
+        parse_optional(options, "--patience"),
+    ) else {
+        return None;
     };
-    let is_patient = plan
-        .patience
-        .is_none_or(|seconds| (1..=86_400).contains(&seconds));
-    let is_served = (1..=1_000).contains(&plan.sessions) && is_patient;
-    if is_served && (1..=REPLICAS).contains(&plan.nodes) && plan.workers <= WORKERS {
-        Some(plan)
-    } else {
-        None
-    }
+    let plan = Plan {
+        sessions,
+        nodes,
+        workers,
+        saves,
+        patience,
+    };
+    if is_in_range(&plan) { Some(plan) } else { None }
+}
+
+// Whether a plan's numbers are within their limits.
+fn is_in_range(plan: &Plan) -> bool
+    ensures { result ≡ true → IsPlanInRange plan.now }
+{
+    let is_patient = match plan.patience {
+        Some(seconds) => (1..=86_400).contains(&seconds),
+        None => true,
+    };
+    is_patient
+        && (1..=1_000).contains(&plan.sessions)
+        && (1..=REPLICAS).contains(&plan.nodes)
+        && plan.workers <= WORKERS
 }

@@ -3,7 +3,7 @@ use Rattle.std.specs.Prelude.{◌≡◌, Bool, List, String}
 use Rattle.smallbank.specs.declared.serving.Plan.{Plan}
 use Rattle.smallbank.specs.declared.words.Words.{Words}
 use Rattle.smallbank.specs.declared.words.Words.TheVariants.{Run, Play, Serve}
-use Rattle.smallbank.specs.Words.{InRange, IsPlanInRange, GivesCounts, GivesServe, GivesPlan}
+use Rattle.smallbank.specs.Words.{InRange, IsPlanInRange, GivesCounts, GivesServe, GivesPlan, GivesValues, NamesProgram}
 
 -- the words give this plan, for a bank that saves or doesn't
 abbrev pub IsPlanOf : {A : Type 0} → List (String A) → Bool → Plan → Type 0
@@ -20,3 +20,7 @@ abbrev pub IsServeOf : {A : Type 0} → List (String A) → Words → Type 0
 IsServeOf words (Run nodes workers) = ⊥
 IsServeOf words Play = ⊥
 IsServeOf words (Serve port plan store) = InRange (Serve port plan store) × GivesServe port plan store words
+
+-- the words say this
+abbrev pub IsReadOf : {A : Type 0} → List (String A) → Words → Type 0
+IsReadOf words read = NamesProgram read words × InRange read × GivesValues read words

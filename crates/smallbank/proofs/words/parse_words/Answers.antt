@@ -1,8 +1,14 @@
-use Rattle.smallbank.proofs.SubcommandWords.{says_of, says_of_serve}
+use Rattle.std.proofs.Common.{rules}
+use Rattle.std.specs.Prelude.{codes}
+use Rattle.smallbank.proofs.SubcommandWords.{IsSecond, says_of, says_of_serve}
 use Rattle.smallbank.proofs.words.parse_words.Goals as goal
 
-pub returns-then-eq-clause-values : goal.returns-then-eq-clause-values
-returns-then-eq-clause-values c = says_of c.run.result c.args.words.now c.in-len2-up.len_at_least c.run.ensures
+pub returns-then-eq : goal.returns-then-eq
+returns-then-eq c =
+    let named : IsSecond (codes "run") c.args.words.now = search rules in
+    says_of c.run.result c.args.words.now c.in-len2-up.len_at_least named c.run.ensures
 
-pub returns-then-eq-3-clause-values : goal.returns-then-eq-3-clause-values
-returns-then-eq-3-clause-values c = says_of_serve c.serve.result c.args.words.now c.in-len2-up.len_at_least c.serve.ensures
+pub returns-then-eq-3 : goal.returns-then-eq-3
+returns-then-eq-3 c =
+    let named : IsSecond (codes "serve") c.args.words.now = search rules in
+    says_of_serve c.serve.result c.args.words.now c.in-len2-up.len_at_least named c.serve.ensures
