@@ -19,6 +19,17 @@ use Rattle.smallbank.specs.inner.ServeSteps.{PrintsPort, PrintsRows, ServesAll, 
 abbrev Log : Type 0
 Log = List (Key × Call)
 
+-- what follows if a step is done
+pub on_ok : {E P Q : Type 0} (done : Result (Unit {0}) E) → (P → Q) → OnOk done P → OnOk done Q
+on_ok (Ok done) so said = so said
+on_ok (Err fault) so said = tt
+
+-- a line with a port
+pub port_printed : {E : Type 0} (port : ℕ) (done : Result (Unit {0}) E) (line : List ℕ) (a b : Option (List ℕ)) → line ≡ port_line port
+    → OnOk done (PrintsLines (line ∷ []) a b) → OnOk done (PrintsPort a b)
+port_printed port (Ok done) line a b is said = (port, subst (λ (l : List ℕ). PrintsLines (l ∷ []) a b) is said)
+port_printed port (Err fault) line a b is said = tt
+
 -- lines, and then more lines
 pub PrintsLines-trans : (a b c : Option (List ℕ)) (xs ys : List (List ℕ)) → PrintsLines xs a b → PrintsLines ys b c → PrintsLines (xs ++ ys) a c
 PrintsLines-trans a b c xs ys first second =

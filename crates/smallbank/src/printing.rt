@@ -1,5 +1,5 @@
 //! What a served bank prints.
-ghost use Rattle.std.specs.Prelude.{◌≡◌, [], ◌∷◌, ◌++◌, IfErr, OnOk};
+ghost use Rattle.std.specs.Prelude.{◌≡◌, [], ◌∷◌, ◌++◌, decimal, IfErr, IfOk, OnOk};
 ghost use Rattle.bank_server.specs.Primary.{HasWholeLog};
 ghost use Rattle.smallbank.specs.inner.StepFaults.{IsPrintFault};
 ghost use Rattle.smallbank.specs.ServeOutput.{PrintsLines, end_text, session_line};
@@ -25,12 +25,9 @@ pub(crate) fn print_port<D: ClientListener, W: Write>(
     ensures printed { OnOk result (PrintsPort (W.contents writer.old) (W.contents writer.new)) }
     ensures fault { IfErr result IsPrintFault }
 {
-    let mut buffer = Buffer::new();
-    let mut line = Vec::from_slice(alloc, b"listening 127.0.0.1:")?;
     let port = listener.port()?;
-    line.extend_from_slice(buffer.format(port).as_bytes())?;
-    line.push(b'\n')?;
-    Ok(write_whole(writer, &line)?)
+    let mut line = numbered(alloc, b"listening 127.0.0.1:", usize::from(port))?;
+    print_line(&mut line, writer)
 }
 
 /// Prints how a session ended.
@@ -46,12 +43,29 @@ pub(crate) fn print_session<W: Write>(
         (W.contents writer.old) (W.contents writer.new)) }
     ensures fault { IfErr result IsPrintFault }
 {
-    let mut buffer = Buffer::new();
-    let mut line = Vec::from_slice(alloc, b"session ")?;
-    line.extend_from_slice(buffer.format(number).as_bytes())?;
+    let mut line = numbered(alloc, b"session ", number)?;
     push_ending(served, &mut line)?;
+    print_line(&mut line, writer)
+}
+
+// These bytes, and then a number.
+fn numbered(alloc: Global, start: &[u8], number: usize) -> Result<Vec<u8>, AllocError>
+    ensures { IfOk result (λ line. line.items ≡ start.now ++ decimal number) }
+{
+    let mut buffer = Buffer::new();
+    let mut line = Vec::from_slice(alloc, start)?;
+    line.extend_from_slice(buffer.format(number).as_bytes())?;
+    Ok(line)
+}
+
+// Ends a line, and prints it.
+fn print_line<W: Write>(line: &mut Vec<u8>, writer: &mut W) -> Result<(), ServeFault>
+    ensures printed { OnOk result (PrintsLines (line.old.items ∷ [])
+        (W.contents writer.old) (W.contents writer.new)) }
+    ensures fault { IfErr result IsPrintFault }
+{
     line.push(b'\n')?;
-    Ok(write_whole(writer, &line)?)
+    Ok(write_whole(writer, line)?)
 }
 
 // Writes how a session ended.
@@ -59,14 +73,13 @@ fn push_ending(served: Result<(), SessionFault>, out: &mut Vec<u8>) -> Result<()
     ensures { OnOk result (out.new.items ≡ out.old.items ++ end_text served) }
 {
     match served {
-        Ok(()) => out.extend_from_slice(b" ok")?,
+        Ok(()) => out.extend_from_slice(b" ok"),
         Err(fault) => {
             let mut buffer = Buffer::new();
             out.extend_from_slice(b" fault ")?;
-            out.extend_from_slice(buffer.format(fault.number()).as_bytes())?;
+            out.extend_from_slice(buffer.format(fault.number()).as_bytes())
         }
     }
-    Ok(())
 }
 
 /// Prints the rows of a bank and their total.

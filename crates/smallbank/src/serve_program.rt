@@ -1,22 +1,18 @@
 //! The program that serves.
 ghost use Rattle.std.specs.Prelude.{◌≡◌, ◌≤◌, None, false, is_some, IfErr, IfOk};
-ghost use Rattle.bank_server.specs.Faults.{IsTextFaultOf};
-ghost use Rattle.smallbank.specs.Opening.{whole_opening_of};
 ghost use Rattle.smallbank.specs.ServeFaults.{IsProgramFault};
-ghost use Rattle.smallbank.specs.inner.StepFaults.{IsStoreFault};
+ghost use Rattle.smallbank.specs.inner.StepFaults.{IsOpeningFault, IsStoreFault};
 
 use crate::listener::SocketListener;
 use crate::listening::listen;
 use crate::opening::whole_opening;
 use crate::serve_fault::ServeFault;
 use crate::serving::{Plan, serve};
-use bank_server::RunFault;
 use cown_bench::WORKERS;
 use sb_checkpoint::{CheckpointStore, FileStore, FileWithSpare, FolderFile};
 use sb_rows::Opening;
 use sb_sequencer::REPLICAS;
 use sb_text::read_all;
-use std::alloc::Global;
 use std::io::{Read, Write};
 use std::net::{Net, OpenStream};
 use std::sync::Wait;
@@ -43,10 +39,7 @@ where
     requires workers { plan.workers ≤ WORKERS }
     ensures fault { IfErr result (IsProgramFault port plan.nodes plan.saves (is_some folder.entry)) }
 {
-    let alloc = rt.alloc();
-    let input = read_all(alloc, &mut rt.stdin())?;
-    let opening = boxed_opening(alloc, &input)?;
-    drop(input);
+    let opening = read_opening(rt)?;
     let store = store_of(rt, folder)?;
     // Without a folder nothing is saved.
     let mut plan = plan;
@@ -54,11 +47,13 @@ where
     serve_at(rt, threads, port, opening, store, plan)
 }
 
-// A whole opening text, read as `whole_opening` reads it.
-fn boxed_opening(alloc: Global, input: &[u8]) -> Result<Box<Opening>, RunFault>
-    ensures { IfErr result (λ fault. IsTextFaultOf fault (whole_opening_of input.now)) }
+// The opening in standard input, read as `whole_opening` reads it.
+fn read_opening(rt: &HostRuntime) -> Result<Box<Opening>, ServeFault>
+    ensures fault { IfErr result IsOpeningFault }
 {
-    let opening = whole_opening(alloc, input)?;
+    let alloc = rt.alloc();
+    let input = read_all(alloc, &mut rt.stdin())?;
+    let opening = whole_opening(alloc, &input)?;
     Ok(Box::new(alloc, opening)?)
 }
 
@@ -108,12 +103,11 @@ where
     ensures fault { IfErr result (IsProgramFault port plan.nodes plan.saves false) }
 {
     let listener = SocketListener::new(threads, listen(threads, port)?);
-    let opening = Box::into_inner(opening);
     serve(
         threads,
         rt.alloc(),
         listener,
-        opening,
+        Box::into_inner(opening),
         store,
         plan,
         rt.stdout(),

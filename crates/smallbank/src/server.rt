@@ -60,11 +60,13 @@ where
         C: Crew + WorkerCount,
     {
         let mut server = self;
-        server.serve_whole(rt, followers, crew)?;
-        Ok(ServedBank {
-            primary: server.primary,
-            writer: server.writer,
-        })
+        match server.serve_whole(rt, followers, crew) {
+            Ok(()) => Ok(ServedBank {
+                primary: server.primary,
+                writer: server.writer,
+            }),
+            Err(fault) => Err(fault),
+        }
     }
 }
 
@@ -95,8 +97,7 @@ where
         print_port(self.alloc, &self.listener, &mut self.writer)?;
         self.serve_all(rt, followers, crew)?;
         followers.compare(rt, self.primary.node())?;
-        print_rows(self.alloc, &self.primary, &mut self.writer)?;
-        Ok(())
+        print_rows(self.alloc, &self.primary, &mut self.writer)
     }
 
     // Serves the clients, one after another.
@@ -153,8 +154,8 @@ where
         let (alloc, patience) = (self.alloc, self.plan.patience);
         let served = serve_client(rt, alloc, patience, &mut stream, &mut self.primary, crew);
         if let Some(fault) = ending(served) {
-            print_session(alloc, number, served, &mut self.writer)?;
-            return Err(ServeFault::Run(fault));
+            let printed = print_session(alloc, number, served, &mut self.writer);
+            return printed.and(Err(ServeFault::Run(fault)));
         }
         finish_session(&mut self.primary, followers, self.plan.saves, crew)?;
         print_session(alloc, number, served, &mut self.writer)

@@ -32,10 +32,7 @@ pub(crate) fn finish_session<R: Wait, S: CheckpointStore, C: Crew>(
 {
     settle(primary, crew)?;
     followers.feed(primary.log())?;
-    if saves {
-        save(primary)?;
-    }
-    Ok(())
+    if saves { save(primary) } else { Ok(()) }
 }
 
 // Has node 0 execute the whole log.
