@@ -29,7 +29,8 @@ unfolding reply_in
 no_zero board = refl
 
 -- a board has no reply beyond its length
-none_past : (board : BoardOf Op) (k : ℕ) → unfinished_of board ≡ 0 → length board.log ≡ length board.states → length_of board ≤ k → reply_in board (k + 1) ≡ None
+none_past : (board : BoardOf Op) (k : ℕ) → unfinished_of board ≡ 0 → length board.log ≡ length board.states
+    → length_of board ≤ k → reply_in board (k + 1) ≡ None
 none_past board k idle beside le = reply_at board k idle ∙ past (board_replies board) k (omega (arith, le, length_held board idle beside))
 
 -- boards of one length with the same replies up to it have the same reply to each number

@@ -103,9 +103,11 @@ reply_at board k none =
     let after : (nat_le (k + 1) (length board.base_replies)) ≡ false = lt-leb (k + 1) (length board.base_replies) (omega (arith, ap length none)) in
     let differs : ((k + 1) == 0) ≡ false = ne_eqb (k + 1) 0 (λ same. omega (arith, same)) in
     let at : k + 1 - 1 - length board.base_replies ≡ k = omega (arith, ap length none) in
-    ap (λ b. if b then None else (if nat_le (k + 1) (length board.base_replies) then slice_get board.base_replies (k + 1 - 1) else option_and_then finished_reply
+    ap (λ b. if b then None
+        else (if nat_le (k + 1) (length board.base_replies) then slice_get board.base_replies (k + 1 - 1) else option_and_then finished_reply
     (slice_get board.states (k + 1 - 1 - length board.base_replies)))) differs
-    ∙ ap (λ b. if b then slice_get board.base_replies (k + 1 - 1) else option_and_then finished_reply (slice_get board.states (k + 1 - 1 - length board.base_replies)))
+    ∙ ap (λ b. if b then slice_get board.base_replies (k + 1 - 1)
+        else option_and_then finished_reply (slice_get board.states (k + 1 - 1 - length board.base_replies)))
     after
     ∙ ap (λ n. option_and_then finished_reply (slice_get board.states n)) at
 
@@ -165,7 +167,8 @@ told_here board place answer reply none is told =
     sym (known (omega (arith, ap length none))) ∙ ap (reply_by_log declared_cowns effect_of (contents_of board.opening) board.log) at
 
 -- what a board replies is the reply of the log run one by one
-pub told_at : (board : BoardOf Op) (replies : List Reply) (place : ℕ) (answer : Option Reply) → HasReplies board replies → length board.log ≡ length board.states
+pub told_at : (board : BoardOf Op) (replies : List Reply) (place : ℕ) (answer : Option Reply)
+    → HasReplies board replies → length board.log ≡ length board.states
     → answer ≡ reply_in board (place + 1)
     → IfSome answer (λ r. length board.base_replies < place + 1
     → reply_by_log declared_cowns effect_of (contents_of board.opening) board.log (place + 1 - length board.base_replies) ≡ Some r)
@@ -185,7 +188,8 @@ told_at board replies place answer tells beside is told = elim (cases_lt place (
     by (Some reply) found some lt = found ∙ told_here board place answer reply tells.base_replies found told ∙ sym (tells.each place lt)
 
 -- an idle board has a reply to each number of its log
-pub some_reply : (board : BoardOf Op) (number : ℕ) (answer : Option Reply) → unfinished_of board ≡ 0 → board.base_replies ≡ [] → length board.log ≡ length board.states
+pub some_reply : (board : BoardOf Op) (number : ℕ) (answer : Option Reply) → unfinished_of board ≡ 0
+    → board.base_replies ≡ [] → length board.log ≡ length board.states
     → 0 < number → number ≤ length board.log → answer ≡ reply_in board number → IsSome answer
 some_reply board number answer idle none beside counted few is =
     let place : ℕ = number - 1 in
@@ -194,7 +198,8 @@ some_reply board number answer idle none beside counted few is =
     subst IsSome (sym state) (finished_some board.states place (omega (arith, beside)) (all_finished board.states place idle))
 
 -- and it is that of the log run one by one
-pub told_of : (board : BoardOf Op) (replies : List Reply) (number : ℕ) (answer : Option Reply) → HasReplies board replies → length board.log ≡ length board.states
+pub told_of : (board : BoardOf Op) (replies : List Reply) (number : ℕ) (answer : Option Reply)
+    → HasReplies board replies → length board.log ≡ length board.states
     → 0 < number
     → answer ≡ reply_in board number
     → IfSome answer (λ r. length board.base_replies < number
@@ -204,7 +209,8 @@ told_of board replies number answer tells beside counted is told =
     let next : number ≡ number - 1 + 1 = omega arith in
     told_at board replies (number - 1) answer tells beside (is ∙ ap (reply_in board) next)
     (subst (λ (n : ℕ). IfSome answer
-    (λ r. length board.base_replies < n → reply_by_log declared_cowns effect_of (contents_of board.opening) board.log (n - length board.base_replies) ≡ Some r)) next
+    (λ r. length board.base_replies < n
+        → reply_by_log declared_cowns effect_of (contents_of board.opening) board.log (n - length board.base_replies) ≡ Some r)) next
     told)
 
 -- executed ops are the calls with these ops, run one by one

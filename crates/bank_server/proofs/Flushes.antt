@@ -42,7 +42,8 @@ told_same (f ∷ frames) frame never =
     ap (λ b. if b then ask_of_frame f ++ flushed_asks (frames ++ frame ∷ []) else []) (any_same frames frame never)
     ∙ ap (λ l. if list_any is_flush frames then ask_of_frame f ++ l else []) (told_same frames frame never)
 
-pub untold_more : (frames : List Frame) (frame : Frame) → is_flush frame ≡ false → unflushed_asks (frames ++ frame ∷ []) ≡ unflushed_asks frames ++ ask_of_frame frame
+pub untold_more : (frames : List Frame) (frame : Frame) → is_flush frame ≡ false
+    → unflushed_asks (frames ++ frame ∷ []) ≡ unflushed_asks frames ++ ask_of_frame frame
 untold_more [] frame never = append-nil (ask_of_frame frame)
 untold_more (f ∷ frames) frame never =
     ap (λ b. if b then unflushed_asks (frames ++ frame ∷ []) else asks_in (f ∷ frames ++ frame ∷ [])) (any_same frames frame never)

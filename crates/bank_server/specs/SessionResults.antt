@@ -48,7 +48,8 @@ WritesOutcomesBefore Device opening before frames log old new = log ≡ log_of_s
 WritesOutcomesBefore OutOfMemory opening before frames log old new = log ≡ log_of_session before frames
 
 -- the input began with these frames, each an ask or a flush, and the fault came after them
-pub record ServesUntilFault (opening : Rows) (before log : List (Key × Call)) (old new : Option (List ℕ)) (input : List ℕ)
+pub record ServesUntilFault (opening : Rows) (before log : List (Key × Call))
+    (old new : Option (List ℕ)) (input : List ℕ)
     (fault : SessionFault) : Type 0 where
   pub frames : List frames.Frame
   pub clients : All IsFromClient frames

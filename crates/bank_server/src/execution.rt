@@ -74,7 +74,8 @@ fn submit_parts<S: CheckpointStore, C: Crew, R: Wait>(
 ) -> Result<(), CrewFault>
     requires limit { length_of replica.old.board + length calls.now ≤ LOG_CALLS }
     requires log_given { IfNone log (followers.old.listening ≡ 0) }
-    ensures put { OnOk result (AppendsOps (map (op_of replica.old.names) calls.now) replica.old.board replica.new.board) }
+    ensures put { OnOk result
+        (AppendsOps (map (op_of replica.old.names) calls.now) replica.old.board replica.new.board) }
     ensures rest { rest_of replica.new ≡ rest_of replica.old }
     ensures sent { OnOk result (length calls.now ≤ followers.new.sent) }
     ensures unchanged { followers.new ≡ record followers.old { sent = followers.new.sent } }

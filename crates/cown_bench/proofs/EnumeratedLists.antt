@@ -62,6 +62,7 @@ module _ {A : Type 0} where
         → count_by (λ (pick : ℕ × A). pick.0 == position) (enumerate_from 0 xs) ≡ (if nat_lt position (length xs) then 1 else 0)
     count_by-enumerate_from xs =
         ⊎_elim
-        (λ (lt : position < length xs). within 0 xs (omega arith) (omega arith) ∙ sym (cond-true (ltb position (length xs)) 1 0 (lt-ltb position (length xs) lt)))
+        (λ (lt : position < length xs). within 0 xs (omega arith) (omega arith)
+            ∙ sym (cond-true (ltb position (length xs)) 1 0 (lt-ltb position (length xs) lt)))
         (λ (le : length xs ≤ position). outside 0 xs (λ _. omega arith) ∙ sym (cond-false (ltb position (length xs)) 1 0 (le-ltb position (length xs) le)))
         (cases_lt position (length xs))

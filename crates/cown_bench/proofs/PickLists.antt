@@ -67,7 +67,8 @@ lists-nil taken = All-cons (ArePicks taken) [] [] (ArePicks-nil taken) (All-nil 
 
 -- what lists of picks weigh
 module _ (weight : PickOf → ℕ) where
-  pub weight-own : (own : List PickOf) (absorbed : List (List PickOf)) → sum_by (sum_by weight) (own ∷ absorbed) ≡ sum_by weight own + sum_by (sum_by weight) absorbed
+  pub weight-own : (own : List PickOf) (absorbed : List (List PickOf))
+      → sum_by (sum_by weight) (own ∷ absorbed) ≡ sum_by weight own + sum_by (sum_by weight) absorbed
   weight-own own absorbed = sum_by-cons (sum_by weight) own absorbed
 
   pub weight-pick : (own : List PickOf) (pick : PickOf) (absorbed : List (List PickOf))

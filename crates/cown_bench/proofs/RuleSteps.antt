@@ -249,7 +249,8 @@ pub cuts_as : (pass : ℕ) (v : PassHistory) (parts : ℕ) (offered : List WorkO
 cuts_as pass v parts offered some_part is =
     subst (λ (u : PassHistory). Forks IsBenchState pass u (with_pass_split u) (worker_view [])) (sym is) (cuts_one pass parts offered some_part)
 
-pub takes_in_as : (pass : ℕ) (v : PassHistory) (parts : ℕ) (offered : List WorkOf) (absorbed : List (List PickOf)) (other : ℕ) (u : PassHistory) (picked : List PickOf)
+pub takes_in_as : (pass : ℕ) (v : PassHistory) (parts : ℕ) (offered : List WorkOf) (absorbed : List (List PickOf))
+    (other : ℕ) (u : PassHistory) (picked : List PickOf)
     → v ≡ owner_view parts offered absorbed [] → u ≡ worker_view picked → Merges IsBenchState pass v other u (with_pass_absorbed v u) absorbed_view
 takes_in_as pass v parts offered absorbed other u picked is theirs =
     subst (λ (x : PassHistory × PassHistory). Merges IsBenchState pass x.0 other x.1 (with_pass_absorbed x.0 x.1) absorbed_view) (λ i. (sym is i, sym theirs i))

@@ -112,7 +112,8 @@ module _ {B : Type 0} (touches : B → List ℕ) (effect : B → List ℤ → Re
   unchanged columns base_replies log old new same good =
       subst (λ board. IsGood columns base_replies (log ++ []) board) (sym same) (subst (λ l. IsGood columns base_replies l old) (sym (append_nothing log)) good)
 
-  good_call : (columns : Balances) (base_replies : List Reply) (log : List B) (old new : BoardOf B) (call : BoardCall B) → HasCallEffect touches effect old call new
+  good_call : (columns : Balances) (base_replies : List Reply) (log : List B) (old new : BoardOf B) (call : BoardCall B)
+      → HasCallEffect touches effect old call new
       → IsGood columns base_replies log old → IsGood columns base_replies (log ++ submitted_by call) new
   good_call columns base_replies log old new (Submitted b (Ok number)) made good =
       subst (IsGood columns base_replies (log ++ b ∷ [])) (sym made.3) (good_submitted columns base_replies log old b good)
@@ -147,7 +148,8 @@ module _ {B : Type 0} (touches : B → List ℕ) (effect : B → List ℤ → Re
   good_calls columns base_replies log old new [] played good = unchanged columns base_replies log old new played good
   good_calls columns base_replies log old new (call ∷ calls) played good =
       subst (λ l. IsGood columns base_replies l new) (append_assoc log (submitted_by call) (submitted_by_all calls))
-      (good_calls columns base_replies (log ++ submitted_by call) played.0 new calls played.2 (good_call columns base_replies log old played.0 call played.1 good))
+      (good_calls columns base_replies (log ++ submitted_by call) played.0 new calls played.2
+          (good_call columns base_replies log old played.0 call played.1 good))
 
   pub board_law : BoardLaw touches effect
   board_law columns base_replies calls board played =

@@ -60,7 +60,8 @@ times-list : (xs : List ℕ) (rest : List ℕ) (j : ℕ) → occurrences j (cons
 times-list [] rest j = omega arith
 times-list (x ∷ xs) rest j = count-cons (λ n. n == j) x rest
 
-pub occurrences-fronts : (lists : List (List ℕ)) (cowns : List ℕ) (j : ℕ) → occurrences j (fronts_of lists cowns) ≡ count_by (λ c. is_first j (list_of lists c)) cowns
+pub occurrences-fronts : (lists : List (List ℕ)) (cowns : List ℕ) (j : ℕ)
+    → occurrences j (fronts_of lists cowns) ≡ count_by (λ c. is_first j (list_of lists c)) cowns
 occurrences-fronts lists [] j = refl
 occurrences-fronts lists (c ∷ cowns) j =
     let all = times-list (list_of lists c) (fronts_of lists cowns) j in
@@ -69,7 +70,8 @@ occurrences-fronts lists (c ∷ cowns) j =
     omega (arith, all, rest, other)
 
 -- a number among the fronts is in front at one of the cowns
-front_list : (xs : List ℕ) (rest : List ℕ) (j : ℕ) → is_among j (cons_option (slice_get xs 0) rest) ≡ true → (slice_get xs 0 ≡ Some j) ⊎ (is_among j rest ≡ true)
+front_list : (xs : List ℕ) (rest : List ℕ) (j : ℕ) → is_among j (cons_option (slice_get xs 0) rest) ≡ true
+    → (slice_get xs 0 ≡ Some j) ⊎ (is_among j rest ≡ true)
 front_list [] rest j among = inr among
 front_list (x ∷ xs) rest j among = elim (or_cases (j == x) (is_among j rest) among) [
   | inl here ↦ inl (ap (λ y. Some y) (sym (eqb-true j x here)))

@@ -66,7 +66,8 @@ module _ {B : Type 0} (touches : B → List ℕ) (effect : B → List ℤ → Re
 
   -- an unfinished behaviour is in front at each of its cowns if no unfinished one before it shares
   -- a cown with it
-  pub first_queued : (log : List B) (states : List State) (cown k : ℕ) → k < length log → unfinished_at states k ≡ true → touches_at touches effect log cown k ≡ true
+  pub first_queued : (log : List B) (states : List State) (cown k : ℕ) → k < length log
+      → unfinished_at states k ≡ true → touches_at touches effect log cown k ≡ true
       → ((j : ℕ) → j < k → conflict_at touches log j k ≡ true → unfinished_at states j ≡ false)
       → slice_get (positions (is_queued touches effect log states cown) (length log)) 0 ≡ Some k
   first_queued log states cown k lt unfinished among clear =

@@ -61,7 +61,8 @@ module _ {B : Type 0} (board : BoardOf B) where
 module _ {B : Type 0} (touches : B → List ℕ) (effect : B → List ℤ → Reply × List ℤ)
     {inside : BoardInside B} (board : IsBoard touches effect inside) where
   -- the reply of a finished behaviour is that of the log
-  pub reply_is_by_log : (number position : ℕ) (s : State) (answer : Option Reply) → number ≡ suc (inside.base + position) → slice_get inside.states position ≡ Some s
+  pub reply_is_by_log : (number position : ℕ) (s : State) (answer : Option Reply) → number ≡ suc (inside.base + position)
+      → slice_get inside.states position ≡ Some s
       → answer ≡ finished_reply s
       → IfSome answer (λ reply. length inside.base_replies < number
       → reply_by_log touches effect (contents_of inside.opening) inside.log (number - length inside.base_replies) ≡ Some reply)

@@ -39,7 +39,8 @@ submitted_by_all (call ∷ calls) = submitted_by call ++ submitted_by_all calls
 
 -- a board with an empty log and no cut
 abbrev pub board_at_opening : {B : Type 0} → Balances → List Reply → BoardOf B
-board_at_opening columns base_replies = record { opening = columns; base_replies = base_replies; log = []; states = []; cut = None }
+board_at_opening columns base_replies =
+    record { opening = columns; base_replies = base_replies; log = []; states = []; cut = None }
 
 module _ {B : Type 0} (touches : B → List ℕ) (effect : B → List ℤ → Reply × List ℤ) where
   -- the effect of one call, as its contract says
@@ -52,7 +53,8 @@ module _ {B : Type 0} (touches : B → List ℕ) (effect : B → List ℤ → Re
       (unfinished_of old ≢ OPEN_BEHAVIOURS) × (length_of old ≡ LOG_CALLS) × (new ≡ old)
   HasCallEffect old (Submitted behaviour (Err OutOfMemory)) new =
       (unfinished_of old ≢ OPEN_BEHAVIOURS) × (length_of old ≢ LOG_CALLS) × (new ≡ old)
-  HasCallEffect old (TakenAt index None) new = (length (ready_positions touches old.log old.states) ≤ index) × (new ≡ old)
+  HasCallEffect old (TakenAt index None) new =
+      (length (ready_positions touches old.log old.states) ≤ index) × (new ≡ old)
   HasCallEffect old (TakenAt index (Some job)) new = Takes touches effect old index job new
   HasCallEffect old (Returned done (Ok reply)) new = Finishes touches effect old done reply new
   HasCallEffect old (Returned done (Err back)) new = (¬ IsOutHere touches effect old done) × (back ≡ done) × (new ≡ old)
@@ -91,4 +93,5 @@ module _ {B : Type 0} (touches : B → List ℕ) (effect : B → List ℤ → Re
   -- if the board is true to its log after some calls, it is after this one too
   pub record StaysTrueToLog (old : BoardOf B) (call : BoardCall B) (new : BoardOf B) : Type 0 where
     pub law : (columns : Balances) (base_replies : List Reply) (calls : List (BoardCall B))
-        → Plays (board_at_opening columns base_replies) calls old → IsTrueToLog columns base_replies (calls ++ call ∷ []) new
+        → Plays (board_at_opening columns base_replies) calls old
+            → IsTrueToLog columns base_replies (calls ++ call ∷ []) new

@@ -83,7 +83,8 @@ module _ (touches : Op → List ℕ) (effect : Op → List ℤ → Reply × List
   Takes-drains {old} {index} {job} {new} takes =
       PreservesLog_changed old new takes.position Waiting Out waiting_not_finished (taken_changes old index job new takes)
 
-  pub Finishes-drains : {old : BoardOf Op} {done : DoneOf Op} {reply : Reply} {new : BoardOf Op} → Finishes touches effect old done reply new → PreservesLog old new
+  pub Finishes-drains : {old : BoardOf Op} {done : DoneOf Op} {reply : Reply} {new : BoardOf Op}
+      → Finishes touches effect old done reply new → PreservesLog old new
   Finishes-drains {old} {done} {reply} {new} finishes =
       PreservesLog_changed old new finishes.position Out (Finished reply) out_not_finished (finished_changes old done reply new finishes)
 

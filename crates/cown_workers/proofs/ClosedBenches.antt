@@ -43,7 +43,8 @@ module _ {A : Type 0} where
 
 -- the owner's pass and the workers' are of the bench
 pub passes_here : (bench : BenchId) (own_pass : Option WorkerOf) (workers passes : List WorkerOf) → passes ≡ option_to_list own_pass ++ workers
-    → IfSome own_pass (λ (own_pass : WorkerOf). own_pass.bench ≡ bench) → All (λ (w : WorkerOf). w.bench ≡ bench) workers → All (λ (w : WorkerOf). w.bench ≡ bench) passes
+    → IfSome own_pass (λ (own_pass : WorkerOf). own_pass.bench ≡ bench) → All (λ (w : WorkerOf). w.bench ≡ bench) workers
+        → All (λ (w : WorkerOf). w.bench ≡ bench) passes
 passes_here bench None workers passes items own theirs = All-same (λ (w : WorkerOf). w.bench ≡ bench) passes workers items theirs
 passes_here bench (Some own_pass) workers passes items own theirs =
     All-same (λ (w : WorkerOf). w.bench ≡ bench) passes (own_pass ∷ workers) items (All-cons (λ (w : WorkerOf). w.bench ≡ bench) own_pass workers own theirs)
@@ -70,7 +71,8 @@ owner_first : (offered : List WorkOf) (own_pass : Option WorkerOf) (workers : Li
 owner_first offered None workers left parted = with_nothing offered (picked_of workers) left parted
 owner_first offered (Some own_pass) workers left parted = parted
 
-pub shuts_down : (threads count : ℕ) (before owner : OwnerOf) (own_pass : Option WorkerOf) (passes workers : List WorkerOf) (left : List WorkOf) (crew : BenchCrewOf)
+pub shuts_down : (threads count : ℕ) (before owner : OwnerOf) (own_pass : Option WorkerOf)
+    (passes workers : List WorkerOf) (left : List WorkOf) (crew : BenchCrewOf)
     → crew_with threads before.offered own_pass ≡ crew
     → count ≡ threads → owner ≡ record before { offered = before.offered ++ replicate count Stop }
     → passes ≡ option_to_list own_pass ++ workers → length workers ≡ threads

@@ -10,7 +10,8 @@ Exchanges-append [] second a b c here more = subst (λ board. Exchanges board se
 Exchanges-append (step ∷ first) second a b c (mid, here, rest) more = (mid, here, Exchanges-append first second mid b c rest more)
 
 module _ {C : Type 0} (acts : C → CrewStep → C → Type 0) where
-  TakesSteps-append : (first second : List CrewStep) (a b c : C) → TakesSteps acts a first b → TakesSteps acts b second c → TakesSteps acts a (first ++ second) c
+  TakesSteps-append : (first second : List CrewStep) (a b c : C) → TakesSteps acts a first b
+      → TakesSteps acts b second c → TakesSteps acts a (first ++ second) c
   TakesSteps-append [] second a b c here more = subst (λ crew. TakesSteps acts crew second c) here more
   TakesSteps-append (step ∷ first) second a b c (mid, here, rest) more = (mid, here, TakesSteps-append first second mid b c rest more)
 

@@ -75,7 +75,8 @@ impl<'a, R: Wait + Clock, G: Gate> BenchCrew<'a, R, G> {
         requires owner { owner_side.pass.bench ≡ owner_side.bench.now }
         requires hands { IfSome own_pass (λ own_pass. own_pass.bench ≡ owner_side.bench.now) }
         requires staff { All (λ thread. thread.promise.0.value ≡ owner_side.bench.now) thread_pool.threads.items }
-        requires all_passes { owner_side.pass.workers ≡ length (option_to_list own_pass) + length thread_pool.threads.items }
+        requires all_passes { owner_side.pass.workers
+            ≡ length (option_to_list own_pass) + length thread_pool.threads.items }
         requires at_least_one { 1 ≤ length thread_pool.threads.items }
         requires jobs { count_by is_stop owner_side.pass.offered ≡ 0 }
         ensures { result ≡ record {

@@ -10,4 +10,5 @@ LeastDifference = (left right : List ℤ) (place : ℕ) → length left ≡ leng
 
 -- if there is no such place, the columns are equal
 abbrev pub EqualWithoutDifference : Type 0
-EqualWithoutDifference = (left right : List ℤ) → length left ≡ length right → first_difference left right ≡ None → left ≡ right
+EqualWithoutDifference = (left right : List ℤ) → length left ≡ length right
+    → first_difference left right ≡ None → left ≡ right

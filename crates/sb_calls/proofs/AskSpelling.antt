@@ -135,7 +135,8 @@ line_spells line made e =
     (spelled.0, sym (join_with_byte-slice_split 32 line) ∙ spelled.1)
 
 -- the same for a result
-pub ask_is_spelled : (line : List ℕ) (result : Result AskLine CallFault) → result ≡ ask_line_of line → IfOk result (λ asked. IsAskLine asked × (line ≡ ask_line asked))
+pub ask_is_spelled : (line : List ℕ) (result : Result AskLine CallFault) → result ≡ ask_line_of line
+    → IfOk result (λ asked. IsAskLine asked × (line ≡ ask_line asked))
 ask_is_spelled line (Ok asked) e = line_spells line asked (sym e)
 ask_is_spelled line (Err fault) e = tt
 

@@ -183,7 +183,8 @@ module _ (a b : Rows) (name : List ℕ) (names : HaveSameNames a b) where
       subst (λ (v : ℤ). AreLocal (both_of name) a b (outcome a s c) (outcome b v c_b)) same_s
       (subst (λ (k : ℤ). AreLocal (both_of name) a b (outcome a s c) (outcome b s k)) same_c (there s c e_a alike)))
 
-  balance_local : AgreeOn (touched_cells a (Balance name)) a b → AreLocal (touched_cells a (Balance name)) a b (procedure (Balance name) a) (procedure (Balance name) b)
+  balance_local : AgreeOn (touched_cells a (Balance name)) a b
+      → AreLocal (touched_cells a (Balance name)) a b (procedure (Balance name) a) (procedure (Balance name) b)
   balance_local agree = on_both shown (λ s c e alike. left_local (replies.Shown (s +ℤ c)) alike) agree
 
   deposit_local : (amount : ℤ) → AgreeOn (touched_cells a (DepositChecking name amount)) a b
@@ -379,7 +380,8 @@ sent_local : (a b : Rows) (from to : List ℕ) (amount s c s_b c_b s_to c_to s_t
     → get a from ≡ Some (s, c) → get b from ≡ Some (s_b, c_b) → get a to ≡ Some (s_to, c_to) → get b to ≡ Some (s_to_b, c_to_b)
     → AreLocal (checkings_of from to) a b (sent from to amount a s c s_to c_to) (sent from to amount b s_b c_b s_to_b c_to_b)
 sent_local a b from to amount s c s_b c_b s_to c_to s_to_b c_to_b differs alike a_from b_from a_to b_to =
-    let same_c = same_checking a b from s c s_b c_b a_from b_from (alike (Checking from) (Contains-from_one (checkings_of from to) (Checking from) (inl refl))) in
+    let same_c =
+        same_checking a b from s c s_b c_b a_from b_from (alike (Checking from) (Contains-from_one (checkings_of from to) (Checking from) (inl refl))) in
     let same_to = same_checking a b to s_to c_to s_to_b c_to_b a_to b_to
     (alike (Checking to) (Contains-from_one (checkings_of from to) (Checking to) (inr (inl refl)))) in
     let on_a = sent from to amount a s c s_to c_to in

@@ -109,7 +109,8 @@ by_cown-injective (x ∷ s) (y ∷ c) (z ∷ t) (w ∷ d) long beside e =
     (cc, cc)
 
 -- balances whose cowns contain the same are the same
-pub contents_of-injective : (a b : Balances) → length a.savings ≡ length a.checking → length b.savings ≡ length b.checking → contents_of a ≡ contents_of b → a ≡ b
+pub contents_of-injective : (a b : Balances) → length a.savings ≡ length a.checking
+    → length b.savings ≡ length b.checking → contents_of a ≡ contents_of b → a ≡ b
 unfolding contents_of
 contents_of-injective a b a_same b_same e =
     let both = by_cown-injective a.savings a.checking b.savings b.checking a_same b_same e in

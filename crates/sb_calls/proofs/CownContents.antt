@@ -93,10 +93,12 @@ IsContents-set contents c v all here cown lt =
       | inr differs ↦ subst (IsCownValue cown) (sym (get_or-set_other contents c cown v (pos 0) differs)) (all cown lt_contents)
     ]
 
-pub IsContents-write : (contents : List ℤ) (cowns : List ℕ) (values : List ℤ) → IsContents contents → AreCownValues cowns values → IsContents (write_cowns contents cowns values)
+pub IsContents-write : (contents : List ℤ) (cowns : List ℕ) (values : List ℤ) → IsContents contents
+    → AreCownValues cowns values → IsContents (write_cowns contents cowns values)
 IsContents-write contents [] values all fits = all
 IsContents-write contents (c ∷ cowns) [] all fits = all
-IsContents-write contents (c ∷ cowns) (v ∷ values) all fits = IsContents-write (slice_set contents c v) cowns values (IsContents-set contents c v all fits.0) fits.1
+IsContents-write contents (c ∷ cowns) (v ∷ values) all fits =
+    IsContents-write (slice_set contents c v) cowns values (IsContents-set contents c v all fits.0) fits.1
 
 -- as many values as cowns
 pub length-AreCownValues : (cowns : List ℕ) (values : List ℤ) → AreCownValues cowns values → length values ≡ length cowns

@@ -23,7 +23,8 @@ module _ {B : Type 0} (touches : B → List ℕ) (effect : B → List ℤ → Re
   reply_of contents behaviour = (effect behaviour (inputs_of contents behaviour)).0
 
   abbrev pub contents_after_one : List ℤ → B → List ℤ
-  contents_after_one contents behaviour = write_cowns contents (touches behaviour) (effect behaviour (inputs_of contents behaviour)).1
+  contents_after_one contents behaviour =
+      write_cowns contents (touches behaviour) (effect behaviour (inputs_of contents behaviour)).1
 
   -- the contents after the whole log
   abbrev pub contents_after : List ℤ → List B → List ℤ

@@ -94,7 +94,8 @@ total_is bytes e =
     let third = passed (not (int_eq (stated_total bytes) (total savings +ℤ total checking))) WrongTotal None second.1 in
     (Decides-int_eq _ _).0 (holds _ third.0)
 
-ends : (layout : Layout) (bytes : List ℕ) → replies_fault layout bytes ≡ None → (stated_reply_count bytes ≤ LOG_CALLS) × (length bytes ≤ stated_size layout bytes)
+ends : (layout : Layout) (bytes : List ℕ) → replies_fault layout bytes ≡ None → (stated_reply_count bytes ≤ LOG_CALLS)
+    × (length bytes ≤ stated_size layout bytes)
 unfolding replies_fault
 ends layout bytes e =
     let first = passed (list_any is_no_reply (stated_replies layout bytes)) BadReply _ e in

@@ -52,15 +52,18 @@ checkpoint_spelling layout opening_total checkpoint =
     ++ flat_map reply_field checkpoint.replies
 
 -- the bytes spell a valid checkpoint in this layout, of a bank with this opening total
-pub record SpellsInLayout (layout : Layout) (opening_total : ℤ) (checkpoint : CheckpointOf) (bytes : List ℕ) : Type 0 where
+pub record SpellsInLayout (layout : Layout) (opening_total : ℤ)
+    (checkpoint : CheckpointOf) (bytes : List ℕ) : Type 0 where
   pub valid : IsCheckpoint checkpoint
   pub spelled : bytes ≡ checkpoint_spelling layout opening_total checkpoint
 
 -- the bytes spell a checkpoint in one of the two layouts
 abbrev pub SpellsCheckpoint : ℤ → CheckpointOf → List ℕ → Type 0
-SpellsCheckpoint opening_total checkpoint bytes = (layout : Layout) × SpellsInLayout layout opening_total checkpoint bytes
+SpellsCheckpoint opening_total checkpoint bytes = (layout : Layout)
+    × SpellsInLayout layout opening_total checkpoint bytes
 
 -- bytes spell at most one checkpoint, in one layout
 abbrev pub OneCheckpoint : Type 0
-OneCheckpoint = (k l : Layout) (t u : ℤ) (a b : CheckpointOf) (bytes : List ℕ) → SpellsInLayout k t a bytes → SpellsInLayout l u b bytes
+OneCheckpoint = (k l : Layout) (t u : ℤ) (a b : CheckpointOf) (bytes : List ℕ)
+    → SpellsInLayout k t a bytes → SpellsInLayout l u b bytes
     → (k ≡ l) × (a ≡ b)

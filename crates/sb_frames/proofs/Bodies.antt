@@ -79,7 +79,8 @@ flush_takes tag bytes frame rest is e =
     let same = same_value (Flush, bytes) (frame, rest) e in
     is_behind IsFrame body tag 6 bytes [] rest frame Flush is (ap (λ (p : Frame × List ℕ). p.0) (sym same)) (ap (λ (p : Frame × List ℕ). p.1) same) tt refl
 
-tag_takes : (tag : ℕ) (bytes : List ℕ) (frame : Frame) (rest : List ℕ) → AreBytes bytes → frame_of_tag tag bytes ≡ Ok (frame, rest) → Framed tag bytes frame rest
+tag_takes : (tag : ℕ) (bytes : List ℕ) (frame : Frame) (rest : List ℕ) → AreBytes bytes
+    → frame_of_tag tag bytes ≡ Ok (frame, rest) → Framed tag bytes frame rest
 tag_takes tag bytes frame rest are e =
     let Goal = Framed tag bytes frame rest in
     let none : Result (Frame × List ℕ) FrameFault = Err UnknownTag in

@@ -50,7 +50,8 @@ payment_takes kind bytes call rest are is e =
     is_behind IsCall call_field kind 6 bytes (name_field t.0 ++ (name_field t.1 ++ amount_field t.2)) rest call (SendPayment t.0 t.1 t.2) is t.6 t.7
     (t.3, t.4, t.5) refl
 
-kind_takes : (kind : ℕ) (bytes : List ℕ) (call : Call) (rest : List ℕ) → AreBytes bytes → call_of_kind kind bytes ≡ Ok (call, rest) → Spelled kind bytes call rest
+kind_takes : (kind : ℕ) (bytes : List ℕ) (call : Call) (rest : List ℕ) → AreBytes bytes
+    → call_of_kind kind bytes ≡ Ok (call, rest) → Spelled kind bytes call rest
 kind_takes kind bytes call rest are e =
     let Goal = Spelled kind bytes call rest in
     let last : Result (Call × List ℕ) FrameFault = Err UnknownTag in

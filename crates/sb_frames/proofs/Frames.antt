@@ -45,7 +45,8 @@ with_length_takes size bytes frame k are e =
       read.1 ∙ ap (λ (p : Frame × ℕ). body p.0) same,
     )
 
-pub decoded_takes : (bytes : List ℕ) (frame : Frame) (k : ℕ) → AreBytes bytes → decode_result bytes ≡ Ok (frame, k) → (k ≤ length bytes) × Spells frame (take k bytes)
+pub decoded_takes : (bytes : List ℕ) (frame : Frame) (k : ℕ) → AreBytes bytes → decode_result bytes ≡ Ok (frame, k)
+    → (k ≤ length bytes) × Spells frame (take k bytes)
 unfolding decode_result
 decoded_takes bytes frame k are e =
     let two = refused_not (ltb (length bytes) 2) Short (with_length (stated_length bytes) bytes) (frame, k) e in

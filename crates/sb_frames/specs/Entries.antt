@@ -13,7 +13,8 @@ HasEntry state =
 
 -- the next frame of the stream is an entry with this number, and the op is that of its call in the
 -- directory
-pub record TakesEntry (names : List (List ℕ)) (before : StreamState) (entry : EntryOp) (after : StreamState) : Type 0 where
+pub record TakesEntry (names : List (List ℕ)) (before : StreamState)
+    (entry : EntryOp) (after : StreamState) : Type 0 where
   pub call : Call
   pub next : next_of before ≡ (Ok (Some (Entry entry.number call)), after)
   pub looked_up : entry.op ≡ op_of names call

@@ -39,6 +39,7 @@ pub held_reply : (board : BoardOf Op) (number : ℕ) → All IsReply board.base_
 unfolding reply_in
 held_reply board number base_replies held by_log = elim (cases_Bool (leb number (length board.base_replies))) [
   | inl before ↦ rw before (early (eqb number 0) (slice_get board.base_replies (number - 1)) (at_place IsReply board.base_replies (number - 1) base_replies))
-  | inr after ↦ weaker (IsByLog board number) IsReply _ (λ reply h. replies_fit (contents_of board.opening) board.log (number - length board.base_replies) reply held
+  | inr after ↦ weaker (IsByLog board number) IsReply _
+      (λ reply h. replies_fit (contents_of board.opening) board.log (number - length board.base_replies) reply held
       (h (leb-false number (length board.base_replies) after))) by_log
 ]

@@ -60,7 +60,8 @@ abbrev pub next_entry_answer : LogOf → Option Heard
 next_entry_answer log = option_map (entry_answer (suc (length_of log.board))) (advance_answer log)
 
 -- the bytes are one whole frame, this is the answer to it, and this is the replica after it
-pub record ReceivesBytes {S : Type 0} (old : ReplicaOf S) (bytes : List ℕ) (answer : Heard) (new : ReplicaOf S) : Type 0 where
+pub record ReceivesBytes {S : Type 0} (old : ReplicaOf S) (bytes : List ℕ)
+    (answer : Heard) (new : ReplicaOf S) : Type 0 where
   pub frame : Frame
   pub whole : whole_frame bytes ≡ Ok frame
   pub answer_is : answer ≡ frame_answer old.board frame
@@ -70,7 +71,8 @@ pub record ReceivesBytes {S : Type 0} (old : ReplicaOf S) (bytes : List ℕ) (an
 abbrev pub IsReplicaFaultOf : {S : Type 0} → ReplicaOf S → List ℕ → ReplicaFault → Type 0
 IsReplicaFaultOf replica bytes (fault.BadFrame frame) = whole_frame bytes ≡ Err frame
 IsReplicaFaultOf replica bytes fault.OutOfMemory =
-    (entry : Frame) × (number : ℕ) × (whole_frame bytes ≡ Ok entry) × (frame_answer replica.board entry ≡ Accepted number)
+    (entry : Frame) × (number : ℕ) × (whole_frame bytes ≡ Ok entry)
+        × (frame_answer replica.board entry ≡ Accepted number)
 
 -- an op was appended to the log, under this number
 pub record Accepts (old : BoardOf Op) (number : ℕ) (new : BoardOf Op) : Type 0 where

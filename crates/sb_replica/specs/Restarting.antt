@@ -23,7 +23,8 @@ IsStoredAs opening origin (Some bytes) checkpoint = SpellsCheckpoint origin.open
     × (length checkpoint.columns.savings ≡ origin.customers)
 
 -- a board that was opened on what the store holds
-pub record IsBoardOn (opening : Balances) (origin : Origin) (content : Option (List ℕ)) (board : BoardOf Op) : Type 0 where
+pub record IsBoardOn (opening : Balances) (origin : Origin) (content : Option (List ℕ))
+    (board : BoardOf Op) : Type 0 where
   pub checkpoint : CheckpointOf
   pub is_stored : IsStoredAs opening origin content checkpoint
   pub board_is : board ≡ board_at_opening checkpoint.columns checkpoint.replies
@@ -60,4 +61,5 @@ module _ {S : Type 0} (does : S → StoreStep → S → Type 0) where
   abbrev pub IsRestartFaultOf : ReplicaOf S → RestartFault → ReplicaOf S → Type 0
   IsRestartFaultOf old fault new = (new ≡ record old { store = new.store })
       × (((failed : StoreFault) × does old.store (GetFault failed) new.store × (fault ≡ of_store_fault failed))
-      ⊎ ((content : Option (List ℕ)) × does old.store (Get content) new.store × IsRefusalOf (origin_of old) content fault))
+      ⊎ ((content : Option (List ℕ)) × does old.store (Get content) new.store
+          × IsRefusalOf (origin_of old) content fault))

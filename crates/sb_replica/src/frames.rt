@@ -78,7 +78,8 @@ impl<S: CheckpointStore> Replica<S> {
     /// Fails if memory is refused for an entry that would be accepted; nothing changes then.
     pub fn receive_decoded(&mut self, frame: &Frame) -> Result<Heard, AllocError>
         ensures answer { IfOk result (λ answer. answer ≡ spec.frame_answer self.old.board frame.now) }
-        ensures err { OnErr result ((number : ℕ) × (spec.frame_answer self.old.board frame.now ≡ heard.Accepted number)) }
+        ensures err { OnErr result ((number : ℕ)
+            × (spec.frame_answer self.old.board frame.now ≡ heard.Accepted number)) }
         ensures state { MatchResult result
             (λ answer. self.new ≡ with_log self.old (spec.after_frame self.old.names (log_of self.old) frame.now))
             (λ refused. self.new ≡ self.old) }

@@ -173,7 +173,8 @@ impl<S: CheckpointStore> Replica<S> {
     /// The columns after all entries, borrowed, or `None` if one is unfinished.
     pub fn final_columns(&self) -> Option<&Columns>
         ensures value { MatchOption result (unfinished_of self.now.board ≢ 0)
-            (λ columns. (unfinished_of self.now.board ≡ 0) × IsAfterAll declared_cowns effect_of self.now.board columns.now) }
+            (λ columns. (unfinished_of self.now.board ≡ 0)
+                × IsAfterAll declared_cowns effect_of self.now.board columns.now) }
         ensures bank { IfSome result (λ columns. IsBalances columns.now) }
     {
         self.log.board().final_columns()

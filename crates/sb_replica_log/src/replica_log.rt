@@ -38,7 +38,8 @@ impl Model for ReplicaLog {
 
     ghost view = { λ l. record { board = l.board; held = in_order_after (length_of l.board) l.held } };
 
-    ghost invariant = { λ l. IsReplicaLog (record { board = l.board; held = in_order_after (length_of l.board) l.held }) };
+    ghost invariant = { λ l.
+        IsReplicaLog (record { board = l.board; held = in_order_after (length_of l.board) l.held }) };
 }
 
 // For the prover alone: the array gets its clause here.

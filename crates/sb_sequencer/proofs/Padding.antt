@@ -21,7 +21,8 @@ length-padded_answers places kept l =
     omega (arith, l, length-append kept (replicate (places - length kept) None), length-replicate (places - length kept) none)
 
 -- one more place has no answer
-pub padded_answers-push : (places : ℕ) (kept : List (Option Reply)) → length kept ≤ places → padded_answers (places + 1) kept ≡ padded_answers places kept ++ None ∷ []
+pub padded_answers-push : (places : ℕ) (kept : List (Option Reply)) → length kept ≤ places
+    → padded_answers (places + 1) kept ≡ padded_answers places kept ++ None ∷ []
 padded_answers-push places kept l =
     let more : places + 1 - length kept ≡ places - length kept + 1 = omega (arith, l) in
     ap (λ n. kept ++ replicate n None) more
@@ -44,7 +45,8 @@ slice_get-last (first ∷ xs) x = slice_get-last xs x
 
 -- an answer at a place without one takes an added place
 pub storing_first : (place : ℕ) (kept : List (Option Reply)) (answer : Option Reply) → length kept ≤ place
-    → (slice_get (padded_answers (place + 1) kept) place ≡ Some None) × (padded_answers place kept ++ answer ∷ [] ≡ slice_set (padded_answers (place + 1) kept) place answer)
+    → (slice_get (padded_answers (place + 1) kept) place ≡ Some None)
+        × (padded_answers place kept ++ answer ∷ [] ≡ slice_set (padded_answers (place + 1) kept) place answer)
 storing_first place kept answer l =
     let more = padded_answers-push place kept l in
     let at : length (padded_answers place kept) ≡ place = length-padded_answers place kept l in (

@@ -17,7 +17,8 @@ use Rattle.sb_sequencer.proofs.Padding.{padded_answers-full, length-padded_answe
 
 -- ---- places that are filled without an answer change nothing
 
-filled_within : (place : ℕ) (kept : List (Option Reply)) → (place < length (padded_answers (place + 1) kept)) × (length kept ≤ length (padded_answers (place + 1) kept))
+filled_within : (place : ℕ) (kept : List (Option Reply)) → (place < length (padded_answers (place + 1) kept))
+    × (length kept ≤ length (padded_answers (place + 1) kept))
 filled_within place kept = elim (cases_lt place (length kept)) [ inl l ↦ there l | inr l ↦ added l ]
   where
     there : place < length kept → (place < length (padded_answers (place + 1) kept)) × (length kept ≤ length (padded_answers (place + 1) kept))
@@ -71,7 +72,8 @@ module _ (log : List (Key × Call)) (recorded checkpoints : List ℕ) (kept : Li
   again = padded_answers-again (place + 1) (length log) kept few (omega (arith, within))
 
   unchanged : (new : List (Option Reply)) → new ≡ padded_answers (place + 1) kept → with_answers new ≡ with_answers kept
-  unchanged new e = ap (λ answers. record { log = log; recorded = recorded; checkpoints = checkpoints; answers = answers }) (ap (padded_answers (length log)) e ∙ again)
+  unchanged new e =
+      ap (λ answers. record { log = log; recorded = recorded; checkpoints = checkpoints; answers = answers }) (ap (padded_answers (length log)) e ∙ again)
 
   pub answered_state : (note : AnswerNote) (new : List (Option Reply)) → StoresAnswer (padded_answers (place + 1) kept) place reply note new
       → with_answers new ≡ after_answer (with_answers kept) number reply note

@@ -182,13 +182,15 @@ impl Sequencer {
             result self.new.log }
         // With a new number there is a slot for its answer. What the replicas have of the log
         // stays.
-        ensures state { self.new ≡ state_after_ask self.old (record { client = client; request = request }, call.now) result }
+        ensures state { self.new
+            ≡ state_after_ask self.old (record { client = client; request = request }, call.now) result }
         // Unless memory is refused, the log takes one step with this ask.
         ensures step { result ≢ Err AskFault.OutOfMemory
             → self.new.log ≡ log_with self.old.log (record { client = client; request = request }, call.now) }
         // Whatever was asked before, the log is the first ask of each key.
         ensures numbering { (asks : List (AnyKey × AnyCall))
-            → ExtendsFirstAsks asks self.old.log (record { client = client; request = request }, call.now) result self.new.log }
+            → ExtendsFirstAsks asks self.old.log
+                (record { client = client; request = request }, call.now) result self.new.log }
         ensures valid { IsSequencer self.new }
     {
         let key = Key { client, request };

@@ -188,7 +188,8 @@ advance_alike seen log beside =
     by : (first : Option (Option Op)) → held_move (seeing seen log) (option_map is_some first)
         ≡ (
           seeing seen (after_held_op log (option_and_then (λ held. held) first)),
-          note_if (option_map (entry_answer (suc (length_of log.board))) (option_map (λ op. next_offer_answer log.board) (option_and_then (λ held. held) first))),
+          note_if (option_map (entry_answer (suc (length_of log.board)))
+              (option_map (λ op. next_offer_answer log.board) (option_and_then (λ held. held) first))),
         )
     by None = refl
     by (Some None) = refl

@@ -162,7 +162,8 @@ finishes_done bank r old new worker place job done reply is w here of finishes w
     ∙ reply_along o ops board done reply new.replica.board is.board finishes in
     let moved = record (with_empty_hand (machine_node old) worker) { stages = with_nth (stages_of board) job.number IsDone } in
     record {
-      consistent = node_within bank r old new is within (along_finished o ops board done reply new.replica.board is.board finishes) (ap length_of finishes.finished)
+      consistent =
+          node_within bank r old new is within (along_finished o ops board done reply new.replica.board is.board finishes) (ap length_of finishes.finished)
           (every_emptied bank old new place is.hands hands);
       move_is =
           in_hand bank old worker place (Some job) w here

@@ -282,7 +282,8 @@ pub settling_after : (world : WorldOf) (r : ℕ)
     → after_events world (settle_events world r) ≡ after_events (after_events world (emptying_events world r)) (work_events r (remaining_undone world r))
 settling_after world r = after_append world (emptying_events world r) (work_events r (remaining_undone world r))
 
-pub settles : (world : WorldOf) (r : ℕ) → r < length world.nodes → IsTrueAt IsAbleToSettle world r → after_events world (settle_events world r) ≡ settled_world world r
+pub settles : (world : WorldOf) (r : ℕ) → r < length world.nodes → IsTrueAt IsAbleToSettle world r
+    → after_events world (settle_events world r) ≡ settled_world world r
 settles world r lt able =
     let node = there world r lt in settling_after world r ∙ settles_to world r node.0 node.1 (able node.0 node.1)
 

@@ -60,7 +60,8 @@ undone_states : (states : List State) → count_by is_undone (map stage_of state
 undone_states [] = refl
 undone_states (Waiting ∷ states) = count_more is_undone Waits (map stage_of states) ∙ ap (λ n. 1 + n) (undone_states states) ∙ sym
     (count_more is_unfinished Waiting states)
-undone_states (Out ∷ states) = count_more is_undone IsOut (map stage_of states) ∙ ap (λ n. 1 + n) (undone_states states) ∙ sym (count_more is_unfinished Out states)
+undone_states (Out ∷ states) = count_more is_undone IsOut (map stage_of states) ∙ ap (λ n. 1 + n) (undone_states states)
+    ∙ sym (count_more is_unfinished Out states)
 undone_states (Finished reply ∷ states) = undone_states states
 
 undone_after : (n : ℕ) (stages : List Stage) → count_by is_undone (copies n IsDone ++ stages) ≡ count_by is_undone stages

@@ -20,7 +20,8 @@ idle_at world r = idle_if (slice_get world.nodes r)
 
 -- the reply that a replica holds to a number, if it has one
 abbrev pub reply_at_replica : WorldOf → ℕ → ℕ → Option Reply
-reply_at_replica world r number = option_and_then (λ node. reply_in_node (bank_of world) node number) (slice_get world.nodes r)
+reply_at_replica world r number =
+    option_and_then (λ node. reply_in_node (bank_of world) node number) (slice_get world.nodes r)
 
 -- the length of the state at a position among all that were ever sent to a replica
 abbrev pub state_at : WorldOf → ℕ → ℕ → Option ℕ

@@ -69,7 +69,8 @@ with_accepted node = record node { stages = node.stages ++ Waits ∷ []; held = 
 
 abbrev pub next_entry_move : NodeOf → ℕ → NodeOf × Note
 next_entry_move node number =
-    if undone_in node == OPEN_BEHAVIOURS then (node, note.Busy (length_in node)) else (with_accepted node, note.Accepted number)
+    if undone_in node == OPEN_BEHAVIOURS then (node, note.Busy (length_in node))
+        else (with_accepted node, note.Accepted number)
 
 -- the first case that holds decides
 abbrev pub entry_move : NodeOf → ℕ → NodeOf × Note
@@ -113,7 +114,8 @@ take_entry node worker (Some index) = (
 abbrev pub take_by_hand : BankOf → NodeOf → ℕ → ℕ → Option (Option ℕ) → NodeOf × Note
 take_by_hand bank node worker index None = (node, note.Nothing)
 take_by_hand bank node worker index (Some (Some number)) = (node, note.HandFull)
-take_by_hand bank node worker index (Some None) = take_entry node worker (slice_get (runnable_entries bank node.stages) index)
+take_by_hand bank node worker index (Some None) =
+    take_entry node worker (slice_get (runnable_entries bank node.stages) index)
 
 -- the worker takes the entry that may run and has this many before it that may run too
 abbrev pub take_move : BankOf → NodeOf → ℕ → ℕ → NodeOf × Note

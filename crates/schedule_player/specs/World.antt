@@ -95,7 +95,8 @@ report_move world r (Some (frame.Have replica size)) = (
   record world { sequencer = record world.sequencer { checkpoints = slice_set world.sequencer.checkpoints r size } },
   note.Has size,
 )
-report_move world r (Some (frame.Answer number reply)) = reply_move world number reply (answer_slot world.sequencer number)
+report_move world r (Some (frame.Answer number reply)) =
+    reply_move world number reply (answer_slot world.sequencer number)
 report_move world r other = (world, note.Nothing)
 
 abbrev pub from_move : WorldOf → ℕ → ℕ → Option NodeOf → WorldOf × Note

@@ -108,7 +108,8 @@ module _ {S : Type 0} (model : StoreModel S) where
         columns = held.columns;
         after = subst (λ (b : BoardOf Op). IsAfterAll declared_cowns effect_of b held.columns) (sym board) held.after;
         bytes = held.bytes;
-        spelled = subst (λ (o : Balances). SpellsInLayout Second (total_at o) (record { columns = held.columns; replies = board_replies new.node.board }) held.bytes)
+        spelled =
+            subst (λ (o : Balances). SpellsInLayout Second (total_at o) (record { columns = held.columns; replies = board_replies new.node.board }) held.bytes)
             (sym opening) (subst (λ (b : BoardOf Op). SpellsInLayout Second (total_at old.node.opening)
             (record { columns = held.columns; replies = board_replies b }) held.bytes) (sym board) held.spelled);
         holds = held.holds;

@@ -32,7 +32,8 @@ pub record IsSession (before : List (Key × Call)) (sent : List ℕ) (end : End)
 module _ {T : Type 0} where
   -- the first of those who are coming is accepted
   abbrev pub AcceptsNext : T → Option (List T) → Option (List T) → Type 0
-  AcceptsNext client coming left = IfSome coming (λ clients. (rest : List T) × (clients ≡ client ∷ rest) × (left ≡ Some rest))
+  AcceptsNext client coming left =
+      IfSome coming (λ clients. (rest : List T) × (clients ≡ client ∷ rest) × (left ≡ Some rest))
 
   module _ (sends : T → Option (List ℕ)) where
     -- the sessions of these clients ended so, and led from one log to the other; each client is

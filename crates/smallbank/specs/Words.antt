@@ -49,7 +49,8 @@ HasValue option value words = (before : List (List ℕ)) × (after : List (List 
 
 -- the text is the number's digits, after an optional `+`
 abbrev pub IsIntegerText : List ℕ → ℕ → Type 0
-IsIntegerText text number = IsNumeral 10 (without_leading_plus text) × (number ≡ digits_value 10 (without_leading_plus text))
+IsIntegerText text number = IsNumeral 10 (without_leading_plus text)
+    × (number ≡ digits_value 10 (without_leading_plus text))
 
 -- an option has this number
 abbrev pub HasInteger : List ℕ → ℕ → List (List ℕ) → Type 0

@@ -45,7 +45,8 @@ where
     ghost ready = { λ server. HasWholeLog server.primary × (server.primary.log ≡ []) };
 
     ghost does = { λ server nodes workers keeps answer. IfOk answer (λ bank. ServesByPlan D.Stream.remaining S.model
-        server.plan (D.coming server.listener) server.primary bank.primary (W.contents server.writer) (W.contents bank.writer))
+        server.plan (D.coming server.listener) server.primary bank.primary
+            (W.contents server.writer) (W.contents bank.writer))
         × IfErr answer (IsServingFault nodes server.plan.saves) };
 
     // Serves the bank, and prints its whole output.

@@ -20,7 +20,8 @@ module _ {A : Type 0} where
 
   -- the words are the program's name, the crew, and its numbers in order
   abbrev pub GivesDrain : CrewChoice → List (String A) → Type 0
-  GivesDrain (InPlace steps calls) words = NamesAction words 4 (codes "none") × HasIntegerAt words 2 steps × HasIntegerAt words 3 calls
+  GivesDrain (InPlace steps calls) words = NamesAction words 4 (codes "none")
+      × HasIntegerAt words 2 steps × HasIntegerAt words 3 calls
   GivesDrain (InThreads workers steps calls) words = NamesAction words 5 (codes "workers")
       × HasIntegerAt words 2 workers × HasIntegerAt words 3 steps × HasIntegerAt words 4 calls
   GivesDrain (Wait workers) words = NamesAction words 3 (codes "wait") × HasIntegerAt words 2 workers

@@ -30,7 +30,8 @@ pub record IsAfterAsks (asks : List AskLine) (running : ℕ) (log : List (Key ×
   pub log_is : log ≡ log_of_asks asks
 
 -- after these asks they also have their standings
-pub record HasStandings (asks : List AskLine) (running : ℕ) (log : List (Key × Call)) (standings : List Standing) : Type 0 where
+pub record HasStandings (asks : List AskLine) (running : ℕ) (log : List (Key × Call))
+    (standings : List Standing) : Type 0 where
   pub after : IsAfterAsks asks running log
   pub standings_are : standings ≡ map (standing_of log) (asks_with_keys asks)
 

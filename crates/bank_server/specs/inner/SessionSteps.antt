@@ -53,7 +53,8 @@ Leads opening old more new = (before : List (Key × Call)) (start : Option (List
 
 -- these unread bytes spell frames that led to the new state, and then the bytes that are unread
 -- there
-pub record HandlesBytes (opening : Rows) (old : SessionState) (unread : List ℕ) (new : SessionState) (left : List ℕ) : Type 0 where
+pub record HandlesBytes (opening : Rows) (old : SessionState) (unread : List ℕ)
+    (new : SessionState) (left : List ℕ) : Type 0 where
   pub more : List frames.Frame
   pub read : unread ≡ flat_map spelling more ++ left
   pub leads : Leads opening old more new
@@ -69,7 +70,8 @@ IsStateAfterFault OutOfMemory there now = now.log ≡ there.log
 
 -- some of the unread bytes spell frames that led somewhere, and the fault came there, whatever
 -- bytes follow
-pub record Stops (opening : Rows) (old : SessionState) (unread : List ℕ) (fault : SessionFault) (new : SessionState) : Type 0 where
+pub record Stops (opening : Rows) (old : SessionState) (unread : List ℕ)
+    (fault : SessionFault) (new : SessionState) : Type 0 where
   pub there : SessionState
   pub rest : List ℕ
   pub handles : HandlesBytes opening old unread there rest

@@ -47,7 +47,8 @@ pub record IsBenchState (items : List WorkOf) (views : List PassHistory) : Type 
   -- for any weights, the picks that the passes know weigh as much as what was taken, with its
   -- positions
   pub weights : (weight : PickOf → ℕ) → sum_by (weight_known weight) views ≡ sum_by weight (enumerate_from 0 taken)
-  pub each : (pass : ℕ) (known : PassHistory) → get_elem? views pass ≡ some known → IsPassState owner offered taken drained pass known
+  pub each : (pass : ℕ) (known : PassHistory) → get_elem? views pass ≡ some known
+      → IsPassState owner offered taken drained pass known
 
 -- one more Work was offered
 abbrev pub AddsOffer : PassHistory → WorkOf → PassHistory → Type 0

@@ -71,7 +71,8 @@ module _ {B : Type 0} (touches : B → List ℕ) (effect : B → List ℤ → Re
 
   -- each waiting behaviour has its count of cowns at which it isn't in front, and those in front at
   -- all their cowns are listed
-  pub record AreCounts (log : List B) (states : List State) (lists : List (List ℕ)) (behind ready : List ℕ) : Type 0 where
+  pub record AreCounts (log : List B) (states : List State) (lists : List (List ℕ))
+      (behind ready : List ℕ) : Type 0 where
     pub same_length : length behind ≡ length log
     pub counted : (k : ℕ) → waiting_at states k ≡ true → get_or behind k 0 ≡ behind_of touches log lists k
     pub listed : AreDue (waiting_at states) behind (length log) ready
@@ -97,7 +98,8 @@ module _ {B : Type 0} (touches : B → List ℕ) (effect : B → List ℤ → Re
   pub record IsCut (opening : List ℤ) (base : ℕ) (log : List B) (states : List State) (cut : Cut) : Type 0 where
     pub after : base ≤ cut.number
     pub within : cut.number ≤ base + length log
-    pub keeps : AgreesWithLog opening (take (cut.number - base) log) (take (cut.number - base) states) (contents_of cut.columns)
+    pub keeps : AgreesWithLog opening (take (cut.number - base) log)
+        (take (cut.number - base) states) (contents_of cut.columns)
     pub unfinished : cut.unfinished ≡ count_by is_unfinished (take (cut.number - base) states)
 
   -- everything that a board keeps

@@ -43,7 +43,8 @@ pub record TakesIn (position unfinished : ℕ) (cowns : List ℕ) (old new : Lin
 -- front at all its cowns is then ready
 pub record ComesForward (fronts : List ℕ) (old new : ReadyList) : Type 0 where
   pub same_length : length new.behind.items ≡ length old.behind.items
-  pub behind : (position : ℕ) → get_or new.behind.items position 0 + occurrences position fronts ≡ get_or old.behind.items position 0
+  pub behind : (position : ℕ)
+      → get_or new.behind.items position 0 + occurrences position fronts ≡ get_or old.behind.items position 0
   pub due : (waits : ℕ → Bool) (bound : ℕ) → All (λ position. (position < bound) × (waits position ≡ true)) fronts
       → AreDue waits old.behind.items bound old.ready.items → AreDue waits new.behind.items bound new.ready.items
 

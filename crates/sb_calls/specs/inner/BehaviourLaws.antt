@@ -172,7 +172,8 @@ declared_limit SameCustomer = lit≤ tt
 
 -- an effect on as many values as there are cowns leaves allowed values, if it does so for allowed
 -- values
-on_one_in_range : (a : ℕ) (effect : ℤ → Reply × List ℤ) → ((v : ℤ) → IsCownValue a v → AreCownValues (a ∷ []) (effect v).1)
+on_one_in_range : (a : ℕ) (effect : ℤ → Reply × List ℤ)
+    → ((v : ℤ) → IsCownValue a v → AreCownValues (a ∷ []) (effect v).1)
     → (inputs : List ℤ) → AreCownValues (a ∷ []) inputs → AreCownValues (a ∷ []) (on_one_value effect inputs).1
 on_one_in_range a effect h [] allowed = absurd allowed
 on_one_in_range a effect h (v ∷ []) allowed = h v allowed.0
@@ -187,8 +188,10 @@ on_two_in_range a b effect h (v ∷ w ∷ []) allowed = h v w allowed.0 allowed.
 on_two_in_range a b effect h (v ∷ w ∷ x ∷ more) allowed = absurd allowed.1.1
 
 on_three_in_range : (a b c : ℕ) (effect : ℤ → ℤ → ℤ → Reply × List ℤ)
-    → ((v w x : ℤ) → IsCownValue a v → IsCownValue b w → IsCownValue c x → AreCownValues (a ∷ b ∷ c ∷ []) (effect v w x).1)
-    → (inputs : List ℤ) → AreCownValues (a ∷ b ∷ c ∷ []) inputs → AreCownValues (a ∷ b ∷ c ∷ []) (on_three_values effect inputs).1
+    → ((v w x : ℤ) → IsCownValue a v → IsCownValue b w → IsCownValue c x
+        → AreCownValues (a ∷ b ∷ c ∷ []) (effect v w x).1)
+    → (inputs : List ℤ) → AreCownValues (a ∷ b ∷ c ∷ []) inputs
+        → AreCownValues (a ∷ b ∷ c ∷ []) (on_three_values effect inputs).1
 on_three_in_range a b c effect h [] allowed = absurd allowed
 on_three_in_range a b c effect h (v ∷ []) allowed = absurd allowed.1
 on_three_in_range a b c effect h (v ∷ w ∷ []) allowed = absurd allowed.1.1
@@ -203,10 +206,12 @@ either_in_range cowns false first second a b = b refl
 
 -- a checking balance within the limit is in its cown's range
 checking_in_range : (place : ℕ) (v : ℤ) → IsWithinLimit v → IsCownValue (checking_cown place) v
-checking_in_range place v within = record { within = within; not_negative = λ even. absurd (checking_cown_odd place even) }
+checking_in_range place v within =
+    record { within = within; not_negative = λ even. absurd (checking_cown_odd place even) }
 
 -- savings from 0 to the limit are in their cown's range
-some_savings_in_range : (place : ℕ) (v : ℤ) → int_lt v (pos 0) ≡ false → int_lt LIMIT v ≡ false → IsCownValue (savings_cown place) v
+some_savings_in_range : (place : ℕ) (v : ℤ) → int_lt v (pos 0) ≡ false
+    → int_lt LIMIT v ≡ false → IsCownValue (savings_cown place) v
 some_savings_in_range place v ge le =
     record {
       within = record { at_least = not_negative_above v _ ge; at_most = at_least v LIMIT le };
@@ -310,9 +315,11 @@ amalgamation_in_range : (from to : ℕ) (inputs : List ℤ) → AreCownValues (c
 amalgamation_in_range from to inputs = by (from == to) (nat_lt from to)
   where
     by : (one before : Bool)
-        → AreCownValues (if one then [] else if before then savings_cown from ∷ checking_cown from ∷ checking_cown to ∷ []
+        → AreCownValues (if one then [] else if before
+            then savings_cown from ∷ checking_cown from ∷ checking_cown to ∷ []
         else checking_cown to ∷ savings_cown from ∷ checking_cown from ∷ []) inputs
-        → AreCownValues (if one then [] else if before then savings_cown from ∷ checking_cown from ∷ checking_cown to ∷ []
+        → AreCownValues (if one then [] else if before
+            then savings_cown from ∷ checking_cown from ∷ checking_cown to ∷ []
         else checking_cown to ∷ savings_cown from ∷ checking_cown from ∷ [])
         (if one then (replies.SameCustomer, inputs) else if before then on_three_values giver_first_effect inputs
         else on_three_values taker_first_effect inputs).1
@@ -355,7 +362,8 @@ payment_in_range : (from to : ℕ) (amount checking received : ℤ) → IsCownVa
     → IsCownValue (checking_cown from) (payment amount checking received).1
     × IsCownValue (checking_cown to) (payment amount checking received).2
 payment_in_range from to amount checking received c r =
-    in_each_payment (λ after. IsCownValue (checking_cown from) after.1 × IsCownValue (checking_cown to) after.2) amount checking
+    in_each_payment (λ after. IsCownValue (checking_cown from) after.1
+        × IsCownValue (checking_cown to) after.2) amount checking
     received (λ below. (c, r)) (λ ge poor. (c, r)) (λ ge enough past. (c, r)) (λ ge enough le. (
       checking_in_range from (checking -ℤ amount)
           (record {
@@ -394,7 +402,8 @@ effect_in_range (TransactSavings place amount) inputs allowed =
     on_one_in_range (savings_cown place) (savings_effect amount) (savings_in_range place amount) inputs allowed
 effect_in_range (Amalgamate places) inputs allowed = amalgamation_in_range places.0 places.1 inputs allowed
 effect_in_range (WriteCheck place amount) inputs allowed =
-    on_two_in_range (savings_cown place) (checking_cown place) (check_effect amount) (check_in_range place amount) inputs allowed
+    on_two_in_range (savings_cown place) (checking_cown place) (check_effect amount)
+        (check_in_range place amount) inputs allowed
 effect_in_range (SendPayment places amount) inputs allowed = ordered_in_range places.0 places.1 amount inputs allowed
 effect_in_range NoCustomer inputs allowed = allowed
 effect_in_range SameCustomer inputs allowed = allowed

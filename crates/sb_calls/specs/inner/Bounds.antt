@@ -69,7 +69,8 @@ left_of : (m n : ℕ) → n ≤ m → pos m -ℤ pos n ≡ pos (m - n)
 left_of m n le = ap (λ (k : ℕ). pos k -ℤ pos n) (sym (sub-add_cancel le)) ∙ +ℤ-neg_ℤ_cancel (pos (m - n)) (pos n)
 
 -- and that is above any negative number too
-pub remainder_above : (v amount : ℤ) (n : ℕ) → int_lt amount (pos 0) ≡ false → int_lt v amount ≡ false → negsuc n ≤ℤ (v -ℤ amount)
+pub remainder_above : (v amount : ℤ) (n : ℕ) → int_lt amount (pos 0) ≡ false
+    → int_lt v amount ≡ false → negsuc n ≤ℤ (v -ℤ amount)
 remainder_above (pos m) (pos k) n ge enough =
     subst (λ (x : ℤ). negsuc n ≤ℤ x) (sym (left_of m k (ltb-false m k enough))) (le_z_yes tt)
 remainder_above (negsuc m) (pos k) n ge enough = absurd (both_ways true enough refl)

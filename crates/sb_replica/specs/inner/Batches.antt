@@ -72,7 +72,8 @@ pub record IsRefusedAmong (old : LogOf) (batch : List EntryOp) (new : LogOf) : T
   pub next : offer_answer new.board entry.number ≡ Next
 
 -- a stream handed out entries, and the replica received each in time
-pub record ReceivesEntries {S : Type 0} (old : ReplicaOf S) (from : StreamState) (new : ReplicaOf S) (rest : StreamState)
+pub record ReceivesEntries {S : Type 0} (old : ReplicaOf S) (from : StreamState)
+    (new : ReplicaOf S) (rest : StreamState)
     : Type 0 where
   pub entries : List ReceivedFrame
   pub in_time : All IsEntryInTime entries
@@ -87,7 +88,8 @@ batch_end (Err fault) = Err (Stream fault)
 -- a batch was received: entries alone, entries up to a pause, or entries up to a fault
 abbrev pub ReceivesBatch : {S : Type 0} → ReplicaOf S → StreamState → Result (Option Pause) ReceiveFault → ReplicaOf S
     → StreamState → Type 0
-ReceivesBatch old from (Ok None) new rest = ReceivesEntries old from new rest × (length rest.unread < length from.unread)
+ReceivesBatch old from (Ok None) new rest = ReceivesEntries old from new rest
+    × (length rest.unread < length from.unread)
 ReceivesBatch old from (Ok (Some pause)) new rest = ReceivesUntil old from pause new rest
     × (pause ≡ Busy ↔ unfinished_of new.board ≡ OPEN_BEHAVIOURS)
 ReceivesBatch old from (Err fault) new rest = ReceivesUntilFault old from fault new rest

@@ -43,14 +43,20 @@ events_with_calls [] calls = []
 events_with_calls (short.Ask client request ∷ shorts) [] = []
 events_with_calls (short.Ask client request ∷ shorts) (call ∷ calls) =
     event.Ask client request call ∷ events_with_calls shorts calls
-events_with_calls (short.Send replica number ∷ shorts) calls = event.Send replica number ∷ events_with_calls shorts calls
+events_with_calls (short.Send replica number ∷ shorts) calls =
+    event.Send replica number ∷ events_with_calls shorts calls
 events_with_calls (short.Resend replica ∷ shorts) calls = event.Resend replica ∷ events_with_calls shorts calls
-events_with_calls (short.To replica position ∷ shorts) calls = event.To replica position ∷ events_with_calls shorts calls
+events_with_calls (short.To replica position ∷ shorts) calls =
+    event.To replica position ∷ events_with_calls shorts calls
 events_with_calls (short.Ack replica ∷ shorts) calls = event.Ack replica ∷ events_with_calls shorts calls
-events_with_calls (short.Answer replica number ∷ shorts) calls = event.Answer replica number ∷ events_with_calls shorts calls
-events_with_calls (short.From replica position ∷ shorts) calls = event.From replica position ∷ events_with_calls shorts calls
-events_with_calls (short.Take replica worker index ∷ shorts) calls = event.Take replica worker index ∷ events_with_calls shorts calls
-events_with_calls (short.Finish replica worker ∷ shorts) calls = event.Finish replica worker ∷ events_with_calls shorts calls
+events_with_calls (short.Answer replica number ∷ shorts) calls =
+    event.Answer replica number ∷ events_with_calls shorts calls
+events_with_calls (short.From replica position ∷ shorts) calls =
+    event.From replica position ∷ events_with_calls shorts calls
+events_with_calls (short.Take replica worker index ∷ shorts) calls =
+    event.Take replica worker index ∷ events_with_calls shorts calls
+events_with_calls (short.Finish replica worker ∷ shorts) calls =
+    event.Finish replica worker ∷ events_with_calls shorts calls
 events_with_calls (short.Mark replica how ∷ shorts) calls = event.Mark replica how ∷ events_with_calls shorts calls
 events_with_calls (short.Restart replica ∷ shorts) calls = event.Restart replica ∷ events_with_calls shorts calls
 events_with_calls (short.Cut replica ∷ shorts) calls = event.Cut replica ∷ events_with_calls shorts calls
@@ -58,5 +64,6 @@ events_with_calls (short.Next replica ∷ shorts) calls = event.Next replica ∷
 events_with_calls (short.Have replica ∷ shorts) calls = event.Have replica ∷ events_with_calls shorts calls
 events_with_calls (short.Donor replica ∷ shorts) calls = event.Donor replica ∷ events_with_calls shorts calls
 events_with_calls (short.Give donor replica ∷ shorts) calls = event.Give donor replica ∷ events_with_calls shorts calls
-events_with_calls (short.Adopt replica position ∷ shorts) calls = event.Adopt replica position ∷ events_with_calls shorts calls
+events_with_calls (short.Adopt replica position ∷ shorts) calls =
+    event.Adopt replica position ∷ events_with_calls shorts calls
 events_with_calls (short.Audit first second ∷ shorts) calls = event.Audit first second ∷ events_with_calls shorts calls

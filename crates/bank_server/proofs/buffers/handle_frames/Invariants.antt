@@ -7,7 +7,8 @@ use Rattle.bank_server.proofs.buffers.handle_frames.Given as goal
 -- the frames so far led here
 abbrev pub invariant-loop-frame : goal.invariant-loop-frame
 invariant-loop-frame g l = record {
-  handles : HandlesBytes (opening_rows_of l.fn.primary) (session_state_of l.fn.primary.log l.fn.buffers (g.W.Write.contents l.fn.writer)) l.fn.buffers.stream.unread
+  handles : HandlesBytes (opening_rows_of l.fn.primary)
+      (session_state_of l.fn.primary.log l.fn.buffers (g.W.Write.contents l.fn.writer)) l.fn.buffers.stream.unread
       (session_state_of l.primary.log l.buffers (g.W.Write.contents l.writer)) l.buffers.stream.unread;
   among : ArePendingWithin (length l.primary.log) l.buffers.pending.items;
   going : l.buffers.stream.failed ≡ false;

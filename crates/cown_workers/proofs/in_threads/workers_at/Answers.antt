@@ -21,7 +21,8 @@ loop-pass-preserved g c =
     let before = c.loop-pass.invariant in
     let pushed = c.push_reserved.ensures in
     record {
-      left = All-rest (λ pass. pass.bench ≡ c.args.bench.now) c.in-Some.pass (into_iter_items c.next.new.self) (into_iter_items c.loop-pass.pass-iterator) c.in-Some.ensures.steps.0
+      left = All-rest (λ pass. pass.bench ≡ c.args.bench.now) c.in-Some.pass (into_iter_items c.next.new.self)
+          (into_iter_items c.loop-pass.pass-iterator) c.in-Some.ensures.steps.0
           before.left;
       rest = append_assoc c.loop-pass.yielded (c.in-Some.pass ∷ []) (into_iter_items c.next.new.self)
           ∙ ap (λ l. c.loop-pass.yielded ++ l) (sym c.in-Some.ensures.steps.0) ∙ before.rest;

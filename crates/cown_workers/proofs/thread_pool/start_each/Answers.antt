@@ -18,7 +18,8 @@ loop-worker-preserved g c =
     let pushed = c.push_reserved.ensures in
     let thread = c.in-Some-start_one.thread in
     record {
-      left = All-rest (λ worker. worker.bench.now ≡ c.args.bench.now) c.in-Some.worker (into_iter_items c.next.new.self) (into_iter_items c.loop-worker.worker-iterator) c.in-Some.ensures.steps.0
+      left = All-rest (λ worker. worker.bench.now ≡ c.args.bench.now) c.in-Some.worker (into_iter_items c.next.new.self)
+          (into_iter_items c.loop-worker.worker-iterator) c.in-Some.ensures.steps.0
           before.left;
       rest = append_assoc c.loop-worker.yielded (c.in-Some.worker ∷ []) (into_iter_items c.next.new.self)
           ∙ ap (λ l. c.loop-worker.yielded ++ l) (sym c.in-Some.ensures.steps.0) ∙ before.rest;

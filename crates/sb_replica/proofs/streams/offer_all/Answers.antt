@@ -29,7 +29,8 @@ returns-in_err-offer_entry c =
     rw exit.1 (record {
       index = c.loop-entry.entry-index;
       entry = c.entry-item.result;
-      there = slice_get_read c.args.batch.now (length c.args.batch.now) c.loop-entry.entry-index c.entry-item.result refl c.loop-entry-test.true c.entry-item.is;
+      there = slice_get_read c.args.batch.now (length c.args.batch.now) c.loop-entry.entry-index
+          c.entry-item.result refl c.loop-entry-test.true c.entry-item.is;
       before = c.in_err-offer_entry.ensures.state ∙ c.loop-entry.invariant;
       next = subst (λ (log : LogOf). offer_answer log.board c.entry-item.result.number ≡ Next) (sym c.in_err-offer_entry.ensures.state)
           c.in_err-offer_entry.ensures.err;

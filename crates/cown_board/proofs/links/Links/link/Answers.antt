@@ -84,7 +84,8 @@ remove-requires g c =
     c.loop-position.self c.loop-position.self
     (omega (arith, c.loop-position-test.false, c.len-position-end.ensures, c.args.log.now.ok))
     (let last = c.loop-position.auto.position-end (omega (arith, c.requires.within, c.len-position-end.ensures, c.args.log.now.ok)) in
-    omega (arith, last, c.len-position-end.ensures, c.args.log.now.ok)) (c.requires.unlinked.here c.requires.within) c.requires.unlinked.after before.queues before.counts)
+    omega (arith, last, c.len-position-end.ensures, c.args.log.now.ok))
+        (c.requires.unlinked.here c.requires.within) c.requires.unlinked.after before.queues before.counts)
 
 pub returns-clause-all_linked : goal.returns-clause-all_linked
 returns-clause-all_linked g c =
@@ -104,7 +105,8 @@ returns-clause-all_linked g c =
     let open_here = c.requires.unlinked.here c.requires.within in
     elim c.if-not-waits.branch [
       | then-not-waits w ↦ rw w.self-is (all_but_first touches effect log states c.args.first cowns c.requires.cowns c.requires.beside c.requires.within
-          c.requires.unlinked.before c.loop-position.position links (record links { linked = true; ready = w.remove.new.self }) all ends open_here c.requires.unlinked.after
+          c.requires.unlinked.before c.loop-position.position links
+              (record links { linked = true; ready = w.remove.new.self }) all ends open_here c.requires.unlinked.after
           before.queues before.counts (first ∙ w.if-not-waits.true) refl (ap (λ b. b.items) w.remove.ensures.behind) w.remove.ensures.ready)
       | else-not-waits w ↦ rw w.self-is (all_wait touches effect log states c.args.first cowns c.requires.cowns c.requires.beside c.requires.within
           c.requires.unlinked.before c.loop-position.position (record links { linked = true }) links all ends open_here c.requires.unlinked.after

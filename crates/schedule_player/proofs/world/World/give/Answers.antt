@@ -38,7 +38,8 @@ returns-clause-wanted c =
     let now = c.args.self.now in
     on_err c.receive.result (
       counted w.directory w.opening w.sequencer w.nodes.items now c.args.donor c.len.result c.self.view_is (omega (arith, c.len.ensures)) c.if-donor-len.false,
-      counted w.directory w.opening w.sequencer w.nodes.items now c.args.replica c.len-else-donor-len.result c.self.view_is (omega (arith, c.len-else-donor-len.ensures)) c.if-replica-len.false,
+      counted w.directory w.opening w.sequencer w.nodes.items now c.args.replica c.len-else-donor-len.result c.self.view_is
+          (omega (arith, c.len-else-donor-len.ensures)) c.if-replica-len.false,
     )
 
 pub returns-in_err-bytes-clause-wanted : goal.returns-in_err-bytes-clause-wanted
@@ -47,5 +48,6 @@ returns-in_err-bytes-clause-wanted c =
     let now = c.args.self.now in
     on_err c.from_residual.result (
       counted w.directory w.opening w.sequencer w.nodes.items now c.args.donor c.len.result c.self.view_is (omega (arith, c.len.ensures)) c.if-donor-len.false,
-      counted w.directory w.opening w.sequencer w.nodes.items now c.args.replica c.len-else-donor-len.result c.self.view_is (omega (arith, c.len-else-donor-len.ensures)) c.if-replica-len.false,
+      counted w.directory w.opening w.sequencer w.nodes.items now c.args.replica c.len-else-donor-len.result c.self.view_is
+          (omega (arith, c.len-else-donor-len.ensures)) c.if-replica-len.false,
     )

@@ -4,7 +4,8 @@ use Rattle.schedule_player.proofs.EventLists.{played_on}
 use Rattle.schedule_player.proofs.SettledWorlds.{Settles, settles_so}
 use Rattle.schedule_player.proofs.world.World.settle.Goals as goal
 
-so : (c : goal.After-run_until_idle) → Settles c.args.self.now c.args.replica (c.finish_hands-workers.result + 2 * c.run_until_idle.result) c.run_until_idle.new.self
+so : (c : goal.After-run_until_idle)
+    → Settles c.args.self.now c.args.replica (c.finish_hands-workers.result + 2 * c.run_until_idle.result) c.run_until_idle.new.self
 so c =
     let hands = c.finish_hands-workers in
     settles_so c.args.self.now hands.new.self c.run_until_idle.new.self c.args.replica hands.result c.run_until_idle.result c.requires hands.ensures.able
