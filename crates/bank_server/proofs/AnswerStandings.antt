@@ -1,23 +1,19 @@
 -- From the sequencer's answer to the standing of a line.
-use Rattle.std.proofs.Common.{◌≡◌, ℕ, ◌+◌, ◌<◌, ◌≤◌, ◌^◌, length, arith, Option, Some, None, Result, Ok, Err, is_some, false, List, [], ◌∷◌, ◌++◌, refl, sym, ap, ◌∙◌, append-nil}
-use Rattle.std.proofs.lemmas.List.Quantifiers.{position-Some}
+use Rattle.std.proofs.Common.{◌≡◌, ℕ, ◌+◌, ◌≤◌, ◌^◌, Option, Some, None, Result, Ok, Err, is_some, false, List, [], ◌∷◌, ◌++◌, refl, sym, ap, ◌∙◌}
 use Rattle.sb_calls.specs.declared.ask.AskLine.{AskLine}
 use Rattle.sb_calls.specs.declared.ask.Key.{Key}
 use Rattle.sb_calls.specs.declared.call.Call.{Call}
-use Rattle.sb_calls.specs.declared.call.TheConstants.{LOG_CALLS}
 use Rattle.sb_sequencer.proofs.Keys.{has_key-place}
 use Rattle.sb_sequencer.proofs.LogSteps.{first_asks-push, log_with-full}
 use Rattle.sb_sequencer.specs.Answer.{AnswersAsk, LogAfter, ExtendsFirstAsks}
-use Rattle.sb_sequencer.specs.Numbering.{same_key, has_key, first_asks, index_of_key}
-use Rattle.sb_sequencer.specs.Sequencer.{SequencerOf, state_after_ask}
+use Rattle.sb_sequencer.specs.Numbering.{has_key, first_asks, index_of_key}
 use Rattle.sb_sequencer.specs.declared.answer.AskFault.{AskFault}
 use Rattle.sb_sequencer.specs.declared.answer.AskFault.TheVariants as faults
 use Rattle.sb_sequencer.specs.declared.answer.Numbered.{Numbered}
 use Rattle.sb_sequencer.specs.declared.answer.Numbered.TheVariants.{New, Repeat}
-use Rattle.bank_server.specs.inner.AskSteps.{IsAfterAsks, HasLogNumber, AddsAsk, AddsLineAsk, ExtendsLog}
+use Rattle.bank_server.specs.inner.AskSteps.{IsAfterAsks, AddsAsk, AddsLineAsk}
 use Rattle.bank_server.specs.AskResults.{standing_of_answer}
 use Rattle.bank_server.specs.Asks.{key_of_line, asks_with_keys}
-use Rattle.bank_server.specs.LogNumber.{IsLogNumber}
 use Rattle.bank_server.specs.Standing.{standing_of}
 use Rattle.bank_server.specs.declared.asking.Standing.{Standing}
 use Rattle.bank_server.specs.declared.asking.Standing.TheVariants.{LogFull}
@@ -60,39 +56,6 @@ pub asks_one : (asks old new : List (Key × Call)) (ask : Key × Call) (answer :
     → AnswersAsk old ask answer → LogAfter old ask answer new → ExtendsFirstAsks asks old ask answer new → AddsAsk asks ask new standing
 asks_one asks old new ask answer standing is e answered log numbered =
     (numbers_so asks old new ask answer standing is e numbered, stands_so old new ask answer standing is answered log)
-
--- a log after asks goes on from the old one
-pub goes_on : (old new : List (Key × Call)) (ask : Key × Call) (answer : Result Numbered AskFault) → LogAfter old ask answer new → ExtendsLog old new
-goes_on old new ask (Ok (New n)) log = (ask ∷ [], log)
-goes_on old new ask (Ok (Repeat n)) log = ([], log ∙ sym (append-nil old))
-goes_on old new ask (Err fault) log = ([], log ∙ sym (append-nil old))
-
--- if memory was refused nothing changed
-pub not_asked : (old new : SequencerOf) (ask : Key × Call) (answer : Result Numbered AskFault) → standing_of_answer answer ≡ None
-    → new ≡ state_after_ask old ask answer → new ≡ old
-not_asked old new ask (Ok (New n)) is after = absurd (none_is_some (sym is))
-not_asked old new ask (Ok (Repeat n)) is after = after
-not_asked old new ask (Err fault) is after = after
-
--- the place of a key is one of the log
-place_within : (log : List (Key × Call)) (ask : Key × Call) (k : ℕ) → index_of_key log ask.0 ≡ Some k → k < length log
-place_within log ask k at = (position-Some (λ entry. same_key ask.0 entry.0) log k ask at).0
-
-kept : (old new : List (Key × Call)) (ask : Key × Call) (n k : ℕ) → length new ≤ LOG_CALLS → new ≡ old → index_of_key old ask.0 ≡ Some k → n ≡ k + 1
-    → IsLogNumber n
-kept old new ask n k few log at is = record {
-  positive = omega (arith, is);
-  limit = omega (arith, ap {B = ℕ} length log, is, place_within old ask k at);
-}
-
--- and so is the number in the answer
-pub number_within : (old new : List (Key × Call)) (ask : Key × Call) (answer : Result Numbered AskFault) → length new ≤ LOG_CALLS → AnswersAsk old ask answer
-    → LogAfter old ask answer new → HasLogNumber answer
-number_within old new ask (Ok (New n)) few answered log = record { positive = omega (arith, answered.2); limit = omega (arith, answered.1, answered.2) }
-number_within old new ask (Ok (Repeat n)) few answered log = kept old new ask n answered.0 few log answered.1 answered.2
-number_within old new ask (Err (faults.Mismatch n)) few answered log = kept old new ask n answered.0 few log answered.1 answered.2
-number_within old new ask (Err faults.LogFull) few answered log = tt
-number_within old new ask (Err faults.OutOfMemory) few answered log = tt
 
 some_is_false : (k : ℕ) → is_some (Some k) ≡ false → ⊥
 some_is_false k e = cc

@@ -76,16 +76,6 @@ put_after_run op old mid new drained none put =
       none_out = λ before. made.none_out none;
     }
 
--- a board that stayed as it was executed nothing
-pub drains_same : (old new : BoardOf Op) → new ≡ old → PreservesLog old new
-drains_same old new is = record {
-  opening = ap (λ (b : BoardOf Op). b.opening) is;
-  base_replies = ap (λ (b : BoardOf Op). b.base_replies) is;
-  log = ap (λ (b : BoardOf Op). b.log) is;
-  cut = ap (λ (b : BoardOf Op). b.cut) is;
-  finished = λ k reply at. ap (λ (b : BoardOf Op). slice_get b.states k) is ∙ at;
-}
-
 -- ---- the replies
 
 finished_some : (states : List State) (k : ℕ) → k < length states → state_is is_unfinished (slice_get states k) ≡ false

@@ -9,7 +9,6 @@ pub mod FollowerTurns
 pub mod FrameSteps
 pub mod LineKeys
 pub mod LogOps
-pub mod Offers
 pub mod Openings
 pub mod Outcomes
 pub mod OwnLog
@@ -18,6 +17,5 @@ pub mod Saves
 pub mod SessionSteps
 pub mod Sessions
 pub mod Standings
-pub mod TeamFaults
 pub mod WholeOutput
 pub mod WholeReplies

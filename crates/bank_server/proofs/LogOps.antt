@@ -1,5 +1,5 @@
 -- The ops of a log while a node executes them.
-use Rattle.std.proofs.Common.{◌≡◌, ℕ, zero, suc, ◌+◌, ◌≤◌, Bool, Option, Some, None, List, [], ◌∷◌, ◌++◌, length, map, sym, ap, ◌∙◌, arith, length-append, append_assoc, append-nil, refl}
+use Rattle.std.proofs.Common.{◌≡◌, ℕ, zero, suc, ◌+◌, Bool, Option, Some, None, List, [], ◌∷◌, ◌++◌, length, map, sym, ap, ◌∙◌, append_assoc}
 use Rattle.std.specs.Prelude.{slice_get}
 use Rattle.std.proofs.lemmas.List.{length-map}
 use Rattle.sb_calls.specs.declared.ask.Key.{Key}
@@ -51,23 +51,6 @@ pub one_more_op : (ops log rest : List Op) (op : Op) → ops ≡ log ++ rest →
 one_more_op ops log rest op is at =
     let next = next_is log rest op (ap (λ l. slice_get l (length log)) (sym is) ∙ at) in
     (next.0, is ∙ ap (λ l. log ++ l) next.1 ∙ sym (append_assoc log (op ∷ []) next.0))
-
-empty : {A : Type 0} (xs : List A) → length xs ≤ 0 → xs ≡ []
-empty [] le = refl
-empty (x ∷ xs) le = absurd (omega (arith, le))
-
--- a beginning as long as the whole is the whole
-pub whole_log : (ops log rest : List Op) → ops ≡ log ++ rest → length ops ≤ length log → log ≡ ops
-whole_log ops log rest is le =
-    let sizes : length ops ≡ length log + length rest = ap length is ∙ length-append log rest in
-    let none : rest ≡ [] = empty rest (omega (arith, sizes, le)) in
-    sym (is ∙ ap (λ l. log ++ l) none ∙ append-nil log)
-
--- a beginning isn't longer
-pub not_longer : (ops log rest : List Op) → ops ≡ log ++ rest → length log ≤ length ops
-not_longer ops log rest is =
-    let sizes : length ops ≡ length log + length rest = ap length is ∙ length-append log rest in
-    omega (arith, sizes)
 
 -- as many ops as calls
 pub length-ops : (f : Call → Op) (log : List (Key × Call)) → length (map f (calls_of log)) ≡ length log

@@ -1,20 +1,17 @@
 -- What a node that executed the log of a prepared input answers.
-use Rattle.std.proofs.Common.{◌≡◌, ℕ, Ok, List, length, map, refl, sym, ap, subst, ◌∙◌}
+use Rattle.std.proofs.Common.{◌≡◌, ℕ, Ok, List, length, refl, sym, ap, subst, ◌∙◌}
 use Rattle.std.specs.List.{All}
 use Rattle.sb_rows.specs.Rows.{SameCustomers}
 use Rattle.sb_rows.specs.declared.opening.Opening.{Opening}
-use Rattle.sb_replica.specs.Replica.{RestOf, ReplicaOf, rest_of}
+use Rattle.sb_replica.specs.Replica.{ReplicaOf}
 use Rattle.sb_checkpoint.specs.declared.memory_store.MemoryStore.{MemoryStore}
-use Rattle.sb_calls.specs.declared.op.Op.{Op}
-use Rattle.sb_rows.specs.Balances.{Balances}
-use Rattle.bank_server.specs.Execution.{IsWholeLog, HasNoEntries}
+use Rattle.bank_server.specs.Execution.{HasNoEntries}
 use Rattle.sb_sequencer.specs.Numbering.{calls_of}
 use Rattle.bank_server.specs.Output.{output_of}
 use Rattle.bank_server.specs.PreparedInput.{IsPreparedInputOf, output_after}
-use Rattle.bank_server.specs.Primary.{PrimaryOf, RunsLog, node_at_opening, log_ops}
+use Rattle.bank_server.specs.Primary.{RunsLog, node_at_opening}
 use Rattle.bank_server.specs.Standing.{IsStandingWithin}
 use Rattle.bank_server.specs.declared.prepared_input.PreparedInput.{PreparedInput}
-use Rattle.bank_server.proofs.Boards.{one_by_one}
 use Rattle.bank_server.proofs.LogOps.{length-ops}
 use Rattle.sb_calls.specs.Op.{op_of}
 
@@ -47,21 +44,3 @@ prepared_at text prepared opening store is same among output =
     × (output_of text ≡ Ok (output_after node.names node.board.opening (calls_of prepared.primary.log) prepared.standings.items)) in
     let at = subst opened (sym is) (same, record { base_replies = refl; log = refl; states = refl }, output) in
     record { customers = at.0; opened = at.1; among = among; output = at.2 }
-
--- a node that began with a bank's names and balances and executed the ops of its log ran the log
-pub runs_log : {S : Type 0} (primary : PrimaryOf S) (lent new : ReplicaOf S) (ops : List Op) → lent ≡ primary.node
-    → SameCustomers primary.node.names primary.node.board.opening → ops ≡ log_ops primary.node.names primary.log → IsWholeLog ops new.board
-    → new.board.opening ≡ lent.board.opening → rest_of new ≡ rest_of lent → RunsLog primary new
-runs_log {S} primary lent new ops at same is carried opening beside =
-    let names : new.names ≡ primary.node.names = ap (λ (b : RestOf S). b.names) beside ∙ ap (λ (r : ReplicaOf S). r.names) at in
-    let began : new.board.opening ≡ primary.node.board.opening = opening ∙ ap (λ (r : ReplicaOf S). r.board.opening) at in
-    let calls = calls_of primary.log in
-    let here : SameCustomers new.names new.board.opening = subst (λ (d : List (List ℕ)). SameCustomers d new.board.opening) (sym names)
-    (subst (λ (b : Balances). SameCustomers primary.node.names b) (sym began) same) in
-    record {
-      names_are = names;
-      opening_is = began;
-      log_is = carried.log ∙ is;
-      one_by_one = one_by_one new.names new.board.opening calls ops new.board here refl carried
-          (is ∙ ap (λ (d : List (List ℕ)). map (op_of d) calls) (sym names));
-    }

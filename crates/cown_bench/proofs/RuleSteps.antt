@@ -1,8 +1,8 @@
 -- Each move on a bench keeps its rule.
-use Rattle.std.proofs.Common.{◌≡◌, ◌≢◌, ℕ, zero, suc, ◌<◌, true, false, List, [], ◌∷◌, ◌++◌, length, set, refl, sym, ap, ◌∙◌, subst, ⊎_elim, append_assoc, length-append, arith}
+use Rattle.std.proofs.Common.{◌≡◌, ◌≢◌, ℕ, ◌<◌, true, false, List, [], ◌∷◌, ◌++◌, length, set, refl, sym, ap, ◌∙◌, subst, ⊎_elim, append_assoc, length-append, arith}
 use Rattle.std.specs.Prelude.{sum_by}
 use Rattle.std.specs.List.{enumerate_from}
-use mathlib.Core.Option.{some, some-injective, some-ne-none}
+use mathlib.Core.Option.{some}
 use lib.ListN.{get_elem?}
 use Rattle.std.proofs.lemmas.Bool.{true≢false, false≢true}
 use Rattle.std.proofs.lemmas.List.Sums.{sum_by_push}
@@ -46,31 +46,6 @@ same_content items views now rule whole same each = record {
   weights = λ weight. same weight ∙ rule.weights weight;
   each = each;
 }
-
-pub begins : IsBenchState [] (owner_view all_parts [] [] [] ∷ [])
-begins = record {
-  owner = 0;
-  offered = [];
-  taken = [];
-  drained = [];
-  order = refl;
-  room = omega arith;
-  whole = refl;
-  weights = λ weight. refl;
-  each = one;
-}
-  where
-    one : (pass : ℕ) (known : PassHistory) → get_elem? (owner_view all_parts [] [] [] ∷ []) pass ≡ some known → IsPassState 0 [] [] [] pass known
-    one zero known here = subst (IsPassState 0 [] [] [] zero) (some-injective (owner_view all_parts [] [] []) known here)
-        (record {
-          sole = λ _. refl;
-          offers = λ _. refl;
-          drains = λ _. refl;
-          works = λ off _. absurd (true≢false off);
-          idle = λ _. (refl, refl);
-          picks = lists-nil [];
-        })
-    one (suc pass) known here = absurd (some-ne-none known (sym here))
 
 -- the owner offers one more
 pub offers_one : (n pass : ℕ) (v : PassHistory) (work : WorkOf) → n ≡ BENCH_CAPACITY → v.offers ≡ true → v.drained ≡ []

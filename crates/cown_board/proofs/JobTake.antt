@@ -4,7 +4,7 @@ use Rattle.std.specs.Prelude.{slice_get, slice_set, option_map}
 use Rattle.sb_calls.specs.Cowns.{AreBelow, AreCownValues, contents_of, read_cowns}
 use Rattle.sb_calls.specs.SerialRun.{is_among, inputs_of, contents_after_first}
 use Rattle.sb_calls.specs.declared.reply.Reply.{Reply}
-use Rattle.cown_board.proofs.BoardSteps.{IsBoard-taken, one_each}
+use Rattle.cown_board.proofs.BoardSteps.{IsBoard-taken}
 use Rattle.cown_board.proofs.CownLists.{below_from}
 use Rattle.sb_calls.proofs.CownContents.{AreCownValues-read}
 use Rattle.cown_board.proofs.ReadyInputs.{holds_inputs}
@@ -34,9 +34,6 @@ module _ {B : Type 0} (touches : B → List ℕ) (effect : B → List ℤ → Re
   pub declared_below : (k : ℕ) (b : B) → slice_get inside.log k ≡ Some b → AreBelow (length (contents_of inside.opening)) (touches b)
   declared_below k b here = below_from (length (contents_of inside.opening)) (touches b) (λ cown among.
       board.keeps.in_range k cown (ap (λ o. is_among cown (touched_by touches o)) here ∙ among))
-
-  pub declared_in_queues : (k : ℕ) (b : B) → slice_get inside.log k ≡ Some b → AreBelow (length inside.links.queues.lists) (touches b)
-  declared_in_queues k b here = subst (λ n. AreBelow n (touches b)) (sym (one_each touches effect board)) (declared_below k b here)
 
   pub declared_in_held : (k : ℕ) (b : B) → slice_get inside.log k ≡ Some b → AreBelow (length (contents_of inside.now)) (touches b)
   declared_in_held k b here = rw board.keeps.cown_count (declared_below k b here)

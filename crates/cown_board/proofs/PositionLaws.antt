@@ -30,9 +30,6 @@ last_is true m zero k h = (sym (injective h), refl, refl)
 last_is true m (suc p) k h = absurd (omega (arith, slice_get_within (m ∷ []) (suc p) k h))
 last_is false m p k h = absurd (omega (arith, slice_get_within [] p k h))
 
-pub positions-true : (f : ℕ → Bool) (m : ℕ) → f m ≡ true → positions f (suc m) ≡ positions f m ++ m ∷ []
-positions-true f m e = ap (λ b. positions f m ++ (if b then m ∷ [] else [])) e
-
 pub append_nothing : {X : Type 0} (xs : List X) → xs ++ [] ≡ xs
 append_nothing [] = refl
 append_nothing (x ∷ xs) = ap (λ t. x ∷ t) (append_nothing xs)

@@ -1,13 +1,12 @@
 -- A place that steps forward, and a place that is inserted into a rising list.
-use Rattle.std.proofs.Common.{◌≡◌, ◌≢◌, inl, inr, ℕ, ◌+◌, ◌-◌, ◌<◌, ◌≤◌, Bool, true, false, ◌&&◌, List, length, get_or, set, take, refl, sym, ap, ◌∙◌, arith}
+use Rattle.std.proofs.Common.{◌≡◌, ◌≢◌, inl, inr, ℕ, ◌-◌, ◌<◌, ◌≤◌, Bool, true, false, ◌&&◌, List, length, get_or, set, sym, ap, ◌∙◌, arith}
 use Rattle.std.specs.List.Sorted.{IsPartitionedBy, IsPartitionPoint}
 use Rattle.std.specs.Prelude.{◌==◌, insert, nat_lt, slice_get}
-use Rattle.std.proofs.lemmas.Bool.{cases_eq, cases_lt, cases_order, and_from, and_right, eq-eqb, lt-ltb, ltb-true, ltb-false, ne_eqb}
+use Rattle.std.proofs.lemmas.Bool.{cases_eq, cases_lt, cases_order, and_right, lt-ltb, ltb-true, ltb-false, ne_eqb}
 use Rattle.std.proofs.lemmas.List.{get_or-set_same, get_or-set_other, get_or_past}
-use Rattle.std.proofs.lemmas.List.Sums.{sum_by_more, sum_by-take-le}
 use Rattle.std.proofs.lemmas.Option.{slice_get-get_or}
-use Rattle.cown_board.proofs.PositionLaws.{one, positions-agree, positions-insert, places_fewer, place_above, place_below, with_place_other, with_place_same}
-use Rattle.cown_board.specs.inner.DuePositions.{AreDue, is_due, occurrences}
+use Rattle.cown_board.proofs.PositionLaws.{positions-agree, positions-insert, places_fewer, place_above, place_below}
+use Rattle.cown_board.specs.inner.DuePositions.{AreDue, is_due}
 use Rattle.cown_board.specs.Positions.{positions}
 use Rattle.cown_board.specs.inner.PositionTests.{with_position}
 
@@ -66,21 +65,6 @@ module _ (waits : ℕ → Bool) (behind : List ℕ) (position bound : ℕ) (some
   pub isnt_due : is_due waits behind position ≡ false
   isnt_due = and_right (waits position) (get_or behind position 0 == 0) (ne_eqb (get_or behind position 0) 0 (λ none. omega (arith, none, some)))
 
-  -- once it is behind at no cown it is due
-  pub due_now : (value : ℕ) (list : List ℕ) → value ≡ 0 → waits position ≡ true → list ≡ positions (with_position (is_due waits behind) position) bound
-      → AreDue waits (set behind position value) bound list
-  due_now value list none waiting put =
-      put ∙ positions-agree (with_position (is_due waits behind) position) (is_due waits (set behind position value)) bound (λ j _. elim (cases_eq j position) [
-        | inl same ↦
-            with_place_same (is_due waits behind) position j same
-            ∙ sym (ap (is_due waits (set behind position value)) same
-            ∙ and_from (waits position) (get_or (set behind position value) position 0 == 0) waiting
-            (eq-eqb (get_or (set behind position value) position 0) 0 (get_or-set_same behind position value 0 (behind_within behind position some) ∙ none)))
-        | inr differs ↦
-            with_place_other (is_due waits behind) position j differs
-            ∙ ap (λ n. waits j && (n == 0)) (sym (get_or-set_other behind position j value 0 differs))
-      ])
-
   -- and before that it isn't
   pub not_due_yet : (value : ℕ) (list : List ℕ) → value ≢ 0 → AreDue waits behind bound list → AreDue waits (set behind position value) bound list
   not_due_yet value list more listed =
@@ -93,39 +77,3 @@ module _ (waits : ℕ → Bool) (behind : List ℕ) (position bound : ℕ) (some
             (λ none. more (sym (get_or-set_same behind position value 0 (behind_within behind position some)) ∙ none))))
         | inr differs ↦ ap (λ n. waits j && (n == 0)) (sym (get_or-set_other behind position j value 0 differs))
       ])
-
--- ---- one after the other
-
-module _ (fronts : List ℕ) (i front : ℕ) (lt : i < length fronts) (is : front ≡ get_or fronts i front) (old now : List ℕ)
-    (sofar : (j : ℕ) → get_or now j 0 + occurrences j (take i fronts) ≡ get_or old j 0) where
-  one_more : (j : ℕ) → occurrences j (take (i + 1) fronts) ≡ occurrences j (take i fronts) + one (front == j)
-  one_more j = sum_by_more (λ n. one (n == j)) fronts i front lt ∙ ap (λ n. occurrences j (take i fronts) + one (n == j)) (sym is)
-
-  -- the next one is still behind
-  pub still_behind : ((j : ℕ) → occurrences j fronts ≤ get_or old j 0) → 0 < get_or now front 0
-  still_behind counted =
-      let more = one_more front in
-      let here : one (front == front) ≡ 1 = ap one (eq-eqb front front refl) in
-      let all = sum_by-take-le (λ n. one (n == front)) fronts (i + 1) in
-      let before = sofar front in
-      let enough = counted front in
-      omega (arith, more, here, all, before, enough)
-
-  -- and behind at one cown fewer afterwards
-  pub stepped : 0 < get_or now front 0 → (j : ℕ) → get_or (set now front (get_or now front 0 - 1)) j 0 + occurrences j (take (i + 1) fronts) ≡ get_or old j 0
-  stepped some j =
-      let more = one_more j in
-      let before = sofar j in
-      elim (cases_eq j front) [
-        | inl same ↦
-            let here : one (front == j) ≡ 1 = ap one (eq-eqb front j (sym same)) in
-            let value : get_or (set now front (get_or now front 0 - 1)) j 0 ≡ get_or now front 0 - 1 =
-            ap (λ n. get_or (set now front (get_or now front 0 - 1)) n 0) same
-            ∙ get_or-set_same now front (get_or now front 0 - 1) 0 (behind_within now front some) in
-            let was : get_or now j 0 ≡ get_or now front 0 = ap (λ n. get_or now n 0) same in
-            omega (arith, more, before, here, value, was, some)
-        | inr differs ↦
-            let here : one (front == j) ≡ 0 = ap one (ne_eqb front j (λ e. differs (sym e))) in
-            let value = get_or-set_other now front j (get_or now front 0 - 1) 0 differs in
-            omega (arith, more, before, here, value)
-      ]

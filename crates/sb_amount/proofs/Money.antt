@@ -1,8 +1,8 @@
 -- Money text is read as the number that it spells, and nothing else is read.
-use Rattle.std.proofs.Common.{◌≡◌, subst, ℕ, zero, suc, ◌+◌, ◌/◌, ◌%◌, ◌<◌, ◌≤◌, ◌^◌, ℤ, pos, negsuc, neg_ℤ, nat_abs, ◌≤ℤ◌, ◌<ℤ◌, Bool, true, false, not, ◌||◌, ◌==◌, nat_lt, if◌then◌else◌, inl, inr, Some, None, Ok, List, [], ◌∷◌, ◌++◌, length, length-append, codes, refl, sym, ap, ◌∙◌, arith, decimal}
+use Rattle.std.proofs.Common.{◌≡◌, subst, ℕ, zero, suc, ◌+◌, ◌/◌, ◌%◌, ◌<◌, ◌≤◌, ◌^◌, ℤ, pos, negsuc, neg_ℤ, nat_abs, ◌≤ℤ◌, ◌<ℤ◌, Bool, true, false, not, ◌||◌, ◌==◌, nat_lt, if◌then◌else◌, inl, inr, Some, None, Ok, List, [], ◌∷◌, ◌++◌, length, codes, refl, sym, ap, ◌∙◌, arith, decimal}
 use Rattle.std.proofs.lemmas.Bool.{and_parts, and_from, or_left, not_from_false, or_parts, eqb-true, ne_eqb, cases_Bool, false_from_ne_true, not-false, le-ltb, ltb-false, both_ways}
 use Rattle.std.proofs.lemmas.Bool.Decides.{nat_tests}
-use Rattle.std.proofs.lemmas.Fmt.{decimal_digit, decimal_nonempty, length-decimal-le}
+use Rattle.std.proofs.lemmas.Fmt.{decimal_digit, decimal_nonempty}
 use Rattle.std.proofs.lemmas.Grind.{common_steps}
 use Rattle.std.proofs.lemmas.Int.{ints}
 use Rattle.std.proofs.lemmas.Slice.Eq.{bytes_eq-Decides}
@@ -231,29 +231,3 @@ money_lacks byte other v small =
 -- the money text of an amount has no space
 pub money_keeps_clear : (v : ℤ) → IsWithinLimit v → list_all (λ c. not (c == 32)) (money v) ≡ true
 money_keeps_clear v h = let small = nat_abs-within v h in money_lacks 32 refl v (omega arith)
-
--- the digits before the point, the point and two decimals
-length-unsigned_money : (n k : ℕ) → 0 < k → n / 100 < 10 ^ k → n / 100 < 2 ^ 64 → length (unsigned_money n) ≤ k + 3
-length-unsigned_money n k some fits small =
-    let whole = length-decimal-le k (n / 100) some fits small in
-    omega (arith, whole, length-append (decimal (n / 100)) (46 ∷ (48 + n % 100 / 10) ∷ (48 + n % 100 % 10) ∷ []))
-
--- the money text of an amount has at most 15 bytes
-pub money_length : (v : ℤ) → IsWithinLimit v → length (money v) ≤ 15
-unfolding money
-money_length (pos n) h =
-    let small : n ≤ 1000000000000 = nat_abs-within (pos n) h in omega (arith, length-unsigned_money n 11 (omega arith) (omega arith) (omega arith))
-money_length (negsuc m) h =
-    let small : suc m ≤ 1000000000000 = nat_abs-within (negsuc m) h in omega (arith, length-unsigned_money (suc m) 11 (omega arith) (omega arith) (omega arith))
-
--- that of any total at most 22
-pub money_length_any : (v : ℤ) → nat_abs v < 2 ^ 64 → length (money v) ≤ 22
-unfolding money
-money_length_any (pos n) small = omega (arith, length-unsigned_money n 18 (omega arith) (omega arith) (omega arith))
-money_length_any (negsuc m) small = omega (arith, length-unsigned_money (suc m) 18 (omega arith) (omega arith) (omega arith))
-
--- money text is never empty
-pub money_nonempty : (v : ℤ) → 0 < length (money v)
-unfolding money
-money_nonempty (pos n) = omega (arith, length-append (decimal (n / 100)) (46 ∷ (48 + n % 100 / 10) ∷ (48 + n % 100 % 10) ∷ []))
-money_nonempty (negsuc m) = grind (arith, common_steps)

@@ -24,10 +24,6 @@ get-insert_name rows name v q = get-insert nat_list_cmp_total rows name v q ∙ 
 pub other_name : (a b : List ℕ) → bytes_eq a b ≡ false → bytes_eq b a ≡ false
 other_name a b h = false_from_ne_true (bytes_eq b a) (λ same. both_ways (bytes_eq a b) h ((bytes_eq-Decides a b).1 (sym ((bytes_eq-Decides b a).0 same))))
 
--- a name equals itself
-same_name : (name : List ℕ) → bytes_eq name name ≡ true
-same_name name = (bytes_eq-Decides name name).1 refl
-
 -- ---- the total
 
 -- the names after the first are different too, and the first is none of them

@@ -114,12 +114,6 @@ next_decoded unread (Err BadAmount) frame after e = let answer = ap (λ (a : Aft
 next_decoded unread (Err BadReply) frame after e = let answer = ap (λ (a : After). a.0) e in absurd cc
 next_decoded unread (Err BadStatus) frame after e = let answer = ap (λ (a : After). a.0) e in absurd cc
 
--- a stream that has failed has no entry
-pub failed_has_none : (old : StreamState) → old.failed ≡ true → HasEntry old → ⊥
-failed_has_none old failed h =
-    let answer = ap (λ (a : After). a.0) (rw failed at h.3) in
-    absurd cc
-
 pub none_is_there : (names : List (List ℕ)) (old : StreamState) (unread : List ℕ) → unread ≡ old.unread → old.failed ≡ false
     → result_ok (first_entry names unread) ≡ None → HasEntry old → ⊥
 none_is_there names old unread seen fine none h =

@@ -1,19 +1,16 @@
 -- An entry that is answered `Accepted` is the log's next.
-use Rattle.std.proofs.Common.{◌≡◌, ℕ, suc, Bool, true, false, arith, Option, Some, None, Result, Ok, refl, ap}
+use Rattle.std.proofs.Common.{◌≡◌, ℕ, suc, Bool, true, false, arith, Result, Ok, refl}
 use Rattle.std.proofs.lemmas.Bool.{leb-false, ltb-false}
-use Rattle.std.specs.Prelude.{◌||◌, ◌+◌, nat_le, nat_lt, ◌==◌, if◌then◌else◌, IfSome, option_map}
-use Rattle.sb_calls.specs.Behaviour.{declared_cowns, effect_of}
+use Rattle.std.specs.Prelude.{◌||◌, ◌+◌, nat_le, nat_lt, ◌==◌, if◌then◌else◌}
 use Rattle.sb_calls.specs.declared.call.TheConstants.{LOG_CALLS}
 use Rattle.sb_calls.specs.declared.op.Op.{Op}
 use Rattle.cown_board.specs.Board.{BoardOf, length_of, unfinished_of}
-use Rattle.cown_board.specs.BoardCalls.{StaysTrueToLog, Submitted}
 use Rattle.cown_board.specs.declared.board.TheConstants.{OPEN_BEHAVIOURS}
-use Rattle.sb_replica_log.specs.Log.{LogOf, next_held}
-use Rattle.sb_replica_log.specs.Offers.{offer_answer, next_offer_answer, advance_answer}
+use Rattle.sb_replica_log.specs.Offers.{offer_answer}
 use Rattle.sb_replica_log.specs.declared.offered.Offered.{Offered}
 use Rattle.sb_replica_log.specs.declared.offered.Offered.TheVariants.{Next, Repeat, Gap, Held, Busy}
 use Rattle.sb_replica_log.specs.declared.replica_log.TheConstants.{HELD_ENTRIES}
-use Rattle.sb_replica.specs.Frames.{entry_answer, Accepts}
+use Rattle.sb_replica.specs.Frames.{entry_answer}
 use Rattle.sb_replica.specs.declared.heard.Heard.TheVariants as heard
 
 pub ok_is : {A E : Type 0} {x y : A} → ◌≡◌ {A = Result A E} (Ok x) (Ok y) → x ≡ y
@@ -44,26 +41,3 @@ next_number board number e =
     let above = leb-false number (length_of board) tests.0 in
     let below = ltb-false (suc (length_of board)) number tests.1 in
     omega (arith, above, below)
-
--- an op that was held is appended to the log
-held_accepts : (board new : BoardOf Op) (found : Option Op) → option_map (λ op. next_offer_answer board) found ≡ Some Next
-    → IfSome found (λ op. StaysTrueToLog declared_cowns effect_of board (Submitted op (Ok (suc (length_of board)))) new)
-    → Accepts board (suc (length_of board)) new
-held_accepts board new None e played = absurd cc
-held_accepts board new (Some op) e played = record { op = op; played = played }
-
-pub advance_accepts : (log : LogOf) (new : BoardOf Op) → advance_answer log ≡ Some Next
-    → IfSome (next_held log) (λ op. StaysTrueToLog declared_cowns effect_of log.board (Submitted op (Ok (suc (length_of log.board)))) new)
-    → Accepts log.board (suc (length_of log.board)) new
-advance_accepts log new e played = held_accepts log.board new (next_held log) e played
-
-some_is : {A : Type 0} {x y : A} → ◌≡◌ {A = Option A} (Some x) (Some y) → x ≡ y
-some_is h = cc
-
--- the held one was the next one, under its own number
-pub accepted_held : (number n : ℕ) (answer : Option Offered) → option_map (entry_answer number) answer ≡ Some (heard.Accepted n)
-    → (answer ≡ Some Next) × (number ≡ n)
-accepted_held number n None e = absurd cc
-accepted_held number n (Some answer) e =
-    let both = accepted_next number n answer (some_is e) in
-    (ap (λ a. Some a) both.0, both.1)

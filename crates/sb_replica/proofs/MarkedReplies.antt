@@ -1,17 +1,13 @@
 -- What a mark covers: its replies by number, its length, and its columns.
-use Rattle.std.proofs.Common.{◌≡◌, ℕ, ◌+◌, ◌-◌, ◌<◌, ◌≤◌, true, Option, Some, None, List, Bor, length, take, refl, sym, ap, subst, ◌∙◌, arith, inl, inr}
-use Rattle.std.specs.Prelude.{◌≢◌, min, if◌then◌else◌, nat_le, ◌==◌, option_and_then, option_map, MatchOption}
+use Rattle.std.proofs.Common.{◌≡◌, ℕ, ◌+◌, ◌-◌, ◌<◌, ◌≤◌, true, Option, Some, None, length, take, refl, sym, ap, ◌∙◌, arith, inl, inr}
+use Rattle.std.specs.Prelude.{min, if◌then◌else◌, nat_le, ◌==◌, option_and_then}
 use Rattle.std.specs.List.{slice_get}
 use Rattle.std.proofs.lemmas.Bool.{cases_lt, le-leb}
 use Rattle.std.proofs.lemmas.List.{length-take, length-take-le}
-use Rattle.sb_rows.specs.Balances.{Balances}
-use Rattle.sb_calls.specs.Behaviour.{declared_cowns, effect_of}
 use Rattle.sb_calls.specs.declared.op.Op.{Op}
-use Rattle.sb_calls.specs.declared.reply.Reply.{Reply}
 use Rattle.cown_board.proofs.CutInvariant.{slice_get-take}
-use Rattle.cown_board.specs.Board.{AreCutColumns, BoardOf, IsAfterAll, length_of, unfinished_of, reply_in}
+use Rattle.cown_board.specs.Board.{BoardOf, length_of, reply_in}
 use Rattle.cown_board.specs.State.{finished_reply}
-use Rattle.cown_board.specs.declared.state.State.{State}
 use Rattle.sb_replica.specs.Marking.{up_to_cut, up_to}
 
 -- up to a cut, the board has as many numbers as the cut's length
@@ -31,13 +27,6 @@ beside_up_to board (Some number) beside =
 
 pub marked_beside : (board : BoardOf Op) → length board.log ≡ length board.states → length (up_to_cut board).log ≡ length (up_to_cut board).states
 marked_beside board beside = beside_up_to board board.cut beside
-
--- the marked numbers have their replies
-abbrev reply_among : BoardOf Op → ℕ → List State → Option Reply
-reply_among board number states =
-    if number == 0 then None
-    else if nat_le number (length board.base_replies) then slice_get board.base_replies (number - 1)
-    else option_and_then finished_reply (slice_get states (number - 1 - length board.base_replies))
 
 reply_up_to : (board : BoardOf Op) (cut : Option ℕ) (place : ℕ) → place < length_of (up_to board cut)
     → reply_in board (place + 1) ≡ reply_in (up_to board cut) (place + 1)
@@ -62,26 +51,3 @@ reply_up_to board (Some number) place lt =
 
 pub marked_reply : (board : BoardOf Op) (place : ℕ) → place < length_of (up_to_cut board) → reply_in board (place + 1) ≡ reply_in (up_to_cut board) (place + 1)
 marked_reply board place lt = reply_up_to board board.cut place lt
-
--- the columns of a mark, if nothing that it covers is unfinished
-abbrev pub AreMarked : BoardOf Op → Option (Bor Balances) → Type 0
-AreMarked board columns = MatchOption columns (unfinished_of board ≢ 0)
-    (λ lent. (unfinished_of board ≡ 0) × IsAfterAll declared_cowns effect_of board lent.now)
-
-pub columns_of_cut : (board : BoardOf Op) (number : ℕ) (columns : Option (Bor Balances)) → board.cut ≡ Some number
-    → AreCutColumns declared_cowns effect_of board (option_map (λ lent. lent.now) columns) → AreMarked (up_to_cut board) columns
-columns_of_cut board number (Some lent) here (n, is, idle, after) =
-    subst (λ (b : BoardOf Op). (unfinished_of b ≡ 0) × IsAfterAll declared_cowns effect_of b lent.now) (sym (ap (up_to board) is)) (idle, after)
-columns_of_cut board number None here unfinished =
-    λ idle. unfinished number here (subst (λ (b : BoardOf Op). unfinished_of b ≡ 0) (ap (up_to board) here) idle)
-
-pub columns_of_all : (board : BoardOf Op) (columns : Option (Bor Balances)) → board.cut ≡ None → AreMarked board columns → AreMarked (up_to_cut board) columns
-columns_of_all board columns none all = subst (λ (b : BoardOf Op). AreMarked b columns) (sym (ap (up_to board) none)) all
-
-pub length_of_cut : (board : BoardOf Op) (number : ℕ) → board.cut ≡ Some number → length board.base_replies ≤ number → number ≤ length_of board
-    → number ≡ length_of (up_to_cut board)
-length_of_cut board number here after within =
-    sym (ap (λ (cut : Option ℕ). length_of (up_to board cut)) here ∙ length_up_to board number after within)
-
-pub length_of_all : (board : BoardOf Op) → board.cut ≡ None → length_of board ≡ length_of (up_to_cut board)
-length_of_all board none = sym (ap (λ (cut : Option ℕ). length_of (up_to board cut)) none)

@@ -1,8 +1,8 @@
 -- What is held after a log of some length, as the log grows and as an op is held.
-use Rattle.std.proofs.Common.{◌≡◌, ℕ, suc, ◌+◌, ◌-◌, ◌%◌, ◌<◌, ◌≤◌, Option, None, List, [], ◌∷◌, ◌++◌, length, drop, sym, subst, ◌∙◌, arith}
+use Rattle.std.proofs.Common.{◌≡◌, ℕ, suc, ◌+◌, ◌-◌, ◌%◌, ◌<◌, ◌≤◌, Option, None, List, [], ◌∷◌, ◌++◌, length, drop, sym, subst, arith}
 use Rattle.std.specs.Prelude.{replicate, slice_get, slice_set}
 use Rattle.sb_calls.specs.declared.op.Op.{Op}
-use Rattle.sb_replica_log.proofs.Rotations.{length-round, round-replicate, round-set, round-first, round-next, ComesRound, comes_round}
+use Rattle.sb_replica_log.proofs.Rotations.{round-replicate, round-set, round-first, round-next, ComesRound, comes_round}
 use Rattle.sb_replica_log.specs.Log.{none_held}
 use Rattle.sb_replica_log.specs.inner.Rotation.{in_order_after}
 
@@ -11,9 +11,6 @@ unfolding none_held
 held-none size = round-replicate (suc size % 64) 64 None (omega arith)
 
 module _ {A : Type 0} (items : List A) (size : ℕ) (many : length items ≡ 64) where
-  pub length-held : length (in_order_after size items) ≡ 64
-  length-held = length-round (suc size % 64) items ∙ many
-
   pub held-first : slice_get (in_order_after size items) 0 ≡ slice_get items (suc size % 64)
   held-first = round-first items (suc size % 64) (omega (arith, many))
 

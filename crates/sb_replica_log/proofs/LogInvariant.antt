@@ -54,15 +54,6 @@ keeps_none board = record {
 }
 
 module _ (log : LogOf) (kept : IsReplicaLog log) where
-  -- a board with as many numbers, and as many customers
-  pub keeps_board : (board : BoardOf Op) → length_of board ≡ length_of log.board → board.opening ≡ log.board.opening
-      → IsReplicaLog (record log { board = board })
-  keeps_board board same opening = record {
-    slots = kept.slots;
-    numbers = λ place op e. omega (arith, same, kept.numbers place op e);
-    within = λ place op e. subst (λ o. IsOpWithin (length o.savings) op) (sym opening) (kept.within place op e);
-  }
-
   pub keeps_taken : (op : Op) → IsReplicaLog (log_with_entry log op)
   keeps_taken new = record {
     slots = omega (arith, length-append (drop 1 log.held) (None ∷ []), length-drop 1 log.held, kept.slots);

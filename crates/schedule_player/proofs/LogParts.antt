@@ -38,10 +38,6 @@ module _ {B : Type 0} (touches : B → List ℕ) (effect : B → List ℤ → Re
       ∙ ap (option_map (reply_of touches effect (contents_after_first touches effect (contents_after touches effect opening before) part k)))
       (at_in_part before part later k within)
 
-  pub op_in_part : (before part later : List B) (k : ℕ) (b : B) → slice_get part k ≡ Some b
-      → slice_get (before ++ (part ++ later)) (length before + k) ≡ Some b
-  op_in_part before part later k b here = at_in_part before part later k (slice_get_within part k b here) ∙ here
-
   -- a log that goes on holds the same at each of its places
   pub held_longer : (opening : List ℤ) (log more : List B) (k : ℕ) → k ≤ length log
       → contents_after_first touches effect opening (log ++ more) k ≡ contents_after_first touches effect opening log k

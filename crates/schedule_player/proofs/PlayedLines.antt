@@ -20,15 +20,6 @@ pub record PlaysUpTo (old : WorldOf) (events left : List Event) (new : WorldOf) 
   pub plays : PlaysEvents old done notes new
   pub written : out ≡ before ++ unlines (map note_line notes)
 
-pub up_to_first : (world : WorldOf) (events : List Event) (out : List ℕ) → PlaysUpTo world events events world out out
-up_to_first world events out = record {
-  done = [];
-  notes = [];
-  all = refl;
-  plays = refl;
-  written = sym (append-nil out);
-}
-
 -- one more happens
 pub up_to_next : (old : WorldOf) (events rest left : List Event) (middle new : WorldOf) (before out longer : List ℕ) (happens : Event) (note : Note)
     → PlaysUpTo old events rest middle before out → rest ≡ happens ∷ left → Moves middle happens note new

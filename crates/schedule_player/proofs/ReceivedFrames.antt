@@ -234,15 +234,3 @@ module _ (names : List (List ℕ)) (opening : Balances) (s : SequencerOf) (nodes
   hears_told r place node sent noted new here there hears =
       let heard = hears_by r sent noted new (slice_get_within nodes r node here) (told_by_node r place node sent here there) hears in
       (heard.is, sees_frame r place node sent here there ∙ heard.moved)
-
-  -- there is no such frame, or no such replica
-  pub hears_nothing : (r place : ℕ) (node : Node) → slice_get nodes r ≡ Some node → nth_item node.outbound place ≡ None
-      → from_move (world_of names opening s nodes) r place (slice_get (map machine_node nodes) r) ≡ (world_of names opening s nodes, note.Nothing)
-  hears_nothing r place node here none =
-      ap (from_move (world_of names opening s nodes) r place) (slice_get-map machine_node nodes r ∙ ap (option_map machine_node) here)
-      ∙ ap (report_move (world_of names opening s nodes) r) none
-
-  pub hears_nobody : (r place : ℕ) → slice_get nodes r ≡ None
-      → from_move (world_of names opening s nodes) r place (slice_get (map machine_node nodes) r) ≡ (world_of names opening s nodes, note.Nothing)
-  hears_nobody r place none =
-      ap (from_move (world_of names opening s nodes) r place) (slice_get-map machine_node nodes r ∙ ap (option_map machine_node) none)

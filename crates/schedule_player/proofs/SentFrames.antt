@@ -1,5 +1,5 @@
 -- Frames among their bytes.
-use Rattle.std.proofs.Common.{◌≡◌, ℕ, zero, suc, Some, None, Ok, List, [], ◌∷◌, ◌++◌, length, map, refl, sym, ap, subst, ◌∙◌}
+use Rattle.std.proofs.Common.{◌≡◌, ℕ, zero, suc, Some, Ok, List, [], ◌∷◌, ◌++◌, length, map, sym, ap, subst, ◌∙◌}
 use Rattle.std.specs.Prelude.{option_map}
 use Rattle.std.proofs.lemmas.List.{map-append}
 use Rattle.std.proofs.lemmas.Option.{slice_get-map}
@@ -40,11 +40,6 @@ module _ {A : Type 0} (items : A → List ℕ) where
     slice_get-map (λ b. frame_in (items b)) sent k ∙ ap (option_map (λ b. frame_in (items b))) here,
     spelled_as_seen (items bytes) (all k bytes here),
   )
-
-  pub no_frame : (sent : List A) (place : ℕ) → nth_item sent place ≡ None → nth_item (seen_in sent) place ≡ None
-  no_frame sent zero none = refl
-  no_frame sent (suc k) none =
-      slice_get-map (λ b. frame_in (items b)) sent k ∙ ap (option_map (λ b. frame_in (items b))) none
 
   pub frame_sent : (sent : List A) (bytes : A) (frame : Frame) → Spells frame (items bytes)
       → seen_in (sent ++ bytes ∷ []) ≡ seen_in sent ++ frame ∷ []

@@ -3,10 +3,8 @@ use Rattle.std.proofs.Common.{◌≡◌, ◌⊎◌, inl, inr, get_or, true, fals
 use Rattle.std.specs.Prelude.{slice_get, slice_set, count_by}
 use Rattle.std.proofs.lemmas.Bool.{cases_eq, eq-eqb, ne_eqb, eqb-true}
 use Rattle.std.proofs.lemmas.List.{length-set}
-use Rattle.std.proofs.lemmas.List.Sums.{count_by-le-length}
 use Rattle.std.proofs.lemmas.Option.{slice_get_within, slice_get_cases}
 use Rattle.cown_board.proofs.StateChanges.{slice_get-set_same}
-use Rattle.sb_calls.specs.declared.call.TheConstants.{LOG_CALLS}
 use Rattle.schedule_player.specs.OneBased.{copies}
 use Rattle.schedule_player.specs.Observers.{idle_if, idle_at}
 use Rattle.schedule_player.specs.EventLists.{PlaysEvents}
@@ -244,14 +242,6 @@ pairs_count world r n lt = let node = there world r lt in worked_count world r n
 pub left_after_pairs : (world : WorldOf) (r n : ℕ) → r < length world.nodes → IsTrueAt IsAtRest world r → n ≤ undone_at world r
     → n + undone_at (after_events world (work_events r n)) r ≡ undone_at world r
 left_after_pairs world r n lt rest le = let node = there world r lt in left_after world r node.0 node.1 n (rest node.0 node.1) le
-
-pub undone_few : (world : WorldOf) (r : ℕ) → r < length world.nodes → IsTrueAt IsAtRest world r → undone_at world r ≤ LOG_CALLS
-undone_few world r lt rest =
-    let node = there world r lt in
-    let is : undone_at world r ≡ undone_in node.0 = ap undone_if node.1 in
-    let count = count_by-le-length is_undone node.0.stages in
-    let within = (rest node.0 node.1).able.within in
-    omega (arith, is, count, within)
 
 -- nothing is undone exactly if the replica is idle
 pub idle_none : (world : WorldOf) (r : ℕ) → idle_at world r ≡ true → undone_at world r ≡ 0

@@ -1,5 +1,5 @@
 -- A replica's state goes to another one.
-use Rattle.std.proofs.Common.{◌≡◌, inl, inr, Bool, true, false, ℕ, suc, ◌≤◌, Option, Some, None, List, [], ◌∷◌, ◌++◌, length, map, refl, sym, ap, subst, ◌∙◌, arith}
+use Rattle.std.proofs.Common.{◌≡◌, inl, inr, Bool, true, false, ℕ, suc, ◌≤◌, Option, Some, None, List, [], ◌∷◌, ◌++◌, length, map, sym, ap, subst, ◌∙◌, arith}
 use Rattle.std.specs.Prelude.{option_map, nat_le}
 use Rattle.std.proofs.lemmas.Bool.{lt-leb, le-leb}
 use Rattle.std.proofs.lemmas.List.{length-append, map-append}
@@ -179,13 +179,6 @@ stays_ahead bank r old new place bytes own is here adopts =
     (state_does old place bytes true here
     (le-leb (stated_reply_count bytes) (length_in (machine_node old)) (omega (arith, own_is, count, size_is, fits, log)))
     ∙ ap (λ n. (machine_node old, note.Behind n)) (log ∙ sym own_is))
-
--- there is no such state
-pub no_state : (bank : BankOf) (r : ℕ) (old : Node) (place : ℕ) → IsNodeAt bank r old → nth_item old.states place ≡ None
-    → MovesTo bank r old note.Nothing (adopt_move (machine_node old) place)
-no_state bank r old place is none =
-    node_stays bank r old old (adopt_move (machine_node old) place) note.Nothing is refl
-    (ap (state_move (machine_node old)) (nth_item-map stated_reply_count old.states place ∙ ap (option_map stated_reply_count) none))
 
 -- memory may be refused for a state that exists
 pub adopts_wanting : (old : Node) (place : ℕ) (bytes : List ℕ) → nth_item old.states place ≡ Some bytes

@@ -1,5 +1,5 @@
 -- One replica of a world moves.
-use Rattle.std.proofs.Common.{◌≡◌, inl, inr, ℕ, ◌<◌, Some, None, Result, Ok, Err, List, length, map, sym, ap, subst, ◌∙◌, arith}
+use Rattle.std.proofs.Common.{◌≡◌, inl, inr, ℕ, ◌<◌, Some, Result, Ok, Err, List, length, map, sym, ap, subst, ◌∙◌, arith}
 use Rattle.std.specs.Prelude.{slice_get, slice_set, option_map, IfOk, OnErr}
 use Rattle.std.proofs.lemmas.Bool.{cases_eq}
 use Rattle.std.proofs.lemmas.List.{length-set}
@@ -17,7 +17,6 @@ use Rattle.schedule_player.specs.declared.fault.StepFault.{StepFault}
 use Rattle.schedule_player.specs.declared.node.Node.{Node}
 use Rattle.schedule_text.specs.declared.event.Event.{Event}
 use Rattle.schedule_text.specs.declared.note.Note.{Note}
-use Rattle.schedule_text.specs.declared.note.Note.TheVariants as note
 use Rattle.schedule_player.proofs.Lists.{set_here}
 use Rattle.cown_board.proofs.LogLaws.{injective as some_is}
 use Rattle.schedule_player.proofs.Stages.{set-map}
@@ -63,11 +62,6 @@ module _ (names : List (List ℕ)) (opening : Balances) (s : SequencerOf) (nodes
       ap (move_if (world_of names opening s nodes) r move) (slice_get-map machine_node nodes r ∙ ap (option_map machine_node) here)
       ∙ ap (λ m. (record (world_of names opening s nodes) { nodes = slice_set (map machine_node nodes) r m.0 }, m.1)) arrives.move_is
       ∙ ap (λ ns. (record (world_of names opening s nodes) { nodes = ns }, n)) (sym (set-map machine_node nodes r new))
-
-  pub no_node : (r : ℕ) (move : NodeOf → NodeOf × Note) → slice_get nodes r ≡ None
-      → move_at (world_of names opening s nodes) r move ≡ (world_of names opening s nodes, note.Nothing)
-  no_node r move none =
-      ap (move_if (world_of names opening s nodes) r move) (slice_get-map machine_node nodes r ∙ ap (option_map machine_node) none)
 
   -- the replica that is there, as the machine sees it
   pub node_seen : (r : ℕ) (old : Node) → slice_get nodes r ≡ Some old → slice_get (map machine_node nodes) r ≡ Some (machine_node old)

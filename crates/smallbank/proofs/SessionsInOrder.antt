@@ -1,16 +1,13 @@
 -- Sessions, one after another.
-use Rattle.std.proofs.Common.{◌≡◌, ℕ, Option, Some, None, List, [], ◌∷◌, ◌++◌, Ok, Err, refl, sym, ap, subst, ◌∙◌, append-nil, append_assoc}
-use Rattle.std.specs.Prelude.{IfSome, OnOk, IfErr}
+use Rattle.std.proofs.Common.{ℕ, Option, Some, None, List, [], ◌∷◌, ◌++◌, Err, refl, sym, ap, subst, ◌∙◌, append-nil, append_assoc}
+use Rattle.std.specs.Prelude.{IfSome}
 use Rattle.std.proofs.lemmas.List.Elements.{All-nil}
 use Rattle.sb_calls.specs.declared.ask.Key.{Key}
 use Rattle.sb_calls.specs.declared.call.Call.{Call}
-use Rattle.sb_rows.specs.Rows.{Rows}
 use Rattle.sb_sequencer.specs.Numbering.{IsLog, first_asks}
 use Rattle.bank_server.proofs.OwnLog.{own_log}
-use Rattle.bank_server.specs.SessionResults.{ServesUntilFault, ServesSession, WritesOutcomesBefore}
-use Rattle.bank_server.specs.Session.{IsFromClient, log_of_session}
-use Rattle.bank_server.specs.declared.session_fault.SessionFault.{SessionFault}
-use Rattle.bank_server.specs.declared.session_fault.SessionFault.TheVariants.{Frame, Unexpected, CrewGone, Device, OutOfMemory}
+use Rattle.bank_server.specs.Session.{IsFromClient}
+use Rattle.bank_server.specs.declared.session_fault.SessionFault.TheVariants.{Device}
 use Rattle.sb_frames.specs.declared.frame.Frame as frames
 use Rattle.smallbank.specs.Sessions.{AreSessions, End, ServesFirst, IsSession, AcceptsNext}
 
@@ -51,47 +48,6 @@ module _ {T : Type 0} (sends : T → Option (List ℕ)) where
         gone,
         AreSessions-append before came ends between then later after heard next,
       )
-
--- a session that ended well was heard
-heard_served : (opening : Rows) (before log : Log) (old new : Option (List ℕ)) (sent : List ℕ) → ServesSession opening before log old new sent
-    → IsSession before sent (Ok tt) log
-heard_served opening before log old new sent served = record {
-  frames = served.frames;
-  clients = served.clients;
-  rest = [];
-  sent_is = served.input_is ∙ sym (append-nil _);
-  at = refl;
-  log_is = served.outcomes.log_is;
-}
-
--- and so was one that ended at a fault
-log_told : (fault : SessionFault) (opening : Rows) (before : Log) (fs : List frames.Frame) (log : Log) (old new : Option (List ℕ))
-    → WritesOutcomesBefore fault opening before fs log old new → log ≡ log_of_session before fs
-log_told (Frame f) opening before fs log old new told = told.log_is
-log_told Unexpected opening before fs log old new told = told.log_is
-log_told CrewGone opening before fs log old new told = told
-log_told Device opening before fs log old new told = told
-log_told OutOfMemory opening before fs log old new told = told
-
-heard_cut_short : (opening : Rows) (before log : Log) (old new : Option (List ℕ)) (sent : List ℕ) (fault : SessionFault)
-    → ServesUntilFault opening before log old new sent fault → IsSession before sent (Err fault) log
-heard_cut_short opening before log old new sent fault cut = record {
-  frames = cut.frames;
-  clients = cut.clients;
-  rest = cut.rest;
-  sent_is = cut.input_is;
-  at = cut.at;
-  log_is = log_told fault opening before cut.frames log old new cut.outcomes;
-}
-
-pub heard_session : (end : End) (opening : Rows) (before log : Log) (old new : Option (List ℕ)) (sends : Option (List ℕ))
-    → OnOk end (IfSome sends (ServesSession opening before log old new))
-    → IfErr end (λ fault. IfSome sends (λ sent. ServesUntilFault opening before log old new sent fault))
-    → IfSome sends (λ sent. IsSession before sent end log)
-heard_session (Ok done) opening before log old new None served cut = tt
-heard_session (Ok done) opening before log old new (Some sent) served cut = heard_served opening before log old new sent served
-heard_session (Err fault) opening before log old new None served cut = tt
-heard_session (Err fault) opening before log old new (Some sent) served cut = heard_cut_short opening before log old new sent fault cut
 
 -- a client that doesn't tell what it sends
 pub not_heard : (log : Log) → IsLog log → (sends : Option (List ℕ)) → IfSome sends (λ sent. IsSession log sent (Err Device) log)
