@@ -82,7 +82,7 @@ map_push f (y ∷ xs) x = ap (λ rest. f y ∷ rest) (map_push f xs x)
 pub standings_push : (asks : List AskLine) (asked : AskLine) (running : ℕ) (log new : List (Key × Call)) (standings : List Standing) (standing : Standing)
     → IsAfterAsks asks running log
     → new ≡ first_asks (asks_with_keys asks ++ (key_of_line running asked.key, asked.call) ∷ [])
-        → standing ≡ standing_of new (key_of_line running asked.key, asked.call)
+    → standing ≡ standing_of new (key_of_line running asked.key, asked.call)
     → standings ≡ map (standing_of log) (asks_with_keys asks) → standings ++ standing ∷ [] ≡ map (standing_of new) (asks_with_keys (asks ++ asked ∷ []))
 standings_push asks asked running log new standings standing after h e told =
     let ask : Key × Call = (key_of_line running asked.key, asked.call) in
@@ -90,7 +90,7 @@ standings_push asks asked running log new standings standing after h e told =
     told ∙ ap (λ l. map (standing_of l) (asks_with_keys asks)) after.log_is ∙ sym (standings_after (asks_with_keys asks) ask)
     ∙ ap (λ l. map (standing_of l) (asks_with_keys asks)) (sym h) in
     (λ j. before j ++ e j ∷ []) ∙ sym (map_push (standing_of new) (asks_with_keys asks) ask)
-        ∙ ap (map (standing_of new)) (sym (asks_with_keys-push asks asked running log after))
+    ∙ ap (map (standing_of new)) (sym (asks_with_keys-push asks asked running log after))
 
 -- before any line the log is empty
 pub log_of_asks-nil : log_of_asks [] ≡ []

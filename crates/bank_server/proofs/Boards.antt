@@ -94,10 +94,10 @@ reply_at board k none =
     let differs : ((k + 1) == 0) ≡ false = ne_eqb (k + 1) 0 (λ same. omega (arith, same)) in
     let at : k + 1 - 1 - length board.base_replies ≡ k = omega (arith, ap length none) in
     ap (λ b. if b then None
-        else (if nat_le (k + 1) (length board.base_replies) then slice_get board.base_replies (k + 1 - 1) else option_and_then finished_reply
+    else (if nat_le (k + 1) (length board.base_replies) then slice_get board.base_replies (k + 1 - 1) else option_and_then finished_reply
     (slice_get board.states (k + 1 - 1 - length board.base_replies)))) differs
     ∙ ap (λ b. if b then slice_get board.base_replies (k + 1 - 1)
-        else option_and_then finished_reply (slice_get board.states (k + 1 - 1 - length board.base_replies)))
+    else option_and_then finished_reply (slice_get board.states (k + 1 - 1 - length board.base_replies)))
     after
     ∙ ap (λ n. option_and_then finished_reply (slice_get board.states n)) at
 
@@ -200,7 +200,7 @@ told_of board replies number answer tells beside counted is told =
     told_at board replies (number - 1) answer tells beside (is ∙ ap (reply_in board) next)
     (subst (λ (n : ℕ). IfSome answer
     (λ r. length board.base_replies < n
-        → reply_by_log declared_cowns effect_of (contents_of board.opening) board.log (n - length board.base_replies) ≡ Some r)) next
+    → reply_by_log declared_cowns effect_of (contents_of board.opening) board.log (n - length board.base_replies) ≡ Some r)) next
     told)
 
 -- executed ops are the calls with these ops, run one by one

@@ -54,7 +54,7 @@ loses_behind keeps old mid OutOfMemory none is = tt
 -- a frame that is refused stops a session
 pub refused_stops : (opening : Rows) (old mid new : SessionState) (unread left behind : List ℕ) (frame : frames.Frame) (bytes : List ℕ) (fault : SessionFault)
     → HandlesBytes opening old unread mid left → Spells frame bytes → left ≡ bytes ++ behind
-        → RefusesFrame frame fault mid new → Stops opening old unread fault new
+    → RefusesFrame frame fault mid new → Stops opening old unread fault new
 refused_stops opening old mid new unread left behind frame bytes (Frame f) heard spells is refused = absurd refused
 refused_stops opening old mid new unread left behind frame bytes Unexpected heard spells is refused = record {
   there = mid;

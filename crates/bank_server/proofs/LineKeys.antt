@@ -36,7 +36,7 @@ own_key request = record { client = 0; request = request }
 -- one more line
 pub asks_with_keys_from-push : (running : ℕ) (asks : List AskLine) (asked : AskLine)
     → asks_with_keys_from running (asks ++ asked ∷ []) ≡ asks_with_keys_from running asks
-        ++ (key_of_line (running_from running asks) asked.key, asked.call) ∷ []
+    ++ (key_of_line (running_from running asks) asked.key, asked.call) ∷ []
 asks_with_keys_from-push running [] asked = refl
 asks_with_keys_from-push running (first ∷ asks) asked =
     ap (λ rest. (key_of_line running first.key, first.call) ∷ rest) (asks_with_keys_from-push (running_after running first.key) asks asked)
@@ -98,7 +98,7 @@ running_within running before (asked ∷ asks) h fresh =
   where
     by : (key : Option Key) → running_from (running_after running key) asks
         ≤ running_after running key + length
-            (firsts_after (before ++ (key_of_line running key, asked.call) ∷ []) (asks_with_keys_from (running_after running key) asks))
+        (firsts_after (before ++ (key_of_line running key, asked.call) ∷ []) (asks_with_keys_from (running_after running key) asks))
         → running_from (running_after running key) asks ≤ running + length (if has_key before (key_of_line running key)
         then firsts_after (before ++ (key_of_line running key, asked.call) ∷ []) (asks_with_keys_from (running_after running key) asks)
         else (key_of_line running key, asked.call) ∷ firsts_after (before ++ (key_of_line running key, asked.call) ∷ [])

@@ -105,7 +105,7 @@ told_before OutOfMemory opening before start frames there new came left = left �
 -- a fault within a read
 pub stopped : (opening : Rows) (before : List (Key × Call)) (start : Option (List ℕ)) (bytes chunk behind input : List ℕ) (mid : SessionState)
     (unread : List ℕ) (new : SessionState) (fault : SessionFault) → ReadsTo opening before start bytes mid unread
-        → Stops opening mid (unread ++ chunk) fault new
+    → Stops opening mid (unread ++ chunk) fault new
     → input ≡ (bytes ++ chunk) ++ behind → ServesUntilFault opening before new.log start new.written input fault
 stopped opening before start bytes chunk behind input mid unread new fault heard stops input_is = record {
   frames = on.frames;

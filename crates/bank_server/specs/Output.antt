@@ -29,7 +29,7 @@ abbrev pub output_lines : InputText → List (List ℕ)
 output_lines input =
     let opening = rows_of input.opening.names input.opening.balances in
     answer_lines opening input.asks
-        ++ row_lines input.opening.names (rows_after (calls_of (log_of_asks input.asks)) opening)
+    ++ row_lines input.opening.names (rows_after (calls_of (log_of_asks input.asks)) opening)
 
 -- the output for an input, or the input's first line at fault with its fault
 abbrev pub output_of : List ℕ → Result (List ℕ) (ℕ × InputFault)

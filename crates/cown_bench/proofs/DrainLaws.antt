@@ -50,7 +50,7 @@ module _ (pass : ℕ) (offered : List WorkOf) (absorbed : List (List PickOf)) (d
                 drains = λ they. absurd (apart (theirs.sole they ∙ sym (mine.sole refl)));
                 works = λ _ some_part.
                     let nothing : u.parts ≡ 0 =
-                        others_none (λ (known : PassHistory). known.parts) views pass v absorbed_view refl here rule.whole j u apart there in
+                    others_none (λ (known : PassHistory). known.parts) views pass v absorbed_view refl here rule.whole j u apart there in
                     absurd (omega (arith, nothing, some_part));
                 idle = theirs.idle;
                 picks = theirs.picks;

@@ -63,6 +63,6 @@ module _ {A : Type 0} where
     count_by-enumerate_from xs =
         ⊎_elim
         (λ (lt : position < length xs). within 0 xs (omega arith) (omega arith)
-            ∙ sym (cond-true (ltb position (length xs)) 1 0 (lt-ltb position (length xs) lt)))
+        ∙ sym (cond-true (ltb position (length xs)) 1 0 (lt-ltb position (length xs) lt)))
         (λ (le : length xs ≤ position). outside 0 xs (λ _. omega arith) ∙ sym (cond-false (ltb position (length xs)) 1 0 (le-ltb position (length xs) le)))
         (cases_lt position (length xs))

@@ -72,7 +72,7 @@ module _ {B : Type 0} (touches : B → List ℕ) (effect : B → List ℤ → Re
         ∙ ap (λ x. if x then list_of old cown ++ length log ∷ [] else list_of old cown) among)
         ∙ first-last (length log) (list_of old cown) (λ x first.
         let found =
-            place_is (is_queued touches effect log states cown) (length log) 0 x (ap (λ xs. slice_get xs 0) (sym (queued.each cown in_range)) ∙ first) in
+        place_is (is_queued touches effect log states cown) (length log) 0 x (ap (λ xs. slice_get xs 0) (sym (queued.each cown in_range)) ∙ first) in
         λ e. omega (arith, e, found.0)))
 
     pub counts_submitted : (behind ready : List ℕ) (m : ℕ) → m ≡ count_by (is_occupied old) (touches b) → AreCounts touches effect log states old behind ready

@@ -149,7 +149,7 @@ module _ {B : Type 0} (touches : B → List ℕ) (effect : B → List ℤ → Re
   good_calls columns base_replies log old new (call ∷ calls) played good =
       subst (λ l. IsGood columns base_replies l new) (append_assoc log (submitted_by call) (submitted_by_all calls))
       (good_calls columns base_replies (log ++ submitted_by call) played.0 new calls played.2
-          (good_call columns base_replies log old played.0 call played.1 good))
+      (good_call columns base_replies log old played.0 call played.1 good))
 
   pub board_law : BoardLaw touches effect
   board_law columns base_replies calls board played =

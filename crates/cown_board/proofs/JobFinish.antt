@@ -36,7 +36,7 @@ module _ {B : Type 0} (touches : B → List ℕ) (effect : B → List ℤ → Re
   -- the cowns of a behaviour that is out hold what it was handed out with
   out_inputs : (k : ℕ) (b : B) → slice_get inside.log k ≡ Some b → slice_get inside.states k ≡ Some Out
       → read_cowns (contents_of inside.now) (touches b)
-          ≡ inputs_of touches effect (contents_after_first touches effect (contents_of inside.opening) inside.log k) b
+      ≡ inputs_of touches effect (contents_after_first touches effect (contents_of inside.opening) inside.log k) b
   out_inputs k b here out =
       holds_inputs touches effect board.keeps k (state_here is_unfinished inside.states k Out out) (clear_of_out touches effect board.keeps k b here out) b here
       (let lt = slice_get_within inside.log k b here in omega (arith, lt))

@@ -37,11 +37,11 @@ module _ {B : Type 0} (touches : B → List ℕ) (effect : B → List ℤ → Re
     before = λ j lt among.
         let within = touched_within touches effect log cown j among in
         sym (state-append is_unfinished states Waiting j (omega (arith, within, kept.same_length)))
-            ∙ finished_up_to.before j lt (touches-append log b cown j within ∙ among);
+        ∙ finished_up_to.before j lt (touches-append log b cown j within ∙ among);
     after = λ j ge among.
         let within = touched_within touches effect log cown j among in
         sym (state-append is_unfinished states Waiting j (omega (arith, within, kept.same_length)))
-            ∙ finished_up_to.after j ge (touches-append log b cown j within ∙ among);
+        ∙ finished_up_to.after j ge (touches-append log b cown j within ∙ among);
   }
 
   settled_submitted : {opening : List ℤ} {log : List B} {states : List State} {held : List ℤ} → AgreesWithLog touches effect opening log states held

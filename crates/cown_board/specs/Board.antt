@@ -48,7 +48,7 @@ module _ {B : Type 0} (touches : B → List ℕ) (effect : B → List ℤ → Re
   abbrev pub inputs_at : BoardOf B → ℕ → B → List ℤ
   inputs_at board position behaviour =
       inputs_of touches effect
-          (contents_after_first touches effect (contents_of board.opening) board.log position) behaviour
+      (contents_after_first touches effect (contents_of board.opening) board.log position) behaviour
 
   -- the result is that of the behaviour at a position, which is out, on its inputs
   pub record IsOutAt (board : BoardOf B) (done : DoneOf B) (position : ℕ) : Type 0 where

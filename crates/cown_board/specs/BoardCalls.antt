@@ -94,4 +94,4 @@ module _ {B : Type 0} (touches : B → List ℕ) (effect : B → List ℤ → Re
   pub record StaysTrueToLog (old : BoardOf B) (call : BoardCall B) (new : BoardOf B) : Type 0 where
     pub law : (columns : Balances) (base_replies : List Reply) (calls : List (BoardCall B))
         → Plays (board_at_opening columns base_replies) calls old
-            → IsTrueToLog columns base_replies (calls ++ call ∷ []) new
+        → IsTrueToLog columns base_replies (calls ++ call ∷ []) new

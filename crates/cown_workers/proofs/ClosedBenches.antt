@@ -44,7 +44,7 @@ module _ {A : Type 0} where
 -- the owner's pass and the workers' are of the bench
 pub passes_here : (bench : BenchId) (own_pass : Option WorkerOf) (workers passes : List WorkerOf) → passes ≡ option_to_list own_pass ++ workers
     → IfSome own_pass (λ (own_pass : WorkerOf). own_pass.bench ≡ bench) → All (λ (w : WorkerOf). w.bench ≡ bench) workers
-        → All (λ (w : WorkerOf). w.bench ≡ bench) passes
+    → All (λ (w : WorkerOf). w.bench ≡ bench) passes
 passes_here bench None workers passes items own theirs = All-same (λ (w : WorkerOf). w.bench ≡ bench) passes workers items theirs
 passes_here bench (Some own_pass) workers passes items own theirs =
     All-same (λ (w : WorkerOf). w.bench ≡ bench) passes (own_pass ∷ workers) items (All-cons (λ (w : WorkerOf). w.bench ≡ bench) own_pass workers own theirs)

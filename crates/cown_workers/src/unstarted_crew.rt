@@ -48,7 +48,7 @@ impl<'a, R: Wait + Clock, G: Gate> Model for UnstartedCrew<'a, R, G> {
         × All (λ worker. worker.bench.now ≡ unstarted_crew.owner_side.bench.now) unstarted_crew.workers.items
         × (length unstarted_crew.workers.items ≤ WORKERS)
         × (unstarted_crew.owner_side.pass.workers
-            ≡ length (option_to_list unstarted_crew.own_pass) + length unstarted_crew.workers.items)
+        ≡ length (option_to_list unstarted_crew.own_pass) + length unstarted_crew.workers.items)
         × (1 ≤ length unstarted_crew.workers.items)
         × (count_by is_stop unstarted_crew.owner_side.pass.offered ≡ 0) };
 }

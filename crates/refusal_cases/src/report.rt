@@ -13,7 +13,7 @@ const DIGITS: &[u8; 16] = b"0123456789abcdef";
 
 /// The output of the cases, line by line.
 #[derive(Drop)]
-pub struct Report {
+pub(crate) struct Report {
     /// The lines so far.
     pub(crate) text: Vec<u8>,
     /// What the current call wrote. It is reported with the call, and then emptied.
@@ -24,7 +24,7 @@ pub struct Report {
 
 impl Report {
     /// An empty report, with room for the whole output.
-    pub fn new(alloc: Global) -> Result<Report, AllocError> {
+    pub(crate) fn new(alloc: Global) -> Result<Report, AllocError> {
         let text = Vec::with_capacity(alloc, ROOM)?;
         let written = Vec::with_capacity(alloc, CALL_ROOM)?;
         Ok(Report {
@@ -35,7 +35,7 @@ impl Report {
     }
 
     /// Reports that a call was refused memory, with the number of bytes that it had written.
-    pub fn refused(&mut self, call: &str) -> Result<(), AllocError> {
+    pub(crate) fn refused(&mut self, call: &str) -> Result<(), AllocError> {
         self.refusals = self.refusals.saturating_add(1);
         self.text.extend_from_slice(b"refused ")?;
         self.text.extend_from_slice(call.as_bytes())?;
@@ -45,14 +45,14 @@ impl Report {
     }
 
     /// Reports the text that a call wrote, as it is.
-    pub fn add_text(&mut self) -> Result<(), AllocError> {
+    pub(crate) fn add_text(&mut self) -> Result<(), AllocError> {
         self.text.extend_from_slice(&self.written)?;
         self.written.clear();
         Ok(())
     }
 
     /// Reports the bytes that a call wrote, by their digits, on a line.
-    pub fn add_bytes(&mut self) -> Result<(), AllocError> {
+    pub(crate) fn add_bytes(&mut self) -> Result<(), AllocError> {
         for byte in &self.written {
             self.text.push(DIGITS[(*byte / 16) as usize])?;
             self.text.push(DIGITS[(*byte % 16) as usize])?;

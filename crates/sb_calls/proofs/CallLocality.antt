@@ -381,7 +381,7 @@ sent_local : (a b : Rows) (from to : List ℕ) (amount s c s_b c_b s_to c_to s_t
     → AreLocal (checkings_of from to) a b (sent from to amount a s c s_to c_to) (sent from to amount b s_b c_b s_to_b c_to_b)
 sent_local a b from to amount s c s_b c_b s_to c_to s_to_b c_to_b differs alike a_from b_from a_to b_to =
     let same_c =
-        same_checking a b from s c s_b c_b a_from b_from (alike (Checking from) (Contains-from_one (checkings_of from to) (Checking from) (inl refl))) in
+    same_checking a b from s c s_b c_b a_from b_from (alike (Checking from) (Contains-from_one (checkings_of from to) (Checking from) (inl refl))) in
     let same_to = same_checking a b to s_to c_to s_to_b c_to_b a_to b_to
     (alike (Checking to) (Contains-from_one (checkings_of from to) (Checking to) (inr (inl refl)))) in
     let on_a = sent from to amount a s c s_to c_to in

@@ -73,5 +73,11 @@ module _ (old new : Balances) (op : Op) (written : contents_of new
   pub applied_places : length old.savings ≡ length old.checking → length new.savings ≡ length new.checking → length new.savings ≡ length old.savings
   applied_places old_same new_same =
       let values = (effect_of op (read_cowns (contents_of old) (declared_cowns op))).1 in
-      omega (arith, ap length written, length-write (contents_of old)
-          (declared_cowns op) values, length-contents_of old old_same, length-contents_of new new_same)
+      omega (
+        arith,
+        ap length written,
+        length-write (contents_of old)
+            (declared_cowns op) values,
+        length-contents_of old old_same,
+        length-contents_of new new_same,
+      )

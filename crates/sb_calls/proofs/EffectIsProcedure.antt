@@ -144,7 +144,7 @@ module _ {directory : List (List ℕ)} {b : Balances} {name : List ℕ} {place :
           → write_cowns (contents_of b) (savings_cown place ∷ cowns) (s ∷ values) ≡ write_cowns (contents_of b) cowns values
       savings_kept cowns values =
           let same : slice_set (contents_of b) (savings_cown place) s ≡ contents_of b =
-              rw (← savings_is) (set-get_or (contents_of b) (savings_cown place) (pos 0)) in
+          rw (← savings_is) (set-get_or (contents_of b) (savings_cown place) (pos 0)) in
           ap (λ (contents : List ℤ). write_cowns contents cowns values) same
 
 -- ---- two customers
@@ -154,7 +154,7 @@ contents_of-with_row : (b : Balances) (place : ℕ) (s c : ℤ)
     → contents_of (with_row b place s c) ≡ slice_set (slice_set (contents_of b) (savings_cown place) s) (checking_cown place) c
 contents_of-with_row b place s c =
     contents_of-with_checking (with_savings b place s) place c
-        ∙ ap (λ (contents : List ℤ). slice_set contents (checking_cown place) c) (contents_of-with_savings b place s)
+    ∙ ap (λ (contents : List ℤ). slice_set contents (checking_cown place) c) (contents_of-with_savings b place s)
 
 -- the balances after an amalgamation
 abbrev amalgamated : Balances → ℕ → ℕ → ℤ → Balances
@@ -163,7 +163,7 @@ amalgamated b p q sum = with_checking (with_row b p (pos 0) (pos 0)) q sum
 -- the giver's cowns are written first, and then the taker's
 written_giver_first : (b : Balances) (p q : ℕ) (sum : ℤ)
     → contents_of (amalgamated b p q sum)
-        ≡ slice_set (slice_set (slice_set (contents_of b) (savings_cown p) (pos 0)) (checking_cown p) (pos 0)) (checking_cown q) sum
+    ≡ slice_set (slice_set (slice_set (contents_of b) (savings_cown p) (pos 0)) (checking_cown p) (pos 0)) (checking_cown q) sum
 written_giver_first b p q sum =
     contents_of-with_checking (with_row b p (pos 0) (pos 0)) q sum
     ∙ ap (λ (contents : List ℤ). slice_set contents (checking_cown q) sum) (contents_of-with_row b p (pos 0) (pos 0))
@@ -171,7 +171,7 @@ written_giver_first b p q sum =
 -- or the other way round: the cowns are different
 written_taker_first : (b : Balances) (p q : ℕ) (sum : ℤ) → p ≢ q
     → contents_of (amalgamated b p q sum)
-        ≡ slice_set (slice_set (slice_set (contents_of b) (checking_cown q) sum) (savings_cown p) (pos 0)) (checking_cown p) (pos 0)
+    ≡ slice_set (slice_set (slice_set (contents_of b) (checking_cown q) sum) (savings_cown p) (pos 0)) (checking_cown p) (pos 0)
 written_taker_first b p q sum differs =
     let apart : checking_cown p ≢ checking_cown q = omega (arith, differs) in
     let other : savings_cown p ≢ checking_cown q = omega arith in
@@ -313,7 +313,7 @@ module _ {directory : List (List ℕ)} {b : Balances} {from to : List ℕ} {p q 
     where
       by : (p < q) ⊎ (q ≤ p)
           → Effects directory (SendPayment from to amount) b (checkings_of_two p q)
-              (payment_effect p q amount (read_cowns (contents_of b) (checkings_of_two p q)))
+          (payment_effect p q amount (read_cowns (contents_of b) (checkings_of_two p q)))
       by (inl lt) = pays_at (checking_cown p ∷ checking_cown q ∷ []) (c ∷ c_to ∷ []) (cowns_payer_first p q lt) payer_first
           (rw (effect_payer_first p q amount (c ∷ c_to ∷ []) lt) payer_first_effects)
       by (inr le) =

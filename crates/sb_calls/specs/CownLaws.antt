@@ -45,7 +45,7 @@ pub record RunsAsCalls (directory : List (List ℕ)) (b : Balances) (calls : Lis
       ≡ reply_to (rows_of directory b) calls n
   pub rows : (k : ℕ) → (after : Balances) × SameCustomers directory after
       × (contents_of after
-          ≡ contents_after_first declared_cowns effect_of (contents_of b) (map (op_of directory) calls) k)
+      ≡ contents_after_first declared_cowns effect_of (contents_of b) (map (op_of directory) calls) k)
       × (rows_of directory after ≡ rows_after_calls (rows_of directory b) calls k)
 
 -- whole logs that run over cowns agree with the procedures on the rows

@@ -23,7 +23,7 @@ MemoryActs old (Put bytes (Ok done)) new =
 MemoryActs old (Put bytes (Err Device)) new =
     ((old.next ≡ how.Old) × (new ≡ record old { next = how.Ok; failures = saturating_increment old.failures }))
     ⊎ ((old.next ≡ how.New)
-        × (new ≡ record { slot = Some bytes; next = how.Ok; failures = saturating_increment old.failures }))
+    × (new ≡ record { slot = Some bytes; next = how.Ok; failures = saturating_increment old.failures }))
 MemoryActs old (Put bytes (Err OutOfMemory)) new = new ≡ old
 MemoryActs old (Get content) new = (content ≡ old.slot) × (new ≡ old)
 MemoryActs old (GetFault Device) new = ⊥

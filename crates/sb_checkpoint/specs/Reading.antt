@@ -114,7 +114,7 @@ unfoldable pub replies_fault : Layout → List ℕ → Option CheckpointFault
 replies_fault layout bytes =
     if list_any is_no_reply (stated_replies layout bytes) then Some BadReply
     else if nat_lt LOG_CALLS (stated_reply_count bytes)
-        || nat_lt (stated_size layout bytes) (length bytes) then Some Long
+    || nat_lt (stated_size layout bytes) (length bytes) then Some Long
     else None
 
 -- the first fault after a correct head

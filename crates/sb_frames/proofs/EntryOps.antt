@@ -124,13 +124,13 @@ deposit_agrees : (names : List (List ℕ)) (bytes : List ℕ) → Agrees names b
 unfolding place_at
 deposit_agrees names bytes =
     name_and_amount names calls.DepositChecking (λ place cents. at_place (λ p. ops.DepositChecking p cents) place)
-        (name_at bytes) amount_at (λ name cents. refl)
+    (name_at bytes) amount_at (λ name cents. refl)
 
 savings_agree : (names : List (List ℕ)) (bytes : List ℕ) → Agrees names bytes 3
 unfolding place_at
 savings_agree names bytes =
     name_and_amount names calls.TransactSavings (λ place cents. at_place (λ p. ops.TransactSavings p cents) place)
-        (name_at bytes) amount_at (λ name cents. refl)
+    (name_at bytes) amount_at (λ name cents. refl)
 
 amalgamate_agrees : (names : List (List ℕ)) (bytes : List ℕ) → Agrees names bytes 4
 unfolding place_at
@@ -253,7 +253,7 @@ module _ (bytes : List ℕ) (number : ℕ) (call : Call) (rest : List ℕ) where
   unfolding ask_at
   ask_is_none e =
       let client =
-          first_step (unsigned_at w32 bytes) (λ c. unsigned_at w32 c.1 >>= λ r. call_at r.1 >>= λ a. made (Ask c.0 r.0 a.0) a.1) (Entry number call, rest) e in
+      first_step (unsigned_at w32 bytes) (λ c. unsigned_at w32 c.1 >>= λ r. call_at r.1 >>= λ a. made (Ask c.0 r.0 a.0) a.1) (Entry number call, rest) e in
       let request = first_step (unsigned_at w32 client.0.1) (λ r. call_at r.1 >>= λ a. made (Ask client.0.0 r.0 a.0) a.1) (Entry number call, rest) client.2 in
       let frame = made_last (call_at request.0.1) (Ask client.0.0 request.0.0) (Entry number call) rest request.2 in
       absurd cc
@@ -277,9 +277,9 @@ module _ (bytes : List ℕ) (number : ℕ) (call : Call) (rest : List ℕ) where
   unfolding outcome_frame_at
   outcome_is_none e =
       let client = first_step (unsigned_at w32 bytes) (λ c. unsigned_at w32 c.1 >>= λ r. outcome_at r.1 >>= λ o.
-          made (Outcome c.0 r.0 o.0) o.1) (Entry number call, rest) e in
+      made (Outcome c.0 r.0 o.0) o.1) (Entry number call, rest) e in
       let request =
-          first_step (unsigned_at w32 client.0.1) (λ r. outcome_at r.1 >>= λ o. made (Outcome client.0.0 r.0 o.0) o.1) (Entry number call, rest) client.2 in
+      first_step (unsigned_at w32 client.0.1) (λ r. outcome_at r.1 >>= λ o. made (Outcome client.0.0 r.0 o.0) o.1) (Entry number call, rest) client.2 in
       let frame = made_last (outcome_at request.0.1) (Outcome client.0.0 request.0.0) (Entry number call) rest request.2 in
       absurd cc
 

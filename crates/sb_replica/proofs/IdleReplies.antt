@@ -46,12 +46,12 @@ reply_at board place idle =
     ∙ elim (cases_lt place (length base_replies)) [
       | inl lt ↦
           ap (λ b. if b then slice_get base_replies (place + 1 - 1)
-              else option_and_then finished_reply (slice_get board.states (place + 1 - 1 - length base_replies)))
+          else option_and_then finished_reply (slice_get board.states (place + 1 - 1 - length base_replies)))
           (le-leb (place + 1) (length base_replies) (omega (arith, lt)))
           ∙ ap (slice_get base_replies) (omega arith) ∙ sym (slice_get-left base_replies fs place lt)
       | inr past ↦
           ap (λ b. if b then slice_get base_replies (place + 1 - 1)
-              else option_and_then finished_reply (slice_get board.states (place + 1 - 1 - length base_replies)))
+          else option_and_then finished_reply (slice_get board.states (place + 1 - 1 - length base_replies)))
           (lt-leb (place + 1) (length base_replies) (omega (arith, past)))
           ∙ ap (λ k. option_and_then finished_reply (slice_get board.states k)) (omega arith)
           ∙ finished_at board.states (place - length base_replies) closed

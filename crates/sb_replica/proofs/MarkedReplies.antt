@@ -40,7 +40,7 @@ reply_up_to board (Some number) place lt =
       | inl before ↦
           let there : nat_le (place + 1) (length base_replies) ≡ true = le-leb (place + 1) (length base_replies) (omega (arith, before)) in
           ap (λ b. if (place + 1) == 0 then None else if b then slice_get base_replies (place + 1 - 1)
-              else option_and_then finished_reply (slice_get board.states state)) there
+          else option_and_then finished_reply (slice_get board.states state)) there
           ∙ sym (ap (λ b. if (place + 1) == 0 then None else if b then slice_get base_replies (place + 1 - 1)
           else option_and_then finished_reply (slice_get (take places board.states) state)) there)
       | inr past ↦

@@ -72,7 +72,7 @@ abbrev pub IsReplicaFaultOf : {S : Type 0} → ReplicaOf S → List ℕ → Repl
 IsReplicaFaultOf replica bytes (fault.BadFrame frame) = whole_frame bytes ≡ Err frame
 IsReplicaFaultOf replica bytes fault.OutOfMemory =
     (entry : Frame) × (number : ℕ) × (whole_frame bytes ≡ Ok entry)
-        × (frame_answer replica.board entry ≡ Accepted number)
+    × (frame_answer replica.board entry ≡ Accepted number)
 
 -- an op was appended to the log, under this number
 pub record Accepts (old : BoardOf Op) (number : ℕ) (new : BoardOf Op) : Type 0 where

@@ -62,4 +62,4 @@ module _ {S : Type 0} (does : S → StoreStep → S → Type 0) where
   IsRestartFaultOf old fault new = (new ≡ record old { store = new.store })
       × (((failed : StoreFault) × does old.store (GetFault failed) new.store × (fault ≡ of_store_fault failed))
       ⊎ ((content : Option (List ℕ)) × does old.store (Get content) new.store
-          × IsRefusalOf (origin_of old) content fault))
+      × IsRefusalOf (origin_of old) content fault))

@@ -174,7 +174,7 @@ impl<S: CheckpointStore> Replica<S> {
     pub fn final_columns(&self) -> Option<&Columns>
         ensures value { MatchOption result (unfinished_of self.now.board ≢ 0)
             (λ columns. (unfinished_of self.now.board ≡ 0)
-                × IsAfterAll declared_cowns effect_of self.now.board columns.now) }
+            × IsAfterAll declared_cowns effect_of self.now.board columns.now) }
         ensures bank { IfSome result (λ columns. IsBalances columns.now) }
     {
         self.log.board().final_columns()

@@ -46,7 +46,7 @@ slice_get-last (first ∷ xs) x = slice_get-last xs x
 -- an answer at a place without one takes an added place
 pub storing_first : (place : ℕ) (kept : List (Option Reply)) (answer : Option Reply) → length kept ≤ place
     → (slice_get (padded_answers (place + 1) kept) place ≡ Some None)
-        × (padded_answers place kept ++ answer ∷ [] ≡ slice_set (padded_answers (place + 1) kept) place answer)
+    × (padded_answers place kept ++ answer ∷ [] ≡ slice_set (padded_answers (place + 1) kept) place answer)
 storing_first place kept answer l =
     let more = padded_answers-push place kept l in
     let at : length (padded_answers place kept) ≡ place = length-padded_answers place kept l in (

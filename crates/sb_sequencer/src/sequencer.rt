@@ -190,7 +190,7 @@ impl Sequencer {
         // Whatever was asked before, the log is the first ask of each key.
         ensures numbering { (asks : List (AnyKey × AnyCall))
             → ExtendsFirstAsks asks self.old.log
-                (record { client = client; request = request }, call.now) result self.new.log }
+            (record { client = client; request = request }, call.now) result self.new.log }
         ensures valid { IsSequencer self.new }
     {
         let key = Key { client, request };

@@ -70,7 +70,7 @@ module _ (opening : List ℤ) (log : List Op) where
       ∙ elim (cases_lt k (length base_replies)) [
         | inl lt ↦
             ap (λ b. if b then slice_get base_replies (suc k - 1)
-                else option_and_then finished_reply (slice_get board.states (suc k - 1 - length base_replies)))
+            else option_and_then finished_reply (slice_get board.states (suc k - 1 - length base_replies)))
             (le-leb (suc k) (length base_replies) (omega (arith, lt)))
             ∙ ap (slice_get base_replies) pred ∙ earlier_reply board k lt consistent.base_replies
             ∙ ap (reply_if_done (reply_by_log declared_cowns effect_of opening log (suc k))) (sym (stage_before board k lt))
@@ -80,7 +80,7 @@ module _ (opening : List ℤ) (log : List Op) where
             let base = consistent.base in
             let here : length consistent.before + (k - length base_replies) ≡ k = omega (arith, past, base) in
             ap (λ b. if b then slice_get base_replies (suc k - 1)
-                else option_and_then finished_reply (slice_get board.states (suc k - 1 - length base_replies)))
+            else option_and_then finished_reply (slice_get board.states (suc k - 1 - length base_replies)))
             (lt-leb (suc k) (length base_replies) (omega (arith, past)))
             ∙ ap (λ p. option_and_then finished_reply (slice_get board.states p)) place
             ∙ in_place board k (omega (arith, past)) (slice_get board.states (k - length base_replies)) refl

@@ -80,7 +80,7 @@ storing bank r old new stored n moved is beside board size stages held slot k e 
       e ∙ ap (λ x. (record (machine_node old) { stored = x; cut = new.board.cut }, n)) (sym k)
       ∙ ap (λ s. (record (machine_node old) { stages = s; stored = slot_length new.store.slot; cut = new.board.cut }, n)) (sym stages)
       ∙ ap (λ h.
-          (record (machine_node old) { stages = stages_of new.board; stored = slot_length new.store.slot; cut = new.board.cut; held = map is_some h }, n))
+      (record (machine_node old) { stages = stages_of new.board; stored = slot_length new.store.slot; cut = new.board.cut; held = map is_some h }, n))
       (sym held);
 }
 
@@ -184,7 +184,7 @@ marks_well bank r old end new size is s puts =
     storing bank r old new size (note.Marked size) (mark_move (machine_node old) end) is
     (beside_stays old.replica end (Ok tt) new puts)
     (subst (IsBoardOfLog (contents_of bank.opening) (ops_of bank)) (sym board)
-        (along_uncut (contents_of bank.opening) (ops_of bank) old.replica.board is.board))
+    (along_uncut (contents_of bank.opening) (ops_of bank) old.replica.board is.board))
     (ap length_of board) (ap stages_of board) (ap (λ x. x.held) puts.stays)
     (subst (IsStoredOfLog bank) (sym slot) (kept_now bank r old end (Ok tt) new is puts))
     (ap slot_length slot ∙ kept_length bank r old end (Ok tt) new is puts ∙ sym s)
@@ -279,7 +279,7 @@ pub begins_on : (bank : BankOf) (r : ℕ) (old : Node) (new : ReplicaOf MemorySt
     (noted : ℕ → Note) (moved : NodeOf × Note) → IsNodeAt bank r old → IsStoredOfLog bank slot
     → IsBoardOn old.replica.opening (origin_of old.replica) slot new.board → size ≡ length_of new.board → KeepsBeside old.replica new
     → new.held ≡ empty_held → new.store.slot ≡ old.replica.store.slot → moved
-        ≡ (restart_at (machine_node old) (slot_length slot), noted (slot_length slot)) → MovesTo bank r (record old { replica = new }) (noted size) moved
+    ≡ (restart_at (machine_node old) (slot_length slot), noted (slot_length slot)) → MovesTo bank r (record old { replica = new }) (noted size) moved
 begins_on bank r old new slot size noted moved is consistent on size_is beside held store e =
     let made = consistent.checkpoint in
     let read = on.checkpoint in
@@ -294,12 +294,17 @@ begins_on bank r old new slot size noted moved is consistent on size_is beside h
     record {
       consistent = node_stored bank r old new is beside
           (subst (IsBoardOfLog (contents_of bank.opening) (ops_of bank)) (sym board)
-              (along_opened (contents_of bank.opening) (ops_of bank) made consistent.consistent))
+          (along_opened (contents_of bank.opening) (ops_of bank) made consistent.consistent))
           (none_along (ops_of bank) (length_of new.board) new.held held)
           (subst (IsStoredOfLog bank) (sym store) is.stored);
       move_is = e ∙ (λ j. (
-        record (machine_node old) { stages = stages j; stored = slot_length (sym store j); cut =
-            sym (ap (λ b. b.cut) board) j; held = sym (none_seen new.held held) j },
+        record (machine_node old) {
+          stages = stages j;
+          stored = slot_length (sym store j);
+          cut =
+              sym (ap (λ b. b.cut) board) j;
+          held = sym (none_seen new.held held) j;
+        },
         noted ((stored ∙ sym length_is) j),
       ));
     }

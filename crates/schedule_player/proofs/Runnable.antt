@@ -82,7 +82,7 @@ call_at_place bank board consistent k lt =
     ∙ ap (λ n. slice_get (consistent.before ++ (board.log ++ consistent.later)) (n + k)) (sym consistent.base)
     ∙ at_in_part declared_cowns effect_of consistent.before board.log consistent.later k lt in
     let mapped : slice_get (ops_of bank) (length board.base_replies + k)
-        ≡ option_map (op_of bank.names) (slice_get bank.calls (length board.base_replies + k)) =
+    ≡ option_map (op_of bank.names) (slice_get bank.calls (length board.base_replies + k)) =
     slice_get-map (op_of bank.names) bank.calls (length board.base_replies + k) in
     by (slice_get bank.calls (length board.base_replies + k)) refl (sym here ∙ mapped)
   where

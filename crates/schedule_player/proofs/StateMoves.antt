@@ -185,4 +185,4 @@ pub adopts_wanting : (old : Node) (place : ℕ) (bytes : List ℕ) → nth_item 
     → may_take_memory (adopt_move (machine_node old) place).1 ≡ true
 adopts_wanting old place bytes here =
     ap (λ state. may_take_memory (state_move (machine_node old) state).1) (state_seen old place bytes here)
-        ∙ adopts_so (machine_node old) (stated_reply_count bytes)
+    ∙ adopts_so (machine_node old) (stated_reply_count bytes)

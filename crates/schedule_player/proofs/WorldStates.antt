@@ -34,7 +34,7 @@ pub received : (names : List (List ℕ)) (opening : Balances) (s : SequencerOf) 
     (result : Result Note StepFault) → world_of names opening s nodes ≡ now → IsWorld names opening s nodes → r < length now.nodes
     → old ≡ slice_index_or nodes r old → IsStateOfLog (bank_of now) bytes
     → ((bank : BankOf) (q : ℕ) → IsNodeAt bank q old → IsStateOfLog bank bytes
-        → Steps bank q old new result (receive_move (machine_node old) (stated_reply_count bytes)))
+    → Steps bank q old new result (receive_move (machine_node old) (stated_reply_count bytes)))
     → Stepped names opening s nodes r new (λ node. receive_move node (stated_reply_count bytes)) result
 received names opening s nodes now r old new bytes result view is within at state goes =
     let size = ap (λ w. length w.nodes) view in

@@ -77,7 +77,7 @@ module _ (names : List (List ℕ)) (opening : Balances) (s : SequencerOf) (nodes
 
   pub steps : (r : ℕ) (old new : Node) (move : NodeOf → NodeOf × Note) (result : Result Note StepFault) → IsWorld names opening s nodes
       → slice_get nodes r ≡ Some old → (OutIsInHands (machine_node old) → OutIsInHands (move (machine_node old)).0)
-          → Steps (bank_with names opening s.log) r old new result (move (machine_node old))
+      → Steps (bank_with names opening s.log) r old new result (move (machine_node old))
       → Stepped r new move result
   steps r old new move (Ok n) is here keeps arrives = record {
     is = world_with r new is arrives.consistent (subst (λ m. OutIsInHands m.0) arrives.move_is (keeps (is.out_in_hands r old here)));

@@ -70,7 +70,7 @@ with_accepted node = record node { stages = node.stages ++ Waits ∷ []; held = 
 abbrev pub next_entry_move : NodeOf → ℕ → NodeOf × Note
 next_entry_move node number =
     if undone_in node == OPEN_BEHAVIOURS then (node, note.Busy (length_in node))
-        else (with_accepted node, note.Accepted number)
+    else (with_accepted node, note.Accepted number)
 
 -- the first case that holds decides
 abbrev pub entry_move : NodeOf → ℕ → NodeOf × Note

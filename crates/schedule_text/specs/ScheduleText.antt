@@ -27,7 +27,7 @@ pub record ScheduleOf : Type 0 where
 abbrev pub head_with : Option ℕ → Option ℕ → Option (ℕ × ℕ)
 head_with (Some nodes) (Some workers) =
     if nat_le 1 nodes && nat_le nodes REPLICAS && nat_le 1 workers && nat_le workers WORKERS
-        then Some (nodes, workers) else None
+    then Some (nodes, workers) else None
 head_with (Some nodes) None = None
 head_with None workers = None
 

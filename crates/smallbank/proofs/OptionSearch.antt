@@ -29,7 +29,7 @@ module _ {A : Type 0} where
       → HasValue option value (map string_bytes others) → HasValue option value (map string_bytes rest)
   later_word option value word rest others first stands =
       subst (λ ws. HasValue option value ws) (sym (texts word rest others first))
-          (stands-later (string_bytes word) option value (map string_bytes others) stands)
+      (stands-later (string_bytes word) option value (map string_bytes others) stands)
 
   pub only_later : (option value : Text) (word : String A) (rest others : List (String A)) → rest ≡ word ∷ others
       → string_bytes word ≢ option → string_bytes word ≢ option ++ (61 ∷ value)

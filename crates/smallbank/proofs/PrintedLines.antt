@@ -60,7 +60,7 @@ module _ {T : Type 0} (sends : T → Option (List ℕ)) where
   -- a client was let in and heard, and its session is printed
   pub one_session : {E : Type 0} (number : ℕ) (client : T) (coming left : Option (List T)) (before mid after : Log) (end : End) (a b : Option (List ℕ))
       (done : Result (Unit {0}) E) → AcceptsNext client coming left → IfSome (sends client) (λ sent. IsSession before sent end mid)
-          → after ≡ mid → ServerContinues end
+      → after ≡ mid → ServerContinues end
       → OnOk done (PrintsLines (session_line number end ∷ []) a b) → OnOk done (ServesNext sends number coming left before after a b)
   one_session number client coming left before mid after end a b (Ok done) came heard same goes printed = record {
     end = end;

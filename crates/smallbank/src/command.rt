@@ -35,7 +35,7 @@ prints, once a client has deposited 1.00 for alice
   total 151.00";
 
 /// The command whose grammar the program's words follow.
-pub fn command<'a>(alloc: Global) -> Result<Command<'a>, AllocError> {
+pub(crate) fn command<'a>(alloc: Global) -> Result<Command<'a>, AllocError> {
     let run = run(alloc)?;
     let bank = Command::new(alloc, "smallbank")
         .version(VERSION)

@@ -46,7 +46,7 @@ where
 
     ghost does = { λ server nodes workers keeps answer. IfOk answer (λ bank. ServesByPlan D.Stream.remaining S.model
         server.plan (D.coming server.listener) server.primary bank.primary
-            (W.contents server.writer) (W.contents bank.writer))
+        (W.contents server.writer) (W.contents bank.writer))
         × IfErr answer (IsServingFault nodes server.plan.saves) };
 
     // Serves the bank, and prints its whole output.

@@ -19,7 +19,7 @@ const NOTHING: &str = "0.00 0.00";
 
 /// A replica at its opening adopts a state of the greatest size this often. The result is the
 /// length of its log, and the total of all balances.
-pub fn adopt(clock: &impl Clock, alloc: Global, count: u32) -> Result<BenchResult, Fault> {
+pub(crate) fn adopt(clock: &impl Clock, alloc: Global, count: u32) -> Result<BenchResult, Fault> {
     let (bytes, _) = written(alloc)?;
     let mut replica = open_replica(alloc, CUSTOMERS as u32, BALANCES)?;
     let mut time = Duration::ZERO;
@@ -42,7 +42,7 @@ fn adopt_once(
 }
 
 /// The same checkpoint is read and a board opened on it, this often. The result is the same.
-pub fn open(clock: &impl Clock, alloc: Global, count: u32) -> Result<BenchResult, Fault> {
+pub(crate) fn open(clock: &impl Clock, alloc: Global, count: u32) -> Result<BenchResult, Fault> {
     let (bytes, opening_total) = written(alloc)?;
     let mut last = BenchResult {
         length: 0,
@@ -86,7 +86,11 @@ fn board_on(alloc: Global, bytes: &[u8], opening_total: i64) -> Result<Box<Board
 
 /// A replica that was away adopts the state of one that wasn't. The result is the length of its
 /// log, and the total of all balances.
-pub fn by_state(clock: &impl Clock, alloc: Global, absence: Absence) -> Result<BenchResult, Fault> {
+pub(crate) fn by_state(
+    clock: &impl Clock,
+    alloc: Global,
+    absence: Absence,
+) -> Result<BenchResult, Fault> {
     let state = state_after(alloc, absence)?;
     let mut replica = replica_before(alloc, absence)?;
     let time = adopt_once(clock, &mut replica, &state)?;
@@ -94,7 +98,7 @@ pub fn by_state(clock: &impl Clock, alloc: Global, absence: Absence) -> Result<B
 }
 
 /// It receives the entries that it missed, and executes them. The result is the same.
-pub fn by_entries(
+pub(crate) fn by_entries(
     clock: &impl Clock,
     alloc: Global,
     absence: Absence,

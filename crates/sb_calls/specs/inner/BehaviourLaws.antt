@@ -189,9 +189,9 @@ on_two_in_range a b effect h (v ∷ w ∷ x ∷ more) allowed = absurd allowed.1
 
 on_three_in_range : (a b c : ℕ) (effect : ℤ → ℤ → ℤ → Reply × List ℤ)
     → ((v w x : ℤ) → IsCownValue a v → IsCownValue b w → IsCownValue c x
-        → AreCownValues (a ∷ b ∷ c ∷ []) (effect v w x).1)
+    → AreCownValues (a ∷ b ∷ c ∷ []) (effect v w x).1)
     → (inputs : List ℤ) → AreCownValues (a ∷ b ∷ c ∷ []) inputs
-        → AreCownValues (a ∷ b ∷ c ∷ []) (on_three_values effect inputs).1
+    → AreCownValues (a ∷ b ∷ c ∷ []) (on_three_values effect inputs).1
 on_three_in_range a b c effect h [] allowed = absurd allowed
 on_three_in_range a b c effect h (v ∷ []) allowed = absurd allowed.1
 on_three_in_range a b c effect h (v ∷ w ∷ []) allowed = absurd allowed.1.1
@@ -316,10 +316,10 @@ amalgamation_in_range from to inputs = by (from == to) (nat_lt from to)
   where
     by : (one before : Bool)
         → AreCownValues (if one then [] else if before
-            then savings_cown from ∷ checking_cown from ∷ checking_cown to ∷ []
+        then savings_cown from ∷ checking_cown from ∷ checking_cown to ∷ []
         else checking_cown to ∷ savings_cown from ∷ checking_cown from ∷ []) inputs
         → AreCownValues (if one then [] else if before
-            then savings_cown from ∷ checking_cown from ∷ checking_cown to ∷ []
+        then savings_cown from ∷ checking_cown from ∷ checking_cown to ∷ []
         else checking_cown to ∷ savings_cown from ∷ checking_cown from ∷ [])
         (if one then (replies.SameCustomer, inputs) else if before then on_three_values giver_first_effect inputs
         else on_three_values taker_first_effect inputs).1
@@ -363,7 +363,7 @@ payment_in_range : (from to : ℕ) (amount checking received : ℤ) → IsCownVa
     × IsCownValue (checking_cown to) (payment amount checking received).2
 payment_in_range from to amount checking received c r =
     in_each_payment (λ after. IsCownValue (checking_cown from) after.1
-        × IsCownValue (checking_cown to) after.2) amount checking
+    × IsCownValue (checking_cown to) after.2) amount checking
     received (λ below. (c, r)) (λ ge poor. (c, r)) (λ ge enough past. (c, r)) (λ ge enough le. (
       checking_in_range from (checking -ℤ amount)
           (record {
@@ -403,7 +403,7 @@ effect_in_range (TransactSavings place amount) inputs allowed =
 effect_in_range (Amalgamate places) inputs allowed = amalgamation_in_range places.0 places.1 inputs allowed
 effect_in_range (WriteCheck place amount) inputs allowed =
     on_two_in_range (savings_cown place) (checking_cown place) (check_effect amount)
-        (check_in_range place amount) inputs allowed
+    (check_in_range place amount) inputs allowed
 effect_in_range (SendPayment places amount) inputs allowed = ordered_in_range places.0 places.1 amount inputs allowed
 effect_in_range NoCustomer inputs allowed = allowed
 effect_in_range SameCustomer inputs allowed = allowed

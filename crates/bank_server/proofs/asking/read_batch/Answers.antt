@@ -19,7 +19,7 @@ returns-in-Err-clause-read c first before at =
     let old = c.loop-taken.batch in
     let so_far : List AskLine = before ++ old.items in
     let met = fault_is_asked _ (ask_line_of c.in-Some.line.now) c.push_ask.result old.items c.push_ask.new.asks.items
-        c.in-Err.fault c.push_ask.ensures.pushed c.in-Err.is in
+    c.in-Err.fault c.push_ask.ensures.pushed c.in-Err.is in
     let fault = asks_from-fault first so_far c.in-Some.line.now (lines c.in-Some.rest.now) c.in-Err.fault met.0 in
     let count = length-append before old.items in
     let same : length c.push_ask.new.asks.items ≡ length old.items = ap (λ batch. length batch.items) met.1 in

@@ -62,5 +62,5 @@ returns-in-Err-Bad-clause-stops g c =
     let at = session_state_of loop.primary.log loop.buffers (g.W.Write.contents loop.writer) in
     let why = (c.in-Err-Bad.ensures.fault (Bad c.in-Err-Bad.fault)).0 (ap Err c.in-Err-Bad.field-0-is) in
     bad_stops (opening_rows_of c.args.primary.now) old at at c.args.buffers.now.stream.unread
-        loop.buffers.stream.unread c.in-Err-Bad.fault loop.invariant.handles
+    loop.buffers.stream.unread c.in-Err-Bad.fault loop.invariant.handles
     why.1 why.2 refl

@@ -30,7 +30,7 @@ loop-number-preserved g c =
     ap (λ (ns : List (List ℕ)). op_of ns call) (sym (c.directory.ensures ∙ ap (λ (b : RestOf _). b.names) kept.beside)) ∙ sym c.resolve-op.ensures.value in
     let next : suc (length so_far) ≡ c.loop-number.number = omega (arith, kept.count) in
     let at : call_of_number log (suc (length so_far)) ≡ Some call =
-        ap (call_of_number log) next ∙ sym c.call.ensures ∙ ap option_copied c.unwrap-call.ensures in
+    ap (call_of_number log) next ∙ sym c.call.ensures ∙ ap option_copied c.unwrap-call.ensures in
     let here : slice_get (log_ops names log) (length so_far) ≡ Some op = op_here (op_of names) log (length so_far) call at ∙ ap Some looked_up in
     let more = one_more_op (log_ops names log) so_far kept.behind.begins.0 op kept.behind.begins.1 here in
     record {

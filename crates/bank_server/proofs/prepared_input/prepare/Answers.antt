@@ -19,7 +19,7 @@ returns c =
     let asked : LinesGiveStandings (asks_from (length opening.names + 2) [] (lines (drop opening.consumed input))) log standings =
     subst (λ (n : ℕ). LinesGiveStandings (asks_from (n + 2) [] (lines (drop opening.consumed input))) log standings) c.len-first_line.ensures.value
     (subst (λ (text : List ℕ). LinesGiveStandings (asks_from (c.len-first_line.result + 2) [] (lines text)) log standings)
-        rest c.in_ok-standings.ensures.asked) in
+    rest c.in_ok-standings.ensures.asked) in
     prepared_at input (record { primary = c.ask_lines.new.primary; standings = c.in_ok-standings.standings }) c.in-Ok.opening c.new-store.result
     (c.ask_lines.ensures.node ∙ c.in_ok-primary.ensures.node) c.in-Ok.opening.same_customers
     (asked_stand _ log standings c.in_ok-standings.ensures.asked) (output_is input opening log standings c.in-Ok.ensures.exact asked)

@@ -90,7 +90,7 @@ returns-in-Ok-eq0-clause-cut_short g c =
     let same : new ≡ at =
     ap (λ (l : List (Key × Call)). session_state_of l c.loop.buffers (g.W.Write.contents c.loop.writer)) c.end.ensures.log in
     if_err c.end.result
-        (λ fault is_end. of_whole (λ input. ServesUntilFault (opening_rows_of old) old.log new.log start at.written input fault) given left kept.bytes
+    (λ fault is_end. of_whole (λ input. ServesUntilFault (opening_rows_of old) old.log new.log start at.written input fault) given left kept.bytes
     read end (λ input is. ended (opening_rows_of old) old.log start kept.bytes [] input at c.loop.buffers.stream.unread new fault kept.heard
     (is ∙ sym (append-nil kept.bytes)) (end_at fault c.loop.buffers.stream kept.short is_end) (end_left fault c.loop.buffers.stream at new is_end same)))
     c.end.ensures.fault
@@ -119,7 +119,7 @@ returns-in_err-handle_bytes-in-Ok-clause-cut_short g c =
     rw (p.1, p.2) (of_front (λ input. ServesUntilFault (opening_rows_of old) old.log new.log start new.written input fault) given left (kept.bytes ++ chunk)
     (consumes_more given (g.R.Read.remaining c.loop.reader) left kept.bytes chunk kept.read c.in-Ok.ensures.bytes.0)
     (λ input behind is.
-        stopped (opening_rows_of old) old.log start kept.bytes chunk behind input at c.loop.buffers.stream.unread new fault kept.heard stops is))
+    stopped (opening_rows_of old) old.log start kept.bytes chunk behind input at c.loop.buffers.stream.unread new fault kept.heard stops is))
 
 pub returns-in_err-handle_bytes-in-Ok-clause-crew_lost : goal.returns-in_err-handle_bytes-in-Ok-clause-crew_lost
 returns-in_err-handle_bytes-in-Ok-clause-crew_lost g c =
@@ -136,7 +136,7 @@ returns-then-ne-clause-cut_short g c =
     let kept = c.loop.invariant in
     let at = session_state_of c.loop.primary.log c.loop.buffers (g.W.Write.contents c.loop.writer) in
     of_front (λ input. ServesUntilFault (opening_rows_of old) old.log at.log start at.written input Device) given
-        (g.R.Read.remaining c.loop.reader) kept.bytes kept.read
+    (g.R.Read.remaining c.loop.reader) kept.bytes kept.read
     (λ input behind is. ended (opening_rows_of old) old.log start kept.bytes behind input at c.loop.buffers.stream.unread at Device kept.heard is tt refl)
 
 pub returns-clause-cut_short : goal.returns-clause-cut_short
@@ -147,7 +147,7 @@ returns-clause-cut_short g c =
     let kept = c.loop.invariant in
     let at = session_state_of c.loop.primary.log c.loop.buffers (g.W.Write.contents c.loop.writer) in
     of_front (λ input. ServesUntilFault (opening_rows_of old) old.log at.log start at.written input Device) given
-        (g.R.Read.remaining c.loop.reader) kept.bytes kept.read
+    (g.R.Read.remaining c.loop.reader) kept.bytes kept.read
     (λ input behind is. ended (opening_rows_of old) old.log start kept.bytes behind input at c.loop.buffers.stream.unread at Device kept.heard is tt refl)
 
 pub loop-preserved : goal.loop-preserved
@@ -167,7 +167,7 @@ loop-preserved g c =
           let new = session_state_of w.handle_bytes.new.primary.log w.handle_bytes.new.buffers (g.W.Write.contents w.handle_bytes.new.writer) in
           let handles : HandlesBytes (opening_rows_of old) at (unread ++ chunk) new w.handle_bytes.new.buffers.stream.unread =
           subst (λ (rows : Rows). HandlesBytes rows at (unread ++ chunk) new w.handle_bytes.new.buffers.stream.unread)
-              (same_opening old c.loop.primary kept.bank)
+          (same_opening old c.loop.primary kept.bank)
           heard.handles in
           rw (w.writer-is, w.primary-is, w.buffers-is) (record {
             bytes = kept.bytes ++ chunk;

@@ -25,7 +25,7 @@ loop-preserved g c = elim c.match-read.branch [
   | in-Err+else-ne w ↦
       let before = c.loop.invariant in
       subst (λ (rest : Bor (List ℕ)).
-          GoesOn (g.R.Read.remaining c.args.reader.now) (g.R.Read.remaining c.read.new.self) c.args.bytes.now rest.now) (sym w.rest-is)
+      GoesOn (g.R.Read.remaining c.args.reader.now) (g.R.Read.remaining c.read.new.self) c.args.bytes.now rest.now) (sym w.rest-is)
       (stays (g.R.Read.remaining c.args.reader.now) (g.R.Read.remaining c.loop.reader) (g.R.Read.remaining c.read.new.self) c.args.bytes.now before.0
       c.loop.rest.now before.1 before.2 w.in-Err.ensures.bytes)
 ]

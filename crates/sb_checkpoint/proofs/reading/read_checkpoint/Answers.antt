@@ -34,7 +34,7 @@ returns-in_err-check_opening-clause-fault c =
     rw (p.1, p.2)
     (opening_refuses c.args.bytes.now origin layout head.layout head.fault _ c.in_ok-columns.ensures.fault
     (subst (λ t. IsFaultOf (opening_fault layout c.args.bytes.now t) c.in_err-check_opening.field-0.0)
-        (to_z-of_z w64 _ c.ranges.opening_total) c.in_err-check_opening.ensures))
+    (to_z-of_z w64 _ c.ranges.opening_total) c.in_err-check_opening.ensures))
 
 pub returns-in_err-replies-clause-fault : goal.returns-in_err-replies-clause-fault
 returns-in_err-replies-clause-fault c =

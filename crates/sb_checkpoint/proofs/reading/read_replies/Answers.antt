@@ -12,5 +12,8 @@ returns-then-count-gt-LOG_CALLS c =
 pub returns : goal.returns
 returns c =
     let read = c.in_ok-replies.ensures.replies ∙ c.reply_cells.ensures in
-    record { replies = read; fault =
-        replies_without_fault (layout_of c.args.layout) c.args.bytes.now c.in_ok-replies.replies.items read (omega arith) (omega arith) }
+    record {
+      replies = read;
+      fault =
+          replies_without_fault (layout_of c.args.layout) c.args.bytes.now c.in_ok-replies.replies.items read (omega arith) (omega arith);
+    }

@@ -37,7 +37,7 @@ returns-in_err-events c =
     rw (exit.1, exit.2)
     (events_refuse c.args.text.now _ head.exact _ (ap opening_of (sym head.after) ∙ c.in_ok-opening.ensures.exact) fault
     (subst (λ n. BlamesLine fault (in_events (events_from (n + 3) [] (lines (drop opening.consumed (after_line c.args.text.now))))))
-        c.len-first_line.ensures.value
+    c.len-first_line.ensures.value
     events))
 
 pub returns : goal.returns

@@ -26,5 +26,5 @@ returns-clause-opened g c =
     let same = opened_columns c.args.node.now.names board c.unwrap-columns.result.now c.requires.opened c.requires.customers settled.1 bank in
     subst (λ (b : Balances). IfOk c.open_followers.result (λ ready. All (IsAtOpening c.args.node.now.names b) ready.replicas)) same
     (subst (λ (names : List (List ℕ)).
-        IfOk c.open_followers.result (λ ready. All (IsAtOpening names c.unwrap-columns.result.now) ready.replicas)) c.directory.ensures
+    IfOk c.open_followers.result (λ ready. All (IsAtOpening names c.unwrap-columns.result.now) ready.replicas)) c.directory.ensures
     c.open_followers.ensures.opened)

@@ -160,7 +160,7 @@ invariant_of-self g c =
     (λ is. subst (λ cowns. ComesForward (fronts_of links.queues.lists cowns) c.self.inside.links.ready links.ready) declared (c.finish.ensures.forward is))
     c.finish.ensures.room c.update_cut.new.cut
     (subst (λ number.
-        UpdatesAnyCut number (touches c.args.done.behaviour) c.as_slice-3.result.now c.self.inside.cut c.update_cut.new.cut) c.number-number.ensures
+    UpdatesAnyCut number (touches c.args.done.behaviour) c.as_slice-3.result.now c.self.inside.cut c.update_cut.new.cut) c.number-number.ensures
     (subst (λ cowns. UpdatesAnyCut c.number-number.result cowns c.as_slice-3.result.now c.self.inside.cut c.update_cut.new.cut) fourth
     (subst (λ values. UpdatesAnyCut c.number-number.result c.as_slice-4.result.now values c.self.inside.cut c.update_cut.new.cut)
     (c.as_slice-5.ensures.value ∙ sym third) c.update_cut.ensures)))

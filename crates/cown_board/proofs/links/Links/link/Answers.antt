@@ -85,7 +85,7 @@ remove-requires g c =
     (omega (arith, c.loop-position-test.false, c.len-position-end.ensures, c.args.log.now.ok))
     (let last = c.loop-position.auto.position-end (omega (arith, c.requires.within, c.len-position-end.ensures, c.args.log.now.ok)) in
     omega (arith, last, c.len-position-end.ensures, c.args.log.now.ok))
-        (c.requires.unlinked.here c.requires.within) c.requires.unlinked.after before.queues before.counts)
+    (c.requires.unlinked.here c.requires.within) c.requires.unlinked.after before.queues before.counts)
 
 pub returns-clause-all_linked : goal.returns-clause-all_linked
 returns-clause-all_linked g c =
@@ -106,7 +106,7 @@ returns-clause-all_linked g c =
     elim c.if-not-waits.branch [
       | then-not-waits w ↦ rw w.self-is (all_but_first touches effect log states c.args.first cowns c.requires.cowns c.requires.beside c.requires.within
           c.requires.unlinked.before c.loop-position.position links
-              (record links { linked = true; ready = w.remove.new.self }) all ends open_here c.requires.unlinked.after
+          (record links { linked = true; ready = w.remove.new.self }) all ends open_here c.requires.unlinked.after
           before.queues before.counts (first ∙ w.if-not-waits.true) refl (ap (λ b. b.items) w.remove.ensures.behind) w.remove.ensures.ready)
       | else-not-waits w ↦ rw w.self-is (all_wait touches effect log states c.args.first cowns c.requires.cowns c.requires.beside c.requires.within
           c.requires.unlinked.before c.loop-position.position (record links { linked = true }) links all ends open_here c.requires.unlinked.after

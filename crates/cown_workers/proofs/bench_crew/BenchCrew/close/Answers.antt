@@ -27,4 +27,4 @@ returns g c =
     let (workers, items, benches, stopped) = c.join-workers.ensures in
     shuts_down _ _ _ _ _ _ workers _ _ c.self.view_is c.len.ensures c.stop_workers-owner.ensures items
     (as_many_alike _ _ c.self.inside.owner_side.pass.bench _ _ benches) c.close.ensures.split
-        c.close.ensures.weights c.self.invariant.5 stopped c.self.invariant.4
+    c.close.ensures.weights c.self.invariant.5 stopped c.self.invariant.4

@@ -11,8 +11,10 @@ use Rattle.sb_replica.proofs.replica.Replica.adopt.Goals as goal
 pub returns-in_err-checkpoint : goal.returns-in_err-checkpoint
 returns-in_err-checkpoint g c =
     let p = err_from_is_err_and c.from_residual.result c.from_residual.ensures.1 in
-    rw (p.1, p.2) (record { outcome =
-        (adopt_refusal (origin_of c.args.self.now) c.args.bytes.now c.in_err-checkpoint.field-0.0 c.in_err-checkpoint.ensures.fault, refl) })
+    rw (p.1, p.2) (record {
+      outcome =
+          (adopt_refusal (origin_of c.args.self.now) c.args.bytes.now c.in_err-checkpoint.field-0.0 c.in_err-checkpoint.ensures.fault, refl);
+    })
 
 pub returns-in_err-log_on : goal.returns-in_err-log_on
 returns-in_err-log_on g c =

@@ -65,5 +65,5 @@ returns g c =
     subst (SpellsInLayout Second (origin_of c.args.self.now).opening_total (record { columns = c.args.columns.now; replies = held }))
     (sym (c.finish.ensures ∙ c.loop-place.invariant.bytes ∙ ap (λ xs. c.in_ok-draft.draft.bytes ++ flat_map reply_field xs) whole))
     (subst (λ t. SpellsInLayout Second t (record { columns = c.args.columns.now; replies = held })
-        (c.in_ok-draft.draft.bytes ++ flat_map reply_field held)) opening
+    (c.in_ok-draft.draft.bytes ++ flat_map reply_field held)) opening
     (c.in_ok-draft.ensures.begins held size (subst (All IsReply) whole c.loop-place.invariant.valid)))

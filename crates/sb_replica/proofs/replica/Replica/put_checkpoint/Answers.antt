@@ -56,4 +56,4 @@ returns-in-Ok-put-clause-busy g c = (λ e. absurd cc, λ some. absurd (some c.in
 pub returns-in-Ok-put-clause-played : goal.returns-in-Ok-put-clause-played
 returns-in-Ok-put-clause-played g c =
     subst (λ (r : ReplicaOf g.row.S.Denot). StaysTrueToLog declared_cowns effect_of r.board CutDropped c.drop_cut.new.self.board)
-        c.self.view_is c.drop_cut.ensures.played
+    c.self.view_is c.drop_cut.ensures.played

@@ -58,7 +58,7 @@ returns g c =
       | in-Ok w ↦
           (subst heard (sym (w.result-is ∙ w.batch_end.ensures))
           (batch_heard old new log from rest batch c.look_up-end.result limit looked.looks_up looked.batch_is_full
-              looked.batch_is_short looked.consumes_bytes some room
+          looked.batch_is_short looked.consumes_bytes some room
           (w.in-Ok.ensures ∙ ap (after_batch inside.log) all) refl))
       | in-Err w ↦
           (subst heard (sym w.result-is)

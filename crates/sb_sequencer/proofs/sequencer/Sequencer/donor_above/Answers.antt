@@ -18,7 +18,7 @@ loop-position-preserved c =
       | then-other-replica+then-size-most w ↦
           let there : slice_get sizes before ≡ Some size = slice_get-get_or sizes before 0 c.loop-position-test.true in
           let better =
-              donor_with_more sizes replica c.args.length before most c.loop-position.donor c.loop-position.invariant size w.if-other-replica.true there
+          donor_with_more sizes replica c.args.length before most c.loop-position.donor c.loop-position.invariant size w.if-other-replica.true there
           w.if-size-most.true in
           donor_is sizes replica c.args.length _ _ _ _ _ better w.most-is w.donor-is
       | else-other-replica w ↦

@@ -8,6 +8,6 @@ returns-clause-state c =
     let s = c.self.inside in
     answered_state s.log s.recorded.items s.checkpoints.items s.answers.items c.in-Some.index c.args.number c.args.reply
     c.self.invariant.answers (omega (arith, c.len.ensures, c.if-index-len.false))
-        (omega (arith, c.in-Some.ensures.0, c.in-Some.ensures.1)) c.store_answer.result
+    (omega (arith, c.in-Some.ensures.0, c.in-Some.ensures.1)) c.store_answer.result
     c.store_answer.new.answers.items c.store_answer.ensures.items
     ∙ ap (λ s. after_answer s c.args.number c.args.reply c.store_answer.result) c.self.view_is

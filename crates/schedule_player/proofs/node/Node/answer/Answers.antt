@@ -16,6 +16,6 @@ pub returns-in_err-position : goal.returns-in_err-position
 returns-in_err-position c bank r is =
     let old = c.args.self.now in
     let fails =
-        node_fails bank r old (record old { outbound = c.send.new.self }) is (ap (λ frames. record old { outbound = frames }) c.in_err-position.ensures.err)
+    node_fails bank r old (record old { outbound = c.send.new.self }) is (ap (λ frames. record old { outbound = frames }) c.in_err-position.ensures.err)
     (answers_wanting bank r old c.args.number c.in-Some.frame is c.in-Some.ensures) in
     search (rules, fails)

@@ -11,5 +11,5 @@ returns c names opening r lt is =
     let old = c.args.self.now in
     let entries : c.resend-entries.result.items ≡ entries_to_resend s c.args.replica = c.resend-entries.ensures ∙ ap (entries_to_resend s) c.in-Ok.ensures.1 in
     sends_all (bank_with names opening s.log) r old c.send_all.new.self (entries_to_resend s c.args.replica) c.len.result is
-        (resent_are names opening s c.args.replica)
+    (resent_are names opening s c.args.replica)
     (c.in_ok-send_all.ensures.sent ∙ ap (λ es. old.inbound ++ es) (c.deref.ensures.0 ∙ entries)) (c.len.ensures.value ∙ ap length entries)

@@ -50,7 +50,7 @@ pub returns-in_default-clause-value : goal.returns-in_default-clause-value
 returns-in_default-clause-value c one other seen_one seen_other =
     let looks = (goal.at.returns-in_default-clause-value c).After-index-2 in
     busy_first (bank_of c.args.self.now) c.args.first c.args.second c.index.result.now c.index-2.result.now
-        (look_one looks).consistent (look_other looks).consistent
+    (look_one looks).consistent (look_other looks).consistent
     c.in_default.ensures.value ∙ as_seen looks one other seen_one seen_other
 
 pub returns-in_default-final_columns-clause-value : goal.returns-in_default-final_columns-clause-value

@@ -10,7 +10,7 @@ use Rattle.schedule_player.proofs.world.World.receive.Goals as goal
 -- the replica moves, and so the world does
 stepped : (c : goal.After-self-1) → let w = c.self.inside in
     Stepped w.directory w.opening w.sequencer w.nodes.items c.args.replica c.receive.new.self
-        (λ node. receive_move node (stated_reply_count c.args.bytes.items))
+    (λ node. receive_move node (stated_reply_count c.args.bytes.items))
     c.receive.result
 stepped c =
     let w = c.self.inside in

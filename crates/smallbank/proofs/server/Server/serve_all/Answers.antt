@@ -23,7 +23,7 @@ loop-before-preserved g c =
       served = next_session g.D.Stream.Read.remaining c.loop-before.before (g.D.ClientListener.coming c.args.self.now.listener)
           (g.D.ClientListener.coming c.loop-before.self.listener)
           (g.D.ClientListener.coming c.serve_next.new.self.listener) c.args.self.now.primary.log
-              c.loop-before.self.primary.log c.serve_next.new.self.primary.log
+          c.loop-before.self.primary.log c.serve_next.new.self.primary.log
           (g.W.Write.contents c.args.self.now.writer) (g.W.Write.contents c.loop-before.self.writer) (g.W.Write.contents c.serve_next.new.self.writer)
           kept.served next.served;
       within = omega (arith, c.loop-before-test.true);
