@@ -1,41 +1,19 @@
 //! `smallbank`: a bank store whose output is a stated function of its input.
 #![tactic(auto)]
 
-ghost use Rattle.smallbank.specs.Words.{InRange};
+ghost use Rattle.bank_program.specs.Words.{InRange};
 
+use bank_program::{ProgramFault, Words, read_words, refuse_bytes, serve_program, told};
 use bank_server::{RunFault, run_text};
 use clap::error::ErrorKind;
 use cown_workers::OpenGate;
-use fault::ProgramFault;
-use report::told;
 use schedule_player::run_schedule;
-use serve_program::serve_program;
 use std::net::Net;
 use std::process::ExitCode;
 use std::sync::Wait;
 use std::thread::Threads;
 use std::time::Clock;
 use std::{env, io};
-use words::{Words, read_words, refuse_bytes};
-
-mod client;
-pub mod command;
-pub mod fault;
-mod hanging_up;
-pub mod listener;
-pub mod listening;
-pub mod opening;
-pub mod options;
-mod printing;
-pub mod report;
-pub mod serve_fault;
-pub mod serve_program;
-mod server;
-pub mod serving;
-mod session_end;
-#[cfg(test)]
-mod tests;
-pub mod words;
 
 fn main(rt: HostRuntime) -> ExitCode {
     let status = match start(&rt, &rt) {

@@ -30,8 +30,10 @@ with_pass_split known = record known { parts = known.parts - 1 }
 
 -- the owner's view after it took a worker's pass in
 abbrev pub with_pass_absorbed : PassHistory → PassHistory → PassHistory
-with_pass_absorbed known other =
-    record known { parts = known.parts + other.parts; absorbed = known.absorbed ++ other.picked ∷ [] }
+with_pass_absorbed known other = record known {
+  parts = known.parts + other.parts;
+  absorbed = known.absorbed ++ other.picked ∷ [];
+}
 
 -- the owner's pass as contracts see it
 abbrev pub owner_of : Pass WorkOf PassHistory → OwnerOf

@@ -1,0 +1,36 @@
+use Rattle.std.proofs.Common.{refl, subst, ◌∙◌, arith}
+use Rattle.bank_program.specs.ServedBank.{IsBankAfter}
+use Rattle.bank_program.specs.declared.serving.Plan.{Plan}
+use Rattle.bank_program.proofs.BankAfter.{left_after_next, left_at_first}
+use Rattle.bank_program.proofs.PrintedLines.{no_sessions, next_session}
+use Rattle.bank_program.proofs.server.Server.serve_all.Goals as goal
+
+pub loop-before-init : goal.loop-before-init
+loop-before-init g c = record {
+  served = no_sessions g.D.Stream.Read.remaining (g.D.ClientListener.coming c.args.self.now.listener) c.args.self.now.primary.log
+      (g.W.Write.contents c.args.self.now.writer);
+  within = omega arith;
+  left = left_at_first g.S.CheckpointStore.model c.args.self.now.plan.saves c.args.self.now.primary c.requires.one_each c.requires.whole_log;
+  plan = refl;
+  nodes = refl;
+}
+
+pub loop-before-preserved : goal.loop-before-preserved
+loop-before-preserved g c =
+    let kept = c.loop-before.invariant in
+    let next = c.in_ok-serve_next.ensures in
+    record {
+      served = next_session g.D.Stream.Read.remaining c.loop-before.before (g.D.ClientListener.coming c.args.self.now.listener)
+          (g.D.ClientListener.coming c.loop-before.self.listener)
+          (g.D.ClientListener.coming c.serve_next.new.self.listener) c.args.self.now.primary.log
+          c.loop-before.self.primary.log c.serve_next.new.self.primary.log
+          (g.W.Write.contents c.args.self.now.writer) (g.W.Write.contents c.loop-before.self.writer) (g.W.Write.contents c.serve_next.new.self.writer)
+          kept.served next.served;
+      within = omega (arith, c.loop-before-test.true);
+      left = left_after_next g.S.CheckpointStore.model c.args.self.now.plan.saves c.loop-before.before c.args.self.now.primary
+          c.loop-before.self.primary c.serve_next.new.self.primary kept.left
+          (subst (λ (plan : Plan). IsBankAfter g.S.CheckpointStore.model plan.saves 1 c.loop-before.self.primary c.serve_next.new.self.primary)
+          kept.plan next.bank_after);
+      plan = c.serve_next.ensures.plan ∙ kept.plan;
+      nodes = c.serve_next.ensures.nodes ∙ kept.nodes;
+    }

@@ -1,0 +1,9 @@
+pub mod Faults
+pub mod Opening
+pub mod ServeFaults
+pub mod ServeOutput
+pub mod ServedBank
+pub mod Sessions
+pub mod StoreAfter
+pub mod Words
+pub mod inner

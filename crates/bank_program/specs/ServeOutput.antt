@@ -1,0 +1,62 @@
+-- What a served bank prints.
+use Rattle.std.specs.Prelude.{◌≡◌, ℕ, ◌+◌, Option, Ok, Err, List, [], ◌∷◌, ◌++◌, length, decimal, codes}
+use Rattle.std.specs.List.{All}
+use Rattle.std.specs.Io.KnownBytes.{Appends}
+use Rattle.sb_rows.specs.Balances.{Balances}
+use Rattle.sb_rows.specs.Rows.{rows_of}
+use Rattle.sb_rows.specs.Text.{unlines}
+use Rattle.sb_calls.specs.Log.{rows_after}
+use Rattle.sb_calls.specs.declared.ask.Key.{Key}
+use Rattle.sb_calls.specs.declared.call.Call.{Call}
+use Rattle.sb_text.specs.Listing.{row_lines}
+use Rattle.sb_sequencer.specs.Numbering.{calls_of}
+use Rattle.bank_server.specs.SessionFaults.{session_fault_number}
+use Rattle.bank_server.specs.declared.session_fault.SessionFault.TheVariants.{Frame, Unexpected, CrewGone, Device, OutOfMemory}
+use Rattle.bank_program.specs.Sessions.{End, ServesFirst}
+
+-- a session that ended so lets the server go on
+abbrev pub ServerContinues : End → Type 0
+ServerContinues (Ok done) = Unit {0}
+ServerContinues (Err (Frame fault)) = Unit {0}
+ServerContinues (Err Unexpected) = Unit {0}
+ServerContinues (Err CrewGone) = ⊥
+ServerContinues (Err Device) = Unit {0}
+ServerContinues (Err OutOfMemory) = ⊥
+
+-- `ok`, or `fault` and its number
+abbrev pub end_text : End → List ℕ
+end_text (Ok done) = codes " ok"
+end_text (Err fault) = codes " fault " ++ decimal (session_fault_number fault)
+
+-- `session`, its number, and how it ended
+abbrev pub session_line : ℕ → End → List ℕ
+session_line number end = codes "session " ++ decimal number ++ end_text end
+
+-- one line for each session; the first has this number
+unfoldable pub session_lines : ℕ → List End → List (List ℕ)
+session_lines first [] = []
+session_lines first (end ∷ ends) = session_line first end ∷ session_lines (first + 1) ends
+
+-- `listening 127.0.0.1:PORT`
+abbrev pub port_line : ℕ → List ℕ
+port_line port = codes "listening 127.0.0.1:" ++ decimal port
+
+-- these lines are printed
+abbrev pub PrintsLines : List (List ℕ) → Option (List ℕ) → Option (List ℕ) → Type 0
+PrintsLines lines old new = Appends old new (unlines lines)
+
+-- the rows after a log that is executed one by one, and their total
+abbrev pub end_lines : List (List ℕ) → Balances → List (Key × Call) → List (List ℕ)
+end_lines names opening log = row_lines names (rows_after (calls_of log) (rows_of names opening))
+
+-- a bank with this opening is served to this many of those who are coming, and has this log then.
+-- It prints its port, how each session ended, and the rows after the log, executed one by one
+pub record ServesBank {T : Type 0} (sends : T → Option (List ℕ)) (names : List (List ℕ)) (opening : Balances)
+    (count : ℕ) (coming : Option (List T)) (log : List (Key × Call)) (old new : Option (List ℕ)) : Type 0 where
+  pub port : ℕ
+  pub ends : List End
+  pub all : length ends ≡ count
+  pub go_on : All ServerContinues ends
+  pub left : Option (List T)
+  pub heard : ServesFirst sends coming left [] ends log
+  pub printed : PrintsLines (port_line port ∷ session_lines 1 ends ++ end_lines names opening log) old new

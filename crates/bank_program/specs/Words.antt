@@ -1,0 +1,101 @@
+-- The program's words; the first is its name.
+use Rattle.std.specs.Prelude.{◌≡◌, ◌≤◌, ◌⊎◌, ℕ, Option, Some, None, List, [], ◌∷◌, ◌++◌, String, codes, map, string_bytes, is_some, IfSome}
+use Rattle.std.specs.Borrow.{Bor}
+use Rattle.std.specs.Str.Parse.{IsNumeral, digits_value, without_leading_plus}
+use Rattle.clap.specs.declared.error.kind.ErrorKind.{ErrorKind}
+use Rattle.clap.specs.declared.error.kind.ErrorKind.TheVariants.{ValueValidation, OutOfMemory}
+use Rattle.cown_bench.specs.declared.bench.TheConstants.{WORKERS}
+use Rattle.sb_sequencer.specs.declared.sequencer.TheConstants.{REPLICAS}
+use Rattle.bank_program.specs.declared.serving.Plan.{Plan}
+use Rattle.bank_program.specs.declared.words.Words.{Words}
+use Rattle.bank_program.specs.declared.words.Words.TheVariants.{Run, Play, Serve}
+
+module _ {A : Type 0} where
+  -- the word after the name says which program, and without one it is `run`
+  abbrev pub NamesProgram : Words → List (String A) → Type 0
+  NamesProgram (Run nodes workers) [] = Unit {0}
+  NamesProgram (Run nodes workers) (name ∷ []) = Unit {0}
+  NamesProgram (Run nodes workers) (name ∷ program ∷ options) = string_bytes program ≡ codes "run"
+  NamesProgram Play [] = ⊥
+  NamesProgram Play (name ∷ []) = ⊥
+  NamesProgram Play (name ∷ program ∷ options) = string_bytes program ≡ codes "play"
+  NamesProgram (Serve port plan store) [] = ⊥
+  NamesProgram (Serve port plan store) (name ∷ []) = ⊥
+  NamesProgram (Serve port plan store) (name ∷ program ∷ options) = string_bytes program ≡ codes "serve"
+
+-- a plan has 1 to 1,000 sessions, 1 to REPLICAS nodes, 0 to WORKERS workers, and its patience, if
+-- it has one, is 1 second to a day
+abbrev pub IsPlanInRange : Plan → Type 0
+IsPlanInRange plan = (1 ≤ plan.sessions) × (plan.sessions ≤ 1000) × (1 ≤ plan.nodes) × (plan.nodes ≤ REPLICAS)
+    × (plan.workers ≤ WORKERS) × IfSome plan.patience (λ seconds. (1 ≤ seconds) × (seconds ≤ 86400))
+
+-- a run has 1 to REPLICAS nodes and 0 to WORKERS workers; a port is below 2^16; a served bank has a
+-- plan in range, and saves exactly if it has a store
+abbrev pub InRange : Words → Type 0
+InRange (Run nodes workers) = (1 ≤ nodes) × (nodes ≤ REPLICAS) × (workers ≤ WORKERS)
+InRange Play = Unit {0}
+InRange (Serve port plan store) = (port ≤ 65535) × IsPlanInRange plan × (plan.saves ≡ is_some store)
+
+-- the words are wrong, or memory was refused
+abbrev pub IsRefusal : ErrorKind → Type 0
+IsRefusal ValueValidation = Unit {0}
+IsRefusal OutOfMemory = Unit {0}
+IsRefusal other = ⊥
+
+-- an option has this value: it is the next word, or it follows `=` in the same word
+abbrev pub HasValue : List ℕ → List ℕ → List (List ℕ) → Type 0
+HasValue option value words = (before : List (List ℕ)) × (after : List (List ℕ))
+    × ((words ≡ before ++ (option ∷ value ∷ after)) ⊎ (words ≡ before ++ ((option ++ (61 ∷ value)) ∷ after)))
+
+-- the text is the number's digits, after an optional `+`
+abbrev pub IsIntegerText : List ℕ → ℕ → Type 0
+IsIntegerText text number = IsNumeral 10 (without_leading_plus text)
+    × (number ≡ digits_value 10 (without_leading_plus text))
+
+-- an option has this number
+abbrev pub HasInteger : List ℕ → ℕ → List (List ℕ) → Type 0
+HasInteger option number words = (text : List ℕ) × HasValue option text words × IsIntegerText text number
+
+-- an option has this number, or none if it has no value
+abbrev pub MayHaveInteger : List ℕ → Option ℕ → List (List ℕ) → Type 0
+MayHaveInteger option None words = (text : List ℕ) → ¬ (HasValue option text words)
+MayHaveInteger option (Some number) words = HasInteger option number words
+
+-- an option has this text, or none if it has no value
+abbrev pub MayHaveText : List ℕ → Option (Bor (List ℕ)) → List (List ℕ) → Type 0
+MayHaveText option None words = (text : List ℕ) → ¬ (HasValue option text words)
+MayHaveText option (Some text) words = HasValue option text.now words
+
+-- an option has this number, or this is the default and the option has no value
+abbrev pub HasIntegerOrDefault : List ℕ → ℕ → ℕ → List (List ℕ) → Type 0
+HasIntegerOrDefault option standard number words = HasInteger option number words
+    ⊎ ((number ≡ standard) × ((text : List ℕ) → ¬ (HasValue option text words)))
+
+module _ {A : Type 0} where
+  -- the numbers of nodes and workers that these words give, or the defaults 1 and 0
+  abbrev pub GivesCounts : ℕ → ℕ → List (String A) → Type 0
+  GivesCounts nodes workers words = HasIntegerOrDefault (codes "--nodes") 1 nodes (map string_bytes words)
+      × HasIntegerOrDefault (codes "--workers") 0 workers (map string_bytes words)
+
+  -- the numbers of sessions, nodes and workers that these words give, or the defaults 1, 1 and 0;
+  -- and the seconds of patience, if they give any
+  abbrev pub GivesPlan : Plan → List (String A) → Type 0
+  GivesPlan plan words = HasIntegerOrDefault (codes "--sessions") 1 plan.sessions (map string_bytes words)
+      × GivesCounts plan.nodes plan.workers words
+      × MayHaveInteger (codes "--patience") plan.patience (map string_bytes words)
+
+  -- the words give this port, this plan and this folder, if any
+  abbrev pub GivesServe : ℕ → Plan → Option (Bor (List ℕ)) → List (String A) → Type 0
+  GivesServe port plan store words = HasInteger (codes "--port") port (map string_bytes words)
+      × GivesPlan plan words × MayHaveText (codes "--store") store (map string_bytes words)
+
+  -- the words after `run` or `serve` give these values
+  abbrev pub GivesValues : Words → List (String A) → Type 0
+  GivesValues (Run nodes workers) [] = (nodes ≡ 1) × (workers ≡ 0)
+  GivesValues (Run nodes workers) (name ∷ []) = (nodes ≡ 1) × (workers ≡ 0)
+  GivesValues (Run nodes workers) (name ∷ program ∷ options) = GivesCounts nodes workers options
+  GivesValues Play words = Unit {0}
+  GivesValues (Serve port plan store) [] = ⊥
+  GivesValues (Serve port plan store) (name ∷ []) = ⊥
+  GivesValues (Serve port plan store) (name ∷ program ∷ options) =
+      GivesServe port plan store options

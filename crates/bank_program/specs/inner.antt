@@ -1,0 +1,3 @@
+pub mod ServeSteps
+pub mod StepFaults
+pub mod WordValues

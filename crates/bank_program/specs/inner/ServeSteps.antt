@@ -1,0 +1,34 @@
+-- The steps of serving a bank, and what each prints.
+use Rattle.std.specs.Prelude.{◌≡◌, ℕ, Option, List, [], ◌∷◌, length}
+use Rattle.std.specs.List.{All}
+use Rattle.sb_calls.specs.declared.ask.Key.{Key}
+use Rattle.sb_calls.specs.declared.call.Call.{Call}
+use Rattle.bank_server.specs.Primary.{PrimaryOf}
+use Rattle.bank_program.specs.Sessions.{End, ServesFirst}
+use Rattle.bank_program.specs.ServeOutput.{session_line, ServerContinues, PrintsLines, session_lines, end_lines, port_line}
+
+-- some port is printed
+abbrev pub PrintsPort : Option (List ℕ) → Option (List ℕ) → Type 0
+PrintsPort old new = (port : ℕ) × PrintsLines (port_line port ∷ []) old new
+
+module _ {T : Type 0} (sends : T → Option (List ℕ)) where
+  -- the next client is served, its session is printed, and the server can go on
+  pub record ServesNext (number : ℕ) (coming left : Option (List T)) (before after : List (Key × Call))
+      (old new : Option (List ℕ)) : Type 0 where
+    pub end : End
+    pub goes_on : ServerContinues end
+    pub heard : ServesFirst sends coming left before (end ∷ []) after
+    pub printed : PrintsLines (session_line number end ∷ []) old new
+
+  -- this many clients are served, one after another, and each session is printed
+  pub record ServesAll (count : ℕ) (coming left : Option (List T)) (before after : List (Key × Call))
+      (old new : Option (List ℕ)) : Type 0 where
+    pub ends : List End
+    pub all : length ends ≡ count
+    pub go_on : All ServerContinues ends
+    pub heard : ServesFirst sends coming left before ends after
+    pub printed : PrintsLines (session_lines 1 ends) old new
+
+-- these lines are printed, for the log and the opening of the bank
+abbrev pub PrintsRows : {S : Type 0} → PrimaryOf S → Option (List ℕ) → Option (List ℕ) → Type 0
+PrintsRows primary old new = PrintsLines (end_lines primary.node.names primary.node.board.opening primary.log) old new

@@ -1,0 +1,31 @@
+-- The faults of the single steps of serving a bank.
+use Rattle.std.specs.Prelude.{◌≡◌, Bool, true}
+use Rattle.bank_server.specs.declared.fault.RunFault.{RunFault}
+use Rattle.bank_server.specs.declared.fault.RunFault.TheVariants.{Device, OutOfMemory, Strayed}
+use Rattle.bank_program.specs.declared.serve_fault.ServeFault.{ServeFault}
+use Rattle.bank_program.specs.declared.serve_fault.ServeFault.TheVariants.{Run, Store}
+
+-- a device failed, or memory was refused
+abbrev pub IsPrintRunFault : RunFault → Type 0
+IsPrintRunFault Device = Unit {0}
+IsPrintRunFault OutOfMemory = Unit {0}
+IsPrintRunFault other = ⊥
+
+abbrev pub IsPrintFault : ServeFault → Type 0
+IsPrintFault (Run fault) = IsPrintRunFault fault
+IsPrintFault other = ⊥
+
+-- memory was refused; or there is a store, and it takes nothing
+abbrev pub IsStoreFault : Bool → ServeFault → Type 0
+IsStoreFault stores (Run fault) = fault ≡ OutOfMemory
+IsStoreFault stores Store = stores ≡ true
+IsStoreFault stores other = ⊥
+
+-- a line of the opening is at fault, a device failed, or memory was refused
+abbrev pub IsOpeningRunFault : RunFault → Type 0
+IsOpeningRunFault (Strayed node) = ⊥
+IsOpeningRunFault other = Unit {0}
+
+abbrev pub IsOpeningFault : ServeFault → Type 0
+IsOpeningFault (Run fault) = IsOpeningRunFault fault
+IsOpeningFault other = ⊥

@@ -1,0 +1,26 @@
+-- The values that the words after the program's name give.
+use Rattle.std.specs.Prelude.{◌≡◌, Bool, List, String}
+use Rattle.bank_program.specs.declared.serving.Plan.{Plan}
+use Rattle.bank_program.specs.declared.words.Words.{Words}
+use Rattle.bank_program.specs.declared.words.Words.TheVariants.{Run, Play, Serve}
+use Rattle.bank_program.specs.Words.{InRange, IsPlanInRange, GivesCounts, GivesServe, GivesPlan, GivesValues, NamesProgram}
+
+-- the words give this plan, for a bank that saves or doesn't
+abbrev pub IsPlanOf : {A : Type 0} → List (String A) → Bool → Plan → Type 0
+IsPlanOf words saves plan = IsPlanInRange plan × GivesPlan plan words × (plan.saves ≡ saves)
+
+-- these words give this run
+abbrev pub IsRunOf : {A : Type 0} → List (String A) → Words → Type 0
+IsRunOf words (Run nodes workers) = InRange (Run nodes workers) × GivesCounts nodes workers words
+IsRunOf words Play = ⊥
+IsRunOf words (Serve port plan store) = ⊥
+
+-- these words say how this bank is served
+abbrev pub IsServeOf : {A : Type 0} → List (String A) → Words → Type 0
+IsServeOf words (Run nodes workers) = ⊥
+IsServeOf words Play = ⊥
+IsServeOf words (Serve port plan store) = InRange (Serve port plan store) × GivesServe port plan store words
+
+-- the words say this
+abbrev pub IsReadOf : {A : Type 0} → List (String A) → Words → Type 0
+IsReadOf words read = NamesProgram read words × InRange read × GivesValues read words

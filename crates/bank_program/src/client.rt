@@ -1,0 +1,64 @@
+//! One client.
+ghost use Rattle.std.specs.Prelude.{◌≡◌, false, IfErr, IfSome};
+ghost use Rattle.bank_server.specs.Primary.{PreservesBank};
+ghost use Rattle.bank_server.specs.SessionFaults.{LosesCrew};
+ghost use Rattle.sb_sequencer.specs.Numbering.{IsLog};
+ghost use Rattle.bank_program.specs.Sessions.{IsSession};
+
+use crate::hanging_up::hang_up;
+use bank_server::{Primary, SessionFault, serve_session};
+use cown_workers::Crew;
+use sb_checkpoint::CheckpointStore;
+use std::alloc::Global;
+use std::io;
+use std::io::{Read, Write};
+use std::net::OpenStream;
+use std::time::{Clock, Duration};
+
+/// Serves a client, as [`serve_session`] does. Its stream stays open: the client sees the end once
+/// the caller drops it.
+///
+/// A client at fault is notified at once that nothing more comes, and still gets all that was sent
+/// to it. A stream that can't be set up counts as one that fails at once. A read or a write that
+/// exceeds the patience, in seconds, counts as one that fails.
+pub(crate) fn serve_client<R, T, S, C>(
+    rt: &R,
+    alloc: Global,
+    patience: Option<usize>,
+    stream: &mut T,
+    primary: &mut Primary<S>,
+    crew: &mut C,
+) -> Result<(), SessionFault>
+where
+    R: Clock,
+    T: Read + Write + OpenStream + Drop,
+    S: CheckpointStore,
+    C: Crew,
+    requires one_each { IsLog primary.old.log }
+    // What the client sent was handled, and its asks are in the log.
+    ensures session { IfSome (T.remaining stream.old) (λ sent.
+        IsSession primary.old.log sent result primary.new.log) }
+    ensures bank { PreservesBank primary.old primary.new }
+    ensures crew_lost { IfErr result (LosesCrew C.keeps primary.old.node.board) }
+{
+    let Ok(mut writer) = set_up(&*stream, patience) else {
+        return Err(SessionFault::Device);
+    };
+    let served = serve_session(alloc, stream, &mut writer, primary, crew);
+    if let Err(SessionFault::Frame(_) | SessionFault::Unexpected) = served {
+        hang_up(rt, stream);
+    }
+    served
+}
+
+// The writing end of the stream. What is written is sent at once, and each write waits this many
+// seconds for the client.
+fn set_up<T: OpenStream>(stream: &T, patience: Option<usize>) -> io::Result<T> {
+    stream.set_nodelay(true)?;
+    if let Some(seconds) = patience {
+        let limit = Some(Duration::from_secs(seconds as u64));
+        stream.set_read_timeout(limit)?;
+        stream.set_write_timeout(limit)?;
+    }
+    stream.try_clone()
+}

@@ -1,0 +1,32 @@
+//! The program as a library: what its words say, how its faults are reported, and the bank that it
+//! serves.
+#![tactic(auto)]
+
+mod client;
+mod command;
+mod fault;
+mod hanging_up;
+mod listener;
+mod listening;
+mod opening;
+mod options;
+mod printing;
+mod report;
+mod serve_fault;
+mod serve_program;
+mod server;
+mod serving;
+mod session_end;
+mod words;
+
+pub use fault::ProgramFault;
+pub use hanging_up::pass_over;
+pub use listener::{ClientListener, SocketListener};
+pub use listening::listen;
+pub use opening::whole_opening;
+pub use report::{Report, told};
+pub use serve_fault::ServeFault;
+pub use serve_program::serve_program;
+pub use server::Server;
+pub use serving::{Plan, ServedBank, serve, serve_beside};
+pub use words::{Words, read_words, refuse_bytes};

@@ -1,0 +1,103 @@
+//! What a served bank prints.
+ghost use Rattle.std.specs.Prelude.{◌≡◌, [], ◌∷◌, ◌++◌, decimal, IfErr, IfOk, OnOk};
+ghost use Rattle.bank_server.specs.Primary.{HasWholeLog};
+ghost use Rattle.bank_program.specs.inner.StepFaults.{IsPrintFault};
+ghost use Rattle.bank_program.specs.ServeOutput.{PrintsLines, end_text, session_line};
+ghost use Rattle.bank_program.specs.inner.ServeSteps.{PrintsPort, PrintsRows};
+
+use crate::listener::ClientListener;
+use crate::serve_fault::ServeFault;
+use bank_server::{Primary, SessionFault};
+use itoa::Buffer;
+use sb_checkpoint::CheckpointStore;
+use sb_text::{list_rows, write_whole};
+use std::alloc::{AllocError, Global};
+use std::io::Write;
+
+/// Prints the address where the server listens.
+///
+/// Fails if the port can't be found out, if a write fails, or if memory is refused.
+pub(crate) fn print_port<D: ClientListener, W: Write>(
+    alloc: Global,
+    listener: &D,
+    writer: &mut W,
+) -> Result<(), ServeFault>
+    ensures printed { OnOk result (PrintsPort (W.contents writer.old) (W.contents writer.new)) }
+    ensures fault { IfErr result IsPrintFault }
+{
+    let port = listener.port()?;
+    let mut line = numbered(alloc, b"listening 127.0.0.1:", usize::from(port))?;
+    print_line(&mut line, writer)
+}
+
+/// Prints how a session ended.
+///
+/// Fails if a write fails, or if memory is refused.
+pub(crate) fn print_session<W: Write>(
+    alloc: Global,
+    number: usize,
+    served: Result<(), SessionFault>,
+    writer: &mut W,
+) -> Result<(), ServeFault>
+    ensures printed { OnOk result (PrintsLines (session_line number served ∷ [])
+        (W.contents writer.old) (W.contents writer.new)) }
+    ensures fault { IfErr result IsPrintFault }
+{
+    let mut line = numbered(alloc, b"session ", number)?;
+    push_ending(served, &mut line)?;
+    print_line(&mut line, writer)
+}
+
+// These bytes, and then a number.
+fn numbered(alloc: Global, start: &[u8], number: usize) -> Result<Vec<u8>, AllocError>
+    ensures { IfOk result (λ line. line.items ≡ start.now ++ decimal number) }
+{
+    let mut buffer = Buffer::new();
+    let mut line = Vec::from_slice(alloc, start)?;
+    line.extend_from_slice(buffer.format(number).as_bytes())?;
+    Ok(line)
+}
+
+// Ends a line, and prints it.
+fn print_line<W: Write>(line: &mut Vec<u8>, writer: &mut W) -> Result<(), ServeFault>
+    ensures printed { OnOk result (PrintsLines (line.old.items ∷ [])
+        (W.contents writer.old) (W.contents writer.new)) }
+    ensures fault { IfErr result IsPrintFault }
+{
+    line.push(b'\n')?;
+    Ok(write_whole(writer, line)?)
+}
+
+// Writes how a session ended.
+fn push_ending(served: Result<(), SessionFault>, out: &mut Vec<u8>) -> Result<(), AllocError>
+    ensures { OnOk result (out.new.items ≡ out.old.items ++ end_text served) }
+{
+    match served {
+        Ok(()) => out.extend_from_slice(b" ok"),
+        Err(fault) => {
+            let mut buffer = Buffer::new();
+            out.extend_from_slice(b" fault ")?;
+            out.extend_from_slice(buffer.format(fault.number()).as_bytes())
+        }
+    }
+}
+
+/// Prints the rows of a bank and their total.
+///
+/// Fails if a write fails, or if memory is refused.
+pub(crate) fn print_rows<S: CheckpointStore, W: Write>(
+    alloc: Global,
+    primary: &Primary<S>,
+    writer: &mut W,
+) -> Result<(), ServeFault>
+    requires whole_log { HasWholeLog primary.now }
+    ensures printed { OnOk result (PrintsRows primary.now (W.contents writer.old) (W.contents writer.new)) }
+    ensures fault { IfErr result IsPrintFault }
+{
+    let mut rows = Vec::new(alloc);
+    let node = primary.node();
+    // Nothing is unfinished.
+    let columns = node.final_columns().unwrap();
+    list_rows(node.directory(), columns, &mut rows)?;
+    Ok(write_whole(writer, &rows)?)
+}

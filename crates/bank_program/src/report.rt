@@ -1,0 +1,52 @@
+//! How a fault is reported.
+ghost use Rattle.std.specs.Prelude.{◌≡◌};
+ghost use Rattle.bank_program.specs.Faults as spec;
+ghost use Rattle.bank_program.specs.Faults.{exit_status};
+
+use crate::fault::ProgramFault;
+use crate::serve_fault::ServeFault;
+use bank_server::RunFault;
+use schedule_player::ScheduleFault;
+use std::fmt;
+
+/// How a fault ends the program: its exit status, and its text by `Display`.
+#[derive(Clone, Copy, Debug, PartialEq, Eq)]
+pub struct Report {
+    /// 1 for an input that is refused, 3 for every other fault.
+    pub status: u8,
+    /// The fault.
+    pub fault: ProgramFault,
+}
+
+/// The status and the text of a fault.
+pub fn told(fault: ProgramFault) -> Report
+    ensures status { result.status ≡ exit_status fault }
+    ensures fault { result.fault ≡ fault }
+{
+    let status = match fault {
+        ProgramFault::Run(fault) | ProgramFault::Serve(ServeFault::Run(fault)) => run_status(fault),
+        ProgramFault::Play(ScheduleFault::Input { .. }) => 1,
+        ProgramFault::Play(ScheduleFault::Device | ScheduleFault::OutOfMemory)
+        | ProgramFault::Serve(
+            ServeFault::ReadBack | ServeFault::Store | ServeFault::PortTaken(_),
+        ) => 3,
+    };
+    Report { status, fault }
+}
+
+// The status of a run's fault, which ends the serving of a bank too.
+fn run_status(fault: RunFault) -> u8
+    ensures { result ≡ spec.run_status fault }
+{
+    match fault {
+        RunFault::Input { .. } => 1,
+        RunFault::Strayed(_) | RunFault::CrewGone | RunFault::Device | RunFault::OutOfMemory => 3,
+    }
+}
+
+impl fmt::Display for Report {
+    fn fmt<W: fmt::Write>(&self, f: &mut fmt::Formatter<W>) -> fmt::Result {
+        let fault = self.fault;
+        write!(f, "smallbank: {fault}")
+    }
+}

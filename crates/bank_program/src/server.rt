@@ -1,0 +1,181 @@
+//! The server of a bank's clients.
+ghost use Rattle.std.specs.Prelude.{◌≡◌, [], IfErr, IfOk, MatchOption, OnOk};
+ghost use Rattle.bank_server.specs.Primary.{HasWholeLog};
+ghost use Rattle.sb_sequencer.specs.Numbering.{IsLog};
+ghost use Rattle.bank_program.specs.ServeFaults.{IsFinishFault, IsFinishRunFault, IsServingFault};
+ghost use Rattle.bank_program.specs.ServeOutput.{ServerContinues};
+ghost use Rattle.bank_program.specs.ServedBank.{IsBankAfter, ServesByPlan};
+ghost use Rattle.bank_program.specs.inner.ServeSteps.{ServesAll, ServesNext};
+
+use crate::client::serve_client;
+use crate::listener::ClientListener;
+use crate::printing::{print_port, print_rows, print_session};
+use crate::serve_fault::ServeFault;
+use crate::serving::{Plan, ServedBank};
+use crate::session_end::finish_session;
+use bank_server::{Duty, Followers, Primary, RunFault, SessionFault, WorkerCount};
+use cown_workers::Crew;
+use sb_checkpoint::CheckpointStore;
+use std::alloc::Global;
+use std::io::{Read, Write};
+use std::net::OpenStream;
+use std::sync::Wait;
+use std::thread::Threads;
+use std::time::Clock;
+
+/// A bank, the listener that accepts its clients, and the writer where it prints.
+#[derive(Drop)]
+pub struct Server<D, S: CheckpointStore, W> {
+    /// The allocator.
+    pub alloc: Global,
+    /// How the bank is served.
+    pub plan: Plan,
+    /// Where its clients are accepted.
+    pub listener: D,
+    /// The bank.
+    pub primary: Primary<S>,
+    /// Where the server prints.
+    pub writer: W,
+}
+
+impl<D, S, W> Duty for Server<D, S, W>
+where
+    D: ClientListener + Drop,
+    D::Stream: Read + Write + OpenStream,
+    S: CheckpointStore,
+    W: Write + Drop,
+{
+    type Answer = Result<ServedBank<S, W>, ServeFault>;
+
+    ghost ready = { λ server. HasWholeLog server.primary × (server.primary.log ≡ []) };
+
+    ghost does = { λ server nodes workers keeps answer. IfOk answer (λ bank. ServesByPlan D.Stream.remaining S.model
+        server.plan (D.coming server.listener) server.primary bank.primary
+        (W.contents server.writer) (W.contents bank.writer))
+        × IfErr answer (IsServingFault nodes server.plan.saves) };
+
+    // Serves the bank, and prints its whole output.
+    fn carry_out<R, C>(
+        self,
+        rt: &R,
+        followers: &mut Followers<'_, R>,
+        crew: &mut C,
+    ) -> Result<ServedBank<S, W>, ServeFault>
+    where
+        R: Threads + Wait + Clock,
+        C: Crew + WorkerCount,
+    {
+        let mut server = self;
+        match server.serve_whole(rt, followers, crew) {
+            Ok(()) => Ok(ServedBank {
+                primary: server.primary,
+                writer: server.writer,
+            }),
+            Err(fault) => Err(fault),
+        }
+    }
+}
+
+impl<D, S, W> Server<D, S, W>
+where
+    D: ClientListener,
+    D::Stream: Read + Write + OpenStream,
+    S: CheckpointStore,
+    W: Write,
+{
+    // Serves the bank, and prints its whole output.
+    fn serve_whole<R, C>(
+        &mut self,
+        rt: &R,
+        followers: &mut Followers<'_, R>,
+        crew: &mut C,
+    ) -> Result<(), ServeFault>
+    where
+        R: Threads + Wait + Clock,
+        C: Crew,
+        requires whole_log { HasWholeLog self.old.primary }
+        requires empty_log { self.old.primary.log ≡ [] }
+        ensures served { OnOk result (ServesByPlan D.Stream.remaining S.model self.old.plan
+            (D.coming self.old.listener) self.old.primary self.new.primary
+            (W.contents self.old.writer) (W.contents self.new.writer)) }
+        ensures fault { IfErr result (IsServingFault followers.old.nodes self.old.plan.saves) }
+    {
+        print_port(self.alloc, &self.listener, &mut self.writer)?;
+        self.serve_all(rt, followers, crew)?;
+        followers.compare(rt, self.primary.node())?;
+        print_rows(self.alloc, &self.primary, &mut self.writer)
+    }
+
+    // Serves the clients, one after another.
+    fn serve_all<R, C>(
+        &mut self,
+        rt: &R,
+        followers: &mut Followers<'_, R>,
+        crew: &mut C,
+    ) -> Result<(), ServeFault>
+    where
+        R: Wait + Clock,
+        C: Crew,
+        requires one_each { IsLog self.old.primary.log }
+        requires whole_log { HasWholeLog self.old.primary }
+        ensures served { OnOk result (ServesAll D.Stream.remaining self.old.plan.sessions
+            (D.coming self.old.listener) (D.coming self.new.listener) self.old.primary.log self.new.primary.log
+            (W.contents self.old.writer) (W.contents self.new.writer)) }
+        ensures bank_after { OnOk result (IsBankAfter S.model self.old.plan.saves self.old.plan.sessions
+            self.old.primary self.new.primary) }
+        ensures nodes { followers.new.nodes ≡ followers.old.nodes }
+        ensures plan { self.new.plan ≡ self.old.plan }
+        ensures fault { IfErr result (IsFinishFault self.old.plan.saves) }
+    {
+        for before in 0..self.plan.sessions {
+            self.serve_next(before + 1, rt, followers, crew)?;
+        }
+        Ok(())
+    }
+
+    // Serves the next client, and prints how its session ended.
+    fn serve_next<R, C>(
+        &mut self,
+        number: usize,
+        rt: &R,
+        followers: &mut Followers<'_, R>,
+        crew: &mut C,
+    ) -> Result<(), ServeFault>
+    where
+        R: Wait + Clock,
+        C: Crew,
+        requires one_each { IsLog self.old.primary.log }
+        ensures served { OnOk result (ServesNext D.Stream.remaining number
+            (D.coming self.old.listener) (D.coming self.new.listener) self.old.primary.log self.new.primary.log
+            (W.contents self.old.writer) (W.contents self.new.writer)) }
+        ensures bank_after { OnOk result (IsBankAfter S.model self.old.plan.saves 1
+            self.old.primary self.new.primary) }
+        ensures nodes { followers.new.nodes ≡ followers.old.nodes }
+        ensures plan { self.new.plan ≡ self.old.plan }
+        ensures fault { IfErr result (IsFinishFault self.old.plan.saves) }
+    {
+        // The stream is dropped when this function ends. So a client whose stream ends while the
+        // server goes on knows that its asks are saved.
+        let mut stream = self.listener.accept_client()?;
+        let (alloc, patience) = (self.alloc, self.plan.patience);
+        let served = serve_client(rt, alloc, patience, &mut stream, &mut self.primary, crew);
+        if let Some(fault) = ending(served) {
+            let printed = print_session(alloc, number, served, &mut self.writer);
+            return printed.and(Err(ServeFault::Run(fault)));
+        }
+        finish_session(&mut self.primary, followers, self.plan.saves, crew)?;
+        print_session(alloc, number, served, &mut self.writer)
+    }
+}
+
+// The fault with which the program ends after such a session, if it does.
+fn ending(served: Result<(), SessionFault>) -> Option<RunFault>
+    ensures { MatchOption result (ServerContinues served) IsFinishRunFault }
+{
+    match served {
+        Err(SessionFault::CrewGone) => Some(RunFault::CrewGone),
+        Err(SessionFault::OutOfMemory) => Some(RunFault::OutOfMemory),
+        Ok(()) | Err(SessionFault::Frame(_) | SessionFault::Unexpected | SessionFault::Device) =>
+            None,
+    }
+}

@@ -1,0 +1,131 @@
+//! A served bank: its clients, one after another, and its rows at the end.
+ghost use Rattle.std.specs.Prelude.{◌≡◌, ◌≤◌, [], IfErr, IfOk};
+ghost use Rattle.bank_server.specs.Primary.{HasWholeLog};
+ghost use Rattle.sb_sequencer.specs.Numbering.{IsLog};
+ghost use Rattle.bank_program.specs.StoreAfter.{IsStoreAfter};
+ghost use Rattle.bank_program.specs.ServeFaults.{IsServingFault};
+ghost use Rattle.bank_program.specs.ServedBank.{ServesByPlan};
+ghost use Rattle.bank_program.specs.ServeOutput.{ServesBank};
+
+use crate::listener::ClientListener;
+use crate::serve_fault::ServeFault;
+use crate::server::Server;
+use bank_server::{Primary, ReadyFollowers, with_team};
+use cown_bench::WORKERS;
+use cown_workers::OpenGate;
+use sb_checkpoint::CheckpointStore;
+use sb_rows::Opening;
+use sb_sequencer::REPLICAS;
+use std::alloc::Global;
+use std::io::{Read, Write};
+use std::net::OpenStream;
+use std::sync::Wait;
+use std::thread::Threads;
+use std::time::Clock;
+
+/// How a bank is served.
+#[derive(Clone, Copy, Debug, PartialEq, Eq)]
+pub struct Plan {
+    /// How many clients are served, one after another.
+    pub sessions: usize,
+    /// How many nodes execute the log: 1 to 16.
+    pub nodes: usize,
+    /// How many threads work for node 0: 0 to 16. With 0 it works alone.
+    pub workers: usize,
+    /// Whether node 0 puts a checkpoint into its store after each session.
+    pub saves: bool,
+    /// How many seconds each read and each write waits for a client; `None` is for ever.
+    pub patience: Option<usize>,
+}
+
+/// A bank that was served.
+#[derive(Drop)]
+pub struct ServedBank<S: CheckpointStore, W> {
+    /// Its log and node 0, which has executed all of it.
+    pub primary: Primary<S>,
+    /// The writer where it printed.
+    pub writer: W,
+}
+
+/// Serves a bank with this opening to those who come to a listener, and gives back the bank and the
+/// writer.
+///
+/// It prints the address, and then a line for each session, as soon as node 0 has executed all that
+/// was asked and it was sent to the followers. At the end, once the followers agree with node 0, it
+/// prints the rows and their total. A client at fault ends its own session only, and the next is
+/// served.
+///
+/// Fails with
+/// - [`ServeFault::Run`] if a follower can't be started or differs from node 0, the crew is gone,
+///   no client can be accepted, a write to the writer or the store's device fails, or memory is
+///   refused,
+/// - [`ServeFault::ReadBack`] if the store doesn't give back what was put.
+///
+/// After a fault the rows aren't printed.
+pub fn serve<H, D, S, W>(
+    rt: &H,
+    alloc: Global,
+    listener: D,
+    opening: Opening,
+    store: S,
+    plan: Plan,
+    writer: W,
+) -> Result<ServedBank<S, W>, ServeFault>
+where
+    H: Threads + Wait + Clock + Sync,
+    D: ClientListener + Drop,
+    D::Stream: Read + Write + OpenStream,
+    S: CheckpointStore,
+    W: Write + Drop,
+    requires nodes { plan.nodes ≤ REPLICAS }
+    requires workers { plan.workers ≤ WORKERS }
+    // The log is that of the clients' sessions, and the printed rows are those after it.
+    ensures served { IfOk result (λ bank. ServesBank D.Stream.remaining opening.directory
+        opening.columns plan.sessions (D.coming listener) bank.primary.log
+        (W.contents writer) (W.contents bank.writer)) }
+    ensures one_each { IfOk result (λ bank. IsLog bank.primary.log) }
+    ensures whole_log { IfOk result (λ bank. HasWholeLog bank.primary) }
+    ensures names { IfOk result (λ bank. bank.primary.node.names ≡ opening.directory) }
+    ensures opening { IfOk result (λ bank. bank.primary.node.board.opening ≡ opening.columns) }
+    // A bank that saves has the checkpoint of all of that log.
+    ensures store { IfOk result (λ bank. IsStoreAfter S.model plan.saves plan.sessions store
+        bank.primary.node) }
+    // Node 0 never strays, and `ReadBack` comes only if the plan saves.
+    ensures fault { IfErr result (IsServingFault plan.nodes plan.saves) }
+{
+    let primary = Primary::open(alloc, opening, store)?;
+    let followers = ReadyFollowers::open(alloc, primary.node(), plan.nodes, 0)?;
+    let server = Server {
+        alloc,
+        plan,
+        listener,
+        primary,
+        writer,
+    };
+    serve_beside(rt, followers, server)
+}
+
+/// Serves a bank, as [`serve`] does, with these followers, which may have begun otherwise than the
+/// bank: then one of them strays.
+pub fn serve_beside<H, D, S, W>(
+    rt: &H,
+    followers: ReadyFollowers,
+    server: Server<D, S, W>,
+) -> Result<ServedBank<S, W>, ServeFault>
+where
+    H: Threads + Wait + Clock + Sync,
+    D: ClientListener + Drop,
+    D::Stream: Read + Write + OpenStream,
+    S: CheckpointStore,
+    W: Write + Drop,
+    requires nodes { followers.nodes ≤ REPLICAS }
+    requires workers { server.plan.workers ≤ WORKERS }
+    requires whole_log { HasWholeLog server.primary }
+    requires empty_log { server.primary.log ≡ [] }
+    ensures served { IfOk result (λ bank. ServesByPlan D.Stream.remaining S.model server.plan
+        (D.coming server.listener) server.primary bank.primary (W.contents server.writer) (W.contents bank.writer)) }
+    ensures fault { IfErr result (IsServingFault followers.nodes server.plan.saves) }
+{
+    let (alloc, workers) = (server.alloc, server.plan.workers);
+    with_team(rt, alloc, followers, workers, &OpenGate, server)?
+}

@@ -1,0 +1,178 @@
+//! The program's words.
+ghost use Rattle.std.specs.Prelude.{◌≡◌, IfErr, IfOk, IfSome, true};
+ghost use Rattle.clap.specs.Values.{kind_of};
+ghost use Rattle.bank_program.specs.Words.{InRange, IsPlanInRange, IsRefusal, NamesProgram, GivesValues};
+ghost use Rattle.bank_program.specs.inner.WordValues.{IsPlanOf, IsReadOf, IsRunOf, IsServeOf};
+
+use crate::command::command;
+use crate::options::{parse_count, parse_number, parse_optional, value};
+use crate::serving::Plan;
+use clap::error::ErrorKind;
+use clap::{Command, Error};
+use cown_bench::WORKERS;
+use sb_sequencer::REPLICAS;
+use std::alloc::{AllocError, Global};
+
+// The text for words that clap takes and `parse_words` doesn't. None are known.
+const UNREAD: &str =
+    "these take 1 to 16 nodes, 0 to 16 workers, 1 to 1000 sessions, 1 to 86400 seconds and a port, \
+    as plain numbers";
+
+const NO_TEXT: &str = "a word isn't UTF-8";
+
+/// What the program does.
+#[derive(Clone, Copy, Debug, PartialEq, Eq)]
+pub enum Words<'a> {
+    /// Run an opening and calls from standard input.
+    Run {
+        /// How many nodes execute the calls: 1 to 16.
+        nodes: usize,
+        /// How many threads execute node 0's calls: 0 to 16. With 0 it executes them itself.
+        workers: usize,
+    },
+    /// Play a schedule from standard input.
+    Play,
+    /// Serve the bank of an opening from standard input.
+    Serve {
+        /// The port where the server listens; 0 is any free one.
+        port: u16,
+        /// How the bank is served: it saves exactly if there is a store.
+        plan: Plan,
+        /// The folder where node 0 keeps its checkpoint, if it keeps one.
+        store: Option<&'a str>,
+    },
+}
+
+/// Reads the program's words; the first is its name. Without further words it is `run`.
+///
+/// Fails with clap's error, whose text and exit status say what is wrong. A call for help or for
+/// the version is one too.
+pub fn read_words<'a>(alloc: Global, words: &'a [String]) -> Result<Words<'a>, Error>
+    ensures names { IfOk result (λ read. NamesProgram read words.entry.now) }
+    ensures range { IfOk result (λ read. InRange read) }
+    ensures values { IfOk result (λ read. GivesValues read words.entry.now) }
+{
+    let mut command = boxed_command(alloc)?;
+    check(&mut command, words)?;
+    // The values are checked here again, so that no clause rests on clap's grammar.
+    match parse_words(words) {
+        Some(read) => Ok(read),
+        None => Err(command.error(ErrorKind::ValueValidation, UNREAD)?),
+    }
+}
+
+/// The error if a word isn't UTF-8: the words are wrong, or memory was refused.
+pub fn refuse_bytes(alloc: Global) -> Error
+    ensures { IsRefusal (kind_of result) }
+{
+    match refusal(alloc, NO_TEXT) {
+        Ok(error) | Err(error) => error,
+    }
+}
+
+// A fault of the words with this text.
+fn refusal(alloc: Global, text: &str) -> Result<Error, Error>
+    ensures ok { IfOk result (λ error. kind_of error ≡ ErrorKind.ValueValidation) }
+    ensures err { IfErr result (λ error. kind_of error ≡ ErrorKind.OutOfMemory) }
+{
+    let mut command = boxed_command(alloc)?;
+    Ok(command.error(ErrorKind::ValueValidation, text)?)
+}
+
+// The program's command. A function that owned it would have a drop path for it at each `?`.
+fn boxed_command<'a>(alloc: Global) -> Result<Box<Command<'a>>, AllocError> {
+    Ok(Box::new(alloc, command(alloc)?)?)
+}
+
+// Fails if the words don't follow the command's grammar.
+fn check<'a>(command: &mut Command<'a>, words: &'a [String]) -> Result<(), Error> {
+    command.try_get_matches_from_mut(words)?;
+    Ok(())
+}
+
+// What the words after the program's name say.
+fn parse_words<'a>(words: &'a [String]) -> Option<Words<'a>>
+    ensures { IfSome result (λ read. IsReadOf words.entry.now read) }
+{
+    let [_, program, ..] = words else {
+        return Some(Words::Run {
+            nodes: 1,
+            workers: 0,
+        });
+    };
+    if program.as_str() == "run" {
+        return run(&words[2..]);
+    }
+    if program.as_str() == "play" {
+        return Some(Words::Play);
+    }
+    if program.as_str() == "serve" {
+        return serve(&words[2..]);
+    }
+    None
+}
+
+// How a run goes, by the words after `run`.
+fn run<'a>(options: &'a [String]) -> Option<Words<'a>>
+    ensures { IfSome result (λ read. IsRunOf options.entry.now read) }
+{
+    let (Some(nodes), Some(workers)) = (
+        parse_count(options, "--nodes", 1),
+        parse_count(options, "--workers", 0),
+    ) else {
+        return None;
+    };
+    if (1..=REPLICAS).contains(&nodes) && workers <= WORKERS {
+        Some(Words::Run { nodes, workers })
+    } else {
+        None
+    }
+}
+
+// How a bank is served, by the words after `serve`.
+fn serve<'a>(options: &'a [String]) -> Option<Words<'a>>
+    ensures { IfSome result (λ read. IsServeOf options.entry.now read) }
+{
+    let Ok(port) = u16::try_from(parse_number(options, "--port")?) else {
+        return None;
+    };
+    let store = value(options, "--store");
+    let plan = plan_of(options, store.is_some())?;
+    Some(Words::Serve { port, plan, store })
+}
+
+// The plan that these words give, for a bank that saves or doesn't.
+fn plan_of(options: &[String], saves: bool) -> Option<Plan>
+    ensures { IfSome result (λ plan. IsPlanOf options.now saves plan) }
+{
+    let (Some(sessions), Some(nodes), Some(workers), Some(patience)) = (
+        parse_count(options, "--sessions", 1),
+        parse_count(options, "--nodes", 1),
+        parse_count(options, "--workers", 0),
+        parse_optional(options, "--patience"),
+    ) else {
+        return None;
+    };
+    let plan = Plan {
+        sessions,
+        nodes,
+        workers,
+        saves,
+        patience,
+    };
+    if is_in_range(&plan) { Some(plan) } else { None }
+}
+
+// Whether a plan's numbers are within their limits.
+fn is_in_range(plan: &Plan) -> bool
+    ensures { result ≡ true → IsPlanInRange plan.now }
+{
+    let is_patient = match plan.patience {
+        Some(seconds) => (1..=86_400).contains(&seconds),
+        None => true,
+    };
+    is_patient
+        && (1..=1_000).contains(&plan.sessions)
+        && (1..=REPLICAS).contains(&plan.nodes)
+        && plan.workers <= WORKERS
+}

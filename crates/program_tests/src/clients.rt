@@ -1,0 +1,162 @@
+//! Clients in memory, who connect one after another.
+ghost use Rattle.std.specs.Prelude.{Some};
+
+use bank_program::ClientListener;
+use std::alloc::{AllocError, Global};
+use std::cell::{Cell, RefCell};
+use std::collections::VecDeque;
+use std::io;
+use std::io::{ErrorKind, Read, Write};
+use std::net::{OpenStream, Shutdown};
+use std::time::Duration;
+
+/// How a client's stream behaves.
+#[derive(Clone, Copy, PartialEq, Eq)]
+pub enum Manner {
+    /// It gives all bytes that were sent.
+    Plain,
+    /// It can't be set up.
+    Stubborn,
+    /// It takes nothing.
+    Deaf,
+    /// It breaks once all bytes that were sent are read.
+    Broken,
+}
+
+/// What a client sends, in pieces of three bytes, and how its stream behaves.
+#[derive(Clone, Copy)]
+pub struct Client<'a> {
+    pub sent: &'a [u8],
+    pub manner: Manner,
+}
+
+/// Everything that is sent to clients, how often the server hangs up before they do, and how long
+/// it waited for each of them, at a read and at a write.
+#[derive(Drop)]
+pub struct Transcript {
+    pub bytes: RefCell<Vec<u8>>,
+    pub hung_up: Cell<usize>,
+    pub read_limit: Cell<Option<Duration>>,
+    pub write_limit: Cell<Option<Duration>>,
+}
+
+impl Transcript {
+    /// Before the first client.
+    pub fn new(alloc: Global) -> Transcript {
+        Transcript {
+            bytes: RefCell::new(Vec::new(alloc)),
+            hung_up: Cell::new(0),
+            read_limit: Cell::new(None),
+            write_limit: Cell::new(None),
+        }
+    }
+}
+
+/// The server's end of a client's stream.
+#[derive(Drop)]
+pub struct End<'c, 't> {
+    client: Client<'c>,
+    told: &'t Transcript,
+}
+
+impl Read for End<'_, '_> {
+    fn read(&mut self, buf: &mut [u8]) -> io::Result<usize> {
+        let count = self.client.sent.len().min(buf.len()).min(3);
+        if count == 0 && self.client.manner == Manner::Broken {
+            return Err(io::Error::from(ErrorKind::ConnectionReset));
+        }
+        let (piece, rest) = self.client.sent.split_at(count);
+        buf[..count].copy_from_slice(piece);
+        self.client.sent = rest;
+        Ok(count)
+    }
+}
+
+impl Write for End<'_, '_> {
+    fn write(&mut self, buf: &[u8]) -> io::Result<usize> {
+        if self.client.manner == Manner::Deaf {
+            return Err(io::Error::from(ErrorKind::BrokenPipe));
+        }
+        let Ok(mut bytes) = self.told.bytes.try_borrow_mut() else {
+            return Err(io::Error::from(ErrorKind::Other));
+        };
+        bytes.extend_from_slice(buf)?;
+        Ok(buf.len())
+    }
+
+    fn flush(&mut self) -> io::Result<()> {
+        Ok(())
+    }
+}
+
+impl OpenStream for End<'_, '_> {
+    fn set_nodelay(&self, _nodelay: bool) -> io::Result<()> {
+        if self.client.manner == Manner::Stubborn {
+            return Err(io::Error::from(ErrorKind::InvalidInput));
+        }
+        Ok(())
+    }
+
+    fn set_read_timeout(&self, dur: Option<Duration>) -> io::Result<()> {
+        self.told.read_limit.set(dur);
+        Ok(())
+    }
+
+    fn set_write_timeout(&self, dur: Option<Duration>) -> io::Result<()> {
+        self.told.write_limit.set(dur);
+        Ok(())
+    }
+
+    fn shutdown(&self, _how: Shutdown) -> io::Result<()> {
+        self.told
+            .hung_up
+            .set(self.told.hung_up.get().wrapping_add(1));
+        Ok(())
+    }
+
+    fn try_clone(&self) -> io::Result<Self> {
+        Ok(End {
+            client: self.client,
+            told: self.told,
+        })
+    }
+}
+
+/// Lets clients in, in order. After the last one it lets nobody in.
+#[derive(Drop)]
+pub struct TestListener<'c, 't> {
+    pub coming: VecDeque<End<'c, 't>>,
+}
+
+impl<'c, 't> TestListener<'c, 't> {
+    /// The listener for these clients, and where their answers go.
+    pub fn of(
+        alloc: Global,
+        clients: &[Client<'c>],
+        told: &'t Transcript,
+    ) -> Result<TestListener<'c, 't>, AllocError> {
+        let mut coming = VecDeque::new(alloc);
+        for client in clients {
+            let client = *client;
+            coming.push_back(End { client, told })?;
+        }
+        Ok(TestListener { coming })
+    }
+}
+
+impl<'c, 't> ClientListener for TestListener<'c, 't> {
+    type Stream = End<'c, 't>;
+
+    ghost coming = { λ listener. Some listener.coming.items };
+
+    fn accept_client(&mut self) -> io::Result<End<'c, 't>> {
+        match self.coming.pop_front() {
+            Some(client) => Ok(client),
+            None => Err(io::Error::from(ErrorKind::ConnectionAborted)),
+        }
+    }
+
+    fn port(&self) -> io::Result<u16> {
+        Ok(4000)
+    }
+}

@@ -1,0 +1,18 @@
+//! Tests of the program as a library: its words, how faults are reported, and banks that are
+//! served.
+#![tactic(auto)]
+
+#[cfg(test)]
+mod clients;
+#[cfg(test)]
+mod hostile;
+#[cfg(test)]
+mod openings;
+#[cfg(test)]
+mod reports;
+#[cfg(test)]
+mod served;
+#[cfg(test)]
+mod sockets;
+#[cfg(test)]
+mod words;

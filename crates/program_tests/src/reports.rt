@@ -1,0 +1,63 @@
+//! How faults are reported.
+use bank_program::{ProgramFault, ServeFault, told};
+use bank_server::{InputFault, RunFault};
+use sb_calls::CallFault;
+use schedule_player::ScheduleFault;
+use std::alloc::Global;
+use std::process::Abort;
+
+// Reports a fault, and compares the status and the text.
+fn expect_told(rt: &impl Abort, alloc: Global, fault: ProgramFault, status: u8, text: &str) {
+    let report = told(fault);
+    assert!(rt; report.status == status);
+    let told = format!(in alloc; "{report}").expect(rt, "memory for a text");
+    assert!(rt; told.as_str() == text);
+}
+
+#[test]
+fn faults_told(rt: HostRuntime) {
+    let fault = InputFault::Call(CallFault::BadName);
+    let refused = RunFault::Input { line: 7, fault };
+    let strayed = RunFault::Strayed(5);
+    for (fault, status, text) in [
+        (ProgramFault::Run(refused), 1, "smallbank: line 7: bad name"),
+        (ProgramFault::Run(strayed), 3, "smallbank: node 5 strayed"),
+        (
+            ProgramFault::Run(RunFault::CrewGone),
+            3,
+            "smallbank: crew gone",
+        ),
+        (ProgramFault::Run(RunFault::Device), 3, "smallbank: device"),
+        (
+            ProgramFault::Play(ScheduleFault::OutOfMemory),
+            3,
+            "smallbank: out of memory",
+        ),
+    ] {
+        expect_told(&rt, rt.alloc(), fault, status, text);
+    }
+}
+
+#[test]
+fn faults_of_a_server_told(rt: HostRuntime) {
+    let fault = InputFault::Call(CallFault::BadName);
+    let refused = RunFault::Input { line: 7, fault };
+    let strayed = RunFault::Strayed(5);
+    for (fault, status, text) in [
+        (ServeFault::Run(refused), 1, "smallbank: line 7: bad name"),
+        (ServeFault::Run(strayed), 3, "smallbank: node 5 strayed"),
+        (ServeFault::ReadBack, 3, "smallbank: read back"),
+        (
+            ServeFault::Store,
+            3,
+            "smallbank: the store's folder takes no file",
+        ),
+        (
+            ServeFault::PortTaken(4000),
+            3,
+            "smallbank: port 4000 is taken",
+        ),
+    ] {
+        expect_told(&rt, rt.alloc(), ProgramFault::Serve(fault), status, text);
+    }
+}

@@ -1,0 +1,206 @@
+//! The program's words.
+use bank_program::{Plan, Words, read_words, refuse_bytes};
+use clap::Error;
+use std::alloc::Global;
+use std::process::Abort;
+
+const USUAL: Words<'static> = Words::Run {
+    nodes: 1,
+    workers: 0,
+};
+
+// These words after the program's name.
+fn words_of(rt: &impl Abort, alloc: Global, words: &[&str]) -> Vec<String> {
+    let mut all: Vec<String> = Vec::new(alloc);
+    push(rt, alloc, "smallbank", &mut all);
+    for word in words {
+        push(rt, alloc, word, &mut all);
+    }
+    all
+}
+
+fn push(rt: &impl Abort, alloc: Global, word: &str, all: &mut Vec<String>) {
+    let word = String::from_str(alloc, word).expect(rt, "memory for a word");
+    all.push(word).expect(rt, "memory for a word");
+}
+
+// These words are read so.
+fn expect(rt: &impl Abort, alloc: Global, words: &[&str], wanted: Words) {
+    let all = words_of(rt, alloc, words);
+    match read_words(alloc, &all) {
+        Ok(read) => assert!(rt; read == wanted),
+        Err(_) => assert!(rt; false),
+    }
+}
+
+// These words end with this status, and with a text that has this part.
+fn expect_told(rt: &impl Abort, alloc: Global, words: &[&str], status: i32, part: &str) {
+    let all = words_of(rt, alloc, words);
+    let error = read_words(alloc, &all).err().expect(rt, "a fault");
+    expect_error(rt, alloc, &error, status, part);
+}
+
+// This fault of words ends with this status, and with a text that has this part.
+fn expect_error(rt: &impl Abort, alloc: Global, error: &Error, status: i32, part: &str) {
+    assert!(rt; error.exit_code() == status);
+    let told = format!(in alloc; "{error}").expect(rt, "memory for a text");
+    assert!(rt; told.as_str().contains(part), "{part}");
+}
+
+#[test]
+fn words_of_the_program(rt: HostRuntime) {
+    let alloc = rt.alloc();
+    let both = Words::Run {
+        nodes: 16,
+        workers: 16,
+    };
+    let two = Words::Run {
+        nodes: 2,
+        workers: 0,
+    };
+    expect(&rt, alloc, &[], USUAL);
+    expect(&rt, alloc, &["run"], USUAL);
+    expect(&rt, alloc, &["run", "--nodes", "16", "--workers=16"], both);
+    expect(&rt, alloc, &["run", "--workers", "16", "--nodes=16"], both);
+    expect(&rt, alloc, &["run", "--nodes", "2"], two);
+    expect(&rt, alloc, &["play"], Words::Play);
+}
+
+#[test]
+fn words_of_a_server(rt: HostRuntime) {
+    let alloc = rt.alloc();
+    let usual = Words::Serve {
+        port: 0,
+        plan: Plan {
+            sessions: 1,
+            nodes: 1,
+            workers: 0,
+            saves: false,
+            patience: None,
+        },
+        store: None,
+    };
+    let all = Words::Serve {
+        port: 65_535,
+        plan: Plan {
+            sessions: 1_000,
+            nodes: 16,
+            workers: 16,
+            saves: true,
+            patience: Some(86_400),
+        },
+        store: Some("a folder"),
+    };
+    let port = ["--port=65535", "--sessions=1000"];
+    expect(&rt, alloc, &["serve", "--port", "0"], usual);
+    expect(
+        &rt,
+        alloc,
+        &[
+            "serve",
+            "--store",
+            "a folder",
+            "--workers",
+            "16",
+            "--nodes",
+            "16",
+            "--patience",
+            "86400",
+            port[0],
+            port[1],
+        ],
+        all,
+    );
+    expect(
+        &rt,
+        alloc,
+        &[
+            "serve",
+            port[1],
+            port[0],
+            "--store=a folder",
+            "--nodes=16",
+            "--workers=16",
+            "--patience=86400",
+        ],
+        all,
+    );
+}
+
+// Each of these words is refused, with a text that has this part.
+fn expect_refused(rt: &impl Abort, alloc: Global, cases: &[(&[&str], &str)]) {
+    for (words, part) in cases {
+        expect_told(rt, alloc, words, 2, part);
+    }
+}
+
+#[test]
+fn refused_words_of_a_server(rt: HostRuntime) {
+    let cases: [(&[&str], &str); 12] = [
+        (&["serve", "--port", "65536"], "65536 is not in 0..=65535"),
+        (&["serve", "--port", "http"], "<0..65535>"),
+        (
+            &["serve", "--sessions", "0", "--port=1"],
+            "0 is not in 1..=1000",
+        ),
+        (
+            &["serve", "--sessions", "1001", "--port=1"],
+            "1001 is not in 1..=1000",
+        ),
+        (
+            &["serve", "--nodes", "17", "--port=1"],
+            "17 is not in 1..=16",
+        ),
+        (
+            &["serve", "--workers", "17", "--port=1"],
+            "17 is not in 0..=16",
+        ),
+        (
+            &["serve", "--patience", "0", "--port=1"],
+            "0 is not in 1..=86400",
+        ),
+        (
+            &["serve", "--patience=86401", "--port=1"],
+            "86401 is not in 1..=86400",
+        ),
+        (&["serve"], "--port <0..65535>"),
+        (&["serve", "--port"], "<0..65535>"),
+        (&["serve", "--port=1", "--store"], "<FOLDER>"),
+        (&["serve", "--port=1", "--port=2"], "--port"),
+    ];
+    expect_refused(&rt, rt.alloc(), &cases);
+}
+
+#[test]
+fn refused_words(rt: HostRuntime) {
+    let cases: [(&[&str], &str); 9] = [
+        (&["run", "--nodes", "0"], "0 is not in 1..=16"),
+        (&["run", "--nodes", "17"], "17 is not in 1..=16"),
+        (&["run", "--workers", "17"], "17 is not in 0..=16"),
+        (&["run", "--nodes", "two"], "<1..16>"),
+        (&["run", "--workers=-0"], "<0..16>"),
+        (&["run", "--nodes"], "<1..16>"),
+        (&["run", "--nodes=2", "--nodes=3"], "--nodes"),
+        (&["play", "again"], "again"),
+        (&["server"], "server"),
+    ];
+    expect_refused(&rt, rt.alloc(), &cases);
+}
+
+#[test]
+fn help_and_version(rt: HostRuntime) {
+    let alloc = rt.alloc();
+    let example = "printf 'alice 100.00 50.00\\nbegin\\ndeposit alice 1.00\\n' \
+        | smallbank run --nodes 2\n";
+    expect_told(&rt, alloc, &["--version"], 0, "smallbank ");
+    expect_told(&rt, alloc, &["--help"], 0, "Plays a schedule");
+    expect_told(&rt, alloc, &["run", "--help"], 0, example);
+    let example = "printf 'alice 100.00 50.00\\nbegin\\n' | smallbank serve --port 4000\n";
+    expect_told(&rt, alloc, &["serve", "--help"], 0, example);
+}
+
+#[test]
+fn words_of_bytes_that_are_no_text(rt: HostRuntime) {
+    let error = refuse_bytes(rt.alloc());
+    expect_error(&rt, rt.alloc(), &error, 2, "a word isn't UTF-8");
+}

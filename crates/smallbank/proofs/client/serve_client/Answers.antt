@@ -1,5 +1,0 @@
-use Rattle.smallbank.proofs.SessionsInOrder.{not_heard}
-use Rattle.smallbank.proofs.client.serve_client.Goals as goal
-
-pub returns-in_default-clause-session : goal.returns-in_default-clause-session
-returns-in_default-clause-session g c = not_heard c.args.primary.now.log c.requires.one_each (g.T.Read.remaining c.args.stream.now)

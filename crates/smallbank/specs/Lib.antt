@@ -1,8 +1,0 @@
-pub mod Faults
-pub mod Opening
-pub mod ServeFaults
-pub mod ServeOutput
-pub mod Sessions
-pub mod StoreAfter
-pub mod Words
-pub mod inner

@@ -1,4 +1,0 @@
-pub mod BankAfter
-pub mod ServeSteps
-pub mod StepFaults
-pub mod WordValues
