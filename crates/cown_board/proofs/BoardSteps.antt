@@ -3,7 +3,7 @@ use Rattle.std.proofs.Common.{◌≡◌, inl, inr, ℕ, suc, ◌+◌, ◌-◌, �
 use Rattle.std.specs.Prelude.{◌==◌, count_by, slice_get, slice_set}
 use Rattle.std.specs.VecDeque.{deque_capacity}
 use Rattle.std.proofs.lemmas.Bool.{and_parts, cases_Bool}
-use Rattle.std.proofs.lemmas.List.{length-replicate, take_all}
+use Rattle.std.proofs.lemmas.List.{length-replicate}
 use Rattle.std.proofs.lemmas.Option.{slice_get_within, IfSome_then}
 use Rattle.sb_rows.specs.Balances.{Balances}
 use Rattle.sb_calls.specs.Cowns.{AreBelow, IsRising, contents_of, write_cowns}
@@ -125,28 +125,6 @@ module _ {B : Type 0} (touches : B → List ℕ) (effect : B → List ℤ → Re
     length_limit = board.length_limit;
     cut = board.cut;
   }
-
-  -- the same with a cut at its length
-  pub IsBoard-cut : (number : ℕ) (columns : Balances) → number ≡ inside.base + length inside.log → columns ≡ inside.now
-      → IsBoard touches effect (record inside { cut = Some (record { number = number; columns = columns; unfinished = inside.unfinished }) })
-  IsBoard-cut number columns here same =
-      let all : length inside.log ≤ number - inside.base = omega (arith, here) in
-      let log = take_all (number - inside.base) inside.log all in
-      let states = take_all (number - inside.base) inside.states (omega (arith, all, board.keeps.same_length)) in
-      record {
-        base_length = board.base_length;
-        keeps = board.keeps;
-        links = board.links;
-        unfinished = board.unfinished;
-        unfinished_limit = board.unfinished_limit;
-        length_limit = board.length_limit;
-        cut = record {
-          after = omega (arith, here);
-          within = omega (arith, here);
-          keeps = rw (log, states, same) board.keeps;
-          unfinished = rw states board.unfinished;
-        };
-      }
 
   -- the same if they have at least as much room
   pub IsBoard-stays : (new : Links) → KeepsRoom inside.links new → LeavesLinks inside.links new → IsBoard touches effect (record inside { links = new })

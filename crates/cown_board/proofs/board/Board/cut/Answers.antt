@@ -1,7 +1,6 @@
-use Rattle.std.proofs.Common.{Some, Ok, ◌+◌, length, sym, ap, subst, ◌∙◌}
-use Rattle.cown_board.proofs.BoardSteps.{IsBoard-cut}
+use Rattle.std.proofs.Common.{Some, Ok, sym, subst, ◌∙◌}
 use Rattle.cown_board.proofs.CallEffects.{played_cut, played_pending, played_uncopied}
-use Rattle.cown_board.specs.Board.{BoardOf, length_of}
+use Rattle.cown_board.specs.Board.{BoardOf}
 use Rattle.cown_board.specs.BoardCalls.{StaysTrueToLog, CutMade}
 use Rattle.cown_board.proofs.board.Board.cut.Goals as goal
 
@@ -21,9 +20,3 @@ returns-clause-played g c =
     subst (λ (v : BoardOf g.row.B.Denot). StaysTrueToLog touches effect c.args.self.now (CutMade (Ok number)) (record v { cut = Some number }))
     (sym c.self.view_is)
     (played_cut touches effect c.args.self.now number (sym c.cut_length.ensures.value ∙ c.in_default.is) c.length-number.ensures.value)
-
-pub invariant_of-self : goal.invariant_of-self
-invariant_of-self g c =
-    let seen = ap (λ (v : BoardOf g.row.B.Denot). length_of v) (sym c.self.view_is) in
-    IsBoard-cut g.B.Behaviour.touches g.B.Behaviour.effect c.self.invariant c.length-number.result c.in-Ok.columns
-    (c.length-number.ensures.value ∙ seen ∙ ap (λ n. n + length c.self.inside.log.items) c.self.invariant.base_length) c.in-Ok.ensures
