@@ -7,7 +7,7 @@ use Rattle.sb_calls.specs.declared.ask.Key.{Key}
 use Rattle.sb_calls.specs.declared.call.Call.{Call}
 use Rattle.sb_calls.specs.declared.reply.Reply.{Reply}
 use Rattle.sb_sequencer.specs.inner.StoredAnswers.{StoresAnswer}
-use Rattle.sb_sequencer.specs.Notes.{IsAnswerNote, after_answer, answer_of}
+use Rattle.sb_sequencer.specs.Notes.{after_answer, answer_of}
 use Rattle.sb_sequencer.specs.Numbering.{index_of_key}
 use Rattle.sb_sequencer.specs.Sequencer.{SequencerOf}
 use Rattle.sb_sequencer.specs.inner.Padding.{padded_answers}
@@ -50,23 +50,12 @@ padded-set places place filled answer l =
     ap (λ n. slice_set filled place answer ++ replicate (places - n) None) (length-set filled place answer)
     ∙ sym (set-append_left filled (replicate (places - length filled) None) place answer l)
 
-slice_get-left : {X : Type 0} (xs ys : List X) (place : ℕ) → place < length xs → slice_get (xs ++ ys) place ≡ slice_get xs place
-slice_get-left [] ys place l = absurd (omega (arith, l))
-slice_get-left (x ∷ xs) ys zero l = refl
-slice_get-left (x ∷ xs) ys (suc place) l = slice_get-left xs ys place (omega (arith, l))
-
 -- ---- what an answer changes, and how it is noted
 
 module _ (log : List (Key × Call)) (recorded checkpoints : List ℕ) (kept : List (Option Reply)) (place number : ℕ) (reply : Reply)
     (few : length kept ≤ length log) (within : place < length log) (is : number ≡ suc place) where
   abbrev with_answers : List (Option Reply) → SequencerOf
   with_answers answers = record { log = log; recorded = recorded; checkpoints = checkpoints; answers = padded_answers (length log) answers }
-
-  filled : length (padded_answers (place + 1) kept) ≤ length log
-  filled = elim (cases_lt place (length kept)) [
-    | inl l ↦ omega (arith, few, l, ap length (padded_answers-full (place + 1) kept (omega (arith, l))))
-    | inr l ↦ omega (arith, within, length-padded_answers (place + 1) kept (omega (arith, l)))
-  ]
 
   again : padded_answers (length log) (padded_answers (place + 1) kept) ≡ padded_answers (length log) kept
   again = padded_answers-again (place + 1) (length log) kept few (omega (arith, within))
@@ -86,19 +75,6 @@ module _ (log : List (Key × Call)) (recorded checkpoints : List ℕ) (kept : Li
   answered_state Repeat new h = unchanged new h.1
   answered_state Odd new h = unchanged new h.1
   answered_state Unknown new h = absurd h
-
-  at : slice_get (padded_answers (length log) kept) place ≡ slice_get (padded_answers (place + 1) kept) place
-  at =
-      let there : place < length (padded_answers (place + 1) kept) = (filled_within place kept).0 in
-      ap (λ xs. slice_get xs place) (sym again)
-      ∙ slice_get-left (padded_answers (place + 1) kept) (replicate (length log - length (padded_answers (place + 1) kept)) None) place there
-
-  pub answered_note : (note : AnswerNote) (new : List (Option Reply)) → StoresAnswer (padded_answers (place + 1) kept) place reply note new
-      → IsAnswerNote (with_answers kept) (suc place) reply note
-  answered_note Kept new h = at ∙ h.0
-  answered_note Repeat new h = at ∙ h.0
-  answered_note Odd new h = (h.0.0, at ∙ h.0.1, h.0.2)
-  answered_note Unknown new h = absurd h
 
 -- ---- what is kept for a place
 
