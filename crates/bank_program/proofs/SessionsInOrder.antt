@@ -8,7 +8,6 @@ use Rattle.sb_sequencer.specs.Numbering.{IsLog, first_asks}
 use Rattle.bank_server.proofs.OwnLog.{own_log}
 use Rattle.bank_server.specs.Session.{IsFromClient}
 use Rattle.bank_server.specs.declared.session_fault.SessionFault.TheVariants.{Device}
-use Rattle.sb_frames.specs.declared.frame.Frame as frames
 use Rattle.bank_program.specs.Sessions.{AreSessions, End, ServesFirst, IsSession, AcceptsNext}
 
 abbrev Log : Type 0

@@ -19,7 +19,7 @@ use Rattle.lane_audit.specs.Columns.{total}
 use Rattle.sb_checkpoint.specs.Checkpoint.{CheckpointOf, Layout, First, Second, SpellsInLayout, magic, opening_field, checkpoint_spelling}
 use Rattle.sb_checkpoint.specs.Reading.{amounts_at, balances_fault, empty_size, head_fault, is_below_zero, is_no_reply, is_past_limit, layout_fault, opening_fault, replies_fault, stated_layout, stated_opening, stated_reply, stated_checking, stated_customers, stated_reply_count, stated_replies, stated_savings, stated_size, stated_total}
 use Rattle.sb_checkpoint.specs.declared.fault.CheckpointFault.{CheckpointFault}
-use Rattle.sb_checkpoint.specs.declared.fault.CheckpointFault.TheVariants.{BadMagic, Short, WrongCustomers, OutOfRange, NegativeSavings, WrongTotal, WrongOpening, BadReply, Long}
+use Rattle.sb_checkpoint.specs.declared.fault.CheckpointFault.TheVariants.{Short, WrongCustomers, OutOfRange, NegativeSavings, WrongTotal, WrongOpening, BadReply, Long}
 use Rattle.sb_checkpoint.proofs.Chunks.{length-amounts}
 use Rattle.lane_audit.proofs.Chunks.{length-first_chunks}
 use Rattle.sb_checkpoint.proofs.FieldLists.{amounts_spelled, replies_spelled}

@@ -16,7 +16,7 @@ use Rattle.lane_audit.specs.Columns.{total}
 use Rattle.sb_checkpoint.specs.Checkpoint.{CheckpointOf, Layout, First, Second, OneCheckpoint, Origin, SpellsInLayout, magic, opening_field, checkpoint_spelling}
 use Rattle.sb_checkpoint.specs.Reading.{SpellingHasNoFault, stated_amount, amounts_at, balances_fault, empty_size, head_fault, is_below_zero, is_past_limit, layout_fault, opening_fault, stated_layout, stated_opening, stated_reply, stated_checking, stated_customers, stated_reply_count, stated_savings, stated_size, stated_total}
 use Rattle.sb_checkpoint.specs.declared.fault.CheckpointFault.{CheckpointFault}
-use Rattle.sb_checkpoint.specs.declared.fault.CheckpointFault.TheVariants.{BadMagic, Short, WrongCustomers, OutOfRange, NegativeSavings, WrongTotal, WrongOpening}
+use Rattle.sb_checkpoint.specs.declared.fault.CheckpointFault.TheVariants.{Short, WrongCustomers, OutOfRange, NegativeSavings, WrongTotal, WrongOpening}
 use Rattle.sb_checkpoint.proofs.Balances.{amounts_fit, none_negative, none_past_limit, savings_within, total_fits}
 use Rattle.sb_checkpoint.proofs.FaultOrder.{no_fault, replies_without_fault}
 use Rattle.sb_checkpoint.proofs.ReadIsSpelling.{IsRead, opening_size, with_opening}

@@ -1,5 +1,5 @@
 -- The frames to a replica and from it, compared with the log.
-use Rattle.std.specs.Prelude.{◌≡◌, ℕ, ◌≤◌, Some, [], length}
+use Rattle.std.specs.Prelude.{◌≡◌, ℕ, ◌≤◌, Some, length}
 use Rattle.sb_calls.specs.declared.call.Call.{Call}
 use Rattle.sb_frames.specs.declared.frame.Frame.{Frame}
 use Rattle.sb_frames.specs.declared.frame.Frame.TheVariants as frame

@@ -6,7 +6,6 @@ use Rattle.sb_checkpoint.specs.declared.memory_store.How.TheVariants as how
 use Rattle.sb_frames.specs.declared.frame.Frame.{Frame}
 use Rattle.sb_frames.specs.declared.frame.Frame.TheVariants as frame
 use Rattle.cown_board.specs.declared.board.TheConstants.{OPEN_BEHAVIOURS}
-use Rattle.sb_replica.specs.declared.heard.Heard.TheVariants as heard
 use Rattle.sb_replica_log.specs.declared.replica_log.TheConstants.{HELD_ENTRIES}
 use Rattle.schedule_player.specs.Bank.{BankOf, log_reply}
 use Rattle.schedule_player.specs.OneBased.{nth_item, with_nth, copies}

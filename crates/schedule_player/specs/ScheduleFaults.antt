@@ -1,11 +1,9 @@
 -- What a fault of a schedule means.
 use Rattle.std.specs.Prelude.{◌≡◌, ℕ, Option, Result, Err, List}
 use Rattle.std.specs.Io.KnownBytes.{Keeps}
-use Rattle.sb_text.specs.declared.input.ReadFault.TheVariants as reading
 use Rattle.schedule_player.specs.declared.fault.ScheduleFault.{ScheduleFault}
 use Rattle.schedule_player.specs.declared.fault.ScheduleFault.TheVariants.{Input, Device, OutOfMemory}
 use Rattle.schedule_text.specs.declared.fault.ScheduleLineFault.{ScheduleLineFault}
-use Rattle.schedule_text.specs.declared.fault.TextFault.TheVariants as text
 
 -- a fault of a line is the first one in the text
 abbrev pub BlamesSchedule : {A : Type 0} → ScheduleFault → Result A (ℕ × ScheduleLineFault) → Type 0

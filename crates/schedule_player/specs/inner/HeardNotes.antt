@@ -1,5 +1,4 @@
 -- The note on a replica's answer to a frame.
-use Rattle.std.specs.Prelude.{◌-◌}
 use Rattle.sb_replica.specs.declared.heard.Heard.{Heard}
 use Rattle.sb_replica.specs.declared.heard.Heard.TheVariants as heard
 use Rattle.schedule_text.specs.declared.note.Note.{Note}

@@ -1,4 +1,4 @@
-use Rattle.std.proofs.Common.{◌≡◌, ◌∷◌, [], ◌++◌, ◌∙◌, ap, ap₂, w64}
+use Rattle.std.proofs.Common.{◌∷◌, [], ◌++◌, ◌∙◌, ap, ap₂, w64}
 use Rattle.std.proofs.lemmas.List.{append_assoc}
 use Rattle.sb_calls.specs.Replies.{integer_field, reply_field}
 use Rattle.sb_frames.proofs.encoding.put_answer.Goals as goal

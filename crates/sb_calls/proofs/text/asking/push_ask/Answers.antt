@@ -1,4 +1,4 @@
-use Rattle.std.proofs.Common.{◌≡◌, sym}
+use Rattle.std.proofs.Common.{sym}
 use Rattle.sb_calls.specs.Ask.{ask_line_of}
 use Rattle.sb_calls.proofs.text.asking.push_ask.Goals as goal
 
