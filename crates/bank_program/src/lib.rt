@@ -1,10 +1,9 @@
-//! The program as a library: what its words say and start, how its faults are reported, and the bank
-//! that it serves.
+//! The program as a library: what its words say, how its faults are reported, and the bank that it
+//! serves.
 #![tactic(auto)]
 
 mod client;
 mod command;
-mod dispatch;
 mod fault;
 mod hanging_up;
 mod listener;
@@ -20,7 +19,6 @@ mod serving;
 mod session_end;
 mod words;
 
-pub use dispatch::start;
 pub use fault::ProgramFault;
 pub use hanging_up::pass_over;
 pub use listener::{ClientListener, SocketListener};
