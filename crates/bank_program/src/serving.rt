@@ -105,8 +105,8 @@ where
     serve_beside(rt, followers, server)
 }
 
-/// Serves a bank, as [`serve`] does, with these followers, which may have begun otherwise than the
-/// bank: then one of them strays.
+/// Serves a bank as [`serve`] does, and fails as it does, beside these followers. The plan's number
+/// of nodes isn't read. A follower that began otherwise than the bank strays.
 pub fn serve_beside<H, D, S, W>(
     rt: &H,
     followers: ReadyFollowers,

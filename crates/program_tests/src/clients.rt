@@ -12,7 +12,7 @@ use std::time::Duration;
 
 /// How a client's stream behaves.
 #[derive(Clone, Copy, PartialEq, Eq)]
-pub enum Manner {
+pub(crate) enum Manner {
     /// It gives all bytes that were sent.
     Plain,
     /// It can't be set up.
@@ -25,24 +25,24 @@ pub enum Manner {
 
 /// What a client sends, in pieces of three bytes, and how its stream behaves.
 #[derive(Clone, Copy)]
-pub struct Client<'a> {
-    pub sent: &'a [u8],
-    pub manner: Manner,
+pub(crate) struct Client<'a> {
+    pub(crate) sent: &'a [u8],
+    pub(crate) manner: Manner,
 }
 
 /// Everything that is sent to clients, how often the server hangs up before they do, and how long
 /// it waited for each of them, at a read and at a write.
 #[derive(Drop)]
-pub struct Transcript {
-    pub bytes: RefCell<Vec<u8>>,
-    pub hung_up: Cell<usize>,
-    pub read_limit: Cell<Option<Duration>>,
-    pub write_limit: Cell<Option<Duration>>,
+pub(crate) struct Transcript {
+    pub(crate) bytes: RefCell<Vec<u8>>,
+    pub(crate) hung_up: Cell<usize>,
+    pub(crate) read_limit: Cell<Option<Duration>>,
+    pub(crate) write_limit: Cell<Option<Duration>>,
 }
 
 impl Transcript {
     /// Before the first client.
-    pub fn new(alloc: Global) -> Transcript {
+    pub(crate) fn new(alloc: Global) -> Transcript {
         Transcript {
             bytes: RefCell::new(Vec::new(alloc)),
             hung_up: Cell::new(0),
@@ -54,7 +54,7 @@ impl Transcript {
 
 /// The server's end of a client's stream.
 #[derive(Drop)]
-pub struct End<'c, 't> {
+pub(crate) struct End<'c, 't> {
     client: Client<'c>,
     told: &'t Transcript,
 }
@@ -124,13 +124,13 @@ impl OpenStream for End<'_, '_> {
 
 /// Lets clients in, in order. After the last one it lets nobody in.
 #[derive(Drop)]
-pub struct TestListener<'c, 't> {
-    pub coming: VecDeque<End<'c, 't>>,
+pub(crate) struct TestListener<'c, 't> {
+    pub(crate) coming: VecDeque<End<'c, 't>>,
 }
 
 impl<'c, 't> TestListener<'c, 't> {
     /// The listener for these clients, and where their answers go.
-    pub fn of(
+    pub(crate) fn of(
         alloc: Global,
         clients: &[Client<'c>],
         told: &'t Transcript,

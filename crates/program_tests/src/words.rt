@@ -66,29 +66,35 @@ fn words_of_the_program(rt: HostRuntime) {
     expect(&rt, alloc, &["play"], Words::Play);
 }
 
+// A bank that is served with no option but the port.
+const SERVED_AS_USUAL: Plan = Plan {
+    sessions: 1,
+    nodes: 1,
+    workers: 0,
+    saves: false,
+    patience: None,
+};
+
+// A bank that is served with the greatest number for each option.
+const SERVED_AT_MOST: Plan = Plan {
+    sessions: 1_000,
+    nodes: 16,
+    workers: 16,
+    saves: true,
+    patience: Some(86_400),
+};
+
 #[test]
 fn words_of_a_server(rt: HostRuntime) {
     let alloc = rt.alloc();
     let usual = Words::Serve {
         port: 0,
-        plan: Plan {
-            sessions: 1,
-            nodes: 1,
-            workers: 0,
-            saves: false,
-            patience: None,
-        },
+        plan: SERVED_AS_USUAL,
         store: None,
     };
     let all = Words::Serve {
         port: 65_535,
-        plan: Plan {
-            sessions: 1_000,
-            nodes: 16,
-            workers: 16,
-            saves: true,
-            patience: Some(86_400),
-        },
+        plan: SERVED_AT_MOST,
         store: Some("a folder"),
     };
     let port = ["--port=65535", "--sessions=1000"];
