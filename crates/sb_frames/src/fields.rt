@@ -1,8 +1,8 @@
 //! Fields read from the left.
-ghost use Rattle.std.specs.Prelude.{◌≡◌, ◌==◌, IfOk, length, Ok, Err};
+ghost use Rattle.std.specs.Prelude.{◌≡◌, ◌==◌, length};
 ghost use Rattle.std.specs.Int.{w32, w64};
 ghost use Rattle.sb_frames.specs.Reading as spec;
-ghost use Rattle.sb_frames.specs.inner.FieldReading.{TakesField, TakesBytes};
+ghost use Rattle.sb_frames.specs.inner.FieldReading.{TakesField};
 
 use crate::fault::FrameFault;
 use sb_amount::Cents;
@@ -51,38 +51,27 @@ impl<'a> Fields<'a> {
         }
     }
 
-    // The next bytes, this many.
-    #[inline]
-    #[tactic(auto, unfolding(crate::specs::Reading::bytes_at))]
-    fn bytes(&mut self, count: usize) -> Result<&'a [u8], FrameFault>
-        ensures read { TakesBytes result self.new (spec.bytes_at count self.old) }
-        ensures size { IfOk result (λ front. length front.now ≡ count) }
-    {
-        if self.bytes.len() < count {
-            return Err(FrameFault::BadLength);
-        }
-        let (front, rest) = self.bytes.split_at(count);
-        self.bytes = rest;
-        Ok(front)
-    }
-
-    #[tactic(auto, unfolding(crate::specs::Reading::unsigned_at))]
+    #[tactic(auto, unfolding(crate::specs::Reading::unsigned_at, crate::specs::Reading::bytes_at))]
     pub(crate) fn u32(&mut self) -> Result<u32, FrameFault>
         ensures { TakesField result self.new (spec.unsigned_at w32 self.old) }
     {
-        let cells = self.bytes(4)?;
-        Ok(u32::from_be_bytes([cells[0], cells[1], cells[2], cells[3]]))
+        let Some((cells, rest)) = self.bytes.split_first_chunk() else {
+            return Err(FrameFault::BadLength);
+        };
+        self.bytes = rest;
+        Ok(u32::from_be_bytes(*cells))
     }
 
     #[inline]
-    #[tactic(auto, unfolding(crate::specs::Reading::unsigned_at))]
+    #[tactic(auto, unfolding(crate::specs::Reading::unsigned_at, crate::specs::Reading::bytes_at))]
     pub(crate) fn u64(&mut self) -> Result<u64, FrameFault>
         ensures { TakesField result self.new (spec.unsigned_at w64 self.old) }
     {
-        let cells = self.bytes(8)?;
-        Ok(u64::from_be_bytes([
-            cells[0], cells[1], cells[2], cells[3], cells[4], cells[5], cells[6], cells[7],
-        ]))
+        let Some((cells, rest)) = self.bytes.split_first_chunk() else {
+            return Err(FrameFault::BadLength);
+        };
+        self.bytes = rest;
+        Ok(u64::from_be_bytes(*cells))
     }
 
     #[inline]
@@ -102,7 +91,7 @@ impl<'a> Fields<'a> {
     }
 
     #[inline]
-    #[tactic(auto, unfolding(crate::specs::Reading::name_at))]
+    #[tactic(auto, unfolding(crate::specs::Reading::name_at, crate::specs::Reading::bytes_at))]
     pub(crate) fn name(&mut self) -> Result<Name, FrameFault>
         ensures { TakesField result self.new (spec.name_at self.old) }
     {
@@ -110,6 +99,10 @@ impl<'a> Fields<'a> {
         if size == 0 || NAME_BYTES < size {
             return Err(FrameFault::BadName);
         }
-        Name::new(self.bytes(size)?).ok_or(FrameFault::BadName)
+        let Some((text, rest)) = self.bytes.split_at_checked(size) else {
+            return Err(FrameFault::BadLength);
+        };
+        self.bytes = rest;
+        Name::new(text).ok_or(FrameFault::BadName)
     }
 }
