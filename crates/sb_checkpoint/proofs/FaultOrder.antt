@@ -1,16 +1,19 @@
 -- Faults that are tested one after another.
-use Rattle.std.proofs.Common.{◌≡◌, ℕ, ◌<◌, ◌≤◌, ◌⊎◌, Bool, true, false, cond, ltb, ◌||◌, Option, Some, None, List, [], ◌∷◌, length, get_or, map, refl, sym, ap, ap₂, ◌∙◌, arith, inl, inr}
+use Rattle.std.proofs.Common.{◌≡◌, ℕ, ◌<◌, ◌≤◌, ◌⊎◌, ℤ, ◌+ℤ◌, Bool, true, false, cond, ltb, not, ◌||◌, Option, Some, None, List, [], ◌∷◌, length, get_or, map, refl, sym, ap, ap₂, ◌∙◌, arith, inl, inr}
 use Rattle.std.specs.Prelude.{◌≢◌}
 use Rattle.std.specs.Option.{option_or, option_and_then}
 use Rattle.std.specs.List.{list_any}
+use Rattle.std.specs.Ordering.{int_eq}
 use Rattle.std.proofs.lemmas.Bool.{lt-ltb, le-ltb}
+use Rattle.std.proofs.lemmas.Bool.Decides.{Decides-int_eq}
 use Rattle.std.proofs.lemmas.List.{get_or-map, length-map}
 use Rattle.std.proofs.lemmas.List.Folds.{list_any_at}
+use Rattle.lane_audit.specs.Columns.{total}
 use Rattle.sb_calls.specs.declared.call.TheConstants.{LOG_CALLS}
 use Rattle.sb_calls.specs.declared.reply.Reply.{Reply}
 use Rattle.sb_checkpoint.specs.Checkpoint.{Layout, Origin}
 use Rattle.sb_checkpoint.specs.inner.ReadingFaults.{IsFaultOf}
-use Rattle.sb_checkpoint.specs.Reading.{IsRefusedBy, balances_fault, fault_after_head, first_fault, head_fault, is_no_reply, layout_fault, opening_fault, replies_fault, stated_layout, stated_reply, stated_reply_count, stated_replies, stated_size}
+use Rattle.sb_checkpoint.specs.Reading.{IsRefusedBy, balances_fault, fault_after_head, first_fault, head_fault, is_below_zero, is_no_reply, is_past_limit, layout_fault, opening_fault, replies_fault, stated_checking, stated_layout, stated_reply, stated_reply_count, stated_replies, stated_savings, stated_size, stated_total}
 use Rattle.sb_checkpoint.specs.declared.fault.CheckpointFault.{CheckpointFault}
 use Rattle.sb_checkpoint.specs.declared.fault.CheckpointFault.TheVariants.{BadMagic, Short, WrongCustomers, OutOfRange, NegativeSavings, WrongTotal, WrongOpening, BadReply, Long, OutOfMemory}
 
@@ -62,6 +65,23 @@ module _ (layout : Layout) (bytes : List ℕ) (replies : List Reply) (read : map
   replies_without_fault few short =
       let test : too_much ≡ false = ap₂ (λ a b. a || b) (le-ltb _ _ few) (le-ltb _ _ short) in
       replies_then ∙ ap (λ (t : Bool). cond t (Some Long) nothing) test
+
+-- ---- the balances
+
+-- the tests of columns, one after another
+abbrev tested : List ℤ → List ℤ → ℤ → Found
+tested savings checking stated =
+    cond (list_any is_past_limit savings || list_any is_past_limit checking) (Some OutOfRange)
+    (cond (list_any is_below_zero savings) (Some NegativeSavings) (cond (not (int_eq stated (total savings +ℤ total checking))) (Some WrongTotal) None))
+
+-- columns that pass all tests
+pub balances_without_fault : (bytes : List ℕ) (savings checking : List ℤ) → savings ≡ stated_savings bytes → checking ≡ stated_checking bytes
+    → list_any is_past_limit savings ≡ false → list_any is_past_limit checking ≡ false → list_any is_below_zero savings ≡ false
+    → stated_total bytes ≡ total savings +ℤ total checking → balances_fault bytes ≡ None
+unfolding balances_fault
+balances_without_fault bytes savings checking savings_are checking_are within checking_within positive same =
+    ap₂ (λ xs ys. tested xs ys (stated_total bytes)) (sym savings_are) (sym checking_are)
+    ∙ rw (within, checking_within, positive, (Decides-int_eq (stated_total bytes) (total savings +ℤ total checking)).1 same) refl
 
 -- ---- one after another
 

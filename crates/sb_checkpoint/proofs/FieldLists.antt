@@ -3,7 +3,7 @@ use Rattle.std.proofs.Common.{◌≡◌, ℕ, zero, suc, ◌+◌, ◌*◌, ◌<�
 use Rattle.std.proofs.Math.Seq.{take-add}
 use Rattle.std.specs.List.{AllByRecursion, All, flat_map}
 use Rattle.std.specs.Simd.{first_chunks}
-use Rattle.std.proofs.lemmas.List.{append-nil, length-drop, length-take-le, take_more, take_all}
+use Rattle.std.proofs.lemmas.List.{append-nil, length-drop, length-take-le, map-append, take_more, take_all}
 use Rattle.std.proofs.lemmas.List.Concat.{flat_map-append}
 use Rattle.std.proofs.lemmas.List.Elements.{All-take, All-drop, All-from_recursion}
 use Rattle.sb_calls.specs.Replies.{IsReply, amount_field, reply_field}
@@ -59,6 +59,14 @@ pub replies_spelled : (replies : List Reply) (k : ℕ) (xs : List ℕ) → map (
 replies_spelled replies k xs e room h =
     let are = are_spelled replies k xs e room h in
     (All-from_recursion IsReply replies are.valid, are.spelled)
+
+-- one more reply is read
+pub one_more_read : (cells : List (List ℕ)) (index : ℕ) (old new : List Reply) (reply : Reply) → index < length cells
+    → map (λ r. Some r) old ≡ map stated_reply (take index cells) → new ≡ old ++ reply ∷ [] → stated_reply (get_or cells index []) ≡ Some reply
+    → map (λ r. Some r) new ≡ map stated_reply (take (index + 1) cells)
+one_more_read cells index old new reply inside before is read =
+    ap (map some) is ∙ map-append some old (reply ∷ []) ∙ ap₂ (λ xs x. xs ++ x ∷ []) before (sym read)
+    ∙ sym (map-append stated_reply (take index cells) (get_or cells index [] ∷ [])) ∙ ap (map stated_reply) (sym (take_more cells index [] inside))
 
 -- ---- fields that are appended one by one
 

@@ -9,7 +9,7 @@ use Rattle.sb_checkpoint.specs.Stores.{ReportsSame}
 use Rattle.sb_checkpoint.specs.declared.store.StoreFault.{StoreFault}
 
 -- a piece that is read after others
-consumes_more : (old mid new : Option (List ℕ)) (front piece : List ℕ) → Consumes old mid front → Consumes mid new piece
+pub consumes_more : (old mid new : Option (List ℕ)) (front piece : List ℕ) → Consumes old mid front → Consumes mid new piece
     → Consumes old new (front ++ piece)
 consumes_more None mid new front piece before now = tt
 consumes_more (Some xs) None new front piece before now = absurd before
@@ -17,7 +17,7 @@ consumes_more (Some xs) (Some ys) None front piece before now = absurd now
 consumes_more (Some xs) (Some ys) (Some zs) front piece before now =
     before ∙ ap (λ rest. front ++ rest) now ∙ sym (append_assoc front piece zs)
 
-consumes_none : (old mid new : Option (List ℕ)) (front : List ℕ) → Consumes old mid front → Keeps mid new → Consumes old new front
+pub consumes_none : (old mid new : Option (List ℕ)) (front : List ℕ) → Consumes old mid front → Keeps mid new → Consumes old new front
 consumes_none None mid new front before now = tt
 consumes_none (Some xs) None new front before now = absurd before
 consumes_none (Some xs) (Some ys) None front before now = absurd now

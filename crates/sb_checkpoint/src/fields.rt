@@ -23,9 +23,7 @@ fn leading_number(cells: &[u8]) -> u64
     requires { 8 ≤ length cells.now }
     ensures { result ≡ from_be_bytes w64 (take 8 cells.now) }
 {
-    u64::from_be_bytes([
-        cells[0], cells[1], cells[2], cells[3], cells[4], cells[5], cells[6], cells[7],
-    ])
+    u64::from_be_bytes(*cells.first_chunk().unwrap())
 }
 
 #[tactic(auto, unfolding(crate::specs::Reading::stated_reply_count))]
@@ -41,8 +39,7 @@ pub(crate) fn stated_customers(bytes: &[u8]) -> u32
     requires { HEAD ≤ length bytes.now }
     ensures { result ≡ spec.stated_customers bytes.now }
 {
-    let cells = &bytes[CUSTOMERS_AT..];
-    u32::from_be_bytes([cells[0], cells[1], cells[2], cells[3]])
+    u32::from_be_bytes(*bytes[CUSTOMERS_AT..].first_chunk().unwrap())
 }
 
 #[tactic(auto, unfolding(crate::specs::Reading::stated_total))]
@@ -115,9 +112,7 @@ pub(crate) fn reply_cells(
 fn read_reply(cells: &[u8; REPLY]) -> Option<Reply>
     ensures { result ≡ stated_reply cells.now }
 {
-    let total = i64::from_be_bytes([
-        cells[1], cells[2], cells[3], cells[4], cells[5], cells[6], cells[7], cells[8],
-    ]);
+    let total = leading_number(&cells[1..]).cast_signed();
     let reply = WireReply::from_code(cells[0], total)?;
     Some(reply.reply())
 }
