@@ -18,12 +18,12 @@ use std::alloc::{AllocError, Global};
 
 // ---- numbers
 
-// The number in the first eight bytes.
-fn leading_number(cells: &[u8]) -> u64
-    requires { 8 ≤ length cells.now }
-    ensures { result ≡ from_be_bytes w64 (take 8 cells.now) }
+// The number in the eight bytes from an offset on.
+fn number_at(bytes: &[u8], at: usize) -> u64
+    requires { at + 8 ≤ length bytes.now }
+    ensures { result ≡ from_be_bytes w64 (take 8 (drop at bytes.now)) }
 {
-    u64::from_be_bytes(*cells.first_chunk().unwrap())
+    u64::from_be_bytes(*bytes[at..].first_chunk().unwrap())
 }
 
 #[tactic(auto, unfolding(crate::specs::Reading::stated_reply_count))]
@@ -31,7 +31,7 @@ pub(crate) fn stated_reply_count(bytes: &[u8]) -> u64
     requires { HEAD ≤ length bytes.now }
     ensures { result ≡ spec.stated_reply_count bytes.now }
 {
-    leading_number(&bytes[LENGTH_AT..])
+    number_at(bytes, LENGTH_AT)
 }
 
 #[tactic(auto, unfolding(crate::specs::Reading::stated_customers))]
@@ -49,7 +49,7 @@ pub(crate) fn stated_total(bytes: &[u8], customers: usize) -> i64
     requires room { EMPTY_FIRST + BALANCES * customers ≤ length bytes.now }
     ensures { result ≡ spec.stated_total bytes.now }
 {
-    leading_number(&bytes[HEAD + BALANCES * customers..]).cast_signed()
+    number_at(bytes, HEAD + BALANCES * customers).cast_signed()
 }
 
 // The opening total, in the second layout.
@@ -60,7 +60,7 @@ pub(crate) fn stated_opening(bytes: &[u8], customers: usize) -> i64
     requires room { EMPTY_SECOND + BALANCES * customers ≤ length bytes.now }
     ensures { result ≡ spec.stated_opening bytes.now }
 {
-    leading_number(&bytes[EMPTY_FIRST + BALANCES * customers..]).cast_signed()
+    number_at(bytes, EMPTY_FIRST + BALANCES * customers).cast_signed()
 }
 
 // ---- balances
@@ -112,8 +112,7 @@ pub(crate) fn reply_cells(
 fn read_reply(cells: &[u8; REPLY]) -> Option<Reply>
     ensures { result ≡ stated_reply cells.now }
 {
-    let total = leading_number(&cells[1..]).cast_signed();
-    let reply = WireReply::from_code(cells[0], total)?;
+    let reply = WireReply::from_code(cells[0], number_at(cells, 1).cast_signed())?;
     Some(reply.reply())
 }
 

@@ -87,15 +87,22 @@ fn write_synced<W: Write + OpenFile>(file: &mut W, bytes: &[u8]) -> io::Result<(
     file.sync_all()
 }
 
+// The length of a file, or 0 if it is unknown. Then room is made as the bytes come.
+fn length_of<F: OpenFile>(file: &F) -> usize {
+    match file.metadata() {
+        Ok(metadata) => metadata.len() as usize,
+        Err(_) => 0,
+    }
+}
+
 // All bytes of a reader, with room for this many at first. An interrupted read is repeated, and
 // counts as one.
 fn read_whole<R: Read>(alloc: Global, room: usize, reader: &mut R) -> Result<Vec<u8>, StoreFault>
     ensures { IfOk result (λ bytes. IfSome (R.remaining reader.old) (λ content. bytes.items ≡ content)) }
 {
-    let mut bytes = Vec::new(alloc);
-    if bytes.reserve(room).is_err() {
+    let Ok(mut bytes) = Vec::with_capacity(alloc, room) else {
         return Err(StoreFault::OutOfMemory);
-    }
+    };
     let mut chunk = [0u8; CHUNK];
     for _ in 0..READS {
         match reader.read(&mut chunk) {
@@ -164,16 +171,14 @@ impl<F: Files + Drop> FileWithSpare for FolderFile<F> {
     }
 
     fn read(&mut self) -> Result<Option<Vec<u8>>, StoreFault> {
-        let mut file = match fs::open(&self.files, &self.path) {
-            Ok(file) => file,
-            Err(error) if error.kind() == ErrorKind::NotFound => return Ok(None),
-            Err(_) => return Err(StoreFault::Device),
-        };
-        // If the length is unknown, room is made as the bytes come.
-        let room = file
-            .metadata()
-            .map_or(0, |metadata| metadata.len() as usize);
-        Ok(Some(read_whole(self.alloc, room, &mut file)?))
+        match fs::open(&self.files, &self.path) {
+            Ok(mut file) => {
+                let room = length_of(&file);
+                Ok(Some(read_whole(self.alloc, room, &mut file)?))
+            }
+            Err(error) if error.kind() == ErrorKind::NotFound => Ok(None),
+            Err(_) => Err(StoreFault::Device),
+        }
     }
 
     // The comparison is piece by piece, so the bytes needn't all be in memory.

@@ -4,7 +4,7 @@ use Rattle.std.specs.Prelude.{Vec}
 use Rattle.std.specs.declared.alloc.Global.{Global}
 use Rattle.sb_checkpoint.proofs.PieceComparison.{consumes_more, consumes_none}
 use Rattle.sb_checkpoint.proofs.folder_file.read_whole.Goals as goal
-use Rattle.sb_checkpoint.proofs.folder_file.read_whole.Goals.{in-Ok+else-is_err-2, in-Err+else-ne}
+use Rattle.sb_checkpoint.proofs.folder_file.read_whole.Goals.{in-Ok-read+else-is_err, in-Err+else-ne}
 
 pub loop-preserved : goal.loop-preserved
 loop-preserved g c =
@@ -13,12 +13,12 @@ loop-preserved g c =
     let new = g.R.Read.remaining c.read.new.self in
     let before = c.loop.bytes.items in
     elim c.match-read.branch [
-      | in-Ok+else-is_err-2 w ↦
-          let piece = take w.in-Ok.count c.read.new.buf in
+      | in-Ok-read+else-is_err w ↦
+          let piece = take w.in-Ok-read.count c.read.new.buf in
           let items : w.extend_from_slice.new.self.items ≡ before ++ piece =
-          search (rules, w.extend_from_slice.ensures.items, w.is_err-in-Ok.ensures, w.if-is_err-2.false) in
+          search (rules, w.extend_from_slice.ensures.items, w.is_err.ensures, w.if-is_err.false) in
           subst (λ (bytes : Vec ℕ Global). Consumes old new bytes.items) (sym w.bytes-is)
-          (subst (λ bytes. Consumes old new bytes) (sym items) (consumes_more old mid new before piece c.loop.invariant w.in-Ok.ensures.bytes.0))
+          (subst (λ bytes. Consumes old new bytes) (sym items) (consumes_more old mid new before piece c.loop.invariant w.in-Ok-read.ensures.bytes.0))
       | in-Err+else-ne w ↦
           subst (λ (bytes : Vec ℕ Global). Consumes old new bytes.items) (sym w.bytes-is)
           (consumes_none old mid new before c.loop.invariant w.in-Err.ensures.bytes)
