@@ -18,7 +18,7 @@ fn same_call(a: &Call, b: &Call) -> bool
 }
 
 // The answer to an ask whose key is at this index of a log, with this call.
-pub(crate) fn answer_known(index: usize, numbered: &Call, call: &Call) -> Result<Numbered, AskFault>
+fn answer_known(index: usize, numbered: &Call, call: &Call) -> Result<Numbered, AskFault>
     requires { index < LOG_CALLS }
     ensures answer { (log : List (AnyKey × AnyCall)) (key : AnyKey) → index_of_key log key ≡ Some index
         → slice_get log index ≡ Some (key, numbered.now) → AnswersAsk log (key, call.now) result }
@@ -32,15 +32,14 @@ pub(crate) fn answer_known(index: usize, numbered: &Call, call: &Call) -> Result
     }
 }
 
-// Answers an ask at a log that takes one more call. It appends a new key once there is room for an
-// answer to it.
-pub(crate) fn ask_with_room(
+// Answers an ask, and appends its call if the key is new, once there is room for an answer to it.
+pub(crate) fn ask_log(
     log: &mut Log,
     answers: &mut Vec<Option<Reply>>,
     key: Key,
     call: &Call,
 ) -> Result<Numbered, AskFault>
-    requires calls { length log.old < LOG_CALLS }
+    requires calls { length log.old ≤ LOG_CALLS }
     requires limit { length answers.old.items ≤ length log.old }
     requires room { length log.old ≤ vec_capacity answers.old }
     ensures answer { AnswersAsk log.old (key, call.now) result }
@@ -50,6 +49,9 @@ pub(crate) fn ask_with_room(
 {
     if let Some((index, numbered)) = log.find(&key) {
         return answer_known(index, numbered, call);
+    }
+    if log.len() >= LOG_CALLS {
+        return Err(AskFault::LogFull);
     }
     let calls = log.len() + 1;
     if make_room(answers, calls).is_err() || log.push(key, call).is_err() {

@@ -12,7 +12,7 @@ ghost use Rattle.sb_sequencer.specs.Sequencer.{IsSequencer, state_after_ask, emp
 
 use crate::answer::{AskFault, Numbered};
 use crate::answers::{store_answer, stored_answer};
-use crate::asking::{answer_known, ask_with_room};
+use crate::asking::ask_log;
 use crate::log::Log;
 use crate::note::{AckNote, AnswerNote};
 use arrayvec::ArrayVec;
@@ -146,26 +146,6 @@ impl Sequencer {
         self.log.reserve(additional)
     }
 
-    // Whether the log takes no more calls.
-    fn is_full(&self) -> bool
-        ensures { IsTrue result ↔ (LOG_CALLS ≤ length self.now.log) }
-    {
-        self.log.len() >= LOG_CALLS
-    }
-
-    // Answers an ask at a full log: with the number that its key has, or that the log takes no
-    // more.
-    fn ask_full(&self, key: Key, call: &Call) -> Result<Numbered, AskFault>
-        requires { LOG_CALLS ≤ length self.now.log }
-        ensures answer { AnswersAsk self.now.log (key, call.now) result }
-        ensures log { LogAfter self.now.log (key, call.now) result self.now.log }
-    {
-        match self.log.find(&key) {
-            Some((index, numbered)) => answer_known(index, numbered, call),
-            None => Err(AskFault::LogFull),
-        }
-    }
-
     /// Numbers a request, or returns the number that it already has.
     ///
     /// Fails with
@@ -194,11 +174,9 @@ impl Sequencer {
         ensures valid { IsSequencer self.new }
     {
         let key = Key { client, request };
-        if self.is_full() {
-            return self.ask_full(key, call);
-        }
-        ask_with_room(&mut self.log, &mut self.answers, key, call)
+        ask_log(&mut self.log, &mut self.answers, key, call)
     }
+
     /// The entry with this number, counted from 1, or `None` if there is none.
     pub fn entry(&self, number: u64) -> Option<Frame>
         ensures { result ≡ entry_of self.now.log number }

@@ -7,39 +7,31 @@ use Rattle.sb_sequencer.proofs.SequencerAfterAsk.{asked_rooms, asked_state, room
 use Rattle.sb_sequencer.proofs.LogSteps.{first_asks-from_step, log_with-answered}
 use Rattle.sb_sequencer.proofs.sequencer.Sequencer.ask.Goals as goal
 
--- at a full log
-pub returns-then-is_full-clause-step : goal.returns-then-is_full-clause-step
-returns-then-is_full-clause-step c = log_with-answered c.args.self.now.log c.args.self.now.log _ _ c.ask_full.ensures.answer c.ask_full.ensures.log
-
-pub returns-then-is_full-clause-numbering : goal.returns-then-is_full-clause-numbering
-returns-then-is_full-clause-numbering c asks = first_asks-from_step asks c.args.self.now.log c.args.self.now.log _ _ (returns-then-is_full-clause-step c)
-
--- below the limit
 pub invariant_of-self : goal.invariant_of-self
 invariant_of-self c =
     let s = c.self.inside in
-    asked_rooms s.log c.ask_with_room.new.log s.recorded.items s.checkpoints.items s.answers.items
-    c.ask_with_room.new.answers.items _ _ _ _ c.self.invariant c.ask_with_room.ensures.answer c.ask_with_room.ensures.log
-    c.ask_with_room.ensures.unchanged c.ask_with_room.ensures.room
+    asked_rooms s.log c.ask_log.new.log s.recorded.items s.checkpoints.items s.answers.items
+    c.ask_log.new.answers.items _ _ _ _ c.self.invariant c.ask_log.ensures.answer c.ask_log.ensures.log
+    c.ask_log.ensures.unchanged c.ask_log.ensures.room
 
 pub returns-clause-state : goal.returns-clause-state
 returns-clause-state c =
     let ask : Key × Call = (record { client = c.args.client; request = c.args.request }, c.args.call.now) in
     let s = c.self.inside in
-    asked_state s.log c.ask_with_room.new.log s.recorded.items s.checkpoints.items s.answers.items
-    c.ask_with_room.new.answers.items ask c.ask_with_room.result c.self.invariant.answers c.ask_with_room.ensures.log c.ask_with_room.ensures.unchanged
-    ∙ ap (λ s. state_after_ask s ask c.ask_with_room.result) c.self.view_is
+    asked_state s.log c.ask_log.new.log s.recorded.items s.checkpoints.items s.answers.items
+    c.ask_log.new.answers.items ask c.ask_log.result c.self.invariant.answers c.ask_log.ensures.log c.ask_log.ensures.unchanged
+    ∙ ap (λ s. state_after_ask s ask c.ask_log.result) c.self.view_is
 
 pub returns-clause-step : goal.returns-clause-step
 returns-clause-step c other =
     let ask : Key × Call = (record { client = c.args.client; request = c.args.request }, c.args.call.now) in
-    log_with-answered c.self.inside.log c.ask_with_room.new.log ask _ c.ask_with_room.ensures.answer c.ask_with_room.ensures.log other
+    log_with-answered c.self.inside.log c.ask_log.new.log ask _ c.ask_log.ensures.answer c.ask_log.ensures.log other
     ∙ ap (λ s. log_with s.log ask) c.self.view_is
 
 pub returns-clause-numbering : goal.returns-clause-numbering
-returns-clause-numbering c asks = first_asks-from_step asks c.args.self.now.log c.ask_with_room.new.log _ _ (returns-clause-step c)
+returns-clause-numbering c asks = first_asks-from_step asks c.args.self.now.log c.ask_log.new.log _ _ (returns-clause-step c)
 
 pub returns-clause-valid : goal.returns-clause-valid
 returns-clause-valid c =
     let s = c.self.inside in
-    rooms_sequencer c.ask_with_room.new.log s.recorded.items s.checkpoints.items c.ask_with_room.new.answers.items _ (invariant_of-self c)
+    rooms_sequencer c.ask_log.new.log s.recorded.items s.checkpoints.items c.ask_log.new.answers.items _ (invariant_of-self c)
