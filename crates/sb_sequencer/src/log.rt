@@ -43,16 +43,6 @@ impl Log {
         }
     }
 
-    // An empty log with room for this many calls.
-    pub(crate) fn with_capacity(alloc: Global, calls: usize) -> Result<Log, AllocError>
-        ensures { IfOk result (λ log. log ≡ []) }
-    {
-        Ok(Log {
-            keys: IndexSet::with_capacity_and_hasher(alloc, calls, BuildHasherDefault::new())?,
-            calls: Vec::with_capacity(alloc, calls)?,
-        })
-    }
-
     // The number of calls.
     pub(crate) fn len(&self) -> usize
         ensures { result ≡ length self.now }

@@ -90,12 +90,10 @@ impl Sequencer {
         requires { nodes ≤ REPLICAS }
         ensures { IfOk result (λ sequencer. sequencer ≡ empty_sequencer nodes) }
     {
-        Ok(Sequencer {
-            log: Log::with_capacity(alloc, calls)?,
-            recorded: zeros(nodes),
-            checkpoints: zeros(nodes),
-            answers: Vec::with_capacity(alloc, calls)?,
-        })
+        let mut sequencer = Sequencer::open(alloc, nodes);
+        sequencer.reserve(calls)?;
+        sequencer.answers.reserve(calls)?;
+        Ok(sequencer)
     }
 
     /// The number of calls in the log.
