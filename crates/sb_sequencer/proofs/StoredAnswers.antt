@@ -7,7 +7,7 @@ use Rattle.sb_calls.specs.declared.ask.Key.{Key}
 use Rattle.sb_calls.specs.declared.call.Call.{Call}
 use Rattle.sb_calls.specs.declared.reply.Reply.{Reply}
 use Rattle.sb_sequencer.specs.inner.StoredAnswers.{StoresAnswer}
-use Rattle.sb_sequencer.specs.Notes.{after_answer, answer_of}
+use Rattle.sb_sequencer.specs.Notes.{IsAnswerNote, after_answer, answer_of, answer_slot}
 use Rattle.sb_sequencer.specs.Numbering.{index_of_key}
 use Rattle.sb_sequencer.specs.Sequencer.{SequencerOf}
 use Rattle.sb_sequencer.specs.inner.Padding.{padded_answers}
@@ -50,6 +50,12 @@ padded-set places place filled answer l =
     ap (λ n. slice_set filled place answer ++ replicate (places - n) None) (length-set filled place answer)
     ∙ sym (set-append_left filled (replicate (places - length filled) None) place answer l)
 
+-- an element of a list stays where it is if others follow
+slice_get-append : {X : Type 0} (xs ys : List X) (i : ℕ) → i < length xs → slice_get (xs ++ ys) i ≡ slice_get xs i
+slice_get-append [] ys i l = absurd (omega (arith, l))
+slice_get-append (x ∷ xs) ys zero l = refl
+slice_get-append (x ∷ xs) ys (suc i) l = slice_get-append xs ys i (omega (arith, l))
+
 -- ---- what an answer changes, and how it is noted
 
 module _ (log : List (Key × Call)) (recorded checkpoints : List ℕ) (kept : List (Option Reply)) (place number : ℕ) (reply : Reply)
@@ -59,6 +65,19 @@ module _ (log : List (Key × Call)) (recorded checkpoints : List ℕ) (kept : Li
 
   again : padded_answers (length log) (padded_answers (place + 1) kept) ≡ padded_answers (length log) kept
   again = padded_answers-again (place + 1) (length log) kept few (omega (arith, within))
+
+  slot : answer_slot (with_answers kept) number ≡ slice_get (padded_answers (place + 1) kept) place
+  slot =
+      let filled = padded_answers (place + 1) kept in
+      ap (answer_slot (with_answers kept)) is ∙ ap (λ answers. slice_get answers place) (sym again)
+      ∙ slice_get-append filled (replicate (length log - length filled) None) place (filled_within place kept).0
+
+  pub answered_note : (note : AnswerNote) (new : List (Option Reply)) → StoresAnswer (padded_answers (place + 1) kept) place reply note new
+      → IsAnswerNote (with_answers kept) number reply note
+  answered_note Kept new h = slot ∙ h.0
+  answered_note Repeat new h = slot ∙ h.0
+  answered_note Odd new h = (h.0.0, slot ∙ h.0.1, h.0.2)
+  answered_note Unknown new h = absurd h
 
   unchanged : (new : List (Option Reply)) → new ≡ padded_answers (place + 1) kept → with_answers new ≡ with_answers kept
   unchanged new e =
