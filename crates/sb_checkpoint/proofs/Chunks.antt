@@ -1,7 +1,9 @@
 -- Bytes as chunks of one size.
-use Rattle.std.proofs.Common.{◌≡◌, ℕ, zero, suc, ◌+◌, ◌-◌, ◌*◌, ◌/◌, ◌<◌, ◌≤◌, List, ◌∷◌, length, take, drop, map, refl, ap, ap₂, ◌∙◌, arith}
+use Rattle.std.proofs.Common.{◌≡◌, ℕ, zero, suc, ◌+◌, ◌-◌, ◌*◌, ◌/◌, ◌<◌, ◌≤◌, Bor, List, ◌∷◌, length, take, drop, map, Option, Some, None, refl, sym, ap, ap₂, ◌∙◌, arith}
 use Rattle.std.proofs.Math.Nat.{mul-div_cancel, mul_comm}
 use Rattle.std.proofs.lemmas.List.{drop-take, take-take, length-drop, length-map, length-take-le}
+use Rattle.std.specs.Array.{IsFirstChunk}
+use Rattle.std.specs.Option.{MatchOption}
 use Rattle.std.specs.Simd.{first_chunks}
 use Rattle.sb_checkpoint.specs.Checkpoint.{Layout}
 use Rattle.sb_checkpoint.specs.Reading.{stated_amount, amounts_at, empty_size, stated_reply, stated_customers, stated_reply_count, stated_replies}
@@ -32,6 +34,21 @@ pub chunks_behind : (n from count : ℕ) (bytes : List ℕ) → 0 < n → from +
 chunks_behind n from count bytes some room =
     let whole : from + n * count - from ≡ count * n = omega (arith, mul_comm n count) in
     chunks_of_front n count (from + n * count - from) (drop from bytes) some whole (omega (arith, length-drop from bytes))
+
+-- the first chunk of everything after a place
+pub rest_has_chunk : (n from : ℕ) (bytes : List ℕ) → from + n ≤ length bytes → n ≤ length (take (length bytes - from) (drop from bytes))
+rest_has_chunk n from bytes room =
+    let whole : length bytes - from ≤ length (drop from bytes) = omega (arith, length-drop from bytes) in
+    omega (arith, room, length-take-le (length bytes - from) (drop from bytes) whole)
+
+pub first_of_rest : (n from : ℕ) (bytes : List ℕ) (found : Option (Bor (List ℕ))) (chunk : Bor (List ℕ)) → from + n ≤ length bytes
+    → (let rest = take (length bytes - from) (drop from bytes) in
+    MatchOption found (length rest < n) (λ cells. IsFirstChunk rest cells.now n))
+    → found ≡ Some chunk → chunk.now ≡ take n (drop from bytes)
+first_of_rest n from bytes None chunk room is e = absurd cc
+first_of_rest n from bytes (Some cells) chunk room is e =
+    let same : cells ≡ chunk = cc in
+    ap (λ (cells : Bor (List ℕ)). cells.now) (sym same) ∙ is.same ∙ take-take n (length bytes - from) (drop from bytes) (omega (arith, room))
 
 pub reply_chunks : (layout : Layout) (bytes : List ℕ) (customers count : ℕ) → customers ≡ stated_customers bytes → count ≡ stated_reply_count bytes
     → map stated_reply (first_chunks 9 count (drop (empty_size layout + 16 * customers) bytes)) ≡ stated_replies layout bytes
