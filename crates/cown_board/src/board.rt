@@ -128,8 +128,7 @@ impl<B: Behaviour> Board<B> {
     pub fn reserve(&mut self, additional: usize) -> Result<(), AllocError>
         ensures { self.new ≡ self.old }
     {
-        self.log.reserve(additional)?;
-        self.states.reserve(additional)?;
+        make_room(&mut self.log, &mut self.states, additional)?;
         self.links
             .reserve(self.log.len().saturating_add(additional))
     }
@@ -194,7 +193,7 @@ impl<B: Behaviour> Board<B> {
         }
         let position = self.log.len() as u64;
         let unfinished = self.unfinished + 1;
-        if make_room(&mut self.log, &mut self.states).is_err() {
+        if make_room(&mut self.log, &mut self.states, 1).is_err() {
             return Err(SubmitFault::OutOfMemory);
         }
         if self.links.submit(position, behaviour, unfinished).is_err() {
@@ -378,14 +377,18 @@ impl<B: Behaviour> Board<B> {
     }
 }
 
-// Makes room for one more behaviour. If memory is refused, nothing is lost.
+// Makes room for this many more behaviours. If memory is refused, nothing is lost.
 #[inline(always)]
-fn make_room<B: Behaviour>(log: &mut Vec<B>, states: &mut Vec<State>) -> Result<(), AllocError>
+fn make_room<B: Behaviour>(
+    log: &mut Vec<B>,
+    states: &mut Vec<State>,
+    additional: usize,
+) -> Result<(), AllocError>
     ensures log { (log.new.items ≡ log.old.items) × (vec_len log.new ≡ vec_len log.old) }
-    ensures log_room { OnOk result (vec_len log.new < vec_capacity log.new) }
+    ensures log_room { OnOk result (vec_len log.new + additional ≤ vec_capacity log.new) }
     ensures states { (states.new.items ≡ states.old.items) × (vec_len states.new ≡ vec_len states.old) }
-    ensures states_room { OnOk result (vec_len states.new < vec_capacity states.new) }
+    ensures states_room { OnOk result (vec_len states.new + additional ≤ vec_capacity states.new) }
 {
-    log.reserve(1)?;
-    states.reserve(1)
+    log.reserve(additional)?;
+    states.reserve(additional)
 }

@@ -37,6 +37,14 @@ invariant_of-self-then-is_err-2 g c =
     (IsBoard-stays g.B.Behaviour.touches g.B.Behaviour.effect c.self.invariant c.submit.new.self c.submit.ensures.room
     (on_err c.submit.result (sym c.is_err-2.ensures.value ∙ c.if-is_err-2.true) c.submit.ensures.err))
 
+pub push_reserved-requires : goal.push_reserved-requires
+push_reserved-requires g c =
+    let room = on_ok c.make_room.result (sym c.is_err.ensures.value ∙ c.if-is_err.false) c.make_room.ensures.log_room in omega (arith, room)
+
+pub push_reserved-requires-2 : goal.push_reserved-requires-2
+push_reserved-requires-2 g c =
+    let room = on_ok c.make_room.result (sym c.is_err.ensures.value ∙ c.if-is_err.false) c.make_room.ensures.states_room in omega (arith, room)
+
 pub invariant_of-self-2 : goal.invariant_of-self-2
 invariant_of-self-2 g c =
     let touches = g.B.Behaviour.touches in
