@@ -252,10 +252,12 @@ impl<B: Behaviour> Board<B> {
             return Err(done);
         }
         let cowns = self.log[position as usize].cowns();
+        let cowns = cowns.as_slice();
         let (reply, outputs) = done.into_effect();
-        self.links.finish(position, cowns.as_slice());
-        write_cowns(&mut self.columns, cowns.as_slice(), outputs.as_slice());
-        update_cut(&mut self.cut, number, cowns.as_slice(), outputs.as_slice());
+        let outputs = outputs.as_slice();
+        self.links.finish(position, cowns);
+        write_cowns(&mut self.columns, cowns, outputs);
+        update_cut(&mut self.cut, number, cowns, outputs);
         self.states[position as usize] = State::Finished(reply);
         self.unfinished -= 1;
         Ok(reply)

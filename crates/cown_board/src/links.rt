@@ -75,9 +75,10 @@ impl Links {
             return self.queues.reserve_places(unfinished * BEHAVIOUR_COWNS);
         }
         let cowns = behaviour.cowns();
-        self.queues.reserve(cowns.as_slice())?;
-        let behind = count_occupied(&self.queues, cowns.as_slice());
-        self.queues.append(position, cowns.as_slice());
+        let cowns = cowns.as_slice();
+        self.queues.reserve(cowns)?;
+        let behind = count_occupied(&self.queues, cowns);
+        self.queues.append(position, cowns);
         self.ready.push(position, behind);
         Ok(())
     }
@@ -140,8 +141,9 @@ impl Links {
         for position in first..log.len() {
             let behaviour = log[position];
             let cowns = behaviour.cowns();
-            let behind = count_occupied(&self.queues, cowns.as_slice());
-            self.queues.put(position as u64, cowns.as_slice());
+            let cowns = cowns.as_slice();
+            let behind = count_occupied(&self.queues, cowns);
+            self.queues.put(position as u64, cowns);
             self.ready.push(position as u64, behind);
         }
         // The first may be out already.

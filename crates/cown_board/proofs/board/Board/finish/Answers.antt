@@ -1,8 +1,8 @@
-use Rattle.std.proofs.Common.{◌≡◌, ◌≤◌, true, false, Some, Err, length, refl, sym, ap, ◌∙◌, subst, arith}
+use Rattle.std.proofs.Common.{◌≡◌, ◌+◌, ◌≤◌, suc, true, false, Some, Err, length, refl, sym, ap, ◌∙◌, subst, arith}
 use Rattle.std.specs.Prelude.{IfSome, slice_get}
 use Rattle.std.proofs.lemmas.Bool.{both_ways}
 use Rattle.std.proofs.lemmas.Option.{slice_get_read}
-use Rattle.sb_calls.specs.Cowns.{AreBelow, AreCownValues, contents_of, write_cowns}
+use Rattle.sb_calls.specs.Cowns.{AreBelow, AreCownValues, IsRising, contents_of, write_cowns}
 use Rattle.cown_queue.specs.Queues.{IsInFront, Releases, fronts_of}
 use Rattle.cown_board.proofs.JobFinish.{not_numbered, not_inside, refused_done, accepted_done, released_in_front, some_unfinished, outputs_held, board_finished, fronts_behind, room_for_fronts, cowns_of_cut, unfinished_in_cut, finishes_from}
 use Rattle.cown_board.proofs.JobTake.{declared_in_held, seen}
@@ -12,7 +12,23 @@ use Rattle.cown_board.specs.Board.{BoardOf, IsOutHere}
 use Rattle.cown_board.specs.inner.Links.{ComesForward}
 use Rattle.cown_board.specs.inner.CutUpdates.{UpdatesAnyCut}
 use Rattle.cown_board.specs.BoardCalls.{StaysTrueToLog, Returned}
+use Rattle.cown_board.proofs.board.Board.finish.Given.{Over}
 use Rattle.cown_board.proofs.board.Board.finish.Goals as goal
+use Rattle.cown_board.proofs.board.Board.finish.Goals.{After-as_slice-cowns}
+
+-- the result has the number of the position
+numbered : (g : Over) (c : After-as_slice-cowns g) → c.args.done.number ≡ suc (c.self.inside.base + c.in-Some.position)
+numbered g c = sym c.number-number.ensures ∙ c.in-Some.ensures.1
+
+-- the cowns are those that its behaviour declares
+declared : (g : Over) (c : After-as_slice-cowns g) → c.as_slice-cowns.result.now ≡ g.B.Behaviour.touches c.args.done.behaviour
+declared g c =
+    let log = c.self.inside.log.items in
+    let here : slice_get log c.in-Some.position ≡ Some c.index.result.now =
+    slice_get_read log (length log) c.in-Some.position c.index.result.now refl
+    (omega (arith, c.in-Some.ensures.0, c.len.ensures, c.self.inside.log.ok)) c.index.ensures in
+    let same = injective (sym here ∙ (c.is_out_at.ensures.0 c.if-not-is_out_at.false).1) in
+    c.as_slice-cowns.ensures.value ∙ c.cowns-cowns.ensures ∙ ap g.B.Behaviour.touches same
 
 pub returns-in_default-clause-accepted : goal.returns-in_default-clause-accepted
 returns-in_default-clause-accepted g c =
@@ -23,6 +39,12 @@ returns-in_default-clause-accepted g c =
     subst (λ (v : BoardOf g.row.B.Denot). (false ≡ true → IsOutHere touches effect v done) × (IsOutHere touches effect v done → false ≡ true)) c.self.view_is
     (refused_done touches effect board done (not_numbered touches effect board done (λ k lt same.
     c.in_default.ensures k (omega (arith, lt, c.len.ensures, c.self.inside.log.ok)) (c.number-number.ensures ∙ same))))
+
+pub returns-in_default-clause-outcome : goal.returns-in_default-clause-outcome
+returns-in_default-clause-outcome g c = (refl, refl)
+
+pub is_out_at-requires-clause-place : goal.is_out_at-requires-clause-place
+is_out_at-requires-clause-place g c = omega (arith, c.in-Some.ensures.0, c.len.ensures, c.self.inside.log.ok)
 
 pub is_out_at-requires-clause-cowns : goal.is_out_at-requires-clause-cowns
 is_out_at-requires-clause-cowns g c k b here = declared_in_held g.B.Behaviour.touches g.B.Behaviour.effect c.self.invariant k b here
@@ -37,152 +59,119 @@ returns-then-not-is_out_at-clause-accepted g c =
     (refused_done touches effect board done (not_inside touches effect board c.in-Some.position done (sym c.number-number.ensures ∙ c.in-Some.ensures.1)
     (λ inside. both_ways c.is_out_at.result c.if-not-is_out_at.true (c.is_out_at.ensures.1 inside))))
 
+pub returns-then-not-is_out_at-clause-outcome : goal.returns-then-not-is_out_at-clause-outcome
+returns-then-not-is_out_at-clause-outcome g c = (refl, refl)
+
+pub index-requires : goal.index-requires
+index-requires g c = omega (arith, c.in-Some.ensures.0, c.len.ensures)
+
+pub finish-requires-clause-rising : goal.finish-requires-clause-rising
+finish-requires-clause-rising g c =
+    subst IsRising (sym (declared g (goal.at.finish-requires-clause-rising g c).After-as_slice-cowns)) (g.met.B.Behaviour.rising c.args.done.behaviour)
+
 pub finish-requires-clause-front : goal.finish-requires-clause-front
 finish-requires-clause-front g c linked =
-    let touches = g.B.Behaviour.touches in
-    let log = c.self.inside.log.items in
-    let inside = c.is_out_at.ensures.0 c.if-not-is_out_at.false in
-    let here : slice_get log c.in-Some.position ≡ Some c.index.result.now =
-    slice_get_read log (length log) c.in-Some.position c.index.result.now refl
-    (omega (arith, c.in-Some.ensures.0, c.len.ensures, c.self.inside.log.ok)) c.index.ensures in
-    let same : c.index.result.now ≡ c.args.done.behaviour = injective (sym here ∙ inside.1) in
-    let declared : c.as_slice.result.now ≡ touches c.args.done.behaviour = c.as_slice.ensures.value ∙ c.cowns-cowns.ensures ∙ ap touches same in
-    subst (λ cowns. IsInFront c.in-Some.position cowns c.self.inside.links.queues.lists) (sym declared)
-    (released_in_front touches g.B.Behaviour.effect c.self.invariant c.in-Some.position c.args.done (sym c.number-number.ensures ∙ c.in-Some.ensures.1) inside
-    linked)
+    let known = (goal.at.finish-requires-clause-front g c).After-as_slice-cowns in
+    subst (λ cowns. IsInFront c.in-Some.position cowns c.self.inside.links.queues.lists) (sym (declared g known))
+    (released_in_front g.B.Behaviour.touches g.B.Behaviour.effect c.self.invariant c.in-Some.position c.args.done (numbered g known)
+    (c.is_out_at.ensures.0 c.if-not-is_out_at.false) linked)
 
 pub finish-requires-clause-behind : goal.finish-requires-clause-behind
 finish-requires-clause-behind g c linked new released k =
-    let touches = g.B.Behaviour.touches in
-    let log = c.self.inside.log.items in
-    let inside = c.is_out_at.ensures.0 c.if-not-is_out_at.false in
-    let here : slice_get log c.in-Some.position ≡ Some c.index.result.now =
-    slice_get_read log (length log) c.in-Some.position c.index.result.now refl
-    (omega (arith, c.in-Some.ensures.0, c.len.ensures, c.self.inside.log.ok)) c.index.ensures in
-    let same : c.index.result.now ≡ c.args.done.behaviour = injective (sym here ∙ inside.1) in
-    let declared : c.as_slice.result.now ≡ touches c.args.done.behaviour = c.as_slice.ensures.value ∙ c.cowns-cowns.ensures ∙ ap touches same in
-    rw declared (fronts_behind touches g.B.Behaviour.effect c.self.invariant c.in-Some.position c.args.done
-    (sym c.number-number.ensures ∙ c.in-Some.ensures.1) inside g.met.B.Behaviour.rising c.into_effect-reply.result.0 linked new
-    (subst (λ cowns. Releases cowns c.self.inside.links.queues.lists new) declared released) k)
+    let known = (goal.at.finish-requires-clause-behind g c).After-as_slice-cowns in
+    rw (declared g known) (fronts_behind g.B.Behaviour.touches g.B.Behaviour.effect c.self.invariant c.in-Some.position c.args.done
+    (numbered g known) (c.is_out_at.ensures.0 c.if-not-is_out_at.false) g.met.B.Behaviour.rising c.into_effect-reply.result.0 linked new
+    (subst (λ cowns. Releases cowns c.self.inside.links.queues.lists new) (declared g known) released) k)
 
 pub finish-requires-clause-room : goal.finish-requires-clause-room
 finish-requires-clause-room g c =
-    let inside = c.is_out_at.ensures.0 c.if-not-is_out_at.false in
+    let known = (goal.at.finish-requires-clause-room g c).After-as_slice-cowns in
     let room = room_for_fronts g.B.Behaviour.touches g.B.Behaviour.effect c.self.invariant c.in-Some.position c.args.done
-    (sym c.number-number.ensures ∙ c.in-Some.ensures.1) inside in
+    (numbered g known) (c.is_out_at.ensures.0 c.if-not-is_out_at.false) in
     omega (arith, room, c.self.inside.links.ready.ready.ok)
 
 pub write_cowns-requires-clause-cowns : goal.write_cowns-requires-clause-cowns
 write_cowns-requires-clause-cowns g c =
-    let touches = g.B.Behaviour.touches in
-    let log = c.self.inside.log.items in
-    let here : slice_get log c.in-Some.position ≡ Some c.index.result.now =
-    slice_get_read log (length log) c.in-Some.position c.index.result.now refl
-    (omega (arith, c.in-Some.ensures.0, c.len.ensures, c.self.inside.log.ok)) c.index.ensures in
-    subst (AreBelow (length (contents_of c.self.inside.columns))) (sym (c.as_slice-2.ensures.value ∙ c.cowns-cowns.ensures))
-    (declared_in_held touches g.B.Behaviour.effect c.self.invariant c.in-Some.position c.index.result.now here)
+    let known = (goal.at.write_cowns-requires-clause-cowns g c).After-as_slice-cowns in
+    subst (AreBelow (length (contents_of c.self.inside.columns))) (sym (declared g known))
+    (declared_in_held g.B.Behaviour.touches g.B.Behaviour.effect c.self.invariant c.in-Some.position c.args.done.behaviour
+    (c.is_out_at.ensures.0 c.if-not-is_out_at.false).1)
 
 pub write_cowns-requires-clause-values : goal.write_cowns-requires-clause-values
 write_cowns-requires-clause-values g c =
-    let touches = g.B.Behaviour.touches in
-    let log = c.self.inside.log.items in
-    let inside = c.is_out_at.ensures.0 c.if-not-is_out_at.false in
-    let here : slice_get log c.in-Some.position ≡ Some c.index.result.now =
-    slice_get_read log (length log) c.in-Some.position c.index.result.now refl
-    (omega (arith, c.in-Some.ensures.0, c.len.ensures, c.self.inside.log.ok)) c.index.ensures in
-    let same : c.index.result.now ≡ c.args.done.behaviour = injective (sym here ∙ inside.1) in
-    subst (λ cowns. AreCownValues cowns c.as_slice-3.result.now) (sym (c.as_slice-2.ensures.value ∙ c.cowns-cowns.ensures ∙ ap touches same))
-    (outputs_held touches g.B.Behaviour.effect c.self.invariant c.in-Some.position c.args.done
-    (sym c.number-number.ensures ∙ c.in-Some.ensures.1) inside g.met.B.Behaviour.valid_outputs
-    c.as_slice-3.result.now (c.as_slice-3.ensures.value ∙ c.into_effect-reply.ensures.outputs))
+    let known = (goal.at.write_cowns-requires-clause-values g c).After-as_slice-cowns in
+    subst (λ cowns. AreCownValues cowns c.as_slice-outputs.result.now) (sym (declared g known))
+    (outputs_held g.B.Behaviour.touches g.B.Behaviour.effect c.self.invariant c.in-Some.position c.args.done
+    (numbered g known) (c.is_out_at.ensures.0 c.if-not-is_out_at.false) g.met.B.Behaviour.valid_outputs
+    c.as_slice-outputs.result.now (c.as_slice-outputs.ensures.value ∙ c.into_effect-reply.ensures.outputs))
 
 pub update_cut-requires-clause-cowns : goal.update_cut-requires-clause-cowns
 update_cut-requires-clause-cowns g c =
-    let touches = g.B.Behaviour.touches in
-    let log = c.self.inside.log.items in
-    let inside = c.is_out_at.ensures.0 c.if-not-is_out_at.false in
-    let here : slice_get log c.in-Some.position ≡ Some c.index.result.now =
-    slice_get_read log (length log) c.in-Some.position c.index.result.now refl
-    (omega (arith, c.in-Some.ensures.0, c.len.ensures, c.self.inside.log.ok)) c.index.ensures in
-    let same : c.index.result.now ≡ c.args.done.behaviour = injective (sym here ∙ inside.1) in
-    subst (λ cowns. IfSome c.self.inside.cut (λ cut. AreBelow (length (contents_of cut.columns)) cowns))
-    (sym (c.as_slice-4.ensures.value ∙ c.cowns-cowns.ensures ∙ ap touches same))
-    (cowns_of_cut touches g.B.Behaviour.effect c.self.invariant c.in-Some.position c.args.done (sym c.number-number.ensures ∙ c.in-Some.ensures.1) inside)
+    let known = (goal.at.update_cut-requires-clause-cowns g c).After-as_slice-cowns in
+    subst (λ cowns. IfSome c.self.inside.cut (λ cut. AreBelow (length (contents_of cut.columns)) cowns)) (sym (declared g known))
+    (cowns_of_cut g.B.Behaviour.touches g.B.Behaviour.effect c.self.invariant c.in-Some.position c.args.done
+    (numbered g known) (c.is_out_at.ensures.0 c.if-not-is_out_at.false))
 
 pub update_cut-requires-clause-unfinished : goal.update_cut-requires-clause-unfinished
 update_cut-requires-clause-unfinished g c =
-    let inside = c.is_out_at.ensures.0 c.if-not-is_out_at.false in
+    let known = (goal.at.update_cut-requires-clause-unfinished g c).After-as_slice-cowns in
     subst (λ number. IfSome c.self.inside.cut (λ cut. number ≤ cut.number → 1 ≤ cut.unfinished)) (sym c.number-number.ensures)
     (unfinished_in_cut g.B.Behaviour.touches g.B.Behaviour.effect c.self.invariant c.in-Some.position c.args.done
-    (sym c.number-number.ensures ∙ c.in-Some.ensures.1) inside)
+    (numbered g known) (c.is_out_at.ensures.0 c.if-not-is_out_at.false))
 
 pub update_cut-requires-clause-values : goal.update_cut-requires-clause-values
 update_cut-requires-clause-values g c =
-    let touches = g.B.Behaviour.touches in
-    let log = c.self.inside.log.items in
-    let inside = c.is_out_at.ensures.0 c.if-not-is_out_at.false in
-    let here : slice_get log c.in-Some.position ≡ Some c.index.result.now =
-    slice_get_read log (length log) c.in-Some.position c.index.result.now refl
-    (omega (arith, c.in-Some.ensures.0, c.len.ensures, c.self.inside.log.ok)) c.index.ensures in
-    let same : c.index.result.now ≡ c.args.done.behaviour = injective (sym here ∙ inside.1) in
-    subst (λ cowns. AreCownValues cowns c.as_slice-5.result.now) (sym (c.as_slice-4.ensures.value ∙ c.cowns-cowns.ensures ∙ ap touches same))
-    (outputs_held touches g.B.Behaviour.effect c.self.invariant c.in-Some.position c.args.done
-    (sym c.number-number.ensures ∙ c.in-Some.ensures.1) inside g.met.B.Behaviour.valid_outputs
-    c.as_slice-5.result.now (c.as_slice-5.ensures.value ∙ c.into_effect-reply.ensures.outputs))
+    let known = (goal.at.update_cut-requires-clause-values g c).After-as_slice-cowns in
+    subst (λ cowns. AreCownValues cowns c.as_slice-outputs.result.now) (sym (declared g known))
+    (outputs_held g.B.Behaviour.touches g.B.Behaviour.effect c.self.invariant c.in-Some.position c.args.done
+    (numbered g known) (c.is_out_at.ensures.0 c.if-not-is_out_at.false) g.met.B.Behaviour.valid_outputs
+    c.as_slice-outputs.result.now (c.as_slice-outputs.ensures.value ∙ c.into_effect-reply.ensures.outputs))
+
+pub index_mut-requires : goal.index_mut-requires
+index_mut-requires g c =
+    omega (arith, c.in-Some.ensures.0, c.len.ensures, c.self.inside.log.ok, c.self.inside.states.ok, c.self.invariant.keeps.same_length)
 
 pub overflow_sub-self : goal.overflow_sub-self
 overflow_sub-self g c =
-    let inside = c.is_out_at.ensures.0 c.if-not-is_out_at.false in
+    let known = (goal.at.overflow_sub-self g c).After-as_slice-cowns in
     some_unfinished g.B.Behaviour.touches g.B.Behaviour.effect c.self.invariant c.in-Some.position c.args.done
-    (sym c.number-number.ensures ∙ c.in-Some.ensures.1) inside
+    (numbered g known) (c.is_out_at.ensures.0 c.if-not-is_out_at.false)
 
 pub invariant_of-self : goal.invariant_of-self
 invariant_of-self g c =
     let touches = g.B.Behaviour.touches in
-    let log = c.self.inside.log.items in
-    let inside = c.is_out_at.ensures.0 c.if-not-is_out_at.false in
-    let here : slice_get log c.in-Some.position ≡ Some c.index.result.now =
-    slice_get_read log (length log) c.in-Some.position c.index.result.now refl
-    (omega (arith, c.in-Some.ensures.0, c.len.ensures, c.self.inside.log.ok)) c.index.ensures in
-    let same : c.index.result.now ≡ c.args.done.behaviour = injective (sym here ∙ inside.1) in
-    let declared : c.as_slice.result.now ≡ touches c.args.done.behaviour = c.as_slice.ensures.value ∙ c.cowns-cowns.ensures ∙ ap touches same in
-    let again : c.as_slice-2.result.now ≡ touches c.args.done.behaviour = c.as_slice-2.ensures.value ∙ c.cowns-cowns.ensures ∙ ap touches same in
-    let fourth : c.as_slice-4.result.now ≡ touches c.args.done.behaviour = c.as_slice-4.ensures.value ∙ c.cowns-cowns.ensures ∙ ap touches same in
-    let third = c.as_slice-3.ensures.value in
+    let known = (goal.at.invariant_of-self g c).After-as_slice-cowns in
+    let lists = c.self.inside.links.queues.lists in
+    let values = c.as_slice-outputs.result.now in
     let links = c.finish.new.self in
     board_finished touches g.B.Behaviour.effect c.self.invariant c.in-Some.position c.args.done
-    (sym c.number-number.ensures ∙ c.in-Some.ensures.1) inside g.met.B.Behaviour.valid_outputs g.met.B.Behaviour.rising
-    c.into_effect-reply.result.0 c.as_slice-3.result.now c.write_cowns.new.columns links
-    c.into_effect-reply.ensures.reply (third ∙ c.into_effect-reply.ensures.outputs)
-    (c.write_cowns.ensures ∙ ap (λ cowns. write_cowns (contents_of c.self.inside.columns) cowns c.as_slice-3.result.now) again)
+    (numbered g known) (c.is_out_at.ensures.0 c.if-not-is_out_at.false) g.met.B.Behaviour.valid_outputs g.met.B.Behaviour.rising
+    c.into_effect-reply.result.0 values c.write_cowns.new.columns links
+    c.into_effect-reply.ensures.reply (c.as_slice-outputs.ensures.value ∙ c.into_effect-reply.ensures.outputs)
+    (c.write_cowns.ensures ∙ ap (λ cowns. write_cowns (contents_of c.self.inside.columns) cowns values) (declared g known))
     c.finish.ensures.linked c.finish.ensures.unchanged
-    (λ is. subst (λ cowns. Releases cowns c.self.inside.links.queues.lists links.queues.lists) declared (c.finish.ensures.released is))
-    (λ is. subst (λ cowns. ComesForward (fronts_of links.queues.lists cowns) c.self.inside.links.ready links.ready) declared (c.finish.ensures.forward is))
+    (λ is. subst (λ cowns. Releases cowns lists links.queues.lists) (declared g known) (c.finish.ensures.released is))
+    (λ is. subst (λ cowns. ComesForward (fronts_of links.queues.lists cowns) c.self.inside.links.ready links.ready) (declared g known)
+    (c.finish.ensures.forward is))
     c.finish.ensures.room c.update_cut.new.cut
-    (subst (λ number.
-    UpdatesAnyCut number (touches c.args.done.behaviour) c.as_slice-3.result.now c.self.inside.cut c.update_cut.new.cut) c.number-number.ensures
-    (subst (λ cowns. UpdatesAnyCut c.number-number.result cowns c.as_slice-3.result.now c.self.inside.cut c.update_cut.new.cut) fourth
-    (subst (λ values. UpdatesAnyCut c.number-number.result c.as_slice-4.result.now values c.self.inside.cut c.update_cut.new.cut)
-    (c.as_slice-5.ensures.value ∙ sym third) c.update_cut.ensures)))
+    (subst (λ number. UpdatesAnyCut number (touches c.args.done.behaviour) values c.self.inside.cut c.update_cut.new.cut) c.number-number.ensures
+    (subst (λ cowns. UpdatesAnyCut c.number-number.result cowns values c.self.inside.cut c.update_cut.new.cut) (declared g known) c.update_cut.ensures))
 
 pub returns-clause-accepted : goal.returns-clause-accepted
 returns-clause-accepted g c =
     let touches = g.B.Behaviour.touches in
     let effect = g.B.Behaviour.effect in
     let done = c.args.done in
-    let inside = c.is_out_at.ensures.0 c.if-not-is_out_at.false in
+    let known = (goal.at.returns-clause-accepted g c).After-as_slice-cowns in
     subst (λ (v : BoardOf g.row.B.Denot). (true ≡ true → IsOutHere touches effect v done) × (IsOutHere touches effect v done → true ≡ true)) c.self.view_is
-    (accepted_done touches effect c.self.invariant c.in-Some.position done (sym c.number-number.ensures ∙ c.in-Some.ensures.1) inside)
+    (accepted_done touches effect c.self.invariant c.in-Some.position done (numbered g known) (c.is_out_at.ensures.0 c.if-not-is_out_at.false))
 
 pub returns-clause-outcome : goal.returns-clause-outcome
 returns-clause-outcome g c =
-    let touches = g.B.Behaviour.touches in
-    let effect = g.B.Behaviour.effect in
-    let inside = c.is_out_at.ensures.0 c.if-not-is_out_at.false in
-    let finished = finishes_from touches effect c.self.invariant c.in-Some.position c.args.done
-    (sym c.number-number.ensures ∙ c.in-Some.ensures.1) inside c.into_effect-reply.result.0 c.into_effect-reply.ensures.reply
-    c.number-number.result c.as_slice-4.result.now c.as_slice-5.result.now c.update_cut.new.cut c.update_cut.ensures in
-    rw (sym c.self.view_is) finished
+    let known = (goal.at.returns-clause-outcome g c).After-as_slice-cowns in
+    rw (sym c.self.view_is) (finishes_from g.B.Behaviour.touches g.B.Behaviour.effect c.self.invariant c.in-Some.position c.args.done
+    (numbered g known) (c.is_out_at.ensures.0 c.if-not-is_out_at.false) c.into_effect-reply.result.0 c.into_effect-reply.ensures.reply
+    c.number-number.result c.as_slice-cowns.result.now c.as_slice-outputs.result.now c.update_cut.new.cut c.update_cut.ensures)
 
 pub returns-in_default-clause-played : goal.returns-in_default-clause-played
 returns-in_default-clause-played g c =
@@ -209,8 +198,8 @@ pub returns-clause-played : goal.returns-clause-played
 returns-clause-played g c =
     let touches = g.B.Behaviour.touches in
     let effect = g.B.Behaviour.effect in
-    let inside = c.is_out_at.ensures.0 c.if-not-is_out_at.false in
+    let known = (goal.at.returns-clause-played g c).After-as_slice-cowns in
     let finished = finishes_from touches effect c.self.invariant c.in-Some.position c.args.done
-    (sym c.number-number.ensures ∙ c.in-Some.ensures.1) inside c.into_effect-reply.result.0 c.into_effect-reply.ensures.reply
-    c.number-number.result c.as_slice-4.result.now c.as_slice-5.result.now c.update_cut.new.cut c.update_cut.ensures in
+    (numbered g known) (c.is_out_at.ensures.0 c.if-not-is_out_at.false) c.into_effect-reply.result.0 c.into_effect-reply.ensures.reply
+    c.number-number.result c.as_slice-cowns.result.now c.as_slice-outputs.result.now c.update_cut.new.cut c.update_cut.ensures in
     rw (sym c.self.view_is) (played_finished touches effect finished)

@@ -40,7 +40,7 @@ put-requires-clause-cowns g c =
     let here : slice_get log c.loop-position.position ≡ Some c.index-behaviour.result.now =
     slice_get_read log (length log) c.loop-position.position c.index-behaviour.result.now refl
     (omega (arith, c.loop-position-test.true, c.len-position-end.ensures, c.args.log.now.ok)) c.index-behaviour.ensures in
-    subst (AreBelow (length c.loop-position.self.queues.lists)) (sym (c.as_slice-in-loop-position.ensures.value ∙ c.cowns-cowns.ensures))
+    subst (AreBelow (length c.loop-position.self.queues.lists)) (sym (c.as_slice-cowns.ensures.value ∙ c.cowns-cowns.ensures))
     (subst (λ n. AreBelow n (g.B.Behaviour.touches c.index-behaviour.result.now)) (sym c.loop-position.invariant.queues.one_each)
     (declared_below g.B.Behaviour.touches g.B.Behaviour.effect log cowns c.requires.cowns c.loop-position.position
     c.index-behaviour.result.now here))
@@ -58,8 +58,7 @@ loop-position-preserved g c =
     let lt : position < length log = omega (arith, c.loop-position-test.true, c.len-position-end.ensures, c.args.log.now.ok) in
     let from : c.args.first ≤ position = omega (arith, before.few) in
     let here : slice_get log position ≡ Some b = slice_get_read log (length log) position b refl lt c.index-behaviour.ensures in
-    let counted : c.as_slice.result.now ≡ touches b = c.as_slice.ensures.value ∙ c.cowns-cowns.ensures in
-    let declared : c.as_slice-in-loop-position.result.now ≡ touches b = c.as_slice-in-loop-position.ensures.value ∙ c.cowns-cowns.ensures in
+    let declared : c.as_slice-cowns.result.now ≡ touches b = c.as_slice-cowns.ensures.value ∙ c.cowns-cowns.ensures in
     let appended = subst (λ cs. Appends position cs c.loop-position.self.queues.lists c.put.new.self.lists) declared c.put.ensures.lists in
     record {
       queues = queues_next touches effect log states c.args.first cowns c.requires.cowns c.requires.beside c.requires.within c.requires.unlinked.before
@@ -67,9 +66,9 @@ loop-position-preserved g c =
       counts = counts_next touches effect log states c.args.first cowns c.requires.cowns c.requires.beside c.requires.within c.requires.unlinked.before
           position b c.loop-position.self.queues.lists c.put.new.self.lists from lt here before.queues appended
           c.loop-position.self.ready.behind.items c.loop-position.self.ready.ready.items c.push.new.self.behind.items c.push.new.self.ready.items
-          c.count_occupied-behind.result (c.count_occupied-behind.ensures ∙ ap (count_by (is_occupied c.loop-position.self.queues.lists)) counted)
+          c.count_occupied-behind.result (c.count_occupied-behind.ensures ∙ ap (count_by (is_occupied c.loop-position.self.queues.lists)) declared)
           c.push.ensures.behind c.push.ensures.ready before.counts;
-      places = omega (arith, before.places, c.put.ensures.queued, c.put.ensures.places, c.as_slice-in-loop-position.ensures.fits, lt);
+      places = omega (arith, before.places, c.put.ensures.queued, c.put.ensures.places, c.as_slice-cowns.ensures.fits, lt);
       counts_room = omega (arith, before.counts_room, c.push.ensures.counts);
       few = omega (arith, before.few, c.push.ensures.len);
       room = c.push.ensures.room ∙ before.room;
