@@ -1,12 +1,14 @@
 -- A place that steps forward, and a place that is inserted into a rising list.
-use Rattle.std.proofs.Common.{◌≡◌, ◌≢◌, inl, inr, ℕ, ◌<◌, ◌≤◌, Bool, true, false, ◌&&◌, List, length, get_or, set, sym, ap, ◌∙◌, arith}
+use Rattle.std.proofs.Common.{◌≡◌, ◌≢◌, inl, inr, ℕ, ◌+◌, ◌-◌, ◌<◌, ◌≤◌, Bool, true, false, ◌&&◌, List, length, get_or, set, take, refl, sym, ap, ◌∙◌, arith}
 use Rattle.std.specs.List.Sorted.{IsPartitionedBy, IsPartitionPoint}
-use Rattle.std.specs.Prelude.{◌==◌, insert, nat_lt, slice_get}
-use Rattle.std.proofs.lemmas.Bool.{cases_eq, cases_lt, cases_order, and_right, lt-ltb, ltb-true, ltb-false, ne_eqb}
+use Rattle.std.specs.Prelude.{◌==◌, count_by, insert, nat_lt, slice_get}
+use Rattle.std.proofs.lemmas.Bool.{cases_eq, cases_lt, cases_order, and_right, eq-eqb, lt-ltb, ltb-true, ltb-false, ne_eqb}
+use Rattle.std.proofs.lemmas.Grind.{common_steps}
+use Rattle.std.proofs.lemmas.List.Sums.{count_by_more_no, count_by_more_yes}
 use Rattle.std.proofs.lemmas.List.{get_or-set_same, get_or-set_other, get_or_past}
 use Rattle.std.proofs.lemmas.Option.{slice_get-get_or}
 use Rattle.cown_board.proofs.PositionLaws.{positions-agree, positions-insert, places_fewer, place_above, place_below}
-use Rattle.cown_board.specs.inner.DuePositions.{AreDue, is_due}
+use Rattle.cown_board.specs.inner.DuePositions.{AreDue, is_due, occurrences}
 use Rattle.cown_board.specs.Positions.{positions}
 use Rattle.cown_board.specs.inner.PositionTests.{with_position}
 
@@ -77,3 +79,55 @@ module _ (waits : ℕ → Bool) (behind : List ℕ) (position bound : ℕ) (some
             (λ none. more (sym (get_or-set_same behind position value 0 (behind_within behind position some)) ∙ none))))
         | inr differs ↦ ap (λ n. waits j && (n == 0)) (sym (get_or-set_other behind position j value 0 differs))
       ])
+
+module _ (waits : ℕ → Bool) (behind : List ℕ) (position bound value : ℕ) (within : position < length behind) (none : value ≡ 0)
+    (waiting : waits position ≡ true) where
+  due_as_put : (j : ℕ) → with_position (is_due waits behind) position j ≡ is_due waits (set behind position value) j
+  due_as_put j = elim (cases_eq j position) [
+    | inl same ↦ grind (arith, common_steps, get_or-set_same behind position value 0 within)
+    | inr differs ↦ grind (arith, common_steps, get_or-set_other behind position j value 0 differs)
+  ]
+
+  -- a waiting place that is no longer behind is due
+  pub due_now : (list : List ℕ) → list ≡ positions (with_position (is_due waits behind) position) bound
+      → AreDue waits (set behind position value) bound list
+  due_now list put =
+      put ∙ positions-agree (with_position (is_due waits behind) position) (is_due waits (set behind position value)) bound (λ j _. due_as_put j)
+
+-- fewer of the numbers before one that passes do so than of all
+fewer_before : (p : ℕ → Bool) (numbers : List ℕ) (i : ℕ) → i < length numbers → p (get_or numbers i 0) ≡ true
+    → count_by p (take i numbers) < count_by p numbers
+fewer_before p numbers i lt passes = grind (arith, common_steps)
+
+module _ (first behind fronts : List ℕ) (i : ℕ) (lt : i < length fronts)
+    (enough : (position : ℕ) → occurrences position fronts ≤ get_or first position 0)
+    (counted : (position : ℕ) → get_or behind position 0 + occurrences position (take i fronts) ≡ get_or first position 0) where
+  -- the next of the fronts is still behind
+  pub still_behind : 0 < get_or behind (get_or fronts i 0) 0
+  still_behind =
+      let front = get_or fronts i 0 in
+      let fewer = fewer_before (λ n. n == front) fronts i lt (eq-eqb front front refl) in
+      let all = enough front in
+      let so_far = counted front in
+      omega (arith, fewer, all, so_far)
+
+  -- and after it the counts are those of the fronts up to it
+  pub counted_next : (position : ℕ)
+      → get_or (set behind (get_or fronts i 0) (get_or behind (get_or fronts i 0) 0 - 1)) position 0 + occurrences position (take (i + 1) fronts)
+      ≡ get_or first position 0
+  counted_next position =
+      let front = get_or fronts i 0 in
+      let value = get_or behind front 0 - 1 in
+      let before = counted position in
+      elim (cases_eq position front) [
+        | inl same ↦
+            let more = count_by_more_yes (λ n. n == position) fronts i 0 lt (eq-eqb front position (sym same)) in
+            let less : get_or (set behind front value) position 0 ≡ value =
+            ap (λ n. get_or (set behind front value) n 0) same ∙ get_or-set_same behind front value 0 (behind_within behind front still_behind) in
+            let was : get_or behind position 0 ≡ get_or behind front 0 = ap (λ n. get_or behind n 0) same in
+            omega (arith, before, more, less, was, still_behind)
+        | inr differs ↦
+            let more = count_by_more_no (λ n. n == position) fronts i 0 lt (ne_eqb front position (λ same. differs (sym same))) in
+            let stays = get_or-set_other behind front position value 0 differs in
+            omega (arith, before, more, stays)
+      ]
