@@ -1,8 +1,8 @@
-use Rattle.std.proofs.Common.{◌≡◌, Some, length, refl, sym, ap, ◌∙◌}
+use Rattle.std.proofs.Common.{◌≡◌, Some, length, refl, sym, ap, ◌∙◌, subst, arith}
 use Rattle.std.specs.Prelude.{slice_get}
 use Rattle.std.proofs.lemmas.Bool.{both_ways}
 use Rattle.std.proofs.lemmas.Option.{slice_get_read}
-use Rattle.sb_calls.specs.Cowns.{contents_of, read_cowns}
+use Rattle.sb_calls.specs.Cowns.{AreBelow, contents_of, read_cowns}
 use Rattle.cown_board.proofs.LogLaws.{injective}
 use Rattle.cown_board.specs.declared.state.State.{State}
 use Rattle.cown_board.proofs.acceptance.is_out_at.Given.{Over}
@@ -16,6 +16,18 @@ behaviour_at g c = slice_get_read c.args.log.now.items _ c.args.position c.index
 state_at : (g : Over) (c : After-index g) → slice_get c.args.states.now.items c.args.position ≡ Some c.index.result.now
 state_at g c =
     slice_get_read c.args.states.now.items (length c.args.log.now.items) c.args.position c.index.result.now c.requires.beside c.requires.place c.index.ensures
+
+pub index-requires : goal.index-requires
+index-requires g c = omega (arith, c.requires.place, c.requires.beside, c.args.states.now.ok)
+
+pub index-behaviour-requires : goal.index-behaviour-requires
+index-behaviour-requires g c = omega (arith, c.requires.place, c.args.log.now.ok)
+
+pub read_cowns-inputs-requires-clause-cowns : goal.read_cowns-inputs-requires-clause-cowns
+read_cowns-inputs-requires-clause-cowns g c =
+    let read = (goal.at.read_cowns-inputs-requires-clause-cowns g c).After-index in
+    subst (AreBelow (length (contents_of c.args.columns.now))) (sym (c.as_slice.ensures.value ∙ c.cowns.ensures))
+    (c.requires.cowns c.args.position c.index-behaviour.result.now (behaviour_at g read))
 
 pub returns-then-not-is_out : goal.returns-then-not-is_out
 returns-then-not-is_out g c =

@@ -11,6 +11,21 @@ use Rattle.cown_board.specs.Readiness.{ready_positions}
 use Rattle.cown_board.specs.declared.state.State.TheVariants.{Out}
 use Rattle.cown_board.proofs.board.Board.take_at.Goals as goal
 
+pub take-requires-clause-links : goal.take-requires-clause-links
+take-requires-clause-links g c =
+    let touches = g.B.Behaviour.touches in
+    let effect = g.B.Behaviour.effect in
+    subst (λ n. AreLinks touches effect c.self.inside.log.items c.self.inside.states.items c.self.inside.unfinished n c.self.inside.links)
+    (sym (one_each touches effect c.self.invariant)) c.self.invariant.links
+
+pub take-requires-clause-cowns : goal.take-requires-clause-cowns
+take-requires-clause-cowns g c k cown among =
+    let lt = c.self.invariant.keeps.in_range k cown among in
+    omega (arith, lt, one_each g.B.Behaviour.touches g.B.Behaviour.effect c.self.invariant)
+
+pub take-requires-clause-limit : goal.take-requires-clause-limit
+take-requires-clause-limit g c = omega (arith, c.self.invariant.length_limit)
+
 pub returns-in_err-position-clause-outcome : goal.returns-in_err-position-clause-outcome
 returns-in_err-position-clause-outcome g c =
     let few = c.in_err-position.ensures.outcome.0 in
