@@ -1,7 +1,7 @@
 -- An entry that is answered `Accepted` is the log's next.
-use Rattle.std.proofs.Common.{◌≡◌, ℕ, suc, Bool, true, false, arith, Result, Ok, refl}
+use Rattle.std.proofs.Common.{◌≡◌, ℕ, suc, Bool, true, false, arith, Option, Some, None, Result, Ok, refl, ap}
 use Rattle.std.proofs.lemmas.Bool.{leb-false, ltb-false}
-use Rattle.std.specs.Prelude.{◌||◌, ◌+◌, nat_le, nat_lt, ◌==◌, if◌then◌else◌}
+use Rattle.std.specs.Prelude.{◌||◌, ◌+◌, nat_le, nat_lt, ◌==◌, if◌then◌else◌, option_map, IfSome}
 use Rattle.sb_calls.specs.declared.call.TheConstants.{LOG_CALLS}
 use Rattle.sb_calls.specs.declared.op.Op.{Op}
 use Rattle.cown_board.specs.Board.{BoardOf, length_of, unfinished_of}
@@ -23,6 +23,17 @@ accepted_next number n Repeat e = absurd cc
 accepted_next number n (Gap size) e = absurd cc
 accepted_next number n (Held held) e = absurd cc
 accepted_next number n (Busy size) e = absurd cc
+
+-- the same of one that was held
+pub accepted_held : (number n : ℕ) (answer : Option Offered) → option_map (entry_answer number) answer ≡ Some (heard.Accepted n)
+    → (answer ≡ Some Next) × (number ≡ n)
+accepted_held number n None e = absurd cc
+accepted_held number n (Some answer) e = let both = accepted_next number n answer cc in (ap (λ (a : Offered). Some a) both.0, both.1)
+
+-- and what holds of the op that was held
+pub held_op : (P : Op → Type 0) (held : Option Op) (answer : Offered) → option_map (λ op. answer) held ≡ Some Next → IfSome held P → (op : Op) × P op
+held_op P None answer e p = absurd cc
+held_op P (Some op) answer e p = (op, p)
 
 -- neither a repeat nor early
 next_tests : (there past early busy : Bool) (size number : ℕ)
