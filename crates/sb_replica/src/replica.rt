@@ -14,6 +14,7 @@ ghost use Rattle.sb_replica_log.specs.Log.{none_held};
 ghost use Rattle.sb_replica_log.specs.Offers.{offer_answer, after_offer};
 ghost use Rattle.sb_replica.specs.Replica.{log_of, origin_of, with_log};
 
+use crate::restarting::log_at_opening;
 use cown_board::{Board, Runs};
 use lane_audit::bank_total;
 use sb_calls::{LOG_CALLS, Op, Reply, WireReply};
@@ -80,13 +81,13 @@ impl<S: CheckpointStore> Replica<S> {
           store = store;
         }) }
     {
-        let board = Board::open(alloc, opening.copy()?, 0, Vec::new(alloc))?;
+        let log = log_at_opening(alloc, &opening)?;
         Ok(Replica {
             id,
             alloc,
             directory,
             opening,
-            log: ReplicaLog::open(board),
+            log,
             store,
         })
     }

@@ -1,5 +1,5 @@
 //! Going back to the stored checkpoint.
-ghost use Rattle.std.specs.Prelude.{◌≡◌, ◌≤◌, IfOk, IfErr, OnOk, length, option_map};
+ghost use Rattle.std.specs.Prelude.{◌≡◌, ◌≤◌, [], IfOk, IfErr, OnOk, length, option_map};
 ghost use Rattle.std.specs.List.{All};
 ghost use Rattle.sb_calls.specs.Replies.{IsReply};
 ghost use Rattle.cown_board.specs.BoardCalls.{board_at_opening};
@@ -32,6 +32,17 @@ pub(crate) fn log_on(
     let length = replies.len() as u64;
     let board = Board::open(alloc, columns, length, replies)?;
     Ok(ReplicaLog::open(board))
+}
+
+// An empty log with a board on a copy of these columns.
+pub(crate) fn log_at_opening(alloc: Global, opening: &Columns) -> Result<ReplicaLog, AllocError>
+    ensures { IfOk result (λ log. log ≡ record {
+      board = board_at_opening opening.now [];
+      held = none_held;
+    }) }
+{
+    let columns = opening.copy()?;
+    log_on(alloc, columns, Vec::new(alloc))
 }
 
 impl<S: CheckpointStore> Replica<S> {
