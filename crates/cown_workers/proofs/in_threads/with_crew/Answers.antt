@@ -1,11 +1,13 @@
 -- The passes of the bench are its workers' and the owner's.
-use Rattle.std.proofs.Common.{◌≡◌, ◌<◌, List, [], length, sym, ap, ◌∙◌, subst, length-append, arith}
+use Rattle.std.proofs.Common.{◌≡◌, ◌<◌, inl, inr, List, [], length, count_by, sym, ap, ◌∙◌, subst, length-append, arith}
 use Rattle.std.specs.List.{All}
 use Rattle.std.specs.Option.{option_to_list}
+use Rattle.std.proofs.lemmas.Bool.{cases_lt}
 use Rattle.std.proofs.lemmas.List.Elements.{All-pop, All-weaker}
 use Rattle.std.proofs.lemmas.Result.{IfOk-weaker}
 use Rattle.cown_bench.specs.BenchPasses.{BenchId, OwnerOf, WorkerOf}
 use Rattle.cown_workers.specs.BenchCrews.{BenchCrewOf}
+use Rattle.cown_workers.specs.inner.PassPicks.{is_stop}
 use Rattle.cown_workers.proofs.OwnerPicks.{fresh_taken}
 use Rattle.cown_workers.proofs.in_threads.with_crew.Goals as goal
 
@@ -14,6 +16,35 @@ of_bench : (bench : BenchId) (passes : List WorkerOf) → All (λ pass. pass ≡
     → All (λ pass. pass.bench ≡ bench) passes
 of_bench bench passes = All-weaker (λ pass. pass ≡ record { bench = bench; picked = [] }) (λ pass. pass.bench ≡ bench)
     (λ pass fresh. ap (λ (p : WorkerOf). p.bench) fresh) passes
+
+pub pickers-requires : goal.pickers-requires
+pickers-requires g c = c.requires.limit
+
+pub take_extra_pass-own_pass-requires-clause-enough : goal.take_extra_pass-own_pass-requires-clause-enough
+take_extra_pass-own_pass-requires-clause-enough g c = omega (arith, c.pickers.ensures.enough, c.in_ok-bench.ensures.as_many)
+
+pub take_extra_pass-own_pass-requires-clause-limit : goal.take_extra_pass-own_pass-requires-clause-limit
+take_extra_pass-own_pass-requires-clause-limit g c = elim (cases_lt c.args.workers c.pickers.result) [
+  | inl more ↦ (let one = (c.pickers.ensures.owner more).0 in omega (arith, one, c.in_ok-bench.ensures.as_many))
+  | inr none ↦ omega (arith, none, c.in_ok-bench.ensures.as_many)
+]
+
+pub new-unstarted_crew-requires-clause-owner : goal.new-unstarted_crew-requires-clause-owner
+new-unstarted_crew-requires-clause-owner g c = ap (λ (pass : OwnerOf). pass.bench) c.in_ok-bench.ensures.owner
+
+pub new-unstarted_crew-requires-clause-workers : goal.new-unstarted_crew-requires-clause-workers
+new-unstarted_crew-requires-clause-workers g c = c.in_ok-hired.ensures.bench
+
+pub new-unstarted_crew-requires-clause-at_least_one : goal.new-unstarted_crew-requires-clause-at_least_one
+new-unstarted_crew-requires-clause-at_least_one g c =
+    omega (arith, c.requires.at_least_one, c.in_ok-hired.ensures.as_many, c.take_extra_pass-own_pass.ensures.as_many)
+
+pub new-unstarted_crew-requires-clause-limit : goal.new-unstarted_crew-requires-clause-limit
+new-unstarted_crew-requires-clause-limit g c =
+    omega (arith, c.requires.limit, c.in_ok-hired.ensures.as_many, c.take_extra_pass-own_pass.ensures.as_many)
+
+pub new-unstarted_crew-requires-clause-jobs : goal.new-unstarted_crew-requires-clause-jobs
+new-unstarted_crew-requires-clause-jobs g c = ap (λ (pass : OwnerOf). count_by is_stop pass.offered) c.in_ok-bench.ensures.owner
 
 pub new-unstarted_crew-requires-clause-hands : goal.new-unstarted_crew-requires-clause-hands
 new-unstarted_crew-requires-clause-hands g c =

@@ -1,0 +1,29 @@
+-- Each worker has a thread.
+use Rattle.std.proofs.Common.{◌≡◌, ℕ, length, is_some, subst, ◌∙◌, arith}
+use Rattle.cown_workers.specs.inner.PassPicks.{picked_with}
+use Rattle.cown_workers.proofs.unstarted_crew.UnstartedCrew.start.Given.{Over}
+use Rattle.cown_workers.proofs.unstarted_crew.UnstartedCrew.start.Goals as goal
+use Rattle.cown_workers.proofs.unstarted_crew.UnstartedCrew.start.Goals.{Else-len-wanted}
+
+as_many : (g : Over) (c : Else-len-wanted g) → length c.in_ok-thread_pool.thread_pool.threads.items ≡ length c.self.inside.workers.items
+as_many g c =
+    omega (arith, c.len-wanted.ensures, c.in_ok-thread_pool.ensures.limit, c.len.ensures, c.if-len-wanted.false, c.self.inside.workers.ok)
+
+pub new-requires-clause-staff : goal.new-requires-clause-staff
+new-requires-clause-staff g c = c.in_ok-thread_pool.ensures.bench
+
+pub new-requires-clause-all_passes : goal.new-requires-clause-all_passes
+new-requires-clause-all_passes g c = omega (arith, as_many g c, c.self.invariant.4)
+
+pub new-requires-clause-at_least_one : goal.new-requires-clause-at_least_one
+new-requires-clause-at_least_one g c = omega (arith, as_many g c, c.self.invariant.5)
+
+pub returns : goal.returns
+returns g c =
+    let inside = c.self.inside in
+    subst (λ (n : ℕ). c.new.result ≡ (record {
+      workers = n;
+      owner_helps = is_some inside.own_pass;
+      offered = inside.owner_side.pass.offered;
+      picked = picked_with inside.own_pass;
+    })) (as_many g (goal.at.returns g c).Else-len-wanted) c.new.ensures ∙ c.self.view_is
