@@ -1,5 +1,7 @@
-use Rattle.std.proofs.Common.{List, length, ◌≤◌, refl, subst}
+use Rattle.std.proofs.Common.{List, length, ◌≤◌, refl, ap, subst, ◌∙◌}
 use Rattle.std.proofs.lemmas.Result.{err_from_is_err_and}
+use Rattle.sb_rows.specs.Balances.{Balances}
+use Rattle.sb_replica_log.specs.Log.{LogOf}
 use Rattle.sb_calls.specs.declared.reply.Reply.{Reply}
 use Rattle.sb_replica.proofs.AdoptedStates.{adopts}
 use Rattle.sb_replica.proofs.Refusals.{adopt_refusal}
@@ -32,6 +34,12 @@ returns-then-length-own g c =
       size_is = refl;
     } in
     record { outcome = (c.length-own.ensures.value, (length checkpoint.replies, state, few), refl) }
+
+pub replace_log-requires-clause-customers : goal.replace_log-requires-clause-customers
+replace_log-requires-clause-customers g c =
+    ap (λ (log : LogOf). length log.board.opening.savings) c.in_ok-log_on.ensures
+    ∙ ap (λ (columns : Balances). length columns.savings) c.into_parts-columns.ensures.columns
+    ∙ c.in_ok-checkpoint.ensures.customers
 
 pub returns : goal.returns
 returns g c =

@@ -1,8 +1,8 @@
-use Rattle.std.proofs.Common.{option_map, List, ℕ, None, inl, refl, subst}
+use Rattle.std.proofs.Common.{option_map, List, ℕ, Some, None, inl, inr, refl, subst, arith}
 use Rattle.std.proofs.lemmas.Result.{err_from_is_err_and}
 use Rattle.sb_checkpoint.specs.Stores.{StoreDoes}
 use Rattle.sb_replica.specs.Replica.{ReplicaOf, origin_of}
-use Rattle.sb_replica.specs.Restarting.{IsRestartFaultOf, of_store_fault}
+use Rattle.sb_replica.specs.Restarting.{IsRefusalOf, IsRestartFaultOf, of_store_fault}
 use Rattle.sb_replica.specs.States.{IsStateOf, ReadsState}
 use Rattle.sb_replica.proofs.NoEntries.{gives_none}
 use Rattle.sb_replica.proofs.replica.Replica.kept_state.Goals as goal
@@ -69,5 +69,49 @@ returns-in_default-clause-ok g c =
       content = option_map (λ bytes. bytes.items) c.in_ok-bytes.field-0;
       got = c.in_ok-bytes.ensures;
       gives = rw c.in_default.is (inl refl);
+      stays = refl;
+    })
+
+pub returns-in_err-length-clause-err : goal.returns-in_err-length-clause-err
+returns-in_err-length-clause-err g c =
+    let inside = c.self.inside in
+    let p = err_from_is_err_and c.from_residual-in_err-length.result c.from_residual-in_err-length.ensures.1 in
+    let holding : g.row.S.Denot → ReplicaOf g.row.S.Denot = λ store. record {
+      id = inside.id;
+      names = inside.directory;
+      opening = inside.opening;
+      board = inside.log.board;
+      held = inside.log.held;
+      store = store;
+    } in
+    let fault = c.in_err-length.field-0.0 in
+    let refusal = subst (λ (bytes : List ℕ). IsRefusalOf (origin_of (holding c.get.new.self)) (Some bytes) fault) c.deref.ensures.value
+    c.in_err-length.ensures.err in
+    rw (p.1, p.2)
+    (subst (λ (old : ReplicaOf g.row.S.Denot). IsRestartFaultOf (StoreDoes g.S.CheckpointStore.model) old fault (holding c.get.new.self)) c.self.view_is
+    (refl, inr (option_map (λ bytes. bytes.items) c.in_ok-bytes.field-0, c.in_ok-bytes.ensures, rw c.in-Some.is refusal)))
+
+pub returns-clause-ok : goal.returns-clause-ok
+returns-clause-ok g c =
+    let inside = c.self.inside in
+    let holding : g.row.S.Denot → ReplicaOf g.row.S.Denot = λ store. record {
+      id = inside.id;
+      names = inside.directory;
+      opening = inside.opening;
+      board = inside.log.board;
+      held = inside.log.held;
+      store = store;
+    } in
+    let size = c.in_ok-length.length in
+    let bytes = c.in-Some.bytes.items in
+    let state : IsStateOf (origin_of (holding c.get.new.self)) size bytes =
+    subst (λ (b : List ℕ). IsStateOf (origin_of (holding c.get.new.self)) size b) c.deref.ensures.value c.in_ok-length.ensures.length in
+    subst
+    (λ (old : ReplicaOf g.row.S.Denot). ReadsState (StoreDoes g.S.CheckpointStore.model) old (Some (size, bytes)) (holding c.get.new.self))
+    c.self.view_is
+    (record {
+      content = option_map (λ bytes. bytes.items) c.in_ok-bytes.field-0;
+      got = c.in_ok-bytes.ensures;
+      gives = rw c.in-Some.is (refl, state, omega (arith, c.if-length-eq0.false));
       stays = refl;
     })

@@ -1,5 +1,6 @@
 use Rattle.std.proofs.Common.{◌≡◌, ◌+◌, ◌<◌, [], ◌∷◌, ◌++◌, suc, length, take, sym, ap, subst, ◌∙◌, arith}
 use Rattle.std.proofs.Math.Seq.{take-length}
+use Rattle.std.proofs.lemmas.List.{length-take}
 use Rattle.std.proofs.lemmas.List.Elements.{All-push}
 use Rattle.std.specs.List.{All}
 use Rattle.std.specs.Prelude.{IfSome}
@@ -9,6 +10,14 @@ use Rattle.sb_calls.specs.Replies.{IsReply}
 use Rattle.sb_replica.specs.Replica.{board_replies}
 use Rattle.sb_replica.proofs.IdleReplies.{reply_at, length_held, is_there, take_one_more}
 use Rattle.sb_replica.proofs.replica.Replica.replies.Goals as goal
+
+pub loop-place-init : goal.loop-place-init
+loop-place-init g c =
+    let none = c.in_ok-replies.ensures.items in
+    record { items = none; valid = λ k d lt. absurd (omega (arith, lt, ap length none)) }
+
+pub overflow_add-place : goal.overflow_add-place
+overflow_add-place g c = record { fits = omega (arith, c.loop-place-test.true, c.length-length.ensures.limit) }
 
 pub loop-place-preserved : goal.loop-place-preserved
 loop-place-preserved g c =
@@ -40,6 +49,16 @@ returns-clause-value g c =
       length_held board c.requires beside,
     ) in
     c.loop-place.invariant.items ∙ ap (λ n. take n (board_replies board)) all ∙ take-length (board_replies board)
+
+pub returns-clause-limit : goal.returns-clause-limit
+returns-clause-limit g c =
+    omega (
+      arith,
+      ap length c.loop-place.invariant.items,
+      length-take c.loop-place.place (board_replies c.args.self.now.board),
+      c.loop-place.auto.place-end,
+      c.length-length.ensures.limit,
+    )
 
 pub returns-in_err-replies : goal.returns-in_err-replies
 returns-in_err-replies g c =
