@@ -164,7 +164,6 @@ impl<'a, R: Wait + Clock, G: Gate> Crew for BenchCrew<'a, R, G> {
         true
     }
 
-    #[tactic(auto, using(crate::proofs::Stops::no_stop_more))]
     fn give(&mut self, job: Job<Op>) -> Result<(), Job<Op>> {
         match self.owner_side.bench.offer(
             self.owner_side.rt,

@@ -1,5 +1,5 @@
 -- One more pass has a worker.
-use Rattle.std.proofs.Common.{◌≡◌, ◌+◌, List, ◌∷◌, ◌++◌, [], length, sym, ap, ◌∙◌, subst, append_assoc, length-append}
+use Rattle.std.proofs.Common.{◌≡◌, ◌+◌, List, ◌∷◌, ◌++◌, [], length, sym, ap, ◌∙◌, subst, append_assoc, length-append, arith}
 use Rattle.std.proofs.lemmas.List.Elements.{All-head, All-push, All-rest}
 use Rattle.std.specs.List.{All}
 use Rattle.std.specs.Vec.Iter.{into_iter_items}
@@ -15,6 +15,19 @@ pub worker_at-requires : goal.worker_at-requires
 worker_at-requires g c =
     All-head (λ pass. pass.bench ≡ c.args.bench.now) c.in-Some.pass (into_iter_items c.next.new.self)
     (subst (All (λ pass. pass.bench ≡ c.args.bench.now)) c.in-Some.ensures.steps.0 c.loop-pass.invariant.left)
+
+pub push_reserved-requires : goal.push_reserved-requires
+push_reserved-requires g c =
+    let before = c.loop-pass.invariant in
+    omega (
+      arith,
+      before.as_many,
+      before.room,
+      c.loop-pass.workers.ok,
+      ap length before.rest,
+      length-append c.loop-pass.yielded (into_iter_items c.loop-pass.pass-iterator),
+      ap length c.in-Some.ensures.steps.0,
+    )
 
 pub loop-pass-preserved : goal.loop-pass-preserved
 loop-pass-preserved g c =

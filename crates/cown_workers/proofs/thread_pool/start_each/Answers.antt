@@ -12,6 +12,19 @@ start_one-requires g c =
     (subst (All (λ worker. worker.bench.now ≡ c.args.bench.now)) c.in-Some.ensures.steps.0 c.loop-worker.invariant.left) in
     search rules
 
+pub push_reserved-requires : goal.push_reserved-requires
+push_reserved-requires g c =
+    let before = c.loop-worker.invariant in
+    omega (
+      arith,
+      before.few,
+      before.room,
+      c.loop-worker.threads.ok,
+      ap length before.rest,
+      length-append c.loop-worker.yielded (into_iter_items c.loop-worker.worker-iterator),
+      ap length c.in-Some.ensures.steps.0,
+    )
+
 pub loop-worker-preserved : goal.loop-worker-preserved
 loop-worker-preserved g c =
     let before = c.loop-worker.invariant in
