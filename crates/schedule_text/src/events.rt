@@ -1,5 +1,5 @@
 //! The events of a schedule, in order.
-ghost use Rattle.std.specs.Prelude.{◌≡◌, ◌==◌, [], ◌∷◌, ◌++◌, length, IfOk, MatchOption, OnOk, OnErr};
+ghost use Rattle.std.specs.Prelude.{◌≡◌, ◌==◌, true, None, [], ◌∷◌, ◌++◌, length, IfOk, MatchOption, OnOk, OnErr};
 ghost use Rattle.schedule_text.specs.inner.ShortEvents as spec;
 
 use crate::event::Event;
@@ -204,43 +204,56 @@ impl<'a> EventWalk<'a> {
     {
         let (first, rest) = self.short.split_first()?;
         self.short = rest;
-        Some(match *first {
+        match *first {
             ShortEvent::Ask { client, request } => {
                 let (call, calls) = self.calls.split_first()?;
                 self.calls = calls;
-                Event::Ask {
+                Some(Event::Ask {
                     client,
                     request,
                     call: *call,
-                }
+                })
             }
-            ShortEvent::Send { replica, number } => Event::Send { replica, number },
-            ShortEvent::Resend { replica } => Event::Resend { replica },
-            ShortEvent::To { replica, position } => Event::To { replica, position },
-            ShortEvent::Ack { replica } => Event::Ack { replica },
-            ShortEvent::Answer { replica, number } => Event::Answer { replica, number },
-            ShortEvent::From { replica, position } => Event::From { replica, position },
-            ShortEvent::Take {
-                replica,
-                worker,
-                index,
-            } => Event::Take {
-                replica,
-                worker,
-                index,
-            },
-            ShortEvent::Finish { replica, worker } => Event::Finish { replica, worker },
-            ShortEvent::Mark { replica, how } => Event::Mark { replica, how },
-            ShortEvent::Restart { replica } => Event::Restart { replica },
-            ShortEvent::Cut { replica } => Event::Cut { replica },
-            ShortEvent::Next { replica } => Event::Next { replica },
-            ShortEvent::Have { replica } => Event::Have { replica },
-            ShortEvent::Donor { replica } => Event::Donor { replica },
-            ShortEvent::Give { donor, replica } => Event::Give { donor, replica },
-            ShortEvent::Adopt { replica, position } => Event::Adopt { replica, position },
-            ShortEvent::Audit { first, second } => Event::Audit { first, second },
-        })
+            whole => whole_event(whole),
+        }
     }
+}
+
+// The event that this is, or `None` if it lacks its call.
+#[inline(always)]
+fn whole_event(short: ShortEvent) -> Option<Event>
+    ensures { MatchOption result
+        (spec.is_short_ask short ≡ true)
+        (λ event. (spec.without_call event ≡ short) × (spec.call_in event ≡ None)) }
+{
+    Some(match short {
+        ShortEvent::Ask { .. } => return None,
+        ShortEvent::Send { replica, number } => Event::Send { replica, number },
+        ShortEvent::Resend { replica } => Event::Resend { replica },
+        ShortEvent::To { replica, position } => Event::To { replica, position },
+        ShortEvent::Ack { replica } => Event::Ack { replica },
+        ShortEvent::Answer { replica, number } => Event::Answer { replica, number },
+        ShortEvent::From { replica, position } => Event::From { replica, position },
+        ShortEvent::Take {
+            replica,
+            worker,
+            index,
+        } => Event::Take {
+            replica,
+            worker,
+            index,
+        },
+        ShortEvent::Finish { replica, worker } => Event::Finish { replica, worker },
+        ShortEvent::Mark { replica, how } => Event::Mark { replica, how },
+        ShortEvent::Restart { replica } => Event::Restart { replica },
+        ShortEvent::Cut { replica } => Event::Cut { replica },
+        ShortEvent::Next { replica } => Event::Next { replica },
+        ShortEvent::Have { replica } => Event::Have { replica },
+        ShortEvent::Donor { replica } => Event::Donor { replica },
+        ShortEvent::Give { donor, replica } => Event::Give { donor, replica },
+        ShortEvent::Adopt { replica, position } => Event::Adopt { replica, position },
+        ShortEvent::Audit { first, second } => Event::Audit { first, second },
+    })
 }
 
 // An event without its call, if it is an ask.
