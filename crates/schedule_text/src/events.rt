@@ -1,5 +1,5 @@
 //! The events of a schedule, in order.
-ghost use Rattle.std.specs.Prelude.{◌≡◌, ◌==◌, true, None, [], ◌∷◌, ◌++◌, length, IfOk, MatchOption, OnOk, OnErr};
+ghost use Rattle.std.specs.Prelude.{◌≡◌, ◌==◌, true, false, [], ◌∷◌, ◌++◌, length, IfOk, MatchOption, OnOk, OnErr};
 ghost use Rattle.schedule_text.specs.inner.ShortEvents as spec;
 
 use crate::event::Event;
@@ -144,17 +144,11 @@ impl Events {
         ensures ok { OnOk result (self.new ≡ self.old ++ event ∷ []) }
         ensures err { OnErr result (self.new ≡ self.old) }
     {
-        // The checker goes through an event's parts, and needs the types stated.
-        let _parts: Option<(Call, How)> = None;
-        let short = without_call(&event);
-        match call_in(event) {
-            None => self.short.push(short)?,
-            Some(call) => {
-                self.calls.reserve(1)?;
-                self.short.push(short)?;
-                self.calls.push_reserved(call);
-            }
+        self.short.reserve(1)?;
+        if let Event::Ask { call, .. } = &event {
+            self.calls.push(*call)?;
         }
+        self.short.push_reserved(without_call(&event));
         Ok(())
     }
 
@@ -224,7 +218,7 @@ impl<'a> EventWalk<'a> {
 fn whole_event(short: ShortEvent) -> Option<Event>
     ensures { MatchOption result
         (spec.is_short_ask short ≡ true)
-        (λ event. (spec.without_call event ≡ short) × (spec.call_in event ≡ None)) }
+        (λ event. (spec.without_call event ≡ short) × (spec.is_short_ask short ≡ false)) }
 {
     Some(match short {
         ShortEvent::Ask { .. } => return None,
@@ -291,17 +285,5 @@ fn without_call(event: &Event) -> ShortEvent
         Event::Give { donor, replica } => ShortEvent::Give { donor, replica },
         Event::Adopt { replica, position } => ShortEvent::Adopt { replica, position },
         Event::Audit { first, second } => ShortEvent::Audit { first, second },
-    }
-}
-
-// The call in an event, if it is an ask.
-fn call_in(event: Event) -> Option<Call>
-    ensures { result ≡ spec.call_in event }
-{
-    // The checker goes through an event's parts, and needs the types stated.
-    let _parts: Option<How> = None;
-    match event {
-        Event::Ask { call, .. } => Some(call),
-        _ => None,
     }
 }

@@ -1,5 +1,5 @@
 -- Events whose calls stand in a list of their own.
-use Rattle.std.specs.Prelude.{Bool, true, false, Option, Some, None, List, [], ◌∷◌}
+use Rattle.std.specs.Prelude.{Bool, true, false, List, [], ◌∷◌}
 use Rattle.sb_calls.specs.declared.call.Call.{Call}
 use Rattle.schedule_text.specs.declared.event.Event.{Event}
 use Rattle.schedule_text.specs.declared.event.Event.TheVariants as event
@@ -31,11 +31,6 @@ without_call (event.Donor replica) = short.Donor replica
 without_call (event.Give donor replica) = short.Give donor replica
 without_call (event.Adopt replica position) = short.Adopt replica position
 without_call (event.Audit first second) = short.Audit first second
-
--- the call in an event, if it is an ask
-abbrev pub call_in : Event → Option Call
-call_in (event.Ask client request call) = Some call
-call_in other = None
 
 -- the events, if each ask among them has the next of these calls
 abbrev pub events_with_calls : List ShortEvent → List Call → List Event
