@@ -10,8 +10,8 @@ ghost use Rattle.schedule_text.specs.ScheduleText.{events_from, in_events};
 use crate::event::Event;
 use crate::events::Events;
 use crate::fault::{EventFault, ScheduleLineFault, TextFault};
-use crate::parsing::{parse_number, parse_one, parse_three, parse_two};
-use sb_calls::{Call, read_call_words};
+use crate::parsing::{is, parse_one, parse_three, parse_two};
+use sb_calls::{Call, read_call_words, read_number};
 use sb_checkpoint::How;
 use sb_rows::{Words, next_line};
 use std::alloc::Global;
@@ -34,18 +34,18 @@ fn event_of(mut words: Words) -> Result<Event, EventFault>
     ensures { result ≡ event_of_words words.entry }
 {
     let verb = words.next().ok_or(EventFault::UnknownEvent)?;
-    if verb == b"ask".as_slice() {
+    if is(verb, b"ask") {
         return ask_event(words);
     }
-    if verb == b"send".as_slice() {
+    if is(verb, b"send") {
         let (replica, number) = parse_two(words)?;
         return Ok(Event::Send { replica, number });
     }
-    if verb == b"resend".as_slice() {
+    if is(verb, b"resend") {
         let replica = parse_one(words)?;
         return Ok(Event::Resend { replica });
     }
-    if verb == b"to".as_slice() {
+    if is(verb, b"to") {
         let (replica, position) = parse_two(words)?;
         return Ok(Event::To { replica, position });
     }
@@ -57,19 +57,19 @@ fn event_of(mut words: Words) -> Result<Event, EventFault>
 fn report_event(verb: &[u8], words: Words) -> Result<Event, EventFault>
     ensures { result ≡ spec.report_event verb.now words.entry }
 {
-    if verb == b"ack".as_slice() {
+    if is(verb, b"ack") {
         let replica = parse_one(words)?;
         return Ok(Event::Ack { replica });
     }
-    if verb == b"answer".as_slice() {
+    if is(verb, b"answer") {
         let (replica, number) = parse_two(words)?;
         return Ok(Event::Answer { replica, number });
     }
-    if verb == b"have".as_slice() {
+    if is(verb, b"have") {
         let replica = parse_one(words)?;
         return Ok(Event::Have { replica });
     }
-    if verb == b"from".as_slice() {
+    if is(verb, b"from") {
         let (replica, position) = parse_two(words)?;
         return Ok(Event::From { replica, position });
     }
@@ -81,7 +81,7 @@ fn report_event(verb: &[u8], words: Words) -> Result<Event, EventFault>
 fn replica_event(verb: &[u8], words: Words) -> Result<Event, EventFault>
     ensures { result ≡ spec.replica_event verb.now words.entry }
 {
-    if verb == b"take".as_slice() {
+    if is(verb, b"take") {
         let (replica, worker, index) = parse_three(words)?;
         return Ok(Event::Take {
             replica,
@@ -89,15 +89,15 @@ fn replica_event(verb: &[u8], words: Words) -> Result<Event, EventFault>
             index,
         });
     }
-    if verb == b"finish".as_slice() {
+    if is(verb, b"finish") {
         let (replica, worker) = parse_two(words)?;
         return Ok(Event::Finish { replica, worker });
     }
-    if verb == b"next".as_slice() {
+    if is(verb, b"next") {
         let replica = parse_one(words)?;
         return Ok(Event::Next { replica });
     }
-    if verb == b"audit".as_slice() {
+    if is(verb, b"audit") {
         let (first, second) = parse_two(words)?;
         return Ok(Event::Audit { first, second });
     }
@@ -108,26 +108,26 @@ fn replica_event(verb: &[u8], words: Words) -> Result<Event, EventFault>
 fn state_event(verb: &[u8], words: Words) -> Result<Event, EventFault>
     ensures { result ≡ spec.state_event verb.now words.entry }
 {
-    if verb == b"mark".as_slice() {
+    if is(verb, b"mark") {
         return mark_event(words);
     }
-    if verb == b"restart".as_slice() {
+    if is(verb, b"restart") {
         let replica = parse_one(words)?;
         return Ok(Event::Restart { replica });
     }
-    if verb == b"cut".as_slice() {
+    if is(verb, b"cut") {
         let replica = parse_one(words)?;
         return Ok(Event::Cut { replica });
     }
-    if verb == b"donor".as_slice() {
+    if is(verb, b"donor") {
         let replica = parse_one(words)?;
         return Ok(Event::Donor { replica });
     }
-    if verb == b"give".as_slice() {
+    if is(verb, b"give") {
         let (donor, replica) = parse_two(words)?;
         return Ok(Event::Give { donor, replica });
     }
-    if verb == b"adopt".as_slice() {
+    if is(verb, b"adopt") {
         let (replica, position) = parse_two(words)?;
         return Ok(Event::Adopt { replica, position });
     }
@@ -138,9 +138,12 @@ fn state_event(verb: &[u8], words: Words) -> Result<Event, EventFault>
 fn ask_event(mut words: Words) -> Result<Event, EventFault>
     ensures { result ≡ ask_event words.entry }
 {
-    let (client, request) = (words.word()?, words.word()?);
-    let client = parse_number(client)?;
-    let request = parse_number(request)?;
+    let (Ok(client), Ok(request)) = (words.word(), words.word()) else {
+        return Err(EventFault::WrongWords);
+    };
+    let (Some(client), Some(request)) = (read_number(client), read_number(request)) else {
+        return Err(EventFault::BadNumber);
+    };
     let call = read_call_words(words)?;
     Ok(Event::Ask {
         client,
@@ -153,9 +156,12 @@ fn ask_event(mut words: Words) -> Result<Event, EventFault>
 fn mark_event(mut words: Words) -> Result<Event, EventFault>
     ensures { result ≡ mark_event words.entry }
 {
-    let (replica, how) = (words.word()?, words.last()?);
-    let replica = parse_number(replica)?;
-    let how = how_of(how).ok_or(EventFault::BadNumber)?;
+    let (Ok(replica), Ok(how)) = (words.word(), words.last()) else {
+        return Err(EventFault::WrongWords);
+    };
+    let (Some(replica), Some(how)) = (read_number(replica), how_of(how)) else {
+        return Err(EventFault::BadNumber);
+    };
     Ok(Event::Mark { replica, how })
 }
 
@@ -163,13 +169,13 @@ fn mark_event(mut words: Words) -> Result<Event, EventFault>
 fn how_of(word: &[u8]) -> Option<How>
     ensures { result ≡ spec.how_of word.now }
 {
-    if word == b"ok".as_slice() {
+    if is(word, b"ok") {
         return Some(How::Ok);
     }
-    if word == b"old".as_slice() {
+    if is(word, b"old") {
         return Some(How::Old);
     }
-    if word == b"new".as_slice() {
+    if is(word, b"new") {
         return Some(How::New);
     }
     None

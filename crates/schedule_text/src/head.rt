@@ -7,6 +7,7 @@ ghost use Rattle.schedule_text.specs.inner.LineFaults.{BlamesLine};
 ghost use Rattle.schedule_text.specs.ScheduleText.{head_of_lines, head_of_words, head_with};
 
 use crate::fault::{ScheduleLineFault, TextFault};
+use crate::parsing::is;
 use cown_bench::WORKERS;
 use sb_calls::read_number;
 use sb_rows::{Words, next_line};
@@ -78,7 +79,7 @@ fn number_words(line: &[u8]) -> Option<(&[u8], &[u8])>
     let Ok(workers) = words.last() else {
         return None;
     };
-    if first != b"nodes".as_slice() || third != b"workers".as_slice() {
+    if !is(first, b"nodes") || !is(third, b"workers") {
         return None;
     }
     Some((nodes, workers))

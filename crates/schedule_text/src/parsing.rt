@@ -1,7 +1,7 @@
-//! The numbers that are left on a line.
-ghost use Rattle.std.specs.Prelude.{◌≡◌, ℕ, Some, None, MatchResult};
+//! The words of a line, and the numbers that are left on it.
+ghost use Rattle.std.specs.Prelude.{◌≡◌, ℕ};
+ghost use Rattle.std.specs.Str.{bytes_eq};
 ghost use Rattle.std.specs.Result.{result_map_both};
-ghost use Rattle.sb_calls.specs.Ask as calls;
 ghost use Rattle.schedule_text.specs.EventText.{event_of_one, event_of_two, event_of_three};
 ghost use Rattle.schedule_text.specs.declared.event.Event.{Event as AnyEvent};
 
@@ -9,13 +9,21 @@ use crate::fault::EventFault;
 use sb_calls::read_number;
 use sb_rows::Words;
 
+// Whether a word is spelled so.
+#[inline(always)]
+pub(crate) fn is(word: &[u8], text: &[u8]) -> bool
+    ensures { result ≡ bytes_eq word.now text.now }
+{
+    word == text
+}
+
 // The one number that is left, whatever event it is for.
 pub(crate) fn parse_one(words: Words) -> Result<u32, EventFault>
     ensures { (event : ℕ → AnyEvent)
         → result_map_both event (λ fault. fault) result ≡ event_of_one event words.entry }
 {
     let word = words.last()?;
-    parse_number(word)
+    read_number(word).ok_or(EventFault::BadNumber)
 }
 
 // The two numbers that are left, whatever event they are for.
@@ -24,8 +32,13 @@ pub(crate) fn parse_two(mut words: Words) -> Result<(u32, u32), EventFault>
         → result_map_both (λ two. event two.0 two.1) (λ fault. fault) result
         ≡ event_of_two event words.entry }
 {
-    let (first, second) = (words.word()?, words.last()?);
-    Ok((parse_number(first)?, parse_number(second)?))
+    let (Ok(first), Ok(second)) = (words.word(), words.last()) else {
+        return Err(EventFault::WrongWords);
+    };
+    let (Some(first), Some(second)) = (read_number(first), read_number(second)) else {
+        return Err(EventFault::BadNumber);
+    };
+    Ok((first, second))
 }
 
 // The three numbers that are left, whatever event they are for.
@@ -34,20 +47,15 @@ pub(crate) fn parse_three(mut words: Words) -> Result<(u32, u32, u32), EventFaul
         → result_map_both (λ three. event three.0 three.1 three.2) (λ fault. fault) result
         ≡ event_of_three event words.entry }
 {
-    let (first, second, third) = (words.word()?, words.word()?, words.last()?);
-    Ok((
-        parse_number(first)?,
-        parse_number(second)?,
-        parse_number(third)?,
-    ))
-}
-
-// The number that a word spells.
-#[inline]
-pub(crate) fn parse_number(word: &[u8]) -> Result<u32, EventFault>
-    ensures { MatchResult result
-        (λ number. calls.read_number word.now ≡ Some number)
-        (λ fault. (fault ≡ EventFault.BadNumber) × (calls.read_number word.now ≡ None)) }
-{
-    read_number(word).ok_or(EventFault::BadNumber)
+    let (Ok(first), Ok(second), Ok(third)) = (words.word(), words.word(), words.last()) else {
+        return Err(EventFault::WrongWords);
+    };
+    let (Some(first), Some(second), Some(third)) = (
+        read_number(first),
+        read_number(second),
+        read_number(third),
+    ) else {
+        return Err(EventFault::BadNumber);
+    };
+    Ok((first, second, third))
 }
