@@ -1,5 +1,4 @@
 pub mod EventLines
-pub mod Heads
 pub mod OpeningFaults
 pub mod ScheduleParts
 pub mod ShortEvents

@@ -1,5 +1,5 @@
 //! The first line of a schedule: how many replicas there are, and how many workers each has.
-ghost use Rattle.std.specs.Prelude.{◌≡◌, ◌≤◌, ◌<◌, Ok, Some, None, IfOk, IfSome, MatchOption, MatchResult};
+ghost use Rattle.std.specs.Prelude.{◌≡◌, ℕ, ◌≤◌, ◌<◌, Ok, Some, None, IfOk, IfSome, MatchOption, MatchResult};
 ghost use Rattle.sb_calls.specs.Ask as asks;
 ghost use Rattle.sb_rows.specs.Text.{lines, words, after_line};
 ghost use Rattle.schedule_text.specs.inner.Head.{IsHead};
@@ -51,20 +51,8 @@ fn head_of(line: &[u8]) -> Option<(u8, u8)>
         (λ head. head_of_words (words line.now) ≡ Some (head.0, head.1)) }
     ensures within { IfSome result (λ head. IsHead head.0 head.1) }
 {
-    let (nodes, workers) = parse_counts(line)?;
-    let nodes = count_of(nodes, MOST_NODES)?;
-    let workers = count_of(workers, MOST_WORKERS)?;
-    Some((nodes, workers))
-}
-
-// The two numbers of a line that is spelled as a head.
-fn parse_counts(line: &[u8]) -> Option<(u32, u32)>
-    ensures { MatchOption result
-        (head_of_words (words line.now) ≡ None)
-        (λ two. head_of_words (words line.now) ≡ head_with (Some two.0) (Some two.1)) }
-{
     let (nodes, workers) = number_words(line)?;
-    Some((read_number(nodes)?, read_number(workers)?))
+    count_of(nodes, MOST_NODES).zip(count_of(workers, MOST_WORKERS))
 }
 
 // The words for the two numbers of a line that is otherwise spelled as a head.
@@ -75,8 +63,12 @@ fn number_words(line: &[u8]) -> Option<(&[u8], &[u8])>
         ≡ head_with (asks.read_number two.0.now) (asks.read_number two.1.now)) }
 {
     let mut words = Words::of(line);
-    let (first, nodes, third) = (words.next()?, words.next()?, words.next()?);
-    let Ok(workers) = words.last() else {
+    let (Some(first), Some(nodes), Some(third), Ok(workers)) = (
+        words.next(),
+        words.next(),
+        words.next(),
+        words.last(),
+    ) else {
         return None;
     };
     if !is(first, b"nodes") || !is(third, b"workers") {
@@ -85,16 +77,14 @@ fn number_words(line: &[u8]) -> Option<(&[u8], &[u8])>
     Some((nodes, workers))
 }
 
-// A number from 1 to the most.
-fn count_of(number: u32, most: u8) -> Option<u8>
+// The number that a word spells, if it is from 1 to the most.
+fn count_of(word: &[u8], most: u8) -> Option<u8>
     ensures { MatchOption result
-        (1 ≤ number → most < number)
-        (λ count. (count ≡ number) × (1 ≤ count) × (count ≤ most)) }
+        ((number : ℕ) → asks.read_number word.now ≡ Some number → 1 ≤ number → most < number)
+        (λ count. (asks.read_number word.now ≡ Some count) × (1 ≤ count) × (count ≤ most)) }
 {
-    let count = u8::try_from(number).ok()?;
-    if count == 0 || count > most {
-        None
-    } else {
-        Some(count)
+    match u8::try_from(read_number(word)?) {
+        Ok(count) if 1 <= count && count <= most => Some(count),
+        _ => None,
     }
 }
