@@ -197,24 +197,16 @@ pub(crate) fn read_events(
     let mut events = Events::with_capacity(alloc, text.len() / USUAL_LINE)?;
     let mut left = text;
     while let Some((line, rest)) = next_line(left) {
-        let event = event_at(line, first_line + events.len())?;
-        events.push(event)?;
+        match read_event(line) {
+            Ok(event) => events.push(event)?,
+            Err(fault) => {
+                return Err(TextFault::Line {
+                    line: first_line + events.len(),
+                    fault: ScheduleLineFault::Event(fault),
+                });
+            }
+        }
         left = rest;
     }
     Ok(events)
-}
-
-// Reads the event of the line with this number.
-fn event_at(line: &[u8], number: usize) -> Result<Event, TextFault>
-    ensures { MatchResult result
-        (λ event. event_of line.now ≡ Ok event)
-        (λ fault. BlamesLine fault (in_events (at_line number (event_of line.now)))) }
-{
-    match read_event(line) {
-        Ok(event) => Ok(event),
-        Err(fault) => Err(TextFault::Line {
-            line: number,
-            fault: ScheduleLineFault::Event(fault),
-        }),
-    }
 }

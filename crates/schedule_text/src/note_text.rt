@@ -3,7 +3,7 @@ ghost use Rattle.std.specs.Prelude.{◌≡◌, ◌∷◌, [], ◌++◌, map, cod
 ghost use Rattle.sb_amount.specs.Money.{money};
 ghost use Rattle.sb_calls.specs.ReplyText.{reply_text};
 ghost use Rattle.sb_rows.specs.Text.{unlines};
-ghost use Rattle.schedule_text.specs.NoteText.{audit_line, column_text, note_line};
+ghost use Rattle.schedule_text.specs.NoteText.{audit_line, note_line};
 
 use crate::note::{AuditNote, Column, Note};
 use itoa::Buffer;
@@ -77,10 +77,11 @@ fn push_audit(found: AuditNote, out: &mut Vec<u8>) -> Result<(), AllocError>
     match found {
         AuditNote::Busy(replica) => push_numbered(b"busy ", u64::from(replica), out),
         AuditNote::Apart(first, second) => push_two(b"apart ", first, second, out),
-        AuditNote::Differ(column, place) => {
-            out.extend_from_slice(b"differ ")?;
-            out.extend_from_slice(column_word(column))?;
-            push_numbered(b" ", place as u64, out)
+        AuditNote::Differ(Column::Savings, place) => {
+            push_numbered(b"differ savings ", place as u64, out)
+        }
+        AuditNote::Differ(Column::Checking, place) => {
+            push_numbered(b"differ checking ", place as u64, out)
         }
         AuditNote::OffBooks(total, expected) => {
             push_total(b"off books ", total, out)?;
@@ -90,16 +91,6 @@ fn push_audit(found: AuditNote, out: &mut Vec<u8>) -> Result<(), AllocError>
             push_total(b"same ", total, out)?;
             push_numbered(b" ", overdrawn as u64, out)
         }
-    }
-}
-
-// The word for a column.
-fn column_word(column: Column) -> &'static [u8]
-    ensures { result.now ≡ column_text column }
-{
-    match column {
-        Column::Savings => b"savings",
-        Column::Checking => b"checking",
     }
 }
 

@@ -1,30 +1,29 @@
-use Rattle.std.proofs.Common.{◌+◌, [], ◌∷◌, length, sym, ap, ◌∙◌, arith, length-append}
-use Rattle.std.proofs.lemmas.Result.{err_from_is_err_and}
+use Rattle.std.proofs.Common.{◌+◌, Err, [], ◌∷◌, length, sym, ap, ◌∙◌, arith, length-append}
 use Rattle.sb_rows.specs.Text.{lines}
-use Rattle.schedule_text.specs.ScheduleText.{events_from}
+use Rattle.schedule_text.specs.ScheduleText.{events_from, in_events}
+use Rattle.schedule_text.specs.declared.fault.ScheduleLineFault.TheVariants as faults
 use Rattle.schedule_text.proofs.EventLines.{events_from-line, events_from-fault, events_from-end}
 use Rattle.schedule_text.proofs.event_text.read_events.Goals as goal
 
-pub returns-in_err-event : goal.returns-in_err-event
-returns-in_err-event c =
+pub returns-in-Err : goal.returns-in-Err
+returns-in-Err c =
     let first = c.args.first_line in
     let before = c.loop-line.events in
-    let exit = err_from_is_err_and c.from_residual-in_err-event.result c.from_residual-in_err-event.ensures.1 in
-    rw (exit.1, exit.2)
-    (events_from-fault first (first + c.len.result) before c.in-Some.line.now (lines c.in-Some.rest.now) _ _
-    (sym c.loop-line.invariant.all ∙ ap (events_from first before) c.in-Some.ensures.line) (omega (arith, c.len.ensures)) c.in_err-event.ensures)
+    ap in_events (sym c.loop-line.invariant.all ∙ ap (events_from first before) c.in-Some.ensures.line)
+    ∙ events_from-fault first before c.in-Some.line.now (lines c.in-Some.rest.now) c.in-Err.fault (sym c.in-Err.ensures)
+    ∙ ap (λ n. Err (first + n, faults.Event c.in-Err.fault)) (sym c.len.ensures)
 
 pub loop-line-preserved : goal.loop-line-preserved
 loop-line-preserved c =
     let first = c.args.first_line in
     let before = c.loop-line.events in
-    let more = events_from-line first before c.in-Some.line.now (lines c.in-Some.rest.now) c.in_ok-event.event c.in_ok-event.ensures in
-    let told = ap length c.in_ok-push.ensures.ok in
+    let more = events_from-line first before c.in-Some.line.now (lines c.in-Some.rest.now) c.in-Ok.event (sym c.in-Ok.ensures) in
+    let told = ap length c.in_ok-push-in-Ok.ensures.ok in
     record {
       all =
-          ap (λ events. events_from first events (lines c.in-Some.rest.now)) c.in_ok-push.ensures.ok
+          ap (λ events. events_from first events (lines c.in-Some.rest.now)) c.in_ok-push-in-Ok.ensures.ok
           ∙ (sym more ∙ (ap (events_from first before) (sym c.in-Some.ensures.line) ∙ c.loop-line.invariant.all));
-      room = omega (arith, told, length-append before (c.in_ok-event.event ∷ []), c.loop-line.invariant.room, c.in-Some.ensures.shorter);
+      room = omega (arith, told, length-append before (c.in-Ok.event ∷ []), c.loop-line.invariant.room, c.in-Some.ensures.shorter);
     }
 
 pub returns : goal.returns
