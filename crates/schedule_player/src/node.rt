@@ -50,7 +50,6 @@ fn heard_note(heard: Heard) -> Note
 }
 
 // The hands of this many workers, all empty.
-#[tactic(auto, using(crate::proofs::Lists::copies_push))]
 fn empty_hands(alloc: Global, workers: usize) -> Result<Vec<Option<Job<Op>>>, AllocError>
     ensures { IfOk result (λ hands. hands.items ≡ copies workers None) }
 {

@@ -1,4 +1,5 @@
-use Rattle.std.proofs.Common.{◌≡◌, ◌+◌, ◌<◌, [], ◌∷◌, ◌++◌, length, map, drop, sym, ap, subst, ◌∙◌, arith, append_assoc, length-append}
+use Rattle.std.proofs.Common.{◌≡◌, ◌+◌, ◌<◌, [], ◌∷◌, ◌++◌, length, map, drop, refl, sym, ap, subst, ◌∙◌, arith, append-nil, append_assoc, length-append}
+use Rattle.std.proofs.lemmas.List.{drop_all}
 use Rattle.schedule_player.specs.OneBased.{Every}
 use Rattle.schedule_player.specs.inner.MachineView.{frame_in, IsFrameBytes}
 use Rattle.schedule_player.proofs.Lists.{every_push, get_here, drop_one}
@@ -33,3 +34,16 @@ loop-frame-preserved c =
           let same = c.push_reserved.ensures.capacity in
           omega (arith, longer, shorter, room, same);
     }
+
+pub loop-frame-init : goal.loop-frame-init
+loop-frame-init c = record { spelled = λ all. all; frames = refl; room = c.requires }
+
+pub returns-clause-spelled : goal.returns-clause-spelled
+returns-clause-spelled c = c.loop-frame.invariant.spelled
+
+pub returns-clause-frames : goal.returns-clause-frames
+returns-clause-frames c =
+    let seen = map (λ b. frame_in b.items) c.loop-frame.sent.items in
+    sym (append-nil seen)
+    ∙ ap (λ rest. seen ++ rest) (sym (drop_all c.loop-frame.frame-index c.args.frames.now c.loop-frame-test.false))
+    ∙ c.loop-frame.invariant.frames

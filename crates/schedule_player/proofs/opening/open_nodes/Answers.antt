@@ -1,9 +1,18 @@
 use Rattle.std.proofs.Common.{slice_get, ◌≡◌, inl, inr, ◌∷◌, [], ◌++◌, length, map, sym, ap, subst, ◌∙◌, arith}
 use Rattle.std.proofs.lemmas.List.{length-append, map-append}
 use Rattle.schedule_player.specs.inner.NodeInvariant.{IsNodeAt, machine_node}
+use Rattle.schedule_player.specs.OneBased.{copies}
 use Rattle.schedule_player.specs.ReplicaMoves.{opened_node}
 use Rattle.schedule_player.proofs.Lists.{copies_push, pushed_cases}
 use Rattle.schedule_player.proofs.opening.open_nodes.Goals as goal
+
+pub returns-clause-node : goal.returns-clause-node
+returns-clause-node c =
+    let all : c.loop-id.id ≡ c.args.nodes = omega (arith, c.loop-id-test.false, c.loop-id.auto.id-end) in
+    c.loop-id.invariant.seen ∙ ap (λ n. copies n (opened_node c.args.workers)) all
+
+pub returns-clause-consistent : goal.returns-clause-consistent
+returns-clause-consistent c = c.loop-id.invariant.consistent
 
 pub loop-id-preserved : goal.loop-id-preserved
 loop-id-preserved c =

@@ -1,7 +1,8 @@
-use Rattle.std.proofs.Common.{◌≡◌, ◌<◌, ◌+◌, suc, [], ◌∷◌, ◌++◌, length, take, sym, ap, subst, ◌∙◌, arith}
+use Rattle.std.proofs.Common.{◌≡◌, ◌<◌, ◌+◌, suc, [], ◌∷◌, ◌++◌, inr, length, take, sym, ap, subst, ◌∙◌, arith}
 use Rattle.std.proofs.lemmas.List.{length-append, take_all}
 use Rattle.sb_replica.proofs.IdleReplies.{take_one_more}
 use Rattle.schedule_player.specs.EventLists.{PlaysEvents}
+use Rattle.schedule_player.specs.World.{MayWantMemory, NextMayWantMemory}
 use Rattle.schedule_player.proofs.Lists.{get_here}
 use Rattle.schedule_player.proofs.EventLists.{plays_more, played_on}
 use Rattle.schedule_player.proofs.stepping.play.Goals as goal
@@ -31,10 +32,33 @@ loop-done-preserved c =
       replicas = c.in-Ok-step.ensures.replicas ∙ so_far.replicas;
     }
 
-pub returns-clause-played : goal.returns-clause-played
-returns-clause-played c schedule played =
+-- at a refused event, the events before it happened
+pub returns-in-Err-OutOfMemory-clause-stopped : goal.returns-in-Err-OutOfMemory-clause-stopped
+returns-in-Err-OutOfMemory-clause-stopped c =
+    let plays = subst (PlaysEvents c.args.world.now (take c.loop-done.done c.args.events.now) c.loop-done.notes.items)
+    (sym c.in-Err-OutOfMemory.ensures.err) c.loop-done.invariant.plays in
+    (omega (arith, c.loop-done-test.true, c.loop-done.auto.done-end), (c.loop-done.notes.items, plays))
+
+pub returns-in-Err-OutOfMemory-clause-wanted : goal.returns-in-Err-OutOfMemory-clause-wanted
+returns-in-Err-OutOfMemory-clause-wanted c =
+    let done = c.loop-done.done in
+    let events = c.args.events.now in
+    let event = c.index-events-done.result in
+    let within : done < length events = omega (arith, c.loop-done-test.true, c.loop-done.auto.done-end) in
+    inr (subst (NextMayWantMemory c.step.new.self) (sym (get_here events done event within c.index-events-done.is))
+    (subst (λ w. MayWantMemory w event) (sym c.in-Err-OutOfMemory.ensures.err) c.in-Err-OutOfMemory.ensures.wanted))
+
+-- after the last event, all happened
+all_played : (c : goal.After-loop-done) → PlaysEvents c.args.world.now c.args.events.now c.loop-done.notes.items c.loop-done.world
+all_played c =
     let events = c.args.events.now in
     let all : take c.loop-done.done events ≡ events =
     take_all c.loop-done.done events (omega (arith, c.loop-done-test.false, c.loop-done.auto.done-end)) in
-    played_on schedule c.args.world.now events c.loop-done.notes.items c.loop-done.world played
-    (subst (λ es. PlaysEvents c.args.world.now es c.loop-done.notes.items c.loop-done.world) all c.loop-done.invariant.plays)
+    subst (λ es. PlaysEvents c.args.world.now es c.loop-done.notes.items c.loop-done.world) all c.loop-done.invariant.plays
+
+pub returns-clause-plays : goal.returns-clause-plays
+returns-clause-plays c = all_played c
+
+pub returns-clause-played : goal.returns-clause-played
+returns-clause-played c schedule played =
+    played_on schedule c.args.world.now c.args.events.now c.loop-done.notes.items c.loop-done.world played (all_played c)

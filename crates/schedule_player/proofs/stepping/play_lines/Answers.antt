@@ -1,9 +1,15 @@
-use Rattle.std.proofs.Common.{◌≡◌, ◌-◌, ◌∷◌, ◌++◌, [], inr, length, sym, ap, subst, ◌∙◌, arith, append_assoc}
+use Rattle.std.proofs.Common.{◌≡◌, ◌-◌, ◌∷◌, ◌++◌, [], inl, inr, length, refl, sym, ap, subst, ◌∙◌, arith, append-nil, append_assoc}
 use Rattle.schedule_player.specs.EventLists.{PlaysEvents}
 use Rattle.schedule_player.specs.World.{MayWantMemory, NextMayWantMemory}
 use Rattle.schedule_player.proofs.EventLists.{plays_more, played_on}
 use Rattle.schedule_player.proofs.PlayedLines.{count_of, if_written, next_is, stops_at, up_to_last, up_to_next}
 use Rattle.schedule_player.proofs.stepping.play_lines.Goals as goal
+
+pub loop-event-init : goal.loop-event-init
+loop-event-init c = record {
+  so_far = record { done = []; notes = []; all = c.walk-left.ensures; plays = refl; written = sym (append-nil c.args.out.now.items) };
+  replicas = refl;
+}
 
 pub returns-then-is_err-clause-stopped : goal.returns-then-is_err-clause-stopped
 returns-then-is_err-clause-stopped c =
@@ -21,6 +27,14 @@ returns-then-is_err-clause-stopped c =
     let stops = stops_at c.args.world.now events left c.step.new.self done (so_far.notes ++ c.in-Ok.note ∷ [])
     (c.len-then-is_err.result - c.len-then-is_err-2.result) all plays (omega (arith, many, c.len-then-is_err.ensures, c.len-then-is_err-2.ensures)) in
     (stops.within, (stops.notes, stops.plays))
+
+-- and at least that one
+pub returns-then-is_err-clause-wanted : goal.returns-then-is_err-clause-wanted
+returns-then-is_err-clause-wanted c =
+    let so_far = c.loop-event.invariant.so_far in
+    let many = count_of so_far.done c.loop-event.left c.args.events.now so_far.all in
+    let longer = ap length c.in-Some.ensures in
+    inl (omega (arith, many, longer, c.len-then-is_err.ensures, c.len-then-is_err-2.ensures))
 
 -- at a refused event, the events before it happened
 pub returns-in-Err-OutOfMemory-clause-stopped : goal.returns-in-Err-OutOfMemory-clause-stopped
@@ -54,6 +68,11 @@ loop-event-preserved c = record {
       (if_written c.push_note.result (sym c.is_err.ensures.value ∙ c.if-is_err.false) c.push_note.ensures);
   replicas = c.in-Ok.ensures.replicas ∙ c.loop-event.invariant.replicas;
 }
+
+pub returns-clause-plays : goal.returns-clause-plays
+returns-clause-plays c =
+    up_to_last c.args.world.now c.args.events.now c.loop-event.left c.loop-event.world c.args.out.now.items c.loop-event.out.items
+    c.loop-event.invariant.so_far c.in_default.ensures.0
 
 pub returns-clause-played : goal.returns-clause-played
 returns-clause-played c schedule played =
