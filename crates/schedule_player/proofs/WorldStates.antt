@@ -1,10 +1,10 @@
 -- States that replicas of a world keep and were sent.
-use Rattle.std.proofs.Common.{◌≡◌, ◌≢◌, ℕ, ◌<◌, ◌≤◌, Option, Some, None, Result, List, Bor, length, get_or, sym, ap, subst, ◌∙◌, arith}
+use Rattle.std.proofs.Common.{◌≡◌, ◌≢◌, ◌⊎◌, inl, inr, ◌==◌, Bool, true, false, ℕ, ◌<◌, ◌≤◌, Option, Some, None, Result, List, Bor, length, get_or, refl, sym, ap, subst, ◌∙◌, arith}
 use Rattle.std.specs.Prelude.{slice_get, option_map, option_and_then, IfSome, MatchOption}
 use Rattle.std.specs.List.{slice_index_or}
 use Rattle.std.specs.Option.{option_copied}
 use Rattle.std.proofs.lemmas.Bool.{ne_eqb}
-use Rattle.std.proofs.lemmas.Option.{slice_get-get_or, slice_get_within}
+use Rattle.std.proofs.lemmas.Option.{slice_get-get_or, slice_get_past, slice_get_within}
 use Rattle.sb_checkpoint.specs.Reading.{stated_reply_count}
 use Rattle.sb_rows.specs.Balances.{Balances}
 use Rattle.sb_sequencer.specs.Donors.{HasStateFor}
@@ -16,11 +16,12 @@ use Rattle.schedule_player.specs.inner.NodeInvariant.{IsNodeAt, IsStateOfLog, Ha
 use Rattle.schedule_player.specs.OneBased.{nth_item}
 use Rattle.schedule_player.specs.Observers.{state_at}
 use Rattle.schedule_player.specs.ReplicaMoves.{NodeOf, receive_move, opened_node}
-use Rattle.schedule_player.specs.World.{WorldOf, bank_of, bank_with, give_move, move_at}
+use Rattle.schedule_player.specs.World.{WorldOf, bank_of, bank_with, give_at, give_move, move_at, move_if}
 use Rattle.schedule_player.specs.inner.WorldInvariant.{IsWorld}
 use Rattle.schedule_player.specs.declared.fault.StepFault.{StepFault}
 use Rattle.schedule_player.specs.declared.node.Node.{Node}
 use Rattle.schedule_text.specs.declared.note.Note.{Note}
+use Rattle.schedule_text.specs.declared.note.Note.TheVariants as note
 use Rattle.schedule_player.proofs.AuditResults.{LookedUp}
 use Rattle.schedule_player.proofs.StatesOfLog.{nth_item-map, state_is}
 use Rattle.schedule_player.proofs.Lists.{every_numbered, get_here}
@@ -68,6 +69,25 @@ gives now a r size node here is some =
     ap (λ n. move_at now r (λ one. receive_move one n)) is
     ∙ sym (ap (give_by now r node.stored) (ne_eqb node.stored 0 some))
     ∙ sym (ap (give_move now r) here)
+
+-- nothing is given where one of the two replicas is missing
+pub gives_nowhere : (now : WorldOf) (a r : ℕ) → (length now.nodes ≤ a) ⊎ (length now.nodes ≤ r)
+    → give_move now r (slice_get now.nodes a) ≡ (now, note.Nothing)
+gives_nowhere now a r (inl far) = ap (give_move now r) (slice_get_past now.nodes a far)
+gives_nowhere now a r (inr far) = by (slice_get now.nodes a)
+  where
+    given : (size : ℕ) (nothing : Bool) → give_by now r size nothing ≡ (now, note.Nothing)
+    given size true = refl
+    given size false = ap (move_if now r (λ one. receive_move one size)) (slice_get_past now.nodes r far)
+
+    by : (found : Option NodeOf) → give_move now r found ≡ (now, note.Nothing)
+    by None = refl
+    by (Some donor) = given donor.stored (donor.stored == 0)
+
+-- or where the donor keeps no entry
+pub gives_nothing : (now : WorldOf) (a r : ℕ) (node : NodeOf) → slice_get now.nodes a ≡ Some node → node.stored ≡ 0
+    → give_move now r (slice_get now.nodes a) ≡ (now, note.Nothing)
+gives_nothing now a r node here none = ap (give_move now r) here ∙ ap (give_at now r) none
 
 -- a replica that the sequencer doesn't know gets none
 pub no_donor : (s : SequencerOf) (replica donor size : ℕ) → length s.recorded ≤ REPLICAS → (replica < 256 → ⊥) → HasStateFor s replica donor size → ⊥
