@@ -11,6 +11,24 @@ loop-event-init c = record {
   replicas = refl;
 }
 
+pub overflow_sub-done : goal.overflow_sub-done
+overflow_sub-done c =
+    let many = count_of c.loop-event.invariant.so_far.done c.loop-event.left c.args.events.now c.loop-event.invariant.so_far.all in
+    let longer = ap length c.in-Some.ensures in
+    omega (arith, many, longer, c.len.ensures, c.len-in-Err-OutOfMemory.ensures)
+
+pub overflow_sub-done-in-Err-OutOfMemory : goal.overflow_sub-done-in-Err-OutOfMemory
+overflow_sub-done-in-Err-OutOfMemory c =
+    let many = count_of c.loop-event.invariant.so_far.done c.loop-event.left c.args.events.now c.loop-event.invariant.so_far.all in
+    let longer = ap length c.in-Some.ensures in
+    omega (arith, many, longer, c.len.ensures, c.len-in-Err-OutOfMemory.ensures)
+
+pub overflow_sub-done-then-is_err : goal.overflow_sub-done-then-is_err
+overflow_sub-done-then-is_err c =
+    let many = count_of c.loop-event.invariant.so_far.done c.loop-event.left c.args.events.now c.loop-event.invariant.so_far.all in
+    let longer = ap length c.in-Some.ensures in
+    omega (arith, many, longer, c.len-then-is_err.ensures, c.len-then-is_err-2.ensures)
+
 pub returns-then-is_err-clause-stopped : goal.returns-then-is_err-clause-stopped
 returns-then-is_err-clause-stopped c =
     let so_far = c.loop-event.invariant.so_far in
