@@ -5,3 +5,4 @@ pub mod OptionValues
 pub mod PrintedLines
 pub mod SessionsInOrder
 pub mod SubcommandWords
+pub mod WholeOpenings

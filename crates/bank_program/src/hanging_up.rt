@@ -22,13 +22,12 @@ const LONGEST: u64 = 10;
 pub(crate) fn hang_up<R: Clock, S: Read + OpenStream>(rt: &R, stream: &mut S) {
     let patience = Duration::from_secs(PATIENCE);
     if stream.set_read_timeout(Some(patience)).is_ok() && stream.shutdown(Shutdown::Write).is_ok() {
-        pass_over(rt, stream, Duration::from_secs(LONGEST));
+        pass_over(rt, stream);
     }
 }
 
-/// Skips what a client still sends, until its end, a failure, or a limit: 1 MiB, 4,096 reads, or
-/// this long.
-pub fn pass_over<R: Clock, S: Read>(rt: &R, reader: &mut S, longest: Duration) {
+// Skips what a client still sends, until its end, a failure, or a limit.
+fn pass_over<R: Clock, S: Read>(rt: &R, reader: &mut S) {
     let Ok(began) = Instant::now(rt) else {
         return;
     };
@@ -44,16 +43,16 @@ pub fn pass_over<R: Clock, S: Read>(rt: &R, reader: &mut S, longest: Duration) {
                 }
             }
         }
-        if left == 0 || has_lasted(rt, &began, longest) {
+        if left == 0 || has_lasted(rt, &began) {
             return;
         }
     }
 }
 
-// Whether the start is this long ago. If the clock fails, the answer is yes.
-fn has_lasted<R: Clock>(rt: &R, began: &Instant, longest: Duration) -> bool {
+// Whether this was so long ago that the client is left. If the clock fails, the answer is yes.
+fn has_lasted<R: Clock>(rt: &R, began: &Instant) -> bool {
     match began.elapsed(rt) {
-        Ok(lasted) => lasted >= longest,
+        Ok(lasted) => lasted >= Duration::from_secs(LONGEST),
         Err(_) => true,
     }
 }

@@ -20,7 +20,6 @@ mod session_end;
 mod words;
 
 pub use fault::ProgramFault;
-pub use hanging_up::pass_over;
 pub use listener::{ClientListener, SocketListener};
 pub use listening::listen;
 pub use opening::whole_opening;

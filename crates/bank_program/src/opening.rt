@@ -1,10 +1,10 @@
 //! An opening text, with nothing after it.
-ghost use Rattle.std.specs.Prelude.{◌≡◌, MatchResult};
+ghost use Rattle.std.specs.Prelude.{◌≡◌, ◌+◌, length, MatchResult};
 ghost use Rattle.bank_server.specs.Faults.{IsTextFaultOf};
 ghost use Rattle.bank_program.specs.Opening.{IsOpeningOf, whole_opening_of};
 
 use bank_server::{InputFault, RunFault};
-use sb_rows::{LineFault, Opening, OpeningFault, read_opening};
+use sb_rows::{LineFault, Opening, read_opening};
 use std::alloc::Global;
 
 /// Reads an opening text that ends with its line `begin`.
@@ -16,22 +16,20 @@ pub fn whole_opening(alloc: Global, input: &[u8]) -> Result<Opening, RunFault>
         (IsOpeningOf (whole_opening_of input.now))
         (λ fault. IsTextFaultOf fault (whole_opening_of input.now)) }
 {
-    let opening = match read_opening(alloc, input) {
-        Ok(opening) => opening,
-        Err(OpeningFault::OutOfMemory) => return Err(RunFault::OutOfMemory),
-        Err(OpeningFault::Line { line, fault }) => return Err(at_line(line, fault)),
-    };
+    let opening = read_opening(alloc, input)?;
     if opening.consumed < input.len() {
-        let line = opening.directory.len() + 2;
-        return Err(at_line(line, LineFault::BadLine));
+        Err(fault_behind(&opening))
+    } else {
+        Ok(opening)
     }
-    Ok(opening)
 }
 
-// The fault of this line.
-fn at_line(line: usize, fault: LineFault) -> RunFault
-    ensures { result ≡ RunFault.Input line (InputFault.Opening fault) }
+// The fault of the line after an opening, which has one for each customer and one more.
+fn fault_behind(opening: &Opening) -> RunFault
+    ensures { result ≡ RunFault.Input (length opening.now.directory + 2) (InputFault.Opening LineFault.BadLine) }
 {
-    let fault = InputFault::Opening(fault);
-    RunFault::Input { line, fault }
+    RunFault::Input {
+        line: opening.directory.len() + 2,
+        fault: InputFault::Opening(LineFault::BadLine),
+    }
 }

@@ -1,12 +1,12 @@
 //! Why a run ends without its output.
 ghost use Rattle.std.specs.Prelude.{◌≡◌};
 ghost use Rattle.bank_server.specs.Faults.{run_fault_number};
-ghost use Rattle.bank_server.specs.inner.RunFaults.{run_of_crew_fault, run_of_read_fault};
+ghost use Rattle.bank_server.specs.inner.RunFaults.{run_of_crew_fault, run_of_opening_fault, run_of_read_fault};
 ghost use Rattle.bank_server.specs.declared.fault.RunFault.TheVariants.{OutOfMemory};
 
 use cown_workers::CrewFault;
 use sb_calls::CallFault;
-use sb_rows::LineFault;
+use sb_rows::{LineFault, OpeningFault};
 use sb_text::ReadFault;
 use std::alloc::{AllocError, AllocFailed};
 use thiserror::Error;
@@ -69,6 +69,20 @@ impl From<ReadFault> for RunFault {
         match read {
             ReadFault::Device => RunFault::Device,
             ReadFault::OutOfMemory => RunFault::OutOfMemory,
+        }
+    }
+}
+
+impl From<OpeningFault> for RunFault {
+    ghost from_gives = { λ opening fault. fault ≡ run_of_opening_fault opening };
+
+    fn from(opening: OpeningFault) -> RunFault {
+        match opening {
+            OpeningFault::Line { line, fault } => RunFault::Input {
+                line,
+                fault: InputFault::Opening(fault),
+            },
+            OpeningFault::OutOfMemory => RunFault::OutOfMemory,
         }
     }
 }

@@ -5,10 +5,10 @@ ghost use Rattle.bank_server.specs.Output.{output_of};
 ghost use Rattle.bank_server.specs.PreparedInput.{IsPreparedInputOf};
 
 use crate::asking::{Standing, ask_lines, usual_lines};
-use crate::fault::{InputFault, RunFault};
+use crate::fault::RunFault;
 use crate::primary::Primary;
 use sb_checkpoint::MemoryStore;
-use sb_rows::{OpeningFault, read_opening};
+use sb_rows::read_opening;
 use std::alloc::Global;
 
 /// An input that is ready to be executed.
@@ -29,16 +29,7 @@ pub fn prepare(alloc: Global, input: &[u8]) -> Result<PreparedInput, RunFault>
         (λ prepared. IsPreparedInputOf input.now prepared)
         (λ fault. IsTextFaultOf fault (output_of input.now)) }
 {
-    let opening = match read_opening(alloc, input) {
-        Ok(opening) => opening,
-        Err(OpeningFault::OutOfMemory) => return Err(RunFault::OutOfMemory),
-        Err(OpeningFault::Line { line, fault }) => {
-            return Err(RunFault::Input {
-                line,
-                fault: InputFault::Opening(fault),
-            });
-        }
-    };
+    let opening = read_opening(alloc, input)?;
     let first_line = opening.directory.len() + 2;
     let lines = &input[opening.consumed..];
     let store = MemoryStore::new(alloc);

@@ -21,6 +21,24 @@ pub(crate) enum Manner {
     Deaf,
     /// It breaks once all bytes that were sent are read.
     Broken,
+    /// After these bytes it sends one at each read, for ever.
+    Drip,
+    /// After these bytes it sends as many as are asked for, for ever.
+    Flood,
+}
+
+impl Manner {
+    // A read once all bytes that were sent are read.
+    fn read_on(self, buf: &mut [u8]) -> io::Result<usize> {
+        let count = match self {
+            Manner::Broken => return Err(io::Error::from(ErrorKind::ConnectionReset)),
+            Manner::Drip => buf.len().min(1),
+            Manner::Flood => buf.len(),
+            Manner::Plain | Manner::Stubborn | Manner::Deaf => 0,
+        };
+        buf[..count].fill(b'.');
+        Ok(count)
+    }
 }
 
 /// What a client sends, in pieces of three bytes, and how its stream behaves.
@@ -30,12 +48,13 @@ pub(crate) struct Client<'a> {
     pub(crate) manner: Manner,
 }
 
-/// Everything that is sent to clients, how often the server hangs up before they do, and how long
-/// it waited for each of them, at a read and at a write.
+/// Everything that is sent to clients, how often the server hangs up before they do, how many reads
+/// it makes after that, and how long it waited for each of them, at a read and at a write.
 #[derive(Drop)]
 pub(crate) struct Transcript {
     pub(crate) bytes: RefCell<Vec<u8>>,
     pub(crate) hung_up: Cell<usize>,
+    pub(crate) late_reads: Cell<usize>,
     pub(crate) read_limit: Cell<Option<Duration>>,
     pub(crate) write_limit: Cell<Option<Duration>>,
 }
@@ -46,6 +65,7 @@ impl Transcript {
         Transcript {
             bytes: RefCell::new(Vec::new(alloc)),
             hung_up: Cell::new(0),
+            late_reads: Cell::new(0),
             read_limit: Cell::new(None),
             write_limit: Cell::new(None),
         }
@@ -61,9 +81,13 @@ pub(crate) struct End<'c, 't> {
 
 impl Read for End<'_, '_> {
     fn read(&mut self, buf: &mut [u8]) -> io::Result<usize> {
+        if self.told.hung_up.get() > 0 {
+            let reads = self.told.late_reads.get();
+            self.told.late_reads.set(reads.wrapping_add(1));
+        }
         let count = self.client.sent.len().min(buf.len()).min(3);
-        if count == 0 && self.client.manner == Manner::Broken {
-            return Err(io::Error::from(ErrorKind::ConnectionReset));
+        if count == 0 {
+            return self.client.manner.read_on(buf);
         }
         let (piece, rest) = self.client.sent.split_at(count);
         buf[..count].copy_from_slice(piece);

@@ -1,51 +1,18 @@
 //! Clients that keep a server waiting, or are gone before they are let in.
-ghost use Rattle.std.specs.Prelude.{None};
 
 use crate::clients::{Client, Manner, TestListener, Transcript};
-use bank_program::{ClientListener, Plan, SocketListener, pass_over, serve};
+use bank_program::{ClientListener, Plan, SocketListener, serve};
 use sb_checkpoint::MemoryStore;
 use sb_rows::read_opening;
 use std::alloc::Global;
 use std::cell::Cell;
 use std::io;
-use std::io::{ErrorKind, Read};
+use std::io::ErrorKind;
 use std::net::{IpAddr, Ipv4Addr, OpenListener, SocketAddr};
 use std::process::Abort;
 use std::sync::Wait;
 use std::thread::Threads;
 use std::time::{Clock, Duration};
-
-/// A client that sends a byte at each read, for ever.
-#[derive(Drop)]
-struct Drip {
-    reads: u64,
-}
-
-impl Read for Drip {
-    ghost remaining = { λ drip. None };
-
-    fn read(&mut self, buf: &mut [u8]) -> io::Result<usize> {
-        self.reads = self.reads.saturating_add(1);
-        if buf.is_empty() {
-            return Ok(0);
-        }
-        buf[0] = b'.';
-        Ok(1)
-    }
-}
-
-// How many reads a client that drips gets in this time.
-fn reads_within<R: Clock>(rt: &R, longest: Duration) -> u64 {
-    let mut drip = Drip { reads: 0 };
-    pass_over(rt, &mut drip, longest);
-    drip.reads
-}
-
-#[test]
-fn a_drip_is_left(rt: HostRuntime) {
-    assert!(&rt; reads_within(&rt, Duration::from_secs(0)) == 1);
-    assert!(&rt; reads_within(&rt, Duration::from_secs(3_600)) == 4_096);
-}
 
 /// A listener whose clients are gone before they are accepted, except the third; then its device
 /// fails.
@@ -89,16 +56,13 @@ fn clients_that_are_gone_are_passed_by(rt: HostRuntime) {
     assert!(&rt; refused == Err(ErrorKind::OutOfMemory));
 }
 
-// How long a read and a write wait for a client, with this patience.
-fn limits<R>(rt: &R, alloc: Global, patience: Option<usize>) -> (Option<Duration>, Option<Duration>)
+// Serves a bank of no customers to this client, who waits this long, and answers how the server
+// treated it.
+fn serve_to<R>(rt: &R, alloc: Global, client: Client, patience: Option<usize>) -> Box<Transcript>
 where
     R: Abort + Threads + Wait + Clock + Sync,
 {
-    let told = Transcript::new(alloc);
-    let silent = Client {
-        sent: b"",
-        manner: Manner::Plain,
-    };
+    let told = Box::new(alloc, Transcript::new(alloc)).expect(rt, "a box");
     let plan = Plan {
         sessions: 1,
         nodes: 1,
@@ -106,11 +70,24 @@ where
         saves: false,
         patience,
     };
-    let listener = TestListener::of(alloc, &[silent], &told).expect(rt, "a listener");
+    let listener = TestListener::of(alloc, &[client], &*told).expect(rt, "a listener");
     let opening = read_opening(alloc, b"begin").expect(rt, "an opening");
     let store = MemoryStore::new(alloc);
     let served = serve(rt, alloc, listener, opening, store, plan, Vec::new(alloc));
     assert!(rt; served.is_ok());
+    told
+}
+
+// How long a read and a write wait for a client, with this patience.
+fn limits<R>(rt: &R, alloc: Global, patience: Option<usize>) -> (Option<Duration>, Option<Duration>)
+where
+    R: Abort + Threads + Wait + Clock + Sync,
+{
+    let silent = Client {
+        sent: b"",
+        manner: Manner::Plain,
+    };
+    let told = serve_to(rt, alloc, silent, patience);
     (told.read_limit.get(), told.write_limit.get())
 }
 
@@ -120,4 +97,25 @@ fn a_client_is_waited_for_as_long_as_said(rt: HostRuntime) {
     let minute = Some(Duration::from_secs(60));
     assert!(&rt; limits(&rt, alloc, None) == (None, None));
     assert!(&rt; limits(&rt, alloc, Some(60)) == (minute, minute));
+}
+
+// How many reads a client at fault gets that goes on sending in this manner.
+fn late_reads<R>(rt: &R, alloc: Global, manner: Manner) -> usize
+where
+    R: Abort + Threads + Wait + Clock + Sync,
+{
+    let client = Client {
+        sent: b"GET",
+        manner,
+    };
+    serve_to(rt, alloc, client, None).late_reads.get()
+}
+
+// How long a slow one is listened to is seen by `.ci/program`.
+#[test]
+fn a_client_at_fault_is_left(rt: HostRuntime) {
+    let alloc = rt.alloc();
+    assert!(&rt; late_reads(&rt, alloc, Manner::Plain) == 1);
+    assert!(&rt; late_reads(&rt, alloc, Manner::Drip) == 4_096);
+    assert!(&rt; late_reads(&rt, alloc, Manner::Flood) == 16);
 }
