@@ -52,42 +52,48 @@ pub fn read_words<'a>(alloc: Global, words: &'a [String]) -> Result<Words<'a>, E
     ensures range { IfOk result (λ read. InRange read) }
     ensures values { IfOk result (λ read. GivesValues read words.entry.now) }
 {
-    let mut command = boxed_command(alloc)?;
-    check(&mut command, words)?;
+    check(alloc, words)?;
     // The values are checked here again, so that no clause rests on clap's grammar.
     match parse_words(words) {
         Some(read) => Ok(read),
-        None => Err(command.error(ErrorKind::ValueValidation, UNREAD)?),
+        None => Err(refuse(alloc, UNREAD)),
     }
+}
+
+// Fails if the words don't follow the command's grammar.
+fn check<'a>(alloc: Global, words: &'a [String]) -> Result<(), Error> {
+    let mut command = boxed_command(alloc)?;
+    command.try_get_matches_from_mut(words)?;
+    Ok(())
 }
 
 /// The error if a word isn't UTF-8: the words are wrong, or memory was refused.
 pub fn refuse_bytes(alloc: Global) -> Error
     ensures { IsRefusal (kind_of result) }
 {
-    match refusal(alloc, NO_TEXT) {
-        Ok(error) | Err(error) => error,
+    refuse(alloc, NO_TEXT)
+}
+
+// The error that says this of the words, or that memory was refused.
+fn refuse(alloc: Global, text: &str) -> Error
+    ensures { IsRefusal (kind_of result) }
+{
+    match refusal(alloc, text) {
+        Ok(error) => error,
+        Err(error) => Error::from(error),
     }
 }
 
 // A fault of the words with this text.
-fn refusal(alloc: Global, text: &str) -> Result<Error, Error>
-    ensures ok { IfOk result (λ error. kind_of error ≡ ErrorKind.ValueValidation) }
-    ensures err { IfErr result (λ error. kind_of error ≡ ErrorKind.OutOfMemory) }
+fn refusal(alloc: Global, text: &str) -> Result<Error, AllocError>
+    ensures { IfOk result (λ error. kind_of error ≡ ErrorKind.ValueValidation) }
 {
-    let mut command = boxed_command(alloc)?;
-    Ok(command.error(ErrorKind::ValueValidation, text)?)
+    boxed_command(alloc)?.error(ErrorKind::ValueValidation, text)
 }
 
 // The program's command. A function that owned it would have a drop path for it at each `?`.
 fn boxed_command<'a>(alloc: Global) -> Result<Box<Command<'a>>, AllocError> {
     Ok(Box::new(alloc, command(alloc)?)?)
-}
-
-// Fails if the words don't follow the command's grammar.
-fn check<'a>(command: &mut Command<'a>, words: &'a [String]) -> Result<(), Error> {
-    command.try_get_matches_from_mut(words)?;
-    Ok(())
 }
 
 // What the words after the program's name say.
