@@ -146,11 +146,7 @@ fn handle_frame<W: Write, S: CheckpointStore, C: Crew>(
             assign_number(key, call, &mut buffers.pending, primary)
         }
         Frame::Flush => send_outcomes(buffers, writer, primary, crew),
-        Frame::Entry { .. }
-        | Frame::Ack { .. }
-        | Frame::Answer { .. }
-        | Frame::Outcome { .. }
-        | Frame::Have { .. } => Err(SessionFault::Unexpected),
+        _ => Err(SessionFault::Unexpected),
     }
 }
 
