@@ -1,24 +1,42 @@
-use Rattle.std.proofs.Common.{sym, ◌∙◌}
-use Rattle.std.proofs.lemmas.Result.{err_from_is_err_and}
-use Rattle.sb_rows.proofs.CustomerLines.{customer_of-bad_name, customer_of-new, three_words}
+use Rattle.std.proofs.Common.{◌≡◌, int_lt, nat_le, pos, length, false, true, is_some, sym, ap, ◌∙◌, rules}
+use Rattle.sb_rows.specs.declared.columns.TheConstants.{CUSTOMERS}
+use Rattle.sb_rows.proofs.CustomerLines.{customer_of-double, customer_of-new, three_words}
 use Rattle.sb_rows.proofs.customer.read_customer.Goals as goal
 
-pub returns-in_err-name-clause-exact : goal.returns-in_err-name-clause-exact
-returns-in_err-name-clause-exact c customers same =
-    let exit = err_from_is_err_and c.from_residual.result c.from_residual.ensures.1 in
+pub returns-then-is_some-clause-exact : goal.returns-then-is_some-clause-exact
+returns-then-is_some-clause-exact c customers same =
     let three = three_words _ _ _ _ _ _ (sym c.of-words.ensures ∙ c.in-Ok-Ok-Ok.ensures) c.in-Ok-Ok-Ok.ensures' c.in-Ok-Ok-Ok.ensures'' in
-    rw (exit.1, exit.2) (customer_of-bad_name customers _ same _ _ _ _ three _ c.in_err-name.ensures)
+    let double = ap is_some (sym c.place.ensures) ∙ sym c.is_some.ensures ∙ c.if-is_some.true in
+    customer_of-double customers _ same _ _ _ _ three c.in-Some.name c.in-Some.ensures double
 
-pub returns-in_err-savings-clause-exact : goal.returns-in_err-savings-clause-exact
-returns-in_err-savings-clause-exact c customers same =
-    let exit = err_from_is_err_and c.from_residual-in_err-savings.result c.from_residual-in_err-savings.ensures.1 in
+pub returns-in_default-2-clause-exact : goal.returns-in_default-2-clause-exact
+returns-in_default-2-clause-exact c customers same =
     let three = three_words _ _ _ _ _ _ (sym c.of-words.ensures ∙ c.in-Ok-Ok-Ok.ensures) c.in-Ok-Ok-Ok.ensures' c.in-Ok-Ok-Ok.ensures'' in
-    rw (exit.1, exit.2)
-    (customer_of-new customers _ same _ _ _ _ three c.in_ok-name.name c.in_ok-name.ensures
-    ∙ rw c.len.ensures.value at (c.in_err-savings.ensures.exact c.in_ok-name.name))
+    let new = ap is_some (sym c.place.ensures) ∙ sym c.is_some.ensures ∙ c.if-is_some.false in
+    customer_of-new customers _ same _ _ _ _ three c.in-Some.name c.in-Some.ensures new ∙ search rules
+
+pub returns-then-value-lt0-clause-exact : goal.returns-then-value-lt0-clause-exact
+returns-then-value-lt0-clause-exact c customers same =
+    let three = three_words _ _ _ _ _ _ (sym c.of-words.ensures ∙ c.in-Ok-Ok-Ok.ensures) c.in-Ok-Ok-Ok.ensures' c.in-Ok-Ok-Ok.ensures'' in
+    let new = ap is_some (sym c.place.ensures) ∙ sym c.is_some.ensures ∙ c.if-is_some.false in
+    let negative : int_lt c.in-Ok-Ok.savings (pos 0) ≡ true = search rules in
+    customer_of-new customers _ same _ _ _ _ three c.in-Some.name c.in-Some.ensures new
+    ∙ rw (sym c.in-Ok-Ok.ensures.exact, sym c.in-Ok-Ok.ensures'.exact, negative)
+
+pub returns-then-len-ge-CUSTOMERS-clause-exact : goal.returns-then-len-ge-CUSTOMERS-clause-exact
+returns-then-len-ge-CUSTOMERS-clause-exact c customers same =
+    let three = three_words _ _ _ _ _ _ (sym c.of-words.ensures ∙ c.in-Ok-Ok-Ok.ensures) c.in-Ok-Ok-Ok.ensures' c.in-Ok-Ok-Ok.ensures'' in
+    let new = ap is_some (sym c.place.ensures) ∙ sym c.is_some.ensures ∙ c.if-is_some.false in
+    let negative : int_lt c.in-Ok-Ok.savings (pos 0) ≡ false = search rules in
+    let many : nat_le CUSTOMERS (length c.args.before.now) ≡ true = search rules in
+    customer_of-new customers _ same _ _ _ _ three c.in-Some.name c.in-Some.ensures new
+    ∙ rw (sym c.in-Ok-Ok.ensures.exact, sym c.in-Ok-Ok.ensures'.exact, negative, many)
 
 pub returns-clause-exact : goal.returns-clause-exact
 returns-clause-exact c customers same =
     let three = three_words _ _ _ _ _ _ (sym c.of-words.ensures ∙ c.in-Ok-Ok-Ok.ensures) c.in-Ok-Ok-Ok.ensures' c.in-Ok-Ok-Ok.ensures'' in
-    customer_of-new customers _ same _ _ _ _ three c.in_ok-name.name c.in_ok-name.ensures
-    ∙ rw c.len.ensures.value at (c.in_ok-savings.ensures.exact c.in_ok-name.name)
+    let new = ap is_some (sym c.place.ensures) ∙ sym c.is_some.ensures ∙ c.if-is_some.false in
+    let negative : int_lt c.in-Ok-Ok.savings (pos 0) ≡ false = search rules in
+    let many : nat_le CUSTOMERS (length c.args.before.now) ≡ false = search rules in
+    customer_of-new customers _ same _ _ _ _ three c.in-Some.name c.in-Some.ensures new
+    ∙ rw (sym c.in-Ok-Ok.ensures.exact, sym c.in-Ok-Ok.ensures'.exact, negative, many)
