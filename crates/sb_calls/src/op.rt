@@ -35,27 +35,32 @@ pub fn resolve(directory: &Directory, call: &Call) -> Op
     ensures value { result ≡ op_of directory.now call.now }
     ensures within { IsOpWithin (length directory.now) result }
 {
-    let op = match call {
-        Call::Balance(name) => directory.place(name).map(Op::Balance),
-        Call::DepositChecking(name, amount) => directory
-            .place(name)
-            .map(|place| Op::DepositChecking(place, *amount)),
-        Call::TransactSavings(name, amount) => directory
-            .place(name)
-            .map(|place| Op::TransactSavings(place, *amount)),
-        Call::WriteCheck(name, amount) => directory
-            .place(name)
-            .map(|place| Op::WriteCheck(place, *amount)),
+    match call {
+        Call::Balance(name) => match directory.place(name) {
+            Some(place) => Op::Balance(place),
+            None => Op::NoCustomer,
+        },
+        Call::DepositChecking(name, amount) => match directory.place(name) {
+            Some(place) => Op::DepositChecking(place, *amount),
+            None => Op::NoCustomer,
+        },
+        Call::TransactSavings(name, amount) => match directory.place(name) {
+            Some(place) => Op::TransactSavings(place, *amount),
+            None => Op::NoCustomer,
+        },
+        Call::WriteCheck(name, amount) => match directory.place(name) {
+            Some(place) => Op::WriteCheck(place, *amount),
+            None => Op::NoCustomer,
+        },
         Call::Amalgamate(from, to) => match two_places(directory, from, to) {
-            Ok(places) => Some(Op::Amalgamate(places)),
-            Err(refusal) => Some(refusal),
+            Ok(places) => Op::Amalgamate(places),
+            Err(refusal) => refusal,
         },
         Call::SendPayment(from, to, amount) => match two_places(directory, from, to) {
-            Ok(places) => Some(Op::SendPayment(places, *amount)),
-            Err(refusal) => Some(refusal),
+            Ok(places) => Op::SendPayment(places, *amount),
+            Err(refusal) => refusal,
         },
-    };
-    op.unwrap_or(Op::NoCustomer)
+    }
 }
 
 // The places of two customers, or the op for a missing customer or for two that are the same. It
@@ -71,7 +76,8 @@ fn two_places(directory: &Directory, from: &Name, to: &Name) -> Result<TwoPlaces
         ≡ refusal) }
     ensures refusal_within { IfErr result (IsOpWithin (length directory.now)) }
 {
-    let from = directory.place(from).ok_or(Op::NoCustomer)?;
-    let to = directory.place(to).ok_or(Op::NoCustomer)?;
+    let (Some(from), Some(to)) = (directory.place(from), directory.place(to)) else {
+        return Err(Op::NoCustomer);
+    };
     TwoPlaces::new(from, to).ok_or(Op::SameCustomer)
 }
