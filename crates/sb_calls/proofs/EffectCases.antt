@@ -63,6 +63,14 @@ on_three a b c effect (v ∷ w ∷ []) x y z allowed first second third = absurd
 on_three a b c effect (v ∷ w ∷ u ∷ []) x y z allowed first second third = rw (first, second, third) refl
 on_three a b c effect (v ∷ w ∷ u ∷ t ∷ more) x y z allowed first second third = absurd allowed.1.1.1
 
+-- the same for two values
+pub on_two : (a b : ℕ) (effect : ℤ → ℤ → Reply × List ℤ) (inputs : List ℤ) (x y : ℤ) → AreCownValues (a ∷ b ∷ []) inputs
+    → x ≡ get_or inputs 0 x → y ≡ get_or inputs 1 y → on_two_values effect inputs ≡ effect x y
+on_two a b effect [] x y allowed first second = absurd allowed
+on_two a b effect (v ∷ []) x y allowed first second = absurd allowed.1
+on_two a b effect (v ∷ w ∷ []) x y allowed first second = rw (first, second) refl
+on_two a b effect (v ∷ w ∷ u ∷ more) x y allowed first second = absurd allowed.1.1
+
 -- an amalgamation if the giver comes first, and if the taker does
 pub cowns_giver_first : (from to : ℕ) → from < to → cowns_of_two from to ≡ savings_cown from ∷ checking_cown from ∷ checking_cown to ∷ []
 cowns_giver_first from to lt =
@@ -131,3 +139,18 @@ effect_paid_first from to amount inputs lt =
     let different : (from == to) ≡ false = grind (arith, nat_tests) in
     let after : nat_lt from to ≡ false = grind (arith, nat_tests) in
     rw (different, after) refl
+
+-- so it applies to the values that its cowns were read as
+pub pays_payer_first : (from to : ℕ) (amount : ℤ) (inputs : List ℤ) (x y : ℤ) → from < to → AreCownValues (checkings_of_two from to) inputs
+    → x ≡ get_or inputs 0 x → y ≡ get_or inputs 1 y → payment_effect from to amount inputs ≡ payer_first_effect amount x y
+pays_payer_first from to amount inputs x y lt allowed first second =
+    let in_order = rw (cowns_payer_first from to lt) at allowed in
+    effect_payer_first from to amount inputs lt
+    ∙ on_two (checking_cown from) (checking_cown to) (payer_first_effect amount) inputs x y in_order first second
+
+pub pays_paid_first : (from to : ℕ) (amount : ℤ) (inputs : List ℤ) (x y : ℤ) → to < from → AreCownValues (checkings_of_two from to) inputs
+    → x ≡ get_or inputs 0 x → y ≡ get_or inputs 1 y → payment_effect from to amount inputs ≡ paid_first_effect amount x y
+pays_paid_first from to amount inputs x y lt allowed first second =
+    let in_order = rw (cowns_paid_first from to lt) at allowed in
+    effect_paid_first from to amount inputs lt
+    ∙ on_two (checking_cown to) (checking_cown from) (paid_first_effect amount) inputs x y in_order first second
