@@ -42,11 +42,7 @@ fn reply_with_three(reply: Reply, first: Cents, second: Cents, third: Cents) -> 
     ensures reply { result.0 ≡ reply }
     ensures outputs { result.1.items ≡ first ∷ second ∷ third ∷ [] }
 {
-    let mut values = ArrayVec::new();
-    values.push(first);
-    values.push(second);
-    values.push(third);
-    (reply, values)
+    (reply, ArrayVec::from([first, second, third]))
 }
 
 // Shows the sum of savings and checking.
@@ -126,19 +122,12 @@ fn sum_of_balances(received: Cents, savings: Cents, checking: Cents) -> Option<C
     Cents::new(received.value() + savings.value() + checking.value())
 }
 
-// The balance after everything was given away.
-fn zero_balance() -> Cents
-    ensures { result ≡ pos 0 }
-{
-    Cents::new(0).unwrap()
-}
-
 // Moves both balances of the giver to the taker. The giver's cowns come first.
 pub(crate) fn amalgamate_giver_first(savings: Cents, checking: Cents, received: Cents) -> Effect
     ensures { (result.0, result.1.items) ≡ giver_first_effect savings checking received }
 {
     match sum_of_balances(received, savings, checking) {
-        Some(sum) => reply_with_three(Reply::Done, zero_balance(), zero_balance(), sum),
+        Some(sum) => reply_with_three(Reply::Done, Cents::default(), Cents::default(), sum),
         None => reply_with_three(Reply::OverLimit, savings, checking, received),
     }
 }
@@ -148,7 +137,7 @@ pub(crate) fn amalgamate_taker_first(received: Cents, savings: Cents, checking: 
     ensures { (result.0, result.1.items) ≡ taker_first_effect received savings checking }
 {
     match sum_of_balances(received, savings, checking) {
-        Some(sum) => reply_with_three(Reply::Done, sum, zero_balance(), zero_balance()),
+        Some(sum) => reply_with_three(Reply::Done, sum, Cents::default(), Cents::default()),
         None => reply_with_three(Reply::OverLimit, received, savings, checking),
     }
 }

@@ -56,17 +56,19 @@ fn cowns_of_places(places: TwoPlaces) -> ArrayVec<Cown, BEHAVIOUR_COWNS>
 {
     let from = places.from();
     let to = places.to();
-    let mut cowns = ArrayVec::new();
     if from < to {
-        cowns.push(Cown::savings(from));
-        cowns.push(Cown::checking(from));
-        cowns.push(Cown::checking(to));
+        ArrayVec::from([
+            Cown::savings(from),
+            Cown::checking(from),
+            Cown::checking(to),
+        ])
     } else {
-        cowns.push(Cown::checking(to));
-        cowns.push(Cown::savings(from));
-        cowns.push(Cown::checking(from));
+        ArrayVec::from([
+            Cown::checking(to),
+            Cown::savings(from),
+            Cown::checking(from),
+        ])
     }
-    cowns
 }
 
 // The checking cowns of both customers.
