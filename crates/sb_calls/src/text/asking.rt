@@ -79,7 +79,9 @@ fn key_and_verb<'a>(words: &mut Words<'a>) -> Result<(Option<Key>, &'a [u8]), Ca
         return Ok((None, verb));
     }
     let key = next_key(words)?;
-    let verb = words.next().ok_or(CallFault::UnknownVerb)?;
+    let Some(verb) = words.next() else {
+        return Err(CallFault::UnknownVerb);
+    };
     Ok((Some(key), verb))
 }
 
@@ -108,11 +110,8 @@ fn next_key(words: &mut Words) -> Result<Key, CallFault>
 fn key_of(client: &[u8], request: &[u8]) -> Option<Key>
     ensures { result ≡ key_of (spec.read_number client.now) (spec.read_number request.now) }
 {
-    let client = read_number(client)?;
-    let request = read_number(request)?;
-    if client == 0 {
-        None
-    } else {
-        Some(Key { client, request })
+    match (read_number(client), read_number(request)) {
+        (Some(client), Some(request)) if client != 0 => Some(Key { client, request }),
+        _ => None,
     }
 }

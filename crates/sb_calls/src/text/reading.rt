@@ -35,7 +35,9 @@ pub fn read_call(line: &[u8]) -> Result<Call, CallFault>
 pub fn read_call_words(mut words: Words) -> Result<Call, CallFault>
     ensures { result ≡ call_of_words words.entry }
 {
-    let verb = words.next().ok_or(CallFault::UnknownVerb)?;
+    let Some(verb) = words.next() else {
+        return Err(CallFault::UnknownVerb);
+    };
     call_with(verb, words)
 }
 
@@ -192,5 +194,5 @@ fn amount_of(word: &[u8]) -> Result<Cents, CallFault>
     ensures { (call : ℤ → AnyCall)
         → result_map_both call (λ fault. fault) result ≡ with_amount call (read_money word.now) }
 {
-    Cents::read(word).map_err(|_| CallFault::BadMoney)
+    Cents::read(word).or(Err(CallFault::BadMoney))
 }
