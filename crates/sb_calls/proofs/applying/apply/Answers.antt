@@ -1,4 +1,4 @@
-use Rattle.std.proofs.Common.{◌≡◌}
+use Rattle.std.proofs.Common.{◌≡◌, ap, ◌∙◌}
 use Rattle.sb_calls.proofs.DeclaredCowns.{declared_below, declared_cown_values, applied_follows, applied_places}
 use Rattle.sb_calls.specs.Behaviour.{declared_cowns, effect_of}
 use Rattle.sb_calls.specs.inner.BehaviourLaws.{effect_in_range}
@@ -7,23 +7,25 @@ use Rattle.sb_calls.proofs.applying.apply.Goals as goal
 
 pub read_cowns-inputs-requires-clause-cowns : goal.read_cowns-inputs-requires-clause-cowns
 read_cowns-inputs-requires-clause-cowns c =
-    let cowns : c.deref.result.now ≡ declared_cowns c.args.op = cc in
+    let cowns : c.deref.result.now ≡ declared_cowns c.args.op = c.deref.ensures.0 ∙ c.cowns_of-cowns.ensures.value in
     rw cowns (declared_below c.args.columns.now c.args.op c.customers.ensures.valid.same c.requires)
 
 pub perform-reply-requires : goal.perform-reply-requires
 perform-reply-requires c =
-    let inputs : c.deref-2.result.now ≡ read_cowns (contents_of c.args.columns.now) (declared_cowns c.args.op) = cc in
+    let inputs : c.deref-2.result.now ≡ read_cowns (contents_of c.args.columns.now) (declared_cowns c.args.op) =
+    c.deref-2.ensures.0 ∙ c.read_cowns-inputs.ensures
+    ∙ ap (read_cowns (contents_of c.args.columns.now)) (c.deref.ensures.0 ∙ c.cowns_of-cowns.ensures.value) in
     rw inputs (declared_cown_values c.args.columns.now c.args.op c.customers.ensures.valid c.requires)
 
 pub write_cowns-requires-clause-cowns : goal.write_cowns-requires-clause-cowns
 write_cowns-requires-clause-cowns c =
-    let cowns : c.deref-3.result.now ≡ declared_cowns c.args.op = cc in
+    let cowns : c.deref-3.result.now ≡ declared_cowns c.args.op = c.deref-3.ensures.0 ∙ c.cowns_of-cowns.ensures.value in
     rw cowns (declared_below c.args.columns.now c.args.op c.customers.ensures.valid.same c.requires)
 
 pub write_cowns-requires-clause-values : goal.write_cowns-requires-clause-values
 write_cowns-requires-clause-values c =
     let inputs = read_cowns (contents_of c.args.columns.now) (declared_cowns c.args.op) in
-    let cowns : c.deref-3.result.now ≡ declared_cowns c.args.op = cc in
+    let cowns : c.deref-3.result.now ≡ declared_cowns c.args.op = c.deref-3.ensures.0 ∙ c.cowns_of-cowns.ensures.value in
     let outputs : c.deref-4.result.now ≡ (effect_of c.args.op inputs).1 = cc in
     rw (cowns, outputs) (effect_in_range c.args.op inputs (declared_cown_values c.args.columns.now c.args.op c.customers.ensures.valid c.requires))
 
