@@ -1,8 +1,9 @@
 -- A digit makes the number ten times as large and adds its value, and a point is counted.
-use Rattle.std.proofs.Common.{rules, ◌≡◌, ◌+◌, ◌-◌, ◌*◌, min, nat_abs, true, false, pos, get_or, take, sym, ◌∙◌, ap}
-use Rattle.std.proofs.lemmas.Bool.{and_from, or_left, or_right, eq-eqb}
-use Rattle.std.proofs.lemmas.List.Folds.{list_all_more}
-use Rattle.std.proofs.lemmas.List.Sums.{count_by_more_yes, count_by_more_no}
+use Rattle.std.proofs.Common.{rules, ◌≡◌, ◌+◌, ◌-◌, ◌*◌, min, nat_abs, true, false, pos, get_or, take, sym, ◌∙◌, ap, arith, length-take}
+use Rattle.std.proofs.lemmas.Bool.{and_from, or_left, or_right, or_from, eq-eqb}
+use Rattle.std.proofs.lemmas.List.{take_all}
+use Rattle.std.proofs.lemmas.List.Folds.{list_all_at, list_all_more}
+use Rattle.std.proofs.lemmas.List.Sums.{count_by_more_yes, count_by_more_no, count_by-le-length}
 use Rattle.std.specs.Char.{is_ascii_digit}
 use Rattle.std.specs.List.{list_all}
 use Rattle.sb_amount.specs.declared.cents.TheConstants.{LIMIT}
@@ -39,3 +40,22 @@ loop-byte-preserved c =
             w.points-is ∙ ap (λ n. n + 1) so_far.2 ∙ sym points,
           )
     ]
+
+pub returns-else-byte-eq46 : goal.returns-else-byte-eq46
+returns-else-byte-eq46 c =
+    let body = c.args.body.now in
+    let i = c.loop-byte.byte-index in
+    let byte = get_or body i 0 in
+    let other : is_ascii_digit byte ≡ false = sym c.is_ascii_digit.ensures.value ∙ c.if-is_ascii_digit.false in
+    let no_point : is_point byte ≡ false = search rules in
+    list_all_at is_body_byte body i 0 c.loop-byte-test.true (or_from (is_ascii_digit byte) (is_point byte) other no_point)
+
+pub returns : goal.returns
+returns c =
+    let whole = take_all c.loop-byte.byte-index c.args.body.now (omega arith) in
+    rw whole at c.loop-byte.invariant
+
+pub overflow_add-points : goal.overflow_add-points
+overflow_add-points c =
+    let so_far = take c.loop-byte.byte-index c.args.body.now in
+    omega (arith, c.loop-byte.invariant.2, count_by-le-length is_point so_far, length-take c.loop-byte.byte-index c.args.body.now)
