@@ -1,5 +1,5 @@
 -- The effect of an op in each of its cases.
-use Rattle.std.proofs.Common.{◌≡◌, ℕ, ◌<◌, ℤ, pos, neg_ℤ, ◌+ℤ◌, ◌-ℤ◌, ◌≤ℤ◌, Bool, true, false, cond, ◌==◌, List, [], ◌∷◌, get_or, refl, ◌∙◌, arith, to_z, of_z, w64}
+use Rattle.std.proofs.Common.{◌≡◌, ℕ, ◌<◌, ℤ, pos, neg_ℤ, ◌+ℤ◌, ◌-ℤ◌, ◌≤ℤ◌, Bool, true, false, cond, ◌==◌, List, [], ◌∷◌, get_or, refl, ◌∙◌, arith, to_z, of_z, w64, SFits}
 use Rattle.std.specs.Prelude.{int_lt, nat_lt}
 use Rattle.std.proofs.lemmas.Bool.Decides.{nat_tests}
 use Rattle.std.proofs.lemmas.Int.{ints}
@@ -33,6 +33,13 @@ cost_bounds s c amount = by (int_lt (s +ℤ c) amount)
     by : (overdrawn : Bool) → (amount ≤ℤ cond overdrawn (amount +ℤ pos 100) amount) × (cond overdrawn (amount +ℤ pos 100) amount ≤ℤ (amount +ℤ pos 100))
     by true = (omega (arith, ints), omega (arith, ints))
     by false = (omega (arith, ints), omega (arith, ints))
+
+-- what a check leaves of checking fits 64 bits
+pub check_fits : (s c amount v k : ℤ) → IsWithinLimit c → IsWithinLimit amount → v ≡ c → k ≡ check_cost s c amount
+    → SFits w64 (to_z w64 (of_z w64 v) -ℤ to_z w64 (of_z w64 k))
+check_fits s c amount v k has asks is costs =
+    let bounds = cost_bounds s c amount in
+    rw (is, costs) (omega (arith, ints, bounds.0, bounds.1, has.at_least, has.at_most, asks.at_least, asks.at_most))
 
 -- what a check leaves of checking, in 64 bits
 pub left_of_check : (s c amount v k : ℤ) → IsWithinLimit c → IsWithinLimit amount → v ≡ c → k ≡ check_cost s c amount

@@ -1,9 +1,19 @@
-use Rattle.std.proofs.Common.{◌≡◌, pos, false, refl, sym, ap, subst, arith}
+use Rattle.std.proofs.Common.{◌≡◌, pos, true, false, refl, sym, ap, subst, arith}
 use Rattle.std.specs.Prelude.{int_lt}
 use Rattle.std.proofs.lemmas.Int.{ints}
 use Rattle.sb_amount.specs.Limit.{IsWithinLimit}
-use Rattle.sb_calls.proofs.EffectCases.{left_of_check, check_paid, check_over_limit}
+use Rattle.sb_calls.proofs.EffectCases.{check_fits, left_of_check, check_paid, check_over_limit}
 use Rattle.sb_calls.proofs.cowns.effects.pay_check.Goals as goal
+
+pub overflow_sub-value : goal.overflow_sub-value
+overflow_sub-value c =
+    check_fits c.args.savings c.args.checking c.args.amount _ _ c.value-2.ensures.within c.value.ensures.within c.value-2.ensures.value
+    (ap (λ cost. cost.0) c.cost_of_check-cost.ensures)
+
+pub returns-then-value-lt0 : goal.returns-then-value-lt0
+returns-then-value-lt0 c =
+    let negative : int_lt c.args.amount (pos 0) ≡ true = grind (arith, ints, c.value.ensures.value, c.if-value-lt0.true) in
+    rw (negative, c.reply_with_two.ensures.reply, c.reply_with_two.ensures.outputs) refl
 
 pub returns-in-Some : goal.returns-in-Some
 returns-in-Some c =
