@@ -1,3 +1,4 @@
+pub mod BalanceWrites
 pub mod CustomerLines
 pub mod CustomerPush
 pub mod CustomerSpelling
