@@ -3,5 +3,5 @@ use Rattle.sb_rows.proofs.columns.Columns.set_checking.Goals as goal
 
 pub invariant_of-self : goal.invariant_of-self
 invariant_of-self c =
-    IsBalances-set_checking c.self.inside.savings.items c.self.inside.checking.items c.args.place c.value.result c.args.amount c.self.invariant
+    IsBalances-set_checking c.self.inside.savings.items c.self.inside.checking.items _ c.value.result c.args.amount c.self.invariant
     c.value.ensures.value c.value.ensures.within

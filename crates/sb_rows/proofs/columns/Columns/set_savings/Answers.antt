@@ -3,5 +3,5 @@ use Rattle.sb_rows.proofs.columns.Columns.set_savings.Goals as goal
 
 pub invariant_of-self : goal.invariant_of-self
 invariant_of-self c =
-    IsBalances-set_savings c.self.inside.savings.items c.self.inside.checking.items c.args.place c.value.result c.args.amount c.self.invariant
+    IsBalances-set_savings c.self.inside.savings.items c.self.inside.checking.items _ c.value.result c.args.amount c.self.invariant
     c.value.ensures.value c.value.ensures.within c.requires.not_negative
