@@ -11,7 +11,8 @@ use Rattle.bank_server.proofs.prepared_input.prepare.Goals as goal
 pub returns : goal.returns
 returns c =
     let input = c.args.input.now in
-    let opening : OpeningText = record { names = c.in_ok-opening.opening.directory; balances = c.in_ok-opening.opening.columns; consumed = c.in_ok-opening.opening.consumed } in
+    let o = c.in_ok-opening.opening in
+    let opening : OpeningText = record { names = o.directory; balances = o.columns; consumed = o.consumed } in
     let log = c.ask_lines.new.primary.log in
     let standings = c.in_ok-standings.standings.items in
     let rest : take (length input - opening.consumed) (drop opening.consumed input) ≡ drop opening.consumed input =
@@ -20,6 +21,6 @@ returns c =
     subst (λ (n : ℕ). LinesGiveStandings (asks_from (n + 2) [] (lines (drop opening.consumed input))) log standings) c.len-first_line.ensures.value
     (subst (λ (text : List ℕ). LinesGiveStandings (asks_from (c.len-first_line.result + 2) [] (lines text)) log standings)
     rest c.in_ok-standings.ensures.asked) in
-    prepared_at input (record { primary = c.ask_lines.new.primary; standings = c.in_ok-standings.standings }) c.in_ok-opening.opening c.new-store.result
-    (c.ask_lines.ensures.node ∙ c.in_ok-primary.ensures.node) c.in_ok-opening.opening.same_customers
+    prepared_at input (record { primary = c.ask_lines.new.primary; standings = c.in_ok-standings.standings }) o c.new-store.result
+    (c.ask_lines.ensures.node ∙ c.in_ok-primary.ensures.node) o.same_customers
     (asked_stand _ log standings c.in_ok-standings.ensures.asked) (output_is input opening log standings c.in_ok-opening.ensures.exact asked)
