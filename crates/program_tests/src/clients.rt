@@ -1,5 +1,6 @@
 //! Clients in memory, who connect one after another.
-ghost use Rattle.std.specs.Prelude.{Some};
+ghost use Rattle.std.specs.Counts.{IsPrefixLen};
+ghost use Rattle.std.specs.Prelude.{IfOk, Some};
 
 use bank_program::ClientListener;
 use std::alloc::{AllocError, Global};
@@ -29,7 +30,9 @@ pub(crate) enum Manner {
 
 impl Manner {
     // A read once all bytes that were sent are read.
-    fn read_on(self, buf: &mut [u8]) -> io::Result<usize> {
+    fn read_on(self, buf: &mut [u8]) -> io::Result<usize>
+        ensures { IfOk result (λ count. IsPrefixLen count buf.new) }
+    {
         let count = match self {
             Manner::Broken => return Err(io::Error::from(ErrorKind::ConnectionReset)),
             Manner::Drip => buf.len().min(1),
