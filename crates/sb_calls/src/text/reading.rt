@@ -1,6 +1,6 @@
 //! The text of a call: `balance N`, `deposit N V`, `savings N V`, `check N V`, `amalgamate N N2`
 //! or `pay N N2 V`.
-ghost use Rattle.std.specs.Prelude.{◌≡◌, ◌<◌, ℕ, ℤ, List, [], ◌∷◌, ◌++◌, Ok, Err, IfOk, IsOk, MatchResult, vec_len, vec_capacity, if◌then◌else◌};
+ghost use Rattle.std.specs.Prelude.{◌≡◌, ◌<◌, ℕ, ℤ, List, [], ◌∷◌, ◌++◌, Ok, Err, IfOk, IsOk, MatchResult, vec_len, vec_capacity};
 ghost use Rattle.std.specs.Result.{result_map_both};
 ghost use Rattle.sb_amount.specs.Reading.{read_money};
 ghost use Rattle.sb_rows.specs.Name.{is_name};
@@ -137,8 +137,10 @@ fn one_name(words: Words) -> Result<Name, CallFault>
     ensures { (call : List ℕ → AnyCall)
         → result_map_both call (λ fault. fault) result ≡ of_name call words.entry }
 {
-    let name = words.last()?;
-    name_of(name)
+    let Ok(name) = words.last() else {
+        return Err(CallFault::WrongWords);
+    };
+    Name::new(name).ok_or(CallFault::BadName)
 }
 
 // The remaining name and amount. It serves every call that takes both.
@@ -151,7 +153,13 @@ fn name_and_amount(mut words: Words) -> Result<(Name, Cents), CallFault>
     let (Ok(name), Ok(amount)) = (words.word(), words.last()) else {
         return Err(CallFault::WrongWords);
     };
-    Ok((name_of(name)?, amount_of(amount)?))
+    let Some(name) = Name::new(name) else {
+        return Err(CallFault::BadName);
+    };
+    let Ok(amount) = Cents::read(amount) else {
+        return Err(CallFault::BadMoney);
+    };
+    Ok((name, amount))
 }
 
 // The two remaining names. It serves every call that takes two names.
@@ -164,7 +172,10 @@ fn two_names(mut words: Words) -> Result<(Name, Name), CallFault>
     let (Ok(from), Ok(to)) = (words.word(), words.last()) else {
         return Err(CallFault::WrongWords);
     };
-    Ok((name_of(from)?, name_of(to)?))
+    let (Some(from), Some(to)) = (Name::new(from), Name::new(to)) else {
+        return Err(CallFault::BadName);
+    };
+    Ok((from, to))
 }
 
 // The remaining two names and amount. It serves every call that takes all three.
@@ -177,22 +188,11 @@ fn two_names_and_amount(mut words: Words) -> Result<(Name, Name, Cents), CallFau
     let (Ok(from), Ok(to), Ok(amount)) = (words.word(), words.word(), words.last()) else {
         return Err(CallFault::WrongWords);
     };
-    Ok((name_of(from)?, name_of(to)?, amount_of(amount)?))
-}
-
-// The name that a word spells.
-#[inline]
-fn name_of(word: &[u8]) -> Result<Name, CallFault>
-    ensures { result ≡ if is_name word.now then Ok word.now else Err CallFault.BadName }
-{
-    Name::new(word).ok_or(CallFault::BadName)
-}
-
-// The amount that a word spells.
-#[inline]
-fn amount_of(word: &[u8]) -> Result<Cents, CallFault>
-    ensures { (call : ℤ → AnyCall)
-        → result_map_both call (λ fault. fault) result ≡ with_amount call (read_money word.now) }
-{
-    Cents::read(word).or(Err(CallFault::BadMoney))
+    let (Some(from), Some(to)) = (Name::new(from), Name::new(to)) else {
+        return Err(CallFault::BadName);
+    };
+    let Ok(amount) = Cents::read(amount) else {
+        return Err(CallFault::BadMoney);
+    };
+    Ok((from, to, amount))
 }
