@@ -51,17 +51,9 @@ pub(crate) fn call_with(verb: &[u8], words: Words) -> Result<Call, CallFault>
     };
     match verb {
         Verb::Balance => one_name(words).map(Call::Balance),
-        Verb::Deposit => {
+        Verb::OfAmount(verb) => {
             let (name, amount) = name_and_amount(words)?;
-            Ok(Call::DepositChecking(name, amount))
-        }
-        Verb::Savings => {
-            let (name, amount) = name_and_amount(words)?;
-            Ok(Call::TransactSavings(name, amount))
-        }
-        Verb::Check => {
-            let (name, amount) = name_and_amount(words)?;
-            Ok(Call::WriteCheck(name, amount))
+            Ok(verb.call(name, amount))
         }
         Verb::Amalgamate => {
             let (from, to) = two_names(words)?;
@@ -97,17 +89,9 @@ pub(crate) fn push_call(
             let name = one_name(words)?;
             push(asks, key, Call::Balance(name))
         }
-        Verb::Deposit => {
+        Verb::OfAmount(verb) => {
             let (name, amount) = name_and_amount(words)?;
-            push(asks, key, Call::DepositChecking(name, amount))
-        }
-        Verb::Savings => {
-            let (name, amount) = name_and_amount(words)?;
-            push(asks, key, Call::TransactSavings(name, amount))
-        }
-        Verb::Check => {
-            let (name, amount) = name_and_amount(words)?;
-            push(asks, key, Call::WriteCheck(name, amount))
+            push(asks, key, verb.call(name, amount))
         }
         Verb::Amalgamate => {
             let (from, to) = two_names(words)?;

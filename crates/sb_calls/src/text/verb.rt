@@ -2,17 +2,27 @@
 ghost use Rattle.std.specs.Prelude.{◌≡◌, ℕ, List, ◌∷◌, Err, MatchOption};
 ghost use Rattle.sb_calls.specs.Call.{call_of_words};
 ghost use Rattle.sb_calls.specs.declared.text.fault.CallFault.TheVariants.{UnknownVerb};
-ghost use Rattle.sb_calls.specs.inner.Verbs.{verb_text};
+ghost use Rattle.sb_calls.specs.inner.Verbs.{verb_text, amount_call};
+
+use crate::call::Call;
+use sb_amount::Cents;
+use sb_rows::Name;
 
 /// A call's verb.
 #[derive(Clone, Copy)]
 pub(crate) enum Verb {
     Balance,
+    OfAmount(AmountVerb),
+    Amalgamate,
+    Pay,
+}
+
+/// The verb of a call that takes a name and an amount.
+#[derive(Clone, Copy)]
+pub(crate) enum AmountVerb {
     Deposit,
     Savings,
     Check,
-    Amalgamate,
-    Pay,
 }
 
 impl Verb {
@@ -25,12 +35,26 @@ impl Verb {
     {
         match word {
             b"balance" => Some(Verb::Balance),
-            b"deposit" => Some(Verb::Deposit),
-            b"savings" => Some(Verb::Savings),
-            b"check" => Some(Verb::Check),
+            b"deposit" => Some(Verb::OfAmount(AmountVerb::Deposit)),
+            b"savings" => Some(Verb::OfAmount(AmountVerb::Savings)),
+            b"check" => Some(Verb::OfAmount(AmountVerb::Check)),
             b"amalgamate" => Some(Verb::Amalgamate),
             b"pay" => Some(Verb::Pay),
             _ => None,
+        }
+    }
+}
+
+impl AmountVerb {
+    /// The call with this verb, name and amount.
+    #[inline(always)]
+    pub(crate) fn call(self, name: Name, amount: Cents) -> Call
+        ensures { result ≡ amount_call self name amount }
+    {
+        match self {
+            AmountVerb::Deposit => Call::DepositChecking(name, amount),
+            AmountVerb::Savings => Call::TransactSavings(name, amount),
+            AmountVerb::Check => Call::WriteCheck(name, amount),
         }
     }
 }
