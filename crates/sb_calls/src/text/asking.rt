@@ -1,6 +1,5 @@
 //! The text of an asking line: a call, or `ask CLIENT REQUEST CALL`.
-ghost use Rattle.std.specs.Prelude.{◌≡◌, ◌<◌, [], ◌∷◌, ◌++◌, Some, Ok, Err, IfOk, IsOk, MatchResult, vec_len, vec_capacity, codes};
-ghost use Rattle.std.specs.Str.{bytes_eq};
+ghost use Rattle.std.specs.Prelude.{◌≡◌, ◌<◌, [], ◌∷◌, ◌++◌, Some, Ok, Err, IfOk, IsOk, MatchResult, vec_len, vec_capacity};
 ghost use Rattle.sb_calls.specs.Call.{call_of_words};
 ghost use Rattle.sb_calls.specs.declared.ask.AskLine.{AskLine as AnyAskLine};
 ghost use Rattle.sb_calls.specs.Ask as spec;
@@ -9,6 +8,7 @@ ghost use Rattle.sb_calls.specs.Ask.{IsAskLine, ask_line, ask_line_of, ask_line_
 use super::fault::CallFault;
 use super::number::read_number;
 use super::reading::{call_with, push_call};
+use super::verb::is;
 use crate::ask::{AskLine, Key};
 use sb_rows::Words;
 
@@ -75,7 +75,8 @@ fn key_and_verb<'a>(words: &mut Words<'a>) -> Result<(Option<Key>, &'a [u8]), Ca
     let Some(verb) = words.next() else {
         return Err(CallFault::UnknownVerb);
     };
-    if !is_ask(verb) {
+    // Only a line that begins with `ask` has a key.
+    if !is(verb, b"ask") {
         return Ok((None, verb));
     }
     let key = next_key(words)?;
@@ -83,14 +84,6 @@ fn key_and_verb<'a>(words: &mut Words<'a>) -> Result<(Option<Key>, &'a [u8]), Ca
         return Err(CallFault::UnknownVerb);
     };
     Ok((Some(key), verb))
-}
-
-// Whether a line that begins with this word has a key.
-#[inline(always)]
-fn is_ask(word: &[u8]) -> bool
-    ensures { result ≡ bytes_eq word.now (codes "ask") }
-{
-    matches!(word, b"ask")
 }
 
 // The key that the next two words spell.

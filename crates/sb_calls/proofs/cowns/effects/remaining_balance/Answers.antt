@@ -1,7 +1,6 @@
 -- What is left fits 64 bits and is within the limit.
-use Rattle.std.proofs.Common.{◌≡◌, ℤ, pos, ◌-ℤ◌, ◌≤ℤ◌, arith, to_z, of_z, w64, SFits}
+use Rattle.std.proofs.Common.{arith}
 use Rattle.std.proofs.lemmas.Int.{ints}
-use Rattle.sb_amount.specs.Limit.{IsWithinLimit}
 use Rattle.sb_calls.proofs.cowns.effects.remaining_balance.Goals as goal
 
 pub overflow_sub-value : goal.overflow_sub-value
