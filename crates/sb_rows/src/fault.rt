@@ -1,10 +1,8 @@
 //! Why an opening text is refused.
 ghost use Rattle.std.specs.Prelude.{◌≡◌};
 ghost use Rattle.sb_rows.specs.Fault.{line_fault_number, opening_fault_number};
-ghost use Rattle.sb_rows.specs.declared.fault.LineFault.TheVariants.{BadLine};
 ghost use Rattle.sb_rows.specs.declared.fault.OpeningFault.TheVariants.{OutOfMemory};
 
-use crate::words::WrongWords;
 use std::alloc::AllocError;
 use thiserror::Error;
 
@@ -32,14 +30,6 @@ pub enum LineFault {
     /// The text has no line `begin`. The fault's line is the one after the last.
     #[error("no begin")]
     NoBegin,
-}
-
-impl From<WrongWords> for LineFault {
-    ghost from_gives = { λ _ fault. fault ≡ BadLine };
-
-    fn from(_fault: WrongWords) -> LineFault {
-        LineFault::BadLine
-    }
 }
 
 impl LineFault {

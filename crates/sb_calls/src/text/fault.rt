@@ -1,9 +1,7 @@
 //! Why a line isn't a call.
 ghost use Rattle.std.specs.Prelude.{◌≡◌};
-ghost use Rattle.sb_calls.specs.declared.text.fault.CallFault.TheVariants as faults;
 ghost use Rattle.sb_calls.specs.Faults.{call_fault_number};
 
-use sb_rows::WrongWords;
 use thiserror::Error;
 
 /// The fault of a line that isn't a call: the first in this order.
@@ -24,14 +22,6 @@ pub enum CallFault {
     /// A word in the place of a client's or a request's number isn't a valid number.
     #[error("bad number")]
     BadNumber,
-}
-
-impl From<WrongWords> for CallFault {
-    ghost from_gives = { λ _ fault. fault ≡ faults.WrongWords };
-
-    fn from(_fault: WrongWords) -> CallFault {
-        CallFault::WrongWords
-    }
 }
 
 impl CallFault {
