@@ -119,8 +119,7 @@ impl Columns {
         ensures err { OnErr result (self.new ≡ self.old) }
         ensures valid { IsBalances self.new }
     {
-        self.savings.reserve(1)?;
-        self.checking.reserve(1)?;
+        self.savings.reserve(1).and(self.checking.reserve(1))?;
         self.savings.push_reserved(savings.value());
         self.checking.push_reserved(checking.value());
         Ok(())

@@ -29,9 +29,8 @@ pub(crate) fn read_customer(before: &Directory, line: &[u8]) -> Result<CustomerL
         → MatchResult result
         (λ c. customer_of customers (words line.now) ≡ Ok (customer c))
         (λ fault. customer_of customers (words line.now) ≡ Err fault) }
-    ensures new { IfOk result (λ c. place_of before.now c.name ≡ None) }
-    ensures room { IfOk result (λ c. length before.now < CUSTOMERS) }
-    ensures not_negative { IfOk result (λ c. pos 0 ≤ℤ c.savings) }
+    ensures fits { IfOk result (λ c. (place_of before.now c.name ≡ None)
+        × (length before.now < CUSTOMERS) × (pos 0 ≤ℤ c.savings)) }
 {
     let mut words = Words::of(line);
     let (Ok(name), Ok(savings), Ok(checking)) = (words.word(), words.word(), words.last()) else {

@@ -91,10 +91,9 @@ impl<'a> Words<'a> {
             (λ word. self.entry ≡ word.now ∷ [])
             (λ _. (word : List ℕ) → self.entry ≢ word ∷ []) }
     {
-        let word = self.word()?;
-        match self.next() {
-            None => Ok(word),
-            Some(_) => Err(WrongWords),
-        }
+        let (Some(word), None) = (self.next(), self.next()) else {
+            return Err(WrongWords);
+        };
+        Ok(word)
     }
 }
