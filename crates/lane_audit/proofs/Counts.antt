@@ -1,7 +1,10 @@
 -- Counts in lanes that wrap.
-use Rattle.std.proofs.Common.{◌≡◌, ℕ, ◌+◌, ◌*◌, ◌/◌, ◌^◌, ◌%◌, ◌<◌, ℤ, int_lt, cond, List, [], ◌∷◌, ◌++◌, length, take, replicate, refl, sym, ap, ◌∙◌, arith}
-use Rattle.std.proofs.lemmas.List.{length-take}
-use Rattle.std.proofs.lemmas.List.Sums.{count_by-le-length, sum_by-append, sum_by-cons}
+use Rattle.std.proofs.Common.{◌≡◌, ℕ, ◌+◌, ◌*◌, ◌/◌, ◌^◌, ◌%◌, ◌<◌, ℤ, int_lt, cond, List, [], ◌∷◌, ◌++◌, length, take, replicate, refl, sym, ap, ◌∙◌, arith, pos, drop, get_or, true, false, to_z, of_z, w64, FitsSigned}
+use Rattle.std.proofs.lemmas.List.{length-take, get_or-drop}
+use Rattle.std.proofs.lemmas.List.Sums.{count_by-le-length, count_by_more_yes, count_by_more_no, sum_by-append, sum_by-cons}
+use Rattle.std.proofs.lemmas.Int.{to_z-of_z}
+use Rattle.std.proofs.lemmas.List.Elements.{All-get_or}
+use Rattle.std.specs.List.{All}
 use Rattle.std.proofs.lemmas.Nat.{mod_below}
 use Rattle.std.proofs.lemmas.Simd.{length-zip2}
 use Rattle.std.specs.Simd.{first_chunks}
@@ -70,3 +73,25 @@ front_count values low blocks count few are is =
     omega (arith, few, count_by-le-length (λ value. int_lt value low) (take front values), length-take front values) in
     is ∙ ap (λ bs. count_below (joined bs) low % 2 ^ 64) are ∙ ap (λ xs. count_below xs low % 2 ^ 64) (joined-first_chunks 8 (length values / 8) values)
     ∙ mod-eq_of_lt small ∙ ap (λ n. count_below (take n values) low) (omega arith)
+
+-- a value that is read from the rest of a column is the one at its place
+below_as_read : (values : List ℤ) (low : ℤ) (front i : ℕ) → All (FitsSigned w64) values → front + i < length values
+    → int_lt (to_z w64 (of_z w64 (get_or (drop front values) i (pos 0)))) low ≡ int_lt (get_or values (front + i) (pos 0)) low
+below_as_read values low front i fit inside =
+    let value = to_z-of_z w64 (get_or values (front + i) (pos 0)) (All-get_or (FitsSigned w64) values (front + i) (pos 0) inside fit) in
+    rw (get_or-drop front values i (pos 0), value) refl
+
+-- it counts if it is below low, and else it doesn't
+pub count_more_below : (values : List ℤ) (low : ℤ) (front i : ℕ) → All (FitsSigned w64) values → front + i < length values
+    → int_lt (to_z w64 (of_z w64 (get_or (drop front values) i (pos 0)))) low ≡ true
+    → count_below (take (front + (i + 1)) values) low ≡ count_below (take (front + i) values) low + 1
+count_more_below values low front i fit inside below =
+    ap (λ n. count_below (take n values) low) (omega arith)
+    ∙ count_by_more_yes (λ value. int_lt value low) values (front + i) (pos 0) inside (sym (below_as_read values low front i fit inside) ∙ below)
+
+pub count_more_other : (values : List ℤ) (low : ℤ) (front i : ℕ) → All (FitsSigned w64) values → front + i < length values
+    → int_lt (to_z w64 (of_z w64 (get_or (drop front values) i (pos 0)))) low ≡ false
+    → count_below (take (front + (i + 1)) values) low ≡ count_below (take (front + i) values) low
+count_more_other values low front i fit inside other =
+    ap (λ n. count_below (take n values) low) (omega arith)
+    ∙ count_by_more_no (λ value. int_lt value low) values (front + i) (pos 0) inside (sym (below_as_read values low front i fit inside) ∙ other)
