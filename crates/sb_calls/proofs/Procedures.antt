@@ -17,7 +17,7 @@ past_limit c amount fits ge past =
     by_lt_z LIMIT (c +ℤ amount) (λ lt. grind (arith, ints, lt)) (λ le. absurd (past (record { at_least = omega (arith, ints, fits.at_least); at_most = le })))
 
 -- a number that isn't negative can pass it only upwards
-past_limit_upwards : (v : ℤ) → int_lt v (pos 0) ≡ false → ¬ IsWithinLimit v → int_lt LIMIT v ≡ true
+pub past_limit_upwards : (v : ℤ) → int_lt v (pos 0) ≡ false → ¬ IsWithinLimit v → int_lt LIMIT v ≡ true
 past_limit_upwards v ge past = by_lt_z LIMIT v (λ lt. grind (arith, ints, lt)) (λ le. absurd (past (record { at_least = grind (arith, ints); at_most = le })))
 
 -- a check costs at least its amount
