@@ -45,6 +45,7 @@ pub returns : goal.returns
 returns c =
     let values = c.args.values.now in
     let front = length values / 8 * 8 in
-    let all : length values ≤ front + c.loop-value.value-index = omega (arith, c.loop-value-test.false, ap length c.as_chunks.ensures.back, length-drop front values) in
+    let back = ap length c.as_chunks.ensures.back in
+    let all : length values ≤ front + c.loop-value.value-index = omega (arith, c.loop-value-test.false, back, length-drop front values) in
     c.loop-value.invariant ∙ ap (λ front. count_below front (to_z w64 (of_z w64 c.args.low))) (take_all (front + c.loop-value.value-index) values all)
     ∙ ap (count_below values) (to_z-of_z w64 c.args.low c.ranges.low)
