@@ -54,12 +54,13 @@ fn read_two_names(kind: u8, fields: &mut Fields) -> Result<Call, FrameFault>
 pub(crate) fn read_call(fields: &mut Fields) -> Result<Call, FrameFault>
     ensures { TakesField result fields.new (call_at fields.old) }
 {
-    match fields.byte()? {
+    let Some(kind) = fields.byte() else {
+        return Err(FrameFault::BadLength);
+    };
+    match kind {
         BALANCE => Ok(Call::Balance(fields.name()?)),
-        kind @ (DEPOSIT_CHECKING | TRANSACT_SAVINGS | WRITE_CHECK) => {
-            read_name_and_amount(kind, fields)
-        }
-        kind @ (AMALGAMATE | SEND_PAYMENT) => read_two_names(kind, fields),
+        DEPOSIT_CHECKING | TRANSACT_SAVINGS | WRITE_CHECK => { read_name_and_amount(kind, fields) }
+        AMALGAMATE | SEND_PAYMENT => read_two_names(kind, fields),
         _ => Err(FrameFault::UnknownTag),
     }
 }

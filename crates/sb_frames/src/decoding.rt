@@ -32,10 +32,14 @@ pub(crate) const HAVE: u8 = 7;
 fn read_ask(fields: &mut Fields) -> Result<Frame, FrameFault>
     ensures { TakesField result fields.new (spec.ask_at fields.old) }
 {
+    let (Some(client), Some(request)) = (fields.u32(), fields.u32()) else {
+        return Err(FrameFault::BadLength);
+    };
+    let call = read_call(fields)?;
     Ok(Frame::Ask {
-        client: fields.u32()?,
-        request: fields.u32()?,
-        call: read_call(fields)?,
+        client,
+        request,
+        call,
     })
 }
 
@@ -44,10 +48,11 @@ fn read_ask(fields: &mut Fields) -> Result<Frame, FrameFault>
 fn read_entry(fields: &mut Fields) -> Result<Frame, FrameFault>
     ensures { TakesField result fields.new (spec.entry_at fields.old) }
 {
-    Ok(Frame::Entry {
-        number: fields.u64()?,
-        call: read_call(fields)?,
-    })
+    let Some(number) = fields.u64() else {
+        return Err(FrameFault::BadLength);
+    };
+    let call = read_call(fields)?;
+    Ok(Frame::Entry { number, call })
 }
 
 // A frame with a replica's number and a length.
@@ -56,8 +61,9 @@ fn read_report(tag: u8, fields: &mut Fields) -> Result<Frame, FrameFault>
     requires { (tag ≡ ACK) ⊎ (tag ≡ HAVE) }
     ensures { TakesField result fields.new (spec.frame_of_tag tag fields.old) }
 {
-    let replica = fields.byte()?;
-    let length = fields.u64()?;
+    let (Some(replica), Some(length)) = (fields.byte(), fields.u64()) else {
+        return Err(FrameFault::BadLength);
+    };
     if tag == ACK {
         Ok(Frame::Ack { replica, length })
     } else {
@@ -69,20 +75,25 @@ fn read_report(tag: u8, fields: &mut Fields) -> Result<Frame, FrameFault>
 fn read_answer(fields: &mut Fields) -> Result<Frame, FrameFault>
     ensures { TakesField result fields.new (spec.answer_at fields.old) }
 {
-    Ok(Frame::Answer {
-        number: fields.u64()?,
-        reply: read_reply(fields)?,
-    })
+    let Some(number) = fields.u64() else {
+        return Err(FrameFault::BadLength);
+    };
+    let reply = read_reply(fields)?;
+    Ok(Frame::Answer { number, reply })
 }
 
 #[tactic(auto, unfolding(crate::specs::Decoding::outcome_frame_at))]
 fn read_outcome_frame(fields: &mut Fields) -> Result<Frame, FrameFault>
     ensures { TakesField result fields.new (spec.outcome_frame_at fields.old) }
 {
+    let (Some(client), Some(request)) = (fields.u32(), fields.u32()) else {
+        return Err(FrameFault::BadLength);
+    };
+    let outcome = read_outcome(fields)?;
     Ok(Frame::Outcome {
-        client: fields.u32()?,
-        request: fields.u32()?,
-        outcome: read_outcome(fields)?,
+        client,
+        request,
+        outcome,
     })
 }
 
@@ -93,10 +104,13 @@ fn read_outcome_frame(fields: &mut Fields) -> Result<Frame, FrameFault>
 fn read_tagged(fields: &mut Fields) -> Result<Frame, FrameFault>
     ensures { TakesField result fields.new (spec.tagged_at fields.old) }
 {
-    match fields.byte()? {
+    let Some(tag) = fields.byte() else {
+        return Err(FrameFault::BadLength);
+    };
+    match tag {
         ASK => read_ask(fields),
         ENTRY => read_entry(fields),
-        tag @ (ACK | HAVE) => read_report(tag, fields),
+        ACK | HAVE => read_report(tag, fields),
         ANSWER => read_answer(fields),
         OUTCOME => read_outcome_frame(fields),
         FLUSH => Ok(Frame::Flush),

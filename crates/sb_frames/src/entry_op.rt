@@ -108,7 +108,9 @@ fn read_op_of_two(
 fn read_op(fields: &mut Fields, directory: &Directory) -> Result<Op, FrameFault>
     ensures { TakesField result fields.new (spec.op_at directory.now fields.old) }
 {
-    let kind = fields.byte()?;
+    let Some(kind) = fields.byte() else {
+        return Err(FrameFault::BadLength);
+    };
     let place = read_place(fields, directory)?;
     match kind {
         BALANCE => match place {
@@ -128,10 +130,11 @@ fn read_op(fields: &mut Fields, directory: &Directory) -> Result<Op, FrameFault>
 fn read_entry_op(fields: &mut Fields, directory: &Directory) -> Result<EntryOp, FrameFault>
     ensures { TakesField result fields.new (spec.entry_op_at directory.now fields.old) }
 {
-    Ok(EntryOp {
-        number: fields.u64()?,
-        op: read_op(fields, directory)?,
-    })
+    let Some(number) = fields.u64() else {
+        return Err(FrameFault::BadLength);
+    };
+    let op = read_op(fields, directory)?;
+    Ok(EntryOp { number, op })
 }
 
 // The entry of a body, if it is one. Nothing may follow its fields.
@@ -141,7 +144,7 @@ fn entry_of(body: &[u8], directory: &Directory) -> Option<EntryOp>
     ensures { result ≡ result_ok (spec.body_entry directory.now body.now) }
 {
     let mut fields = Fields::of(body);
-    let Ok(ENTRY) = fields.byte() else {
+    let Some(ENTRY) = fields.byte() else {
         return None;
     };
     let Ok(entry) = read_entry_op(&mut fields, directory) else {

@@ -2,15 +2,15 @@
 ghost use Rattle.std.specs.Prelude.{◌≡◌, ◌==◌, length};
 ghost use Rattle.std.specs.Int.{w32, w64};
 ghost use Rattle.sb_frames.specs.Reading as spec;
-ghost use Rattle.sb_frames.specs.inner.FieldReading.{TakesField};
+ghost use Rattle.sb_frames.specs.inner.FieldReading.{TakesField, TakesNumber};
 
 use crate::fault::FrameFault;
 use sb_amount::Cents;
 use sb_rows::{NAME_BYTES, Name};
 use std::marker::Model;
 
-/// The unread fields of a body. Each reader takes its field from the front, or fails. After a
-/// reader fails, nothing more is read.
+/// The unread fields of a body. Each reader takes its field from the front, or fails: that of a
+/// number only if bytes are missing. After a reader fails, nothing more is read.
 #[derive(Drop)]
 pub(crate) struct Fields<'a> {
     bytes: &'a [u8],
@@ -39,47 +39,51 @@ impl<'a> Fields<'a> {
     }
 
     #[inline]
-    pub(crate) fn byte(&mut self) -> Result<u8, FrameFault>
-        ensures { TakesField result self.new (spec.byte_at self.old) }
+    pub(crate) fn byte(&mut self) -> Option<u8>
+        ensures { TakesNumber result self.new (spec.byte_at self.old) }
     {
         match self.bytes {
-            [] => Err(FrameFault::BadLength),
+            [] => None,
             [byte, rest @ ..] => {
                 self.bytes = rest;
-                Ok(*byte)
+                Some(*byte)
             }
         }
     }
 
     #[tactic(auto, unfolding(crate::specs::Reading::unsigned_at, crate::specs::Reading::bytes_at))]
-    pub(crate) fn u32(&mut self) -> Result<u32, FrameFault>
-        ensures { TakesField result self.new (spec.unsigned_at w32 self.old) }
+    pub(crate) fn u32(&mut self) -> Option<u32>
+        ensures { TakesNumber result self.new (spec.unsigned_at w32 self.old) }
     {
-        let Some((cells, rest)) = self.bytes.split_first_chunk() else {
-            return Err(FrameFault::BadLength);
-        };
-        self.bytes = rest;
-        Ok(u32::from_be_bytes(*cells))
+        match self.bytes.split_first_chunk() {
+            None => None,
+            Some((cells, rest)) => {
+                self.bytes = rest;
+                Some(u32::from_be_bytes(*cells))
+            }
+        }
     }
 
     #[inline]
     #[tactic(auto, unfolding(crate::specs::Reading::unsigned_at, crate::specs::Reading::bytes_at))]
-    pub(crate) fn u64(&mut self) -> Result<u64, FrameFault>
-        ensures { TakesField result self.new (spec.unsigned_at w64 self.old) }
+    pub(crate) fn u64(&mut self) -> Option<u64>
+        ensures { TakesNumber result self.new (spec.unsigned_at w64 self.old) }
     {
-        let Some((cells, rest)) = self.bytes.split_first_chunk() else {
-            return Err(FrameFault::BadLength);
-        };
-        self.bytes = rest;
-        Ok(u64::from_be_bytes(*cells))
+        match self.bytes.split_first_chunk() {
+            None => None,
+            Some((cells, rest)) => {
+                self.bytes = rest;
+                Some(u64::from_be_bytes(*cells))
+            }
+        }
     }
 
     #[inline]
     #[tactic(auto, unfolding(crate::specs::Reading::signed_at))]
-    pub(crate) fn i64(&mut self) -> Result<i64, FrameFault>
-        ensures { TakesField result self.new (spec.signed_at self.old) }
+    pub(crate) fn i64(&mut self) -> Option<i64>
+        ensures { TakesNumber result self.new (spec.signed_at self.old) }
     {
-        Ok(self.u64()?.cast_signed())
+        Some(self.u64()?.cast_signed())
     }
 
     #[inline]
@@ -87,7 +91,10 @@ impl<'a> Fields<'a> {
     pub(crate) fn amount(&mut self) -> Result<Cents, FrameFault>
         ensures { TakesField result self.new (spec.amount_at self.old) }
     {
-        Cents::new(self.i64()?).ok_or(FrameFault::BadAmount)
+        let Some(cents) = self.i64() else {
+            return Err(FrameFault::BadLength);
+        };
+        Cents::new(cents).ok_or(FrameFault::BadAmount)
     }
 
     #[inline]
@@ -95,7 +102,10 @@ impl<'a> Fields<'a> {
     pub(crate) fn name(&mut self) -> Result<Name, FrameFault>
         ensures { TakesField result self.new (spec.name_at self.old) }
     {
-        let size = usize::from(self.byte()?);
+        let Some(size) = self.byte() else {
+            return Err(FrameFault::BadLength);
+        };
+        let size = usize::from(size);
         if size == 0 || NAME_BYTES < size {
             return Err(FrameFault::BadName);
         }

@@ -18,8 +18,9 @@ pub(crate) const LOG_FULL: u8 = 2;
 pub(crate) fn read_reply(fields: &mut Fields) -> Result<WireReply, FrameFault>
     ensures { TakesField result fields.new (spec.reply_at fields.old) }
 {
-    let code = fields.byte()?;
-    let total = fields.i64()?;
+    let (Some(code), Some(total)) = (fields.byte(), fields.i64()) else {
+        return Err(FrameFault::BadLength);
+    };
     WireReply::from_code(code, total).ok_or(FrameFault::BadReply)
 }
 
@@ -28,8 +29,9 @@ pub(crate) fn read_reply(fields: &mut Fields) -> Result<WireReply, FrameFault>
 fn read_no_reply(outcome: AskOutcome, fields: &mut Fields) -> Result<AskOutcome, FrameFault>
     ensures { TakesField result fields.new (spec.no_reply_at outcome fields.old) }
 {
-    let code = fields.byte()?;
-    let total = fields.i64()?;
+    let (Some(code), Some(total)) = (fields.byte(), fields.i64()) else {
+        return Err(FrameFault::BadLength);
+    };
     if code != 0 || total != 0 {
         return Err(FrameFault::BadReply);
     }
@@ -40,7 +42,10 @@ fn read_no_reply(outcome: AskOutcome, fields: &mut Fields) -> Result<AskOutcome,
 pub(crate) fn read_outcome(fields: &mut Fields) -> Result<AskOutcome, FrameFault>
     ensures { TakesField result fields.new (spec.outcome_at fields.old) }
 {
-    match fields.byte()? {
+    let Some(status) = fields.byte() else {
+        return Err(FrameFault::BadLength);
+    };
+    match status {
         REPLIED => Ok(AskOutcome::Replied(read_reply(fields)?)),
         MISMATCH => read_no_reply(AskOutcome::Mismatch, fields),
         LOG_FULL => read_no_reply(AskOutcome::LogFull, fields),
