@@ -1,5 +1,6 @@
 //! Frames encoded as bytes.
-ghost use Rattle.std.specs.Prelude.{◌≡◌, ◌+◌, ◌≤◌, ◌++◌, length};
+ghost use Rattle.std.specs.Prelude.{◌≡◌, ◌+◌, ◌≤◌, ◌++◌, drop, length};
+ghost use Rattle.std.specs.Int.{w16, to_be_bytes};
 ghost use Rattle.sb_calls.specs.Call.{IsCall};
 ghost use Rattle.sb_calls.specs.Replies.{IsReply};
 ghost use Rattle.sb_frames.specs.Grammar as grammar;
@@ -7,12 +8,12 @@ ghost use Rattle.sb_frames.specs.Grammar.{IsFrame, Spells};
 ghost use Rattle.sb_frames.specs.declared.frame.Frame.TheVariants.{Answer, Entry};
 
 use crate::decoding::{ACK, ANSWER, ASK, ENTRY, FLUSH, HAVE, OUTCOME};
-use crate::frame::{Frame, MAX_BODY, MAX_FRAME};
-use crate::lengths::{body_length, entry_length};
+use crate::frame::{Frame, LENGTH_BYTES, MAX_BODY, MAX_FRAME};
 use crate::writing::{
     Bytes, put, put_call, put_outcome, put_replica_and_length, put_reply, put_tag_and_request,
 };
 use arrayvec::ArrayVec;
+use byteorder::{BigEndian, ByteOrder};
 use sb_calls::{Call, WireReply};
 
 /// The bytes of a frame: the length of its body, its tag and its fields. It allocates nothing.
@@ -20,8 +21,9 @@ pub fn encode(frame: &Frame) -> ArrayVec<u8, MAX_FRAME>
     ensures { Spells frame.now result.items }
 {
     let mut bytes = ArrayVec::new();
-    put(&mut bytes, &body_length(frame).to_be_bytes());
+    put(&mut bytes, &[0; LENGTH_BYTES]);
     put_body(&mut bytes, frame);
+    state_length(&mut bytes);
     bytes
 }
 
@@ -31,9 +33,21 @@ pub fn encode_entry(number: u64, call: &Call) -> ArrayVec<u8, MAX_FRAME>
     ensures { Spells (Entry number call.now) result.items }
 {
     let mut bytes = ArrayVec::new();
-    put(&mut bytes, &entry_length(call).to_be_bytes());
+    put(&mut bytes, &[0; LENGTH_BYTES]);
     put_entry(&mut bytes, number, call);
+    state_length(&mut bytes);
     bytes
+}
+
+// States the length of the body in the bytes before it.
+#[inline]
+fn state_length(bytes: &mut Bytes)
+    requires { LENGTH_BYTES ≤ length bytes.old.items }
+    ensures { let body = drop LENGTH_BYTES bytes.old.items in
+        bytes.new.items ≡ to_be_bytes w16 (length body) ++ body }
+{
+    let length = bytes.len() - LENGTH_BYTES;
+    BigEndian::write_u16(bytes, length as u16);
 }
 
 // The tag and the fields, at most as many bytes as a body has.

@@ -9,7 +9,6 @@ mod fault;
 mod fields;
 mod frame;
 mod laws;
-mod lengths;
 mod outcome;
 mod stream;
 mod writing;
