@@ -6,13 +6,12 @@ ghost use Rattle.sb_calls.specs.declared.op.Op.{Op as AnyOp};
 ghost use Rattle.sb_frames.specs.Streaming.{AreBytes};
 ghost use Rattle.sb_frames.specs.inner.CallReading.{HasNameAndAmount, HasTwoNames};
 ghost use Rattle.sb_frames.specs.inner.EntryReading as spec;
-ghost use Rattle.sb_frames.specs.inner.FieldReading.{TakesField};
+ghost use Rattle.sb_frames.specs.inner.FieldReading.{TakesIfRead};
 
 use crate::call::{
     AMALGAMATE, BALANCE, DEPOSIT_CHECKING, SEND_PAYMENT, TRANSACT_SAVINGS, WRITE_CHECK,
 };
 use crate::decoding::{ENTRY, stated_length};
-use crate::fault::FrameFault;
 use crate::fields::Fields;
 use crate::frame::{LENGTH_BYTES, MAX_BODY};
 use sb_calls::{Op, TwoPlaces};
@@ -37,15 +36,6 @@ impl Default for EntryOp {
     }
 }
 
-// The place of the customer whose name comes next.
-#[inline]
-#[tactic(auto, unfolding(crate::specs::inner::EntryReading::place_at))]
-fn read_place(fields: &mut Fields, directory: &Directory) -> Result<Option<u32>, FrameFault>
-    ensures { TakesField result fields.new (spec.place_at directory.now fields.old) }
-{
-    Ok(directory.place(&fields.name()?))
-}
-
 // The places of two customers, or the op where one is missing or both are the same.
 #[inline]
 fn two_places(from: Option<u32>, to: Option<u32>) -> Result<TwoPlaces, Op>
@@ -60,97 +50,100 @@ fn two_places(from: Option<u32>, to: Option<u32>) -> Result<TwoPlaces, Op>
 
 // The op of a call with a name and an amount, after the place of its name.
 #[inline]
-fn read_op_with_amount(kind: u8, place: Option<u32>, fields: &mut Fields) -> Result<Op, FrameFault>
+fn read_op_with_amount(kind: u8, place: Option<u32>, fields: &mut Fields) -> Option<Op>
     requires { HasNameAndAmount kind }
     ensures { (names : List (List ℕ))
-        → TakesField result fields.new (spec.op_of_kind names kind place fields.old) }
+        → TakesIfRead result fields.new (spec.op_of_kind names kind place fields.old) }
 {
-    let amount = fields.amount()?;
+    let Ok(amount) = fields.amount() else {
+        return None;
+    };
     let Some(place) = place else {
-        return Ok(Op::NoCustomer);
+        return Some(Op::NoCustomer);
     };
     match kind {
-        DEPOSIT_CHECKING => Ok(Op::DepositChecking(place, amount)),
-        TRANSACT_SAVINGS => Ok(Op::TransactSavings(place, amount)),
-        _ => Ok(Op::WriteCheck(place, amount)),
+        DEPOSIT_CHECKING => Some(Op::DepositChecking(place, amount)),
+        TRANSACT_SAVINGS => Some(Op::TransactSavings(place, amount)),
+        _ => Some(Op::WriteCheck(place, amount)),
     }
 }
 
 // The op of a call with two names, after the place of the first.
 #[inline]
+#[tactic(auto, unfolding(crate::specs::inner::EntryReading::place_at))]
 fn read_op_of_two(
     kind: u8,
     from: Option<u32>,
     fields: &mut Fields,
     directory: &Directory,
-) -> Result<Op, FrameFault>
+) -> Option<Op>
     requires { HasTwoNames kind }
-    ensures { TakesField result fields.new (spec.op_of_kind directory.now kind from fields.old) }
+    ensures { TakesIfRead result fields.new (spec.op_of_kind directory.now kind from fields.old) }
 {
-    let places = two_places(from, read_place(fields, directory)?);
+    let Ok(to) = fields.name() else {
+        return None;
+    };
+    let places = two_places(from, directory.place(&to));
     if kind == AMALGAMATE {
         return match places {
-            Ok(places) => Ok(Op::Amalgamate(places)),
-            Err(refusal) => Ok(refusal),
+            Ok(places) => Some(Op::Amalgamate(places)),
+            Err(refusal) => Some(refusal),
         };
     }
-    let amount = fields.amount()?;
+    let Ok(amount) = fields.amount() else {
+        return None;
+    };
     match places {
-        Ok(places) => Ok(Op::SendPayment(places, amount)),
-        Err(refusal) => Ok(refusal),
+        Ok(places) => Some(Op::SendPayment(places, amount)),
+        Err(refusal) => Some(refusal),
     }
 }
 
 // A call's op. Every kind has a name first: it is read and looked up before the kind is examined, so
 // that the code for it stands once where this function is inlined.
 #[inline]
-#[tactic(auto, unfolding(crate::specs::inner::EntryReading::op_at))]
-fn read_op(fields: &mut Fields, directory: &Directory) -> Result<Op, FrameFault>
-    ensures { TakesField result fields.new (spec.op_at directory.now fields.old) }
+#[tactic(auto, unfolding(crate::specs::inner::EntryReading::op_at, crate::specs::inner::EntryReading::place_at))]
+fn read_op(fields: &mut Fields, directory: &Directory) -> Option<Op>
+    ensures { TakesIfRead result fields.new (spec.op_at directory.now fields.old) }
 {
     let Some(kind) = fields.byte() else {
-        return Err(FrameFault::BadLength);
+        return None;
     };
-    let place = read_place(fields, directory)?;
+    let Ok(name) = fields.name() else {
+        return None;
+    };
+    let place = directory.place(&name);
     match kind {
         BALANCE => match place {
-            Some(place) => Ok(Op::Balance(place)),
-            None => Ok(Op::NoCustomer),
+            Some(place) => Some(Op::Balance(place)),
+            None => Some(Op::NoCustomer),
         },
         DEPOSIT_CHECKING | TRANSACT_SAVINGS | WRITE_CHECK => {
             read_op_with_amount(kind, place, fields)
         }
         AMALGAMATE | SEND_PAYMENT => read_op_of_two(kind, place, fields, directory),
-        _ => Err(FrameFault::UnknownTag),
+        _ => None,
     }
-}
-
-#[inline]
-#[tactic(auto, unfolding(crate::specs::inner::EntryReading::entry_op_at))]
-fn read_entry_op(fields: &mut Fields, directory: &Directory) -> Result<EntryOp, FrameFault>
-    ensures { TakesField result fields.new (spec.entry_op_at directory.now fields.old) }
-{
-    let Some(number) = fields.u64() else {
-        return Err(FrameFault::BadLength);
-    };
-    let op = read_op(fields, directory)?;
-    Ok(EntryOp { number, op })
 }
 
 // The entry of a body, if it is one. Nothing may follow its fields.
 #[inline]
-#[tactic(auto, unfolding(crate::specs::inner::EntryReading::body_entry))]
+#[tactic(auto, unfolding(crate::specs::inner::EntryReading::body_entry, crate::specs::inner::EntryReading::entry_op_at))]
 fn entry_of(body: &[u8], directory: &Directory) -> Option<EntryOp>
     ensures { result ≡ result_ok (spec.body_entry directory.now body.now) }
 {
     let mut fields = Fields::of(body);
-    let Some(ENTRY) = fields.byte() else {
+    let (Some(ENTRY), Some(number)) = (fields.byte(), fields.u64()) else {
         return None;
     };
-    let Ok(entry) = read_entry_op(&mut fields, directory) else {
+    let Some(op) = read_op(&mut fields, directory) else {
         return None;
     };
-    if fields.is_empty() { Some(entry) } else { None }
+    if fields.is_empty() {
+        Some(EntryOp { number, op })
+    } else {
+        None
+    }
 }
 
 // The entry whose body has this length, after the two bytes that state it.

@@ -1,5 +1,6 @@
 -- What a reader of fields answers, and the bytes that it leaves.
 use Rattle.std.specs.Prelude.{◌≡◌, ℕ, Option, Some, None, Result, Ok, Err, List}
+use Rattle.std.specs.Result.{result_ok}
 use Rattle.sb_frames.specs.declared.fault.FrameFault.{FrameFault}
 use Rattle.sb_frames.specs.declared.fault.FrameFault.TheVariants.{BadLength}
 
@@ -12,3 +13,8 @@ TakesField (Err fault) rest read = read ≡ Err fault
 abbrev pub TakesNumber : {A : Type 0} → Option A → List ℕ → Result (A × List ℕ) FrameFault → Type 0
 TakesNumber (Some value) rest read = read ≡ Ok (value, rest)
 TakesNumber None rest read = read ≡ Err BadLength
+
+-- the same for a reader that doesn't tell faults apart
+abbrev pub TakesIfRead : {A : Type 0} → Option A → List ℕ → Result (A × List ℕ) FrameFault → Type 0
+TakesIfRead (Some value) rest read = read ≡ Ok (value, rest)
+TakesIfRead None rest read = result_ok read ≡ None
