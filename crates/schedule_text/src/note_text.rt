@@ -26,48 +26,48 @@ pub fn push_note(note: Note, out: &mut Vec<u8>) -> Result<(), AllocError>
     ensures { OnOk result (out.new.items ≡ out.old.items ++ unlines (note_line note ∷ [])) }
 {
     push_words(note, out)?;
-    out.push(b'\n')?;
-    Ok(())
+    out.extend_from_slice(b"\n")
 }
 
 // Writes a note without the end of its line.
 fn push_words(note: Note, out: &mut Vec<u8>) -> Result<(), AllocError>
     ensures { OnOk result (out.new.items ≡ out.old.items ++ note_line note) }
 {
-    match note {
-        Note::New(number) => push_numbered(b"new ", number, out),
-        Note::Repeat(number) => push_numbered(b"repeat ", number, out),
-        Note::Mismatch(number) => push_numbered(b"mismatch ", number, out),
-        Note::LogFull => out.extend_from_slice(b"log full"),
-        Note::Sent(position) => push_numbered(b"sent ", position, out),
-        Note::Resent(count) => push_numbered(b"resent ", count, out),
-        Note::Accepted(number) => push_numbered(b"accepted ", number, out),
-        Note::Held(number) => push_numbered(b"held ", number, out),
-        Note::Gap(size) => push_numbered(b"gap ", size, out),
-        Note::Busy(size) => push_numbered(b"busy ", size, out),
-        Note::Recorded(size) => push_numbered(b"recorded ", size, out),
-        Note::Odd => out.extend_from_slice(b"odd"),
-        Note::Kept(number) => push_numbered(b"kept ", number, out),
-        Note::OddAnswer(number) => push_numbered(b"odd ", number, out),
-        Note::Unknown(number) => push_numbered(b"unknown ", number, out),
-        Note::Took(number) => push_numbered(b"took ", number, out),
-        Note::HandFull => out.extend_from_slice(b"hand full"),
-        Note::Finished(number, reply) => push_finished(number, reply, out),
-        Note::Stranger(number) => push_numbered(b"stranger ", number, out),
-        Note::Marked(size) => push_numbered(b"marked ", size, out),
-        Note::Unfinished => out.extend_from_slice(b"busy"),
-        Note::StoreFault => out.extend_from_slice(b"store fault"),
-        Note::Restarted(size) => push_numbered(b"restarted ", size, out),
-        Note::Cut(size) => push_numbered(b"cut ", size, out),
-        Note::Pending(size) => push_numbered(b"pending ", size, out),
-        Note::Has(size) => push_numbered(b"has ", size, out),
-        Note::Donor(donor, size) => push_two(b"donor ", u64::from(donor), size, out),
-        Note::Gave(position) => push_numbered(b"gave ", position, out),
-        Note::Adopted(size) => push_numbered(b"adopted ", size, out),
-        Note::Behind(size) => push_numbered(b"behind ", size, out),
-        Note::Audit(found) => push_audit(found, out),
-        Note::Nothing => out.extend_from_slice(b"nothing"),
-    }
+    let (words, number): (&[u8], u64) = match note {
+        Note::New(number) => (b"new ", number),
+        Note::Repeat(number) => (b"repeat ", number),
+        Note::Mismatch(number) => (b"mismatch ", number),
+        Note::LogFull => return out.extend_from_slice(b"log full"),
+        Note::Sent(position) => (b"sent ", position),
+        Note::Resent(count) => (b"resent ", count),
+        Note::Accepted(number) => (b"accepted ", number),
+        Note::Held(number) => (b"held ", number),
+        Note::Gap(size) => (b"gap ", size),
+        Note::Busy(size) => (b"busy ", size),
+        Note::Recorded(size) => (b"recorded ", size),
+        Note::Odd => return out.extend_from_slice(b"odd"),
+        Note::Kept(number) => (b"kept ", number),
+        Note::OddAnswer(number) => (b"odd ", number),
+        Note::Unknown(number) => (b"unknown ", number),
+        Note::Took(number) => (b"took ", number),
+        Note::HandFull => return out.extend_from_slice(b"hand full"),
+        Note::Finished(number, reply) => return push_finished(number, reply, out),
+        Note::Stranger(number) => (b"stranger ", number),
+        Note::Marked(size) => (b"marked ", size),
+        Note::Unfinished => return out.extend_from_slice(b"busy"),
+        Note::StoreFault => return out.extend_from_slice(b"store fault"),
+        Note::Restarted(size) => (b"restarted ", size),
+        Note::Cut(size) => (b"cut ", size),
+        Note::Pending(size) => (b"pending ", size),
+        Note::Has(size) => (b"has ", size),
+        Note::Donor(donor, size) => return push_two(b"donor ", u64::from(donor), size, out),
+        Note::Gave(position) => (b"gave ", position),
+        Note::Adopted(size) => (b"adopted ", size),
+        Note::Behind(size) => (b"behind ", size),
+        Note::Audit(found) => return push_audit(found, out),
+        Note::Nothing => return out.extend_from_slice(b"nothing"),
+    };
+    push_numbered(words, number, out)
 }
 
 // Writes the result of comparing two replicas.
