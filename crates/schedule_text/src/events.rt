@@ -196,11 +196,15 @@ impl<'a> EventWalk<'a> {
             ((self.old ≡ []) × (self.new ≡ []))
             (λ event. self.old ≡ event ∷ self.new) }
     {
-        let (first, rest) = self.short.split_first()?;
+        let [first, rest @ ..] = self.short else {
+            return None;
+        };
         self.short = rest;
         match *first {
             ShortEvent::Ask { client, request } => {
-                let (call, calls) = self.calls.split_first()?;
+                let [call, calls @ ..] = self.calls else {
+                    return None;
+                };
                 self.calls = calls;
                 Some(Event::Ask {
                     client,
