@@ -38,21 +38,16 @@ pub(crate) fn read_head(text: &[u8]) -> Result<(u8, u8, &[u8]), TextFault>
     let Some((line, rest)) = next_line(text) else {
         return Err(BAD_HEAD);
     };
-    let Some((nodes, workers)) = head_of(line) else {
+    let Some((nodes, workers)) = number_words(line) else {
+        return Err(BAD_HEAD);
+    };
+    let (Some(nodes), Some(workers)) = (
+        count_of(nodes, MOST_NODES),
+        count_of(workers, MOST_WORKERS),
+    ) else {
         return Err(BAD_HEAD);
     };
     Ok((nodes, workers, rest))
-}
-
-// The numbers of replicas, and of workers of each, that a line says.
-fn head_of(line: &[u8]) -> Option<(u8, u8)>
-    ensures exact { MatchOption result
-        (head_of_words (words line.now) ≡ None)
-        (λ head. head_of_words (words line.now) ≡ Some (head.0, head.1)) }
-    ensures within { IfSome result (λ head. IsHead head.0 head.1) }
-{
-    let (nodes, workers) = number_words(line)?;
-    count_of(nodes, MOST_NODES).zip(count_of(workers, MOST_WORKERS))
 }
 
 // The words for the two numbers of a line that is otherwise spelled as a head.
@@ -83,8 +78,8 @@ fn count_of(word: &[u8], most: u8) -> Option<u8>
         ((number : ℕ) → asks.read_number word.now ≡ Some number → 1 ≤ number → most < number)
         (λ count. (asks.read_number word.now ≡ Some count) × (1 ≤ count) × (count ≤ most)) }
 {
-    match u8::try_from(read_number(word)?) {
-        Ok(count) if 1 <= count && count <= most => Some(count),
+    match read_number(word) {
+        Some(number) if 1 <= number && number <= u32::from(most) => Some(number as u8),
         _ => None,
     }
 }
