@@ -33,7 +33,9 @@ pub fn read_event(line: &[u8]) -> Result<Event, EventFault>
 fn event_of(mut words: Words) -> Result<Event, EventFault>
     ensures { result ≡ event_of_words words.entry }
 {
-    let verb = words.next().ok_or(EventFault::UnknownEvent)?;
+    let Some(verb) = words.next() else {
+        return Err(EventFault::UnknownEvent);
+    };
     if is(verb, b"ask") {
         return ask_event(words);
     }

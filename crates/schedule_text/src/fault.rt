@@ -4,8 +4,8 @@ ghost use Rattle.schedule_text.specs.declared.fault.EventFault.TheVariants as ev
 ghost use Rattle.schedule_text.specs.declared.fault.TextFault.TheVariants.{OutOfMemory};
 
 use sb_calls::CallFault;
-use sb_rows::{LineFault, WrongWords};
-use std::alloc::{AllocError, AllocFailed};
+use sb_rows::LineFault;
+use std::alloc::AllocError;
 use thiserror::Error;
 
 /// The first fault, in this order, of a line that isn't an event.
@@ -24,14 +24,6 @@ pub enum EventFault {
     /// The call of an ask is at fault.
     #[error(transparent)]
     Call(CallFault),
-}
-
-impl From<WrongWords> for EventFault {
-    ghost from_gives = { λ _ fault. fault ≡ event.WrongWords };
-
-    fn from(_fault: WrongWords) -> EventFault {
-        EventFault::WrongWords
-    }
 }
 
 impl From<CallFault> for EventFault {
@@ -76,14 +68,6 @@ impl From<AllocError> for TextFault {
     ghost from_gives = { λ _ fault. fault ≡ OutOfMemory };
 
     fn from(_: AllocError) -> TextFault {
-        TextFault::OutOfMemory
-    }
-}
-
-impl<T: Drop> From<AllocFailed<T>> for TextFault {
-    ghost from_gives = { λ _ fault. fault ≡ OutOfMemory };
-
-    fn from(_: AllocFailed<T>) -> TextFault {
         TextFault::OutOfMemory
     }
 }

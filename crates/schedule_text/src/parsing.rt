@@ -22,7 +22,9 @@ pub(crate) fn parse_one(words: Words) -> Result<u32, EventFault>
     ensures { (event : ℕ → AnyEvent)
         → result_map_both event (λ fault. fault) result ≡ event_of_one event words.entry }
 {
-    let word = words.last()?;
+    let Ok(word) = words.last() else {
+        return Err(EventFault::WrongWords);
+    };
     read_number(word).ok_or(EventFault::BadNumber)
 }
 
