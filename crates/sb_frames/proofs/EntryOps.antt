@@ -209,7 +209,7 @@ entry_with number op = record { number = number; op = op }
 
 entry_op_is_entrys : (names : List (List ℕ)) (bytes : List ℕ) (entry : EntryOp) (rest : List ℕ) → entry_op_at names bytes ≡ Ok (entry, rest)
     → (call : Call) × (entry_at bytes ≡ Ok (Entry entry.number call, rest)) × (entry.op ≡ op_of names call)
-unfolding entry_op_at entry_at
+unfolding entry_at
 entry_op_is_entrys names bytes entry rest e =
     let number = first_step (unsigned_at w64 bytes) (λ number. op_at names number.1 >>= λ op. made (entry_with number.0 op.0) op.1) (entry, rest) e in
     let op = first_step (op_at names number.0.1) (λ op. made (entry_with number.0.0 op.0) op.1) (entry, rest) number.2 in
@@ -228,7 +228,7 @@ entry_parts number other call another e = (cc, cc)
 
 entry_has_op : (names : List (List ℕ)) (bytes : List ℕ) (number : ℕ) (call : Call) (rest : List ℕ) → entry_at bytes ≡ Ok (Entry number call, rest)
     → entry_op_at names bytes ≡ Ok (entry_with number (op_of names call), rest)
-unfolding entry_op_at entry_at
+unfolding entry_at
 entry_has_op names bytes number call rest e =
     let first = first_step (unsigned_at w64 bytes) (λ n. call_at n.1 >>= λ c. made (Entry n.0 c.0) c.1) (Entry number call, rest) e in
     let read = first_step (call_at first.0.1) (λ c. made (Entry first.0.0 c.0) c.1) (Entry number call, rest) first.2 in

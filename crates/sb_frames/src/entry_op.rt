@@ -128,7 +128,7 @@ fn read_op(fields: &mut Fields, directory: &Directory) -> Option<Op>
 
 // The entry of a body, if it is one. Nothing may follow its fields.
 #[inline]
-#[tactic(auto, unfolding(crate::specs::inner::EntryReading::body_entry, crate::specs::inner::EntryReading::entry_op_at))]
+#[tactic(auto, unfolding(crate::specs::inner::EntryReading::body_entry))]
 fn entry_of(body: &[u8], directory: &Directory) -> Option<EntryOp>
     ensures { result ≡ result_ok (spec.body_entry directory.now body.now) }
 {

@@ -54,7 +54,7 @@ op_at names bytes = do
   op_of_kind names kind.0 place.0 place.1
 
 -- the fields of an entry
-unfoldable pub entry_op_at : List (List ℕ) → List ℕ → Result (EntryOp × List ℕ) FrameFault
+abbrev pub entry_op_at : List (List ℕ) → List ℕ → Result (EntryOp × List ℕ) FrameFault
 entry_op_at names bytes = do
   number ← unsigned_at w64 bytes
   op ← op_at names number.1
