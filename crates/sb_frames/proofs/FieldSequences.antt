@@ -76,6 +76,13 @@ three_again {s = s} {t = t} {u = u} F G H make a b c rest v w x =
 
 -- ---- after a tag
 
+-- a tag and two fields, and one more field behind them
+pub one_behind : (before fields after : List ℕ) (tag : ℕ) (first second last : List ℕ) → fields ≡ before ++ (tag ∷ (first ++ second)) → after ≡ fields ++ last
+    → after ≡ before ++ (tag ∷ (first ++ (second ++ last)))
+one_behind before fields after tag first second last e d =
+    d ∙ ap (λ (xs : List ℕ). xs ++ last) e ∙ append_assoc before (tag ∷ (first ++ second)) last
+    ∙ ap (λ (xs : List ℕ). before ++ (tag ∷ xs)) (append_assoc first second last)
+
 -- the tag and the bytes after it are the value's spelling, followed by the rest
 abbrev pub Behind : {Z : Type 0} → (Z → Type 0) → (Z → List ℕ) → ℕ → List ℕ → Z → List ℕ → Type 0
 Behind Valid spell tag bytes z rest = Valid z × (tag ∷ bytes ≡ spell z ++ rest)
