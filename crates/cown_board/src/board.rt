@@ -188,10 +188,11 @@ impl<B: Behaviour> Board<B> {
         if self.unfinished == OPEN_BEHAVIOURS {
             return Err(SubmitFault::Busy);
         }
-        if self.base as usize + self.log.len() == LOG_CALLS {
+        let position = self.log.len() as u64;
+        let length = self.base + position;
+        if length == LOG_CALLS as u64 {
             return Err(SubmitFault::LogFull);
         }
-        let position = self.log.len() as u64;
         let unfinished = self.unfinished + 1;
         if make_room(&mut self.log, &mut self.states, 1).is_err() {
             return Err(SubmitFault::OutOfMemory);
@@ -202,7 +203,7 @@ impl<B: Behaviour> Board<B> {
         self.log.push_reserved(behaviour);
         self.states.push_reserved(State::Waiting);
         self.unfinished = unfinished;
-        Ok(self.base + position + 1)
+        Ok(length + 1)
     }
 
     /// Hands out the ready behaviour that has this many ready ones before it; it is out from then
@@ -251,7 +252,7 @@ impl<B: Behaviour> Board<B> {
         if !is_out_at(&self.columns, &self.log, &self.states, position, &done) {
             return Err(done);
         }
-        let cowns = self.log[position as usize].cowns();
+        let cowns = done.behaviour().cowns();
         let cowns = cowns.as_slice();
         let (reply, outputs) = done.into_effect();
         let outputs = outputs.as_slice();

@@ -1,12 +1,10 @@
-use Rattle.std.proofs.Common.{◌≡◌, ◌+◌, ◌≤◌, suc, true, false, Some, Err, length, refl, sym, ap, ◌∙◌, subst, arith}
-use Rattle.std.specs.Prelude.{IfSome, slice_get}
+use Rattle.std.proofs.Common.{◌≡◌, ◌+◌, ◌≤◌, suc, true, false, Err, length, refl, sym, ap, ◌∙◌, subst, arith}
+use Rattle.std.specs.Prelude.{IfSome}
 use Rattle.std.proofs.lemmas.Bool.{both_ways}
-use Rattle.std.proofs.lemmas.Option.{slice_get_read}
 use Rattle.sb_calls.specs.Cowns.{AreBelow, AreCownValues, IsRising, contents_of, write_cowns}
 use Rattle.cown_queue.specs.Queues.{IsInFront, Releases, fronts_of}
 use Rattle.cown_board.proofs.JobFinish.{not_numbered, not_inside, refused_done, accepted_done, released_in_front, some_unfinished, outputs_held, board_finished, fronts_behind, room_for_fronts, cowns_of_cut, unfinished_in_cut, finishes_from}
 use Rattle.cown_board.proofs.JobTake.{declared_in_held, seen}
-use Rattle.cown_board.proofs.LogLaws.{injective}
 use Rattle.cown_board.proofs.CallEffects.{played_refused, played_finished}
 use Rattle.cown_board.specs.Board.{BoardOf, IsOutHere}
 use Rattle.cown_board.specs.inner.Links.{ComesForward}
@@ -22,13 +20,7 @@ numbered g c = sym c.number-number.ensures ∙ c.in-Some.ensures.1
 
 -- the cowns are those that its behaviour declares
 declared : (g : Over) (c : After-as_slice-cowns g) → c.as_slice-cowns.result.now ≡ g.B.Behaviour.touches c.args.done.behaviour
-declared g c =
-    let log = c.self.inside.log.items in
-    let here : slice_get log c.in-Some.position ≡ Some c.index.result.now =
-    slice_get_read log (length log) c.in-Some.position c.index.result.now refl
-    (omega (arith, c.in-Some.ensures.0, c.len.ensures, c.self.inside.log.ok)) c.index.ensures in
-    let same = injective (sym here ∙ (c.is_out_at.ensures.0 c.if-not-is_out_at.false).1) in
-    c.as_slice-cowns.ensures.value ∙ c.cowns-cowns.ensures ∙ ap g.B.Behaviour.touches same
+declared g c = c.as_slice-cowns.ensures.value ∙ c.cowns-cowns.ensures ∙ ap g.B.Behaviour.touches c.behaviour.ensures
 
 pub returns-in_default-clause-accepted : goal.returns-in_default-clause-accepted
 returns-in_default-clause-accepted g c =
@@ -61,9 +53,6 @@ returns-then-not-is_out_at-clause-accepted g c =
 
 pub returns-then-not-is_out_at-clause-outcome : goal.returns-then-not-is_out_at-clause-outcome
 returns-then-not-is_out_at-clause-outcome g c = (refl, refl)
-
-pub index-requires : goal.index-requires
-index-requires g c = omega (arith, c.in-Some.ensures.0, c.len.ensures)
 
 pub finish-requires-clause-rising : goal.finish-requires-clause-rising
 finish-requires-clause-rising g c =

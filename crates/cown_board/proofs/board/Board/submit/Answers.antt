@@ -1,10 +1,10 @@
-use Rattle.std.proofs.Common.{◌≤◌, ◌≡◌, ◌+◌, true, false, vec_capacity, Ok, Err, ◌++◌, ◌∷◌, [], List, length, ap, sym, ◌∙◌, subst, arith}
+use Rattle.std.proofs.Common.{◌≤◌, ◌≡◌, ◌+◌, true, false, vec_capacity, Ok, Err, ◌++◌, ◌∷◌, [], List, length, refl, ap, sym, ◌∙◌, subst, arith}
 use Rattle.std.specs.Prelude.{Result, OnErr, OnOk}
 use Rattle.std.specs.Result.{is_err}
 use Rattle.std.proofs.lemmas.Bool.{false≢true}
 use Rattle.sb_calls.specs.Cowns.{AreBelow, contents_of}
 use Rattle.cown_board.specs.Board.{BoardOf}
-use Rattle.cown_board.proofs.BoardSteps.{IsBoard-pushed, IsBoard-stays, few_ready, links_submitted}
+use Rattle.cown_board.proofs.BoardSteps.{IsBoard-pushed, IsBoard-stays, few_ready, links_submitted, one_each}
 use Rattle.cown_board.proofs.CallEffects.{played_busy, played_full, played_no_memory, played_put}
 use Rattle.cown_board.specs.inner.Links.{AddsToLinks}
 use Rattle.cown_board.specs.BoardCalls.{StaysTrueToLog, Submitted}
@@ -21,6 +21,17 @@ on_err (Err fault) is p = p
 on_ok : {T E P : Type 0} (r : Result T E) → is_err r ≡ false → OnOk r P → P
 on_ok (Ok value) is p = p
 on_ok (Err fault) is p = absurd (false≢true (sym is))
+
+pub submit-requires-clause-cowns : goal.submit-requires-clause-cowns
+submit-requires-clause-cowns g c =
+    let touches = g.B.Behaviour.touches in
+    rw (one_each touches g.B.Behaviour.effect c.self.invariant)
+    (subst (λ (v : BoardOf g.row.B.Denot). AreBelow (length (contents_of v.opening)) (touches c.args.behaviour)) (sym c.self.view_is) c.requires)
+
+pub submit-requires-clause-counts : goal.submit-requires-clause-counts
+submit-requires-clause-counts g c is =
+    let counted = (c.self.invariant.links.linked is).counts.same_length in
+    omega (arith, counted, c.self.inside.links.ready.behind.ok, c.self.inside.log.ok, c.len-position.ensures)
 
 pub submit-requires-clause-ready : goal.submit-requires-clause-ready
 submit-requires-clause-ready g c is =
@@ -63,7 +74,20 @@ invariant_of-self-2 g c =
     (λ is. subst (λ n. AddsToLinks n (touches c.args.behaviour) links new) position (put.linked is))
     put.unlinked (subst (λ n. n + 1 ≤ vec_capacity new.ready.behind) position put.counts) put.ready)
     c.if-self-eq-OPEN_BEHAVIOURS.false
-    (λ full. c.if-self-len-eq-LOG_CALLS.false (omega (arith, full, c.len.ensures, c.self.inside.log.ok)))
+    (λ full. c.if-length.false (omega (arith, full, c.len-position.ensures, c.self.inside.log.ok)))
+
+pub returns-then-is_err-clause-err : goal.returns-then-is_err-clause-err
+returns-then-is_err-clause-err g c = let room = c.make_room.ensures in rw (room.log.0, room.states.0) c.self.view_is
+
+pub returns-then-is_err-2-clause-err : goal.returns-then-is_err-2-clause-err
+returns-then-is_err-2-clause-err g c = let room = c.make_room.ensures in rw (room.log.0, room.states.0) c.self.view_is
+
+pub returns-clause-ok : goal.returns-clause-ok
+returns-clause-ok g c =
+    let room = c.make_room.ensures in
+    let pushed = c.push_reserved.ensures.items ∙ ap (λ (xs : List g.row.B.Denot). xs ++ c.args.behaviour ∷ []) room.log.0 in
+    let waits = c.push_reserved-2.ensures.items ∙ ap (λ xs. xs ++ Waiting ∷ []) room.states.0 in
+    rw (pushed, waits, sym c.self.view_is) refl
 
 pub returns-then-self-eq-OPEN_BEHAVIOURS-clause-played : goal.returns-then-self-eq-OPEN_BEHAVIOURS-clause-played
 returns-then-self-eq-OPEN_BEHAVIOURS-clause-played g c =
@@ -72,13 +96,13 @@ returns-then-self-eq-OPEN_BEHAVIOURS-clause-played g c =
     subst (λ (v : BoardOf g.row.B.Denot). StaysTrueToLog touches effect v (Submitted c.args.behaviour (Err Busy)) v) c.self.view_is
     (played_busy touches effect c.self.invariant c.args.behaviour c.if-self-eq-OPEN_BEHAVIOURS.true)
 
-pub returns-then-self-len-eq-LOG_CALLS-clause-played : goal.returns-then-self-len-eq-LOG_CALLS-clause-played
-returns-then-self-len-eq-LOG_CALLS-clause-played g c =
+pub returns-then-length-clause-played : goal.returns-then-length-clause-played
+returns-then-length-clause-played g c =
     let touches = g.B.Behaviour.touches in
     let effect = g.B.Behaviour.effect in
     subst (λ (v : BoardOf g.row.B.Denot). StaysTrueToLog touches effect v (Submitted c.args.behaviour (Err LogFull)) v) c.self.view_is
     (played_full touches effect c.self.invariant c.args.behaviour c.if-self-eq-OPEN_BEHAVIOURS.false
-    (omega (arith, c.if-self-len-eq-LOG_CALLS.true, c.len.ensures, c.self.inside.log.ok)))
+    (omega (arith, c.if-length.true, c.len-position.ensures, c.self.inside.log.ok)))
 
 pub returns-then-is_err-clause-played : goal.returns-then-is_err-clause-played
 returns-then-is_err-clause-played g c =
@@ -87,7 +111,7 @@ returns-then-is_err-clause-played g c =
     let room = c.make_room.ensures in
     rw (room.log.0, room.states.0, sym c.self.view_is)
     (played_no_memory touches effect c.self.invariant c.args.behaviour c.if-self-eq-OPEN_BEHAVIOURS.false
-    (λ full. c.if-self-len-eq-LOG_CALLS.false (omega (arith, full, c.len.ensures, c.self.inside.log.ok))))
+    (λ full. c.if-length.false (omega (arith, full, c.len-position.ensures, c.self.inside.log.ok))))
 
 pub returns-then-is_err-2-clause-played : goal.returns-then-is_err-2-clause-played
 returns-then-is_err-2-clause-played g c =
@@ -96,7 +120,7 @@ returns-then-is_err-2-clause-played g c =
     let room = c.make_room.ensures in
     rw (room.log.0, room.states.0, sym c.self.view_is)
     (played_no_memory touches effect c.self.invariant c.args.behaviour c.if-self-eq-OPEN_BEHAVIOURS.false
-    (λ full. c.if-self-len-eq-LOG_CALLS.false (omega (arith, full, c.len.ensures, c.self.inside.log.ok))))
+    (λ full. c.if-length.false (omega (arith, full, c.len-position.ensures, c.self.inside.log.ok))))
 
 pub returns-clause-played : goal.returns-clause-played
 returns-clause-played g c =
@@ -107,5 +131,5 @@ returns-clause-played g c =
     let waits = c.push_reserved-2.ensures.items ∙ ap (λ xs. xs ++ Waiting ∷ []) room.states.0 in
     rw (pushed, waits, sym c.self.view_is)
     (played_put touches effect c.self.invariant c.args.behaviour (c.self.inside.base + c.len-position.result + 1) c.if-self-eq-OPEN_BEHAVIOURS.false
-    (λ full. c.if-self-len-eq-LOG_CALLS.false (omega (arith, full, c.len.ensures, c.self.inside.log.ok)))
+    (λ full. c.if-length.false (omega (arith, full, c.len-position.ensures, c.self.inside.log.ok)))
     (omega (arith, c.len-position.ensures, room.log.1, c.self.inside.log.ok)))
