@@ -1,5 +1,5 @@
 -- A crew's bench, once it is closed.
-use Rattle.std.proofs.Common.{◌≡◌, ℕ, ◌+◌, ◌≤◌, Option, Some, None, List, [], ◌∷◌, ◌++◌, length, map, replicate, sym, ap, ◌∙◌, append_assoc, subst, arith}
+use Rattle.std.proofs.Common.{◌≡◌, ℕ, ◌+◌, ◌<◌, ◌≤◌, Option, Some, None, List, [], ◌∷◌, ◌++◌, length, length-append, map, replicate, sym, ap, ◌∙◌, append_assoc, subst, arith}
 use Rattle.std.specs.Prelude.{◌==◌, IfSome, count_by}
 use Rattle.std.specs.List.{All}
 use Rattle.std.specs.Option.{option_to_list}
@@ -37,6 +37,10 @@ module _ {A : Type 0} where
       → (before ++ x ∷ []) ++ rest ≡ all
   one_more_taken before rest left x all first whole =
       append_assoc before (x ∷ []) rest ∙ ap (λ l. before ++ l) (sym first) ∙ whole
+
+  -- as long as one is left, fewer were taken than there are
+  pub some_left : (before rest left : List A) (x : A) (all : List A) → left ≡ x ∷ rest → before ++ left ≡ all → length before < length all
+  some_left before rest left x all first whole = omega (arith, ap length first, ap length whole, length-append before left)
 
   pub one_more_put : (front more old new : List A) (x : A) → new ≡ old ++ x ∷ [] → old ≡ front ++ more → new ≡ front ++ (more ++ x ∷ [])
   one_more_put front more old new x put whole = put ∙ ap (λ l. l ++ x ∷ []) whole ∙ append_assoc front more (x ∷ [])

@@ -3,6 +3,7 @@ use Rattle.std.proofs.Common.{◌≡◌, ◌+◌, List, ◌∷◌, ◌++◌, [],
 use Rattle.std.proofs.lemmas.List.Elements.{All-head, All-push, All-rest}
 use Rattle.std.specs.List.{All}
 use Rattle.std.specs.Vec.Iter.{into_iter_items}
+use Rattle.cown_workers.proofs.ClosedBenches.{one_more_taken, some_left}
 use Rattle.cown_workers.proofs.in_threads.workers_at.Goals as goal
 
 -- one more worker, and one more pass
@@ -19,15 +20,9 @@ worker_at-requires g c =
 pub push_reserved-requires : goal.push_reserved-requires
 push_reserved-requires g c =
     let before = c.loop-pass.invariant in
-    omega (
-      arith,
-      before.as_many,
-      before.room,
-      c.loop-pass.workers.ok,
-      ap length before.rest,
-      length-append c.loop-pass.yielded (into_iter_items c.loop-pass.pass-iterator),
-      ap length c.in-Some.ensures.steps.0,
-    )
+    let more = some_left c.loop-pass.yielded (into_iter_items c.next.new.self) (into_iter_items c.loop-pass.pass-iterator) c.in-Some.pass
+    c.args.passes.items c.in-Some.ensures.steps.0 before.rest in
+    omega (arith, more, before.as_many, before.room, c.loop-pass.workers.ok)
 
 pub loop-pass-preserved : goal.loop-pass-preserved
 loop-pass-preserved g c =
@@ -37,8 +32,8 @@ loop-pass-preserved g c =
       left = All-rest (λ pass. pass.bench ≡ c.args.bench.now) c.in-Some.pass (into_iter_items c.next.new.self)
           (into_iter_items c.loop-pass.pass-iterator) c.in-Some.ensures.steps.0
           before.left;
-      rest = append_assoc c.loop-pass.yielded (c.in-Some.pass ∷ []) (into_iter_items c.next.new.self)
-          ∙ ap (λ l. c.loop-pass.yielded ++ l) (sym c.in-Some.ensures.steps.0) ∙ before.rest;
+      rest = one_more_taken c.loop-pass.yielded (into_iter_items c.next.new.self) (into_iter_items c.loop-pass.pass-iterator) c.in-Some.pass
+          c.args.passes.items c.in-Some.ensures.steps.0 before.rest;
       room = rw pushed.capacity before.room;
       as_many = one_more_each _ c.loop-pass.workers.items c.loop-pass.yielded _ c.in-Some.pass pushed.items before.as_many;
       bench = rw pushed.items (All-push (λ w. w.bench.now ≡ c.args.bench.now) c.loop-pass.workers.items _ before.bench c.in_ok-worker_at.ensures);

@@ -4,23 +4,23 @@ use Rattle.std.proofs.lemmas.List.{length-map}
 use Rattle.std.proofs.lemmas.List.Elements.{All-push}
 use Rattle.std.specs.Vec.Iter.{into_iter_items}
 use Rattle.cown_bench.specs.BenchPasses.{WorkerOf}
-use Rattle.cown_workers.proofs.ClosedBenches.{one_more_alike, one_more_put, one_more_taken}
+use Rattle.cown_workers.proofs.ClosedBenches.{one_more_alike, one_more_put, one_more_taken, some_left}
 use Rattle.cown_workers.specs.inner.PassPicks.{EndsAtStop}
 use Rattle.cown_workers.proofs.thread_pool.join_each.Goals as goal
 
 pub push_reserved-requires : goal.push_reserved-requires
 push_reserved-requires g c =
     let before = c.loop-thread.invariant in
+    let more = some_left c.loop-thread.yielded (into_iter_items c.next.new.self) (into_iter_items c.loop-thread.thread-iterator) c.in-Some.thread
+    c.args.threads.items c.in-Some.ensures.steps.0 before.rest in
     omega (
       arith,
+      more,
       before.room,
       c.loop-thread.passes.ok,
       ap length before.items,
       length-append c.args.passes.items before.workers,
       simp length-map at (ap length before.benches),
-      ap length before.rest,
-      length-append c.loop-thread.yielded (into_iter_items c.loop-thread.thread-iterator),
-      ap length c.in-Some.ensures.steps.0,
     )
 
 pub loop-thread-preserved : goal.loop-thread-preserved
