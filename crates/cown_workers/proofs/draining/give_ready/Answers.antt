@@ -30,3 +30,15 @@ loop-preserved g c =
 
 pub returns-clause-exchanged : goal.returns-clause-exchanged
 returns-clause-exchanged g c = Exchanged_trans g.C.Crew.acts c.loop.invariant.exchanged c.give_first.ensures.exchanged
+
+pub returns-clause-log : goal.returns-clause-log
+returns-clause-log g c = PreservesLog_trans c.loop.invariant.drains c.give_first.ensures.log
+
+pub returns-clause-unfinished : goal.returns-clause-unfinished
+returns-clause-unfinished g c = no_more _ _ _ c.give_first.ensures.unfinished c.loop.invariant.unfinished
+
+pub returns-clause-none_out : goal.returns-clause-none_out
+returns-clause-none_out g c nothing none = c.give_first.ensures.none_out nothing (c.loop.invariant.none_out nothing none)
+
+pub returns-clause-rest : goal.returns-clause-rest
+returns-clause-rest g c = c.give_first.ensures.rest ∙ c.loop.invariant.rest

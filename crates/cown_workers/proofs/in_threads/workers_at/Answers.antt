@@ -1,5 +1,5 @@
 -- One more pass has a worker.
-use Rattle.std.proofs.Common.{◌≡◌, ◌+◌, List, ◌∷◌, ◌++◌, [], length, sym, ap, ◌∙◌, subst, append_assoc, length-append, arith}
+use Rattle.std.proofs.Common.{◌≡◌, ◌+◌, List, ◌∷◌, ◌++◌, [], length, sym, ap, ◌∙◌, subst, length-append, arith}
 use Rattle.std.proofs.lemmas.List.Elements.{All-head, All-push, All-rest}
 use Rattle.std.specs.List.{All}
 use Rattle.std.specs.Vec.Iter.{into_iter_items}
@@ -38,3 +38,6 @@ loop-pass-preserved g c =
       as_many = one_more_each _ c.loop-pass.workers.items c.loop-pass.yielded _ c.in-Some.pass pushed.items before.as_many;
       bench = rw pushed.items (All-push (λ w. w.bench.now ≡ c.args.bench.now) c.loop-pass.workers.items _ before.bench c.in_ok-worker_at.ensures);
     }
+
+pub returns-clause-bench : goal.returns-clause-bench
+returns-clause-bench g c = c.loop-pass.invariant.bench
