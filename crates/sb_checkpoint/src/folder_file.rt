@@ -87,6 +87,15 @@ fn write_synced<W: Write + OpenFile>(file: &mut W, bytes: &[u8]) -> io::Result<(
     file.sync_all()
 }
 
+// What is answered if a file can't be opened: this if there is none, else a fault.
+fn missing<T: Drop>(error: io::Error, none: T) -> Result<T, StoreFault> {
+    if error.kind() == ErrorKind::NotFound {
+        Ok(none)
+    } else {
+        Err(StoreFault::Device)
+    }
+}
+
 // The length of a file, or 0 if it is unknown. Then room is made as the bytes come.
 fn length_of<F: OpenFile>(file: &F) -> usize {
     match file.metadata() {
@@ -176,8 +185,7 @@ impl<F: Files + Drop> FileWithSpare for FolderFile<F> {
                 let room = length_of(&file);
                 Ok(Some(read_whole(self.alloc, room, &mut file)?))
             }
-            Err(error) if error.kind() == ErrorKind::NotFound => Ok(None),
-            Err(_) => Err(StoreFault::Device),
+            Err(error) => missing(error, None),
         }
     }
 
@@ -185,8 +193,7 @@ impl<F: Files + Drop> FileWithSpare for FolderFile<F> {
     fn has_content(&mut self, bytes: &[u8]) -> Result<bool, StoreFault> {
         match fs::open(&self.files, &self.path) {
             Ok(mut file) => reads_exactly(&mut file, bytes),
-            Err(error) if error.kind() == ErrorKind::NotFound => Ok(false),
-            Err(_) => Err(StoreFault::Device),
+            Err(error) => missing(error, false),
         }
     }
 }
