@@ -5,6 +5,7 @@ ghost use Rattle.sb_checkpoint.specs.MemoryStore.{memory_model, saturating_incre
 use crate::store::{CheckpointStore, StoreFault};
 use std::alloc::Global;
 use std::marker::Model;
+use std::mem;
 
 /// How a put ends.
 #[derive(Clone, Copy, Debug, PartialEq, Eq)]
@@ -97,15 +98,18 @@ impl CheckpointStore for MemoryStore {
 
     fn put(&mut self, bytes: &[u8]) -> Result<(), StoreFault> {
         let copy = copy_of(self.alloc, bytes)?;
-        let how = self.next;
-        if how != How::Old {
-            self.bytes = Some(copy);
+        let how = mem::replace(&mut self.next, How::Ok);
+        match how {
+            How::Ok => {
+                self.bytes = Some(copy);
+                Ok(())
+            }
+            How::Old => Err(self.count_failure()),
+            How::New => {
+                self.bytes = Some(copy);
+                Err(self.count_failure())
+            }
         }
-        if how == How::Ok {
-            return Ok(());
-        }
-        self.next = How::Ok;
-        Err(self.count_failure())
     }
 
     fn get(&mut self) -> Result<Option<Vec<u8>>, StoreFault> {
