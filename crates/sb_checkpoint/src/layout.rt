@@ -4,7 +4,7 @@ ghost use Rattle.sb_checkpoint.specs.inner.Layouts.{layout_of};
 ghost use Rattle.sb_checkpoint.specs.Reading as spec;
 
 /// The layout of a checkpoint. The first is only read, the second also keeps the opening total.
-#[derive(Clone, Copy, PartialEq, Eq)]
+#[derive(Clone, Copy)]
 pub(crate) enum Layout {
     First,
     Second,

@@ -104,7 +104,7 @@ fn check_opening(
         (λ _. opening_fault (layout_of layout) bytes.now opening_total ≡ None)
         (IsFaultOf (opening_fault (layout_of layout) bytes.now opening_total)) }
 {
-    if layout == Layout::Second && stated_opening(bytes, customers) != opening_total {
+    if matches!(layout, Layout::Second) && stated_opening(bytes, customers) != opening_total {
         return Err(CheckpointFault::WrongOpening);
     }
     Ok(())
