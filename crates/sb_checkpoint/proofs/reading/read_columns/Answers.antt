@@ -3,6 +3,7 @@ use Rattle.std.specs.Int.{cast_signed}
 use Rattle.std.specs.List.{list_any}
 use Rattle.std.specs.Prelude.{FitsSigned}
 use Rattle.std.proofs.lemmas.Int.{to_z-of_z}
+use Rattle.std.proofs.lemmas.Result.{err_from_is_err_and}
 use Rattle.lane_audit.specs.Columns.{total}
 use Rattle.sb_rows.specs.Balances.{Balances, IsBalances}
 use Rattle.sb_checkpoint.specs.Reading.{amounts_at, is_below_zero, is_past_limit, stated_checking, stated_savings}
@@ -20,6 +21,16 @@ from_parts-columns-requires c =
     (sym (c.if-is_past_limit.ensures ∙ ap (list_any is_past_limit) c.deref.ensures.value))
     (sym (c.if-is_past_limit-2.ensures ∙ ap (list_any is_past_limit) c.deref-else-is_past_limit.ensures.value))
     (sym (c.if-has_negative.ensures ∙ ap (list_any is_below_zero) c.deref-2.ensures.value))
+
+pub returns-in_err-savings : goal.returns-in_err-savings
+returns-in_err-savings c =
+    let p = err_from_is_err_and c.from_residual.result c.from_residual.ensures.1 in
+    rw (p.1, p.2) tt
+
+pub returns-in_err-checking : goal.returns-in_err-checking
+returns-in_err-checking c =
+    let p = err_from_is_err_and c.from_residual-in_err-checking.result c.from_residual-in_err-checking.ensures.1 in
+    rw (p.1, p.2) tt
 
 pub returns : goal.returns
 returns c =
