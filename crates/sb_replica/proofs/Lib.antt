@@ -11,4 +11,5 @@ pub mod ReceivedEntries
 pub mod ReceivedStreams
 pub mod Refusals
 pub mod RightHeads
+pub mod StoreReads
 pub mod TakenEntries

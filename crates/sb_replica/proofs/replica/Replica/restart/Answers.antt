@@ -1,10 +1,11 @@
-use Rattle.std.proofs.Common.{◌≡◌, inl, inr, Option, option_map, List, refl, sym, ap, subst, ◌∙◌}
+use Rattle.std.proofs.Common.{◌≡◌, Option, option_map, List, sym, ap, subst, ◌∙◌}
 use Rattle.std.proofs.lemmas.Result.{err_from_is_err_and}
 use Rattle.sb_calls.specs.declared.op.Op.{Op}
 use Rattle.sb_checkpoint.specs.Stores.{StoreDoes}
 use Rattle.cown_board.specs.Board.{length_of}
 use Rattle.sb_replica.specs.Replica.{ReplicaOf}
-use Rattle.sb_replica.specs.Restarting.{IsRestartFaultOf, Restarts, of_store_fault}
+use Rattle.sb_replica.specs.Restarting.{Restarts}
+use Rattle.sb_replica.proofs.StoreReads.{store_fails, refuses}
 use Rattle.sb_replica.proofs.replica.Replica.restart.Goals as goal
 
 pub replace_log-requires-clause-customers : goal.replace_log-requires-clause-customers
@@ -16,36 +17,14 @@ replace_log-requires-clause-replies g c = c.in_ok-log.ensures.replies
 pub returns-in_err-content-clause-err : goal.returns-in_err-content-clause-err
 returns-in_err-content-clause-err g c =
     let p = err_from_is_err_and c.from_residual.result c.from_residual.ensures.1 in
-    rw (p.1, p.2)
-    (subst
-    (λ (old : ReplicaOf g.row.S.Denot).
-    IsRestartFaultOf (StoreDoes g.S.CheckpointStore.model) old (of_store_fault c.in_err-content.field-0.0) (record {
-      id = c.self.inside.id;
-      names = c.self.inside.directory;
-      opening = c.self.inside.opening;
-      board = c.self.inside.log.board;
-      held = c.self.inside.log.held;
-      store = c.get.new.self;
-    }))
-    c.self.view_is
-    (refl, inl (c.in_err-content.field-0.0, c.in_err-content.ensures, refl)))
+    rw (p.1, p.2) (store_fails g.S.CheckpointStore.model c.self.view_is c.get.new.self c.in_err-content.field-0.0 c.in_err-content.ensures)
 
 pub returns-in_err-log-clause-err : goal.returns-in_err-log-clause-err
 returns-in_err-log-clause-err g c =
     let p = err_from_is_err_and c.from_residual-in_err-log.result c.from_residual-in_err-log.ensures.1 in
     rw (p.1, p.2)
-    (subst
-    (λ (old : ReplicaOf g.row.S.Denot).
-    IsRestartFaultOf (StoreDoes g.S.CheckpointStore.model) old c.in_err-log.field-0.0 (record {
-      id = c.self.inside.id;
-      names = c.self.inside.directory;
-      opening = c.self.inside.opening;
-      board = c.self.inside.log.board;
-      held = c.self.inside.log.held;
-      store = c.get.new.self;
-    }))
-    c.self.view_is
-    (refl, inr (option_map (λ bytes. bytes.items) c.in_ok-content.content, c.in_ok-content.ensures, c.in_err-log.ensures.err)))
+    (refuses g.S.CheckpointStore.model c.self.view_is c.get.new.self (option_map (λ bytes. bytes.items) c.in_ok-content.content)
+    c.in_ok-content.ensures c.in_err-log.field-0.0 c.in_err-log.ensures.err)
 
 pub returns-clause-ok : goal.returns-clause-ok
 returns-clause-ok g c =
