@@ -142,7 +142,7 @@ impl<S: CheckpointStore> Replica<S> {
         let mut replies = Vec::with_capacity(self.alloc, length as usize)?;
         for place in 0..length {
             // Each entry is finished.
-            replies.push(self.reply(place + 1).unwrap())?;
+            replies.push_reserved(self.reply(place + 1).unwrap());
         }
         Ok(replies)
     }

@@ -14,7 +14,12 @@ use Rattle.sb_replica.proofs.replica.Replica.replies.Goals as goal
 pub loop-place-init : goal.loop-place-init
 loop-place-init g c =
     let none = c.in_ok-replies.ensures.items in
-    record { items = none; valid = λ k d lt. absurd (omega (arith, lt, ap length none)) }
+    record {
+      items = none;
+      valid = λ k d lt. absurd (omega (arith, lt, ap length none));
+      count = omega (arith, c.in_ok-replies.ensures.len);
+      room = omega (arith, c.in_ok-replies.ensures.capacity);
+    }
 
 pub overflow_add-place : goal.overflow_add-place
 overflow_add-place g c = record { fits = omega (arith, c.loop-place-test.true, c.length-length.ensures.limit) }
@@ -25,13 +30,15 @@ loop-place-preserved g c =
     let place = c.loop-place.place in
     let next : place + 1 ≡ suc place = omega arith in
     record {
-      items = c.in_ok-push.ensures.items ∙ ap (λ xs. xs ++ c.unwrap.result ∷ []) c.loop-place.invariant.items
+      items = c.push_reserved.ensures.items ∙ ap (λ xs. xs ++ c.unwrap.result ∷ []) c.loop-place.invariant.items
           ∙ sym (ap (λ n. take n (board_replies board)) next
           ∙ take_one_more (board_replies board) place c.unwrap.result
           (sym (reply_at board place c.requires) ∙ sym c.reply.ensures.value ∙ c.unwrap.ensures));
-      valid = subst (All IsReply) (sym c.in_ok-push.ensures.items)
+      valid = subst (All IsReply) (sym c.push_reserved.ensures.items)
           (All-push IsReply c.loop-place.replies.items c.unwrap.result c.loop-place.invariant.valid
           (subst (λ o. IfSome o IsReply) c.unwrap.ensures c.reply.ensures.valid));
+      count = omega (arith, c.loop-place.invariant.count, c.push_reserved.ensures.len);
+      room = omega (arith, c.loop-place.invariant.room, c.push_reserved.ensures.capacity);
     }
 
 pub returns-clause-value : goal.returns-clause-value
@@ -63,11 +70,6 @@ returns-clause-limit g c =
 pub returns-in_err-replies : goal.returns-in_err-replies
 returns-in_err-replies g c =
     let p = err_from_is_err_and c.from_residual.result c.from_residual.ensures.1 in
-    rw p.1 (record { value = tt; valid = tt; limit = tt })
-
-pub returns-in_err-push : goal.returns-in_err-push
-returns-in_err-push g c =
-    let p = err_from_is_err_and c.from_residual-in_err-push.result c.from_residual-in_err-push.ensures.1 in
     rw p.1 (record { value = tt; valid = tt; limit = tt })
 
 pub unwrap-requires : goal.unwrap-requires
