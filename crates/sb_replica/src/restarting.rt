@@ -1,12 +1,12 @@
 //! Going back to the stored checkpoint.
-ghost use Rattle.std.specs.Prelude.{◌≡◌, ◌≤◌, [], IfOk, IfErr, OnOk, length, option_map};
+ghost use Rattle.std.specs.Prelude.{◌≡◌, ◌≤◌, [], IfOk, IfErr, length, option_map};
 ghost use Rattle.std.specs.List.{All};
 ghost use Rattle.sb_calls.specs.Replies.{IsReply};
 ghost use Rattle.cown_board.specs.BoardCalls.{board_at_opening};
 ghost use Rattle.sb_replica_log.specs.Log.{none_held};
 ghost use Rattle.sb_checkpoint.specs.Stores.{StoreDoes};
 ghost use Rattle.sb_replica.specs.Replica.{origin_of, with_log};
-ghost use Rattle.sb_replica.specs.Restarting.{BeginsWell, Restarts, IsRestartFaultOf, IsStoredAs, IsBoardOn, IsRefusalOf};
+ghost use Rattle.sb_replica.specs.Restarting.{Restarts, IsRestartFaultOf, IsBoardOn, IsRefusalOf};
 
 use crate::fault::RestartFault;
 use crate::replica::Replica;
@@ -82,30 +82,12 @@ impl<S: CheckpointStore> Replica<S> {
         ensures err { IfErr result
             (IsRefusalOf (origin_of self.now) (option_map (λ bytes. bytes.items) content)) }
     {
-        let (columns, replies) = self.stored_parts(content)?;
+        let Some(bytes) = content else {
+            return Ok(log_at_opening(self.alloc, &self.opening)?);
+        };
+        let (columns, replies) = self.checkpoint_in(&bytes)?.into_parts();
+        // The board takes memory of its own.
+        drop(bytes);
         Ok(log_on(self.alloc, columns, replies)?)
-    }
-
-    // The balances and the replies that the store holds, or those of the opening if it holds
-    // nothing.
-    fn stored_parts(&self, content: Option<Vec<u8>>) -> Result<(Columns, Vec<Reply>), RestartFault>
-        ensures content { IfOk result (λ parts. IsStoredAs self.now.opening (origin_of self.now)
-            (option_map (λ bytes. bytes.items) content)
-            (record { columns = parts.0; replies = parts.1.items })) }
-        ensures customers { IfOk result (λ parts. length parts.0.savings ≡ length self.now.names) }
-        ensures limit { IfOk result (λ parts. length parts.1.items ≤ LOG_CALLS) }
-        ensures replies { IfOk result (λ parts. All IsReply parts.1.items) }
-        ensures begins { OnOk result
-            (BeginsWell (length self.now.names) (option_map (λ bytes. bytes.items) content)) }
-        ensures err { IfErr result
-            (IsRefusalOf (origin_of self.now) (option_map (λ bytes. bytes.items) content)) }
-    {
-        match content {
-            Some(bytes) => {
-                let checkpoint = self.checkpoint_in(&bytes)?;
-                Ok(checkpoint.into_parts())
-            }
-            None => Ok((self.opening.copy()?, Vec::new(self.alloc))),
-        }
     }
 }
