@@ -3,8 +3,8 @@ pub mod AdoptedStates
 pub mod BoardReplies
 pub mod ChangedLogs
 pub mod IdleReplies
+pub mod KeptStates
 pub mod MarkedReplies
-pub mod NoEntries
 pub mod ReceivedBatches
 pub mod ReceivedBytes
 pub mod ReceivedEntries

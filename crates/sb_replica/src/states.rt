@@ -5,8 +5,8 @@ ghost use Rattle.sb_checkpoint.specs.Reading.{first_fault, IsRefusedBy};
 ghost use Rattle.sb_checkpoint.specs.Stores.{StoreDoes};
 ghost use Rattle.sb_frames.specs.declared.frame.Frame.TheVariants as frames;
 ghost use Rattle.sb_replica.specs.Replica.{origin_of};
-ghost use Rattle.sb_replica.specs.Restarting.{IsRefusalOf, IsRestartFaultOf};
-ghost use Rattle.sb_replica.specs.States.{Adopts, IsAdoptFaultOf, IsStateOf, ReadsState, state_length};
+ghost use Rattle.sb_replica.specs.Restarting.{IsRestartFaultOf};
+ghost use Rattle.sb_replica.specs.States.{Adopts, IsAdoptFaultOf, ReadsState, state_length};
 
 use crate::adopted::Adopted;
 use crate::fault::{AdoptFault, RestartFault};
@@ -30,7 +30,7 @@ impl<S: CheckpointStore> Replica<S> {
         let Some(bytes) = self.store.get()? else {
             return Ok(None);
         };
-        let length = self.length_in(&bytes)?;
+        let length = self.checkpoint_in(&bytes)?.replies().len() as u64;
         if length == 0 {
             return Ok(None);
         }
@@ -78,14 +78,6 @@ impl<S: CheckpointStore> Replica<S> {
         let (columns, replies) = checkpoint.into_parts();
         self.replace_log(log_on(self.alloc, columns, replies)?);
         Ok(Adopted::Adopted(length))
-    }
-
-    // The number of entries in the checkpoint of this bank that these bytes are.
-    fn length_in(&self, bytes: &[u8]) -> Result<u64, RestartFault>
-        ensures length { IfOk result (λ size. IsStateOf (origin_of self.now) size bytes.now) }
-        ensures err { IfErr result (IsRefusalOf (origin_of self.now) (Some bytes.now)) }
-    {
-        Ok(self.checkpoint_in(bytes)?.replies().len() as u64)
     }
 
     // The checkpoint of this bank that these bytes are.

@@ -1,13 +1,12 @@
-use Rattle.std.proofs.Common.{List, length, ◌≤◌, refl, ap, subst, ◌∙◌}
+use Rattle.std.proofs.Common.{length, refl, ap, ◌∙◌}
 use Rattle.std.proofs.lemmas.Result.{err_from_is_err_and}
 use Rattle.sb_rows.specs.Balances.{Balances}
 use Rattle.sb_replica_log.specs.Log.{LogOf}
-use Rattle.sb_calls.specs.declared.reply.Reply.{Reply}
 use Rattle.sb_replica.proofs.AdoptedStates.{adopts}
+use Rattle.sb_replica.proofs.KeptStates.{is_state}
 use Rattle.sb_replica.proofs.Refusals.{adopt_refusal}
 use Rattle.sb_replica.proofs.RightHeads.{right_head}
 use Rattle.sb_replica.specs.Replica.{origin_of}
-use Rattle.sb_replica.specs.States.{IsStateOf}
 use Rattle.sb_replica.proofs.replica.Replica.adopt.Goals as goal
 
 pub returns-in_err-checkpoint : goal.returns-in_err-checkpoint
@@ -25,15 +24,9 @@ returns-in_err-log_on g c =
 
 pub returns-then-length-own : goal.returns-then-length-own
 returns-then-length-own g c =
-    let checkpoint = c.in_ok-checkpoint.checkpoint in
-    let few = subst (λ (replies : List Reply). length replies ≤ c.length-own.result) c.replies.ensures c.if-length-own.true in
-    let state : IsStateOf (origin_of c.args.self.now) (length checkpoint.replies) c.args.bytes.now = record {
-      checkpoint = checkpoint;
-      spelled = c.in_ok-checkpoint.ensures.checkpoint;
-      customers_are = c.in_ok-checkpoint.ensures.customers;
-      size_is = refl;
-    } in
-    record { outcome = (c.length-own.ensures.value, (length checkpoint.replies, state, few), refl) }
+    let kept = c.in_ok-checkpoint.ensures in
+    let state = is_state (origin_of c.args.self.now) c.in_ok-checkpoint.checkpoint c.replies.result.now refl kept.checkpoint kept.customers c.replies.ensures in
+    record { outcome = (c.length-own.ensures.value, (length c.replies.result.now, state, c.if-length-own.true), refl) }
 
 pub replace_log-requires-clause-customers : goal.replace_log-requires-clause-customers
 replace_log-requires-clause-customers g c =

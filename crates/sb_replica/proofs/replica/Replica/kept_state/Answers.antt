@@ -1,8 +1,9 @@
-use Rattle.std.proofs.Common.{option_map, List, ℕ, Some, None, inl, refl, subst, arith}
+use Rattle.std.proofs.Common.{option_map, Some, None, inl, refl, subst, arith}
 use Rattle.std.proofs.lemmas.Result.{err_from_is_err_and}
-use Rattle.sb_replica.specs.Restarting.{IsRefusalOf}
-use Rattle.sb_replica.specs.States.{IsStateOf}
-use Rattle.sb_replica.proofs.NoEntries.{gives_none}
+use Rattle.sb_checkpoint.specs.Reading.{IsRefusedBy}
+use Rattle.sb_replica.specs.inner.FaultConversions.{of_checkpoint_fault}
+use Rattle.sb_replica.proofs.KeptStates.{is_state, gives_none}
+use Rattle.sb_replica.proofs.Refusals.{refusal_of}
 use Rattle.sb_replica.proofs.StoreReads.{origin_seen, store_fails, refuses, reads_state}
 use Rattle.sb_replica.proofs.replica.Replica.kept_state.Goals as goal
 
@@ -16,27 +17,30 @@ returns-in_default-clause-ok g c =
     reads_state g.S.CheckpointStore.model c.self.view_is c.get.new.self (option_map (λ bytes. bytes.items) c.in_ok-bytes.field-0) c.in_ok-bytes.ensures None
     (rw c.in_default.is (inl refl))
 
-pub returns-in_err-length-clause-err : goal.returns-in_err-length-clause-err
-returns-in_err-length-clause-err g c =
-    let p = err_from_is_err_and c.from_residual-in_err-length.result c.from_residual-in_err-length.ensures.1 in
-    let fault = c.in_err-length.field-0.0 in
-    let refusal = subst (λ (bytes : List ℕ). IsRefusalOf (origin_seen c.self.view_is) (Some bytes) fault) c.deref.ensures.value c.in_err-length.ensures.err in
+pub returns-in_err-checkpoint_in-clause-err : goal.returns-in_err-checkpoint_in-clause-err
+returns-in_err-checkpoint_in-clause-err g c =
+    let p = err_from_is_err_and c.from_residual-in_err-checkpoint_in.result c.from_residual-in_err-checkpoint_in.ensures.1 in
+    let origin = origin_seen c.self.view_is in
+    let fault = c.in_err-checkpoint_in.field-0.0 in
+    let refused = subst (λ bytes. IsRefusedBy bytes origin fault) c.deref.ensures.value c.in_err-checkpoint_in.ensures.fault in
     rw (p.1, p.2)
-    (refuses g.S.CheckpointStore.model c.self.view_is c.get.new.self (option_map (λ bytes. bytes.items) c.in_ok-bytes.field-0) c.in_ok-bytes.ensures fault
-    (rw c.in-Some.is refusal))
+    (refuses g.S.CheckpointStore.model c.self.view_is c.get.new.self (option_map (λ bytes. bytes.items) c.in_ok-bytes.field-0) c.in_ok-bytes.ensures
+    (of_checkpoint_fault fault) (rw c.in-Some.is (refusal_of origin c.in-Some.bytes.items fault refused)))
 
 pub returns-then-length-eq0-clause-ok : goal.returns-then-length-eq0-clause-ok
 returns-then-length-eq0-clause-ok g c =
-    let size = c.in_ok-length.length in
-    let bytes = c.in-Some.bytes.items in
-    let state = subst (λ (bytes : List ℕ). IsStateOf (origin_seen c.self.view_is) size bytes) c.deref.ensures.value c.in_ok-length.ensures.length in
+    let origin = origin_seen c.self.view_is in
+    let kept = c.in_ok-checkpoint_in in
+    let replies = c.replies-2.result.now in
+    let state = is_state origin kept.field-0 replies c.deref.ensures.value kept.ensures.checkpoint kept.ensures.customers c.replies-2.ensures in
     reads_state g.S.CheckpointStore.model c.self.view_is c.get.new.self (option_map (λ bytes. bytes.items) c.in_ok-bytes.field-0) c.in_ok-bytes.ensures None
-    (rw c.in-Some.is (gives_none (origin_seen c.self.view_is) size bytes state c.if-length-eq0.true))
+    (rw c.in-Some.is (gives_none origin _ c.in-Some.bytes.items state c.if-length-eq0.true))
 
 pub returns-clause-ok : goal.returns-clause-ok
 returns-clause-ok g c =
-    let size = c.in_ok-length.length in
-    let bytes = c.in-Some.bytes.items in
-    let state = subst (λ (bytes : List ℕ). IsStateOf (origin_seen c.self.view_is) size bytes) c.deref.ensures.value c.in_ok-length.ensures.length in
+    let origin = origin_seen c.self.view_is in
+    let kept = c.in_ok-checkpoint_in in
+    let replies = c.replies-2.result.now in
+    let state = is_state origin kept.field-0 replies c.deref.ensures.value kept.ensures.checkpoint kept.ensures.customers c.replies-2.ensures in
     reads_state g.S.CheckpointStore.model c.self.view_is c.get.new.self (option_map (λ bytes. bytes.items) c.in_ok-bytes.field-0) c.in_ok-bytes.ensures
-    (Some (size, bytes)) (rw c.in-Some.is (refl, state, omega (arith, c.if-length-eq0.false)))
+    (Some (_, c.in-Some.bytes.items)) (rw c.in-Some.is (refl, state, omega (arith, c.if-length-eq0.false)))
