@@ -2,11 +2,10 @@
 ghost use Rattle.std.specs.Prelude.{◌≡◌, List, IfSome, IfErr, OnOk, MatchResult};
 ghost use Rattle.sb_rows.specs.Text.{unlines};
 ghost use Rattle.schedule_player.specs.EventLists.{PlaysEvents};
-ghost use Rattle.schedule_player.specs.RunText.{HasOutput, IsOutput, WritesOutput, played_lines};
+ghost use Rattle.schedule_player.specs.RunText.{HasOutput, WritesOutput, played_lines};
 ghost use Rattle.schedule_player.specs.ScheduleFaults.{BlamesSchedule, WritesNothing};
 ghost use Rattle.schedule_player.specs.inner.FaultConversions.{BlamesScheduleText};
 ghost use Rattle.schedule_player.specs.declared.fault.ScheduleFault.TheVariants as faults;
-ghost use Rattle.schedule_text.specs.ScheduleReading.{schedule_value};
 ghost use Rattle.schedule_text.specs.ScheduleText.{schedule_of};
 ghost use Rattle.schedule_text.specs.declared.note.Note.{Note as AnyNote};
 
@@ -56,23 +55,13 @@ fn output_text(alloc: Global, text: &[u8]) -> Result<Vec<u8>, ScheduleFault>
         (λ output. HasOutput (schedule_of text.now) output.items)
         (λ fault. BlamesScheduleText fault (schedule_of text.now)) }
 {
-    let schedule = read_schedule(alloc, text)?;
-    output_of(alloc, schedule)
-}
-
-// The output of a schedule that was read.
-fn output_of(alloc: Global, schedule: Schedule) -> Result<Vec<u8>, ScheduleFault>
-    ensures { MatchResult result
-        (λ output. IsOutput (schedule_value schedule) output.items)
-        (λ fault. fault ≡ faults.OutOfMemory) }
-{
     let Schedule {
         nodes,
         workers,
         directory,
         columns,
         events,
-    } = schedule;
+    } = read_schedule(alloc, text)?;
     let mut world = World::open(alloc, directory, columns, nodes, workers)?;
     play_and_list(alloc, &mut world, &events)
 }
