@@ -19,11 +19,6 @@ use Rattle.bank_program.specs.inner.ServeSteps.{PrintsPort, PrintsRows, ServesAl
 abbrev Log : Type 0
 Log = List (Key × Call)
 
--- what follows if a step is done
-pub on_ok : {E P Q : Type 0} (done : Result (Unit {0}) E) → (P → Q) → OnOk done P → OnOk done Q
-on_ok (Ok done) so said = so said
-on_ok (Err fault) so said = tt
-
 -- a line with a port
 pub port_printed : {E : Type 0} (port : ℕ) (done : Result (Unit {0}) E) (line : List ℕ) (a b : Option (List ℕ)) → line ≡ port_line port
     → OnOk done (PrintsLines (line ∷ []) a b) → OnOk done (PrintsPort a b)

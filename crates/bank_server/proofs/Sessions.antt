@@ -1,13 +1,14 @@
 -- A session from its first byte to its last.
 use Rattle.std.proofs.Common.{◌≡◌, ℕ, true, true≢false, Option, Some, None, List, [], ◌++◌, take, refl, sym, ap, subst, ◌∙◌, append_assoc, append-nil, inl, inr}
 use Rattle.std.specs.Prelude.{◌≢◌, ◌⊎◌, IfSome, Err}
-use Rattle.std.specs.Io.KnownBytes.{Appends, Consumes, IsAtEnd, Keeps}
+use Rattle.std.specs.Io.KnownBytes.{Appends, Consumes, IsAtEnd}
 use Rattle.std.specs.List.{flat_map}
 use Rattle.std.proofs.lemmas.Grind.{flat_map-append}
 use Rattle.std.proofs.lemmas.List.Elements.{All-nil}
 use Rattle.sb_rows.specs.Rows.{Rows}
 use Rattle.sb_calls.specs.declared.ask.Key.{Key}
 use Rattle.sb_calls.specs.declared.call.Call.{Call}
+use Rattle.sb_checkpoint.proofs.PieceComparison.{consumes_more}
 use Rattle.sb_frames.specs.Decoding.{decode_result}
 use Rattle.sb_frames.specs.Grammar.{spelling}
 use Rattle.sb_frames.specs.Streaming.{IsShort, StreamState}
@@ -189,24 +190,9 @@ pub consumes_nothing : (old : Option (List ℕ)) → Consumes old old []
 consumes_nothing None = tt
 consumes_nothing (Some xs) = refl
 
-pub consumes_more : (old mid now : Option (List ℕ)) (bytes more : List ℕ) → Consumes old mid bytes → Consumes mid now more
-    → Consumes old now (bytes ++ more)
-consumes_more None mid now bytes more first second = tt
-consumes_more (Some xs) None now bytes more first second = absurd first
-consumes_more (Some xs) (Some ys) None bytes more first second = absurd second
-consumes_more (Some xs) (Some ys) (Some zs) bytes more first second =
-    first ∙ ap (λ (l : List ℕ). bytes ++ l) second ∙ sym (append_assoc bytes more zs)
-
--- what is kept was not read
-pub consumes_kept : (old mid now : Option (List ℕ)) (bytes : List ℕ) → Consumes old mid bytes → Keeps mid now → Consumes old now bytes
-consumes_kept None mid now bytes first kept = tt
-consumes_kept (Some xs) None now bytes first kept = absurd first
-consumes_kept (Some xs) (Some ys) None bytes first kept = absurd kept
-consumes_kept (Some xs) (Some ys) (Some zs) bytes first kept = first ∙ ap (λ (l : List ℕ). bytes ++ l) (sym kept)
-
 -- a read that gave nothing
-pub consumes_none : (old mid now : Option (List ℕ)) (bytes buffer : List ℕ) (n : ℕ) → Consumes old mid bytes → Consumes mid now (take n buffer) → n ≡ 0
+pub consumes_empty : (old mid now : Option (List ℕ)) (bytes buffer : List ℕ) (n : ℕ) → Consumes old mid bytes → Consumes mid now (take n buffer) → n ≡ 0
     → Consumes old now bytes
-consumes_none old mid now bytes buffer n first second none =
+consumes_empty old mid now bytes buffer n first second none =
     subst (λ (l : List ℕ). Consumes old now l) (ap (λ k. bytes ++ take k buffer) none ∙ append-nil bytes)
     (consumes_more old mid now bytes (take n buffer) first second)

@@ -32,12 +32,7 @@ after_ok (Err x) e h = absurd (false_is_true e)
     false_is_true : false ≡ true → ⊥
     false_is_true f = cc
 
--- what follows from a fact that holds after `Ok` holds too
-pub on_ok : {T E P Q : Type 0} (r : Result T E) → (P → Q) → OnOk r P → OnOk r Q
-on_ok (Ok x) f p = f p
-on_ok (Err x) f p = tt
-
--- and so does what follows from what an error says
+-- what follows from what an error says holds too
 pub if_err : {T E : Type 0} {P Q : E → Type 0} (r : Result T E) → ((e : E) → P e → Q e) → IfErr r P → IfErr r Q
 if_err (Ok x) f p = tt
 if_err (Err e) f p = f e p

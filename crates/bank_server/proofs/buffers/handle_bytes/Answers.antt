@@ -1,8 +1,9 @@
 use Rattle.std.proofs.Common.{◌++◌, refl}
+use Rattle.std.proofs.lemmas.Result.{on_ok_weaker}
 use Rattle.bank_server.specs.inner.SessionSteps.{session_state_of}
 use Rattle.bank_server.specs.Primary.{opening_rows_of}
 use Rattle.bank_server.proofs.FrameSteps.{hears_nothing, loses_behind}
-use Rattle.bank_server.proofs.WholeReplies.{if_err, on_ok}
+use Rattle.bank_server.proofs.WholeReplies.{if_err}
 use Rattle.bank_server.proofs.buffers.handle_bytes.Goals as goal
 
 pub returns-then-is_err-clause-stops : goal.returns-then-is_err-clause-stops
@@ -13,7 +14,7 @@ returns-then-is_err-clause-stops g c =
 
 pub returns-clause-none_out : goal.returns-clause-none_out
 returns-clause-none_out g c =
-    on_ok c.offer_rest.result (λ later none. later (c.in_ok-handle_frames.ensures.none_out none)) c.offer_rest.ensures.none_out
+    on_ok_weaker c.offer_rest.result (λ later none. later (c.in_ok-handle_frames.ensures.none_out none)) c.offer_rest.ensures.none_out
 
 pub returns-clause-crew_lost : goal.returns-clause-crew_lost
 returns-clause-crew_lost g c =

@@ -1,21 +1,21 @@
 use Rattle.std.proofs.Common.{sym, subst, ◌∷◌, []}
+use Rattle.std.proofs.lemmas.Result.{on_ok_weaker}
 use Rattle.sb_frames.specs.declared.frame.Frame.{Frame}
 use Rattle.bank_server.specs.inner.SessionSteps.{Leads, session_state_of}
 use Rattle.bank_server.specs.Primary.{opening_rows_of}
-use Rattle.bank_server.proofs.WholeReplies.{on_ok}
 use Rattle.bank_server.proofs.buffers.handle_frame.Goals as goal
 
 pub returns-in-Ask-clause-leads : goal.returns-in-Ask-clause-leads
 returns-in-Ask-clause-leads g c =
     let written = g.W.Write.contents c.args.writer.now in
-    on_ok c.assign_number.result (λ leads. subst (λ (frame : Frame). Leads (opening_rows_of c.args.primary.now)
+    on_ok_weaker c.assign_number.result (λ leads. subst (λ (frame : Frame). Leads (opening_rows_of c.args.primary.now)
     (session_state_of c.args.primary.now.log c.args.buffers.now written) (frame ∷ [])
     (record { log = c.assign_number.new.primary.log; pending = c.assign_number.new.pending.items; written = written })) (sym c.in-Ask.is) (leads written))
     c.assign_number.ensures.leads
 
 pub returns-in-Flush-clause-leads : goal.returns-in-Flush-clause-leads
 returns-in-Flush-clause-leads g c =
-    on_ok c.send_outcomes.result (λ leads. subst (λ (frame : Frame). Leads (opening_rows_of c.args.primary.now)
+    on_ok_weaker c.send_outcomes.result (λ leads. subst (λ (frame : Frame). Leads (opening_rows_of c.args.primary.now)
     (session_state_of c.args.primary.now.log c.args.buffers.now (g.W.Write.contents c.args.writer.now)) (frame ∷ [])
     (session_state_of c.send_outcomes.new.primary.log c.send_outcomes.new.buffers (g.W.Write.contents c.send_outcomes.new.writer))) (sym c.in-Flush.is) leads)
     c.send_outcomes.ensures.leads

@@ -1,14 +1,9 @@
-use Rattle.std.proofs.Common.{Result, Ok, Err, map, ap, ◌∙◌, ◌++◌}
-use Rattle.std.specs.Prelude.{OnOk}
+use Rattle.std.proofs.Common.{map, ap, ◌∙◌, ◌++◌}
+use Rattle.std.proofs.lemmas.Result.{on_ok_weaker}
 use Rattle.sb_calls.specs.Op.{op_of}
 use Rattle.sb_replica.specs.Replica.{ReplicaOf, RestOf}
 use Rattle.bank_server.proofs.Boards.{runs_log}
 use Rattle.bank_server.proofs.execution.carry_out.Goals as goal
-
--- what follows from a fact that holds after `Ok` holds too
-on_ok : {T E P Q : Type 0} (r : Result T E) → (P → Q) → OnOk r P → OnOk r Q
-on_ok (Ok x) f p = f p
-on_ok (Err e) f p = tt
 
 pub returns-clause-run : goal.returns-clause-run
 returns-clause-run g c log same =
@@ -17,7 +12,7 @@ returns-clause-run g c log same =
     let kept = c.in_ok-reserve.ensures in
     let put = c.in_ok-submit_parts.ensures in
     let run = c.settle.ensures.log in
-    on_ok c.settle.result
+    on_ok_weaker c.settle.result
     (λ idle. runs_log old c.settle.new.replica log calls same c.requires.customers
     (ap (λ (r : RestOf g.row.S.Denot). r.names) (c.settle.ensures.rest ∙ put.rest) ∙ ap (λ (r : ReplicaOf g.row.S.Denot). r.names) kept)
     (run.opening ∙ put.put.opening ∙ ap (λ (r : ReplicaOf g.row.S.Denot). r.board.opening) kept)

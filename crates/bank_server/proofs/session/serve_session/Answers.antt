@@ -1,12 +1,13 @@
 use Rattle.std.proofs.Common.{rules, ◌≡◌, ℕ, List, [], ◌++◌, take, length, refl, sym, ap, subst, ◌∙◌, append-nil}
 use Rattle.std.specs.Io.KnownBytes.{Consumes, IsAtEnd}
-use Rattle.std.proofs.lemmas.Result.{err_from_is_err_and}
+use Rattle.std.proofs.lemmas.Result.{err_from_is_err_and, on_ok_weaker}
 use Rattle.std.proofs.lemmas.List.Elements.{All-nil, All-same}
 use Rattle.sb_rows.specs.Rows.{Rows}
 use Rattle.sb_calls.specs.declared.ask.Key.{Key}
 use Rattle.sb_calls.specs.declared.call.Call.{Call}
 use Rattle.sb_frames.specs.Streaming.{IsShort, StreamState}
 use Rattle.sb_sequencer.specs.Numbering.{IsLog}
+use Rattle.sb_checkpoint.proofs.PieceComparison.{consumes_more, consumes_none}
 use Rattle.bank_server.specs.inner.SessionSteps.{HandlesBytes, SessionState, Stops, session_state_of}
 use Rattle.bank_server.specs.Primary.{opening_rows_of}
 use Rattle.bank_server.specs.SessionResults.{ServesUntilFault, ServesSession}
@@ -15,8 +16,8 @@ use Rattle.bank_server.specs.declared.session_fault.SessionFault.TheVariants.{De
 use Rattle.bank_server.specs.declared.pending.PendingAsk.{PendingAsk}
 use Rattle.bank_server.proofs.Boards.{idle_none_out}
 use Rattle.bank_server.proofs.FrameSteps.{keeps_on, loses_behind, nothing_short}
-use Rattle.bank_server.proofs.Sessions.{ReadsTo, consumes_kept, consumes_more, consumes_none, consumes_nothing, end_at, end_left, ended, heard_more, heard_nothing, of_front, of_whole, served, settle_at, settle_left, stopped}
-use Rattle.bank_server.proofs.WholeReplies.{if_err, on_ok, same_opening}
+use Rattle.bank_server.proofs.Sessions.{ReadsTo, consumes_empty, consumes_nothing, end_at, end_left, ended, heard_more, heard_nothing, of_front, of_whole, served, settle_at, settle_left, stopped}
+use Rattle.bank_server.proofs.WholeReplies.{if_err, same_opening}
 use Rattle.bank_server.proofs.session.serve_session.Goals as goal
 use Rattle.bank_server.proofs.session.serve_session.Goals.{in-Ok+in_ok-handle_bytes-in-Ok, in-Err+else-ne}
 
@@ -67,9 +68,9 @@ returns-in-Ok-eq0-clause-served g c =
     let left = g.R.Read.remaining c.read.new.self in
     let end : IsAtEnd left = search rules in
     let read : Consumes given left kept.bytes =
-    consumes_none given (g.R.Read.remaining c.loop.reader) left kept.bytes c.read.new.buf c.in-Ok-eq0.field-0 kept.read c.in-Ok-eq0.ensures.bytes.0
+    consumes_empty given (g.R.Read.remaining c.loop.reader) left kept.bytes c.read.new.buf c.in-Ok-eq0.field-0 kept.read c.in-Ok-eq0.ensures.bytes.0
     c.in-Ok-eq0.field-0-test in
-    on_ok c.end.result (λ whole. of_whole (ServesSession (opening_rows_of old) old.log c.end.new.primary.log start at.written) given left kept.bytes read end
+    on_ok_weaker c.end.result (λ whole. of_whole (ServesSession (opening_rows_of old) old.log c.end.new.primary.log start at.written) given left kept.bytes read end
     (λ input is. served (opening_rows_of old) old.log start input at c.loop.buffers.stream.unread c.end.new.primary.log
     (subst (λ (l : List ℕ). ReadsTo (opening_rows_of old) old.log start l at c.loop.buffers.stream.unread) (sym is) kept.heard) whole c.end.ensures.log))
     c.end.ensures.whole
@@ -85,7 +86,7 @@ returns-in-Ok-eq0-clause-cut_short g c =
     let left = g.R.Read.remaining c.read.new.self in
     let end : IsAtEnd left = search rules in
     let read : Consumes given left kept.bytes =
-    consumes_none given (g.R.Read.remaining c.loop.reader) left kept.bytes c.read.new.buf c.in-Ok-eq0.field-0 kept.read c.in-Ok-eq0.ensures.bytes.0
+    consumes_empty given (g.R.Read.remaining c.loop.reader) left kept.bytes c.read.new.buf c.in-Ok-eq0.field-0 kept.read c.in-Ok-eq0.ensures.bytes.0
     c.in-Ok-eq0.field-0-test in
     let same : new ≡ at =
     ap (λ (l : List (Key × Call)). session_state_of l c.loop.buffers (g.W.Write.contents c.loop.writer)) c.end.ensures.log in
@@ -181,7 +182,7 @@ loop-preserved g c =
       | in-Err+else-ne w ↦
           rw (w.writer-is, w.primary-is, w.buffers-is) (record {
             bytes = kept.bytes;
-            read = consumes_kept given before left kept.bytes kept.read w.in-Err.ensures.bytes;
+            read = consumes_none given before left kept.bytes kept.read w.in-Err.ensures.bytes;
             heard = kept.heard;
             short = kept.short;
             among = kept.among;

@@ -1,8 +1,9 @@
-use Rattle.bank_program.proofs.PrintedLines.{on_ok, serves_bank}
+use Rattle.std.proofs.lemmas.Result.{on_ok_weaker}
+use Rattle.bank_program.proofs.PrintedLines.{serves_bank}
 use Rattle.bank_program.proofs.server.Server.serve_whole.Goals as goal
 
 pub returns-clause-served : goal.returns-clause-served
-returns-clause-served g c = on_ok c.print_rows.result (λ printed. record {
+returns-clause-served g c = on_ok_weaker c.print_rows.result (λ printed. record {
   bank = serves_bank g.D.Stream.Read.remaining c.args.self.now.primary c.serve_all.new.self.primary c.args.self.now.plan.sessions
       (g.D.ClientListener.coming c.args.self.now.listener) (g.D.ClientListener.coming c.serve_all.new.self.listener) (g.W.Write.contents c.args.self.now.writer)
       (g.W.Write.contents c.print_port.new.writer) (g.W.Write.contents c.serve_all.new.self.writer) (g.W.Write.contents c.print_rows.new.writer)
