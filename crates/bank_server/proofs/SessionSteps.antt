@@ -14,10 +14,14 @@ use Rattle.sb_frames.specs.declared.frame.Frame.TheVariants.{Ask, Flush}
 use Rattle.sb_sequencer.specs.Numbering.{first_asks, calls_of}
 use Rattle.bank_server.specs.inner.AskSteps.{AddsAsk}
 use Rattle.bank_server.specs.inner.SessionSteps.{Reaches, Leads, SessionState, unflushed_asks, pending_ask}
+use Rattle.bank_server.specs.inner.FlushFaults.{IsFlushFault}
+use Rattle.bank_server.specs.SessionFaults.{IsSettleFault}
 use Rattle.bank_server.specs.Session.{IsFromClient, asks_in, outcome_by, outcome_of, outcomes_of, flushed_asks}
 use Rattle.bank_server.specs.Standing.{standing_of}
 use Rattle.bank_server.specs.declared.asking.Standing.{Standing}
 use Rattle.bank_server.specs.declared.pending.PendingAsk.{PendingAsk}
+use Rattle.bank_server.specs.declared.session_fault.SessionFault.{SessionFault}
+use Rattle.bank_server.specs.declared.session_fault.SessionFault.TheVariants as faults
 use Rattle.bank_server.proofs.Flushes.{all_asks, asks_push, told_same, untold_more, told_all, untold_none}
 use Rattle.bank_server.proofs.Outcomes.{outcomes_same, same_in_parts, waiting_same}
 
@@ -131,3 +135,11 @@ flush_leads opening old new log pending written before start frames came = recor
         ∙ ap (λ (l : List ℕ). flat_map spelling (of (flushed_asks frames)) ++ l) (sym (spelled_of opening old.log (unflushed_asks frames)))
         ∙ ap (λ (ws : List PendingAsk). flat_map spelling (of (flushed_asks frames))
         ++ flat_map (λ (w : PendingAsk). flat_map spelling (outcome_by (replies_to opening (calls_of old.log)) w.key w.standing)) ws) (sym came.pending_are)
+
+-- what ends the execution of the log may end a flush
+pub flush_of_settle : (fault : SessionFault) → IsSettleFault fault → IsFlushFault fault
+flush_of_settle (faults.Frame fault) is = absurd is
+flush_of_settle faults.Unexpected is = absurd is
+flush_of_settle faults.CrewGone is = tt
+flush_of_settle faults.Device is = absurd is
+flush_of_settle faults.OutOfMemory is = tt

@@ -1,6 +1,7 @@
 use Rattle.std.proofs.Common.{◌≡◌, ◌++◌, List, ℕ, sym, ap, subst, ◌∙◌}
 use Rattle.std.specs.Io.KnownBytes.{Appends}
 use Rattle.std.specs.List.{flat_map}
+use Rattle.std.proofs.lemmas.Result.{err_from_is_err_and}
 use Rattle.sb_calls.specs.Log.{replies_to}
 use Rattle.sb_frames.specs.Grammar.{spelling}
 use Rattle.sb_replica.specs.Replica.{ReplicaOf}
@@ -10,9 +11,19 @@ use Rattle.bank_server.specs.Primary.{opening_rows_of}
 use Rattle.bank_server.specs.Session.{outcome_by}
 use Rattle.bank_server.specs.declared.pending.PendingAsk.{PendingAsk}
 use Rattle.bank_server.proofs.Boards.{idle_none_out}
-use Rattle.bank_server.proofs.SessionSteps.{flush_leads}
+use Rattle.bank_server.proofs.SessionSteps.{flush_leads, flush_of_settle}
 use Rattle.bank_server.proofs.WholeReplies.{after_ok, tells_all}
 use Rattle.bank_server.proofs.buffers.send_outcomes.Goals as goal
+
+pub returns-in_err-settle-clause-fault : goal.returns-in_err-settle-clause-fault
+returns-in_err-settle-clause-fault g c =
+    let p = err_from_is_err_and c.from_residual.result c.from_residual.ensures.1 in
+    rw (p.1, p.2) (flush_of_settle c.in_err-settle.field-0.0 c.in_err-settle.ensures.fault)
+
+pub returns-in_err-settle-clause-crew_lost : goal.returns-in_err-settle-clause-crew_lost
+returns-in_err-settle-clause-crew_lost g c =
+    let p = err_from_is_err_and c.from_residual.result c.from_residual.ensures.1 in
+    rw (p.1, p.2) c.in_err-settle.ensures.crew_lost
 
 pub returns-clause-none_out : goal.returns-clause-none_out
 returns-clause-none_out g c = idle_none_out c.settle.new.self.node.board c.in_ok-settle.ensures.whole_log.idle
