@@ -1,5 +1,5 @@
 use Rattle.std.proofs.Common.{◌++◌, refl}
-use Rattle.std.proofs.lemmas.Result.{on_ok_weaker}
+use Rattle.std.proofs.lemmas.Result.{err_from_is_err_and, on_ok_weaker}
 use Rattle.bank_server.specs.inner.SessionSteps.{session_state_of}
 use Rattle.bank_server.specs.Primary.{opening_rows_of}
 use Rattle.bank_server.proofs.FrameSteps.{hears_nothing, loses_behind}
@@ -11,6 +11,11 @@ returns-then-is_err-clause-stops g c =
     let at = session_state_of c.args.primary.now.log c.args.buffers.now (g.W.Write.contents c.args.writer.now) in
     let unread = c.args.buffers.now.stream.unread ++ c.args.bytes.now in
     record { there = at; rest = unread; handles = hears_nothing (opening_rows_of c.args.primary.now) at unread; at = λ more. tt; left = refl }
+
+pub returns-in_err-handle_frames-clause-crew_lost : goal.returns-in_err-handle_frames-clause-crew_lost
+returns-in_err-handle_frames-clause-crew_lost g c =
+    let p = err_from_is_err_and c.from_residual.result c.from_residual.ensures.1 in
+    rw (p.1, p.2) c.in_err-handle_frames.ensures.crew_lost
 
 pub returns-clause-none_out : goal.returns-clause-none_out
 returns-clause-none_out g c =

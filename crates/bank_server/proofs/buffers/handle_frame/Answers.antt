@@ -3,6 +3,8 @@ use Rattle.std.proofs.lemmas.Result.{on_ok_weaker}
 use Rattle.sb_frames.specs.declared.frame.Frame.{Frame}
 use Rattle.bank_server.specs.inner.SessionSteps.{Leads, session_state_of}
 use Rattle.bank_server.specs.Primary.{opening_rows_of}
+use Rattle.bank_server.specs.SessionFaults.{LosesCrew}
+use Rattle.bank_server.proofs.WholeReplies.{if_err}
 use Rattle.bank_server.proofs.buffers.handle_frame.Goals as goal
 
 pub returns-in-Ask-clause-leads : goal.returns-in-Ask-clause-leads
@@ -19,3 +21,7 @@ returns-in-Flush-clause-leads g c =
     (session_state_of c.args.primary.now.log c.args.buffers.now (g.W.Write.contents c.args.writer.now)) (frame ∷ [])
     (session_state_of c.send_outcomes.new.primary.log c.send_outcomes.new.buffers (g.W.Write.contents c.send_outcomes.new.writer))) (sym c.in-Flush.is) leads)
     c.send_outcomes.ensures.leads
+
+pub returns-in-Ask-clause-crew_lost : goal.returns-in-Ask-clause-crew_lost
+returns-in-Ask-clause-crew_lost g c =
+    if_err c.assign_number.result (λ fault is. subst (LosesCrew g.C.Crew.keeps c.args.primary.now.node.board) (sym is) tt) c.assign_number.ensures.fault
