@@ -70,7 +70,8 @@ returns-in-Ok-eq0-clause-served g c =
     let read : Consumes given left kept.bytes =
     consumes_empty given (g.R.Read.remaining c.loop.reader) left kept.bytes c.read.new.buf c.in-Ok-eq0.field-0 kept.read c.in-Ok-eq0.ensures.bytes.0
     c.in-Ok-eq0.field-0-test in
-    on_ok_weaker c.end.result (λ whole. of_whole (ServesSession (opening_rows_of old) old.log c.end.new.primary.log start at.written) given left kept.bytes read end
+    on_ok_weaker c.end.result
+    (λ whole. of_whole (ServesSession (opening_rows_of old) old.log c.end.new.primary.log start at.written) given left kept.bytes read end
     (λ input is. served (opening_rows_of old) old.log start input at c.loop.buffers.stream.unread c.end.new.primary.log
     (subst (λ (l : List ℕ). ReadsTo (opening_rows_of old) old.log start l at c.loop.buffers.stream.unread) (sym is) kept.heard) whole c.end.ensures.log))
     c.end.ensures.whole
