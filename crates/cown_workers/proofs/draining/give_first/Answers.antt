@@ -1,9 +1,9 @@
 -- An op that was just handed out and comes back is finished at once.
-use Rattle.std.proofs.Common.{sym, ◌∙◌, le_refl, arith}
+use Rattle.std.proofs.Common.{sym, ◌∙◌, arith}
 use Rattle.sb_calls.specs.Behaviour.{declared_cowns, effect_of}
 use Rattle.cown_workers.proofs.InPlaceRuns.{CarriesOut, accepts, carried, no_refusal, ran_in_place}
-use Rattle.cown_workers.proofs.BoardSteps.{PreservesLog_same, Takes-drains, Takes-counts}
-use Rattle.cown_workers.proofs.CrewExchanges.{Exchanged-none, Exchanged-one}
+use Rattle.cown_workers.proofs.BoardSteps.{Takes-drains, Takes-counts}
+use Rattle.cown_workers.proofs.CrewExchanges.{Exchanged-one}
 use Rattle.cown_workers.specs.Draining.{Kept, CameBack}
 use Rattle.cown_workers.proofs.draining.give_first.Goals as goal
 use Rattle.cown_workers.proofs.draining.give_first.Given.{Over}
@@ -17,23 +17,6 @@ prove-unreachable-requires g c =
     no_refusal c.finish.result
     (accepts declared_cowns effect_of c.finish.result c.in-Some.ensures.outcome c.in-Err.ensures.same c.run.ensures.job c.finish.ensures.accepted)
     (sym c.is_ok-finished.ensures.value ∙ c.if-prove.true)
-
--- nothing is ready, and the board is the same
-pub returns-in_default-clause-exchanged : goal.returns-in_default-clause-exchanged
-returns-in_default-clause-exchanged g c =
-    rw c.in_default.ensures.outcome.1 (Exchanged-none g.C.Crew.acts c.args.crew.now (g.R.Runs.board c.args.runs.now))
-
-pub returns-in_default-clause-log : goal.returns-in_default-clause-log
-returns-in_default-clause-log g c = rw c.in_default.ensures.outcome.1 (PreservesLog_same (g.R.Runs.board c.args.runs.now))
-
-pub returns-in_default-clause-unfinished : goal.returns-in_default-clause-unfinished
-returns-in_default-clause-unfinished g c = rw c.in_default.ensures.outcome.1 (le_refl _)
-
-pub returns-in_default-clause-none_out : goal.returns-in_default-clause-none_out
-returns-in_default-clause-none_out g c _ none = rw c.in_default.ensures.outcome.1 none
-
-pub returns-in_default-clause-none_ready : goal.returns-in_default-clause-none_ready
-returns-in_default-clause-none_ready g c _ = rw c.in_default.ensures.outcome.1 c.in_default.ensures.outcome.0
 
 pub returns-in-Err-clause-given : goal.returns-in-Err-clause-given
 returns-in-Err-clause-given g c = λ _. (carried_here g c).waiting
