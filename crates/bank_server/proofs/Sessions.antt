@@ -2,13 +2,13 @@
 use Rattle.std.proofs.Common.{◌≡◌, ℕ, true, true≢false, Option, Some, None, List, [], ◌++◌, take, refl, sym, ap, subst, ◌∙◌, append_assoc, append-nil, inl, inr}
 use Rattle.std.specs.Prelude.{◌≢◌, ◌⊎◌, IfSome, Err}
 use Rattle.std.specs.Io.KnownBytes.{Appends, Consumes, IsAtEnd}
+use Rattle.std.proofs.KnownBytes.{Appends-nil, Consumes-trans}
 use Rattle.std.specs.List.{flat_map}
 use Rattle.std.proofs.lemmas.Grind.{flat_map-append}
 use Rattle.std.proofs.lemmas.List.Elements.{All-nil}
 use Rattle.sb_rows.specs.Rows.{Rows}
 use Rattle.sb_calls.specs.declared.ask.Key.{Key}
 use Rattle.sb_calls.specs.declared.call.Call.{Call}
-use Rattle.sb_checkpoint.proofs.PieceComparison.{consumes_more}
 use Rattle.sb_frames.specs.Decoding.{decode_result}
 use Rattle.sb_frames.specs.Grammar.{spelling}
 use Rattle.sb_frames.specs.Streaming.{IsShort, StreamState}
@@ -32,10 +32,6 @@ pub record ReadsTo (opening : Rows) (before : List (Key × Call)) (start : Optio
 
 -- ---- on the way
 
-appends_nothing : (start : Option (List ℕ)) → Appends start start []
-appends_nothing None = tt
-appends_nothing (Some xs) = sym (append-nil xs)
-
 -- a log after no more asks stays
 pub nothing_asked : (before : List (Key × Call)) → IsLog before → log_of_session before [] ≡ before
 nothing_asked before is = ap first_asks (append-nil before) ∙ own_log before is
@@ -49,7 +45,7 @@ heard_nothing opening before start at is log pending written = record {
     clients = All-nil IsFromClient;
     log_is = log ∙ sym (nothing_asked before is);
     pending_are = pending;
-    written = subst (λ (w : Option (List ℕ)). Appends start w []) (sym written) (appends_nothing start);
+    written = subst (λ (w : Option (List ℕ)). Appends start w []) (sym written) (Appends-nil start);
   };
   bytes_are = refl;
 }
@@ -195,4 +191,4 @@ pub consumes_empty : (old mid now : Option (List ℕ)) (bytes buffer : List ℕ)
     → Consumes old now bytes
 consumes_empty old mid now bytes buffer n first second none =
     subst (λ (l : List ℕ). Consumes old now l) (ap (λ k. bytes ++ take k buffer) none ∙ append-nil bytes)
-    (consumes_more old mid now bytes (take n buffer) first second)
+    (Consumes-trans old mid now bytes (take n buffer) first second)

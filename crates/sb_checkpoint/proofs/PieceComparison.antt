@@ -2,26 +2,12 @@
 use Rattle.std.proofs.Common.{◌≡◌, ℕ, List, ◌++◌, Option, Some, None, Result, Ok, Err, Bool, true, false, IfOk, refl, sym, ap, ◌∙◌, append_assoc}
 use Rattle.std.specs.Prelude.{◌≢◌, ◌↔◌, IsTrue, IfSome}
 use Rattle.std.specs.Io.KnownBytes.{Consumes, Keeps}
+use Rattle.std.proofs.KnownBytes.{Consumes-kept, Consumes-trans}
 use Rattle.std.proofs.lemmas.Bool.{true≢false}
 use Rattle.std.proofs.lemmas.Option.{none-some}
 use Rattle.std.proofs.lemmas.List.{append_cancel_left}
 use Rattle.sb_checkpoint.specs.Stores.{ReportsSame}
 use Rattle.sb_checkpoint.specs.declared.store.StoreFault.{StoreFault}
-
--- a piece that is read after others
-pub consumes_more : (old mid new : Option (List ℕ)) (front piece : List ℕ) → Consumes old mid front → Consumes mid new piece
-    → Consumes old new (front ++ piece)
-consumes_more None mid new front piece before now = tt
-consumes_more (Some xs) None new front piece before now = absurd before
-consumes_more (Some xs) (Some ys) None front piece before now = absurd now
-consumes_more (Some xs) (Some ys) (Some zs) front piece before now =
-    before ∙ ap (λ rest. front ++ rest) now ∙ sym (append_assoc front piece zs)
-
-pub consumes_none : (old mid new : Option (List ℕ)) (front : List ℕ) → Consumes old mid front → Keeps mid new → Consumes old new front
-consumes_none None mid new front before now = tt
-consumes_none (Some xs) None new front before now = absurd before
-consumes_none (Some xs) (Some ys) None front before now = absurd now
-consumes_none (Some xs) (Some ys) (Some zs) front before now = before ∙ ap (λ rest. front ++ rest) (sym now)
 
 -- some bytes were at the front of both
 abbrev pub GoesOn : Option (List ℕ) → Option (List ℕ) → List ℕ → List ℕ → Type 0
@@ -33,13 +19,13 @@ module _ (old mid new : Option (List ℕ)) (bytes front rest : List ℕ) (read :
       → GoesOn old new bytes after
   goes_on piece after now begins = (
     front ++ piece,
-    consumes_more old mid new front piece read now,
+    Consumes-trans old mid new front piece read now,
     same ∙ ap (λ rest. front ++ rest) begins ∙ sym (append_assoc front piece after),
   )
 
   -- nothing was read
   pub stays : Keeps mid new → GoesOn old new bytes rest
-  stays now = (front, consumes_none old mid new front read now, same)
+  stays now = (front, Consumes-kept old mid new front read now, same)
 
 -- the next piece isn't at the front of the rest
 pub differs : (old mid new : Option (List ℕ)) (bytes front rest piece : List ℕ) → Consumes old mid front → bytes ≡ front ++ rest

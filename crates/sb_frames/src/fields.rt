@@ -10,7 +10,7 @@ use sb_rows::{NAME_BYTES, Name};
 use std::marker::Model;
 
 /// The unread fields of a body. Each reader takes its field from the front, or fails: that of a
-/// number only if bytes are missing. After a reader fails, nothing more is read.
+/// number only if bytes are missing. After a reader fails, nothing is known of what is left.
 #[derive(Drop)]
 pub(crate) struct Fields<'a> {
     bytes: &'a [u8],

@@ -1,5 +1,6 @@
 use Rattle.std.proofs.Common.{rules, ◌≡◌, ℕ, List, [], ◌++◌, take, length, refl, sym, ap, subst, ◌∙◌, append-nil}
 use Rattle.std.specs.Io.KnownBytes.{Consumes, IsAtEnd}
+use Rattle.std.proofs.KnownBytes.{Consumes-kept, Consumes-trans}
 use Rattle.std.proofs.lemmas.Result.{err_from_is_err_and, on_ok_weaker}
 use Rattle.std.proofs.lemmas.List.Elements.{All-nil, All-same}
 use Rattle.sb_rows.specs.Rows.{Rows}
@@ -7,7 +8,6 @@ use Rattle.sb_calls.specs.declared.ask.Key.{Key}
 use Rattle.sb_calls.specs.declared.call.Call.{Call}
 use Rattle.sb_frames.specs.Streaming.{IsShort, StreamState}
 use Rattle.sb_sequencer.specs.Numbering.{IsLog}
-use Rattle.sb_checkpoint.proofs.PieceComparison.{consumes_more, consumes_none}
 use Rattle.bank_server.specs.inner.SessionSteps.{HandlesBytes, SessionState, Stops, session_state_of}
 use Rattle.bank_server.specs.Primary.{opening_rows_of}
 use Rattle.bank_server.specs.SessionResults.{ServesUntilFault, ServesSession}
@@ -119,7 +119,7 @@ returns-in_err-handle_bytes-in-Ok-clause-cut_short g c =
     subst (λ (rows : Rows). Stops rows at (c.loop.buffers.stream.unread ++ chunk) fault new) (same_opening old c.loop.primary kept.bank)
     c.in_err-handle_bytes-in-Ok.ensures.stops in
     rw (p.1, p.2) (of_front (λ input. ServesUntilFault (opening_rows_of old) old.log new.log start new.written input fault) given left (kept.bytes ++ chunk)
-    (consumes_more given (g.R.Read.remaining c.loop.reader) left kept.bytes chunk kept.read c.in-Ok.ensures.bytes.0)
+    (Consumes-trans given (g.R.Read.remaining c.loop.reader) left kept.bytes chunk kept.read c.in-Ok.ensures.bytes.0)
     (λ input behind is.
     stopped (opening_rows_of old) old.log start kept.bytes chunk behind input at c.loop.buffers.stream.unread new fault kept.heard stops is))
 
@@ -173,7 +173,7 @@ loop-preserved g c =
           heard.handles in
           rw (w.writer-is, w.primary-is, w.buffers-is) (record {
             bytes = kept.bytes ++ chunk;
-            read = consumes_more given before left kept.bytes chunk kept.read w.in-Ok.ensures.bytes.0;
+            read = Consumes-trans given before left kept.bytes chunk kept.read w.in-Ok.ensures.bytes.0;
             heard = heard_more (opening_rows_of old) old.log start kept.bytes chunk at unread new w.handle_bytes.new.buffers.stream.unread kept.heard handles;
             short = heard.short;
             among = heard.among;
@@ -183,7 +183,7 @@ loop-preserved g c =
       | in-Err+else-ne w ↦
           rw (w.writer-is, w.primary-is, w.buffers-is) (record {
             bytes = kept.bytes;
-            read = consumes_none given before left kept.bytes kept.read w.in-Err.ensures.bytes;
+            read = Consumes-kept given before left kept.bytes kept.read w.in-Err.ensures.bytes;
             heard = kept.heard;
             short = kept.short;
             among = kept.among;

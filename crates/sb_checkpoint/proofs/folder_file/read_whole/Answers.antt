@@ -1,8 +1,8 @@
 use Rattle.std.proofs.Common.{◌≡◌, ◌++◌, ℕ, rules, subst, sym, take}
 use Rattle.std.specs.Io.KnownBytes.{Consumes}
+use Rattle.std.proofs.KnownBytes.{Consumes-kept, Consumes-trans}
 use Rattle.std.specs.Prelude.{Vec}
 use Rattle.std.specs.declared.alloc.Global.{Global}
-use Rattle.sb_checkpoint.proofs.PieceComparison.{consumes_more, consumes_none}
 use Rattle.sb_checkpoint.proofs.folder_file.read_whole.Goals as goal
 use Rattle.sb_checkpoint.proofs.folder_file.read_whole.Goals.{in-Ok-read+else-is_err, in-Err+else-ne}
 
@@ -18,8 +18,8 @@ loop-preserved g c =
           let items : w.extend_from_slice.new.self.items ≡ before ++ piece =
           search (rules, w.extend_from_slice.ensures.items, w.is_err.ensures, w.if-is_err.false) in
           subst (λ (bytes : Vec ℕ Global). Consumes old new bytes.items) (sym w.bytes-is)
-          (subst (λ bytes. Consumes old new bytes) (sym items) (consumes_more old mid new before piece c.loop.invariant w.in-Ok-read.ensures.bytes.0))
+          (subst (λ bytes. Consumes old new bytes) (sym items) (Consumes-trans old mid new before piece c.loop.invariant w.in-Ok-read.ensures.bytes.0))
       | in-Err+else-ne w ↦
           subst (λ (bytes : Vec ℕ Global). Consumes old new bytes.items) (sym w.bytes-is)
-          (consumes_none old mid new before c.loop.invariant w.in-Err.ensures.bytes)
+          (Consumes-kept old mid new before c.loop.invariant w.in-Err.ensures.bytes)
     ]
