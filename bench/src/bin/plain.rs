@@ -3,6 +3,9 @@
 //! One buffer for the input, a hash map from names to places, columns of cents, one buffer for the
 //! output. Calls are executed as they are read. If a line is at fault, the output is dropped.
 //!
+//! The maps are std's, whose hasher keeps clients from choosing keys that collide. The product's
+//! hashers have fixed seeds and don't.
+//!
 //! Requests that have a key are remembered; with the word `every-line` all are, as the product does.
 
 #[path = "../shared/mod.rs"]
