@@ -22,4 +22,4 @@ pub use name::{NAME_BYTES, Name};
 pub use opening::Opening;
 pub use reading::read_opening;
 pub use text::next_line;
-pub use words::{Words, WrongWords};
+pub use words::{Words, WrongWords, word_is};

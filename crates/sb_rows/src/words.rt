@@ -1,5 +1,6 @@
 //! The words of a line, taken from the left.
 ghost use Rattle.std.specs.Prelude.{◌≡◌, ◌≢◌, ℕ, List, [], ◌∷◌, MatchOption, MatchResult};
+ghost use Rattle.std.specs.Str.{bytes_eq};
 ghost use Rattle.sb_rows.specs.Text.{words};
 
 use crate::spaces::{MASK_BYTES, spaces_of};
@@ -11,6 +12,15 @@ use thiserror::Error;
 #[derive(Clone, Copy, Debug, PartialEq, Eq, Error)]
 #[error("wrong words")]
 pub struct WrongWords;
+
+/// Whether a word is spelled so.
+#[inline(always)]
+pub fn word_is(word: &[u8], text: &[u8]) -> bool
+    ensures { result ≡ bytes_eq word.now text.now }
+{
+    // The length is asked first, so that the rest is a comparison of a known length.
+    word.len() == text.len() && word.starts_with(text)
+}
 
 /// The words of a line that aren't taken yet.
 ///

@@ -8,9 +8,8 @@ ghost use Rattle.sb_calls.specs.Ask.{IsAskLine, ask_line, ask_line_of, ask_line_
 use super::fault::CallFault;
 use super::number::read_number;
 use super::reading::{call_with, push_call};
-use super::verb::is;
 use crate::ask::{AskLine, Key};
-use sb_rows::Words;
+use sb_rows::{Words, word_is};
 
 /// What an asking line asks.
 ///
@@ -76,7 +75,7 @@ fn key_and_verb<'a>(words: &mut Words<'a>) -> Result<(Option<Key>, &'a [u8]), Ca
         return Err(CallFault::UnknownVerb);
     };
     // Only a line that begins with `ask` has a key.
-    if !is(verb, b"ask") {
+    if !word_is(verb, b"ask") {
         return Ok((None, verb));
     }
     let key = next_key(words)?;

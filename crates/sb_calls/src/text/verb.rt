@@ -1,13 +1,12 @@
 //! The verb of a call, which is its first word.
 ghost use Rattle.std.specs.Prelude.{◌≡◌, ℕ, List, ◌∷◌, Err, MatchOption};
-ghost use Rattle.std.specs.Str.{bytes_eq};
 ghost use Rattle.sb_calls.specs.Call.{call_of_words};
 ghost use Rattle.sb_calls.specs.declared.text.fault.CallFault.TheVariants.{UnknownVerb};
 ghost use Rattle.sb_calls.specs.inner.Verbs.{verb_text, amount_call};
 
 use crate::call::Call;
 use sb_amount::Cents;
-use sb_rows::Name;
+use sb_rows::{Name, word_is};
 
 /// A call's verb.
 #[derive(Clone, Copy)]
@@ -34,17 +33,17 @@ impl Verb {
             ((rest : List (List ℕ)) → call_of_words (word.now ∷ rest) ≡ Err UnknownVerb)
             (λ verb. word.now ≡ verb_text verb) }
     {
-        if is(word, b"balance") {
+        if word_is(word, b"balance") {
             Some(Verb::Balance)
-        } else if is(word, b"deposit") {
+        } else if word_is(word, b"deposit") {
             Some(Verb::OfAmount(AmountVerb::Deposit))
-        } else if is(word, b"savings") {
+        } else if word_is(word, b"savings") {
             Some(Verb::OfAmount(AmountVerb::Savings))
-        } else if is(word, b"check") {
+        } else if word_is(word, b"check") {
             Some(Verb::OfAmount(AmountVerb::Check))
-        } else if is(word, b"amalgamate") {
+        } else if word_is(word, b"amalgamate") {
             Some(Verb::Amalgamate)
-        } else if is(word, b"pay") {
+        } else if word_is(word, b"pay") {
             Some(Verb::Pay)
         } else {
             None
@@ -64,13 +63,4 @@ impl AmountVerb {
             AmountVerb::Check => Call::WriteCheck(name, amount),
         }
     }
-}
-
-/// Whether a word is spelled so. Its length is asked first, so that the rest is a comparison of a
-/// known length.
-#[inline(always)]
-pub(crate) fn is(word: &[u8], text: &[u8]) -> bool
-    ensures { result ≡ bytes_eq word.now text.now }
-{
-    word.len() == text.len() && word.starts_with(text)
 }

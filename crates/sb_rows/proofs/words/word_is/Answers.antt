@@ -3,7 +3,7 @@ use Rattle.std.proofs.Common.{ap, ◌∙◌, arith, length}
 use Rattle.std.specs.Str.{bytes_eq}
 use Rattle.std.proofs.lemmas.Cmp.{nat_list_eq_equiv}
 use Rattle.std.proofs.lemmas.List.{take_all}
-use Rattle.sb_calls.proofs.text.verb.is.Goals as goal
+use Rattle.sb_rows.proofs.words.word_is.Goals as goal
 
 pub returns-then-word-text : goal.returns-then-word-text
 returns-then-word-text c =
