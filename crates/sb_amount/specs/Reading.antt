@@ -25,7 +25,7 @@ without_sign (c ∷ cs) = if c == 45 then cs else c ∷ cs
 abbrev pub has_two_decimals : List ℕ → Bool
 has_two_decimals body = (count_by is_point body == 1) && (length (after_first is_point body) == 2)
 
--- one digit, or several digits whose first isn't 0
+-- one byte, or several whose first isn't `0`: of digits, those without leading zeros
 abbrev pub is_canonical : List ℕ → Bool
 is_canonical [] = false
 is_canonical (d ∷ []) = true

@@ -1,8 +1,9 @@
-//! Digits without leading zeros.
+//! Whether digits have leading zeros.
 ghost use Rattle.std.specs.Prelude.{◌≡◌};
 ghost use Rattle.sb_amount.specs.Reading.{is_canonical};
 
-/// Whether there is one byte, or several whose first isn't `0`.
+/// Whether there is one byte, or several whose first isn't `0`. Of digits, these are those without
+/// leading zeros.
 ///
 /// It doesn't test that they are digits.
 pub fn is_canonical(digits: &[u8]) -> bool

@@ -42,7 +42,7 @@ fn push_two_digits(text: &mut ArrayString<24>, number: u64)
 }
 
 /// Writes the money text of any number of cents so that it ends at `end`, and answers where it
-/// starts.
+/// starts. All other bytes stay.
 #[inline]
 pub fn write_total(cents: i64, text: &mut [u8], end: usize) -> usize
     requires { (length (money cents) ≤ end) × (end ≤ length text.old) }

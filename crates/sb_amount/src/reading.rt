@@ -19,7 +19,7 @@ impl Cents {
         ensures spelled { IfOk result (λ amount. text.now ≡ money amount) }
         // A text that spells an amount is read.
         ensures complete { (v : ℤ) → IsWithinLimit v → text.now ≡ money v → result ≡ Ok v }
-        // The fault.
+        // The result, exactly.
         ensures exact { result ≡ read_money text.now }
     {
         let (is_negative, body) = split_sign(text);

@@ -32,7 +32,8 @@ pub fn apply(columns: &mut Columns, op: Op) -> Reply
 {
     // They are the columns of a bank.
     prove!(columns.customers() <= CUSTOMERS);
-    // Two functions take the op by value; this copy is for the first.
+    // An op that is passed by value twice isn't covered by the borrow checker yet, so the first
+    // function gets a copy.
     let declaring = op;
     let cowns = cowns_of(declaring);
     let inputs = by_cown::read_cowns(columns, &cowns);

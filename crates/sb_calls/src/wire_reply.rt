@@ -27,8 +27,8 @@ const WOULD_OVERDRAW: u8 = 6;
 
 const OVER_LIMIT: u8 = 7;
 
-/// A reply whose total, if it shows one, is from `-TOTAL_LIMIT` to `TOTAL_LIMIT`. In bytes it is a
-/// code and a total, which is 0 if the reply shows none.
+/// A reply whose total, if it shows one, is from `-TOTAL_LIMIT` to `TOTAL_LIMIT`. In frames and
+/// checkpoints it is a code and a total in cents, which is 0 if the reply shows none.
 #[derive(Clone, Copy, Debug, PartialEq, Eq)]
 pub struct WireReply {
     reply: Reply,
@@ -87,7 +87,7 @@ fn coded_reply(code: u8, total: i64) -> Option<Reply>
 }
 
 impl Reply {
-    /// Its code in bytes, and the total that it shows, else 0.
+    /// Its code in frames and checkpoints, and the total that it shows in cents, else 0.
     pub fn code_and_total(self) -> (u8, i64)
         ensures code { result.0 ≡ reply_code self }
         ensures total { result.1 ≡ shown_total self }
@@ -124,7 +124,7 @@ impl WireReply {
         self.reply
     }
 
-    /// Its code, and the total that it shows, else 0.
+    /// Its code, and the total that it shows in cents, else 0.
     pub fn code_and_total(self) -> (u8, i64)
         ensures code { result.0 ≡ reply_code self }
         ensures total { result.1 ≡ shown_total self }
@@ -132,7 +132,7 @@ impl WireReply {
         self.reply.code_and_total()
     }
 
-    /// The reply with this code and total, or `None` if no reply has them.
+    /// The reply with this code and this total in cents, or `None` if no reply has them.
     pub fn from_code(code: u8, total: i64) -> Option<WireReply>
         ensures { result ≡ reply_with_code code total }
     {

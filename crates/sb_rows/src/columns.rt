@@ -125,7 +125,7 @@ impl Columns {
         Ok(())
     }
 
-    /// A copy of the balances.
+    /// A copy of the balances. Fails if memory is refused.
     pub fn copy(&self) -> Result<Columns, AllocError>
         ensures { IfOk result (λ copy. copy ≡ self.now) }
     {

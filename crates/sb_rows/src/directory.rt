@@ -84,7 +84,7 @@ impl Directory {
         Ok(())
     }
 
-    /// A copy of the names.
+    /// A copy of the names. Fails if memory is refused.
     pub fn copy(&self) -> Result<Directory, AllocError>
         ensures { IfOk result (λ copy. copy ≡ self.now) }
     {

@@ -85,10 +85,11 @@ fn read_customers(
     })
 }
 
-/// Reads the opening at the front of a text.
+/// Reads the opening at the front of a text. The text after the line `begin` isn't read.
 ///
 /// Fails with the first faulty line and its first fault, in the order of [`crate::LineFault`]'s
-/// variants. If the text has no line `begin`, the fault's line is the one after the last.
+/// variants. If the text has no line `begin`, the fault's line is the one after the last. If memory
+/// is refused, `OutOfMemory` may stand in the place of any fault.
 pub fn read_opening(alloc: Global, text: &[u8]) -> Result<Opening, OpeningFault>
     // The text begins with the opening that is read, and goes on after the bytes that it takes.
     ensures spelled { IfOk result (λ o.

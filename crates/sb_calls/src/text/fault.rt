@@ -1,16 +1,19 @@
-//! Why a line isn't a call.
+//! Why a line isn't a call, or isn't an asking line.
 ghost use Rattle.std.specs.Prelude.{◌≡◌};
 ghost use Rattle.sb_calls.specs.Faults.{call_fault_number};
 
 use thiserror::Error;
 
-/// The fault of a line that isn't a call: the first in this order.
+/// The fault of a line that isn't a call, or isn't an asking line.
+///
+/// Of a call it is the first in this order. [`crate::read_ask`] says the order of an asking line.
 #[derive(Clone, Copy, Debug, PartialEq, Eq, Error)]
 pub enum CallFault {
-    /// The first word names no procedure.
+    /// The call's first word names no procedure, or there is no such word.
     #[error("unknown verb")]
     UnknownVerb,
-    /// The procedure takes another number of words.
+    /// The procedure takes another number of words, or a line that begins with `ask` has fewer than
+    /// three.
     #[error("wrong words")]
     WrongWords,
     /// A word in the place of a name isn't a valid name.

@@ -28,7 +28,7 @@ pub fn print_reply(reply: Reply) -> ArrayString<32>
 }
 
 /// Writes the text of a reply, such as `shown 150.00`, so that it ends at `end`, and answers where
-/// it starts.
+/// it starts. All other bytes stay.
 #[inline]
 pub fn write_reply(reply: Reply, text: &mut [u8], end: usize) -> usize
     requires { (length (reply_text reply) ≤ end) × (end ≤ length text.old) }

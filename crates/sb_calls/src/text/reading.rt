@@ -1,5 +1,5 @@
-//! The text of a call: `balance N`, `deposit N V`, `savings N V`, `check N V`, `amalgamate N N2`
-//! or `pay N N2 V`.
+//! The text of a call: `balance N`, `deposit N V`, `savings N V`, `check N V`, `amalgamate N1 N2`
+//! or `pay N1 N2 V`.
 ghost use Rattle.std.specs.Prelude.{◌≡◌, ◌<◌, ℕ, ℤ, List, [], ◌∷◌, ◌++◌, Ok, Err, IfOk, IsOk, MatchResult, vec_len, vec_capacity};
 ghost use Rattle.std.specs.Result.{result_map_both};
 ghost use Rattle.sb_amount.specs.Reading.{read_money};

@@ -6,7 +6,7 @@ use Rattle.std.proofs.Common.{sym, ap, ◌∙◌, arith, length-take-le, take-ap
 use Rattle.sb_rows.specs.declared.name.TheConstants.{NAME_BYTES}
 use Rattle.sb_rows.specs.Name.{IsName}
 
--- the array has a name of this length, with zeros after it, and so is the byte behind it
+-- the array has a name of this length and then zeros, and the byte behind the array is 0 too
 pub record IsPaddedName (array : List ℕ) (size pad : ℕ) : Type 0 where
   pub capacity : length array ≡ NAME_BYTES
   pub within : size ≤ NAME_BYTES
