@@ -1,10 +1,10 @@
 -- What calls add to the bank's total.
 use Rattle.std.specs.Prelude.{◌≡◌, ℕ, ℤ, pos, neg_ℤ, ◌+ℤ◌, is_some, List, [], ◌∷◌, take}
-use Rattle.std.specs.FinMap.{get}
 use Rattle.sb_rows.specs.Directory.{IsDirectory, place_of}
 use Rattle.sb_rows.specs.Listing.{rows_in_order, total_of}
 use Rattle.sb_rows.specs.Rows.{Rows}
 use Rattle.sb_calls.specs.Log.{rows_after_calls, replies_to}
+use Rattle.sb_calls.specs.Touches.{has_name}
 use Rattle.sb_calls.specs.declared.call.Call.{Call}
 use Rattle.sb_calls.specs.declared.call.Call.TheVariants.{Balance, DepositChecking, TransactSavings, Amalgamate, WriteCheck, SendPayment}
 use Rattle.sb_calls.specs.declared.reply.Reply.{Reply}
@@ -50,7 +50,7 @@ net_sum (call ∷ log) (reply ∷ replies) = net_of call reply +ℤ net_sum log 
 -- the rows have exactly these names
 pub record HasNames (directory : List (List ℕ)) (rows : Rows) : Type 0 where
   pub names : IsDirectory directory
-  pub same : (name : List ℕ) → is_some (get rows name) ≡ is_some (place_of directory name)
+  pub same : (name : List ℕ) → has_name rows name ≡ is_some (place_of directory name)
 
 -- the total after k calls is the opening's plus the net changes of these calls
 abbrev pub TotalByNet : Type 0
