@@ -1,5 +1,5 @@
 -- The effect of an amalgamation of two customers, in terms of the columns.
-use Rattle.std.proofs.Common.{◌≡◌, ◌≢◌, ℕ, ℤ, pos, neg_ℤ, ◌+ℤ◌, true, false, ◌||◌, List, Option, Some, refl, sym, ap, ◌∙◌, arith}
+use Rattle.std.proofs.Common.{◌≡◌, ◌≢◌, ℕ, ℤ, pos, neg_ℤ, ◌+ℤ◌, true, false, List, Option, Some, refl, sym, ap, ◌∙◌, arith}
 use Rattle.std.specs.Prelude.{int_lt}
 use Rattle.std.specs.Str.{bytes_eq}
 use Rattle.std.proofs.lemmas.Bool.{false_from_ne_true, or_left, or_right, or_from}
@@ -12,18 +12,19 @@ use Rattle.sb_rows.specs.Directory.{place_of}
 use Rattle.sb_rows.specs.Rows.{with_row, SameCustomers}
 use Rattle.sb_calls.proofs.CustomerRows.{HasRow, HasRow-other, with_checking, row_is, rows_of-with_both, rows_of-with_checking, SameCustomers-with_row, SameCustomers-with_checking}
 use Rattle.sb_calls.specs.FollowsProcedure.{FollowsProcedure}
+use Rattle.sb_calls.specs.Procedures.{takes_too_much}
 use Rattle.sb_calls.specs.declared.call.Call.TheVariants.{Amalgamate}
 use Rattle.sb_calls.specs.declared.reply.Reply.TheVariants.{Done, OverLimit}
 
 -- a number that is not within the limit is past it on one side
-pub past_limit_either : (v : ℤ) → ¬ IsWithinLimit v → (int_lt LIMIT v || int_lt v (neg_ℤ LIMIT)) ≡ true
+pub past_limit_either : (v : ℤ) → ¬ IsWithinLimit v → takes_too_much v ≡ true
 past_limit_either v past =
     by_lt_z LIMIT v (λ above. or_left (int_lt LIMIT v) (int_lt v (neg_ℤ LIMIT)) (grind (arith, ints, above)))
     (λ most. by_lt_z v (neg_ℤ LIMIT) (λ below. or_right (int_lt LIMIT v) (int_lt v (neg_ℤ LIMIT)) (grind (arith, ints, below)))
     (λ least. absurd (past (record { at_least = least; at_most = most }))))
 
 -- and one that is within it is not
-pub within_limit : (v : ℤ) → IsWithinLimit v → (int_lt LIMIT v || int_lt v (neg_ℤ LIMIT)) ≡ false
+pub within_limit : (v : ℤ) → IsWithinLimit v → takes_too_much v ≡ false
 within_limit v fits = or_from (int_lt LIMIT v) (int_lt v (neg_ℤ LIMIT)) (grind (arith, ints, fits.at_most)) (grind (arith, ints, fits.at_least))
 
 -- names at different places are different

@@ -1,5 +1,5 @@
 -- A call depends on the balances that it touches, and leaves all others.
-use Rattle.std.proofs.Common.{◌≡◌, ℕ, ℤ, pos, neg_ℤ, ◌+ℤ◌, ◌-ℤ◌, Bool, true, false, cond, not, ◌&&◌, ◌||◌, inl, inr, Option, Some, None, is_some, List, [], ◌∷◌, refl, sym, ap, subst, ◌∙◌}
+use Rattle.std.proofs.Common.{◌≡◌, ℕ, ℤ, pos, neg_ℤ, ◌+ℤ◌, ◌-ℤ◌, Bool, true, false, cond, not, ◌&&◌, inl, inr, Option, Some, None, is_some, List, [], ◌∷◌, refl, sym, ap, subst, ◌∙◌}
 use Rattle.std.specs.Prelude.{int_lt, if◌then◌else◌, option_map}
 use Rattle.std.specs.FinMap.{get, insert}
 use Rattle.std.specs.List.{Contains}
@@ -10,7 +10,7 @@ use Rattle.sb_amount.specs.declared.cents.TheConstants.{LIMIT}
 use Rattle.sb_rows.specs.Rows.{Rows}
 use Rattle.sb_calls.proofs.ListMembers.{IsOneOf, one_from_Contains, Contains-from_one}
 use Rattle.sb_calls.proofs.RowTotals.{get-insert_name, other_name}
-use Rattle.sb_calls.specs.Procedures.{Outcome, with_balances, check_cost, procedure}
+use Rattle.sb_calls.specs.Procedures.{Outcome, with_balances, takes_too_much, check_cost, procedure}
 use Rattle.sb_calls.specs.Touches.{BalanceCell, Savings, Checking, balance_at, has_name, both_of, touched_cells, HaveSameNames, AgreeOn, Locality}
 use Rattle.sb_calls.specs.declared.call.Call.{Call}
 use Rattle.sb_calls.specs.declared.call.Call.TheVariants.{Balance, DepositChecking, TransactSavings, Amalgamate, WriteCheck, SendPayment}
@@ -267,9 +267,9 @@ moved_local a b from to s c s_to c_to s_to_b sum differs agree is_from is_to =
 -- the effect of an amalgamation of two different customers on their balances
 abbrev amalgamated : List ℕ → List ℕ → Rows → ℤ → ℤ → ℤ → ℤ → Outcome
 amalgamated from to rows savings checking savings_to checking_to =
-    if int_lt LIMIT ((checking_to +ℤ savings) +ℤ checking) || int_lt ((checking_to +ℤ savings) +ℤ checking)
-    (neg_ℤ LIMIT) then record { rows = rows; reply = replies.OverLimit }
-    else record { rows = moved from to rows savings_to ((checking_to +ℤ savings) +ℤ checking); reply = replies.Done }
+    let sum = (checking_to +ℤ savings) +ℤ checking in
+    if takes_too_much sum then record { rows = rows; reply = replies.OverLimit }
+    else record { rows = moved from to rows savings_to sum; reply = replies.Done }
 
 -- on rows that agree
 amalgamated_local : (a b : Rows) (from to : List ℕ) (s c s_b c_b s_to c_to s_to_b c_to_b : ℤ) → bytes_eq from to ≡ false → AgreeOn (three_of from to) a b
@@ -286,7 +286,7 @@ amalgamated_local a b from to s c s_b c_b s_to c_to s_to_b c_to_b differs alike 
     subst (λ (v : ℤ). AreLocal (three_of from to) a b on_a (amalgamated from to b v c_b s_to_b c_to_b)) same_s
     (subst (λ (k : ℤ). AreLocal (three_of from to) a b on_a (amalgamated from to b s k s_to_b c_to_b)) same_c
     (subst (λ (k : ℤ). AreLocal (three_of from to) a b on_a (amalgamated from to b s c s_to_b k)) same_to
-    (either_local (int_lt LIMIT sum || int_lt sum (neg_ℤ LIMIT)) _ _ _ _ (left_local replies.OverLimit alike) (λ fits.
+    (either_local (takes_too_much sum) _ _ _ _ (left_local replies.OverLimit alike) (λ fits.
     moved_local a b from to s c s_to c_to s_to_b sum differs alike a_from a_to))))
 
 -- a call of two customers, by the rows of their names, and whether they are the same

@@ -1,7 +1,7 @@
 -- The effect of an op on what its cowns contain is its call's procedure.
 use Rattle.std.proofs.Common.{◌≡◌, ◌≢◌, ℕ, ◌<◌, ◌≤◌, ℤ, pos, neg_ℤ, ◌≤ℤ◌, ◌+ℤ◌, ◌-ℤ◌, Bool, true, false, cond, ◌⊎◌, inl, inr, Some, List, [], ◌∷◌, get_or, refl, sym, ap, subst, ◌∙◌, arith}
 use Rattle.std.specs.Prelude.{int_lt, slice_set}
-use Rattle.std.proofs.lemmas.Bool.{both_ways, cases_lt, or_parts}
+use Rattle.std.proofs.lemmas.Bool.{both_ways, cases_lt}
 use Rattle.std.proofs.lemmas.Int.{ints}
 use Rattle.std.proofs.lemmas.List.{set-get_or, set_comm}
 use Rattle.std.proofs.lemmas.Option.{get_or_from_slice_get}
@@ -19,13 +19,13 @@ use Rattle.sb_calls.proofs.Payments.{paid, performs_payment_negative, performs_p
 use Rattle.sb_calls.proofs.CustomerRows.{HasRow, HasRow-unread, with_savings, with_checking, checking_within}
 use Rattle.sb_calls.proofs.Procedures.{performs_balance, performs_negative, performs_over_limit, performs_deposit, performs_overdraft, performs_savings_over_limit, performs_savings, performs_check_negative, performs_check_over_limit, performs_check}
 use Rattle.sb_calls.proofs.Refusals.{performs_no_customer, performs_same_customer}
-use Rattle.sb_calls.specs.Behaviour.{cowns_of_two, checkings_of_two, declared_cowns, deposit_effect, savings_effect, check_effect, takes_too_much, giver_first_effect, taker_first_effect, payer_first_effect, paid_first_effect, effect_of_two, payment_effect, effect_of}
-use Rattle.sb_calls.specs.inner.BehaviourLaws.{in_each_payment}
+use Rattle.sb_calls.specs.Behaviour.{cowns_of_two, checkings_of_two, declared_cowns, deposit_effect, savings_effect, check_effect, giver_first_effect, taker_first_effect, payer_first_effect, paid_first_effect, effect_of_two, payment_effect, effect_of}
+use Rattle.sb_calls.specs.inner.BehaviourLaws.{sum_within, in_each_payment}
 use Rattle.sb_calls.specs.CownLaws.{PerformsByCowns}
 use Rattle.sb_calls.specs.Cowns.{savings_cown, checking_cown, contents_of, read_cowns, write_cowns}
 use Rattle.sb_calls.specs.Op.{op_of}
 use Rattle.sb_calls.specs.FollowsProcedure.{FollowsProcedure}
-use Rattle.sb_calls.specs.Procedures.{check_cost}
+use Rattle.sb_calls.specs.Procedures.{takes_too_much, check_cost}
 use Rattle.sb_calls.specs.declared.call.Call.{Call}
 use Rattle.sb_calls.specs.declared.call.Call.TheVariants.{Balance, DepositChecking, TransactSavings, Amalgamate, WriteCheck, SendPayment}
 use Rattle.sb_calls.specs.declared.op.Op.{Op}
@@ -179,12 +179,7 @@ written_taker_first b p q sum differs =
     ∙ set_comm (slice_set (contents_of b) (savings_cown p) (pos 0)) (checking_cown p) (checking_cown q) (pos 0) sum apart
     ∙ ap (λ (contents : List ℤ). slice_set contents (checking_cown p) (pos 0)) (set_comm (contents_of b) (savings_cown p) (checking_cown q) (pos 0) sum other)
 
--- a sum that isn't too much is within the limit, and one that is too much isn't
-sum_within : (v : ℤ) → takes_too_much v ≡ false → IsWithinLimit v
-sum_within v e =
-    let either = or_parts (int_lt LIMIT v) (int_lt v (neg_ℤ LIMIT)) e in
-    record { at_least = grind (arith, ints, either.1); at_most = grind (arith, ints, either.0) }
-
+-- a sum that is too much isn't within the limit
 sum_past : (v : ℤ) → takes_too_much v ≡ true → ¬ IsWithinLimit v
 sum_past v e fits = both_ways (takes_too_much v) (within_limit v fits) e
 

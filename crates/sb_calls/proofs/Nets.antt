@@ -1,5 +1,5 @@
 -- What each procedure adds to the bank's total.
-use Rattle.std.proofs.Common.{◌≡◌, ℕ, zero, suc, ℤ, pos, neg_ℤ, ◌+ℤ◌, ◌-ℤ◌, Bool, true, false, cond, ◌||◌, Option, Some, None, List, [], ◌∷◌, refl, sym, ap, ◌∙◌, arith}
+use Rattle.std.proofs.Common.{◌≡◌, ℕ, zero, suc, ℤ, pos, neg_ℤ, ◌+ℤ◌, ◌-ℤ◌, Bool, true, false, cond, Option, Some, None, List, [], ◌∷◌, refl, sym, ap, ◌∙◌, arith}
 use Rattle.std.specs.Prelude.{int_lt}
 use Rattle.std.specs.FinMap.{get, insert}
 use Rattle.std.specs.Str.{bytes_eq}
@@ -9,7 +9,7 @@ use Rattle.sb_rows.specs.Listing.{rows_in_order, total_of}
 use Rattle.sb_rows.specs.Rows.{Rows}
 use Rattle.sb_calls.proofs.RowTotals.{get-insert_name, other_name, total_of-insert, HasNames-insert}
 use Rattle.sb_calls.specs.Net.{HasNames, TotalByNet, net_if_done, net_if_paid, net_of}
-use Rattle.sb_calls.specs.Procedures.{Outcome, with_balances, check_cost, procedure}
+use Rattle.sb_calls.specs.Procedures.{Outcome, with_balances, takes_too_much, check_cost, procedure}
 use Rattle.sb_calls.specs.declared.call.Call.{Call}
 use Rattle.sb_calls.specs.declared.call.Call.TheVariants.{Balance, DepositChecking, TransactSavings, Amalgamate, WriteCheck, SendPayment}
 use Rattle.sb_calls.specs.declared.reply.Reply.{Reply}
@@ -95,7 +95,7 @@ procedure_adds directory (Amalgamate from to) rows h =
     let net = net_of (Amalgamate from to) in
     with_balances_adds net h from _ refl (λ s c is_from. with_balances_adds net h to _ refl (λ s_to c_to is_to.
     either_adds net h (bytes_eq from to) _ _ (left_as_is net h SameCustomer refl) (λ differs.
-    either_adds net h (int_lt LIMIT ((c_to +ℤ s) +ℤ c) || int_lt ((c_to +ℤ s) +ℤ c) (neg_ℤ LIMIT)) _ _ (left_as_is net h OverLimit refl) (λ fits.
+    either_adds net h (takes_too_much ((c_to +ℤ s) +ℤ c)) _ _ (left_as_is net h OverLimit refl) (λ fits.
     two_replaced directory rows from to s c s_to c_to (pos 0) (pos 0) ((c_to +ℤ s) +ℤ c) h is_from is_to differs (omega (arith, ints))))))
 procedure_adds directory (WriteCheck name amount) rows h =
     let net = net_if_paid amount in

@@ -5,11 +5,11 @@ use Rattle.std.proofs.lemmas.Bool.{cases_lt}
 use Rattle.std.proofs.lemmas.Int.{ints}
 use Rattle.std.proofs.lemmas.List.{get_or_past}
 use Rattle.sb_amount.specs.declared.cents.TheConstants.{LIMIT}
-use Rattle.sb_calls.specs.Behaviour.{declared_cowns, effect_of, on_one_value, on_two_values, on_three_values, deposit_effect, savings_effect, check_effect, takes_too_much, giver_first_effect, taker_first_effect, payment, payer_first_effect, paid_first_effect, effect_of_two, payment_effect}
+use Rattle.sb_calls.specs.Behaviour.{declared_cowns, effect_of, on_one_value, on_two_values, on_three_values, deposit_effect, savings_effect, check_effect, giver_first_effect, taker_first_effect, payment, payer_first_effect, paid_first_effect, effect_of_two, payment_effect}
 use Rattle.sb_calls.specs.inner.BehaviourLaws.{effect_in_range, zero_in_range, in_each_payment}
 use Rattle.sb_calls.specs.Cowns.{IsContents, AreCownValues, IsCownValue, read_cowns, savings_cown, checking_cown}
 use Rattle.sb_calls.specs.SerialRun.{contents_after, contents_after_first, contents_after_one, reply_of, reply_by_log}
-use Rattle.sb_calls.specs.Procedures.{check_cost}
+use Rattle.sb_calls.specs.Procedures.{takes_too_much, check_cost}
 use Rattle.sb_calls.specs.Replies.{IsReply}
 use Rattle.sb_calls.specs.declared.op.Op.{Op}
 use Rattle.sb_calls.specs.declared.op.Op.TheVariants.{Balance, DepositChecking, TransactSavings, Amalgamate, WriteCheck, SendPayment, NoCustomer, SameCustomer}

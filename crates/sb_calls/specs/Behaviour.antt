@@ -1,8 +1,8 @@
 -- The cowns that an op declares, and the op's effect on them.
-use Rattle.std.specs.Prelude.{ℕ, ◌==◌, nat_lt, ℤ, pos, neg_ℤ, ◌+ℤ◌, ◌-ℤ◌, int_lt, Bool, ◌||◌, if◌then◌else◌, List, [], ◌∷◌}
+use Rattle.std.specs.Prelude.{ℕ, ◌==◌, nat_lt, ℤ, pos, neg_ℤ, ◌+ℤ◌, ◌-ℤ◌, int_lt, if◌then◌else◌, List, [], ◌∷◌}
 use Rattle.sb_amount.specs.declared.cents.TheConstants.{LIMIT}
 use Rattle.sb_calls.specs.Cowns.{savings_cown, checking_cown}
-use Rattle.sb_calls.specs.Procedures.{check_cost}
+use Rattle.sb_calls.specs.Procedures.{takes_too_much, check_cost}
 use Rattle.sb_calls.specs.declared.op.Op.{Op}
 use Rattle.sb_calls.specs.declared.op.Op.TheVariants.{Balance, DepositChecking, TransactSavings, Amalgamate, WriteCheck, SendPayment, NoCustomer, SameCustomer}
 use Rattle.sb_calls.specs.declared.reply.Reply.{Reply}
@@ -60,10 +60,6 @@ check_effect amount savings checking =
       if int_lt (savings +ℤ checking) amount then replies.Penalised else replies.Done,
       savings ∷ (checking -ℤ check_cost savings checking amount) ∷ [],
     )
-
--- the taker's balance would pass the limit
-abbrev pub takes_too_much : ℤ → Bool
-takes_too_much sum = int_lt LIMIT sum || int_lt sum (neg_ℤ LIMIT)
 
 -- an amalgamation on the values of its cowns, in order: the giver's come first, or the taker's
 abbrev pub giver_first_effect : ℤ → ℤ → ℤ → Reply × List ℤ

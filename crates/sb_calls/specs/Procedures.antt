@@ -1,7 +1,7 @@
 -- What each procedure does to the rows, and its reply (SmallBank, ICDE 2008). The exact effects are
 -- this project's, and so is the payment. The first case that holds counts, in the order given. A
 -- refusal leaves the rows.
-use Rattle.std.specs.Prelude.{ℕ, ℤ, pos, neg_ℤ, ◌+ℤ◌, ◌-ℤ◌, int_lt, ◌||◌, if◌then◌else◌, Option, Some, None, List}
+use Rattle.std.specs.Prelude.{ℕ, ℤ, pos, neg_ℤ, ◌+ℤ◌, ◌-ℤ◌, int_lt, Bool, ◌||◌, if◌then◌else◌, Option, Some, None, List}
 use Rattle.std.specs.FinMap.{get, insert}
 use Rattle.std.specs.Str.{bytes_eq}
 use Rattle.sb_amount.specs.declared.cents.TheConstants.{LIMIT}
@@ -40,15 +40,18 @@ transact_savings name amount rows = with_balances rows (λ savings checking.
     else if int_lt LIMIT (savings +ℤ amount) then record { rows = rows; reply = OverLimit }
     else record { rows = insert rows name (savings +ℤ amount, checking); reply = Done }) (get rows name)
 
+-- the taker's balance would pass the limit, if it were this sum
+abbrev pub takes_too_much : ℤ → Bool
+takes_too_much sum = int_lt LIMIT sum || int_lt sum (neg_ℤ LIMIT)
+
 -- moves both balances of the first customer to the checking of the second
 abbrev pub amalgamate : List ℕ → List ℕ → Rows → Outcome
 amalgamate from to rows = with_balances rows (λ savings checking. with_balances rows (λ savings_to checking_to.
+    let sum = (checking_to +ℤ savings) +ℤ checking in
     if bytes_eq from to then record { rows = rows; reply = SameCustomer }
-    else if int_lt LIMIT ((checking_to +ℤ savings) +ℤ checking)
-    || int_lt ((checking_to +ℤ savings) +ℤ checking) (neg_ℤ LIMIT)
-    then record { rows = rows; reply = OverLimit }
+    else if takes_too_much sum then record { rows = rows; reply = OverLimit }
     else record {
-      rows = insert (insert rows from (pos 0, pos 0)) to (savings_to, (checking_to +ℤ savings) +ℤ checking);
+      rows = insert (insert rows from (pos 0, pos 0)) to (savings_to, sum);
       reply = Done;
     }) (get rows to)) (get rows from)
 

@@ -9,10 +9,10 @@ use Rattle.std.proofs.lemmas.Bool.{both_ways, or_parts}
 use Rattle.std.proofs.lemmas.Bool.Decides.{Decides-and, Decides-eqb, Decides-int_eq, Decides-like}
 use Rattle.sb_amount.specs.Limit.{IsWithinLimit}
 use Rattle.sb_amount.specs.declared.cents.TheConstants.{LIMIT}
-use Rattle.sb_calls.specs.Behaviour.{cowns_of_two, checkings_of_two, declared_cowns, deposit_effect, savings_effect, check_effect, takes_too_much, giver_first_effect, taker_first_effect, payment, payer_first_effect, paid_first_effect, on_one_value, on_two_values, on_three_values, effect_of_two, payment_effect, effect_of}
+use Rattle.sb_calls.specs.Behaviour.{cowns_of_two, checkings_of_two, declared_cowns, deposit_effect, savings_effect, check_effect, giver_first_effect, taker_first_effect, payment, payer_first_effect, paid_first_effect, on_one_value, on_two_values, on_three_values, effect_of_two, payment_effect, effect_of}
 use Rattle.sb_calls.specs.inner.Bounds.{at_least, sum_above, difference_below, more_not_negative, not_negative_above, next_above, taker_above, giver_above, other_first, remainder_above, checking_cown_odd}
 use Rattle.sb_calls.specs.Cowns.{savings_cown, checking_cown, IsRising, IsCownValue, AreCownValues}
-use Rattle.sb_calls.specs.Procedures.{check_cost}
+use Rattle.sb_calls.specs.Procedures.{takes_too_much, check_cost}
 use Rattle.sb_calls.specs.contracts.op.OpPartialEq.TheImpl as same
 use Rattle.sb_calls.specs.declared.op.Op.{Op}
 use Rattle.sb_calls.specs.declared.op.Op.TheVariants.{Balance, DepositChecking, TransactSavings, Amalgamate, WriteCheck, SendPayment, NoCustomer, SameCustomer}
@@ -273,7 +273,7 @@ check_in_range place amount savings checking s c =
     )))
 
 -- a sum that isn't too much is within the limit
-sum_within : (v : ℤ) → takes_too_much v ≡ false → IsWithinLimit v
+pub sum_within : (v : ℤ) → takes_too_much v ≡ false → IsWithinLimit v
 sum_within v e =
     let both = or_parts (int_lt LIMIT v) (int_lt v (neg_ℤ LIMIT)) e in
     record { at_least = at_least (neg_ℤ LIMIT) v both.1; at_most = at_least v LIMIT both.0 }
