@@ -10,7 +10,7 @@ use Rattle.sb_amount.specs.declared.cents.TheConstants.{LIMIT}
 use Rattle.sb_rows.specs.Rows.{Rows}
 use Rattle.sb_calls.proofs.ListMembers.{IsOneOf, one_from_Contains, Contains-from_one}
 use Rattle.sb_calls.proofs.RowTotals.{get-insert_name, other_name}
-use Rattle.sb_calls.specs.Procedures.{Outcome, with_balances, takes_too_much, check_cost, procedure}
+use Rattle.sb_calls.specs.Procedures.{CallResult, with_balances, takes_too_much, check_cost, procedure}
 use Rattle.sb_calls.specs.Touches.{BalanceCell, Savings, Checking, balance_at, has_name, both_of, touched_cells, HaveSameNames, AgreeOn, Locality}
 use Rattle.sb_calls.specs.declared.call.Call.{Call}
 use Rattle.sb_calls.specs.declared.call.Call.TheVariants.{Balance, DepositChecking, TransactSavings, Amalgamate, WriteCheck, SendPayment}
@@ -46,26 +46,26 @@ balance_at-insert rows name v (Checking q) = ap (option_map (λ (balances : ℤ 
     by true = refl
     by false = refl
 
--- ---- two outcomes on rows that agree
+-- ---- two results on rows that agree
 
-record AreLocal (cells : List BalanceCell) (a b : Rows) (on_a on_b : Outcome) : Type 0 where
+record AreLocal (cells : List BalanceCell) (a b : Rows) (on_a on_b : CallResult) : Type 0 where
   reply : on_a.reply ≡ on_b.reply
   balances : AgreeOn cells on_a.rows on_b.rows
   others : (cell : BalanceCell) → ¬ Contains cells cell → balance_at on_a.rows cell ≡ balance_at a cell
 
 module _ {cells : List BalanceCell} {a b : Rows} where
-  -- two outcomes that leave the rows
+  -- two results that leave the rows
   left_local : (reply : Reply) → AgreeOn cells a b → AreLocal cells a b (record { rows = a; reply = reply }) (record { rows = b; reply = reply })
   left_local reply agree = record { reply = refl; balances = agree; others = λ cell other. refl }
 
-  -- two outcomes by the same test
-  either_local : (test : Bool) (first_a second_a first_b second_b : Outcome) → AreLocal cells a b first_a first_b
+  -- two results by the same test
+  either_local : (test : Bool) (first_a second_a first_b second_b : CallResult) → AreLocal cells a b first_a first_b
       → (test ≡ false → AreLocal cells a b second_a second_b)
       → AreLocal cells a b (cond test first_a second_a) (cond test first_b second_b)
   either_local true first_a second_a first_b second_b first second = first
   either_local false first_a second_a first_b second_b first second = second refl
 
-  -- two outcomes that write a row, which agree on touched balances and leave the others
+  -- two results that write a row, which agree on touched balances and leave the others
   written_local : (name : List ℕ) (old on_a on_b : ℤ × ℤ) (reply : Reply) → AgreeOn cells a b → get a name ≡ Some old
       → ((cell : BalanceCell) → IsOneOf cells cell → name_of cell ≡ name → value_of cell on_a ≡ value_of cell on_b)
       → ((cell : BalanceCell) → ¬ IsOneOf cells cell → name_of cell ≡ name → value_of cell on_a ≡ value_of cell old)
@@ -92,15 +92,15 @@ module _ {cells : List BalanceCell} {a b : Rows} where
 -- ---- one customer
 
 -- a name that has rows in both or in neither
-local_one : (a b : Rows) (name : List ℕ) (outcome : Rows → ℤ → ℤ → Outcome) (cells : List BalanceCell) → HaveSameNames a b
+local_one : (a b : Rows) (name : List ℕ) (result : Rows → ℤ → ℤ → CallResult) (cells : List BalanceCell) → HaveSameNames a b
     → AgreeOn (if has_name a name then cells else []) a b
     → ((s c s_b c_b : ℤ) → get a name ≡ Some (s, c) → get b name ≡ Some (s_b, c_b) → AgreeOn cells a b
-    → AreLocal cells a b (outcome a s c) (outcome b s_b c_b))
-    → AreLocal (if has_name a name then cells else []) a b (with_balances a (outcome a) (get a name)) (with_balances b (outcome b) (get b name))
-local_one a b name outcome cells names agree there = by (get a name) (get b name) refl refl (names name) agree
+    → AreLocal cells a b (result a s c) (result b s_b c_b))
+    → AreLocal (if has_name a name then cells else []) a b (with_balances a (result a) (get a name)) (with_balances b (result b) (get b name))
+local_one a b name result cells names agree there = by (get a name) (get b name) refl refl (names name) agree
   where
     by : (on_a on_b : Option (ℤ × ℤ)) → get a name ≡ on_a → get b name ≡ on_b → is_some on_a ≡ is_some on_b → AgreeOn (if is_some on_a then cells else []) a b
-        → AreLocal (if is_some on_a then cells else []) a b (with_balances a (outcome a) on_a) (with_balances b (outcome b) on_b)
+        → AreLocal (if is_some on_a then cells else []) a b (with_balances a (result a) on_a) (with_balances b (result b) on_b)
     by None None e_a e_b same alike = left_local replies.NoCustomer alike
     by None (Some v) e_a e_b same alike = absurd cc
     by (Some v) None e_a e_b same alike = absurd cc
@@ -147,22 +147,22 @@ none_left name (Savings q) other is = other (inl (ap Savings (sym is)))
 none_left name (Checking q) other is = other (inr (inl (ap Checking (sym is))))
 
 -- what each procedure makes of the balances
-abbrev shown : Rows → ℤ → ℤ → Outcome
+abbrev shown : Rows → ℤ → ℤ → CallResult
 shown rows savings checking = record { rows = rows; reply = replies.Shown (savings +ℤ checking) }
 
-abbrev deposited : List ℕ → ℤ → Rows → ℤ → ℤ → Outcome
+abbrev deposited : List ℕ → ℤ → Rows → ℤ → ℤ → CallResult
 deposited name amount rows savings checking =
     if int_lt amount (pos 0) then record { rows = rows; reply = replies.Negative }
     else if int_lt LIMIT (checking +ℤ amount) then record { rows = rows; reply = replies.OverLimit }
     else record { rows = insert rows name (savings, checking +ℤ amount); reply = replies.Done }
 
-abbrev changed : List ℕ → ℤ → Rows → ℤ → ℤ → Outcome
+abbrev changed : List ℕ → ℤ → Rows → ℤ → ℤ → CallResult
 changed name amount rows savings checking =
     if int_lt (savings +ℤ amount) (pos 0) then record { rows = rows; reply = replies.WouldOverdraw }
     else if int_lt LIMIT (savings +ℤ amount) then record { rows = rows; reply = replies.OverLimit }
     else record { rows = insert rows name (savings +ℤ amount, checking); reply = replies.Done }
 
-abbrev paid : List ℕ → ℤ → Rows → ℤ → ℤ → Outcome
+abbrev paid : List ℕ → ℤ → Rows → ℤ → ℤ → CallResult
 paid name amount rows savings checking =
     if int_lt amount (pos 0) then record { rows = rows; reply = replies.Negative }
     else if int_lt (checking -ℤ check_cost savings checking amount) (neg_ℤ LIMIT) then record { rows = rows; reply = replies.OverLimit }
@@ -173,15 +173,15 @@ paid name amount rows savings checking =
 
 module _ (a b : Rows) (name : List ℕ) (names : HaveSameNames a b) where
   -- both balances agree if both are touched
-  on_both : (outcome : Rows → ℤ → ℤ → Outcome)
-      → ((s c : ℤ) → get a name ≡ Some (s, c) → AgreeOn (both_of name) a b → AreLocal (both_of name) a b (outcome a s c) (outcome b s c))
+  on_both : (result : Rows → ℤ → ℤ → CallResult)
+      → ((s c : ℤ) → get a name ≡ Some (s, c) → AgreeOn (both_of name) a b → AreLocal (both_of name) a b (result a s c) (result b s c))
       → AgreeOn (if has_name a name then both_of name else []) a b
-      → AreLocal (if has_name a name then both_of name else []) a b (with_balances a (outcome a) (get a name)) (with_balances b (outcome b) (get b name))
-  on_both outcome there agree = local_one a b name outcome (both_of name) names agree (λ s c s_b c_b e_a e_b alike.
+      → AreLocal (if has_name a name then both_of name else []) a b (with_balances a (result a) (get a name)) (with_balances b (result b) (get b name))
+  on_both result there agree = local_one a b name result (both_of name) names agree (λ s c s_b c_b e_a e_b alike.
       let same_s = same_savings a b name s c s_b c_b e_a e_b (alike (Savings name) (Contains-from_one (both_of name) (Savings name) (inl refl))) in
       let same_c = same_checking a b name s c s_b c_b e_a e_b (alike (Checking name) (Contains-from_one (both_of name) (Checking name) (inr (inl refl)))) in
-      subst (λ (v : ℤ). AreLocal (both_of name) a b (outcome a s c) (outcome b v c_b)) same_s
-      (subst (λ (k : ℤ). AreLocal (both_of name) a b (outcome a s c) (outcome b s k)) same_c (there s c e_a alike)))
+      subst (λ (v : ℤ). AreLocal (both_of name) a b (result a s c) (result b v c_b)) same_s
+      (subst (λ (k : ℤ). AreLocal (both_of name) a b (result a s c) (result b s k)) same_c (there s c e_a alike)))
 
   balance_local : AgreeOn (touched_cells a (Balance name)) a b
       → AreLocal (touched_cells a (Balance name)) a b (procedure (Balance name) a) (procedure (Balance name) b)
@@ -265,7 +265,7 @@ moved_local a b from to s c s_to c_to s_to_b sum differs agree is_from is_to =
     record { reply = refl; balances = second.balances; others = λ cell other. second.others cell other ∙ first.others cell other }
 
 -- the effect of an amalgamation of two different customers on their balances
-abbrev amalgamated : List ℕ → List ℕ → Rows → ℤ → ℤ → ℤ → ℤ → Outcome
+abbrev amalgamated : List ℕ → List ℕ → Rows → ℤ → ℤ → ℤ → ℤ → CallResult
 amalgamated from to rows savings checking savings_to checking_to =
     let sum = (checking_to +ℤ savings) +ℤ checking in
     if takes_too_much sum then record { rows = rows; reply = replies.OverLimit }
@@ -290,27 +290,27 @@ amalgamated_local a b from to s c s_b c_b s_to c_to s_to_b c_to_b differs alike 
     moved_local a b from to s c s_to c_to s_to_b sum differs alike a_from a_to))))
 
 -- a call of two customers, by the rows of their names, and whether they are the same
-abbrev outcome_of_two : (Rows → ℤ → ℤ → ℤ → ℤ → Outcome) → Rows → Bool → Option (ℤ × ℤ) → Option (ℤ × ℤ) → Outcome
-outcome_of_two outcome rows one on_from on_to = with_balances rows (λ savings checking. with_balances rows (λ savings_to checking_to.
-    if one then record { rows = rows; reply = replies.SameCustomer } else outcome rows savings checking savings_to checking_to) on_to) on_from
+abbrev result_of_two : (Rows → ℤ → ℤ → ℤ → ℤ → CallResult) → Rows → Bool → Option (ℤ × ℤ) → Option (ℤ × ℤ) → CallResult
+result_of_two result rows one on_from on_to = with_balances rows (λ savings checking. with_balances rows (λ savings_to checking_to.
+    if one then record { rows = rows; reply = replies.SameCustomer } else result rows savings checking savings_to checking_to) on_to) on_from
 
 -- if both names have rows and are different, the call is as local as its effect on their balances
-local_two : (a b : Rows) (from to : List ℕ) (outcome : Rows → ℤ → ℤ → ℤ → ℤ → Outcome) (cells : List BalanceCell) → HaveSameNames a b
+local_two : (a b : Rows) (from to : List ℕ) (result : Rows → ℤ → ℤ → ℤ → ℤ → CallResult) (cells : List BalanceCell) → HaveSameNames a b
     → AgreeOn (if has_name a from && has_name a to && not (bytes_eq from to) then cells else []) a b
     → ((s c s_b c_b s_to c_to s_to_b c_to_b : ℤ) → bytes_eq from to ≡ false → AgreeOn cells a b → get a from ≡ Some (s, c) → get b from ≡ Some (s_b, c_b)
     → get a to ≡ Some (s_to, c_to) → get b to ≡ Some (s_to_b, c_to_b)
-    → AreLocal cells a b (outcome a s c s_to c_to) (outcome b s_b c_b s_to_b c_to_b))
+    → AreLocal cells a b (result a s c s_to c_to) (result b s_b c_b s_to_b c_to_b))
     → AreLocal (if has_name a from && has_name a to && not (bytes_eq from to) then cells else []) a b
-    (outcome_of_two outcome a (bytes_eq from to) (get a from) (get a to)) (outcome_of_two outcome b (bytes_eq from to) (get b from) (get b to))
-local_two a b from to outcome cells names agree there =
+    (result_of_two result a (bytes_eq from to) (get a from) (get a to)) (result_of_two result b (bytes_eq from to) (get b from) (get b to))
+local_two a b from to result cells names agree there =
     by (bytes_eq from to) (get a from) (get b from) (get a to) (get b to) refl refl refl refl refl (names from) (names to) agree
   where
     by : (one : Bool) (a_from b_from a_to b_to : Option (ℤ × ℤ)) → bytes_eq from to ≡ one → get a from ≡ a_from → get b from ≡ b_from → get a to ≡ a_to
         → get b to ≡ b_to
         → is_some a_from ≡ is_some b_from → is_some a_to ≡ is_some b_to
         → AgreeOn (if is_some a_from && is_some a_to && not one then cells else []) a b
-        → AreLocal (if is_some a_from && is_some a_to && not one then cells else []) a b (outcome_of_two outcome a one a_from a_to)
-        (outcome_of_two outcome b one b_from b_to)
+        → AreLocal (if is_some a_from && is_some a_to && not one then cells else []) a b (result_of_two result a one a_from a_to)
+        (result_of_two result b one b_from b_to)
     by one None (Some w) a_to b_to e ea eb fa fb same_from same_to alike = absurd cc
     by one (Some v) None a_to b_to e ea eb fa fb same_from same_to alike = absurd cc
     by one None None a_to b_to e ea eb fa fb same_from same_to alike = left_local replies.NoCustomer alike
@@ -368,7 +368,7 @@ paid_over_local a b from to s c s_b s_to c_to s_to_b left sum differs agree is_f
     record { reply = refl; balances = second.balances; others = λ cell other. second.others cell other ∙ first.others cell other }
 
 -- the effect of a payment between two different customers on their balances
-abbrev sent : List ℕ → List ℕ → ℤ → Rows → ℤ → ℤ → ℤ → ℤ → Outcome
+abbrev sent : List ℕ → List ℕ → ℤ → Rows → ℤ → ℤ → ℤ → ℤ → CallResult
 sent from to amount rows savings checking savings_to checking_to =
     if int_lt amount (pos 0) then record { rows = rows; reply = replies.Negative }
     else if int_lt checking amount then record { rows = rows; reply = replies.WouldOverdraw }

@@ -9,27 +9,27 @@ use Rattle.sb_rows.specs.Listing.{rows_in_order, total_of}
 use Rattle.sb_rows.specs.Rows.{Rows}
 use Rattle.sb_calls.proofs.RowTotals.{get-insert_name, other_name, total_of-insert, HasNames-insert}
 use Rattle.sb_calls.specs.Net.{HasNames, TotalByNet, net_if_done, net_if_paid, net_of}
-use Rattle.sb_calls.specs.Procedures.{Outcome, with_balances, takes_too_much, check_cost, procedure}
+use Rattle.sb_calls.specs.Procedures.{CallResult, with_balances, takes_too_much, check_cost, procedure}
 use Rattle.sb_calls.specs.declared.call.Call.{Call}
 use Rattle.sb_calls.specs.declared.call.Call.TheVariants.{Balance, DepositChecking, TransactSavings, Amalgamate, WriteCheck, SendPayment}
 use Rattle.sb_calls.specs.declared.reply.Reply.{Reply}
 use Rattle.sb_calls.specs.declared.reply.Reply.TheVariants.{Shown, Done, Penalised, NoCustomer, SameCustomer, Negative, WouldOverdraw, OverLimit}
 
--- an outcome keeps the names, and its total is the old one plus the net of its reply
-pub record AddsNet (directory : List (List ℕ)) (rows : Rows) (net : Reply → ℤ) (outcome : Outcome) : Type 0 where
-  pub names : HasNames directory outcome.rows
-  pub total : total_of (rows_in_order directory outcome.rows) ≡ total_of (rows_in_order directory rows) +ℤ net outcome.reply
+-- a result keeps the names, and its total is the old one plus the net of its reply
+pub record AddsNet (directory : List (List ℕ)) (rows : Rows) (net : Reply → ℤ) (result : CallResult) : Type 0 where
+  pub names : HasNames directory result.rows
+  pub total : total_of (rows_in_order directory result.rows) ≡ total_of (rows_in_order directory rows) +ℤ net result.reply
 
 -- adding 0 changes nothing
 plus_nothing : (total net : ℤ) → net ≡ pos 0 → total ≡ total +ℤ net
 plus_nothing total net e = omega (arith, ints, e)
 
 module _ {directory : List (List ℕ)} {rows : Rows} (net : Reply → ℤ) (h : HasNames directory rows) where
-  -- an outcome that leaves the rows, with a reply whose net is 0
+  -- a result that leaves the rows, with a reply whose net is 0
   left_as_is : (reply : Reply) → net reply ≡ pos 0 → AddsNet directory rows net (record { rows = rows; reply = reply })
   left_as_is reply none = record { names = h; total = plus_nothing (total_of (rows_in_order directory rows)) (net reply) none }
 
-  -- an outcome that replaces a row, with a reply whose net is the difference
+  -- a result that replaces a row, with a reply whose net is the difference
   replaced : (name : List ℕ) (s c s_new c_new : ℤ) (reply : Reply) → get rows name ≡ Some (s, c) → net reply ≡ (s_new +ℤ c_new) -ℤ (s +ℤ c)
       → AddsNet directory rows net (record { rows = insert rows name (s_new, c_new); reply = reply })
   replaced name s c s_new c_new reply is worth = record {
@@ -37,19 +37,19 @@ module _ {directory : List (List ℕ)} {rows : Rows} (net : Reply → ℤ) (h : 
     total = total_of-insert name h is s_new c_new ∙ ap (λ x. total_of (rows_in_order directory rows) +ℤ x) (sym worth);
   }
 
-  -- one of two outcomes
-  either_adds : (test : Bool) (first second : Outcome) → AddsNet directory rows net first → (test ≡ false → AddsNet directory rows net second)
+  -- one of two results
+  either_adds : (test : Bool) (first second : CallResult) → AddsNet directory rows net first → (test ≡ false → AddsNet directory rows net second)
       → AddsNet directory rows net (cond test first second)
   either_adds true first second a b = a
   either_adds false first second a b = b refl
 
-  -- an outcome by the row of a name
-  with_balances_adds : (name : List ℕ) (outcome : ℤ → ℤ → Outcome) → net NoCustomer ≡ pos 0
-      → ((s c : ℤ) → get rows name ≡ Some (s, c) → AddsNet directory rows net (outcome s c))
-      → AddsNet directory rows net (with_balances rows outcome (get rows name))
-  with_balances_adds name outcome none there = by (get rows name) refl
+  -- a result by the row of a name
+  with_balances_adds : (name : List ℕ) (result : ℤ → ℤ → CallResult) → net NoCustomer ≡ pos 0
+      → ((s c : ℤ) → get rows name ≡ Some (s, c) → AddsNet directory rows net (result s c))
+      → AddsNet directory rows net (with_balances rows result (get rows name))
+  with_balances_adds name result none there = by (get rows name) refl
     where
-      by : (balances : Option (ℤ × ℤ)) → get rows name ≡ balances → AddsNet directory rows net (with_balances rows outcome balances)
+      by : (balances : Option (ℤ × ℤ)) → get rows name ≡ balances → AddsNet directory rows net (with_balances rows result balances)
       by None e = left_as_is NoCustomer none
       by (Some balances) e = there balances.0 balances.1 e
 

@@ -12,7 +12,7 @@ use Rattle.sb_calls.proofs.OpOrigins.{HasMissingName, IsOfTwo, comes_from}
 use Rattle.sb_calls.proofs.CustomerRows.{HasRow-unread, row_is}
 use Rattle.sb_calls.specs.Op.{op_of}
 use Rattle.sb_calls.specs.FollowsProcedure.{FollowsProcedure}
-use Rattle.sb_calls.specs.Procedures.{Outcome, with_balances, procedure}
+use Rattle.sb_calls.specs.Procedures.{CallResult, with_balances, procedure}
 use Rattle.sb_calls.specs.declared.call.Call.{Call}
 use Rattle.sb_calls.specs.declared.call.Call.TheVariants.{Balance, DepositChecking, TransactSavings, Amalgamate, WriteCheck, SendPayment}
 use Rattle.sb_calls.specs.declared.op.Op.TheVariants as ops
@@ -23,19 +23,19 @@ use Rattle.sb_calls.specs.declared.reply.Reply.TheVariants.{NoCustomer, SameCust
 pub performs_refusal : (directory : List (List ℕ)) (call : Call) (b : Balances) (reply : Reply) → SameCustomers directory b
     → procedure call (rows_of directory b) ≡ record { rows = rows_of directory b; reply = reply } → FollowsProcedure directory call b b reply
 performs_refusal directory call b reply same e = record {
-  rows = sym (ap (λ (o : Outcome). o.rows) e);
-  reply = sym (ap (λ (o : Outcome). o.reply) e);
+  rows = sym (ap (λ (result : CallResult). result.rows) e);
+  reply = sym (ap (λ (result : CallResult). result.reply) e);
   customers = same;
 }
 
 -- a call of two customers without the second has no customer, whether or not the first exists
-no_second : (outcome : ℤ → ℤ → ℤ → ℤ → Outcome) (from to : List ℕ) (rows : Rows) → get rows to ≡ None
-    → with_balances rows (λ savings checking. with_balances rows (outcome savings checking) (get rows to)) (get rows from)
+no_second : (result : ℤ → ℤ → ℤ → ℤ → CallResult) (from to : List ℕ) (rows : Rows) → get rows to ≡ None
+    → with_balances rows (λ savings checking. with_balances rows (result savings checking) (get rows to)) (get rows from)
     ≡ record { rows = rows; reply = NoCustomer }
-no_second outcome from to rows none = by (get rows from)
+no_second result from to rows none = by (get rows from)
   where
     by : (balances : Option (ℤ × ℤ))
-        → with_balances rows (λ savings checking. with_balances rows (outcome savings checking) (get rows to)) balances
+        → with_balances rows (λ savings checking. with_balances rows (result savings checking) (get rows to)) balances
         ≡ record { rows = rows; reply = NoCustomer }
     by None = refl
     by (Some balances) = rw none refl

@@ -11,30 +11,30 @@ use Rattle.sb_calls.specs.declared.call.Call.TheVariants.{Balance, DepositChecki
 use Rattle.sb_calls.specs.declared.reply.Reply.{Reply}
 use Rattle.sb_calls.specs.declared.reply.Reply.TheVariants.{Shown, Done, Penalised, NoCustomer, SameCustomer, Negative, WouldOverdraw, OverLimit}
 
--- the rows after a call, and the reply to it
-pub record Outcome : Type 0 where
+-- the result of a call: the rows after it, and the reply to it
+pub record CallResult : Type 0 where
   pub rows : Rows
   pub reply : Reply
 
--- the outcome for a customer with these balances, or NoCustomer if there is none
-abbrev pub with_balances : Rows → (ℤ → ℤ → Outcome) → Option (ℤ × ℤ) → Outcome
-with_balances rows outcome None = record { rows = rows; reply = NoCustomer }
-with_balances rows outcome (Some balances) = outcome balances.0 balances.1
+-- the result for a customer with these balances, or NoCustomer if there is none
+abbrev pub with_balances : Rows → (ℤ → ℤ → CallResult) → Option (ℤ × ℤ) → CallResult
+with_balances rows result None = record { rows = rows; reply = NoCustomer }
+with_balances rows result (Some balances) = result balances.0 balances.1
 
 -- shows the sum of savings and checking
-abbrev pub balance : List ℕ → Rows → Outcome
+abbrev pub balance : List ℕ → Rows → CallResult
 balance name rows = with_balances rows (λ savings checking.
     record { rows = rows; reply = Shown (savings +ℤ checking) }) (get rows name)
 
 -- checking grows by the amount
-abbrev pub deposit_checking : List ℕ → ℤ → Rows → Outcome
+abbrev pub deposit_checking : List ℕ → ℤ → Rows → CallResult
 deposit_checking name amount rows = with_balances rows (λ savings checking.
     if int_lt amount (pos 0) then record { rows = rows; reply = Negative }
     else if int_lt LIMIT (checking +ℤ amount) then record { rows = rows; reply = OverLimit }
     else record { rows = insert rows name (savings, checking +ℤ amount); reply = Done }) (get rows name)
 
 -- savings grow by the amount, which may be negative
-abbrev pub transact_savings : List ℕ → ℤ → Rows → Outcome
+abbrev pub transact_savings : List ℕ → ℤ → Rows → CallResult
 transact_savings name amount rows = with_balances rows (λ savings checking.
     if int_lt (savings +ℤ amount) (pos 0) then record { rows = rows; reply = WouldOverdraw }
     else if int_lt LIMIT (savings +ℤ amount) then record { rows = rows; reply = OverLimit }
@@ -45,7 +45,7 @@ abbrev pub takes_too_much : ℤ → Bool
 takes_too_much sum = int_lt LIMIT sum || int_lt sum (neg_ℤ LIMIT)
 
 -- moves both balances of the first customer to the checking of the second
-abbrev pub amalgamate : List ℕ → List ℕ → Rows → Outcome
+abbrev pub amalgamate : List ℕ → List ℕ → Rows → CallResult
 amalgamate from to rows = with_balances rows (λ savings checking. with_balances rows (λ savings_to checking_to.
     let sum = (checking_to +ℤ savings) +ℤ checking in
     if bytes_eq from to then record { rows = rows; reply = SameCustomer }
@@ -61,7 +61,7 @@ abbrev pub check_cost : ℤ → ℤ → ℤ → ℤ
 check_cost savings checking amount = if int_lt (savings +ℤ checking) amount then amount +ℤ pos 100 else amount
 
 -- checking falls by the cost of the check
-abbrev pub write_check : List ℕ → ℤ → Rows → Outcome
+abbrev pub write_check : List ℕ → ℤ → Rows → CallResult
 write_check name amount rows = with_balances rows (λ savings checking.
     if int_lt amount (pos 0) then record { rows = rows; reply = Negative }
     else if int_lt (checking -ℤ check_cost savings checking amount) (neg_ℤ LIMIT)
@@ -72,7 +72,7 @@ write_check name amount rows = with_balances rows (λ savings checking.
     }) (get rows name)
 
 -- moves the amount from the checking of the first customer to that of the second
-abbrev pub send_payment : List ℕ → List ℕ → ℤ → Rows → Outcome
+abbrev pub send_payment : List ℕ → List ℕ → ℤ → Rows → CallResult
 send_payment from to amount rows = with_balances rows (λ savings checking. with_balances rows (λ savings_to checking_to.
     if bytes_eq from to then record { rows = rows; reply = SameCustomer }
     else if int_lt amount (pos 0) then record { rows = rows; reply = Negative }
@@ -84,7 +84,7 @@ send_payment from to amount rows = with_balances rows (λ savings checking. with
     }) (get rows to)) (get rows from)
 
 -- the procedure that a call names
-abbrev pub procedure : Call → Rows → Outcome
+abbrev pub procedure : Call → Rows → CallResult
 procedure (Balance name) rows = balance name rows
 procedure (DepositChecking name amount) rows = deposit_checking name amount rows
 procedure (TransactSavings name amount) rows = transact_savings name amount rows

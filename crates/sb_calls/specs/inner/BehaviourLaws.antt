@@ -331,7 +331,7 @@ amalgamation_in_range from to inputs = by (from == to) (nat_lt from to)
         on_three_in_range (checking_cown to) (savings_cown from) (checking_cown from) taker_first_effect
         (taker_first_in_range from to) inputs allowed
 
--- a fact about a payment that holds for each of its four outcomes
+-- a fact about a payment that holds in each of its four cases
 pub in_each_payment : (P : Reply × ℤ × ℤ → Type 0) (amount checking received : ℤ)
     → (int_lt amount (pos 0) ≡ true → P (replies.Negative, checking, received))
     → (int_lt amount (pos 0) ≡ false → int_lt checking amount ≡ true → P (replies.WouldOverdraw, checking, received))
