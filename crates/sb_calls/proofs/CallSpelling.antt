@@ -132,7 +132,7 @@ pay_spells : (verb : List ℕ) (rest : List (List ℕ)) (made : Call) → if_pay
     → IsCall made × (join_with_byte 32 (verb ∷ rest) ≡ call_line made)
 pay_spells verb rest made e =
     spells_either verb (codes "pay") rest (of_two_names_and_amount SendPayment rest) (Err UnknownVerb) made e
-    (spells_two_names_and_amount (codes "pay") SendPayment (λ from to amount payer taker within. ((payer, taker, within), refl)) rest made)
+    (spells_two_names_and_amount (codes "pay") SendPayment (λ from to amount payer payee within. ((payer, payee, within), refl)) rest made)
     (λ unknown. absurd cc)
 
 -- the words of a call of the verbs from `amalgamate` on, joined by spaces, spell it
@@ -218,9 +218,9 @@ words-two_names from to giver taker =
 -- the words of two names and an amount
 words-two_names_and_amount : (from to : List ℕ) (amount : ℤ) → IsName from → IsName to → IsWithinLimit amount
     → slice_split is_space (from ++ 32 ∷ (to ++ 32 ∷ money amount)) ≡ from ∷ to ∷ money amount ∷ []
-words-two_names_and_amount from to amount payer taker within =
+words-two_names_and_amount from to amount payer payee within =
     slice_split_at is_space from 32 (to ++ 32 ∷ money amount) (name_clear from payer) refl
-    ∙ ap (λ ws. from ∷ ws) (words-name_and_amount to amount taker within)
+    ∙ ap (λ ws. from ∷ ws) (words-name_and_amount to amount payee within)
 
 -- the spelling of a call is read as that call
 pub spelled_is_read : (call : Call) → IsCall call → call_of (call_line call) ≡ Ok call

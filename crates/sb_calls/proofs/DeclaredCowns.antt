@@ -5,7 +5,7 @@ use Rattle.sb_rows.specs.Rows.{SameCustomers}
 use Rattle.sb_calls.proofs.EffectIsProcedure.{effect_performs}
 use Rattle.sb_calls.proofs.CownContents.{IsContents-balances, AreCownValues-read, below_among, length-write}
 use Rattle.sb_calls.proofs.CownColumns.{contents_of-injective, length-contents_of}
-use Rattle.sb_calls.specs.Behaviour.{cowns_of_two, checkings_of_two, declared_cowns, effect_of}
+use Rattle.sb_calls.specs.Behaviour.{amalgamation_cowns, payment_cowns, declared_cowns, effect_of}
 use Rattle.sb_calls.specs.Cowns.{savings_cown, checking_cown, AreBelow, AreCownValues, contents_of, read_cowns, write_cowns}
 use Rattle.sb_calls.specs.FollowsProcedure.{FollowsProcedure}
 use Rattle.sb_calls.specs.Op.{op_of, IsOpWithin}
@@ -15,8 +15,8 @@ use Rattle.sb_calls.specs.declared.op.Op.TheVariants.{Balance, DepositChecking, 
 
 -- ---- what its cowns are, and contain
 
-two_below : (from to n : ℕ) → from < n → to < n → AreBelow (2 * n) (cowns_of_two from to)
-two_below from to n lt_from lt_to = by (from == to) (nat_lt from to)
+amalgamation_cowns_below : (from to n : ℕ) → from < n → to < n → AreBelow (2 * n) (amalgamation_cowns from to)
+amalgamation_cowns_below from to n lt_from lt_to = by (from == to) (nat_lt from to)
   where
     by : (one before : Bool)
         → AreBelow (2 * n) (cond one [] (cond before (savings_cown from ∷ checking_cown from ∷ checking_cown to ∷ [])
@@ -25,8 +25,8 @@ two_below from to n lt_from lt_to = by (from == to) (nat_lt from to)
     by false true = (omega (arith, lt_from), (omega (arith, lt_from), (omega (arith, lt_to), tt)))
     by false false = (omega (arith, lt_to), (omega (arith, lt_from), (omega (arith, lt_from), tt)))
 
-checkings_below : (from to n : ℕ) → from < n → to < n → AreBelow (2 * n) (checkings_of_two from to)
-checkings_below from to n lt_from lt_to = by (from == to) (nat_lt from to)
+payment_cowns_below : (from to n : ℕ) → from < n → to < n → AreBelow (2 * n) (payment_cowns from to)
+payment_cowns_below from to n lt_from lt_to = by (from == to) (nat_lt from to)
   where
     by : (one before : Bool)
         → AreBelow (2 * n) (cond one [] (cond before (checking_cown from ∷ checking_cown to ∷ []) (checking_cown to ∷ checking_cown from ∷ [])))
@@ -39,9 +39,9 @@ op_below : (n : ℕ) (op : Op) → IsOpWithin n op → AreBelow (2 * n) (declare
 op_below n (Balance place) lt = (omega (arith, lt), (omega (arith, lt), tt))
 op_below n (DepositChecking place amount) lt = (omega (arith, lt), tt)
 op_below n (TransactSavings place amount) lt = (omega (arith, lt), tt)
-op_below n (Amalgamate places) lt = two_below places.0 places.1 n lt.0 lt.1
+op_below n (Amalgamate places) lt = amalgamation_cowns_below places.0 places.1 n lt.0 lt.1
 op_below n (WriteCheck place amount) lt = (omega (arith, lt), (omega (arith, lt), tt))
-op_below n (SendPayment places amount) lt = checkings_below places.0 places.1 n lt.0 lt.1
+op_below n (SendPayment places amount) lt = payment_cowns_below places.0 places.1 n lt.0 lt.1
 op_below n NoCustomer lt = tt
 op_below n SameCustomer lt = tt
 

@@ -10,11 +10,11 @@ use Rattle.sb_rows.specs.Balances.{Balances}
 use Rattle.sb_rows.specs.Directory.{place_of}
 use Rattle.sb_rows.specs.Rows.{rows_of, SameCustomers}
 use Rattle.sb_calls.proofs.Amalgamation.{different_names}
-use Rattle.sb_calls.proofs.EffectCases.{cowns_giver_first, cowns_taker_first, cowns_payer_first, cowns_paid_first}
+use Rattle.sb_calls.proofs.EffectCases.{cowns_giver_first, cowns_taker_first, cowns_payer_first, cowns_payee_first}
 use Rattle.sb_calls.proofs.ListMembers.{IsOneOf, one_from_Contains, Contains-from_one}
 use Rattle.sb_calls.proofs.OpOrigins.{HasMissingName, IsOfTwo, comes_from}
 use Rattle.sb_calls.proofs.CustomerRows.{HasRow-unread, row_is}
-use Rattle.sb_calls.specs.Behaviour.{cowns_of_two, checkings_of_two, declared_cowns}
+use Rattle.sb_calls.specs.Behaviour.{amalgamation_cowns, payment_cowns, declared_cowns}
 use Rattle.sb_calls.specs.CownLaws.{cown_of, DeclaresTouched}
 use Rattle.sb_calls.specs.Cowns.{savings_cown, checking_cown}
 use Rattle.sb_calls.specs.Op.{op_of}
@@ -154,13 +154,13 @@ two_touched directory b from to p q same found_from found_to differs =
 -- so their cowns are declared, whichever comes first
 two_declared : (directory : List (List ℕ)) (b : Balances) (from to : List ℕ) (p q : ℕ) → SameCustomers directory b → place_of directory from ≡ Some p
     → place_of directory to ≡ Some q → p ≢ q
-    → DeclaresTouched directory b (calls.Amalgamate from to) (cowns_of_two p q)
+    → DeclaresTouched directory b (calls.Amalgamate from to) (amalgamation_cowns p q)
 two_declared directory b from to p q same found_from found_to differs = by (cases_lt p q)
   where
     there : touched_cells (rows_of directory b) (calls.Amalgamate from to) ≡ Savings from ∷ Checking from ∷ Checking to ∷ []
     there = two_touched directory b from to p q same found_from found_to differs
 
-    by : (p < q) ⊎ (q ≤ p) → DeclaresTouched directory b (calls.Amalgamate from to) (cowns_of_two p q)
+    by : (p < q) ⊎ (q ≤ p) → DeclaresTouched directory b (calls.Amalgamate from to) (amalgamation_cowns p q)
     by (inl lt) = rw (cowns_giver_first p q lt)
         (declares_in_order directory b (calls.Amalgamate from to) (Savings from ∷ Checking from ∷ Checking to ∷ [])
         (savings_cown p ∷ checking_cown p ∷ checking_cown q ∷ []) there
@@ -185,18 +185,18 @@ checkings_touched directory b from to amount p q same found_from found_to differ
 -- so their checking cowns are declared, whichever comes first
 checkings_declared : (directory : List (List ℕ)) (b : Balances) (from to : List ℕ) (amount : ℤ) (p q : ℕ) → SameCustomers directory b
     → place_of directory from ≡ Some p → place_of directory to ≡ Some q → p ≢ q
-    → DeclaresTouched directory b (calls.SendPayment from to amount) (checkings_of_two p q)
+    → DeclaresTouched directory b (calls.SendPayment from to amount) (payment_cowns p q)
 checkings_declared directory b from to amount p q same found_from found_to differs = by (cases_lt p q)
   where
     there : touched_cells (rows_of directory b) (calls.SendPayment from to amount) ≡ Checking from ∷ Checking to ∷ []
     there = checkings_touched directory b from to amount p q same found_from found_to differs
 
-    by : (p < q) ⊎ (q ≤ p) → DeclaresTouched directory b (calls.SendPayment from to amount) (checkings_of_two p q)
+    by : (p < q) ⊎ (q ≤ p) → DeclaresTouched directory b (calls.SendPayment from to amount) (payment_cowns p q)
     by (inl lt) = rw (cowns_payer_first p q lt)
         (declares_in_order directory b (calls.SendPayment from to amount) (Checking from ∷ Checking to ∷ [])
         (checking_cown p ∷ checking_cown q ∷ []) there
         (checking_at directory from p found_from, (checking_at directory to q found_to, tt)))
-    by (inr le) = rw (cowns_paid_first p q (omega (arith, differs)))
+    by (inr le) = rw (cowns_payee_first p q (omega (arith, differs)))
         (declares directory b (calls.SendPayment from to amount) (Checking to ∷ Checking from ∷ []) (checking_cown q ∷ checking_cown p ∷ [])
         (rw there (swapped (Checking from) (Checking to)))
         (checking_at directory to q found_to, (checking_at directory from p found_from, tt)))

@@ -7,7 +7,7 @@ use Rattle.sb_amount.specs.Limit.{IsWithinLimit}
 use Rattle.sb_amount.specs.declared.cents.TheConstants.{LIMIT}
 use Rattle.sb_calls.proofs.Amalgamation.{past_limit_either, within_limit}
 use Rattle.sb_calls.proofs.Procedures.{past_limit_downwards}
-use Rattle.sb_calls.specs.Behaviour.{cowns_of_two, checkings_of_two, check_effect, giver_first_effect, taker_first_effect, payer_first_effect, paid_first_effect, on_two_values, on_three_values, effect_of_two, payment_effect}
+use Rattle.sb_calls.specs.Behaviour.{amalgamation_cowns, payment_cowns, check_effect, giver_first_effect, taker_first_effect, payer_first_effect, payee_first_effect, on_two_values, on_three_values, amalgamation_effect, payment_effect}
 use Rattle.sb_calls.specs.Cowns.{savings_cown, checking_cown, AreCownValues}
 use Rattle.sb_calls.specs.Procedures.{check_cost}
 use Rattle.sb_calls.specs.declared.reply.Reply.{Reply}
@@ -79,40 +79,40 @@ on_two a b effect (v ∷ w ∷ []) x y allowed first second = rw (first, second)
 on_two a b effect (v ∷ w ∷ u ∷ more) x y allowed first second = absurd allowed.1.1
 
 -- an amalgamation if the giver comes first, and if the taker does
-pub cowns_giver_first : (from to : ℕ) → from < to → cowns_of_two from to ≡ savings_cown from ∷ checking_cown from ∷ checking_cown to ∷ []
+pub cowns_giver_first : (from to : ℕ) → from < to → amalgamation_cowns from to ≡ savings_cown from ∷ checking_cown from ∷ checking_cown to ∷ []
 cowns_giver_first from to lt =
     let different : (from == to) ≡ false = grind (arith, nat_tests) in
     let before : nat_lt from to ≡ true = grind (arith, nat_tests) in
     rw (different, before) refl
 
-pub cowns_taker_first : (from to : ℕ) → to < from → cowns_of_two from to ≡ checking_cown to ∷ savings_cown from ∷ checking_cown from ∷ []
+pub cowns_taker_first : (from to : ℕ) → to < from → amalgamation_cowns from to ≡ checking_cown to ∷ savings_cown from ∷ checking_cown from ∷ []
 cowns_taker_first from to lt =
     let different : (from == to) ≡ false = grind (arith, nat_tests) in
     let after : nat_lt from to ≡ false = grind (arith, nat_tests) in
     rw (different, after) refl
 
-pub effect_giver_first : (from to : ℕ) (inputs : List ℤ) → from < to → effect_of_two from to inputs ≡ on_three_values giver_first_effect inputs
+pub effect_giver_first : (from to : ℕ) (inputs : List ℤ) → from < to → amalgamation_effect from to inputs ≡ on_three_values giver_first_effect inputs
 effect_giver_first from to inputs lt =
     let different : (from == to) ≡ false = grind (arith, nat_tests) in
     let before : nat_lt from to ≡ true = grind (arith, nat_tests) in
     rw (different, before) refl
 
-pub effect_taker_first : (from to : ℕ) (inputs : List ℤ) → to < from → effect_of_two from to inputs ≡ on_three_values taker_first_effect inputs
+pub effect_taker_first : (from to : ℕ) (inputs : List ℤ) → to < from → amalgamation_effect from to inputs ≡ on_three_values taker_first_effect inputs
 effect_taker_first from to inputs lt =
     let different : (from == to) ≡ false = grind (arith, nat_tests) in
     let after : nat_lt from to ≡ false = grind (arith, nat_tests) in
     rw (different, after) refl
 
 -- so it applies to the values that its cowns were read as
-pub amalgamates_giver_first : (from to : ℕ) (inputs : List ℤ) (x y z : ℤ) → from < to → AreCownValues (cowns_of_two from to) inputs
-    → x ≡ get_or inputs 0 x → y ≡ get_or inputs 1 y → z ≡ get_or inputs 2 z → effect_of_two from to inputs ≡ giver_first_effect x y z
+pub amalgamates_giver_first : (from to : ℕ) (inputs : List ℤ) (x y z : ℤ) → from < to → AreCownValues (amalgamation_cowns from to) inputs
+    → x ≡ get_or inputs 0 x → y ≡ get_or inputs 1 y → z ≡ get_or inputs 2 z → amalgamation_effect from to inputs ≡ giver_first_effect x y z
 amalgamates_giver_first from to inputs x y z lt allowed first second third =
     let in_order = rw (cowns_giver_first from to lt) at allowed in
     effect_giver_first from to inputs lt
     ∙ on_three (savings_cown from) (checking_cown from) (checking_cown to) giver_first_effect inputs x y z in_order first second third
 
-pub amalgamates_taker_first : (from to : ℕ) (inputs : List ℤ) (x y z : ℤ) → to < from → AreCownValues (cowns_of_two from to) inputs
-    → x ≡ get_or inputs 0 x → y ≡ get_or inputs 1 y → z ≡ get_or inputs 2 z → effect_of_two from to inputs ≡ taker_first_effect x y z
+pub amalgamates_taker_first : (from to : ℕ) (inputs : List ℤ) (x y z : ℤ) → to < from → AreCownValues (amalgamation_cowns from to) inputs
+    → x ≡ get_or inputs 0 x → y ≡ get_or inputs 1 y → z ≡ get_or inputs 2 z → amalgamation_effect from to inputs ≡ taker_first_effect x y z
 amalgamates_taker_first from to inputs x y z lt allowed first second third =
     let in_order = rw (cowns_taker_first from to lt) at allowed in
     effect_taker_first from to inputs lt
@@ -120,15 +120,15 @@ amalgamates_taker_first from to inputs x y z lt allowed first second third =
 
 -- ---- payments
 
--- if the payer comes first, and if the paid customer does
-pub cowns_payer_first : (from to : ℕ) → from < to → checkings_of_two from to ≡ checking_cown from ∷ checking_cown to ∷ []
+-- if the payer comes first, and if the payee does
+pub cowns_payer_first : (from to : ℕ) → from < to → payment_cowns from to ≡ checking_cown from ∷ checking_cown to ∷ []
 cowns_payer_first from to lt =
     let different : (from == to) ≡ false = grind (arith, nat_tests) in
     let before : nat_lt from to ≡ true = grind (arith, nat_tests) in
     rw (different, before) refl
 
-pub cowns_paid_first : (from to : ℕ) → to < from → checkings_of_two from to ≡ checking_cown to ∷ checking_cown from ∷ []
-cowns_paid_first from to lt =
+pub cowns_payee_first : (from to : ℕ) → to < from → payment_cowns from to ≡ checking_cown to ∷ checking_cown from ∷ []
+cowns_payee_first from to lt =
     let different : (from == to) ≡ false = grind (arith, nat_tests) in
     let after : nat_lt from to ≡ false = grind (arith, nat_tests) in
     rw (different, after) refl
@@ -140,24 +140,24 @@ effect_payer_first from to amount inputs lt =
     let before : nat_lt from to ≡ true = grind (arith, nat_tests) in
     rw (different, before) refl
 
-pub effect_paid_first : (from to : ℕ) (amount : ℤ) (inputs : List ℤ) → to < from
-    → payment_effect from to amount inputs ≡ on_two_values (paid_first_effect amount) inputs
-effect_paid_first from to amount inputs lt =
+pub effect_payee_first : (from to : ℕ) (amount : ℤ) (inputs : List ℤ) → to < from
+    → payment_effect from to amount inputs ≡ on_two_values (payee_first_effect amount) inputs
+effect_payee_first from to amount inputs lt =
     let different : (from == to) ≡ false = grind (arith, nat_tests) in
     let after : nat_lt from to ≡ false = grind (arith, nat_tests) in
     rw (different, after) refl
 
 -- so it applies to the values that its cowns were read as
-pub pays_payer_first : (from to : ℕ) (amount : ℤ) (inputs : List ℤ) (x y : ℤ) → from < to → AreCownValues (checkings_of_two from to) inputs
+pub pays_payer_first : (from to : ℕ) (amount : ℤ) (inputs : List ℤ) (x y : ℤ) → from < to → AreCownValues (payment_cowns from to) inputs
     → x ≡ get_or inputs 0 x → y ≡ get_or inputs 1 y → payment_effect from to amount inputs ≡ payer_first_effect amount x y
 pays_payer_first from to amount inputs x y lt allowed first second =
     let in_order = rw (cowns_payer_first from to lt) at allowed in
     effect_payer_first from to amount inputs lt
     ∙ on_two (checking_cown from) (checking_cown to) (payer_first_effect amount) inputs x y in_order first second
 
-pub pays_paid_first : (from to : ℕ) (amount : ℤ) (inputs : List ℤ) (x y : ℤ) → to < from → AreCownValues (checkings_of_two from to) inputs
-    → x ≡ get_or inputs 0 x → y ≡ get_or inputs 1 y → payment_effect from to amount inputs ≡ paid_first_effect amount x y
-pays_paid_first from to amount inputs x y lt allowed first second =
-    let in_order = rw (cowns_paid_first from to lt) at allowed in
-    effect_paid_first from to amount inputs lt
-    ∙ on_two (checking_cown to) (checking_cown from) (paid_first_effect amount) inputs x y in_order first second
+pub pays_payee_first : (from to : ℕ) (amount : ℤ) (inputs : List ℤ) (x y : ℤ) → to < from → AreCownValues (payment_cowns from to) inputs
+    → x ≡ get_or inputs 0 x → y ≡ get_or inputs 1 y → payment_effect from to amount inputs ≡ payee_first_effect amount x y
+pays_payee_first from to amount inputs x y lt allowed first second =
+    let in_order = rw (cowns_payee_first from to lt) at allowed in
+    effect_payee_first from to amount inputs lt
+    ∙ on_two (checking_cown to) (checking_cown from) (payee_first_effect amount) inputs x y in_order first second

@@ -12,14 +12,14 @@ use Rattle.sb_rows.specs.Balances.{Balances}
 use Rattle.sb_rows.specs.Directory.{place_of}
 use Rattle.sb_rows.specs.Rows.{with_row, SameCustomers}
 use Rattle.sb_calls.proofs.Amalgamation.{within_limit, performs_amalgamate_over_limit, performs_amalgamate}
-use Rattle.sb_calls.proofs.EffectCases.{cost_bounds, cowns_giver_first, cowns_taker_first, effect_giver_first, effect_taker_first, cowns_payer_first, cowns_paid_first, effect_payer_first, effect_paid_first}
+use Rattle.sb_calls.proofs.EffectCases.{cost_bounds, cowns_giver_first, cowns_taker_first, effect_giver_first, effect_taker_first, cowns_payer_first, cowns_payee_first, effect_payer_first, effect_payee_first}
 use Rattle.sb_calls.proofs.CownColumns.{contents_at_savings, contents_at_checking, contents_of-with_savings, contents_of-with_checking, write-read}
 use Rattle.sb_calls.proofs.OpOrigins.{comes_from}
 use Rattle.sb_calls.proofs.Payments.{paid, performs_payment_negative, performs_payment_overdraft, performs_payment_over_limit, performs_payment}
 use Rattle.sb_calls.proofs.CustomerRows.{HasRow, HasRow-unread, with_savings, with_checking, checking_within}
 use Rattle.sb_calls.proofs.Procedures.{performs_balance, performs_negative, performs_over_limit, performs_deposit, performs_overdraft, performs_savings_over_limit, performs_savings, performs_check_negative, performs_check_over_limit, performs_check}
 use Rattle.sb_calls.proofs.Refusals.{performs_no_customer, performs_same_customer}
-use Rattle.sb_calls.specs.Behaviour.{cowns_of_two, checkings_of_two, declared_cowns, deposit_effect, savings_effect, check_effect, giver_first_effect, taker_first_effect, payer_first_effect, paid_first_effect, effect_of_two, payment_effect, effect_of}
+use Rattle.sb_calls.specs.Behaviour.{amalgamation_cowns, payment_cowns, declared_cowns, deposit_effect, savings_effect, check_effect, giver_first_effect, taker_first_effect, payer_first_effect, payee_first_effect, amalgamation_effect, payment_effect, effect_of}
 use Rattle.sb_calls.specs.inner.BehaviourLaws.{sum_within, in_each_payment}
 use Rattle.sb_calls.specs.CownLaws.{PerformsByCowns}
 use Rattle.sb_calls.specs.Cowns.{savings_cown, checking_cown, contents_of, read_cowns, write_cowns}
@@ -218,28 +218,30 @@ module _ {directory : List (List ℕ)} {b : Balances} {from to : List ℕ} {p q 
       })
 
   -- an amalgamation on these cowns and what they hold
-  at_cowns : (cowns : List ℕ) (values : List ℤ) → cowns_of_two p q ≡ cowns → values ≡ read_cowns (contents_of b) cowns
-      → Effects directory (Amalgamate from to) b cowns (effect_of_two p q values)
-      → Effects directory (Amalgamate from to) b (cowns_of_two p q) (effect_of_two p q (read_cowns (contents_of b) (cowns_of_two p q)))
-  at_cowns cowns values is e effects =
-      subst (λ (l : List ℕ). Effects directory (Amalgamate from to) b l (effect_of_two p q (read_cowns (contents_of b) l))) (sym is)
-      (subst (λ (contents : List ℤ). Effects directory (Amalgamate from to) b cowns (effect_of_two p q contents)) e effects)
+  amalgamation_effects_at : (cowns : List ℕ) (values : List ℤ) → amalgamation_cowns p q ≡ cowns → values ≡ read_cowns (contents_of b) cowns
+      → Effects directory (Amalgamate from to) b cowns (amalgamation_effect p q values)
+      → Effects directory (Amalgamate from to) b (amalgamation_cowns p q) (amalgamation_effect p q (read_cowns (contents_of b) (amalgamation_cowns p q)))
+  amalgamation_effects_at cowns values is e effects =
+      subst (λ (l : List ℕ). Effects directory (Amalgamate from to) b l (amalgamation_effect p q (read_cowns (contents_of b) l))) (sym is)
+      (subst (λ (contents : List ℤ). Effects directory (Amalgamate from to) b cowns (amalgamation_effect p q contents)) e effects)
 
   -- whichever comes first
-  pub two_effects : Effects directory (Amalgamate from to) b (cowns_of_two p q) (effect_of_two p q (read_cowns (contents_of b) (cowns_of_two p q)))
-  two_effects = by (cases_lt p q)
+  pub amalgamation_effects : Effects directory (Amalgamate from to) b (amalgamation_cowns p q)
+      (amalgamation_effect p q (read_cowns (contents_of b) (amalgamation_cowns p q)))
+  amalgamation_effects = by (cases_lt p q)
     where
-      by : (p < q) ⊎ (q ≤ p) → Effects directory (Amalgamate from to) b (cowns_of_two p q) (effect_of_two p q (read_cowns (contents_of b) (cowns_of_two p q)))
-      by (inl lt) = at_cowns (savings_cown p ∷ checking_cown p ∷ checking_cown q ∷ []) (s ∷ c ∷ c_to ∷ []) (cowns_giver_first p q lt) giver_first
+      by : (p < q) ⊎ (q ≤ p) → Effects directory (Amalgamate from to) b (amalgamation_cowns p q)
+          (amalgamation_effect p q (read_cowns (contents_of b) (amalgamation_cowns p q)))
+      by (inl lt) = amalgamation_effects_at (savings_cown p ∷ checking_cown p ∷ checking_cown q ∷ []) (s ∷ c ∷ c_to ∷ []) (cowns_giver_first p q lt) giver_first
           (rw (effect_giver_first p q (s ∷ c ∷ c_to ∷ []) lt) giver_first_effects)
       by (inr le) =
           let lt : q < p = omega (arith, differs) in
-          at_cowns (checking_cown q ∷ savings_cown p ∷ checking_cown p ∷ []) (c_to ∷ s ∷ c ∷ []) (cowns_taker_first p q lt) taker_first
+          amalgamation_effects_at (checking_cown q ∷ savings_cown p ∷ checking_cown p ∷ []) (c_to ∷ s ∷ c ∷ []) (cowns_taker_first p q lt) taker_first
           (rw (effect_taker_first p q (c_to ∷ s ∷ c ∷ []) lt) taker_first_effects)
 
 -- ---- payments
 
--- the payer's cown is written first, and then the paid customer's
+-- the payer's cown is written first, and then the payee's
 written_payer_first : (b : Balances) (p q : ℕ) (left received : ℤ)
     → contents_of (paid b p q left received) ≡ slice_set (slice_set (contents_of b) (checking_cown p) left) (checking_cown q) received
 written_payer_first b p q left received =
@@ -247,74 +249,74 @@ written_payer_first b p q left received =
     ∙ ap (λ (contents : List ℤ). slice_set contents (checking_cown q) received) (contents_of-with_checking b p left)
 
 -- or the other way round: the cowns are different
-written_paid_first : (b : Balances) (p q : ℕ) (left received : ℤ) → p ≢ q
+written_payee_first : (b : Balances) (p q : ℕ) (left received : ℤ) → p ≢ q
     → contents_of (paid b p q left received) ≡ slice_set (slice_set (contents_of b) (checking_cown q) received) (checking_cown p) left
-written_paid_first b p q left received differs =
+written_payee_first b p q left received differs =
     let apart : checking_cown p ≢ checking_cown q = omega (arith, differs) in
     written_payer_first b p q left received ∙ set_comm (contents_of b) (checking_cown p) (checking_cown q) left received apart
 
 module _ {directory : List (List ℕ)} {b : Balances} {from to : List ℕ} {p q : ℕ} {s c s_to c_to : ℤ} (payer : HasRow directory b from p s c)
-    (taker : HasRow directory b to q s_to c_to) (differs : p ≢ q) (amount : ℤ) where
+    (payee : HasRow directory b to q s_to c_to) (differs : p ≢ q) (amount : ℤ) where
   pub payer_first : c ∷ c_to ∷ [] ≡ read_cowns (contents_of b) (checking_cown p ∷ checking_cown q ∷ [])
-  payer_first = rw (checking_is payer, checking_is taker) refl
+  payer_first = rw (checking_is payer, checking_is payee) refl
 
-  pub paid_first : c_to ∷ c ∷ [] ≡ read_cowns (contents_of b) (checking_cown q ∷ checking_cown p ∷ [])
-  paid_first = rw (checking_is payer, checking_is taker) refl
+  pub payee_first : c_to ∷ c ∷ [] ≡ read_cowns (contents_of b) (checking_cown q ∷ checking_cown p ∷ [])
+  payee_first = rw (checking_is payer, checking_is payee) refl
 
   pub payer_first_effects : Effects directory (SendPayment from to amount) b (checking_cown p ∷ checking_cown q ∷ []) (payer_first_effect amount c c_to)
   payer_first_effects =
       let call = SendPayment from to amount in
       let cowns = checking_cown p ∷ checking_cown q ∷ [] in
       in_each_payment (λ after. Effects directory call b cowns (after.0, after.1 ∷ after.2 ∷ [])) amount c c_to
-      (λ below. effect_leaves directory call b cowns replies.Negative (c ∷ c_to ∷ []) (performs_payment_negative payer taker differs amount below) payer_first)
+      (λ below. effect_leaves directory call b cowns replies.Negative (c ∷ c_to ∷ []) (performs_payment_negative payer payee differs amount below) payer_first)
       (λ ge poor. effect_leaves directory call b cowns replies.WouldOverdraw (c ∷ c_to ∷ [])
-      (performs_payment_overdraft payer taker differs amount ge poor) payer_first)
+      (performs_payment_overdraft payer payee differs amount ge poor) payer_first)
       (λ ge enough past. effect_leaves directory call b cowns replies.OverLimit (c ∷ c_to ∷ [])
-      (performs_payment_over_limit payer taker differs amount ge enough past) payer_first)
+      (performs_payment_over_limit payer payee differs amount ge enough past) payer_first)
       (λ ge enough le. record {
         new = paid b p q (c -ℤ amount) (c_to +ℤ amount);
         written = written_payer_first b p q (c -ℤ amount) (c_to +ℤ amount);
-        performs = performs_payment payer taker differs amount ge enough le;
+        performs = performs_payment payer payee differs amount ge enough le;
       })
 
-  pub paid_first_effects : Effects directory (SendPayment from to amount) b (checking_cown q ∷ checking_cown p ∷ []) (paid_first_effect amount c_to c)
-  paid_first_effects =
+  pub payee_first_effects : Effects directory (SendPayment from to amount) b (checking_cown q ∷ checking_cown p ∷ []) (payee_first_effect amount c_to c)
+  payee_first_effects =
       let call = SendPayment from to amount in
       let cowns = checking_cown q ∷ checking_cown p ∷ [] in
       in_each_payment (λ after. Effects directory call b cowns (after.0, after.2 ∷ after.1 ∷ [])) amount c c_to
-      (λ below. effect_leaves directory call b cowns replies.Negative (c_to ∷ c ∷ []) (performs_payment_negative payer taker differs amount below) paid_first)
+      (λ below. effect_leaves directory call b cowns replies.Negative (c_to ∷ c ∷ []) (performs_payment_negative payer payee differs amount below) payee_first)
       (λ ge poor. effect_leaves directory call b cowns replies.WouldOverdraw (c_to ∷ c ∷ [])
-      (performs_payment_overdraft payer taker differs amount ge poor) paid_first)
+      (performs_payment_overdraft payer payee differs amount ge poor) payee_first)
       (λ ge enough past. effect_leaves directory call b cowns replies.OverLimit (c_to ∷ c ∷ [])
-      (performs_payment_over_limit payer taker differs amount ge enough past) paid_first)
+      (performs_payment_over_limit payer payee differs amount ge enough past) payee_first)
       (λ ge enough le. record {
         new = paid b p q (c -ℤ amount) (c_to +ℤ amount);
-        written = written_paid_first b p q (c -ℤ amount) (c_to +ℤ amount) differs;
-        performs = performs_payment payer taker differs amount ge enough le;
+        written = written_payee_first b p q (c -ℤ amount) (c_to +ℤ amount) differs;
+        performs = performs_payment payer payee differs amount ge enough le;
       })
 
   -- a payment on these cowns and what they hold
-  pays_at : (cowns : List ℕ) (values : List ℤ) → checkings_of_two p q ≡ cowns → values ≡ read_cowns (contents_of b) cowns
+  payment_effects_at : (cowns : List ℕ) (values : List ℤ) → payment_cowns p q ≡ cowns → values ≡ read_cowns (contents_of b) cowns
       → Effects directory (SendPayment from to amount) b cowns (payment_effect p q amount values)
-      → Effects directory (SendPayment from to amount) b (checkings_of_two p q) (payment_effect p q amount (read_cowns (contents_of b) (checkings_of_two p q)))
-  pays_at cowns values is e effects =
+      → Effects directory (SendPayment from to amount) b (payment_cowns p q) (payment_effect p q amount (read_cowns (contents_of b) (payment_cowns p q)))
+  payment_effects_at cowns values is e effects =
       subst (λ (l : List ℕ). Effects directory (SendPayment from to amount) b l (payment_effect p q amount (read_cowns (contents_of b) l))) (sym is)
       (subst (λ (contents : List ℤ). Effects directory (SendPayment from to amount) b cowns (payment_effect p q amount contents)) e effects)
 
   -- whichever comes first
-  pub payment_effects : Effects directory (SendPayment from to amount) b (checkings_of_two p q)
-      (payment_effect p q amount (read_cowns (contents_of b) (checkings_of_two p q)))
+  pub payment_effects : Effects directory (SendPayment from to amount) b (payment_cowns p q)
+      (payment_effect p q amount (read_cowns (contents_of b) (payment_cowns p q)))
   payment_effects = by (cases_lt p q)
     where
       by : (p < q) ⊎ (q ≤ p)
-          → Effects directory (SendPayment from to amount) b (checkings_of_two p q)
-          (payment_effect p q amount (read_cowns (contents_of b) (checkings_of_two p q)))
-      by (inl lt) = pays_at (checking_cown p ∷ checking_cown q ∷ []) (c ∷ c_to ∷ []) (cowns_payer_first p q lt) payer_first
+          → Effects directory (SendPayment from to amount) b (payment_cowns p q)
+          (payment_effect p q amount (read_cowns (contents_of b) (payment_cowns p q)))
+      by (inl lt) = payment_effects_at (checking_cown p ∷ checking_cown q ∷ []) (c ∷ c_to ∷ []) (cowns_payer_first p q lt) payer_first
           (rw (effect_payer_first p q amount (c ∷ c_to ∷ []) lt) payer_first_effects)
       by (inr le) =
           let lt : q < p = omega (arith, differs) in
-          pays_at (checking_cown q ∷ checking_cown p ∷ []) (c_to ∷ c ∷ []) (cowns_paid_first p q lt) paid_first
-          (rw (effect_paid_first p q amount (c_to ∷ c ∷ []) lt) paid_first_effects)
+          payment_effects_at (checking_cown q ∷ checking_cown p ∷ []) (c_to ∷ c ∷ []) (cowns_payee_first p q lt) payee_first
+          (rw (effect_payee_first p q amount (c_to ∷ c ∷ []) lt) payee_first_effects)
 
 -- ---- any op
 
@@ -347,7 +349,7 @@ effect_performs directory b call (ops.TransactSavings place amount) same e =
     rw (made.1) (on_values directory b (TransactSavings made.0 amount) (ops.TransactSavings place amount) _ (one_savings row) (savings_effects row amount))
 effect_performs directory b call (ops.Amalgamate places) same e =
     let made = comes_from directory call (ops.Amalgamate places) e in
-    rw (made.2) (two_effects (row_at directory b made.0 places.0 same made.3) (row_at directory b made.1 places.1 same made.4) made.5)
+    rw (made.2) (amalgamation_effects (row_at directory b made.0 places.0 same made.3) (row_at directory b made.1 places.1 same made.4) made.5)
 effect_performs directory b call (ops.WriteCheck place amount) same e =
     let made = comes_from directory call (ops.WriteCheck place amount) e in
     let row = row_at directory b made.0 place same made.2 in

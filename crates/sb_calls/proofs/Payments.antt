@@ -27,28 +27,28 @@ abbrev pub paid : Balances → ℕ → ℕ → ℤ → ℤ → Balances
 paid b p q left received = with_checking (with_checking b p left) q received
 
 module _ {directory : List (List ℕ)} {b : Balances} {from to : List ℕ} {p q : ℕ} {s c s_to c_to : ℤ} (payer : HasRow directory b from p s c)
-    (taker : HasRow directory b to q s_to c_to) (differs : p ≢ q) (amount : ℤ) where
+    (payee : HasRow directory b to q s_to c_to) (differs : p ≢ q) (amount : ℤ) where
   pub performs_payment_negative : int_lt amount (pos 0) ≡ true → FollowsProcedure directory (SendPayment from to amount) b b Negative
   performs_payment_negative below =
       let row_from = row_is payer in
-      let row_to = row_is taker in
-      let names = different_names directory from to p q payer.found taker.found differs in
+      let row_to = row_is payee in
+      let names = different_names directory from to p q payer.found payee.found differs in
       record { rows = rw (row_from, row_to, names, below) refl; reply = rw (row_from, row_to, names, below) refl; customers = payer.same }
 
   pub performs_payment_overdraft : int_lt amount (pos 0) ≡ false → int_lt c amount ≡ true
       → FollowsProcedure directory (SendPayment from to amount) b b WouldOverdraw
   performs_payment_overdraft ge poor =
       let row_from = row_is payer in
-      let row_to = row_is taker in
-      let names = different_names directory from to p q payer.found taker.found differs in
+      let row_to = row_is payee in
+      let names = different_names directory from to p q payer.found payee.found differs in
       record { rows = rw (row_from, row_to, names, ge, poor) refl; reply = rw (row_from, row_to, names, ge, poor) refl; customers = payer.same }
 
   pub performs_payment_over_limit : int_lt amount (pos 0) ≡ false → int_lt c amount ≡ false → int_lt LIMIT (c_to +ℤ amount) ≡ true
       → FollowsProcedure directory (SendPayment from to amount) b b OverLimit
   performs_payment_over_limit ge enough past =
       let row_from = row_is payer in
-      let row_to = row_is taker in
-      let names = different_names directory from to p q payer.found taker.found differs in
+      let row_to = row_is payee in
+      let names = different_names directory from to p q payer.found payee.found differs in
       record { rows = rw (row_from, row_to, names, ge, enough, past) refl; reply = rw (row_from, row_to, names, ge, enough, past) refl; customers = payer.same }
 
   -- a payment that is executed
@@ -56,13 +56,13 @@ module _ {directory : List (List ℕ)} {b : Balances} {from to : List ℕ} {p q 
       → FollowsProcedure directory (SendPayment from to amount) b (paid b p q (c -ℤ amount) (c_to +ℤ amount)) Done
   performs_payment ge enough le =
       let row_from = row_is payer in
-      let row_to = row_is taker in
-      let names = different_names directory from to p q payer.found taker.found differs in
+      let row_to = row_is payee in
+      let names = different_names directory from to p q payer.found payee.found differs in
       let taken : SameCustomers directory (with_checking b p (c -ℤ amount)) =
       SameCustomers-with_checking payer (c -ℤ amount) (left_within c amount (checking_within payer) ge enough) in
-      let kept = HasRow-other_checking directory b to p q s_to c_to (c -ℤ amount) taker (λ e. differs (sym e)) taken in
+      let kept = HasRow-other_checking directory b to p q s_to c_to (c -ℤ amount) payee (λ e. differs (sym e)) taken in
       record {
         rows = rw (row_from, row_to, names, ge, enough, le, ← rows_of-with_checking payer (c -ℤ amount)) (rows_of-with_checking kept (c_to +ℤ amount));
         reply = rw (row_from, row_to, names, ge, enough, le) refl;
-        customers = SameCustomers-with_checking kept (c_to +ℤ amount) (received_within c_to amount (checking_within taker) ge le);
+        customers = SameCustomers-with_checking kept (c_to +ℤ amount) (received_within c_to amount (checking_within payee) ge le);
       }

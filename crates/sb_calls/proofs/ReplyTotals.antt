@@ -5,7 +5,7 @@ use Rattle.std.proofs.lemmas.Bool.{cases_lt}
 use Rattle.std.proofs.lemmas.Int.{ints}
 use Rattle.std.proofs.lemmas.List.{get_or_past}
 use Rattle.sb_amount.specs.declared.cents.TheConstants.{LIMIT}
-use Rattle.sb_calls.specs.Behaviour.{declared_cowns, effect_of, on_one_value, on_two_values, on_three_values, deposit_effect, savings_effect, check_effect, giver_first_effect, taker_first_effect, payment, payer_first_effect, paid_first_effect, effect_of_two, payment_effect}
+use Rattle.sb_calls.specs.Behaviour.{declared_cowns, effect_of, on_one_value, on_two_values, on_three_values, deposit_effect, savings_effect, check_effect, giver_first_effect, taker_first_effect, payment, payer_first_effect, payee_first_effect, amalgamation_effect, payment_effect}
 use Rattle.sb_calls.specs.inner.BehaviourLaws.{effect_in_range, zero_in_range, in_each_payment}
 use Rattle.sb_calls.specs.Cowns.{IsContents, AreCownValues, IsCownValue, read_cowns, savings_cown, checking_cown}
 use Rattle.sb_calls.specs.SerialRun.{contents_after, contents_after_first, contents_after_one, reply_of, reply_by_log}
@@ -86,7 +86,7 @@ taker_first_replies v w x = by (takes_too_much ((v +ℤ w) +ℤ x))
     by true = tt
     by false = tt
 
-amalgamation_replies : (from to : ℕ) (inputs : List ℤ) → IsReply (effect_of_two from to inputs).0
+amalgamation_replies : (from to : ℕ) (inputs : List ℤ) → IsReply (amalgamation_effect from to inputs).0
 amalgamation_replies from to inputs = by (from == to) (nat_lt from to)
   where
     by : (one before : Bool) → Fits (if one then (replies.SameCustomer, inputs)
@@ -103,10 +103,10 @@ paying_replies : (from to : ℕ) (amount : ℤ) (inputs : List ℤ) → IsReply 
 paying_replies from to amount inputs = by (from == to) (nat_lt from to)
   where
     by : (one before : Bool) → Fits (if one then (replies.SameCustomer, inputs)
-        else if before then on_two_values (payer_first_effect amount) inputs else on_two_values (paid_first_effect amount) inputs)
+        else if before then on_two_values (payer_first_effect amount) inputs else on_two_values (payee_first_effect amount) inputs)
     by true before = tt
     by false true = two_replies (payer_first_effect amount) (λ c r. payment_replies amount c r) inputs
-    by false false = two_replies (paid_first_effect amount) (λ r c. payment_replies amount c r) inputs
+    by false false = two_replies (payee_first_effect amount) (λ r c. payment_replies amount c r) inputs
 
 -- the sum of two balances
 shown_fits : (place : ℕ) (inputs : List ℤ) → AreCownValues (savings_cown place ∷ checking_cown place ∷ []) inputs

@@ -12,15 +12,15 @@ use Rattle.sb_calls.specs.declared.reply.Reply.TheVariants as replies
 
 -- both cowns of the giver and the checking cown of the taker, in rising order; none if the two are
 -- the same
-abbrev pub cowns_of_two : ℕ → ℕ → List ℕ
-cowns_of_two from to =
+abbrev pub amalgamation_cowns : ℕ → ℕ → List ℕ
+amalgamation_cowns from to =
     if from == to then []
     else if nat_lt from to then savings_cown from ∷ checking_cown from ∷ checking_cown to ∷ []
     else checking_cown to ∷ savings_cown from ∷ checking_cown from ∷ []
 
--- the checking cowns of both customers, in rising order; none if the two are the same
-abbrev pub checkings_of_two : ℕ → ℕ → List ℕ
-checkings_of_two from to =
+-- the checking cowns of the payer and the payee, in rising order; none if the two are the same
+abbrev pub payment_cowns : ℕ → ℕ → List ℕ
+payment_cowns from to =
     if from == to then []
     else if nat_lt from to then checking_cown from ∷ checking_cown to ∷ []
     else checking_cown to ∷ checking_cown from ∷ []
@@ -30,9 +30,9 @@ abbrev pub declared_cowns : Op → List ℕ
 declared_cowns (Balance place) = savings_cown place ∷ checking_cown place ∷ []
 declared_cowns (DepositChecking place amount) = checking_cown place ∷ []
 declared_cowns (TransactSavings place amount) = savings_cown place ∷ []
-declared_cowns (Amalgamate places) = cowns_of_two places.0 places.1
+declared_cowns (Amalgamate places) = amalgamation_cowns places.0 places.1
 declared_cowns (WriteCheck place amount) = savings_cown place ∷ checking_cown place ∷ []
-declared_cowns (SendPayment places amount) = checkings_of_two places.0 places.1
+declared_cowns (SendPayment places amount) = payment_cowns places.0 places.1
 declared_cowns NoCustomer = []
 declared_cowns SameCustomer = []
 
@@ -72,7 +72,7 @@ taker_first_effect received savings checking =
     if takes_too_much ((received +ℤ savings) +ℤ checking) then (replies.OverLimit, received ∷ savings ∷ checking ∷ [])
     else (replies.Done, ((received +ℤ savings) +ℤ checking) ∷ pos 0 ∷ pos 0 ∷ [])
 
--- the reply to a payment, and the balances of the payer and of the paid customer after it
+-- the reply to a payment, and the payer's and the payee's balance after it
 abbrev pub payment : ℤ → ℤ → ℤ → Reply × ℤ × ℤ
 payment amount checking received =
     if int_lt amount (pos 0) then (replies.Negative, checking, received)
@@ -80,13 +80,13 @@ payment amount checking received =
     else if int_lt LIMIT (received +ℤ amount) then (replies.OverLimit, checking, received)
     else (replies.Done, checking -ℤ amount, received +ℤ amount)
 
--- a payment on the values of its cowns, in order: the payer's comes first, or the paid customer's
+-- a payment on the values of its cowns, in order: the payer's comes first, or the payee's
 abbrev pub payer_first_effect : ℤ → ℤ → ℤ → Reply × List ℤ
 payer_first_effect amount checking received =
     let after = payment amount checking received in (after.0, after.1 ∷ after.2 ∷ [])
 
-abbrev pub paid_first_effect : ℤ → ℤ → ℤ → Reply × List ℤ
-paid_first_effect amount received checking =
+abbrev pub payee_first_effect : ℤ → ℤ → ℤ → Reply × List ℤ
+payee_first_effect amount received checking =
     let after = payment amount checking received in (after.0, after.2 ∷ after.1 ∷ [])
 
 -- an effect on one, two or three values; any other number of values stays, with reply NoCustomer
@@ -102,17 +102,19 @@ abbrev pub on_three_values : (ℤ → ℤ → ℤ → Reply × List ℤ) → Lis
 on_three_values effect (v ∷ w ∷ x ∷ []) = effect v w x
 on_three_values effect inputs = (replies.NoCustomer, inputs)
 
-abbrev pub effect_of_two : ℕ → ℕ → List ℤ → Reply × List ℤ
-effect_of_two from to inputs =
+-- the effect of an amalgamation between two places
+abbrev pub amalgamation_effect : ℕ → ℕ → List ℤ → Reply × List ℤ
+amalgamation_effect from to inputs =
     if from == to then (replies.SameCustomer, inputs)
     else if nat_lt from to then on_three_values giver_first_effect inputs
     else on_three_values taker_first_effect inputs
 
+-- the effect of a payment between two places
 abbrev pub payment_effect : ℕ → ℕ → ℤ → List ℤ → Reply × List ℤ
 payment_effect from to amount inputs =
     if from == to then (replies.SameCustomer, inputs)
     else if nat_lt from to then on_two_values (payer_first_effect amount) inputs
-    else on_two_values (paid_first_effect amount) inputs
+    else on_two_values (payee_first_effect amount) inputs
 
 -- the reply of an op, and what its cowns contain after it, if they contained these inputs
 abbrev pub effect_of : Op → List ℤ → Reply × List ℤ
@@ -120,7 +122,7 @@ effect_of (Balance place) inputs =
     on_two_values (λ savings checking. (replies.Shown (savings +ℤ checking), savings ∷ checking ∷ [])) inputs
 effect_of (DepositChecking place amount) inputs = on_one_value (deposit_effect amount) inputs
 effect_of (TransactSavings place amount) inputs = on_one_value (savings_effect amount) inputs
-effect_of (Amalgamate places) inputs = effect_of_two places.0 places.1 inputs
+effect_of (Amalgamate places) inputs = amalgamation_effect places.0 places.1 inputs
 effect_of (WriteCheck place amount) inputs = on_two_values (check_effect amount) inputs
 effect_of (SendPayment places amount) inputs = payment_effect places.0 places.1 amount inputs
 effect_of NoCustomer inputs = (replies.NoCustomer, inputs)

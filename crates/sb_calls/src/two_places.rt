@@ -3,7 +3,7 @@ ghost use Rattle.std.specs.Prelude.{◌≡◌, ◌≢◌, SomeIff};
 
 use std::marker::Model;
 
-/// The places of two different customers: a giver and a taker.
+/// The places of two different customers: a giver and a taker, or a payer and a payee.
 #[derive(Clone, Copy, Debug, PartialEq, Eq)]
 pub struct TwoPlaces {
     from: u32,
@@ -34,7 +34,7 @@ impl TwoPlaces {
         }
     }
 
-    /// The place of the giver.
+    /// The place of the giver, or of the payer.
     pub fn from(self) -> u32
         ensures value { result ≡ self.0 }
         ensures different { self.0 ≢ self.1 }
@@ -42,7 +42,7 @@ impl TwoPlaces {
         self.from
     }
 
-    /// The place of the taker.
+    /// The place of the taker, or of the payee.
     pub fn to(self) -> u32
         ensures value { result ≡ self.1 }
         ensures different { self.0 ≢ self.1 }

@@ -9,8 +9,8 @@ use Rattle.std.proofs.lemmas.Bool.{both_ways, or_parts}
 use Rattle.std.proofs.lemmas.Bool.Decides.{Decides-and, Decides-eqb, Decides-int_eq, Decides-like}
 use Rattle.sb_amount.specs.Limit.{IsWithinLimit}
 use Rattle.sb_amount.specs.declared.cents.TheConstants.{LIMIT}
-use Rattle.sb_calls.specs.Behaviour.{cowns_of_two, checkings_of_two, declared_cowns, deposit_effect, savings_effect, check_effect, giver_first_effect, taker_first_effect, payment, payer_first_effect, paid_first_effect, on_one_value, on_two_values, on_three_values, effect_of_two, payment_effect, effect_of}
-use Rattle.sb_calls.specs.inner.Bounds.{at_least, sum_above, difference_below, more_not_negative, not_negative_above, next_above, taker_above, giver_above, other_first, remainder_above, checking_cown_odd}
+use Rattle.sb_calls.specs.Behaviour.{amalgamation_cowns, payment_cowns, declared_cowns, deposit_effect, savings_effect, check_effect, giver_first_effect, taker_first_effect, payment, payer_first_effect, payee_first_effect, on_one_value, on_two_values, on_three_values, amalgamation_effect, payment_effect, effect_of}
+use Rattle.sb_calls.specs.inner.Bounds.{at_least, sum_above, difference_below, more_not_negative, not_negative_above, next_above, later_checking_above, later_savings_above, other_first, remainder_above, checking_cown_odd}
 use Rattle.sb_calls.specs.Cowns.{savings_cown, checking_cown, IsRising, IsCownValue, AreCownValues}
 use Rattle.sb_calls.specs.Procedures.{takes_too_much, check_cost}
 use Rattle.sb_calls.specs.contracts.op.OpPartialEq.TheImpl as same
@@ -104,41 +104,41 @@ same_op a b = ((λ e. absurd (both_ways false refl e)), (λ e. sym (ap (λ op. k
 
 -- ---- declaring
 
--- the cowns of two customers rise, whichever comes first
-two_rise : (from to : ℕ) → IsRising (cowns_of_two from to)
-two_rise from to = by (from == to) (nat_lt from to) refl refl
+-- the cowns of an amalgamation rise, whichever customer comes first
+amalgamation_cowns_rise : (from to : ℕ) → IsRising (amalgamation_cowns from to)
+amalgamation_cowns_rise from to = by (from == to) (nat_lt from to) refl refl
   where
     by : (one before : Bool) → (from == to) ≡ one → nat_lt from to ≡ before
         → IsRising (if one then [] else if before then savings_cown from ∷ checking_cown from ∷ checking_cown to ∷ []
         else checking_cown to ∷ savings_cown from ∷ checking_cown from ∷ [])
     by true before e l = tt
-    by false true e l = (next_above (savings_cown from), (taker_above from to l, tt))
-    by false false e l = (giver_above from to e l, (next_above (savings_cown from), tt))
+    by false true e l = (next_above (savings_cown from), (later_checking_above from to l, tt))
+    by false false e l = (later_savings_above from to e l, (next_above (savings_cown from), tt))
 
--- and so do their checking cowns
-checkings_rise : (from to : ℕ) → IsRising (checkings_of_two from to)
-checkings_rise from to = by (from == to) (nat_lt from to) refl refl
+-- and so do those of a payment
+payment_cowns_rise : (from to : ℕ) → IsRising (payment_cowns from to)
+payment_cowns_rise from to = by (from == to) (nat_lt from to) refl refl
   where
     by : (one before : Bool) → (from == to) ≡ one → nat_lt from to ≡ before
         → IsRising (if one then [] else if before then checking_cown from ∷ checking_cown to ∷ []
         else checking_cown to ∷ checking_cown from ∷ [])
     by true before e l = tt
-    by false true e l = (taker_above from to l, tt)
-    by false false e l = (taker_above to from (other_first from to e l), tt)
+    by false true e l = (later_checking_above from to l, tt)
+    by false false e l = (later_checking_above to from (other_first from to e l), tt)
 
 pub declared_cowns_rise : (op : Op) → IsRising (declared_cowns op)
 declared_cowns_rise (Balance place) = (next_above (savings_cown place), tt)
 declared_cowns_rise (DepositChecking place amount) = tt
 declared_cowns_rise (TransactSavings place amount) = tt
-declared_cowns_rise (Amalgamate places) = two_rise places.0 places.1
+declared_cowns_rise (Amalgamate places) = amalgamation_cowns_rise places.0 places.1
 declared_cowns_rise (WriteCheck place amount) = (next_above (savings_cown place), tt)
-declared_cowns_rise (SendPayment places amount) = checkings_rise places.0 places.1
+declared_cowns_rise (SendPayment places amount) = payment_cowns_rise places.0 places.1
 declared_cowns_rise NoCustomer = tt
 declared_cowns_rise SameCustomer = tt
 
--- two customers have three cowns, or none if they are the same
-few_of_two : (from to : ℕ) → length (cowns_of_two from to) ≤ 3
-few_of_two from to = by (from == to) (nat_lt from to)
+-- an amalgamation has three cowns, or none if the two customers are the same
+amalgamation_cowns_limit : (from to : ℕ) → length (amalgamation_cowns from to) ≤ 3
+amalgamation_cowns_limit from to = by (from == to) (nat_lt from to)
   where
     by : (one before : Bool)
         → length (if one then [] else if before then savings_cown from ∷ checking_cown from ∷ checking_cown to ∷ []
@@ -147,9 +147,9 @@ few_of_two from to = by (from == to) (nat_lt from to)
     by false true = lit≤ tt
     by false false = lit≤ tt
 
--- and two checking cowns, or none
-few_checkings : (from to : ℕ) → length (checkings_of_two from to) ≤ 3
-few_checkings from to = by (from == to) (nat_lt from to)
+-- and a payment two, or none
+payment_cowns_limit : (from to : ℕ) → length (payment_cowns from to) ≤ 3
+payment_cowns_limit from to = by (from == to) (nat_lt from to)
   where
     by : (one before : Bool)
         → length (if one then [] else if before then checking_cown from ∷ checking_cown to ∷ []
@@ -162,9 +162,9 @@ pub declared_limit : (op : Op) → length (declared_cowns op) ≤ 3
 declared_limit (Balance place) = lit≤ tt
 declared_limit (DepositChecking place amount) = lit≤ tt
 declared_limit (TransactSavings place amount) = lit≤ tt
-declared_limit (Amalgamate places) = few_of_two places.0 places.1
+declared_limit (Amalgamate places) = amalgamation_cowns_limit places.0 places.1
 declared_limit (WriteCheck place amount) = lit≤ tt
-declared_limit (SendPayment places amount) = few_checkings places.0 places.1
+declared_limit (SendPayment places amount) = payment_cowns_limit places.0 places.1
 declared_limit NoCustomer = lit≤ tt
 declared_limit SameCustomer = lit≤ tt
 
@@ -310,9 +310,9 @@ taker_first_in_range from to received savings checking r s c =
       (zero_in_range (savings_cown from), (zero_in_range (checking_cown from), tt)),
     ))
 
-amalgamation_in_range : (from to : ℕ) (inputs : List ℤ) → AreCownValues (cowns_of_two from to) inputs
-    → AreCownValues (cowns_of_two from to) (effect_of_two from to inputs).1
-amalgamation_in_range from to inputs = by (from == to) (nat_lt from to)
+amalgamation_effect_in_range : (from to : ℕ) (inputs : List ℤ) → AreCownValues (amalgamation_cowns from to) inputs
+    → AreCownValues (amalgamation_cowns from to) (amalgamation_effect from to inputs).1
+amalgamation_effect_in_range from to inputs = by (from == to) (nat_lt from to)
   where
     by : (one before : Bool)
         → AreCownValues (if one then [] else if before
@@ -373,9 +373,9 @@ payment_in_range from to amount checking received c r =
       received_in_range to amount received r ge le,
     ))
 
-ordered_in_range : (from to : ℕ) (amount : ℤ) (inputs : List ℤ) → AreCownValues (checkings_of_two from to) inputs
-    → AreCownValues (checkings_of_two from to) (payment_effect from to amount inputs).1
-ordered_in_range from to amount inputs = by (from == to) (nat_lt from to)
+payment_effect_in_range : (from to : ℕ) (amount : ℤ) (inputs : List ℤ) → AreCownValues (payment_cowns from to) inputs
+    → AreCownValues (payment_cowns from to) (payment_effect from to amount inputs).1
+payment_effect_in_range from to amount inputs = by (from == to) (nat_lt from to)
   where
     by : (one before : Bool)
         → AreCownValues (if one then [] else if before then checking_cown from ∷ checking_cown to ∷ []
@@ -383,13 +383,13 @@ ordered_in_range from to amount inputs = by (from == to) (nat_lt from to)
         → AreCownValues (if one then [] else if before then checking_cown from ∷ checking_cown to ∷ []
         else checking_cown to ∷ checking_cown from ∷ [])
         (if one then (replies.SameCustomer, inputs) else if before then on_two_values (payer_first_effect amount) inputs
-        else on_two_values (paid_first_effect amount) inputs).1
+        else on_two_values (payee_first_effect amount) inputs).1
     by true before allowed = allowed
     by false true allowed =
         on_two_in_range (checking_cown from) (checking_cown to) (payer_first_effect amount)
         (λ v w c r. let kept = payment_in_range from to amount v w c r in (kept.0, (kept.1, tt))) inputs allowed
     by false false allowed =
-        on_two_in_range (checking_cown to) (checking_cown from) (paid_first_effect amount)
+        on_two_in_range (checking_cown to) (checking_cown from) (payee_first_effect amount)
         (λ v w r c. let kept = payment_in_range from to amount w v c r in (kept.1, (kept.0, tt))) inputs allowed
 
 pub effect_in_range : (op : Op) (inputs : List ℤ) → AreCownValues (declared_cowns op) inputs
@@ -400,10 +400,11 @@ effect_in_range (DepositChecking place amount) inputs allowed =
     on_one_in_range (checking_cown place) (deposit_effect amount) (deposit_in_range place amount) inputs allowed
 effect_in_range (TransactSavings place amount) inputs allowed =
     on_one_in_range (savings_cown place) (savings_effect amount) (savings_in_range place amount) inputs allowed
-effect_in_range (Amalgamate places) inputs allowed = amalgamation_in_range places.0 places.1 inputs allowed
+effect_in_range (Amalgamate places) inputs allowed = amalgamation_effect_in_range places.0 places.1 inputs allowed
 effect_in_range (WriteCheck place amount) inputs allowed =
     on_two_in_range (savings_cown place) (checking_cown place) (check_effect amount)
     (check_in_range place amount) inputs allowed
-effect_in_range (SendPayment places amount) inputs allowed = ordered_in_range places.0 places.1 amount inputs allowed
+effect_in_range (SendPayment places amount) inputs allowed =
+    payment_effect_in_range places.0 places.1 amount inputs allowed
 effect_in_range NoCustomer inputs allowed = allowed
 effect_in_range SameCustomer inputs allowed = allowed

@@ -83,8 +83,9 @@ pub next_above : (n : ℕ) → n < n + 1
 next_above n = lt-add-one n
 
 -- the checking cown of a later customer is above that of an earlier one
-pub taker_above : (from to : ℕ) → nat_lt from to ≡ true → checking_cown from < checking_cown to
-taker_above from to before = (add-lt-add_iff_right 1).1 (mul-lt-mul_of_pos_left (ltb-true from to before) (lit≤ tt))
+pub later_checking_above : (from to : ℕ) → nat_lt from to ≡ true → checking_cown from < checking_cown to
+later_checking_above from to before =
+    (add-lt-add_iff_right 1).1 (mul-lt-mul_of_pos_left (ltb-true from to before) (lit≤ tt))
 
 -- if two customers differ and one isn't first, the other is
 pub other_first : (from to : ℕ) → (from == to) ≡ false → nat_lt from to ≡ false → nat_lt to from ≡ true
@@ -96,8 +97,9 @@ other_first from to different after = by (cases_order from to)
     by (inr (inr lt)) = lt-ltb to from lt
 
 -- and its savings cown too
-pub giver_above : (from to : ℕ) → (from == to) ≡ false → nat_lt from to ≡ false → checking_cown to < savings_cown from
-giver_above from to different after =
+pub later_savings_above : (from to : ℕ) → (from == to) ≡ false → nat_lt from to ≡ false
+    → checking_cown to < savings_cown from
+later_savings_above from to different after =
     subst (λ (x : ℕ). x + 1 < savings_cown from) (mul_comm to 2)
     (mul-add-lt to 2 1 from (ltb-true to from (other_first from to different after)) (lit≤ tt))
 

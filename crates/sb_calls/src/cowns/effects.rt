@@ -1,7 +1,7 @@
 //! What each procedure does to the values of its cowns.
 ghost use Rattle.std.specs.Prelude.{◌≡◌, ℤ, pos, SomeIff, ◌+ℤ◌, ◌-ℤ◌, ◌≤ℤ◌, int_lt, if◌then◌else◌, [], ◌∷◌};
 ghost use Rattle.sb_amount.specs.Limit.{IsWithinLimit};
-ghost use Rattle.sb_calls.specs.Behaviour.{deposit_effect, savings_effect, check_effect, giver_first_effect, taker_first_effect, payment, payer_first_effect, paid_first_effect};
+ghost use Rattle.sb_calls.specs.Behaviour.{deposit_effect, savings_effect, check_effect, giver_first_effect, taker_first_effect, payment, payer_first_effect, payee_first_effect};
 ghost use Rattle.sb_calls.specs.Procedures.{check_cost};
 ghost use Rattle.sb_calls.specs.declared.reply.Reply.TheVariants as replies;
 
@@ -142,7 +142,7 @@ pub(crate) fn amalgamate_taker_first(received: Cents, savings: Cents, checking: 
     }
 }
 
-// The reply to a payment, and the balances of the payer and of the paid customer after it.
+// The reply to a payment, and the payer's and the payee's balance after it.
 fn payment(amount: Cents, checking: Cents, received: Cents) -> (Reply, Cents, Cents)
     ensures { result ≡ payment amount checking received }
 {
@@ -175,9 +175,9 @@ pub(crate) fn pay_payer_first(amount: Cents, checking: Cents, received: Cents) -
     reply_with_two(reply, checking, received)
 }
 
-// Pays from one checking balance to another. The paid customer's cown comes first.
-pub(crate) fn pay_paid_first(amount: Cents, received: Cents, checking: Cents) -> Effect
-    ensures { (result.0, result.1.items) ≡ paid_first_effect amount received checking }
+// Pays from one checking balance to another. The payee's cown comes first.
+pub(crate) fn pay_payee_first(amount: Cents, received: Cents, checking: Cents) -> Effect
+    ensures { (result.0, result.1.items) ≡ payee_first_effect amount received checking }
 {
     let (reply, checking, received) = payment(amount, checking, received);
     reply_with_two(reply, received, checking)

@@ -3,7 +3,7 @@ ghost use Rattle.std.specs.Prelude.{◌≡◌, ℕ, List};
 ghost use Rattle.sb_rows.specs.Balances.{Balances};
 ghost use Rattle.sb_rows.specs.Rows.{SameCustomers};
 ghost use Rattle.sb_calls.specs.declared.call.Call.{Call};
-ghost use Rattle.sb_calls.specs.Behaviour.{declared_cowns, effect_of, cowns_of_two, checkings_of_two, effect_of_two, payment_effect};
+ghost use Rattle.sb_calls.specs.Behaviour.{declared_cowns, effect_of, amalgamation_cowns, payment_cowns, amalgamation_effect, payment_effect};
 ghost use Rattle.sb_calls.specs.CownLaws.{DeclaresTouched, PerformsByCowns};
 ghost use Rattle.sb_calls.specs.Cowns.{AreCownValues, contents_of, read_cowns};
 ghost use Rattle.sb_calls.specs.Op.{op_of};
@@ -12,7 +12,7 @@ use super::behaviour::{BEHAVIOUR_COWNS, Behaviour, Performs};
 use super::cown::Cown;
 use super::effects::{
     Effect, amalgamate_giver_first, amalgamate_taker_first, change_savings, deposit, pay_check,
-    pay_paid_first, pay_payer_first, show,
+    pay_payee_first, pay_payer_first, show,
 };
 use crate::op::Op;
 use crate::reply::Reply;
@@ -43,16 +43,16 @@ fn declared_by(op: Op) -> ArrayVec<Cown, BEHAVIOUR_COWNS>
         }
         Op::DepositChecking(place, _) => cowns.push(Cown::checking(place)),
         Op::TransactSavings(place, _) => cowns.push(Cown::savings(place)),
-        Op::Amalgamate(places) => return cowns_of_places(places),
-        Op::SendPayment(places, _) => return checkings_of_places(places),
+        Op::Amalgamate(places) => return amalgamation_cowns(places),
+        Op::SendPayment(places, _) => return payment_cowns(places),
         Op::NoCustomer | Op::SameCustomer => {}
     }
     cowns
 }
 
 // Both cowns of the giver, and the checking cown of the taker.
-fn cowns_of_places(places: TwoPlaces) -> ArrayVec<Cown, BEHAVIOUR_COWNS>
-    ensures { result.items ≡ cowns_of_two places.0 places.1 }
+fn amalgamation_cowns(places: TwoPlaces) -> ArrayVec<Cown, BEHAVIOUR_COWNS>
+    ensures { result.items ≡ amalgamation_cowns places.0 places.1 }
 {
     let from = places.from();
     let to = places.to();
@@ -71,18 +71,18 @@ fn cowns_of_places(places: TwoPlaces) -> ArrayVec<Cown, BEHAVIOUR_COWNS>
     }
 }
 
-// The checking cowns of both customers.
-fn checkings_of_places(places: TwoPlaces) -> ArrayVec<Cown, BEHAVIOUR_COWNS>
-    ensures { result.items ≡ checkings_of_two places.0 places.1 }
+// The checking cowns of the payer and the payee.
+fn payment_cowns(places: TwoPlaces) -> ArrayVec<Cown, BEHAVIOUR_COWNS>
+    ensures { result.items ≡ payment_cowns places.0 places.1 }
 {
     let payer = places.from();
-    let taker = places.to();
+    let payee = places.to();
     let mut cowns = ArrayVec::new();
-    if payer < taker {
+    if payer < payee {
         cowns.push(Cown::checking(payer));
-        cowns.push(Cown::checking(taker));
+        cowns.push(Cown::checking(payee));
     } else {
-        cowns.push(Cown::checking(taker));
+        cowns.push(Cown::checking(payee));
         cowns.push(Cown::checking(payer));
     }
     cowns
@@ -124,8 +124,8 @@ fn effect_on(op: Op, inputs: &[Cents]) -> Effect
 
 // Moves both balances of one customer to another, in the order of their cowns.
 fn amalgamate(places: TwoPlaces, inputs: &[Cents]) -> Effect
-    requires { AreCownValues (cowns_of_two places.0 places.1) inputs.now }
-    ensures { (result.0, result.1.items) ≡ effect_of_two places.0 places.1 inputs.now }
+    requires { AreCownValues (amalgamation_cowns places.0 places.1) inputs.now }
+    ensures { (result.0, result.1.items) ≡ amalgamation_effect places.0 places.1 inputs.now }
 {
     let first = inputs[0];
     let second = inputs[1];
@@ -139,14 +139,14 @@ fn amalgamate(places: TwoPlaces, inputs: &[Cents]) -> Effect
 
 // Moves an amount from one checking balance to another, in the order of their cowns.
 fn send_payment(places: TwoPlaces, amount: Cents, inputs: &[Cents]) -> Effect
-    requires { AreCownValues (checkings_of_two places.0 places.1) inputs.now }
+    requires { AreCownValues (payment_cowns places.0 places.1) inputs.now }
     ensures { (result.0, result.1.items) ≡ payment_effect places.0 places.1 amount inputs.now }
 {
     let payer_is_first = places.from() < places.to();
     if payer_is_first {
         pay_payer_first(amount, inputs[0], inputs[1])
     } else {
-        pay_paid_first(amount, inputs[0], inputs[1])
+        pay_payee_first(amount, inputs[0], inputs[1])
     }
 }
 

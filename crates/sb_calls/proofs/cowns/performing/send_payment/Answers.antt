@@ -1,5 +1,5 @@
 use Rattle.std.proofs.Common.{◌<◌, arith}
-use Rattle.sb_calls.proofs.EffectCases.{pays_paid_first, pays_payer_first}
+use Rattle.sb_calls.proofs.EffectCases.{pays_payee_first, pays_payer_first}
 use Rattle.sb_calls.proofs.cowns.performing.send_payment.Goals as goal
 
 pub returns-then-payer_is_first : goal.returns-then-payer_is_first
@@ -12,6 +12,6 @@ pub returns-else-payer_is_first : goal.returns-else-payer_is_first
 returns-else-payer_is_first c =
     let lt : c.args.places.1 < c.args.places.0 =
     omega (arith, c.from.ensures.value, c.to.ensures.value, c.if-payer_is_first.false, c.from.ensures.different) in
-    rw (pays_paid_first c.args.places.0 c.args.places.1 c.args.amount c.args.inputs.now _ _ lt c.requires c.index-inputs-0-else-payer_is_first.is
+    rw (pays_payee_first c.args.places.0 c.args.places.1 c.args.amount c.args.inputs.now _ _ lt c.requires c.index-inputs-0-else-payer_is_first.is
     c.index-inputs-1-else-payer_is_first.is)
-    c.pay_paid_first.ensures
+    c.pay_payee_first.ensures
