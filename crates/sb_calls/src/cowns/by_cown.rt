@@ -27,8 +27,8 @@ pub fn write_cowns(columns: &mut Columns, cowns: &[Cown], values: &[Cents])
     requires values { AreCownValues cowns.now values.now }
     ensures { contents_of columns.new ≡ write_cowns (contents_of columns.old) cowns.now values.now }
 {
-    for place in 0..cowns.len() {
-        write_cown(columns, cowns[place], values[place]);
+    for position in 0..cowns.len() {
+        write_cown(columns, cowns[position], values[position]);
     }
 }
 

@@ -26,11 +26,11 @@ pub fn read_ask(line: &[u8]) -> Result<AskLine, CallFault>
     // The result, exactly.
     ensures exact { result ≡ ask_line_of line.now }
 {
-    ask_line_of(Words::of(line))
+    ask_line_of_words(Words::of(line))
 }
 
 // What the words of a line ask.
-fn ask_line_of(mut words: Words) -> Result<AskLine, CallFault>
+fn ask_line_of_words(mut words: Words) -> Result<AskLine, CallFault>
     ensures { result ≡ ask_line_of_words words.entry }
 {
     let (key, verb) = key_and_verb(&mut words)?;

@@ -2,8 +2,8 @@ use Rattle.std.proofs.Common.{refl}
 use Rattle.sb_calls.proofs.CownContents.{length-AreCownValues}
 use Rattle.sb_calls.proofs.cowns.by_cown.write_cowns.Goals as goal
 
-pub loop-place-init : goal.loop-place-init
-loop-place-init c = record {
+pub loop-position-init : goal.loop-position-init
+loop-position-init c = record {
   told = refl;
   below = c.requires.cowns;
   fits = c.requires.values;
