@@ -52,23 +52,23 @@ fn those_of_one_customer(rt: HostRuntime) {
 }
 
 // Checks the cowns that an amalgamation declares.
-fn expect_two(rt: &impl Abort, giver: u32, taker: u32, wanted: &[usize]) {
+fn expect_amalgamation(rt: &impl Abort, giver: u32, taker: u32, wanted: &[usize]) {
     let places = TwoPlaces::new(giver, taker).expect(rt, "two places");
     expect_cowns(rt, Op::Amalgamate(places), wanted, "amalgamate");
 }
 
 #[test]
-fn those_of_two_customers_rise(rt: HostRuntime) {
-    expect_two(&rt, 0, 1, &[0, 1, 3]);
-    expect_two(&rt, 1, 0, &[1, 2, 3]);
-    expect_two(&rt, 0, LAST, &[0, 1, 131_071]);
-    expect_two(&rt, LAST, 0, &[1, 131_070, 131_071]);
-    expect_two(&rt, LAST, 1, &[3, 131_070, 131_071]);
+fn those_of_an_amalgamation_rise(rt: HostRuntime) {
+    expect_amalgamation(&rt, 0, 1, &[0, 1, 3]);
+    expect_amalgamation(&rt, 1, 0, &[1, 2, 3]);
+    expect_amalgamation(&rt, 0, LAST, &[0, 1, 131_071]);
+    expect_amalgamation(&rt, LAST, 0, &[1, 131_070, 131_071]);
+    expect_amalgamation(&rt, LAST, 1, &[3, 131_070, 131_071]);
 }
 
 // Checks the cowns that a payment declares.
-fn expect_payment(rt: &impl Abort, payer: u32, taker: u32, wanted: &[usize]) {
-    let places = TwoPlaces::new(payer, taker).expect(rt, "two places");
+fn expect_payment(rt: &impl Abort, payer: u32, payee: u32, wanted: &[usize]) {
+    let places = TwoPlaces::new(payer, payee).expect(rt, "two places");
     let payment = Op::SendPayment(places, cents(rt, 500));
     expect_cowns(rt, payment, wanted, "pay");
 }
@@ -82,7 +82,7 @@ fn those_of_a_payment_rise(rt: HostRuntime) {
 }
 
 #[test]
-fn none_where_there_is_no_op(rt: HostRuntime) {
+fn refused_ops_declare_none(rt: HostRuntime) {
     expect_cowns(&rt, Op::NoCustomer, &[], "no customer");
     expect_cowns(&rt, Op::SameCustomer, &[], "same customer");
     expect(&rt, cowns_of(Op::NoCustomer).is_empty(), "no customer");

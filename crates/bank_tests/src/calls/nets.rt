@@ -3,7 +3,8 @@ use crate::fixtures::{cents, expect, name};
 use sb_calls::{Call, Reply, net};
 use std::process::Abort;
 
-const REFUSALS: &[Reply] = &[
+// All replies but `Done` and `Penalised`.
+const OTHER_REPLIES: &[Reply] = &[
     Reply::Shown(15000),
     Reply::NoCustomer,
     Reply::SameCustomer,
@@ -12,13 +13,13 @@ const REFUSALS: &[Reply] = &[
     Reply::OverLimit,
 ];
 
-// Checks how a call changes the total with the two replies that pay; with the others it changes
-// nothing.
+// Checks what a call adds to the total if its reply is `Done` or `Penalised`. With every other reply
+// it adds nothing.
 fn expect_net(rt: &impl Abort, call: Call, done: i64, penalised: i64, case: &str) {
     expect(rt, net(&call, Reply::Done) == done, case);
     expect(rt, net(&call, Reply::Penalised) == penalised, case);
-    for refusal in REFUSALS {
-        expect(rt, net(&call, *refusal) == 0, case);
+    for reply in OTHER_REPLIES {
+        expect(rt, net(&call, *reply) == 0, case);
     }
 }
 

@@ -7,7 +7,7 @@ use sb_calls::{Call, Reply};
 use sb_rows::Name;
 use std::process::Abort;
 
-// A customer of a plain bank, which keeps names and balances together.
+// A customer of the plain bank.
 #[derive(Clone, Copy)]
 struct Customer {
     name: &'static str,
@@ -123,25 +123,25 @@ fn plain_payment(bank: &mut [Customer], from: &Name, to: &Name, amount: i64) -> 
     let Some(mut payer) = find(bank, from) else {
         return Reply::NoCustomer;
     };
-    let Some(mut taker) = find(bank, to) else {
+    let Some(mut payee) = find(bank, to) else {
         return Reply::NoCustomer;
     };
-    if payer.name == taker.name {
+    if payer.name == payee.name {
         return Reply::SameCustomer;
     }
     if amount < 0 {
         return Reply::Negative;
     }
     payer.checking = payer.checking.saturating_sub(amount);
-    taker.checking = taker.checking.saturating_add(amount);
+    payee.checking = payee.checking.saturating_add(amount);
     if payer.checking < 0 {
         return Reply::WouldOverdraw;
     }
-    if taker.checking > LIMIT {
+    if payee.checking > LIMIT {
         return Reply::OverLimit;
     }
     put(bank, payer);
-    put(bank, taker);
+    put(bank, payee);
     Reply::Done
 }
 
