@@ -10,7 +10,7 @@ use Rattle.sb_amount.specs.declared.cents.TheConstants.{LIMIT}
 use Rattle.sb_rows.specs.Rows.{Rows}
 use Rattle.sb_calls.proofs.ListMembers.{IsOneOf, one_from_Contains, Contains-from_one}
 use Rattle.sb_calls.proofs.RowTotals.{get-insert_name, other_name}
-use Rattle.sb_calls.specs.Procedures.{CallResult, with_balances, takes_too_much, check_cost, procedure}
+use Rattle.sb_calls.specs.Procedures.{CallResult, with_balances, with_both_balances, balance_result, deposit_result, savings_result, takes_too_much, amalgamation_result, check_cost, check_result, payment_result, procedure}
 use Rattle.sb_calls.specs.Touches.{BalanceCell, Savings, Checking, balance_at, has_name, both_of, touched_cells, HaveSameNames, AgreeOn, Locality}
 use Rattle.sb_calls.specs.declared.call.Call.{Call}
 use Rattle.sb_calls.specs.declared.call.Call.TheVariants.{Balance, DepositChecking, TransactSavings, Amalgamate, WriteCheck, SendPayment}
@@ -146,31 +146,6 @@ none_left : (name : List ℕ) (cell : BalanceCell) → ¬ IsOneOf (both_of name)
 none_left name (Savings q) other is = other (inl (ap Savings (sym is)))
 none_left name (Checking q) other is = other (inr (inl (ap Checking (sym is))))
 
--- what each procedure makes of the balances
-abbrev shown : Rows → ℤ → ℤ → CallResult
-shown rows savings checking = record { rows = rows; reply = replies.Shown (savings +ℤ checking) }
-
-abbrev deposited : List ℕ → ℤ → Rows → ℤ → ℤ → CallResult
-deposited name amount rows savings checking =
-    if int_lt amount (pos 0) then record { rows = rows; reply = replies.Negative }
-    else if int_lt LIMIT (checking +ℤ amount) then record { rows = rows; reply = replies.OverLimit }
-    else record { rows = insert rows name (savings, checking +ℤ amount); reply = replies.Done }
-
-abbrev changed : List ℕ → ℤ → Rows → ℤ → ℤ → CallResult
-changed name amount rows savings checking =
-    if int_lt (savings +ℤ amount) (pos 0) then record { rows = rows; reply = replies.WouldOverdraw }
-    else if int_lt LIMIT (savings +ℤ amount) then record { rows = rows; reply = replies.OverLimit }
-    else record { rows = insert rows name (savings +ℤ amount, checking); reply = replies.Done }
-
-abbrev paid : List ℕ → ℤ → Rows → ℤ → ℤ → CallResult
-paid name amount rows savings checking =
-    if int_lt amount (pos 0) then record { rows = rows; reply = replies.Negative }
-    else if int_lt (checking -ℤ check_cost savings checking amount) (neg_ℤ LIMIT) then record { rows = rows; reply = replies.OverLimit }
-    else record {
-      rows = insert rows name (savings, checking -ℤ check_cost savings checking amount);
-      reply = if int_lt (savings +ℤ checking) amount then replies.Penalised else replies.Done;
-    }
-
 module _ (a b : Rows) (name : List ℕ) (names : HaveSameNames a b) where
   -- both balances agree if both are touched
   on_both : (result : Rows → ℤ → ℤ → CallResult)
@@ -185,13 +160,13 @@ module _ (a b : Rows) (name : List ℕ) (names : HaveSameNames a b) where
 
   balance_local : AgreeOn (touched_cells a (Balance name)) a b
       → AreLocal (touched_cells a (Balance name)) a b (procedure (Balance name) a) (procedure (Balance name) b)
-  balance_local agree = on_both shown (λ s c e alike. left_local (replies.Shown (s +ℤ c)) alike) agree
+  balance_local agree = on_both balance_result (λ s c e alike. left_local (replies.Shown (s +ℤ c)) alike) agree
 
   deposit_local : (amount : ℤ) → AgreeOn (touched_cells a (DepositChecking name amount)) a b
       → AreLocal (touched_cells a (DepositChecking name amount)) a b (procedure (DepositChecking name amount) a) (procedure (DepositChecking name amount) b)
-  deposit_local amount agree = local_one a b name (deposited name amount) (Checking name ∷ []) names agree (λ s c s_b c_b e_a e_b alike.
+  deposit_local amount agree = local_one a b name (deposit_result name amount) (Checking name ∷ []) names agree (λ s c s_b c_b e_a e_b alike.
       let same = same_checking a b name s c s_b c_b e_a e_b (alike (Checking name) (Contains-from_one (Checking name ∷ []) (Checking name) (inl refl))) in
-      subst (λ (k : ℤ). AreLocal (Checking name ∷ []) a b (deposited name amount a s c) (deposited name amount b s_b k)) same
+      subst (λ (k : ℤ). AreLocal (Checking name ∷ []) a b (deposit_result name amount a s c) (deposit_result name amount b s_b k)) same
       (either_local (int_lt amount (pos 0)) _ _ _ _ (left_local replies.Negative alike) (λ ge.
       either_local (int_lt LIMIT (c +ℤ amount)) _ _ _ _ (left_local replies.OverLimit alike) (λ le.
       written_local name (s, c) (s, c +ℤ amount) (s_b, c +ℤ amount) replies.Done alike e_a
@@ -200,9 +175,9 @@ module _ (a b : Rows) (name : List ℕ) (names : HaveSameNames a b) where
 
   savings_local : (amount : ℤ) → AgreeOn (touched_cells a (TransactSavings name amount)) a b
       → AreLocal (touched_cells a (TransactSavings name amount)) a b (procedure (TransactSavings name amount) a) (procedure (TransactSavings name amount) b)
-  savings_local amount agree = local_one a b name (changed name amount) (Savings name ∷ []) names agree (λ s c s_b c_b e_a e_b alike.
+  savings_local amount agree = local_one a b name (savings_result name amount) (Savings name ∷ []) names agree (λ s c s_b c_b e_a e_b alike.
       let same = same_savings a b name s c s_b c_b e_a e_b (alike (Savings name) (Contains-from_one (Savings name ∷ []) (Savings name) (inl refl))) in
-      subst (λ (v : ℤ). AreLocal (Savings name ∷ []) a b (changed name amount a s c) (changed name amount b v c_b)) same
+      subst (λ (v : ℤ). AreLocal (Savings name ∷ []) a b (savings_result name amount a s c) (savings_result name amount b v c_b)) same
       (either_local (int_lt (s +ℤ amount) (pos 0)) _ _ _ _ (left_local replies.WouldOverdraw alike) (λ ge.
       either_local (int_lt LIMIT (s +ℤ amount)) _ _ _ _ (left_local replies.OverLimit alike) (λ le.
       written_local name (s, c) (s +ℤ amount, c) (s +ℤ amount, c_b) replies.Done alike e_a
@@ -211,7 +186,7 @@ module _ (a b : Rows) (name : List ℕ) (names : HaveSameNames a b) where
 
   check_local : (amount : ℤ) → AgreeOn (touched_cells a (WriteCheck name amount)) a b
       → AreLocal (touched_cells a (WriteCheck name amount)) a b (procedure (WriteCheck name amount) a) (procedure (WriteCheck name amount) b)
-  check_local amount agree = on_both (paid name amount) (λ s c e alike.
+  check_local amount agree = on_both (check_result name amount) (λ s c e alike.
       let left = c -ℤ check_cost s c amount in
       either_local (int_lt amount (pos 0)) _ _ _ _ (left_local replies.Negative alike) (λ ge.
       either_local (int_lt left (neg_ℤ LIMIT)) _ _ _ _ (left_local replies.OverLimit alike) (λ le.
@@ -222,17 +197,17 @@ module _ (a b : Rows) (name : List ℕ) (names : HaveSameNames a b) where
 -- ---- two customers
 
 -- an amalgamation touches both balances of the giver, and the checking of the taker
-abbrev three_of : List ℕ → List ℕ → List BalanceCell
-three_of from to = Savings from ∷ Checking from ∷ Checking to ∷ []
+abbrev amalgamation_cells : List ℕ → List ℕ → List BalanceCell
+amalgamation_cells from to = Savings from ∷ Checking from ∷ Checking to ∷ []
 
 -- no balance of the giver is left out
-none_left_of_giver : (from to : List ℕ) (cell : BalanceCell) → ¬ IsOneOf (three_of from to) cell → name_of cell ≡ from → ⊥
+none_left_of_giver : (from to : List ℕ) (cell : BalanceCell) → ¬ IsOneOf (amalgamation_cells from to) cell → name_of cell ≡ from → ⊥
 none_left_of_giver from to (Savings q) other is = other (inl (ap Savings (sym is)))
 none_left_of_giver from to (Checking q) other is = other (inr (inl (ap Checking (sym is))))
 
 -- of the taker, savings are left, and checking alone is touched
-taker_touched : (from to : List ℕ) (cell : BalanceCell) → bytes_eq from to ≡ false → IsOneOf (three_of from to) cell → name_of cell ≡ to → (v w : ℤ × ℤ)
-    → v.1 ≡ w.1 → value_of cell v ≡ value_of cell w
+taker_touched : (from to : List ℕ) (cell : BalanceCell) → bytes_eq from to ≡ false → IsOneOf (amalgamation_cells from to) cell → name_of cell ≡ to
+    → (v w : ℤ × ℤ) → v.1 ≡ w.1 → value_of cell v ≡ value_of cell w
 taker_touched from to (Savings q) differs (inl e) is v w same =
     let one : from ≡ to = ap name_of e ∙ is in absurd (both_ways (bytes_eq from to) differs ((bytes_eq-Decides from to).1 one))
 taker_touched from to (Savings q) differs (inr (inl e)) is v w same = absurd cc
@@ -240,59 +215,49 @@ taker_touched from to (Savings q) differs (inr (inr (inl e))) is v w same = absu
 taker_touched from to (Savings q) differs (inr (inr (inr none))) is v w same = absurd none
 taker_touched from to (Checking q) differs one is v w same = same
 
-taker_left : (from to : List ℕ) (cell : BalanceCell) → ¬ IsOneOf (three_of from to) cell → name_of cell ≡ to → (v w : ℤ × ℤ) → v.0 ≡ w.0
+taker_left : (from to : List ℕ) (cell : BalanceCell) → ¬ IsOneOf (amalgamation_cells from to) cell → name_of cell ≡ to → (v w : ℤ × ℤ) → v.0 ≡ w.0
     → value_of cell v ≡ value_of cell w
 taker_left from to (Savings q) other is v w same = same
 taker_left from to (Checking q) other is v w same = absurd (other (inr (inr (inl (ap Checking (sym is))))))
 
 -- two rows written, one after the other
-abbrev moved : List ℕ → List ℕ → Rows → ℤ → ℤ → Rows
-moved from to rows savings_to sum = insert (insert rows from (pos 0, pos 0)) to (savings_to, sum)
+abbrev rows_after_amalgamation : List ℕ → List ℕ → Rows → ℤ → ℤ → Rows
+rows_after_amalgamation from to rows savings_to sum = insert (insert rows from (pos 0, pos 0)) to (savings_to, sum)
 
-moved_local : (a b : Rows) (from to : List ℕ) (s c s_to c_to s_to_b sum : ℤ) → bytes_eq from to ≡ false → AgreeOn (three_of from to) a b
+amalgamation_rows_local : (a b : Rows) (from to : List ℕ) (s c s_to c_to s_to_b sum : ℤ) → bytes_eq from to ≡ false → AgreeOn (amalgamation_cells from to) a b
     → get a from ≡ Some (s, c) → get a to ≡ Some (s_to, c_to)
-    → AreLocal (three_of from to) a b (record { rows = moved from to a s_to sum; reply = replies.Done })
-    (record { rows = moved from to b s_to_b sum; reply = replies.Done })
-moved_local a b from to s c s_to c_to s_to_b sum differs agree is_from is_to =
-    let first = written_local {cells = three_of from to} {a = a} {b = b} from (s, c) (pos 0, pos 0) (pos 0, pos 0) replies.Done agree is_from
+    → AreLocal (amalgamation_cells from to) a b (record { rows = rows_after_amalgamation from to a s_to sum; reply = replies.Done })
+    (record { rows = rows_after_amalgamation from to b s_to_b sum; reply = replies.Done })
+amalgamation_rows_local a b from to s c s_to c_to s_to_b sum differs agree is_from is_to =
+    let first = written_local {cells = amalgamation_cells from to} {a = a} {b = b} from (s, c) (pos 0, pos 0) (pos 0, pos 0) replies.Done agree is_from
     (λ cell one is. refl) (λ cell other is. absurd (none_left_of_giver from to cell other is)) in
     let kept : get (insert a from (pos 0, pos 0)) to ≡ Some (s_to, c_to) =
     get-insert_name a from (pos 0, pos 0) to ∙ ap (λ t. cond t (Some (pos 0, pos 0)) (get a to)) (other_name from to differs) ∙ is_to in
-    let second = written_local {cells = three_of from to} {a = insert a from (pos 0, pos 0)} {b = insert b from (pos 0, pos 0)} to (s_to, c_to) (s_to, sum)
-    (s_to_b, sum) replies.Done first.balances kept
+    let second = written_local {cells = amalgamation_cells from to} {a = insert a from (pos 0, pos 0)} {b = insert b from (pos 0, pos 0)} to
+    (s_to, c_to) (s_to, sum) (s_to_b, sum) replies.Done first.balances kept
     (λ cell one is. taker_touched from to cell differs one is (s_to, sum) (s_to_b, sum) refl)
     (λ cell other is. taker_left from to cell other is (s_to, sum) (s_to, c_to) refl) in
     record { reply = refl; balances = second.balances; others = λ cell other. second.others cell other ∙ first.others cell other }
 
--- the effect of an amalgamation of two different customers on their balances
-abbrev amalgamated : List ℕ → List ℕ → Rows → ℤ → ℤ → ℤ → ℤ → CallResult
-amalgamated from to rows savings checking savings_to checking_to =
-    let sum = (checking_to +ℤ savings) +ℤ checking in
-    if takes_too_much sum then record { rows = rows; reply = replies.OverLimit }
-    else record { rows = moved from to rows savings_to sum; reply = replies.Done }
-
--- on rows that agree
-amalgamated_local : (a b : Rows) (from to : List ℕ) (s c s_b c_b s_to c_to s_to_b c_to_b : ℤ) → bytes_eq from to ≡ false → AgreeOn (three_of from to) a b
+-- an amalgamation of two different customers, on rows that agree
+amalgamation_result_local : (a b : Rows) (from to : List ℕ) (s c s_b c_b s_to c_to s_to_b c_to_b : ℤ) → bytes_eq from to ≡ false
+    → AgreeOn (amalgamation_cells from to) a b
     → get a from ≡ Some (s, c) → get b from ≡ Some (s_b, c_b) → get a to ≡ Some (s_to, c_to) → get b to ≡ Some (s_to_b, c_to_b)
-    → AreLocal (three_of from to) a b (amalgamated from to a s c s_to c_to) (amalgamated from to b s_b c_b s_to_b c_to_b)
-amalgamated_local a b from to s c s_b c_b s_to c_to s_to_b c_to_b differs alike a_from b_from a_to b_to =
-    let same_s = same_savings a b from s c s_b c_b a_from b_from (alike (Savings from) (Contains-from_one (three_of from to) (Savings from) (inl refl))) in
+    → AreLocal (amalgamation_cells from to) a b (amalgamation_result from to a s c s_to c_to) (amalgamation_result from to b s_b c_b s_to_b c_to_b)
+amalgamation_result_local a b from to s c s_b c_b s_to c_to s_to_b c_to_b differs alike a_from b_from a_to b_to =
+    let same_s = same_savings a b from s c s_b c_b a_from b_from
+    (alike (Savings from) (Contains-from_one (amalgamation_cells from to) (Savings from) (inl refl))) in
     let same_c = same_checking a b from s c s_b c_b a_from b_from
-    (alike (Checking from) (Contains-from_one (three_of from to) (Checking from) (inr (inl refl)))) in
+    (alike (Checking from) (Contains-from_one (amalgamation_cells from to) (Checking from) (inr (inl refl)))) in
     let same_to = same_checking a b to s_to c_to s_to_b c_to_b a_to b_to
-    (alike (Checking to) (Contains-from_one (three_of from to) (Checking to) (inr (inr (inl refl))))) in
+    (alike (Checking to) (Contains-from_one (amalgamation_cells from to) (Checking to) (inr (inr (inl refl))))) in
     let sum = (c_to +ℤ s) +ℤ c in
-    let on_a = amalgamated from to a s c s_to c_to in
-    subst (λ (v : ℤ). AreLocal (three_of from to) a b on_a (amalgamated from to b v c_b s_to_b c_to_b)) same_s
-    (subst (λ (k : ℤ). AreLocal (three_of from to) a b on_a (amalgamated from to b s k s_to_b c_to_b)) same_c
-    (subst (λ (k : ℤ). AreLocal (three_of from to) a b on_a (amalgamated from to b s c s_to_b k)) same_to
+    let on_a = amalgamation_result from to a s c s_to c_to in
+    subst (λ (v : ℤ). AreLocal (amalgamation_cells from to) a b on_a (amalgamation_result from to b v c_b s_to_b c_to_b)) same_s
+    (subst (λ (k : ℤ). AreLocal (amalgamation_cells from to) a b on_a (amalgamation_result from to b s k s_to_b c_to_b)) same_c
+    (subst (λ (k : ℤ). AreLocal (amalgamation_cells from to) a b on_a (amalgamation_result from to b s c s_to_b k)) same_to
     (either_local (takes_too_much sum) _ _ _ _ (left_local replies.OverLimit alike) (λ fits.
-    moved_local a b from to s c s_to c_to s_to_b sum differs alike a_from a_to))))
-
--- a call of two customers, by the rows of their names, and whether they are the same
-abbrev result_of_two : (Rows → ℤ → ℤ → ℤ → ℤ → CallResult) → Rows → Bool → Option (ℤ × ℤ) → Option (ℤ × ℤ) → CallResult
-result_of_two result rows one on_from on_to = with_balances rows (λ savings checking. with_balances rows (λ savings_to checking_to.
-    if one then record { rows = rows; reply = replies.SameCustomer } else result rows savings checking savings_to checking_to) on_to) on_from
+    amalgamation_rows_local a b from to s c s_to c_to s_to_b sum differs alike a_from a_to))))
 
 -- if both names have rows and are different, the call is as local as its effect on their balances
 local_two : (a b : Rows) (from to : List ℕ) (result : Rows → ℤ → ℤ → ℤ → ℤ → CallResult) (cells : List BalanceCell) → HaveSameNames a b
@@ -301,7 +266,7 @@ local_two : (a b : Rows) (from to : List ℕ) (result : Rows → ℤ → ℤ →
     → get a to ≡ Some (s_to, c_to) → get b to ≡ Some (s_to_b, c_to_b)
     → AreLocal cells a b (result a s c s_to c_to) (result b s_b c_b s_to_b c_to_b))
     → AreLocal (if has_name a from && has_name a to && not (bytes_eq from to) then cells else []) a b
-    (result_of_two result a (bytes_eq from to) (get a from) (get a to)) (result_of_two result b (bytes_eq from to) (get b from) (get b to))
+    (with_both_balances a (result a) (bytes_eq from to) (get a from) (get a to)) (with_both_balances b (result b) (bytes_eq from to) (get b from) (get b to))
 local_two a b from to result cells names agree there =
     by (bytes_eq from to) (get a from) (get b from) (get a to) (get b to) refl refl refl refl refl (names from) (names to) agree
   where
@@ -309,8 +274,8 @@ local_two a b from to result cells names agree there =
         → get b to ≡ b_to
         → is_some a_from ≡ is_some b_from → is_some a_to ≡ is_some b_to
         → AgreeOn (if is_some a_from && is_some a_to && not one then cells else []) a b
-        → AreLocal (if is_some a_from && is_some a_to && not one then cells else []) a b (result_of_two result a one a_from a_to)
-        (result_of_two result b one b_from b_to)
+        → AreLocal (if is_some a_from && is_some a_to && not one then cells else []) a b (with_both_balances a (result a) one a_from a_to)
+        (with_both_balances b (result b) one b_from b_to)
     by one None (Some w) a_to b_to e ea eb fa fb same_from same_to alike = absurd cc
     by one (Some v) None a_to b_to e ea eb fa fb same_from same_to alike = absurd cc
     by one None None a_to b_to e ea eb fa fb same_from same_to alike = left_local replies.NoCustomer alike
@@ -324,15 +289,15 @@ local_two a b from to result cells names agree there =
 amalgamate_local : (a b : Rows) (from to : List ℕ) → HaveSameNames a b → AgreeOn (touched_cells a (Amalgamate from to)) a b
     → AreLocal (touched_cells a (Amalgamate from to)) a b (procedure (Amalgamate from to) a) (procedure (Amalgamate from to) b)
 amalgamate_local a b from to names agree =
-    local_two a b from to (amalgamated from to) (three_of from to) names agree (amalgamated_local a b from to)
+    local_two a b from to (amalgamation_result from to) (amalgamation_cells from to) names agree (amalgamation_result_local a b from to)
 
 -- ---- payments
 
 -- a payment touches the checking of both
-abbrev checkings_of : List ℕ → List ℕ → List BalanceCell
-checkings_of from to = Checking from ∷ Checking to ∷ []
+abbrev payment_cells : List ℕ → List ℕ → List BalanceCell
+payment_cells from to = Checking from ∷ Checking to ∷ []
 
-checking_touched : (from to : List ℕ) (cell : BalanceCell) → IsOneOf (checkings_of from to) cell → (v w : ℤ × ℤ) → v.1 ≡ w.1
+checking_touched : (from to : List ℕ) (cell : BalanceCell) → IsOneOf (payment_cells from to) cell → (v w : ℤ × ℤ) → v.1 ≡ w.1
     → value_of cell v ≡ value_of cell w
 checking_touched from to (Savings q) (inl e) v w same = absurd cc
 checking_touched from to (Savings q) (inr (inl e)) v w same = absurd cc
@@ -340,62 +305,55 @@ checking_touched from to (Savings q) (inr (inr none)) v w same = absurd none
 checking_touched from to (Checking q) one v w same = same
 
 -- and leaves their savings
-savings_of_both_left : (from to name : List ℕ) (cell : BalanceCell) → IsOneOf (checkings_of from to) (Checking name)
-    → ¬ IsOneOf (checkings_of from to) cell → name_of cell ≡ name → (v w : ℤ × ℤ) → v.0 ≡ w.0
+savings_of_both_left : (from to name : List ℕ) (cell : BalanceCell) → IsOneOf (payment_cells from to) (Checking name)
+    → ¬ IsOneOf (payment_cells from to) cell → name_of cell ≡ name → (v w : ℤ × ℤ) → v.0 ≡ w.0
     → value_of cell v ≡ value_of cell w
 savings_of_both_left from to name (Savings q) one other is v w same = same
 savings_of_both_left from to name (Checking q) one other is v w same =
-    absurd (other (subst (λ (n : List ℕ). IsOneOf (checkings_of from to) (Checking n)) (sym is) one))
+    absurd (other (subst (λ (n : List ℕ). IsOneOf (payment_cells from to) (Checking n)) (sym is) one))
 
 -- two rows written, one after the other
-abbrev paid_over : List ℕ → List ℕ → Rows → ℤ → ℤ → ℤ → ℤ → Rows
-paid_over from to rows savings left savings_to sum = insert (insert rows from (savings, left)) to (savings_to, sum)
+abbrev rows_after_payment : List ℕ → List ℕ → Rows → ℤ → ℤ → ℤ → ℤ → Rows
+rows_after_payment from to rows savings left savings_to sum = insert (insert rows from (savings, left)) to (savings_to, sum)
 
-paid_over_local : (a b : Rows) (from to : List ℕ) (s c s_b s_to c_to s_to_b left sum : ℤ) → bytes_eq from to ≡ false → AgreeOn (checkings_of from to) a b
+payment_rows_local : (a b : Rows) (from to : List ℕ) (s c s_b s_to c_to s_to_b left sum : ℤ) → bytes_eq from to ≡ false → AgreeOn (payment_cells from to) a b
     → get a from ≡ Some (s, c) → get a to ≡ Some (s_to, c_to)
-    → AreLocal (checkings_of from to) a b (record { rows = paid_over from to a s left s_to sum; reply = replies.Done })
-    (record { rows = paid_over from to b s_b left s_to_b sum; reply = replies.Done })
-paid_over_local a b from to s c s_b s_to c_to s_to_b left sum differs agree is_from is_to =
-    let first = written_local {cells = checkings_of from to} {a = a} {b = b} from (s, c) (s, left) (s_b, left) replies.Done agree is_from
+    → AreLocal (payment_cells from to) a b (record { rows = rows_after_payment from to a s left s_to sum; reply = replies.Done })
+    (record { rows = rows_after_payment from to b s_b left s_to_b sum; reply = replies.Done })
+payment_rows_local a b from to s c s_b s_to c_to s_to_b left sum differs agree is_from is_to =
+    let first = written_local {cells = payment_cells from to} {a = a} {b = b} from (s, c) (s, left) (s_b, left) replies.Done agree is_from
     (λ cell one is. checking_touched from to cell one (s, left) (s_b, left) refl)
     (λ cell other is. savings_of_both_left from to from cell (inl refl) other is (s, left) (s, c) refl) in
     let kept : get (insert a from (s, left)) to ≡ Some (s_to, c_to) =
     get-insert_name a from (s, left) to ∙ ap (λ t. cond t (Some (s, left)) (get a to)) (other_name from to differs) ∙ is_to in
-    let second = written_local {cells = checkings_of from to} {a = insert a from (s, left)} {b = insert b from (s_b, left)} to (s_to, c_to) (s_to, sum)
+    let second = written_local {cells = payment_cells from to} {a = insert a from (s, left)} {b = insert b from (s_b, left)} to (s_to, c_to) (s_to, sum)
     (s_to_b, sum) replies.Done first.balances kept
     (λ cell one is. checking_touched from to cell one (s_to, sum) (s_to_b, sum) refl)
     (λ cell other is. savings_of_both_left from to to cell (inr (inl refl)) other is (s_to, sum) (s_to, c_to) refl) in
     record { reply = refl; balances = second.balances; others = λ cell other. second.others cell other ∙ first.others cell other }
 
--- the effect of a payment between two different customers on their balances
-abbrev sent : List ℕ → List ℕ → ℤ → Rows → ℤ → ℤ → ℤ → ℤ → CallResult
-sent from to amount rows savings checking savings_to checking_to =
-    if int_lt amount (pos 0) then record { rows = rows; reply = replies.Negative }
-    else if int_lt checking amount then record { rows = rows; reply = replies.WouldOverdraw }
-    else if int_lt LIMIT (checking_to +ℤ amount) then record { rows = rows; reply = replies.OverLimit }
-    else record { rows = paid_over from to rows savings (checking -ℤ amount) savings_to (checking_to +ℤ amount); reply = replies.Done }
-
--- on rows that agree
-sent_local : (a b : Rows) (from to : List ℕ) (amount s c s_b c_b s_to c_to s_to_b c_to_b : ℤ) → bytes_eq from to ≡ false → AgreeOn (checkings_of from to) a b
+-- a payment between two different customers, on rows that agree
+payment_result_local : (a b : Rows) (from to : List ℕ) (amount s c s_b c_b s_to c_to s_to_b c_to_b : ℤ) → bytes_eq from to ≡ false
+    → AgreeOn (payment_cells from to) a b
     → get a from ≡ Some (s, c) → get b from ≡ Some (s_b, c_b) → get a to ≡ Some (s_to, c_to) → get b to ≡ Some (s_to_b, c_to_b)
-    → AreLocal (checkings_of from to) a b (sent from to amount a s c s_to c_to) (sent from to amount b s_b c_b s_to_b c_to_b)
-sent_local a b from to amount s c s_b c_b s_to c_to s_to_b c_to_b differs alike a_from b_from a_to b_to =
+    → AreLocal (payment_cells from to) a b (payment_result from to amount a s c s_to c_to) (payment_result from to amount b s_b c_b s_to_b c_to_b)
+payment_result_local a b from to amount s c s_b c_b s_to c_to s_to_b c_to_b differs alike a_from b_from a_to b_to =
     let same_c =
-    same_checking a b from s c s_b c_b a_from b_from (alike (Checking from) (Contains-from_one (checkings_of from to) (Checking from) (inl refl))) in
+    same_checking a b from s c s_b c_b a_from b_from (alike (Checking from) (Contains-from_one (payment_cells from to) (Checking from) (inl refl))) in
     let same_to = same_checking a b to s_to c_to s_to_b c_to_b a_to b_to
-    (alike (Checking to) (Contains-from_one (checkings_of from to) (Checking to) (inr (inl refl)))) in
-    let on_a = sent from to amount a s c s_to c_to in
-    subst (λ (k : ℤ). AreLocal (checkings_of from to) a b on_a (sent from to amount b s_b k s_to_b c_to_b)) same_c
-    (subst (λ (k : ℤ). AreLocal (checkings_of from to) a b on_a (sent from to amount b s_b c s_to_b k)) same_to
+    (alike (Checking to) (Contains-from_one (payment_cells from to) (Checking to) (inr (inl refl)))) in
+    let on_a = payment_result from to amount a s c s_to c_to in
+    subst (λ (k : ℤ). AreLocal (payment_cells from to) a b on_a (payment_result from to amount b s_b k s_to_b c_to_b)) same_c
+    (subst (λ (k : ℤ). AreLocal (payment_cells from to) a b on_a (payment_result from to amount b s_b c s_to_b k)) same_to
     (either_local (int_lt amount (pos 0)) _ _ _ _ (left_local replies.Negative alike) (λ ge.
     either_local (int_lt c amount) _ _ _ _ (left_local replies.WouldOverdraw alike) (λ enough.
     either_local (int_lt LIMIT (c_to +ℤ amount)) _ _ _ _ (left_local replies.OverLimit alike) (λ le.
-    paid_over_local a b from to s c s_b s_to c_to s_to_b (c -ℤ amount) (c_to +ℤ amount) differs alike a_from a_to)))))
+    payment_rows_local a b from to s c s_b s_to c_to s_to_b (c -ℤ amount) (c_to +ℤ amount) differs alike a_from a_to)))))
 
 payment_local : (a b : Rows) (from to : List ℕ) (amount : ℤ) → HaveSameNames a b → AgreeOn (touched_cells a (SendPayment from to amount)) a b
     → AreLocal (touched_cells a (SendPayment from to amount)) a b (procedure (SendPayment from to amount) a) (procedure (SendPayment from to amount) b)
 payment_local a b from to amount names agree =
-    local_two a b from to (sent from to amount) (checkings_of from to) names agree (sent_local a b from to amount)
+    local_two a b from to (payment_result from to amount) (payment_cells from to) names agree (payment_result_local a b from to amount)
 
 -- ---- any call
 

@@ -15,7 +15,7 @@ use Rattle.sb_calls.proofs.Amalgamation.{within_limit, performs_amalgamate_over_
 use Rattle.sb_calls.proofs.EffectCases.{cost_bounds, cowns_giver_first, cowns_taker_first, effect_giver_first, effect_taker_first, cowns_payer_first, cowns_payee_first, effect_payer_first, effect_payee_first}
 use Rattle.sb_calls.proofs.CownColumns.{contents_at_savings, contents_at_checking, contents_of-with_savings, contents_of-with_checking, write-read}
 use Rattle.sb_calls.proofs.OpOrigins.{comes_from}
-use Rattle.sb_calls.proofs.Payments.{paid, performs_payment_negative, performs_payment_overdraft, performs_payment_over_limit, performs_payment}
+use Rattle.sb_calls.proofs.Payments.{balances_after_payment, performs_payment_negative, performs_payment_overdraft, performs_payment_over_limit, performs_payment}
 use Rattle.sb_calls.proofs.CustomerRows.{HasRow, HasRow-unread, with_savings, with_checking, checking_within}
 use Rattle.sb_calls.proofs.Procedures.{performs_balance, performs_negative, performs_over_limit, performs_deposit, performs_overdraft, performs_savings_over_limit, performs_savings, performs_check_negative, performs_check_over_limit, performs_check}
 use Rattle.sb_calls.proofs.Refusals.{performs_no_customer, performs_same_customer}
@@ -157,12 +157,12 @@ contents_of-with_row b place s c =
     ∙ ap (λ (contents : List ℤ). slice_set contents (checking_cown place) c) (contents_of-with_savings b place s)
 
 -- the balances after an amalgamation
-abbrev amalgamated : Balances → ℕ → ℕ → ℤ → Balances
-amalgamated b p q sum = with_checking (with_row b p (pos 0) (pos 0)) q sum
+abbrev balances_after_amalgamation : Balances → ℕ → ℕ → ℤ → Balances
+balances_after_amalgamation b p q sum = with_checking (with_row b p (pos 0) (pos 0)) q sum
 
 -- the giver's cowns are written first, and then the taker's
 written_giver_first : (b : Balances) (p q : ℕ) (sum : ℤ)
-    → contents_of (amalgamated b p q sum)
+    → contents_of (balances_after_amalgamation b p q sum)
     ≡ slice_set (slice_set (slice_set (contents_of b) (savings_cown p) (pos 0)) (checking_cown p) (pos 0)) (checking_cown q) sum
 written_giver_first b p q sum =
     contents_of-with_checking (with_row b p (pos 0) (pos 0)) q sum
@@ -170,7 +170,7 @@ written_giver_first b p q sum =
 
 -- or the other way round: the cowns are different
 written_taker_first : (b : Balances) (p q : ℕ) (sum : ℤ) → p ≢ q
-    → contents_of (amalgamated b p q sum)
+    → contents_of (balances_after_amalgamation b p q sum)
     ≡ slice_set (slice_set (slice_set (contents_of b) (checking_cown q) sum) (savings_cown p) (pos 0)) (checking_cown p) (pos 0)
 written_taker_first b p q sum differs =
     let apart : checking_cown p ≢ checking_cown q = omega (arith, differs) in
@@ -199,7 +199,7 @@ module _ {directory : List (List ℕ)} {b : Balances} {from to : List ℕ} {p q 
       either_effect directory call b cowns (takes_too_much sum) _ _
       (λ past. effect_leaves directory call b cowns replies.OverLimit (s ∷ c ∷ c_to ∷ [])
       (performs_amalgamate_over_limit giver taker differs (sum_past sum past)) giver_first) (λ fits. record {
-        new = amalgamated b p q sum;
+        new = balances_after_amalgamation b p q sum;
         written = written_giver_first b p q sum;
         performs = performs_amalgamate giver taker differs (sum_within sum fits);
       })
@@ -212,7 +212,7 @@ module _ {directory : List (List ℕ)} {b : Balances} {from to : List ℕ} {p q 
       either_effect directory call b cowns (takes_too_much sum) _ _
       (λ past. effect_leaves directory call b cowns replies.OverLimit (c_to ∷ s ∷ c ∷ [])
       (performs_amalgamate_over_limit giver taker differs (sum_past sum past)) taker_first) (λ fits. record {
-        new = amalgamated b p q sum;
+        new = balances_after_amalgamation b p q sum;
         written = written_taker_first b p q sum differs;
         performs = performs_amalgamate giver taker differs (sum_within sum fits);
       })
@@ -243,14 +243,14 @@ module _ {directory : List (List ℕ)} {b : Balances} {from to : List ℕ} {p q 
 
 -- the payer's cown is written first, and then the payee's
 written_payer_first : (b : Balances) (p q : ℕ) (left received : ℤ)
-    → contents_of (paid b p q left received) ≡ slice_set (slice_set (contents_of b) (checking_cown p) left) (checking_cown q) received
+    → contents_of (balances_after_payment b p q left received) ≡ slice_set (slice_set (contents_of b) (checking_cown p) left) (checking_cown q) received
 written_payer_first b p q left received =
     contents_of-with_checking (with_checking b p left) q received
     ∙ ap (λ (contents : List ℤ). slice_set contents (checking_cown q) received) (contents_of-with_checking b p left)
 
 -- or the other way round: the cowns are different
 written_payee_first : (b : Balances) (p q : ℕ) (left received : ℤ) → p ≢ q
-    → contents_of (paid b p q left received) ≡ slice_set (slice_set (contents_of b) (checking_cown q) received) (checking_cown p) left
+    → contents_of (balances_after_payment b p q left received) ≡ slice_set (slice_set (contents_of b) (checking_cown q) received) (checking_cown p) left
 written_payee_first b p q left received differs =
     let apart : checking_cown p ≢ checking_cown q = omega (arith, differs) in
     written_payer_first b p q left received ∙ set_comm (contents_of b) (checking_cown p) (checking_cown q) left received apart
@@ -274,7 +274,7 @@ module _ {directory : List (List ℕ)} {b : Balances} {from to : List ℕ} {p q 
       (λ ge enough past. effect_leaves directory call b cowns replies.OverLimit (c ∷ c_to ∷ [])
       (performs_payment_over_limit payer payee differs amount ge enough past) payer_first)
       (λ ge enough le. record {
-        new = paid b p q (c -ℤ amount) (c_to +ℤ amount);
+        new = balances_after_payment b p q (c -ℤ amount) (c_to +ℤ amount);
         written = written_payer_first b p q (c -ℤ amount) (c_to +ℤ amount);
         performs = performs_payment payer payee differs amount ge enough le;
       })
@@ -290,7 +290,7 @@ module _ {directory : List (List ℕ)} {b : Balances} {from to : List ℕ} {p q 
       (λ ge enough past. effect_leaves directory call b cowns replies.OverLimit (c_to ∷ c ∷ [])
       (performs_payment_over_limit payer payee differs amount ge enough past) payee_first)
       (λ ge enough le. record {
-        new = paid b p q (c -ℤ amount) (c_to +ℤ amount);
+        new = balances_after_payment b p q (c -ℤ amount) (c_to +ℤ amount);
         written = written_payee_first b p q (c -ℤ amount) (c_to +ℤ amount) differs;
         performs = performs_payment payer payee differs amount ge enough le;
       })

@@ -23,8 +23,8 @@ received_within : (c amount : ℤ) → IsWithinLimit c → int_lt amount (pos 0)
 received_within c amount within ge le = record { at_least = grind (arith, ints, ge, within.at_least); at_most = grind (arith, ints, le) }
 
 -- the balances after a payment
-abbrev pub paid : Balances → ℕ → ℕ → ℤ → ℤ → Balances
-paid b p q left received = with_checking (with_checking b p left) q received
+abbrev pub balances_after_payment : Balances → ℕ → ℕ → ℤ → ℤ → Balances
+balances_after_payment b p q left received = with_checking (with_checking b p left) q received
 
 module _ {directory : List (List ℕ)} {b : Balances} {from to : List ℕ} {p q : ℕ} {s c s_to c_to : ℤ} (payer : HasRow directory b from p s c)
     (payee : HasRow directory b to q s_to c_to) (differs : p ≢ q) (amount : ℤ) where
@@ -53,7 +53,7 @@ module _ {directory : List (List ℕ)} {b : Balances} {from to : List ℕ} {p q 
 
   -- a payment that is executed
   pub performs_payment : int_lt amount (pos 0) ≡ false → int_lt c amount ≡ false → int_lt LIMIT (c_to +ℤ amount) ≡ false
-      → FollowsProcedure directory (SendPayment from to amount) b (paid b p q (c -ℤ amount) (c_to +ℤ amount)) Done
+      → FollowsProcedure directory (SendPayment from to amount) b (balances_after_payment b p q (c -ℤ amount) (c_to +ℤ amount)) Done
   performs_payment ge enough le =
       let row_from = row_is payer in
       let row_to = row_is payee in
