@@ -13,8 +13,8 @@ const OTHER_REPLIES: &[Reply] = &[
     Reply::OverLimit,
 ];
 
-// Checks what a call adds to the total if its reply is `Done` or `Penalised`. With every other reply
-// it adds nothing.
+// Checks what a call adds to the total if its reply is `Done` or `Penalised`. With every other
+// reply it adds nothing.
 fn expect_net(rt: &impl Abort, call: Call, done: i64, penalised: i64, case: &str) {
     expect(rt, net(&call, Reply::Done) == done, case);
     expect(rt, net(&call, Reply::Penalised) == penalised, case);

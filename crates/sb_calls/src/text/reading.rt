@@ -2,11 +2,9 @@
 //! or `pay N1 N2 V`.
 ghost use Rattle.std.specs.Prelude.{◌≡◌, ◌<◌, ℕ, ℤ, List, [], ◌∷◌, ◌++◌, Ok, Err, IfOk, IsOk, MatchResult, vec_len, vec_capacity};
 ghost use Rattle.std.specs.Result.{result_map_both};
-ghost use Rattle.sb_amount.specs.Reading.{read_money};
-ghost use Rattle.sb_rows.specs.Name.{is_name};
 ghost use Rattle.sb_calls.specs.Ask.{under_key};
 ghost use Rattle.sb_calls.specs.declared.call.Call.{Call as AnyCall};
-ghost use Rattle.sb_calls.specs.Call.{IsCall, call_line, call_of, call_of_words, of_name, of_name_and_amount, of_two_names, of_two_names_and_amount, with_amount};
+ghost use Rattle.sb_calls.specs.Call.{IsCall, call_line, call_of, call_of_words, of_name, of_name_and_amount, of_two_names, of_two_names_and_amount};
 
 use super::fault::CallFault;
 use super::verb::Verb;
