@@ -2,8 +2,8 @@
 ghost use Rattle.std.specs.Prelude.{◌≡◌, ◌≤◌, ◌+ℤ◌, pos, length};
 ghost use Rattle.sb_calls.specs.Net.{net_of, net_sum};
 ghost use Rattle.lane_audit.specs.inner.NetBounds.{HasAmountWithin, IsPossibleNet};
-ghost use Rattle.lane_audit.specs.Audit.{IsBankTotal};
-ghost use Rattle.lane_audit.specs.Columns.{count_below, total};
+ghost use Rattle.lane_audit.specs.Audit.{IsBankTotal, balances_total};
+ghost use Rattle.lane_audit.specs.Columns.{count_below};
 
 use crate::books::Audit;
 use crate::counting::count_below;
@@ -13,7 +13,7 @@ use sb_rows::Columns;
 
 /// The sum of all savings and checking balances of a bank, in cents.
 pub fn bank_total(columns: &Columns) -> i64
-    ensures value { result ≡ total columns.now.savings +ℤ total columns.now.checking }
+    ensures value { result ≡ balances_total columns.now }
     ensures bank { IsBankTotal result }
 {
     // Its contract says that all balances are in their ranges, as `sum` requires.
@@ -22,13 +22,13 @@ pub fn bank_total(columns: &Columns) -> i64
 }
 
 /// Sums all balances and the net changes of all calls, and counts the overdrawn balances. Each call
-/// has its reply at the same place. `opening_total` is `bank_total` before the first call, in
+/// has its reply at the same index. `opening_total` is `bank_total` before the first call, in
 /// cents.
 pub fn audit(columns: &Columns, opening_total: i64, calls: &[Call], replies: &[Reply]) -> Audit
     requires replies { length calls.now ≡ length replies.now }
     requires limit { length calls.now ≤ LOG_CALLS }
     requires opening { IsBankTotal opening_total }
-    ensures total { result.total ≡ total columns.now.savings +ℤ total columns.now.checking }
+    ensures total { result.total ≡ balances_total columns.now }
     ensures expected { result.expected ≡ opening_total +ℤ net_sum calls.now replies.now }
     ensures overdrawn { result.overdrawn ≡ count_below columns.now.checking (pos 0) }
 {
@@ -47,8 +47,8 @@ fn net_of_all(calls: &[Call], replies: &[Reply]) -> i64
     ensures within { IsPossibleNet (length calls.now) result }
 {
     let mut added = 0;
-    for (place, call) in calls.iter().enumerate() {
-        added += net_of_one(call, replies[place]);
+    for (index, call) in calls.iter().enumerate() {
+        added += net_of_one(call, replies[index]);
     }
     added
 }

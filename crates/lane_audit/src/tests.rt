@@ -1,5 +1,5 @@
-//! What no clause says: columns at the limit, columns of each length around a lane count, and an
-//! audit worked by hand.
+//! Worked inputs, which check the definitions: columns at the limit, columns of each length around
+//! a lane count, and an audit worked by hand.
 use super::*;
 use sb_amount::LIMIT;
 use sb_rows::CUSTOMERS;
