@@ -33,11 +33,24 @@ impl From<AllocError> for ReadFault {
 
 /// Reads all that a reader gives.
 ///
-/// An interrupted read is repeated, and counts as one.
+/// An interrupted read is repeated, and counts as one. Fails with [`ReadFault::Device`] if a read
+/// fails or the input takes more than [`READS`] reads, and with [`ReadFault::OutOfMemory`] if memory
+/// is refused.
 pub fn read_all<R: Read>(alloc: Global, reader: &mut R) -> Result<Vec<u8>, ReadFault>
     ensures { IfOk result (λ input. IfSome (R.remaining reader.old) (λ bytes. input.items ≡ bytes)) }
 {
-    let mut input = Vec::new(alloc);
+    read_with_room(alloc, 0, reader)
+}
+
+/// Reads and fails as [`read_all`] does, with room for this many bytes at first.
+pub fn read_with_room<R: Read>(
+    alloc: Global,
+    room: usize,
+    reader: &mut R,
+) -> Result<Vec<u8>, ReadFault>
+    ensures { IfOk result (λ input. IfSome (R.remaining reader.old) (λ bytes. input.items ≡ bytes)) }
+{
+    let mut input = Vec::with_capacity(alloc, room)?;
     let mut chunk = [0u8; CHUNK];
     for _ in 0..READS {
         match reader.read(&mut chunk) {

@@ -9,7 +9,7 @@ mod output;
 #[cfg(test)]
 mod tests;
 
-pub use input::{READS, ReadFault, read_all};
+pub use input::{READS, ReadFault, read_all, read_with_room};
 pub use laws::limits;
 pub use listing::list_rows;
 pub use output::write_whole;

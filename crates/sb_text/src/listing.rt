@@ -12,8 +12,10 @@ use sb_amount::{Cents, print, print_total};
 use sb_rows::{Columns, Directory, Name};
 use std::alloc::AllocError;
 
-/// Writes a line `NAME SAVINGS CHECKING` for each customer, in opening order, and the line `total
-/// TOTAL`.
+/// Appends to `out` a line `NAME SAVINGS CHECKING` for each customer, in opening order, and the line
+/// `total TOTAL`.
+///
+/// Fails if memory is refused; a part of the lines may stand behind the old bytes then.
 pub fn list_rows(
     directory: &Directory,
     columns: &Columns,
@@ -24,8 +26,7 @@ pub fn list_rows(
         ≡ out.old.items ++ unlines (row_lines directory.now (rows_of directory.now columns.now))) }
 {
     list_customers(directory, columns, out)?;
-    push_total(out, bank_total(columns))?;
-    Ok(())
+    push_total(out, bank_total(columns))
 }
 
 // Writes a line for each customer.

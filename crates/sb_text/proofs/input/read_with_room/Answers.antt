@@ -1,8 +1,8 @@
 use Rattle.std.proofs.Common.{◌≡◌, ℕ, Option, List, [], ◌++◌, take, append-nil, sym, subst, ap, ◌∙◌, arith}
 use Rattle.std.specs.Io.KnownBytes.{Consumes}
 use Rattle.std.proofs.KnownBytes.{Consumes-trans, Consumes-kept, Consumes-all}
-use Rattle.sb_text.proofs.input.read_all.Goals.{in-Ok+in_ok-extend_from_slice-in-Ok, in-Err+else-ne}
-use Rattle.sb_text.proofs.input.read_all.Goals as goal
+use Rattle.sb_text.proofs.input.read_with_room.Goals.{in-Ok+in_ok-extend_from_slice-in-Ok, in-Err+else-ne}
+use Rattle.sb_text.proofs.input.read_with_room.Goals as goal
 
 -- a piece that is read comes behind those before it
 one_more : (a b c : Option (List ℕ)) (before piece after : List ℕ) → Consumes a b before → Consumes b c piece → after ≡ before ++ piece

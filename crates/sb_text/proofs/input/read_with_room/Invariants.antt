@@ -1,5 +1,5 @@
 use Rattle.std.specs.Io.KnownBytes.{Consumes}
-use Rattle.sb_text.proofs.input.read_all.Given as goal
+use Rattle.sb_text.proofs.input.read_with_room.Given as goal
 
 -- what was read so far was at the front of the input
 abbrev pub invariant-loop : goal.invariant-loop
