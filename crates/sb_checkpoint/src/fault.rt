@@ -10,10 +10,10 @@ use thiserror::Error;
 /// in place of any fault from `OutOfRange` on.
 #[derive(Clone, Copy, Debug, PartialEq, Eq, Error)]
 pub enum CheckpointFault {
-    /// The bytes don't begin with the eight bytes of a checkpoint.
+    /// The first eight bytes, or as many as there are, begin neither layout.
     #[error("bad magic")]
     BadMagic,
-    /// There are fewer bytes than the head states.
+    /// There are fewer bytes than a head has, or than it states.
     #[error("short")]
     Short,
     /// The checkpoint is of a bank with another number of customers.
