@@ -69,10 +69,12 @@ faultless_bytes_spell bytes origin are few fits e =
     let made : CheckpointOf = record { columns = record { savings = stated_savings bytes; checking = stated_checking bytes }; replies = replies.0 } in (
       made,
       (
-        layout.0,
-        taken bytes customers origin.opening_total layout.0 made are (stated_balances bytes customers few same balances.0)
-            (record { savings = refl; checking = refl; replies = replies.1 })
-            layout.1 head.0 balances.0 opening.0 opening.1,
+        (
+          layout.0,
+          taken bytes customers origin.opening_total layout.0 made are (stated_balances bytes customers few same balances.0)
+              (record { savings = refl; checking = refl; replies = replies.1 })
+              layout.1 head.0 balances.0 opening.0 opening.1,
+        ),
+        length-amounts (stated_customers bytes) _ ∙ same,
       ),
-      length-amounts (stated_customers bytes) _ ∙ same,
     )

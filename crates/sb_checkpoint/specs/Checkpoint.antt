@@ -1,12 +1,12 @@
 -- What a checkpoint is, and how its bytes spell it.
-use Rattle.std.specs.Prelude.{◌≡◌, ℕ, ◌≤◌, ℤ, ◌+ℤ◌, List, [], ◌∷◌, ◌++◌, length}
+use Rattle.std.specs.Prelude.{◌≡◌, ℕ, ◌≤◌, ℤ, List, [], ◌∷◌, ◌++◌, length}
 use Rattle.std.specs.Int.{w32, w64}
 use Rattle.std.specs.List.{All, flat_map}
 use Rattle.sb_rows.specs.Balances.{Balances, IsBalances}
 use Rattle.sb_calls.specs.Replies.{IsReply, integer_field, amount_field, reply_field}
 use Rattle.sb_calls.specs.declared.call.TheConstants.{LOG_CALLS}
 use Rattle.sb_calls.specs.declared.reply.Reply.{Reply}
-use Rattle.lane_audit.specs.Columns.{total}
+use Rattle.lane_audit.specs.Audit.{balances_total}
 
 -- a checkpoint, the state of an idle replica: the balances, and the replies to the numbers from 1
 -- on
@@ -48,7 +48,7 @@ checkpoint_spelling layout opening_total checkpoint =
     let columns = checkpoint.columns in
     magic layout ++ integer_field w64 (length checkpoint.replies) ++ integer_field w32 (length columns.savings)
     ++ flat_map amount_field columns.savings ++ flat_map amount_field columns.checking
-    ++ amount_field (total columns.savings +ℤ total columns.checking) ++ opening_field layout opening_total
+    ++ amount_field (balances_total columns) ++ opening_field layout opening_total
     ++ flat_map reply_field checkpoint.replies
 
 -- the bytes spell a valid checkpoint in this layout, of a bank with this opening total
@@ -61,6 +61,11 @@ pub record SpellsInLayout (layout : Layout) (opening_total : ℤ)
 abbrev pub SpellsCheckpoint : ℤ → CheckpointOf → List ℕ → Type 0
 SpellsCheckpoint opening_total checkpoint bytes = (layout : Layout)
     × SpellsInLayout layout opening_total checkpoint bytes
+
+-- the bytes spell a checkpoint of a bank of this origin, in one of the layouts
+abbrev pub SpellsFor : Origin → CheckpointOf → List ℕ → Type 0
+SpellsFor origin checkpoint bytes = SpellsCheckpoint origin.opening_total checkpoint bytes
+    × (length checkpoint.columns.savings ≡ origin.customers)
 
 -- bytes spell at most one checkpoint, in one layout
 abbrev pub OneCheckpoint : Type 0

@@ -11,7 +11,7 @@ use Rattle.sb_calls.specs.Replies.{reply_with_code}
 use Rattle.sb_calls.specs.declared.call.TheConstants.{LOG_CALLS}
 use Rattle.sb_calls.specs.declared.reply.Reply.{Reply}
 use Rattle.lane_audit.specs.Columns.{total, is_outside}
-use Rattle.sb_checkpoint.specs.Checkpoint.{CheckpointOf, SpellsCheckpoint, Layout, First, Second, Origin, SpellsInLayout, magic}
+use Rattle.sb_checkpoint.specs.Checkpoint.{CheckpointOf, Layout, First, Second, Origin, SpellsFor, SpellsInLayout, magic}
 use Rattle.sb_checkpoint.specs.declared.fault.CheckpointFault.{CheckpointFault}
 use Rattle.sb_checkpoint.specs.declared.fault.CheckpointFault.TheVariants.{BadMagic, Short, WrongCustomers, OutOfRange, NegativeSavings, WrongTotal, WrongOpening, BadReply, Long, OutOfMemory}
 
@@ -144,5 +144,4 @@ SpellingHasNoFault = (layout : Layout) (opening_total : ℤ) (checkpoint : Check
 abbrev pub FaultlessBytesSpell : Type 0
 FaultlessBytesSpell = (bytes : List ℕ) (origin : Origin) → All (λ byte. byte < 256) bytes → origin.customers ≤ CUSTOMERS
     → FitsSigned w64 origin.opening_total → first_fault bytes origin ≡ None
-    → (checkpoint : CheckpointOf) × SpellsCheckpoint origin.opening_total checkpoint bytes
-    × (length checkpoint.columns.savings ≡ origin.customers)
+    → (checkpoint : CheckpointOf) × SpellsFor origin checkpoint bytes

@@ -2,7 +2,7 @@
 ghost use Rattle.std.specs.Prelude.{◌≡◌, ◌+◌, ◌*◌, ◌≤◌, IfOk, OnOk, MatchResult, None, Some, length, map};
 ghost use Rattle.std.specs.List.{list_any};
 ghost use Rattle.sb_rows.specs.Balances.{IsBalances};
-ghost use Rattle.sb_checkpoint.specs.Checkpoint.{SpellsCheckpoint, Origin};
+ghost use Rattle.sb_checkpoint.specs.Checkpoint.{SpellsFor, Origin};
 ghost use Rattle.sb_checkpoint.specs.inner.Layouts.{layout_of};
 ghost use Rattle.sb_checkpoint.specs.Reading as spec;
 ghost use Rattle.sb_checkpoint.specs.Reading.{stated_checking, stated_replies, stated_savings, stated_size};
@@ -146,9 +146,8 @@ pub fn read_checkpoint(
     opening_total: i64,
 ) -> Result<Checkpoint, CheckpointFault>
     requires { customers ≤ CUSTOMERS }
-    ensures checkpoint { IfOk result
-        (λ checkpoint. SpellsCheckpoint opening_total checkpoint bytes.now) }
-    ensures customers { IfOk result (λ checkpoint. length checkpoint.columns.savings ≡ customers) }
+    ensures checkpoint { let origin : Origin = record { customers = customers; opening_total = opening_total } in
+        IfOk result (λ checkpoint. SpellsFor origin checkpoint bytes.now) }
     ensures fault { let origin : Origin = record { customers = customers; opening_total = opening_total } in
         MatchResult result
         (λ _. first_fault bytes.now origin ≡ None) (IsRefusedBy bytes.now origin) }

@@ -54,26 +54,26 @@ returns-clause-fault c =
     let same = subst (λ t. opening_fault layout c.args.bytes.now t ≡ None) (to_z-of_z w64 _ c.ranges.opening_total) c.in_ok-check_opening.ensures in
     no_fault c.args.bytes.now origin layout head.layout head.fault c.in_ok-columns.ensures.fault same c.in_ok-replies.ensures.fault
 
-pub returns-clause-customers : goal.returns-clause-customers
-returns-clause-customers c =
-    ap (λ (made : CheckpointOf). length made.columns.savings) c.of.ensures
-    ∙ ap length c.in_ok-columns.ensures.savings ∙ length-amounts _ _ ∙ c.in_ok-layout.ensures.customers
-
 pub returns-clause-checkpoint : goal.returns-clause-checkpoint
 returns-clause-checkpoint c =
     let made = c.of.ensures in
     let bytes = c.args.bytes.now in
     let head = c.in_ok-layout.ensures in
     let layout = layout_of c.in_ok-layout.layout in
-    let same = subst (λ t. opening_fault layout c.args.bytes.now t ≡ None) (to_z-of_z w64 _ c.ranges.opening_total) c.in_ok-check_opening.ensures in (
-      layout,
-      taken bytes c.args.customers c.args.opening_total layout c.of.result
-          (All-from_get_or (λ byte. byte < 256) bytes 0 (λ i inside. (c.type_inv.bytes i).fits))
-          (let view : c.of.result.columns ≡ c.in_ok-columns.columns = ap (λ (m : CheckpointOf). m.columns) made in rw view c.in_ok-columns.ensures.valid)
-          (record {
-            savings = ap (λ (m : CheckpointOf). m.columns.savings) made ∙ c.in_ok-columns.ensures.savings;
-            checking = ap (λ (m : CheckpointOf). m.columns.checking) made ∙ c.in_ok-columns.ensures.checking;
-            replies = ap (λ (m : CheckpointOf). map (λ r. Some r) m.replies) made ∙ c.in_ok-replies.ensures.replies;
-          })
-          head.layout head.fault c.in_ok-columns.ensures.fault same c.in_ok-replies.ensures.fault,
+    let same = subst (λ t. opening_fault layout c.args.bytes.now t ≡ None) (to_z-of_z w64 _ c.ranges.opening_total) c.in_ok-check_opening.ensures in
+    let customers = ap (λ (m : CheckpointOf). length m.columns.savings) made
+    ∙ ap length c.in_ok-columns.ensures.savings ∙ length-amounts _ _ ∙ head.customers in (
+      (
+        layout,
+        taken bytes c.args.customers c.args.opening_total layout c.of.result
+            (All-from_get_or (λ byte. byte < 256) bytes 0 (λ i inside. (c.type_inv.bytes i).fits))
+            (let view : c.of.result.columns ≡ c.in_ok-columns.columns = ap (λ (m : CheckpointOf). m.columns) made in rw view c.in_ok-columns.ensures.valid)
+            (record {
+              savings = ap (λ (m : CheckpointOf). m.columns.savings) made ∙ c.in_ok-columns.ensures.savings;
+              checking = ap (λ (m : CheckpointOf). m.columns.checking) made ∙ c.in_ok-columns.ensures.checking;
+              replies = ap (λ (m : CheckpointOf). map (λ r. Some r) m.replies) made ∙ c.in_ok-replies.ensures.replies;
+            })
+            head.layout head.fault c.in_ok-columns.ensures.fault same c.in_ok-replies.ensures.fault,
+      ),
+      customers,
     )
