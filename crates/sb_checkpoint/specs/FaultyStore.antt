@@ -1,7 +1,7 @@
 -- A store whose device fails at one call.
 use Rattle.std.specs.Prelude.{◌≡◌, ◌≢◌, ℕ, ◌-◌, Option, Some, Ok, Err, List}
-use Rattle.sb_checkpoint.specs.MemoryStore.{MemoryActs, MemoryStoreOf, saturating_increment}
-use Rattle.sb_checkpoint.specs.Stores.{StoreModel, StoreStep, Put, Get, GetFault}
+use Rattle.sb_checkpoint.specs.MemoryStore.{MemoryActs, MemoryStoreOf}
+use Rattle.sb_checkpoint.specs.Stores.{StoreModel, StoreStep, Put, Get, GetFault, saturating_increment}
 use Rattle.sb_checkpoint.specs.declared.faulty_store.Version.{Version}
 use Rattle.sb_checkpoint.specs.declared.faulty_store.Version.TheVariants.{Old, New}
 use Rattle.sb_checkpoint.specs.declared.store.StoreFault.TheVariants.{Device, OutOfMemory}

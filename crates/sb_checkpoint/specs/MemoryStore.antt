@@ -1,6 +1,6 @@
 -- A store in memory.
-use Rattle.std.specs.Prelude.{◌≡◌, ◌≢◌, ℕ, suc, ◌^◌, ◌-◌, ◌==◌, ◌⊎◌, if◌then◌else◌, Option, None, Some, Ok, Err, List}
-use Rattle.sb_checkpoint.specs.Stores.{StoreModel, StoreStep, Put, Get, GetFault}
+use Rattle.std.specs.Prelude.{◌≡◌, ◌≢◌, ℕ, ◌⊎◌, Option, None, Some, Ok, Err, List}
+use Rattle.sb_checkpoint.specs.Stores.{StoreModel, StoreStep, Put, Get, GetFault, saturating_increment}
 use Rattle.sb_checkpoint.specs.declared.memory_store.How.{How}
 use Rattle.sb_checkpoint.specs.declared.memory_store.How.TheVariants as how
 use Rattle.sb_checkpoint.specs.declared.store.StoreFault.TheVariants.{Device, OutOfMemory}
@@ -10,10 +10,6 @@ pub record MemoryStoreOf : Type 0 where
   pub slot : Option (List ℕ)
   pub next : How
   pub failures : ℕ
-
--- one more failure, up to the greatest number that can be reported
-abbrev pub saturating_increment : ℕ → ℕ
-saturating_increment failures = if failures == 2 ^ 64 - 1 then failures else suc failures
 
 -- a put ends as planned, and the next one succeeds; a get changes nothing, its device never fails,
 -- and it is refused memory only if there is a content

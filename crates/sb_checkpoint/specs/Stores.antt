@@ -1,5 +1,5 @@
 -- What a store of checkpoints does.
-use Rattle.std.specs.Prelude.{◌≡◌, ◌↔◌, ℕ, ◌<◌, ◌^◌, ◌-◌, ◌⊎◌, Bool, IsTrue, Option, Some, Result, Ok, Err, List}
+use Rattle.std.specs.Prelude.{◌≡◌, ◌↔◌, ℕ, suc, ◌^◌, ◌-◌, ◌==◌, ◌⊎◌, if◌then◌else◌, Bool, IsTrue, Option, Some, Result, Ok, Err, List}
 use Rattle.sb_checkpoint.specs.declared.store.StoreFault.{StoreFault}
 use Rattle.sb_checkpoint.specs.declared.store.StoreFault.TheVariants.{Device, OutOfMemory}
 
@@ -18,18 +18,19 @@ ContentAfter old (Put bytes (Err OutOfMemory)) new = new ≡ old
 ContentAfter old (Get content) new = (content ≡ old) × (new ≡ old)
 ContentAfter old (GetFault fault) new = new ≡ old
 
--- the device failed once more, unless the count had already reached its limit
-abbrev pub HasFailed : ℕ → ℕ → Type 0
-HasFailed old new = (old < new) ⊎ ((old ≡ 2 ^ 64 - 1) × (new ≡ old))
+-- one more failure, up to the greatest number that can be reported
+abbrev pub saturating_increment : ℕ → ℕ
+saturating_increment failures = if failures == 2 ^ 64 - 1 then failures else suc failures
 
--- a device fault is answered only if the device failed
-abbrev pub CountsDeviceFault : ℕ → StoreStep → ℕ → Type 0
-CountsDeviceFault old (Put bytes (Ok done)) new = Unit {0}
-CountsDeviceFault old (Put bytes (Err Device)) new = HasFailed old new
-CountsDeviceFault old (Put bytes (Err OutOfMemory)) new = Unit {0}
-CountsDeviceFault old (Get content) new = Unit {0}
-CountsDeviceFault old (GetFault Device) new = HasFailed old new
-CountsDeviceFault old (GetFault OutOfMemory) new = Unit {0}
+-- how often the device has failed after a call: once more after its fault, and else as often as
+-- before
+abbrev pub failures_after : ℕ → StoreStep → ℕ
+failures_after failures (Put bytes (Ok done)) = failures
+failures_after failures (Put bytes (Err Device)) = saturating_increment failures
+failures_after failures (Put bytes (Err OutOfMemory)) = failures
+failures_after failures (Get content) = failures
+failures_after failures (GetFault Device) = saturating_increment failures
+failures_after failures (GetFault OutOfMemory) = failures
 
 -- what contracts know of a store: the bytes that it holds, if any were put; whether it is honest;
 -- how often its device has failed; and what one call may do, from the state before to the state
@@ -40,12 +41,12 @@ pub record StoreModel (S : Type 0) : Type 1 where
   pub failures : S → ℕ
   pub acts : S → StoreStep → S → Type 0
 
--- what a store promises of a call: an honest store stays honest; what it then holds; when its
--- device failed; and what else its model says
+-- what a store promises of a call: an honest store stays honest; what it then holds; how often its
+-- device has failed by then; and what else its model says
 pub record StoreDoes {S : Type 0} (store : StoreModel S) (old : S) (step : StoreStep) (new : S) : Type 0 where
   pub honest : store.IsHonest old → store.IsHonest new
   pub content : store.IsHonest old → ContentAfter (store.slot old) step (store.slot new)
-  pub fails : CountsDeviceFault (store.failures old) step (store.failures new)
+  pub fails : store.failures new ≡ failures_after (store.failures old) step
   pub by_model : store.acts old step new
 
 -- the answer is yes exactly if these bytes were found

@@ -1,7 +1,7 @@
 //! A store whose device fails at one call, for tests.
 ghost use Rattle.std.specs.Prelude.{◌≡◌, ◌-◌};
 ghost use Rattle.sb_checkpoint.specs.FaultyStore.{faulty_model};
-ghost use Rattle.sb_checkpoint.specs.MemoryStore.{saturating_increment};
+ghost use Rattle.sb_checkpoint.specs.Stores.{saturating_increment};
 ghost use Rattle.sb_checkpoint.specs.declared.store.StoreFault.TheVariants.{Device};
 
 use crate::memory_store::MemoryStore;

@@ -1,7 +1,7 @@
 //! A store in a file.
 ghost use Rattle.std.specs.Prelude.{◌≡◌, None, OnOk, MatchResult};
 ghost use Rattle.sb_checkpoint.specs.FileStore.{FileActs};
-ghost use Rattle.sb_checkpoint.specs.MemoryStore.{saturating_increment};
+ghost use Rattle.sb_checkpoint.specs.Stores.{saturating_increment};
 ghost use Rattle.sb_checkpoint.specs.declared.store.StoreFault.TheVariants.{Device};
 
 use crate::file_with_spare::FileWithSpare;

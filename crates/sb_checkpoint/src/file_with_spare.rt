@@ -44,14 +44,16 @@ pub trait FileWithSpare: Drop {
     /// What the file holds, or `None` if it doesn't exist. Nothing changes.
     fn read(&mut self) -> Result<Option<Vec<u8>>, StoreFault>
         ensures honest { IsHonest self.old → IsHonest self.new }
-        ensures unchanged { IsHonest self.old → content self.new ≡ content self.old }
+        ensures unchanged { IsHonest self.old →
+            (content self.new ≡ content self.old) × (spare self.new ≡ spare self.old) }
         ensures value { IsHonest self.old
             → IfOk result (λ found. option_map (λ bytes. bytes.items) found ≡ content self.old) };
 
     /// Whether the file holds exactly these bytes. Nothing changes.
     fn has_content(&mut self, bytes: &[u8]) -> Result<bool, StoreFault>
         ensures honest { IsHonest self.old → IsHonest self.new }
-        ensures unchanged { IsHonest self.old → content self.new ≡ content self.old }
+        ensures unchanged { IsHonest self.old →
+            (content self.new ≡ content self.old) × (spare self.new ≡ spare self.old) }
         ensures value { IfOk result (λ same. (found : Option (List ℕ)) × ReportsSame bytes.now same found
             × (IsHonest self.old → found ≡ content self.old)) }
     {

@@ -1,6 +1,7 @@
 //! A store in memory, whose puts end as planned.
 ghost use Rattle.std.specs.Prelude.{◌≡◌, None, Some, Err, IfOk, MatchResult, OnErr};
-ghost use Rattle.sb_checkpoint.specs.MemoryStore.{memory_model, saturating_increment};
+ghost use Rattle.sb_checkpoint.specs.MemoryStore.{memory_model};
+ghost use Rattle.sb_checkpoint.specs.Stores.{saturating_increment};
 
 use crate::store::{CheckpointStore, StoreFault};
 use std::alloc::Global;
