@@ -1,3 +1,4 @@
+pub mod FaultConversions
 pub mod Layouts
 pub mod PartsOfCheckpoint
 pub mod ReadingFaults

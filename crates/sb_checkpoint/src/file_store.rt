@@ -77,11 +77,7 @@ impl<P: FileWithSpare> CheckpointStore for FileStore<P> {
     } };
 
     fn put(&mut self, bytes: &[u8]) -> Result<(), StoreFault> {
-        let mut done = self.file.write_spare(bytes);
-        if done.is_ok() {
-            done = self.file.place_spare();
-        }
-        if done.is_ok() {
+        if self.file.write_spare(bytes).is_ok() && self.file.place_spare().is_ok() {
             return Ok(());
         }
         // The spare may be missing, or may refuse to go. The put has failed either way.

@@ -6,6 +6,7 @@ ghost use Rattle.sb_checkpoint.specs.FolderFile.{file_in, spare_ending};
 
 use crate::file_with_spare::FileWithSpare;
 use crate::store::StoreFault;
+use sb_text::{READS, read_with_room};
 use std::alloc::{AllocError, Global};
 use std::fs::{Files, OpenFile};
 use std::io::{ErrorKind, Read, Write};
@@ -13,10 +14,7 @@ use std::marker::Model;
 use std::path::PathBuf;
 use std::{fs, io};
 
-// The most reads that a file may take. One more counts as a failed read.
-const READS: u32 = 1_000_000_000;
-
-// The number of bytes to read from a file at once.
+// The number of bytes to compare at once.
 const CHUNK: usize = 65_536;
 
 /// A file in a folder. Its spare exists only during a put or a probe, under the file's name with
@@ -104,33 +102,6 @@ fn length_of<F: OpenFile>(file: &F) -> usize {
     }
 }
 
-// All bytes of a reader, with room for this many at first. An interrupted read is repeated, and
-// counts as one.
-fn read_whole<R: Read>(alloc: Global, room: usize, reader: &mut R) -> Result<Vec<u8>, StoreFault>
-    ensures { IfOk result (λ bytes. IfSome (R.remaining reader.old) (λ content. bytes.items ≡ content)) }
-{
-    let Ok(mut bytes) = Vec::with_capacity(alloc, room) else {
-        return Err(StoreFault::OutOfMemory);
-    };
-    let mut chunk = [0u8; CHUNK];
-    for _ in 0..READS {
-        match reader.read(&mut chunk) {
-            Ok(0) => return Ok(bytes),
-            Ok(count) => {
-                if bytes.extend_from_slice(&chunk[..count]).is_err() {
-                    return Err(StoreFault::OutOfMemory);
-                }
-            }
-            Err(error) => {
-                if error.kind() != ErrorKind::Interrupted {
-                    return Err(StoreFault::Device);
-                }
-            }
-        }
-    }
-    Err(StoreFault::Device)
-}
-
 // Whether a reader gives exactly these bytes. An interrupted read is repeated, and counts as one.
 fn reads_exactly<R: Read>(reader: &mut R, bytes: &[u8]) -> Result<bool, StoreFault>
     ensures { IfOk result (λ same. IfSome (R.remaining reader.old) (λ content. IsTrue same ↔ (content ≡ bytes.now))) }
@@ -183,7 +154,7 @@ impl<F: Files + Drop> FileWithSpare for FolderFile<F> {
         match fs::open(&self.files, &self.path) {
             Ok(mut file) => {
                 let room = length_of(&file);
-                Ok(Some(read_whole(self.alloc, room, &mut file)?))
+                Ok(Some(read_with_room(self.alloc, room, &mut file)?))
             }
             Err(error) => missing(error, None),
         }

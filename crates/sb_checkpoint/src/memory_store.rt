@@ -1,5 +1,5 @@
 //! A store in memory, whose puts end as planned.
-ghost use Rattle.std.specs.Prelude.{◌≡◌, None, Some, Err, IfOk, MatchResult, OnErr};
+ghost use Rattle.std.specs.Prelude.{◌≡◌, None, Some, MatchResult};
 ghost use Rattle.sb_checkpoint.specs.MemoryStore.{memory_model};
 ghost use Rattle.sb_checkpoint.specs.Stores.{saturating_increment};
 
@@ -67,7 +67,7 @@ impl MemoryStore {
             (λ done. self.new ≡ record self.old { slot = Some bytes.now })
             (λ fault. (fault ≡ StoreFault.OutOfMemory) × (self.new ≡ self.old)) }
     {
-        self.bytes = Some(copy_of(self.alloc, bytes)?);
+        self.bytes = Some(Vec::from_slice(self.alloc, bytes)?);
         Ok(())
     }
 
@@ -81,24 +81,12 @@ impl MemoryStore {
     }
 }
 
-// A copy of some bytes.
-fn copy_of(alloc: Global, bytes: &[u8]) -> Result<Vec<u8>, StoreFault>
-    ensures copy { IfOk result (λ copy. copy.items ≡ bytes.now) }
-    ensures err { OnErr result (result ≡ Err StoreFault.OutOfMemory) }
-{
-    let mut copy = Vec::new(alloc);
-    match copy.extend_from_slice(bytes) {
-        Ok(()) => Ok(copy),
-        Err(_) => Err(StoreFault::OutOfMemory),
-    }
-}
-
 // Its model describes all that it does, so it is honest.
 impl CheckpointStore for MemoryStore {
     ghost model = { memory_model };
 
     fn put(&mut self, bytes: &[u8]) -> Result<(), StoreFault> {
-        let copy = copy_of(self.alloc, bytes)?;
+        let copy = Vec::from_slice(self.alloc, bytes)?;
         let how = mem::replace(&mut self.next, How::Ok);
         match how {
             How::Ok => {
@@ -115,7 +103,7 @@ impl CheckpointStore for MemoryStore {
 
     fn get(&mut self) -> Result<Option<Vec<u8>>, StoreFault> {
         match &self.bytes {
-            Some(bytes) => Ok(Some(copy_of(self.alloc, bytes)?)),
+            Some(bytes) => Ok(Some(Vec::from_slice(self.alloc, bytes)?)),
             None => Ok(None),
         }
     }

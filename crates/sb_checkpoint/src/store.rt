@@ -1,8 +1,12 @@
 //! Where a replica stores its checkpoint.
 ghost use Rattle.std.specs.Prelude.{◌≡◌, MatchResult, option_map};
 ghost use Rattle.sb_checkpoint.specs.StoreFaults.{store_fault_number};
+ghost use Rattle.sb_checkpoint.specs.inner.FaultConversions.{store_fault_of};
+ghost use Rattle.sb_checkpoint.specs.declared.store.StoreFault.TheVariants.{OutOfMemory};
 ghost use Rattle.sb_checkpoint.specs.Stores.{Compares, StoreDoes, StoreModel, ReportsSame, Put, Get, GetFault};
 
+use sb_text::ReadFault;
+use std::alloc::AllocError;
 use thiserror::Error;
 
 /// Why a store failed.
@@ -14,6 +18,25 @@ pub enum StoreFault {
     /// Memory was refused. The store holds the old bytes.
     #[error("out of memory")]
     OutOfMemory,
+}
+
+impl From<AllocError> for StoreFault {
+    ghost from_gives = { λ _ fault. fault ≡ OutOfMemory };
+
+    fn from(_: AllocError) -> StoreFault {
+        StoreFault::OutOfMemory
+    }
+}
+
+impl From<ReadFault> for StoreFault {
+    ghost from_gives = { λ fault answer. answer ≡ store_fault_of fault };
+
+    fn from(fault: ReadFault) -> StoreFault {
+        match fault {
+            ReadFault::Device => StoreFault::Device,
+            ReadFault::OutOfMemory => StoreFault::OutOfMemory,
+        }
+    }
 }
 
 impl StoreFault {
