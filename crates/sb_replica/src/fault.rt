@@ -12,7 +12,7 @@ use sb_frames::{FrameFault, StreamFault};
 use std::alloc::AllocError;
 use thiserror::Error;
 
-/// Why bytes weren't received. The replica is as it was.
+/// Why bytes weren't received, or a held entry wasn't accepted. The replica is as it was.
 #[derive(Clone, Copy, Debug, PartialEq, Eq, Error, Drop)]
 pub enum ReplicaFault {
     /// The bytes are not one whole frame.
@@ -58,10 +58,10 @@ impl ReceiveFault {
     }
 }
 
-/// Why no checkpoint was written. The rows, the log and the replies are as they were.
+/// Why a mark failed. All but the store is as it was, the cut too.
 #[derive(Clone, Copy, Debug, PartialEq, Eq, Error, Drop)]
 pub enum MarkFault {
-    /// An entry is unfinished. The store wasn't touched.
+    /// An entry that the mark covers is unfinished. The store wasn't touched.
     #[error("busy")]
     Busy,
     /// The store's device failed. It holds the whole old checkpoint or the whole new one.
@@ -85,7 +85,7 @@ impl MarkFault {
     }
 }
 
-/// Why a replica wasn't restarted. It is as it was.
+/// Why a replica can't use what its store holds. All but the store is as it was.
 #[derive(Clone, Copy, Debug, PartialEq, Eq, Error, Drop)]
 pub enum RestartFault {
     /// The store's device failed.

@@ -54,7 +54,7 @@ impl<S: CheckpointStore> Replica<S> {
     /// one that comes a little early is held. Every other frame is ignored. Nothing else changes.
     ///
     /// Fails if the bytes aren't one whole frame, or if memory is refused for an entry that would
-    /// be accepted.
+    /// be accepted; nothing changes then.
     pub fn on_frame(&mut self, bytes: &[u8]) -> Result<Heard, ReplicaFault>
         ensures outcome { MatchResult result
             (λ heard. ReceivesBytes self.old bytes.now heard self.new)

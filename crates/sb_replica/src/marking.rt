@@ -42,8 +42,9 @@ impl<S: CheckpointStore> Replica<S> {
     /// Puts a checkpoint of the log up to the cut into the store, answers its length, and removes
     /// the cut. Without a cut it covers the whole log so far.
     ///
-    /// Fails with [`MarkFault::Busy`] exactly if one of these entries is unfinished, and with
-    /// [`MarkFault::Device`] only if the store does. Then nothing but the store changes.
+    /// Fails with [`MarkFault::Busy`] exactly if one of these entries is unfinished, with
+    /// [`MarkFault::Device`] only if the store does, and with [`MarkFault::OutOfMemory`] if memory
+    /// is refused. Then nothing but the store changes.
     pub fn mark(&mut self) -> Result<u64, MarkFault>
         ensures busy { IsErrOf result MarkFault.Busy ↔ (unfinished_of (up_to_cut self.old.board) ≢ 0) }
         ensures ok { IfOk result (λ size. (size ≡ length_of (up_to_cut self.old.board))

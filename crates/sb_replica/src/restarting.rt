@@ -50,7 +50,8 @@ impl<S: CheckpointStore> Replica<S> {
     /// length there. The replica forgets what it accepted since and what it holds, until that comes
     /// again.
     ///
-    /// After a fault the replica is as it was.
+    /// Fails if the store does, if what that holds isn't a checkpoint of this bank, or if memory is
+    /// refused. All but the store is then as it was.
     pub fn restart(&mut self) -> Result<u64, RestartFault>
         ensures ok { IfOk result (λ size.
             Restarts (StoreDoes S.model) self.old size self.new) }
