@@ -11,7 +11,6 @@ use Rattle.sb_frames.specs.declared.frame.Frame.TheVariants.{Ask, Entry, Ack, An
 use Rattle.sb_replica.specs.Frames.{ReceivesBytes, after_frame, frame_if_whole, frame_answer, whole_frame}
 use Rattle.sb_replica.specs.Replica.{ReplicaOf, log_of, with_log}
 use Rattle.sb_replica.specs.Streams.{IsEntry}
-use Rattle.sb_replica.specs.declared.heard.Heard.{Heard}
 use Rattle.sb_replica.specs.declared.heard.Heard.TheVariants.{Ignored}
 
 -- bytes that spell a frame are that frame
@@ -29,12 +28,6 @@ pub hears_frame : {S : Type 0} (old : ReplicaOf S) (frame : Frame) → IsFrame f
     → ReceivesBytes old (spelling frame) (frame_answer old.board frame) (with_log old (after_frame old.names (log_of old) frame))
 hears_frame old frame valid =
     record { frame = frame; whole = whole_is frame (spelling frame) (spells frame valid); answer_is = refl; after = refl }
-
--- so do all bytes that spell it
-pub hears_bytes : {S : Type 0} (old new : ReplicaOf S) (frame : Frame) (answer : Heard) → answer ≡ frame_answer old.board frame
-    → new ≡ with_log old (after_frame old.names (log_of old) frame) → (bytes : List ℕ) → Spells frame bytes → ReceivesBytes old bytes answer new
-hears_bytes old new frame answer told after bytes h =
-    record { frame = frame; whole = whole_is frame bytes h; answer_is = told; after = after }
 
 -- a frame that isn't an entry is ignored
 pub ignores : {S : Type 0} (old : ReplicaOf S) (frame : Frame) → IsFrame frame → ¬ IsEntry frame → ReceivesBytes old (spelling frame) Ignored old

@@ -36,6 +36,7 @@ entry_answer number (offer.Gap size) = Gap size
 entry_answer number (offer.Held held) = Held held
 entry_answer number (offer.Busy size) = Busy size
 
+-- the answer to a frame: an entry's as the log gives it; every other one is ignored
 abbrev pub frame_answer : BoardOf Op → Frame → Heard
 frame_answer board (Ask client request call) = Ignored
 frame_answer board (Entry number call) = entry_answer number (offer_answer board number)

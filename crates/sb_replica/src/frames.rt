@@ -1,10 +1,9 @@
 //! Frames from the network.
-ghost use Rattle.std.specs.Prelude.{◌≡◌, ℕ, List, suc, Ok, Some, IfOk, IfErr, OnErr, MatchResult, option_map};
+ghost use Rattle.std.specs.Prelude.{◌≡◌, ℕ, suc, Ok, Some, IfOk, IfErr, OnErr, MatchResult, option_map};
 ghost use Rattle.cown_board.specs.Board.{length_of};
-ghost use Rattle.sb_frames.specs.Grammar.{Spells};
 ghost use Rattle.sb_replica_log.specs.Offers.{after_advance};
 ghost use Rattle.sb_replica.specs.Frames as spec;
-ghost use Rattle.sb_replica.specs.Frames.{Accepts, ReceivesBytes, IsReplicaFaultOf, next_entry_answer};
+ghost use Rattle.sb_replica.specs.Frames.{Accepts, ReceivesBytes, IsReplicaFaultOf, after_frame, frame_answer, next_entry_answer};
 ghost use Rattle.sb_replica.specs.Replica.{log_of, with_log};
 ghost use Rattle.sb_replica.specs.declared.heard.Heard.TheVariants as heard;
 
@@ -73,22 +72,17 @@ impl<S: CheckpointStore> Replica<S> {
         }
     }
 
-    /// Receives a frame as [`Replica::on_frame`] receives its bytes.
-    ///
-    /// Fails if memory is refused for an entry that would be accepted; nothing changes then.
-    pub fn receive_decoded(&mut self, frame: &Frame) -> Result<Heard, AllocError>
-        ensures answer { IfOk result (λ answer. answer ≡ spec.frame_answer self.old.board frame.now) }
+    // Receives a frame. It fails if memory is refused for an entry that would be accepted.
+    fn receive_decoded(&mut self, frame: &Frame) -> Result<Heard, AllocError>
+        ensures answer { IfOk result (λ answer. answer ≡ frame_answer self.old.board frame.now) }
         ensures err { OnErr result ((number : ℕ)
-            × (spec.frame_answer self.old.board frame.now ≡ heard.Accepted number)) }
+            × (frame_answer self.old.board frame.now ≡ heard.Accepted number)) }
         ensures state { MatchResult result
-            (λ answer. self.new ≡ with_log self.old (spec.after_frame self.old.names (log_of self.old) frame.now))
+            (λ answer. self.new ≡ with_log self.old (after_frame self.old.names (log_of self.old) frame.now))
             (λ refused. self.new ≡ self.old) }
         // Whatever calls its board has had, including this one, the board is true to its log.
         ensures played { (number : ℕ) → result ≡ Ok (heard.Accepted number) →
             Accepts self.old.board number self.new.board }
-        // The frame is received as the bytes that spell it.
-        ensures bytes { IfOk result (λ answer. (bytes : List ℕ) → Spells frame.now bytes →
-            ReceivesBytes self.old bytes answer self.new) }
     {
         let Frame::Entry { number, call } = frame else {
             return Ok(Heard::Ignored);

@@ -10,7 +10,6 @@ use Rattle.sb_replica_log.specs.declared.offered.Offered.{Offered}
 use Rattle.sb_replica_log.specs.declared.offered.Offered.TheVariants.{Next}
 use Rattle.sb_replica.proofs.AcceptedEntries.{accepted_next, next_number, ok_is}
 use Rattle.sb_replica.proofs.ChangedLogs.{log_changes}
-use Rattle.sb_replica.proofs.ReceivedBytes.{hears_bytes}
 use Rattle.sb_replica.specs.Frames.{Accepts, after_frame, entry_answer, frame_answer}
 use Rattle.sb_replica.specs.Replica.{ReplicaOf, log_of, with_log}
 use Rattle.sb_replica.specs.declared.heard.Heard.TheVariants as heard
@@ -36,10 +35,7 @@ returns-in_default g c =
     let old = c.args.self.now in
     let told : heard.Ignored ≡ frame_answer old.board c.args.frame.now = search rules in
     let after : old ≡ with_log old (after_frame old.names (log_of old) c.args.frame.now) = search rules in
-    record { answer = told; err = tt; state = after; played = λ number e. absurd cc; bytes = hears_bytes old old c.args.frame.now heard.Ignored told after }
-
-pub returns-clause-bytes : goal.returns-clause-bytes
-returns-clause-bytes g c = hears_bytes c.args.self.now _ c.args.frame.now c.entry_answer.result (search rules) (search rules)
+    record { answer = told; err = tt; state = after; played = λ number e. absurd cc }
 
 pub returns-in_err-offered : goal.returns-in_err-offered
 returns-in_err-offered g c =
@@ -53,7 +49,6 @@ returns-in_err-offered g c =
       err = (number, rw c.in-Entry.is (ap (entry_answer number) next));
       state = log_changes (λ r. log_of r) c.self.view_is c.in_err-offered.ensures.state;
       played = λ n e. absurd cc;
-      bytes = tt;
     })
 
 pub returns-clause-answer : goal.returns-clause-answer
