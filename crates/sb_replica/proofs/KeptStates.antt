@@ -1,17 +1,15 @@
 -- The state that kept bytes give: their checkpoint, if it has an entry.
 use Rattle.std.proofs.Common.{◌≡◌, ℕ, Some, None, List, length, inr, refl, sym, ap, subst}
 use Rattle.sb_calls.specs.declared.reply.Reply.{Reply}
-use Rattle.sb_checkpoint.specs.Checkpoint.{CheckpointOf, SpellsCheckpoint, Origin}
+use Rattle.sb_checkpoint.specs.Checkpoint.{CheckpointOf, SpellsFor, Origin}
 use Rattle.sb_replica.specs.States.{Gives, IsStateOf}
 
 -- they are a state of as many entries as replies were read in a copy of them
 pub is_state : (origin : Origin) (checkpoint : CheckpointOf) (read : List Reply) {copy bytes : List ℕ} → copy ≡ bytes
-    → SpellsCheckpoint origin.opening_total checkpoint copy → length checkpoint.columns.savings ≡ origin.customers → read ≡ checkpoint.replies
-    → IsStateOf origin (length read) bytes
-is_state origin checkpoint read same spelled customers all = record {
+    → SpellsFor origin checkpoint copy → read ≡ checkpoint.replies → IsStateOf origin (length read) bytes
+is_state origin checkpoint read same spelled all = record {
   checkpoint = checkpoint;
-  spelled = subst (λ (bytes : List ℕ). SpellsCheckpoint origin.opening_total checkpoint bytes) same spelled;
-  customers_are = customers;
+  spelled = subst (λ (bytes : List ℕ). SpellsFor origin checkpoint bytes) same spelled;
   size_is = ap length (sym all);
 }
 

@@ -6,11 +6,10 @@ use Rattle.sb_checkpoint.specs.declared.fault.CheckpointFault.{CheckpointFault}
 use Rattle.sb_checkpoint.specs.declared.fault.CheckpointFault.TheVariants.{BadMagic, Short, WrongCustomers, OutOfRange, NegativeSavings, WrongTotal, WrongOpening, BadReply, Long, OutOfMemory}
 use Rattle.sb_replica.specs.Restarting.{IsRefusalOf}
 use Rattle.sb_replica.specs.States.{IsAdoptFaultOf}
-use Rattle.sb_replica.specs.inner.AdoptFaultConversion.{adopt_fault_of}
-use Rattle.sb_replica.specs.inner.FaultConversions.{of_checkpoint_fault}
+use Rattle.sb_replica.specs.inner.FaultConversions.{adopt_fault_of, restart_fault_of}
 
 pub refusal_of : (origin : Origin) (bytes : List ℕ) (fault : CheckpointFault) → IsRefusedBy bytes origin fault
-    → IsRefusalOf origin (Some bytes) (of_checkpoint_fault fault)
+    → IsRefusalOf origin (Some bytes) (restart_fault_of fault)
 refusal_of origin bytes OutOfMemory h = h
 refusal_of origin bytes BadMagic h = (bytes, refl, (λ e. cc), h)
 refusal_of origin bytes Short h = (bytes, refl, (λ e. cc), h)

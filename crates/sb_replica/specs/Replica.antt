@@ -1,10 +1,10 @@
 -- A replica as its callers see it.
-use Rattle.std.specs.Prelude.{ℕ, ◌+ℤ◌, Option, List, length, ◌++◌}
+use Rattle.std.specs.Prelude.{ℕ, Option, List, length, ◌++◌}
 use Rattle.std.specs.List.{filter_map}
 use Rattle.sb_rows.specs.Balances.{Balances}
 use Rattle.sb_calls.specs.declared.op.Op.{Op}
 use Rattle.sb_calls.specs.declared.reply.Reply.{Reply}
-use Rattle.lane_audit.specs.Columns.{total}
+use Rattle.lane_audit.specs.Audit.{balances_total}
 use Rattle.cown_board.specs.Board.{BoardOf}
 use Rattle.cown_board.specs.State.{finished_reply}
 use Rattle.sb_checkpoint.specs.Checkpoint.{Origin}
@@ -24,7 +24,7 @@ pub record ReplicaOf (S : Type 0) : Type 0 where
 abbrev pub origin_of : {S : Type 0} → ReplicaOf S → Origin
 origin_of replica = record {
   customers = length replica.names;
-  opening_total = total replica.opening.savings +ℤ total replica.opening.checking;
+  opening_total = balances_total replica.opening;
 }
 
 -- its log: the board and the ops that are held

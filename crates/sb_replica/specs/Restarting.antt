@@ -1,10 +1,10 @@
 -- A replica goes back to its store's checkpoint.
-use Rattle.std.specs.Prelude.{◌≡◌, ◌≢◌, ◌⊎◌, ℕ, Option, Some, None, List, [], length}
+use Rattle.std.specs.Prelude.{◌≡◌, ◌≢◌, ◌⊎◌, ℕ, Option, Some, None, List, []}
 use Rattle.sb_rows.specs.Balances.{Balances}
 use Rattle.sb_calls.specs.declared.op.Op.{Op}
 use Rattle.cown_board.specs.Board.{BoardOf, length_of}
 use Rattle.cown_board.specs.BoardCalls.{board_at_opening}
-use Rattle.sb_checkpoint.specs.Checkpoint.{CheckpointOf, SpellsCheckpoint, Origin}
+use Rattle.sb_checkpoint.specs.Checkpoint.{CheckpointOf, SpellsFor, Origin}
 use Rattle.sb_checkpoint.specs.Reading.{first_fault, head_fault}
 use Rattle.sb_checkpoint.specs.Stores.{StoreStep, Get, GetFault}
 use Rattle.sb_checkpoint.specs.declared.fault.CheckpointFault.TheVariants as checkpoint
@@ -19,8 +19,7 @@ use Rattle.sb_replica.specs.declared.fault.RestartFault.TheVariants as restart
 -- nothing, this is the opening, without replies
 abbrev pub IsStoredAs : Balances → Origin → Option (List ℕ) → CheckpointOf → Type 0
 IsStoredAs opening origin None checkpoint = checkpoint ≡ record { columns = opening; replies = [] }
-IsStoredAs opening origin (Some bytes) checkpoint = SpellsCheckpoint origin.opening_total checkpoint bytes
-    × (length checkpoint.columns.savings ≡ origin.customers)
+IsStoredAs opening origin (Some bytes) checkpoint = SpellsFor origin checkpoint bytes
 
 -- a board that was opened on what the store holds
 pub record IsBoardOn (opening : Balances) (origin : Origin) (content : Option (List ℕ))

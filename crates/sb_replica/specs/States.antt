@@ -2,7 +2,7 @@
 -- entries.
 use Rattle.std.specs.Prelude.{◌≡◌, ◌≢◌, ◌⊎◌, ℕ, ◌<◌, ◌≤◌, Option, Some, None, List, length}
 use Rattle.cown_board.specs.Board.{length_of}
-use Rattle.sb_checkpoint.specs.Checkpoint.{CheckpointOf, SpellsCheckpoint, Origin}
+use Rattle.sb_checkpoint.specs.Checkpoint.{CheckpointOf, SpellsFor, Origin}
 use Rattle.sb_checkpoint.specs.Reading.{first_fault, head_fault}
 use Rattle.sb_checkpoint.specs.Stores.{StoreStep, Get}
 use Rattle.sb_checkpoint.specs.declared.fault.CheckpointFault.TheVariants as checkpoint
@@ -18,8 +18,7 @@ use Rattle.sb_replica.specs.declared.fault.AdoptFault.TheVariants as adopt
 -- entries
 pub record IsStateOf (origin : Origin) (size : ℕ) (bytes : List ℕ) : Type 0 where
   pub checkpoint : CheckpointOf
-  pub spelled : SpellsCheckpoint origin.opening_total checkpoint bytes
-  pub customers_are : length checkpoint.columns.savings ≡ origin.customers
+  pub spelled : SpellsFor origin checkpoint bytes
   pub size_is : length checkpoint.replies ≡ size
 
 -- what a store with these bytes gives: its checkpoint with its length, or nothing if it holds none,

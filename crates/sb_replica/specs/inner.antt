@@ -1,4 +1,3 @@
-pub mod AdoptFaultConversion
 pub mod Batches
 pub mod FaultConversions
 pub mod ReplicaInvariant

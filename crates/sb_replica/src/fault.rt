@@ -2,8 +2,7 @@
 ghost use Rattle.std.specs.Prelude.{◌≡◌};
 ghost use Rattle.sb_replica.specs.Faults.{replica_fault_number, receive_fault_number, mark_fault_number, restart_fault_number, adopt_fault_number};
 ghost use Rattle.sb_replica.specs.Restarting.{of_store_fault};
-ghost use Rattle.sb_replica.specs.inner.FaultConversions.{of_checkpoint_fault};
-ghost use Rattle.sb_replica.specs.inner.AdoptFaultConversion.{adopt_fault_of};
+ghost use Rattle.sb_replica.specs.inner.FaultConversions.{adopt_fault_of, restart_fault_of};
 ghost use Rattle.sb_replica.specs.declared.fault.AdoptFault.TheVariants as adopt;
 ghost use Rattle.sb_replica.specs.declared.fault.RestartFault.TheVariants as restart;
 
@@ -132,7 +131,7 @@ impl From<StoreFault> for RestartFault {
 }
 
 impl From<CheckpointFault> for RestartFault {
-    ghost from_gives = { λ fault answer. answer ≡ of_checkpoint_fault fault };
+    ghost from_gives = { λ fault answer. answer ≡ restart_fault_of fault };
 
     fn from(fault: CheckpointFault) -> RestartFault {
         match fault {

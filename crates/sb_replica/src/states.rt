@@ -1,6 +1,6 @@
 //! One replica's checkpoint, which another takes in place of the log's entries.
-ghost use Rattle.std.specs.Prelude.{◌≡◌, ℕ, IfOk, IfErr, List, MatchResult, None, Option, Some, length, option_map};
-ghost use Rattle.sb_checkpoint.specs.Checkpoint.{SpellsCheckpoint};
+ghost use Rattle.std.specs.Prelude.{◌≡◌, ℕ, IfOk, IfErr, List, MatchResult, None, Option, Some, option_map};
+ghost use Rattle.sb_checkpoint.specs.Checkpoint.{SpellsFor};
 ghost use Rattle.sb_checkpoint.specs.Reading.{first_fault, IsRefusedBy};
 ghost use Rattle.sb_checkpoint.specs.Stores.{StoreDoes};
 ghost use Rattle.sb_frames.specs.declared.frame.Frame.TheVariants as frames;
@@ -83,9 +83,7 @@ impl<S: CheckpointStore> Replica<S> {
     // The checkpoint of this bank that these bytes are.
     pub(crate) fn checkpoint_in(&self, bytes: &[u8]) -> Result<Checkpoint, CheckpointFault>
         ensures checkpoint { IfOk result (λ checkpoint.
-            SpellsCheckpoint (origin_of self.now).opening_total checkpoint bytes.now) }
-        ensures customers { IfOk result (λ checkpoint.
-            length checkpoint.columns.savings ≡ length self.now.names) }
+            SpellsFor (origin_of self.now) checkpoint bytes.now) }
         ensures fault { MatchResult result
             (λ _. first_fault bytes.now (origin_of self.now) ≡ None)
             (IsRefusedBy bytes.now (origin_of self.now)) }

@@ -25,14 +25,14 @@ returns-in_err-log_on g c =
 pub returns-then-length-own : goal.returns-then-length-own
 returns-then-length-own g c =
     let kept = c.in_ok-checkpoint.ensures in
-    let state = is_state (origin_of c.args.self.now) c.in_ok-checkpoint.checkpoint c.replies.result.now refl kept.checkpoint kept.customers c.replies.ensures in
+    let state = is_state (origin_of c.args.self.now) c.in_ok-checkpoint.checkpoint c.replies.result.now refl kept.checkpoint c.replies.ensures in
     record { outcome = (c.length-own.ensures.value, (length c.replies.result.now, state, c.if-length-own.true), refl) }
 
 pub replace_log-requires-clause-customers : goal.replace_log-requires-clause-customers
 replace_log-requires-clause-customers g c =
     ap (λ (log : LogOf). length log.board.opening.savings) c.in_ok-log_on.ensures
     ∙ ap (λ (columns : Balances). length columns.savings) c.into_parts-columns.ensures.columns
-    ∙ c.in_ok-checkpoint.ensures.customers
+    ∙ c.in_ok-checkpoint.ensures.checkpoint.1
 
 pub returns : goal.returns
 returns g c =
@@ -43,6 +43,6 @@ returns g c =
     let parts = c.into_parts-columns in
     record {
       outcome = adopts {S = g.row.S.Denot} old new c.args.bytes.now checkpoint c.replies.result.now parts.result.0 parts.result.1.items c.in_ok-log_on.field-0
-          c.length-own.result c.length-own.ensures.value c.if-length-own.false c.replies.ensures kept.checkpoint kept.customers parts.ensures.columns
+          c.length-own.result c.length-own.ensures.value c.if-length-own.false c.replies.ensures kept.checkpoint parts.ensures.columns
           parts.ensures.replies c.in_ok-log_on.ensures c.replace_log.ensures;
     }

@@ -1,7 +1,7 @@
 use Rattle.std.proofs.Common.{option_map, Some, None, inl, refl, subst, arith}
 use Rattle.std.proofs.lemmas.Result.{err_from_is_err_and}
 use Rattle.sb_checkpoint.specs.Reading.{IsRefusedBy}
-use Rattle.sb_replica.specs.inner.FaultConversions.{of_checkpoint_fault}
+use Rattle.sb_replica.specs.inner.FaultConversions.{restart_fault_of}
 use Rattle.sb_replica.proofs.KeptStates.{is_state, gives_none}
 use Rattle.sb_replica.proofs.Refusals.{refusal_of}
 use Rattle.sb_replica.proofs.StoreReads.{origin_seen, store_fails, refuses, reads_state}
@@ -25,14 +25,14 @@ returns-in_err-checkpoint_in-clause-err g c =
     let refused = subst (λ bytes. IsRefusedBy bytes origin fault) c.deref.ensures.value c.in_err-checkpoint_in.ensures.fault in
     rw (p.1, p.2)
     (refuses g.S.CheckpointStore.model c.self.view_is c.get.new.self (option_map (λ bytes. bytes.items) c.in_ok-bytes.field-0) c.in_ok-bytes.ensures
-    (of_checkpoint_fault fault) (rw c.in-Some.is (refusal_of origin c.in-Some.bytes.items fault refused)))
+    (restart_fault_of fault) (rw c.in-Some.is (refusal_of origin c.in-Some.bytes.items fault refused)))
 
 pub returns-then-length-eq0-clause-ok : goal.returns-then-length-eq0-clause-ok
 returns-then-length-eq0-clause-ok g c =
     let origin = origin_seen c.self.view_is in
     let kept = c.in_ok-checkpoint_in in
     let replies = c.replies-2.result.now in
-    let state = is_state origin kept.field-0 replies c.deref.ensures.value kept.ensures.checkpoint kept.ensures.customers c.replies-2.ensures in
+    let state = is_state origin kept.field-0 replies c.deref.ensures.value kept.ensures.checkpoint c.replies-2.ensures in
     reads_state g.S.CheckpointStore.model c.self.view_is c.get.new.self (option_map (λ bytes. bytes.items) c.in_ok-bytes.field-0) c.in_ok-bytes.ensures None
     (rw c.in-Some.is (gives_none origin _ c.in-Some.bytes.items state c.if-length-eq0.true))
 
@@ -41,6 +41,6 @@ returns-clause-ok g c =
     let origin = origin_seen c.self.view_is in
     let kept = c.in_ok-checkpoint_in in
     let replies = c.replies-2.result.now in
-    let state = is_state origin kept.field-0 replies c.deref.ensures.value kept.ensures.checkpoint kept.ensures.customers c.replies-2.ensures in
+    let state = is_state origin kept.field-0 replies c.deref.ensures.value kept.ensures.checkpoint c.replies-2.ensures in
     reads_state g.S.CheckpointStore.model c.self.view_is c.get.new.self (option_map (λ bytes. bytes.items) c.in_ok-bytes.field-0) c.in_ok-bytes.ensures
     (Some (_, c.in-Some.bytes.items)) (rw c.in-Some.is (refl, state, omega (arith, c.if-length-eq0.false)))

@@ -2,7 +2,7 @@ use Rattle.std.proofs.Common.{◌≡◌, None, [], length, refl, ap, ap₂, subs
 use Rattle.std.proofs.lemmas.Result.{err_from_is_err_and}
 use Rattle.cown_board.specs.BoardCalls.{board_at_opening}
 use Rattle.sb_rows.specs.Balances.{Balances}
-use Rattle.sb_checkpoint.specs.Checkpoint.{SpellsCheckpoint}
+use Rattle.sb_checkpoint.specs.Checkpoint.{SpellsFor}
 use Rattle.sb_checkpoint.specs.Reading.{first_fault, IsRefusedBy}
 use Rattle.sb_replica_log.specs.Log.{LogOf}
 use Rattle.sb_replica.specs.Replica.{ReplicaOf, origin_of}
@@ -50,14 +50,13 @@ returns-in_err-log_on g c =
 
 pub returns-clause-log : goal.returns-clause-log
 returns-clause-log g c =
-    let total = (origin_of c.args.self.now).opening_total in
     let checkpoint = c.in_ok-checkpoint_in.field-0 in
     let kept = c.in_ok-checkpoint_in.ensures in
     let parts = c.into_parts-columns.ensures in
     rw c.in-Some.is
     (record {
       checkpoint = checkpoint;
-      is_stored = (subst (λ bytes. SpellsCheckpoint total checkpoint bytes) c.deref.ensures.value kept.checkpoint, kept.customers);
+      is_stored = subst (λ bytes. SpellsFor (origin_of c.args.self.now) checkpoint bytes) c.deref.ensures.value kept.checkpoint;
       board_is = ap (λ (log : LogOf). log.board) c.in_ok-log_on.ensures ∙ ap₂ board_at_opening parts.columns parts.replies;
     })
 
@@ -68,4 +67,4 @@ pub returns-clause-customers : goal.returns-clause-customers
 returns-clause-customers g c =
     ap (λ (log : LogOf). length log.board.opening.savings) c.in_ok-log_on.ensures
     ∙ ap (λ (columns : Balances). length columns.savings) c.into_parts-columns.ensures.columns
-    ∙ c.in_ok-checkpoint_in.ensures.customers
+    ∙ c.in_ok-checkpoint_in.ensures.checkpoint.1
