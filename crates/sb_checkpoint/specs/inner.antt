@@ -1,4 +1,5 @@
 pub mod FaultConversions
+pub mod FieldPuts
 pub mod Layouts
 pub mod PartsOfCheckpoint
 pub mod ReadingFaults

@@ -17,6 +17,11 @@ loop-amount-preserved c =
       room = omega (arith, c.loop-amount.invariant.room, c.put_amount.ensures.room);
     }
 
-pub returns-clause-items : goal.returns-clause-items
-returns-clause-items c =
-    all_there amount_field c.args.amounts.now c.loop-amount.amount-index c.args.out.now.items _ c.loop-amount-test.false c.loop-amount.invariant.items
+pub returns : goal.returns
+returns c =
+    let amounts = c.args.amounts.now in
+    record {
+      items = all_there amount_field amounts c.loop-amount.amount-index c.args.out.now.items _ c.loop-amount-test.false c.loop-amount.invariant.items;
+      len = search rules;
+      room = c.loop-amount.invariant.room;
+    }
