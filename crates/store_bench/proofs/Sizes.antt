@@ -1,7 +1,7 @@
 -- How large checkpoints are, and how many replies are read from one.
-use Rattle.std.proofs.Common.{◌≡◌, ℕ, ◌+◌, ◌*◌, ℤ, ◌+ℤ◌, List, length, ap, ap₂, ◌∙◌}
+use Rattle.std.proofs.Common.{◌≡◌, ℕ, ◌+◌, ◌*◌, ℤ, List, length, ap, ap₂, ◌∙◌}
 use Rattle.sb_rows.specs.Balances.{Balances}
-use Rattle.lane_audit.specs.Columns.{total}
+use Rattle.lane_audit.specs.Audit.{balances_total}
 use Rattle.sb_calls.specs.declared.call.TheConstants.{LOG_CALLS}
 use Rattle.sb_calls.specs.declared.reply.Reply.{Reply}
 use Rattle.sb_checkpoint.specs.Checkpoint.{CheckpointOf, SpellsCheckpoint, Second, SpellsInLayout}
@@ -18,7 +18,7 @@ size_is opening_total columns replies bytes is =
 
 pub is_full : (opening_total : ℤ) (columns : Balances) (replies : List Reply) (bytes : List ℕ)
     → SpellsInLayout Second opening_total (record { columns = columns; replies = replies }) bytes
-    → opening_total ≡ total columns.savings +ℤ total columns.checking → length replies ≡ LOG_CALLS → SpellsFull opening_total bytes
+    → opening_total ≡ balances_total columns → length replies ≡ LOG_CALLS → SpellsFull opening_total bytes
 is_full opening_total columns replies bytes is opening full =
     record { checkpoint = record { columns = columns; replies = replies }; spelled = is; opening = opening; full = full }
 

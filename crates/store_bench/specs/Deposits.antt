@@ -1,7 +1,7 @@
 -- What a bank's deposits add to its log, and its total after it.
-use Rattle.std.specs.Prelude.{◌≡◌, ℕ, zero, suc, ◌%◌, ℤ, pos, ◌+ℤ◌, Option, Some, None, List, [], ◌∷◌, ◌++◌, slice_get}
+use Rattle.std.specs.Prelude.{◌≡◌, ℕ, zero, suc, ◌%◌, ℤ, pos, Option, Some, None, List, [], ◌∷◌, ◌++◌, slice_get}
 use Rattle.sb_rows.specs.Balances.{Balances}
-use Rattle.lane_audit.specs.Columns.{total}
+use Rattle.lane_audit.specs.Audit.{balances_total}
 use Rattle.sb_calls.specs.Behaviour.{declared_cowns, effect_of}
 use Rattle.sb_calls.specs.Op.{op_of}
 use Rattle.sb_calls.specs.declared.call.Call.TheVariants.{DepositChecking}
@@ -30,4 +30,4 @@ cents_in_turn names payees (suc calls) =
 -- this is the total of all customers' balances after the whole log
 abbrev pub IsTotalAfterAll : BoardOf Op → ℤ → Type 0
 IsTotalAfterAll board cents = (columns : Balances)
-    × IsAfterAll declared_cowns effect_of board columns × (cents ≡ total columns.savings +ℤ total columns.checking)
+    × IsAfterAll declared_cowns effect_of board columns × (cents ≡ balances_total columns)

@@ -6,4 +6,4 @@ use Rattle.store_bench.proofs.checkpoints.read_once.Goals as goal
 pub returns : goal.returns
 returns c =
     ap length c.replies-2.ensures
-    ∙ full_is_read c.args.opening_total _ c.args.bytes.now c.in_ok-checkpoint.checkpoint c.requires c.in_ok-checkpoint.ensures.checkpoint
+    ∙ full_is_read c.args.opening_total _ c.args.bytes.now c.in_ok-checkpoint.checkpoint c.requires c.in_ok-checkpoint.ensures.checkpoint.0
