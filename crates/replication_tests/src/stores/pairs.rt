@@ -48,10 +48,7 @@ impl FileWithSpare for Pair {
         let Some(content) = &self.content else {
             return Ok(None);
         };
-        match content.clone() {
-            Ok(copy) => Ok(Some(copy)),
-            Err(_) => Err(StoreFault::OutOfMemory),
-        }
+        Ok(Some(content.clone()?))
     }
 }
 
