@@ -12,7 +12,7 @@ module _ {A : Type 0} where
       let same : n + 1 + length xs ≡ n + suc (length xs) = omega arith in
       ap (λ l. (n, x) ∷ l) (push_from (n + 1) xs y ∙ ap (λ (k : ℕ). enumerate_from (n + 1) xs ++ (k, y) ∷ []) same)
 
-  -- one more comes at the place that is the length
+  -- one more comes at the position that is the length
   pub enumerate_from-push : (xs : List A) (y : A) → enumerate_from 0 (xs ++ y ∷ []) ≡ enumerate_from 0 xs ++ (length xs, y) ∷ []
   enumerate_from-push xs y =
       let same : 0 + length xs ≡ length xs = omega arith in
@@ -57,7 +57,7 @@ module _ {A : Type 0} where
         let all : count n (x ∷ xs) ≡ 1 = omega (arith, parts, first, rest) in all)
         (cases_eq n position)
 
-    -- each place below the length occurs once, and no other
+    -- each position below the length occurs once, and no other
     pub count_by-enumerate_from : (xs : List A)
         → count_by (λ (pick : ℕ × A). pick.0 == position) (enumerate_from 0 xs) ≡ (if nat_lt position (length xs) then 1 else 0)
     count_by-enumerate_from xs =

@@ -18,7 +18,7 @@ slice_get-last : {A : Type 0} (xs : List A) (y : A) → slice_get (xs ++ y ∷ [
 slice_get-last [] y = refl
 slice_get-last (x ∷ xs) y = slice_get-last xs y
 
--- the Work at a place stays there when the list grows
+-- the Work at a position stays there when the list grows
 pub AreOffered-longer : (offered more : List WorkOf) (picks : List PickOf) → AreOffered offered picks → AreOffered (offered ++ more) picks
 AreOffered-longer offered more picks right k d lt = slice_get-front offered more (get_or picks k d).0 (get_or picks k d).1 (right k d lt)
 

@@ -1,5 +1,5 @@
 -- A bench and its passes, as contracts see them.
-use Rattle.std.specs.Prelude.{ℕ, List, map}
+use Rattle.std.specs.Prelude.{◌≡◌, ℕ, List, [], ◌∷◌, ◌++◌, map}
 use Rattle.atomic_table.specs.Seated.{TableId}
 use Rattle.cown_bench.specs.Picks.{WorkOf, PickOf}
 
@@ -17,6 +17,11 @@ pub record OwnerOf : Type 0 where
 pub record WorkerOf : Type 0 where
   pub bench : BenchId
   pub picked : List PickOf
+
+-- the worker picked this Work, at some position
+abbrev pub PicksWork : WorkerOf → WorkOf → WorkerOf → Type 0
+PicksWork old work new =
+    (position : ℕ) × (new ≡ record old { picked = old.picked ++ (position, work) ∷ [] })
 
 -- what each of these passes picked
 abbrev pub picked_of : List WorkerOf → List (List PickOf)

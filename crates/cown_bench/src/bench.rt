@@ -1,6 +1,6 @@
 //! The bench.
-ghost use Rattle.std.specs.Prelude.{◌≡◌, ℕ, ◌≤◌, [], ◌∷◌, ◌++◌, All, length, IfErr, IfNone, IfOk, IfSome, OnErr, OnOk};
-ghost use Rattle.cown_bench.specs.BenchPasses.{picked_of};
+ghost use Rattle.std.specs.Prelude.{◌≡◌, ◌≤◌, [], ◌∷◌, ◌++◌, All, length, IfErr, IfNone, IfOk, IfSome, OnErr, OnOk};
+ghost use Rattle.cown_bench.specs.BenchPasses.{PicksWork, picked_of};
 ghost use Rattle.cown_bench.specs.OfferedWorks.{IsSplitInto, WeighAlike};
 
 use crate::draining::drain;
@@ -76,8 +76,7 @@ impl Bench {
     /// Picks the Work that has lain there longest, or answers `None` if nothing lies there.
     pub fn pick<R: Wait>(&self, rt: &R, pass: &mut WorkerPass) -> Option<Work>
         requires { pass.old.bench ≡ self.now }
-        ensures picked { IfSome result (λ work. (position : ℕ) × (pass.new ≡
-            record pass.old { picked = pass.old.picked ++ (position, work) ∷ [] })) }
+        ensures picked { IfSome result (λ work. PicksWork pass.old work pass.new) }
         ensures unchanged { IfNone result (pass.new ≡ pass.old) }
     {
         self.queue.pop_as::<Picks, R>(rt, &mut pass.pass)

@@ -60,11 +60,11 @@ with_nothing offered picked left parted = record {
   count = parted.count;
   within = parted.within;
   others = parted.others;
-  once = λ place.
-      let first : times_picked place ([] ∷ picked) ≡ 0 + times_picked place picked =
-      sum_by-cons (count_by (λ (pick : PickOf). pick.0 == place)) [] picked in
-      let rest : 0 + times_picked place picked ≡ times_picked place picked = omega arith in
-      first ∙ rest ∙ parted.once place;
+  once = λ position.
+      let first : times_picked position ([] ∷ picked) ≡ 0 + times_picked position picked =
+      sum_by-cons (count_by (λ (pick : PickOf). pick.0 == position)) [] picked in
+      let rest : 0 + times_picked position picked ≡ times_picked position picked = omega arith in
+      first ∙ rest ∙ parted.once position;
   rising = All-cons AreRising [] picked (λ i j d lt below. absurd (omega arith)) parted.rising;
   as_offered = All-cons (AreOffered offered) [] picked (λ k d below. absurd (omega arith)) parted.as_offered;
 }

@@ -7,17 +7,13 @@ use Rattle.sb_calls.specs.Behaviour.{declared_cowns}
 use Rattle.sb_calls.specs.declared.op.Op.{Op}
 use Rattle.cown_board.proofs.PositionLaws.{none_below_at, none_below_from, none_from_places}
 use Rattle.cown_board.specs.Board.{BoardOf, unfinished_of}
-use Rattle.cown_board.specs.Positions.{positions, none_below}
+use Rattle.cown_board.specs.Positions.{none_below}
 use Rattle.cown_board.specs.Readiness.{conflict_at, is_ready_at, is_clear_at, ready_positions}
 use Rattle.cown_board.specs.State.{is_waiting, is_unfinished, state_is}
 use Rattle.cown_board.specs.declared.state.State.{State}
 use Rattle.cown_board.specs.declared.state.State.TheVariants.{Waiting, Out, Finished}
 use Rattle.cown_workers.proofs.StateCounts.{count_none}
 use Rattle.cown_workers.specs.Draining.{HasNoneOut, HasNoneReady}
-
-empty : (xs : List ℕ) → length xs ≤ 0 → xs ≡ []
-empty [] h = refl
-empty (x ∷ xs) h = absurd (omega (arith, h))
 
 -- a state that neither waits nor is out is finished
 neither : (o : Option State) → (state_is is_waiting o ≡ true → ⊥) → o ≢ Some Out → state_is is_unfinished o ≡ false
@@ -57,8 +53,7 @@ pub nothing_left : (board : BoardOf Op) → length board.log ≡ length board.st
 unfolding ready_positions
 nothing_left board beside none_out none_ready =
     let none : none_below (is_ready_at declared_cowns board.log board.states) (length board.log) ≡ true =
-    none_from_places (is_ready_at declared_cowns board.log board.states) (length board.log)
-    (empty (positions (is_ready_at declared_cowns board.log board.states) (length board.log)) none_ready) in
+    none_from_places (is_ready_at declared_cowns board.log board.states) (length board.log) none_ready in
     count_none is_unfinished board.states
     (all_finished declared_cowns board.log board.states none_out
     (λ k lt. none_below_at (is_ready_at declared_cowns board.log board.states) (length board.log) k none lt) beside)

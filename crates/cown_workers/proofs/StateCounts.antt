@@ -28,7 +28,7 @@ count-set test (t ∷ states) (suc k) old new h =
     let rest = count-set test states k old new h in
     omega (arith, a, b, rest)
 
--- if the test holds at no place, none counts
+-- if the test holds at no position, none counts
 pub count_none : (test : State → Bool) (states : List State) → ((k : ℕ) → state_is test (slice_get states k) ≡ false) → count_by test states ≡ 0
 count_none test [] none = refl
 count_none test (s ∷ states) none =

@@ -10,15 +10,26 @@ use Rattle.std.proofs.lemmas.List.Folds.{sum_by-replicate}
 use Rattle.std.proofs.lemmas.List.Sums.{sum_by-append, sum_by-cons, sum_by_push}
 use Rattle.sb_calls.specs.declared.op.Op.{Op}
 use Rattle.cown_board.specs.Job.{JobOf}
-use Rattle.cown_bench.specs.BenchPasses.{WorkerOf, picked_of}
+use Rattle.cown_bench.specs.BenchPasses.{BenchId, OwnerOf, WorkerOf, picked_of}
 use Rattle.cown_bench.specs.OfferedWorks.{IsSplitInto, WeighAlike, weight_picked}
 use Rattle.cown_bench.specs.Picks.{WorkOf, PickOf}
 use Rattle.cown_bench.specs.declared.work.Work.TheVariants.{Run, Stop}
-use Rattle.cown_workers.specs.inner.PassPicks.{EndsAtStop, is_stop}
+use Rattle.cown_workers.specs.inner.PassPicks.{EndsAtStop, HasAllPasses, is_stop}
 
 -- one more job isn't one more `Stop`
-pub no_stop_more : (offered : List WorkOf) (job : JobOf Op) → count_by is_stop offered ≡ 0 → count_by is_stop (offered ++ Run job ∷ []) ≡ 0
+no_stop_more : (offered : List WorkOf) (job : JobOf Op) → count_by is_stop offered ≡ 0 → count_by is_stop (offered ++ Run job ∷ []) ≡ 0
 no_stop_more offered job none = let more = sum_by_push (λ work. cond (is_stop work) 1 0) offered (Run job) in omega (arith, none, more)
+
+-- after one more job all passes are still with the crew
+pub passes_kept : {bench : BenchId} {owner : OwnerOf} {own_pass : Option WorkerOf} {workers : ℕ} (job : JobOf Op)
+    → HasAllPasses bench owner own_pass workers → HasAllPasses bench (record owner { offered = owner.offered ++ Run job ∷ [] }) own_pass workers
+passes_kept {bench} {owner} {own_pass} {workers} job passes = record {
+  owner_pass = passes.owner_pass;
+  own = passes.own;
+  count = passes.count;
+  at_least_one = passes.at_least_one;
+  no_stop = no_stop_more owner.offered job passes.no_stop;
+}
 
 -- a `Stop` weighs 1, and a job 0
 abbrev weight : WorkOf → ℕ
@@ -28,9 +39,9 @@ abbrev weight_of : List PickOf → ℕ
 weight_of picked = sum_by (λ (pick : PickOf). weight pick.1) picked
 
 weighs_one : (picked : List PickOf) → EndsAtStop picked → 1 ≤ weight_of picked
-weighs_one picked (before, place, is) =
+weighs_one picked (before, position, is) =
     let whole = ap weight_of is in
-    let more = sum_by_push (λ (pick : PickOf). weight pick.1) before (place, Stop) in
+    let more = sum_by_push (λ (pick : PickOf). weight pick.1) before (position, Stop) in
     omega (arith, whole, more)
 
 -- what was picked with this pass and with the others

@@ -26,7 +26,7 @@ pub record IsFresh (hired : ℕ) (admits : Bool) (crew : BenchCrewOf) : Type 0 w
 -- the owner helps and picked this Work, at some position; nothing else changed
 abbrev pub PicksItself : BenchCrewOf → WorkOf → BenchCrewOf → Type 0
 PicksItself old work new =
-    (old.owner_helps ≡ true) × ((place : ℕ) × (new ≡ record old { picked = old.picked ++ (place, work) ∷ [] }))
+    (old.owner_helps ≡ true) × ((position : ℕ) × (new ≡ record old { picked = old.picked ++ (position, work) ∷ [] }))
 
 -- what an owner hands over after it picked this Work: the result of a job. Nothing is said of a
 -- `Stop`, because a crew isn't asked for anything once it shuts down.

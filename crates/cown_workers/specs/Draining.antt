@@ -33,7 +33,7 @@ HasNoneOut board = (k : ℕ) → slice_get board.states k ≢ Some Out
 
 -- no op is ready
 abbrev pub HasNoneReady : BoardOf Op → Type 0
-HasNoneReady board = length (ready_positions declared_cowns board.log board.states) ≤ 0
+HasNoneReady board = ready_positions declared_cowns board.log board.states ≡ []
 
 -- nothing is ready, and something is unfinished: only the crew can make progress
 pub record AwaitsCrew (board : BoardOf Op) : Type 0 where

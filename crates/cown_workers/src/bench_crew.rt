@@ -1,9 +1,9 @@
 //! A crew that works at a bench.
-ghost use Rattle.std.specs.Prelude.{◌≡◌, ℕ, ◌+◌, ◌≤◌, ◌⊎◌, [], ◌∷◌, ◌++◌, All, length, count_by, true, is_some, IfNone, IfSome};
-ghost use Rattle.std.specs.Option.{option_to_list};
+ghost use Rattle.std.specs.Prelude.{◌≡◌, ◌⊎◌, [], All, length, true, is_some, IfNone, IfSome};
 ghost use Rattle.cown_board.specs.Job.{JobOf};
 ghost use Rattle.sb_calls.specs.declared.op.Op.{Op};
-ghost use Rattle.cown_workers.specs.inner.PassPicks.{is_stop, picked_with, EndsAtStop};
+ghost use Rattle.cown_bench.specs.BenchPasses.{PicksWork};
+ghost use Rattle.cown_workers.specs.inner.PassPicks.{HasAllPasses, picked_with, EndsAtStop};
 ghost use Rattle.cown_workers.specs.BenchCrews.{ShutsDown, ActsAtBench, PicksItself};
 ghost use Rattle.cown_workers.specs.Draining.{IsResultOf};
 
@@ -41,10 +41,9 @@ pub struct BenchCrew<'a, R: Wait + Clock, G> {
 }
 
 impl<'a, R: Wait + Clock, G> Model for BenchCrew<'a, R, G> {
-    ghost use Rattle.std.specs.Prelude.{◌≡◌, ◌+◌, ◌≤◌, All, length, count_by, IfSome, is_some};
-    ghost use Rattle.std.specs.Option.{option_to_list};
+    ghost use Rattle.std.specs.Prelude.{◌≡◌, All, length, is_some};
     ghost use Rattle.cown_workers.specs.BenchCrews.{BenchCrewOf};
-    ghost use Rattle.cown_workers.specs.inner.PassPicks.{is_stop, picked_with};
+    ghost use Rattle.cown_workers.specs.inner.PassPicks.{HasAllPasses, picked_with};
 
     ghost Value = { BenchCrewOf };
 
@@ -56,12 +55,9 @@ impl<'a, R: Wait + Clock, G> Model for BenchCrew<'a, R, G> {
     } };
 
     // All passes of the bench are with the crew, and no `Stop` was laid out.
-    ghost invariant = { λ crew. (crew.owner_side.pass.bench ≡ crew.owner_side.bench.now)
-        × IfSome crew.own_pass (λ own_pass. own_pass.bench ≡ crew.owner_side.bench.now)
-        × All (λ thread. thread.promise.0.value ≡ crew.owner_side.bench.now) crew.thread_pool.threads.items
-        × (crew.owner_side.pass.workers ≡ length (option_to_list crew.own_pass) + length crew.thread_pool.threads.items)
-        × (1 ≤ length crew.thread_pool.threads.items)
-        × (count_by is_stop crew.owner_side.pass.offered ≡ 0) };
+    ghost invariant = { λ crew. HasAllPasses crew.owner_side.bench.now crew.owner_side.pass
+        crew.own_pass (length crew.thread_pool.threads.items)
+        × All (λ thread. thread.promise.0.value ≡ crew.owner_side.bench.now) crew.thread_pool.threads.items };
 }
 
 impl<'a, R: Wait + Clock, G: Gate> BenchCrew<'a, R, G> {
@@ -72,13 +68,9 @@ impl<'a, R: Wait + Clock, G: Gate> BenchCrew<'a, R, G> {
         own_pass: Option<WorkerPass>,
         thread_pool: ThreadPool,
     ) -> BenchCrew<'a, R, G>
-        requires owner { owner_side.pass.bench ≡ owner_side.bench.now }
-        requires hands { IfSome own_pass (λ own_pass. own_pass.bench ≡ owner_side.bench.now) }
+        requires passes { HasAllPasses owner_side.bench.now owner_side.pass own_pass
+            (length thread_pool.threads.items) }
         requires staff { All (λ thread. thread.promise.0.value ≡ owner_side.bench.now) thread_pool.threads.items }
-        requires all_passes { owner_side.pass.workers
-            ≡ length (option_to_list own_pass) + length thread_pool.threads.items }
-        requires at_least_one { 1 ≤ length thread_pool.threads.items }
-        requires jobs { count_by is_stop owner_side.pass.offered ≡ 0 }
         ensures { result ≡ record {
           workers = length thread_pool.threads.items;
           owner_helps = is_some own_pass;
@@ -211,10 +203,10 @@ fn pick_and_carry_out<R: Wait, G: Gate>(
     gate: &G,
 ) -> Option<Done<Op>>
     requires { own_pass.old.bench ≡ bench.now }
-    ensures job_picked { IfSome result (λ done. (job : JobOf Op) × (place : ℕ) × (own_pass.new ≡
-        record own_pass.old { picked = own_pass.old.picked ++ (place, Work.Run job) ∷ [] }) × IsResultOf done job) }
-    ensures no_job_picked { IfNone result ((own_pass.new ≡ own_pass.old) ⊎ ((place : ℕ) × (own_pass.new ≡
-        record own_pass.old { picked = own_pass.old.picked ++ (place, Work.Stop) ∷ [] }))) }
+    ensures job_picked { IfSome result (λ done. (job : JobOf Op) ×
+        PicksWork own_pass.old (Work.Run job) own_pass.new × IsResultOf done job) }
+    ensures no_job_picked { IfNone result ((own_pass.new ≡ own_pass.old) ⊎
+        PicksWork own_pass.old Work.Stop own_pass.new) }
 {
     match bench.pick(rt, own_pass)? {
         Work::Run(job) => Some(carry_out(gate, job)),
@@ -305,6 +297,45 @@ mod tests {
         latch: &'s Latch,
     }
 
+    // A crew of one worker, and of its owner if that has a pass of its own.
+    fn crew_of<'s, E, R: Wait + Clock + Sync + Abort>(
+        scope: &'s Scope<'s, E>,
+        rt: &'s R,
+        alloc: Global,
+        shared: Shared<'s>,
+        pass: OwnerPass,
+        own_pass: Option<WorkerPass>,
+        worker_pass: WorkerPass,
+    ) -> BenchCrew<'s, R, OpenGate>
+        requires passes { HasAllPasses shared.bench.now pass own_pass 1 }
+        requires worker { worker_pass.bench ≡ shared.bench.now }
+    {
+        let Shared {
+            bench,
+            wake_up,
+            other_wake_up,
+            latch,
+        } = shared;
+        let (outbox, inbox) = open_inbox(alloc).expect(rt, "memory");
+        let worker = Worker {
+            rt,
+            bench,
+            pass: worker_pass,
+            gate: latch,
+            wake_up: other_wake_up,
+            outbox,
+        };
+        let thread_pool = pool_of(scope, rt, alloc, bench, worker);
+        let owner_side = OwnerSide {
+            rt,
+            bench,
+            wake_up,
+            pass,
+            inbox,
+        };
+        BenchCrew::new(owner_side, &OpenGate, own_pass, thread_pool)
+    }
+
     // Only the worker picks from the bench.
     fn signals_at_once<'s, E, R: Threads + Wait + Clock + Sync + Abort>(
         scope: &'s Scope<'s, E>,
@@ -322,30 +353,9 @@ mod tests {
         requires workers { All (λ worker. worker.bench ≡ shared.bench.now) passes.items }
     {
         assert!(rt; passes.len() == 1);
-        let Shared {
-            bench,
-            wake_up,
-            other_wake_up,
-            latch,
-        } = shared;
-        let (outbox, inbox) = open_inbox(alloc).expect(rt, "memory");
-        let worker = Worker {
-            rt,
-            bench,
-            pass: passes.pop().expect(rt, "a pass"),
-            gate: latch,
-            wake_up: other_wake_up,
-            outbox,
-        };
-        let thread_pool = pool_of(scope, rt, alloc, bench, worker);
-        let owner_side = OwnerSide {
-            rt,
-            bench,
-            wake_up,
-            pass,
-            inbox,
-        };
-        let mut crew = BenchCrew::new(owner_side, &OpenGate, None, thread_pool);
+        let wake_up = shared.wake_up;
+        let worker_pass = passes.pop().expect(rt, "a pass");
+        let mut crew = crew_of(scope, rt, alloc, shared, pass, None, worker_pass);
         gives(rt, alloc, &mut crew);
         gives(rt, alloc, &mut crew);
         assert!(rt; wake_up.await_signal(rt));
@@ -378,31 +388,10 @@ mod tests {
         requires workers { All (λ worker. worker.bench ≡ shared.bench.now) passes.items }
     {
         assert!(rt; passes.len() == 2);
-        let Shared {
-            bench,
-            wake_up,
-            other_wake_up,
-            latch,
-        } = shared;
-        let (outbox, inbox) = open_inbox(alloc).expect(rt, "memory");
+        let Shared { wake_up, latch, .. } = shared;
         let own_pass = passes.pop().expect(rt, "a pass");
-        let worker = Worker {
-            rt,
-            bench,
-            pass: passes.pop().expect(rt, "a pass"),
-            gate: latch,
-            wake_up: other_wake_up,
-            outbox,
-        };
-        let thread_pool = pool_of(scope, rt, alloc, bench, worker);
-        let owner_side = OwnerSide {
-            rt,
-            bench,
-            wake_up,
-            pass,
-            inbox,
-        };
-        let mut crew = BenchCrew::new(owner_side, &OpenGate, Some(own_pass), thread_pool);
+        let worker_pass = passes.pop().expect(rt, "a pass");
+        let mut crew = crew_of(scope, rt, alloc, shared, pass, Some(own_pass), worker_pass);
         gives(rt, alloc, &mut crew);
         assert!(rt; comes_true(&latch.came));
         gives(rt, alloc, &mut crew);

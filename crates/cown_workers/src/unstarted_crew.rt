@@ -1,7 +1,6 @@
 //! A crew whose workers have no threads yet.
-ghost use Rattle.std.specs.Prelude.{◌≡◌, ◌+◌, ◌≤◌, All, length, count_by, is_some, IfOk, IfSome};
-ghost use Rattle.std.specs.Option.{option_to_list};
-ghost use Rattle.cown_workers.specs.inner.PassPicks.{is_stop, picked_with};
+ghost use Rattle.std.specs.Prelude.{◌≡◌, ◌≤◌, All, length, is_some, IfOk};
+ghost use Rattle.cown_workers.specs.inner.PassPicks.{HasAllPasses, picked_with};
 
 use crate::bench_crew::BenchCrew;
 use crate::crew_fault::CrewFault;
@@ -28,11 +27,10 @@ pub(crate) struct UnstartedCrew<'a, R: Wait + Clock, G: Gate> {
 }
 
 impl<'a, R: Wait + Clock, G: Gate> Model for UnstartedCrew<'a, R, G> {
-    ghost use Rattle.std.specs.Prelude.{◌≡◌, ◌+◌, ◌≤◌, All, length, count_by, IfSome, is_some};
-    ghost use Rattle.std.specs.Option.{option_to_list};
+    ghost use Rattle.std.specs.Prelude.{◌≡◌, ◌≤◌, All, length, is_some};
     ghost use Rattle.cown_bench.specs.declared.bench.TheConstants.{WORKERS};
     ghost use Rattle.cown_workers.specs.BenchCrews.{BenchCrewOf};
-    ghost use Rattle.cown_workers.specs.inner.PassPicks.{is_stop, picked_with};
+    ghost use Rattle.cown_workers.specs.inner.PassPicks.{HasAllPasses, picked_with};
 
     ghost Value = { BenchCrewOf };
 
@@ -43,14 +41,10 @@ impl<'a, R: Wait + Clock, G: Gate> Model for UnstartedCrew<'a, R, G> {
       picked = picked_with unstarted_crew.own_pass;
     } };
 
-    ghost invariant = { λ unstarted_crew. (unstarted_crew.owner_side.pass.bench ≡ unstarted_crew.owner_side.bench.now)
-        × IfSome unstarted_crew.own_pass (λ own_pass. own_pass.bench ≡ unstarted_crew.owner_side.bench.now)
+    ghost invariant = { λ unstarted_crew. HasAllPasses unstarted_crew.owner_side.bench.now
+        unstarted_crew.owner_side.pass unstarted_crew.own_pass (length unstarted_crew.workers.items)
         × All (λ worker. worker.bench.now ≡ unstarted_crew.owner_side.bench.now) unstarted_crew.workers.items
-        × (length unstarted_crew.workers.items ≤ WORKERS)
-        × (unstarted_crew.owner_side.pass.workers
-        ≡ length (option_to_list unstarted_crew.own_pass) + length unstarted_crew.workers.items)
-        × (1 ≤ length unstarted_crew.workers.items)
-        × (count_by is_stop unstarted_crew.owner_side.pass.offered ≡ 0) };
+        × (length unstarted_crew.workers.items ≤ WORKERS) };
 }
 
 impl<'a, R: Wait + Clock, G: Gate> UnstartedCrew<'a, R, G> {
@@ -62,13 +56,10 @@ impl<'a, R: Wait + Clock, G: Gate> UnstartedCrew<'a, R, G> {
         own_pass: Option<WorkerPass>,
         workers: Vec<Worker<'a, R, G>>,
     ) -> UnstartedCrew<'a, R, G>
-        requires owner { owner_side.pass.bench ≡ owner_side.bench.now }
-        requires hands { IfSome own_pass (λ own_pass. own_pass.bench ≡ owner_side.bench.now) }
+        requires passes { HasAllPasses owner_side.bench.now owner_side.pass own_pass
+            (length workers.items) }
         requires workers { All (λ worker. worker.bench.now ≡ owner_side.bench.now) workers.items }
-        requires at_least_one { 1 ≤ length workers.items }
         requires limit { length workers.items ≤ WORKERS }
-        requires all_passes { owner_side.pass.workers ≡ length (option_to_list own_pass) + length workers.items }
-        requires jobs { count_by is_stop owner_side.pass.offered ≡ 0 }
         ensures { result ≡ record {
           workers = length workers.entry.items;
           owner_helps = is_some own_pass;

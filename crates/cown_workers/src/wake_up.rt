@@ -1,5 +1,6 @@
 //! Waking workers that sleep.
-ghost use Rattle.std.specs.Prelude.{◌≡◌, ℕ, ◌∷◌, ◌++◌, [], IfNone, IfSome};
+ghost use Rattle.std.specs.Prelude.{◌≡◌, IfNone, IfSome};
+ghost use Rattle.cown_bench.specs.BenchPasses.{PicksWork};
 
 use crate::back_off::BackOff;
 use cown_bench::{Bench, Work, WorkerPass};
@@ -9,10 +10,10 @@ use std::sync::Wait;
 use std::sync::atomic::{AtomicUsize, Ordering};
 use std::time::{Clock, Duration};
 
-// The most milliseconds that a worker sleeps. No signal is missed, so this only bounds the cost of
-// a signal that is lost for an unknown reason. Sixteen workers that wake this seldom take almost no
-// processor time.
-const LONGEST: u64 = 50;
+// The most milliseconds that a worker sleeps. An owner that helps lays its jobs out without a
+// signal, so this is how long they may lie there while it does something else. Sixteen workers that
+// wake this seldom take almost no processor time.
+const LONGEST_MILLIS: u64 = 50;
 
 // What an owner signals when it offers something and too few workers are awake.
 //
@@ -74,8 +75,7 @@ impl WakeUp {
         back_off: &mut BackOff,
     ) -> Option<Work>
         requires { pass.old.bench ≡ bench.now }
-        ensures work_picked { IfSome result (λ work. (place : ℕ) × (pass.new ≡
-            record pass.old { picked = pass.old.picked ++ (place, work) ∷ [] })) }
+        ensures work_picked { IfSome result (λ work. PicksWork pass.old work pass.new) }
         ensures nothing_picked { IfNone result (pass.new ≡ pass.old) }
     {
         self.begin_sleep();
@@ -100,14 +100,14 @@ impl WakeUp {
     // Waits until the owner signals, or for a while, and returns whether it did.
     pub(crate) fn await_signal<R: Wait + Clock>(&self, rt: &R) -> bool {
         self.receiver
-            .recv_timeout(rt, Duration::from_millis(LONGEST))
+            .recv_timeout(rt, Duration::from_millis(LONGEST_MILLIS))
             .is_ok()
     }
 }
 
 // From outside one look at the bench can't be distinguished from another, nor a signal from a sleep
 // that ends by itself, so both are tested here. running_tests shows by public calls that workers
-// are woken at all.
+// execute what comes while they sleep.
 #[cfg(test)]
 mod tests {
     use super::*;

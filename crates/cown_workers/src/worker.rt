@@ -1,5 +1,6 @@
 //! The work of each thread of a crew.
-ghost use Rattle.std.specs.Prelude.{◌≡◌, ℕ, ◌∷◌, ◌++◌, [], IfNone, IfSome};
+ghost use Rattle.std.specs.Prelude.{◌≡◌, IfNone, IfSome};
+ghost use Rattle.cown_bench.specs.BenchPasses.{PicksWork};
 ghost use Rattle.cown_workers.specs.inner.PassPicks.{EndsAtStop};
 ghost use Rattle.cown_workers.specs.inner.Turns.{WorkerTakesTurn};
 
@@ -84,8 +85,7 @@ fn pick_or_wait<R: Wait + Clock>(
     back_off: &mut BackOff,
 ) -> Option<Work>
     requires { pass.old.bench ≡ bench.now }
-    ensures work_picked { IfSome result (λ work. (place : ℕ) × (pass.new ≡
-        record pass.old { picked = pass.old.picked ++ (place, work) ∷ [] })) }
+    ensures work_picked { IfSome result (λ work. PicksWork pass.old work pass.new) }
     ensures nothing_picked { IfNone result (pass.new ≡ pass.old) }
 {
     let work = bench.pick(rt, pass);

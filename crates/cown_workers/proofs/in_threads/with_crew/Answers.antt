@@ -29,39 +29,28 @@ take_extra_pass-own_pass-requires-clause-limit g c = elim (cases_lt c.args.worke
   | inr none ↦ omega (arith, none, c.in_ok-bench.ensures.as_many)
 ]
 
-pub new-unstarted_crew-requires-clause-owner : goal.new-unstarted_crew-requires-clause-owner
-new-unstarted_crew-requires-clause-owner g c = ap (λ (pass : OwnerOf). pass.bench) c.in_ok-bench.ensures.owner
-
 pub new-unstarted_crew-requires-clause-workers : goal.new-unstarted_crew-requires-clause-workers
 new-unstarted_crew-requires-clause-workers g c = c.in_ok-hired.ensures.bench
-
-pub new-unstarted_crew-requires-clause-at_least_one : goal.new-unstarted_crew-requires-clause-at_least_one
-new-unstarted_crew-requires-clause-at_least_one g c =
-    omega (arith, c.requires.at_least_one, c.in_ok-hired.ensures.as_many, c.take_extra_pass-own_pass.ensures.as_many)
 
 pub new-unstarted_crew-requires-clause-limit : goal.new-unstarted_crew-requires-clause-limit
 new-unstarted_crew-requires-clause-limit g c =
     omega (arith, c.requires.limit, c.in_ok-hired.ensures.as_many, c.take_extra_pass-own_pass.ensures.as_many)
 
-pub new-unstarted_crew-requires-clause-jobs : goal.new-unstarted_crew-requires-clause-jobs
-new-unstarted_crew-requires-clause-jobs g c = ap (λ (pass : OwnerOf). count_by is_stop pass.offered) c.in_ok-bench.ensures.owner
-
-pub new-unstarted_crew-requires-clause-hands : goal.new-unstarted_crew-requires-clause-hands
-new-unstarted_crew-requires-clause-hands g c =
-    (All-pop (λ pass. pass.bench ≡ _) _ _ _ c.take_extra_pass-own_pass.ensures.parted (of_bench _ _ c.in_ok-bench.ensures.passes)).1
-
-pub new-unstarted_crew-requires-clause-all_passes : goal.new-unstarted_crew-requires-clause-all_passes
-new-unstarted_crew-requires-clause-all_passes g c =
-    let many = ap (λ (pass : OwnerOf). pass.workers) c.in_ok-bench.ensures.owner in
-    let parted = ap length c.take_extra_pass-own_pass.ensures.parted in
-    omega (
-      arith,
-      many,
-      parted,
-      c.in_ok-bench.ensures.as_many,
-      c.in_ok-hired.ensures.as_many,
-      length-append (c.take_extra_pass-own_pass.new.passes.items) (option_to_list c.take_extra_pass-own_pass.result),
-    )
+pub new-unstarted_crew-requires-clause-passes : goal.new-unstarted_crew-requires-clause-passes
+new-unstarted_crew-requires-clause-passes g c =
+    let made = c.in_ok-bench.ensures in
+    let taken = c.take_extra_pass-own_pass.ensures in
+    record {
+      owner_pass = ap (λ (pass : OwnerOf). pass.bench) made.owner;
+      own = (All-pop (λ pass. pass.bench ≡ _) _ _ _ taken.parted (of_bench _ _ made.passes)).1;
+      count =
+          let many = ap (λ (pass : OwnerOf). pass.workers) made.owner in
+          let parted = ap length taken.parted in
+          let longer = length-append (c.take_extra_pass-own_pass.new.passes.items) (option_to_list c.take_extra_pass-own_pass.result) in
+          omega (arith, many, parted, made.as_many, c.in_ok-hired.ensures.as_many, longer);
+      at_least_one = omega (arith, c.requires.at_least_one, c.in_ok-hired.ensures.as_many, taken.as_many);
+      no_stop = ap (λ (pass : OwnerOf). count_by is_stop pass.offered) made.owner;
+    }
 
 pub workers_at-requires : goal.workers_at-requires
 workers_at-requires g c =

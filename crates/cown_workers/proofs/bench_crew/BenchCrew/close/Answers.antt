@@ -8,7 +8,7 @@ use Rattle.cown_workers.proofs.bench_crew.BenchCrew.close.Goals as goal
 pub close-requires-clause-workers : goal.close-requires-clause-workers
 close-requires-clause-workers g c =
     let (workers, items, benches, stopped) = c.join-workers.ensures in
-    passes_here _ c.self.inside.own_pass workers _ items c.self.invariant.1 (all_alike _ _ _ _ _ benches c.self.invariant.2)
+    passes_here _ c.self.inside.own_pass workers _ items c.self.invariant.0.own (all_alike _ _ _ _ _ benches c.self.invariant.1)
 
 pub close-requires-clause-worker_count : goal.close-requires-clause-worker_count
 close-requires-clause-worker_count g c =
@@ -18,7 +18,7 @@ close-requires-clause-worker_count g c =
       ap length items,
       length-append (option_to_list c.self.inside.own_pass) workers,
       as_many_alike _ _ c.self.inside.owner_side.pass.bench _ _ benches,
-      c.self.invariant.3,
+      c.self.invariant.0.count,
       ap (λ (o : OwnerOf). o.workers) c.stop_workers-owner.ensures,
     )
 
@@ -27,4 +27,4 @@ returns g c =
     let (workers, items, benches, stopped) = c.join-workers.ensures in
     shuts_down _ _ _ _ _ _ workers _ _ c.self.view_is c.len.ensures c.stop_workers-owner.ensures items
     (as_many_alike _ _ c.self.inside.owner_side.pass.bench _ _ benches) c.close.ensures.split
-    c.close.ensures.weights c.self.invariant.5 stopped c.self.invariant.4
+    c.close.ensures.weights c.self.invariant.0.no_stop stopped c.self.invariant.0.at_least_one

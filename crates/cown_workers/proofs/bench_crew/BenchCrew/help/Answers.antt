@@ -5,7 +5,7 @@ use Rattle.cown_workers.proofs.bench_crew.BenchCrew.help.Goals as goal
 
 pub returns-clause-job_picked : goal.returns-clause-job_picked
 returns-clause-job_picked g c = IfSome_then c.pick_and_carry_out.result c.pick_and_carry_out.ensures.job_picked
-    (λ done (job, place, picks, is_of). (job, picks_itself _ _ _ _ _ _ place _ c.self.view_is c.in-Some.is picks, is_of))
+    (λ done (job, picks, is_of). (job, picks_itself _ _ _ _ _ _ _ c.self.view_is c.in-Some.is picks, is_of))
 
 pub returns-clause-no_job_picked : goal.returns-clause-no_job_picked
 returns-clause-no_job_picked g c = picks_no_job _ _ _ _ _ _ c.pick_and_carry_out.result c.self.view_is c.in-Some.is c.pick_and_carry_out.ensures.no_job_picked

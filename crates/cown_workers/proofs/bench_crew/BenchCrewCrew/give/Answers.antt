@@ -2,17 +2,17 @@
 use Rattle.std.proofs.Common.{[], ◌∷◌, ◌++◌, ap}
 use Rattle.cown_bench.specs.declared.work.Work.TheVariants.{Run}
 use Rattle.cown_workers.specs.BenchCrews.{BenchCrewOf}
-use Rattle.cown_workers.proofs.Stops.{no_stop_more}
+use Rattle.cown_workers.proofs.Stops.{passes_kept}
 use Rattle.cown_workers.proofs.bench_crew.BenchCrewCrew.give.Goals as goal
 use Rattle.cown_workers.proofs.bench_crew.BenchCrewCrew.give.Goals.{then-self-eq0, else-self-eq0}
 
 pub invariant_of-self : goal.invariant_of-self
 invariant_of-self g c =
     let was = c.self.invariant in
-    let none = no_stop_more c.self.inside.owner_side.pass.offered c.args.job was.5 in
+    let passes = passes_kept c.args.job was.0 in
     elim c.if-self-eq0.branch [
-      | then-self-eq0 w ↦ rw (w.self-inside-is, c.in-Ok.ensures.ok) (was.0, was.1, was.2, was.3, was.4, none)
-      | else-self-eq0 w ↦ rw (w.self-inside-is, c.in-Ok.ensures.ok) (was.0, was.1, was.2, was.3, was.4, none)
+      | then-self-eq0 w ↦ rw (w.self-inside-is, c.in-Ok.ensures.ok) (passes, was.1)
+      | else-self-eq0 w ↦ rw (w.self-inside-is, c.in-Ok.ensures.ok) (passes, was.1)
     ]
 
 pub returns-after-is_none-clause-acts : goal.returns-after-is_none-clause-acts

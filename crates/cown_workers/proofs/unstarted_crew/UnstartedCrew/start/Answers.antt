@@ -12,11 +12,8 @@ as_many g c =
 pub new-requires-clause-staff : goal.new-requires-clause-staff
 new-requires-clause-staff g c = c.in_ok-thread_pool.ensures.bench
 
-pub new-requires-clause-all_passes : goal.new-requires-clause-all_passes
-new-requires-clause-all_passes g c = omega (arith, as_many g c, c.self.invariant.4)
-
-pub new-requires-clause-at_least_one : goal.new-requires-clause-at_least_one
-new-requires-clause-at_least_one g c = omega (arith, as_many g c, c.self.invariant.5)
+pub new-requires-clause-passes : goal.new-requires-clause-passes
+new-requires-clause-passes g c = rw (as_many g c) c.self.invariant.0
 
 pub returns : goal.returns
 returns g c =
