@@ -4,24 +4,25 @@ ghost use Rattle.std.specs.Prelude.{◌≤◌};
 use std::time::{Clock, Duration};
 use std::{hint, thread};
 
-// How often it first only spins, and for how many turns of a processor. Meanwhile the other side
-// runs ahead, and the two don't contend for the same cache lines.
+// How often it first only spins, and how many pauses (`spin_loop`) a spin takes. Meanwhile the
+// other side runs ahead, and the two don't contend for the same cache lines.
 const SPINS: u32 = 8;
 
-const TURNS: u32 = 32;
+const PAUSES: u32 = 32;
 
 // How often it then yields, before it sleeps.
 const YIELDS: u32 = 64;
 
-// The microseconds of its first sleep.
-const SHORTEST: u64 = 1;
+// The microseconds of its first sleep. Each is twice as long as the one before.
+const SHORTEST_MICROS: u64 = 1;
 
-// The microseconds of its longest sleep.
-const LONGEST: u64 = 100;
+// A worker backs off no longer once its next sleep would be this long: its longest sleep takes 64
+// microseconds, and then it sleeps until a signal.
+const LONGEST_MICROS: u64 = 100;
 
 // Spins for a moment.
 pub(crate) fn spin() {
-    for _ in 0..TURNS {
+    for _ in 0..PAUSES {
         hint::spin_loop();
     }
 }
@@ -41,7 +42,7 @@ impl BackOff {
         BackOff {
             spins: 0,
             yields: 0,
-            micros: SHORTEST,
+            micros: SHORTEST_MICROS,
         }
     }
 
@@ -55,7 +56,7 @@ impl BackOff {
 
     // Whether it has reached its longest wait. Then it is time to sleep until a signal.
     pub(crate) fn is_over(&self) -> bool {
-        self.micros >= LONGEST
+        self.micros >= LONGEST_MICROS
     }
 
     pub(crate) fn wait<R: Clock>(&mut self, rt: &R) {
@@ -67,7 +68,7 @@ impl BackOff {
             thread::yield_now();
         } else {
             thread::sleep(rt, Duration::from_micros(self.micros));
-            self.micros = self.micros.saturating_mul(2).min(LONGEST);
+            self.micros = self.micros.saturating_mul(2).min(LONGEST_MICROS);
         }
     }
 }

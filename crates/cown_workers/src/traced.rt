@@ -29,12 +29,12 @@ impl Default for Notice {
     }
 }
 
-/// A crew whose first 64 exchanges are recorded, in order. Nothing is recorded if it is asked and
-/// hands nothing over. Until it has 64 notices, it does what that crew does, and waits where that
-/// one waits. From then on it hands each job back without giving it to the crew, and what the crew
-/// hands over isn't recorded.
+/// Another crew, with a record of its first 64 exchanges, in order. Asking it is recorded only if
+/// it hands something over. Until it has 64 notices it does what the other crew does, and waits
+/// where that waits. From then on it hands each job back without giving it to the other crew, and
+/// what that hands over isn't recorded.
 ///
-/// Contracts see it as the crew and its notices.
+/// Contracts see it as the other crew and its notices.
 #[derive(Drop)]
 pub struct Traced<C: Crew> {
     crew: C,
