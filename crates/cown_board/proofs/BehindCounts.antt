@@ -7,7 +7,7 @@ use Rattle.std.proofs.lemmas.Option.{slice_get_within}
 use Rattle.sb_calls.specs.Cowns.{AreBelow, IsRising}
 use Rattle.sb_calls.specs.SerialRun.{is_among}
 use Rattle.sb_calls.specs.declared.reply.Reply.{Reply}
-use Rattle.cown_queue.specs.Queues.{fronts_of, list_of, Appends, Releases}
+use Rattle.cown_queue.specs.Queues.{front_of, fronts_of, list_of, Appends, Releases}
 use Rattle.cown_board.proofs.CownCounts.{count_by-positions, front_among, is_among-get, occurrences-fronts, times_none}
 use Rattle.cown_board.proofs.FrontLaws.{count_by-agree, first-last, first_chosen, first_to}
 use Rattle.cown_board.proofs.ReadyInputs.{conflict_from}
@@ -15,7 +15,8 @@ use Rattle.cown_board.proofs.CownLists.{below_from}
 use Rattle.cown_board.proofs.LogLaws.{injective, some_at}
 use Rattle.cown_board.proofs.PositionLaws.{one, chosen, positions-agree, positions-remove, place_is, length-places_add, but, but_other, but_same, slice_get-left, slice_get-right}
 use Rattle.cown_board.proofs.StateChanges.{state-append, state-last, state-set_same, state-set_other, state_here, waiting-finished, waiting_within}
-use Rattle.cown_board.specs.inner.DuePositions.{AreDue, is_due, occurrences}
+use Rattle.cown_queue.specs.inner.Occurrences.{occurrences}
+use Rattle.cown_board.specs.inner.DuePositions.{AreDue, is_due}
 use Rattle.cown_board.specs.inner.Fronts.{behind_at, behind_of, is_first, is_occupied}
 use Rattle.cown_board.specs.inner.BoardInvariant.{AreCounts, AreQueues, is_queued, touches_at}
 use Rattle.cown_board.specs.Positions.{positions}
@@ -146,7 +147,7 @@ module _ {B : Type 0} (touches : B → List ℕ) (effect : B → List ℤ → Re
       (in_range : (j cown : ℕ) → touches_at touches effect log cown j ≡ true → cown < cowns)
       (same : length log ≡ length states) (here : slice_get log k ≡ Some b) (out : slice_get states k ≡ Some Out)
       (clear : (j : ℕ) → j < k → conflict_at touches log j k ≡ true → unfinished_at states j ≡ false)
-      (front : (cown : ℕ) → is_among cown (touches b) ≡ true → slice_get (list_of old cown) 0 ≡ Some k)
+      (front : (cown : ℕ) → is_among cown (touches b) ≡ true → front_of old cown ≡ Some k)
       (queued : AreQueues touches effect log states old cowns)
       (left : AreQueues touches effect log (slice_set states k (Finished reply)) new cowns)
       (released : Releases (touches b) old new) where
@@ -154,7 +155,7 @@ module _ {B : Type 0} (touches : B → List ℕ) (effect : B → List ℤ → Re
     touches_k cown = ap (λ o. is_among cown (touched_by touches o)) here
 
     -- who is in front afterwards is unfinished, declares the cown, and is another
-    front_after : (cown j : ℕ) → cown < cowns → slice_get (list_of new cown) 0 ≡ Some j
+    front_after : (cown j : ℕ) → cown < cowns → front_of new cown ≡ Some j
         → (j < length log) × (j ≢ k) × (unfinished_at states j ≡ true) × (touches_at touches effect log cown j ≡ true)
     front_after cown j lt first =
         let found = place_is (is_queued touches effect log (slice_set states k (Finished reply)) cown) (length log) 0 j

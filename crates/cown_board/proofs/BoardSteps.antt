@@ -10,7 +10,7 @@ use Rattle.sb_calls.specs.Cowns.{AreBelow, IsRising, contents_of, write_cowns}
 use Rattle.sb_calls.specs.SerialRun.{is_among, inputs_of, contents_after_first, reply_of}
 use Rattle.sb_calls.specs.declared.call.TheConstants.{LOG_CALLS}
 use Rattle.sb_calls.specs.declared.reply.Reply.{Reply}
-use Rattle.cown_queue.specs.Queues.{Releases, fronts_of, list_of}
+use Rattle.cown_queue.specs.Queues.{Releases, front_of, fronts_of}
 use Rattle.cown_board.proofs.BehindCounts.{counts_submitted, counts_finished, fronts_counted, fronts_wait}
 use Rattle.sb_calls.proofs.CownContents.{below_among}
 use Rattle.cown_board.proofs.UnfinishedCounts.{count-append, count-set, count_some, few_places}
@@ -21,7 +21,8 @@ use Rattle.cown_board.proofs.StateChanges.{state_here, waiting_is_open}
 use Rattle.cown_board.proofs.SubmitInvariant.{keeps_submitted}
 use Rattle.cown_board.proofs.TakeInvariant.{keeps_taken}
 use Rattle.cown_board.proofs.UnlinkedBoards.{links_stay, none_finished, none_submitted}
-use Rattle.cown_board.specs.inner.DuePositions.{is_due, occurrences}
+use Rattle.cown_queue.specs.inner.Occurrences.{occurrences}
+use Rattle.cown_board.specs.inner.DuePositions.{is_due}
 use Rattle.cown_board.specs.inner.Fronts.{is_occupied}
 use Rattle.cown_board.specs.inner.BoardInvariant.{IsLinked, AreLinks, BoardInside, AreCounts, IsBoard, AreQueues, touches_at}
 use Rattle.cown_board.specs.inner.Links.{ComesForward, IsUnlinked, AddsToLinks, LeavesLinks, KeepsRoom}
@@ -147,7 +148,7 @@ module _ {B : Type 0} (touches : B → List ℕ) (effect : B → List ℤ → Re
       all = board.links.linked linked
 
       -- it is in front at each of its cowns
-      front : (cown : ℕ) → is_among cown (touches b) ≡ true → slice_get (list_of inside.links.queues.lists cown) 0 ≡ Some k
+      front : (cown : ℕ) → is_among cown (touches b) ≡ true → front_of inside.links.queues.lists cown ≡ Some k
       front cown among =
           let at_k : touches_at touches effect inside.log cown k ≡ true = ap (λ o. is_among cown (touched_by touches o)) here ∙ among in
           ap (λ xs. slice_get xs 0) (all.queues.each cown (board.keeps.in_range k cown at_k))

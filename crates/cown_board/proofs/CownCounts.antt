@@ -7,10 +7,10 @@ use Rattle.sb_calls.proofs.CownContents.{eqb-refl}
 use Rattle.sb_calls.specs.Cowns.{AreBelow, IsRising}
 use Rattle.sb_calls.specs.SerialRun.{is_among}
 use Rattle.cown_queue.proofs.ListChanges.{IsRising-rest, is_among-rising}
-use Rattle.cown_queue.specs.Queues.{fronts_of, list_of}
+use Rattle.cown_queue.specs.Queues.{front_of, fronts_of, list_of}
 use Rattle.cown_board.proofs.FrontLaws.{count-cons}
 use Rattle.cown_board.proofs.PositionLaws.{one, length-positions, length-places_add, length-places_none}
-use Rattle.cown_board.specs.inner.DuePositions.{occurrences}
+use Rattle.cown_queue.specs.inner.Occurrences.{occurrences}
 use Rattle.cown_board.specs.inner.Fronts.{is_first}
 use Rattle.cown_board.specs.Positions.{positions}
 
@@ -79,7 +79,7 @@ front_list (x ∷ xs) rest j among = elim (or_cases (j == x) (is_among j rest) a
 ]
 
 pub front_among : (lists : List (List ℕ)) (cowns : List ℕ) (j : ℕ) → is_among j (fronts_of lists cowns) ≡ true
-    → (c : ℕ) × (is_among c cowns ≡ true) × (slice_get (list_of lists c) 0 ≡ Some j)
+    → (c : ℕ) × (is_among c cowns ≡ true) × (front_of lists c ≡ Some j)
 front_among lists [] j among = absurd (true≢false (sym among))
 front_among lists (c ∷ cowns) j among = elim (front_list (list_of lists c) (fronts_of lists cowns) j among) [
   | inl here ↦ (c, or_left (c == c) (is_among c cowns) (eqb-refl c), here)

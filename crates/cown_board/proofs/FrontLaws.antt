@@ -5,10 +5,10 @@ use Rattle.std.proofs.lemmas.Bool.{cases_Bool, eqb-true, eq-eqb, ne_eqb, not_fro
 use Rattle.std.proofs.lemmas.List.Sums.{sum_by-cons}
 use Rattle.sb_calls.proofs.CownContents.{eqb-refl}
 use Rattle.sb_calls.specs.SerialRun.{is_among}
-use Rattle.cown_queue.specs.Queues.{list_of}
+use Rattle.cown_queue.specs.Queues.{IsInFront, list_of}
 use Rattle.cown_board.proofs.LogLaws.{injective, no_some}
 use Rattle.cown_board.proofs.PositionLaws.{one}
-use Rattle.cown_board.specs.inner.Fronts.{AreFronts, behind_at, is_first}
+use Rattle.cown_board.specs.inner.Fronts.{behind_at, is_first}
 
 pub first_from : (xs : List ℕ) (n : ℕ) → slice_get xs 0 ≡ Some n → is_first n xs ≡ true
 first_from [] n h = absurd (no_some h)
@@ -46,7 +46,7 @@ count_by-agree p q (x ∷ xs) same =
     omega (arith, here, rest, a, b)
 
 -- a number is behind at none of these cowns exactly if it is in front at all
-pub none_behind : (n : ℕ) (lists : List (List ℕ)) (cowns : List ℕ) → AreFronts n lists cowns → behind_at n lists cowns ≡ 0
+pub none_behind : (n : ℕ) (lists : List (List ℕ)) (cowns : List ℕ) → IsInFront n cowns lists → behind_at n lists cowns ≡ 0
 none_behind n lists [] fronts = refl
 none_behind n lists (c ∷ cowns) fronts =
     let here : one (not (is_first n (list_of lists c))) ≡ 0 = ap (λ b. one (not b)) (first_from (list_of lists c) n fronts.0) in
@@ -54,7 +54,7 @@ none_behind n lists (c ∷ cowns) fronts =
     let all = count-cons (λ cown. not (is_first n (list_of lists cown))) c cowns in
     omega (arith, here, rest, all)
 
-pub fronts_from_none : (n : ℕ) (lists : List (List ℕ)) (cowns : List ℕ) → behind_at n lists cowns ≡ 0 → AreFronts n lists cowns
+pub fronts_from_none : (n : ℕ) (lists : List (List ℕ)) (cowns : List ℕ) → behind_at n lists cowns ≡ 0 → IsInFront n cowns lists
 fronts_from_none n lists [] none = tt
 fronts_from_none n lists (c ∷ cowns) none =
     let all = count-cons (λ cown. not (is_first n (list_of lists cown))) c cowns in

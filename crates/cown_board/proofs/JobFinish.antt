@@ -16,11 +16,11 @@ use Rattle.cown_board.proofs.CutInvariant.{noted_number, some_of_cut}
 use Rattle.cown_board.proofs.FinishInvariant.{clear_of_out}
 use Rattle.sb_calls.proofs.CownContents.{length-AreCownValues}
 use Rattle.cown_board.proofs.ReadyInputs.{holds_inputs}
-use Rattle.cown_board.proofs.QueueChanges.{fronts_from_clear, in_front_from}
+use Rattle.cown_board.proofs.QueueChanges.{fronts_from_clear}
 use Rattle.cown_board.proofs.StateChanges.{state_here}
 use Rattle.cown_board.proofs.JobTake.{seen, inputs_held, declared_below}
 use Rattle.cown_board.specs.Board.{IsOutAt, IsOutHere, Finishes, AreCutColumns}
-use Rattle.cown_board.specs.inner.DuePositions.{occurrences}
+use Rattle.cown_queue.specs.inner.Occurrences.{occurrences}
 use Rattle.cown_board.specs.inner.BoardInvariant.{BoardInside, IsBoard, IsCut}
 use Rattle.cown_board.specs.Job.{DoneOf}
 use Rattle.cown_board.specs.inner.Links.{ComesForward}
@@ -81,11 +81,10 @@ module _ {B : Type 0} (touches : B → List ℕ) (effect : B → List ℤ → Re
         let cowns = length (contents_of inside.opening) in
         let lists = inside.links.queues.lists in
         let queues = (board.links.linked linked).queues in
-        in_front_from touches effect inside.log inside.states lists cowns queues k done.behaviour tested.1 (touches done.behaviour)
-        (fronts_from_clear touches effect inside.log inside.states lists cowns queues k done.behaviour tested.1
+        fronts_from_clear touches effect inside.log inside.states lists cowns queues k done.behaviour tested.1
         (state_here is_unfinished inside.states k Out tested.0)
         (clear_of_out touches effect board.keeps k done.behaviour tested.1 tested.0) (touches done.behaviour)
-        (λ cown among. (among, board.keeps.in_range k cown (ap (λ o. is_among cown (touched_by touches o)) tested.1 ∙ among))))
+        (λ cown among. (among, board.keeps.in_range k cown (ap (λ o. is_among cown (touched_by touches o)) tested.1 ∙ among)))
 
     pub some_unfinished : 1 ≤ inside.unfinished
     some_unfinished = let some = count_some inside.states k Out tested.0 refl in omega (arith, some, board.unfinished)

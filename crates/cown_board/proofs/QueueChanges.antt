@@ -5,14 +5,12 @@ use Rattle.std.proofs.lemmas.Bool.{cases_Bool, cases_eq, and_parts, and_from, an
 use Rattle.std.proofs.lemmas.Option.{slice_get_within}
 use Rattle.sb_calls.specs.SerialRun.{is_among}
 use Rattle.sb_calls.specs.declared.reply.Reply.{Reply}
-use Rattle.cown_queue.specs.Queues.{list_of, Appends, Releases, IsInFront}
+use Rattle.cown_queue.specs.Queues.{front_of, list_of, Appends, Releases, IsInFront}
 use Rattle.sb_calls.proofs.CownContents.{shared_cown, eqb-refl}
-use Rattle.cown_board.proofs.LogLaws.{injective, no_some}
 use Rattle.cown_board.proofs.ReadyInputs.{conflict_from}
 use Rattle.cown_board.proofs.PositionLaws.{chosen, positions-agree, positions-remove, place_first, none_before_first, none_below_at, none_below_from, but, but_other, but_same, slice_get-left, slice_get-right}
 use Rattle.cown_board.proofs.StateChanges.{state-append, state-last, state-set_same, state-set_other}
 use Rattle.cown_board.proofs.TakeInvariant.{open-taken}
-use Rattle.cown_board.specs.inner.Fronts.{AreFronts}
 use Rattle.cown_board.specs.inner.BoardInvariant.{AreQueues, is_queued, touches_at}
 use Rattle.cown_board.specs.Positions.{positions}
 use Rattle.cown_board.specs.Readiness.{touched_by, conflict_at}
@@ -83,12 +81,12 @@ module _ {B : Type 0} (touches : B → List ℕ) (effect : B → List ℤ → Re
     touches_b : (cown : ℕ) → touches_at touches effect log cown k ≡ is_among cown (touches b)
     touches_b cown = ap (λ o. is_among cown (touched_by touches o)) here
 
-    list_first : (cown : ℕ) → cown < cowns → slice_get (list_of lists cown) 0 ≡ slice_get (positions (is_queued touches effect log states cown) (length log)) 0
+    list_first : (cown : ℕ) → cown < cowns → front_of lists cown ≡ slice_get (positions (is_queued touches effect log states cown) (length log)) 0
     list_first cown lt = ap (λ xs. slice_get xs 0) (queued.each cown lt)
 
     -- it is in front at all of them
     pub fronts_from_clear : unfinished_at states k ≡ true → ((j : ℕ) → j < k → conflict_at touches log j k ≡ true → unfinished_at states j ≡ false)
-        → (part : List ℕ) → ((cown : ℕ) → is_among cown part ≡ true → (is_among cown (touches b) ≡ true) × (cown < cowns)) → AreFronts k lists part
+        → (part : List ℕ) → ((cown : ℕ) → is_among cown part ≡ true → (is_among cown (touches b) ≡ true) × (cown < cowns)) → IsInFront k part lists
     fronts_from_clear unfinished clear [] known = tt
     fronts_from_clear unfinished clear (c ∷ part) known =
         let this = known c (or_left (c == c) (is_among c part) (eqb-refl c)) in (
@@ -96,15 +94,15 @@ module _ {B : Type 0} (touches : B → List ℕ) (effect : B → List ℤ → Re
           fronts_from_clear unfinished clear part (λ cown among. known cown (or_right (cown == c) (is_among cown part) among)),
         )
 
-    front_at : (part : List ℕ) (cown : ℕ) → AreFronts k lists part → is_among cown part ≡ true → slice_get (list_of lists cown) 0 ≡ Some k
+    front_at : (part : List ℕ) (cown : ℕ) → IsInFront k part lists → is_among cown part ≡ true → front_of lists cown ≡ Some k
     front_at [] cown fronts among = absurd (true≢false (sym among))
     front_at (c ∷ part) cown fronts among = elim (or_cases (cown == c) (is_among cown part) among) [
-      | inl same ↦ ap (λ x. slice_get (list_of lists x) 0) (eqb-true cown c same) ∙ fronts.0
+      | inl same ↦ ap (front_of lists) (eqb-true cown c same) ∙ fronts.0
       | inr later ↦ front_at part cown fronts.1 later
     ]
 
     -- if it is in front at all of them, no unfinished one before it shares a cown with it
-    pub clear_from_fronts : AreFronts k lists (touches b) → ((cown : ℕ) → is_among cown (touches b) ≡ true → cown < cowns)
+    pub clear_from_fronts : IsInFront k (touches b) lists → ((cown : ℕ) → is_among cown (touches b) ≡ true → cown < cowns)
         → (j : ℕ) → j < k → conflict_at touches log j k ≡ true → unfinished_at states j ≡ false
     clear_from_fronts fronts in_range j lt conflict =
         let shared = shared_cown (touched_by touches (slice_get log j)) (touched_by touches (slice_get log k)) conflict in
@@ -115,14 +113,6 @@ module _ {B : Type 0} (touches : B → List ℕ) (effect : B → List ℤ → Re
         both_ways (is_queued touches effect log states shared.0 j)
         (none_below_at (is_queued touches effect log states shared.0) k j none lt)
         (and_from (unfinished_at states j) (touches_at touches effect log shared.0 j) unfinished shared.1))
-
-    first_rest : (xs : List ℕ) (n : ℕ) → slice_get xs 0 ≡ Some n → (rest : List ℕ) × (xs ≡ n ∷ rest)
-    first_rest [] n h = absurd (no_some h)
-    first_rest (x ∷ xs) n h = (xs, ap (λ y. y ∷ xs) (injective h))
-
-    pub in_front_from : (part : List ℕ) → AreFronts k lists part → IsInFront k part lists
-    in_front_from [] fronts = tt
-    in_front_from (c ∷ part) fronts = (first_rest (list_of lists c) k fronts.0, in_front_from part fronts.1)
 
   queued_finished : (log : List B) (states : List State) (cown k j : ℕ) (b : B) (reply : Reply) → k < length states → slice_get log k ≡ Some b
       → is_among cown (touches b) ≡ false

@@ -8,7 +8,8 @@ use Rattle.std.proofs.lemmas.List.Sums.{count_by_more_no, count_by_more_yes}
 use Rattle.std.proofs.lemmas.List.{get_or-set_same, get_or-set_other, get_or_past}
 use Rattle.std.proofs.lemmas.Option.{slice_get-get_or}
 use Rattle.cown_board.proofs.PositionLaws.{positions-agree, positions-insert, places_fewer, place_above, place_below}
-use Rattle.cown_board.specs.inner.DuePositions.{AreDue, is_due, occurrences}
+use Rattle.cown_queue.specs.inner.Occurrences.{occurrences}
+use Rattle.cown_board.specs.inner.DuePositions.{AreDue, is_due}
 use Rattle.cown_board.specs.Positions.{positions}
 use Rattle.cown_board.specs.inner.PositionTests.{with_position}
 

@@ -25,6 +25,6 @@ abbrev pub state_is : (State → Bool) → Option State → Bool
 state_is test None = false
 state_is test (Some state) = test state
 
--- the behaviour at a position of a log is unfinished, and it waits
+-- the behaviour at a position of a log is unfinished
 abbrev pub unfinished_at : List State → ℕ → Bool
 unfinished_at states k = state_is is_unfinished (slice_get states k)

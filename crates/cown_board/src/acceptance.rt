@@ -57,7 +57,7 @@ pub(crate) fn is_out_at<B: Behaviour>(
     position: u64,
     done: &Done<B>,
 ) -> bool
-    requires place { position < length log.now.items }
+    requires position { position < length log.now.items }
     requires beside { length log.now.items ≡ length states.now.items }
     requires cowns { (k : ℕ) (behaviour : B) → slice_get log.now.items k ≡ Some behaviour →
         AreBelow (length (contents_of columns.now)) (B.touches behaviour) }

@@ -3,7 +3,7 @@ ghost use Rattle.std.specs.Prelude.{◌≡◌, ◌+◌, ◌*◌, ◌<◌, ◌≤
 ghost use Rattle.std.specs.VecDeque.{deque_len, deque_capacity};
 ghost use Rattle.sb_calls.specs.Cowns.{AreBelow, IsRising};
 ghost use Rattle.cown_queue.specs.Queues.{IsInFront, Releases, fronts_of};
-ghost use Rattle.cown_board.specs.inner.DuePositions.{occurrences};
+ghost use Rattle.cown_queue.specs.inner.Occurrences.{occurrences};
 ghost use Rattle.cown_board.specs.inner.BoardInvariant.{IsLinked, AreCowns, AreLinks};
 ghost use Rattle.cown_board.specs.inner.Links.{ComesForward, IsUnlinked, LeavesLinks, KeepsRoom, TakesIn};
 ghost use Rattle.cown_board.specs.Readiness.{ready_positions};
@@ -62,7 +62,7 @@ impl Links {
         unfinished: usize,
     ) -> Result<(), AllocError>
         requires cowns { AreBelow (length self.old.queues.lists) (B.touches behaviour) }
-        requires place { position < 1000000 }
+        requires position { position < 1000000 }
         requires unfinished { unfinished ≤ 1024 }
         requires counts { self.old.linked ≡ true → vec_len self.old.ready.behind ≡ position }
         requires ready { self.old.linked ≡ true → deque_len self.old.ready.ready < unfinished }

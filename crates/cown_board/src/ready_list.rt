@@ -1,7 +1,8 @@
 //! Which waiting behaviours are ready.
 ghost use Rattle.std.specs.Prelude.{◌≡◌, ◌+◌, ◌-◌, ◌<◌, ◌≤◌, ◌++◌, ◌==◌, ℕ, Bool, true, false, if◌then◌else◌, [], ◌∷◌, Some, All, length, get_or, slice_get, slice_set, remove, MatchOption, OnOk, vec_len, vec_capacity};
 ghost use Rattle.std.specs.VecDeque.{deque_len, deque_capacity};
-ghost use Rattle.cown_board.specs.inner.DuePositions.{is_due, AreDue, occurrences};
+ghost use Rattle.cown_queue.specs.inner.Occurrences.{occurrences};
+ghost use Rattle.cown_board.specs.inner.DuePositions.{is_due, AreDue};
 ghost use Rattle.cown_board.specs.Positions.{positions};
 ghost use Rattle.cown_board.specs.inner.PositionTests.{with_position};
 
@@ -118,7 +119,8 @@ impl ReadyList {
         self.ready.get(index).copied()
     }
 
-    // Removes a ready position. If all behaviours run inline, it is the first.
+    // Removes a ready position. `drain` always takes the first, which leaves without moving the
+    // others.
     pub(crate) fn remove(&mut self, index: usize)
         requires { index < length self.old.ready.items }
         ensures behind { self.new.behind ≡ self.old.behind }

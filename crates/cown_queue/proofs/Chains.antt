@@ -2,7 +2,8 @@
 use Rattle.std.proofs.Common.{◌≡◌, ◌≢◌, ℕ, zero, suc, ◌+◌, ◌<◌, ◌≤◌, if◌then◌else◌, ◌==◌, nat_lt, List, [], ◌∷◌, ◌++◌, length, drop, refl, sym, ap, ap₂, ◌∙◌, subst, arith, eq-eqb, ne_eqb, lt-ltb, le-ltb}
 use Rattle.std.proofs.lemmas.Bool.{cond-true, cond-false}
 use Rattle.std.proofs.lemmas.List.Sums.{sum_by-cons, sum_by_push}
-use Rattle.cown_queue.specs.inner.Chains.{ticket_at, numbers_from, IsChain, last_or, times, IsQueue}
+use Rattle.cown_queue.specs.inner.Chains.{ticket_at, numbers_from, IsChain, last_or, IsQueue}
+use Rattle.cown_queue.specs.inner.Occurrences.{occurrences}
 use Rattle.cown_queue.specs.declared.tickets.Ends.{Ends}
 use Rattle.cown_queue.specs.declared.tickets.TheConstants.{NONE}
 use Rattle.cown_queue.specs.declared.tickets.Ticket.{Ticket}
@@ -19,21 +20,21 @@ one_if-same other place e = cond-true {A = ℕ} (other == place) 1 0 (eq-eqb oth
 pub one_if-other : (other place : ℕ) → other ≢ place → one_if other place ≡ 0
 one_if-other other place ne = cond-false {A = ℕ} (other == place) 1 0 (ne_eqb other place ne)
 
-pub times-cons : (place first : ℕ) (places : List ℕ) → times place (first ∷ places) ≡ one_if first place + times place places
-times-cons place first places = sum_by-cons (λ other. one_if other place) first places
+pub occurrences-cons : (place first : ℕ) (places : List ℕ) → occurrences place (first ∷ places) ≡ one_if first place + occurrences place places
+occurrences-cons place first places = sum_by-cons (λ other. one_if other place) first places
 
-pub times_push : (place last : ℕ) (places : List ℕ) → times place (places ++ last ∷ []) ≡ times place places + one_if last place
-times_push place last places = sum_by_push (λ other. one_if other place) places last
+pub occurrences_push : (place last : ℕ) (places : List ℕ) → occurrences place (places ++ last ∷ []) ≡ occurrences place places + one_if last place
+occurrences_push place last places = sum_by_push (λ other. one_if other place) places last
 
 -- the first place is among them
-pub times-first : (first : ℕ) (places : List ℕ) → times first (first ∷ places) ≡ 1 + times first places
-times-first first places = omega (arith, times-cons first first places, one_if-same first first refl)
+pub occurrences-first : (first : ℕ) (places : List ℕ) → occurrences first (first ∷ places) ≡ 1 + occurrences first places
+occurrences-first first places = omega (arith, occurrences-cons first first places, one_if-same first first refl)
 
 -- and so is the last
-pub times-last : (first : ℕ) (places : List ℕ) → 0 < times (last_or first places) (first ∷ places)
-times-last first [] = omega (arith, times-first first [])
-times-last first (second ∷ places) =
-    omega (arith, times-cons (last_or second places) first (second ∷ places), times-last second places)
+pub occurrences-last : (first : ℕ) (places : List ℕ) → 0 < occurrences (last_or first places) (first ∷ places)
+occurrences-last first [] = omega (arith, occurrences-first first [])
+occurrences-last first (second ∷ places) =
+    omega (arith, occurrences-cons (last_or second places) first (second ∷ places), occurrences-last second places)
 
 pub last_or_push : (other : ℕ) (places : List ℕ) (last : ℕ) → last_or other (places ++ last ∷ []) ≡ last
 last_or_push other [] last = refl
@@ -68,16 +69,16 @@ numbers_from-chain table (suc steps) first (place ∷ places) (number ∷ number
 
 -- a chain whose tickets stay is still a chain
 pub IsChain-stays : (old new : List Ticket) (first : ℕ) (places numbers : List ℕ) → length old ≤ length new
-    → ((place : ℕ) → 0 < times place places → ticket_at new place ≡ ticket_at old place) → IsChain old first places numbers
+    → ((place : ℕ) → 0 < occurrences place places → ticket_at new place ≡ ticket_at old place) → IsChain old first places numbers
     → IsChain new first places numbers
 IsChain-stays old new first [] [] more same chain = chain
 IsChain-stays old new first [] (number ∷ numbers) more same chain = absurd chain
 IsChain-stays old new first (place ∷ places) [] more same chain = absurd chain
 IsChain-stays old new first (place ∷ places) (number ∷ numbers) more same chain =
-    let here : ticket_at new place ≡ ticket_at old place = same place (omega (arith, times-first place places)) in
+    let here : ticket_at new place ≡ ticket_at old place = same place (omega (arith, occurrences-first place places)) in
     let rest =
     IsChain-stays old new (ticket_at old place).next places numbers more
-    (λ other among. same other (omega (arith, times-cons other place places))) chain.3 in (
+    (λ other among. same other (omega (arith, occurrences-cons other place places))) chain.3 in (
       chain.0,
       omega (arith, chain.1),
       ap (λ (t : Ticket). t.number) here ∙ chain.2,
@@ -90,8 +91,8 @@ IsChain-stays old new first (place ∷ places) (number ∷ numbers) more same ch
 pub IsChain_push : (old new : List Ticket) (first head : ℕ) (places numbers : List ℕ) (place number : ℕ)
     → length old ≤ length new → place < length new → ticket_at new place ≡ record { number = number; next = NONE }
     → ticket_at new (last_or head places) ≡ record { number = (ticket_at old (last_or head places)).number; next = place }
-    → ((other : ℕ) → 0 < times other (head ∷ places) → other ≢ last_or head places → ticket_at new other ≡ ticket_at old other)
-    → ((other : ℕ) → times other (head ∷ places) ≤ 1) → IsChain old first (head ∷ places) numbers
+    → ((other : ℕ) → 0 < occurrences other (head ∷ places) → other ≢ last_or head places → ticket_at new other ≡ ticket_at old other)
+    → ((other : ℕ) → occurrences other (head ∷ places) ≤ 1) → IsChain old first (head ∷ places) numbers
     → IsChain new first ((head ∷ places) ++ place ∷ []) (numbers ++ number ∷ [])
 IsChain_push old new first head places [] place number more within placed before same once chain = absurd chain
 IsChain_push old new first head [] (n ∷ []) place number more within placed before same once chain = (
@@ -108,13 +109,13 @@ IsChain_push old new first head [] (n ∷ []) place number more within placed be
 IsChain_push old new first head [] (n ∷ m ∷ numbers) place number more within placed before same once chain = absurd chain.3
 IsChain_push old new first head (second ∷ places) (n ∷ numbers) place number more within placed before same once chain =
     let last : ℕ = last_or second places in
-    let alone : times head (second ∷ places) ≡ 0 = omega (arith, once head, times-first head (second ∷ places)) in
-    let apart : head ≢ last = λ e. omega (arith, alone, ap (λ other. times other (second ∷ places)) e, times-last second places) in
-    let here : ticket_at new head ≡ ticket_at old head = same head (omega (arith, times-first head (second ∷ places))) apart in
+    let alone : occurrences head (second ∷ places) ≡ 0 = omega (arith, once head, occurrences-first head (second ∷ places)) in
+    let apart : head ≢ last = λ e. omega (arith, alone, ap (λ other. occurrences other (second ∷ places)) e, occurrences-last second places) in
+    let here : ticket_at new head ≡ ticket_at old head = same head (omega (arith, occurrences-first head (second ∷ places))) apart in
     let rest =
     IsChain_push old new (ticket_at old head).next second places numbers place number more within placed before
-    (λ other among ne. same other (omega (arith, times-cons other head (second ∷ places))) ne)
-    (λ other. omega (arith, once other, times-cons other head (second ∷ places))) chain.3 in (
+    (λ other among ne. same other (omega (arith, occurrences-cons other head (second ∷ places))) ne)
+    (λ other. omega (arith, once other, occurrences-cons other head (second ∷ places))) chain.3 in (
       chain.0,
       omega (arith, chain.1),
       ap (λ (t : Ticket). t.number) here ∙ chain.2,
@@ -129,18 +130,18 @@ IsQueue-same table ends other places others numbers more e p n queue = rw (e, p,
 
 -- a cown without a last ticket has no tickets
 pub IsQueue-none : (table : List Ticket) (ends : Ends) (places numbers : List ℕ) → IsQueue table ends places numbers
-    → ((place : ℕ) → 0 < times place places → place < NONE) → ends.last ≡ NONE → (places ≡ []) × (numbers ≡ [])
+    → ((place : ℕ) → 0 < occurrences place places → place < NONE) → ends.last ≡ NONE → (places ≡ []) × (numbers ≡ [])
 IsQueue-none table ends [] [] queue below e = (refl, refl)
 IsQueue-none table ends [] (number ∷ numbers) queue below e = absurd queue.chain
 IsQueue-none table ends (place ∷ places) numbers queue below e =
-    absurd (omega (arith, below (last_or place places) (times-last place places), queue.last))
+    absurd (omega (arith, below (last_or place places) (occurrences-last place places), queue.last))
 
 -- a last ticket is one of the cown's own
 pub IsQueue-last : (table : List Ticket) (ends : Ends) (places numbers : List ℕ) → IsQueue table ends places numbers → ends.last ≢ NONE
-    → 0 < times ends.last places
+    → 0 < occurrences ends.last places
 IsQueue-last table ends [] numbers queue ne = absurd (ne queue.last)
 IsQueue-last table ends (place ∷ places) numbers queue ne =
-    subst (λ last. 0 < times last (place ∷ places)) (sym queue.last) (times-last place places)
+    subst (λ last. 0 < occurrences last (place ∷ places)) (sym queue.last) (occurrences-last place places)
 
 -- a cown with numbers has its first ticket in the table
 pub IsQueue-first : (table : List Ticket) (ends : Ends) (places numbers : List ℕ) → IsQueue table ends places numbers → 0 < length numbers
@@ -153,8 +154,8 @@ IsQueue-first table ends (place ∷ places) (number ∷ numbers) queue held = om
 pub IsQueue_push : (old new : List Ticket) (ends : Ends) (places numbers : List ℕ) (place number : ℕ) → length old ≤ length new
     → place < length new → ticket_at new place ≡ record { number = number; next = NONE }
     → ticket_at new ends.last ≡ record { number = (ticket_at old ends.last).number; next = place }
-    → ((other : ℕ) → 0 < times other places → other ≢ ends.last → ticket_at new other ≡ ticket_at old other)
-    → ((other : ℕ) → times other places ≤ 1) → ends.last ≢ NONE → IsQueue old ends places numbers
+    → ((other : ℕ) → 0 < occurrences other places → other ≢ ends.last → ticket_at new other ≡ ticket_at old other)
+    → ((other : ℕ) → occurrences other places ≤ 1) → ends.last ≢ NONE → IsQueue old ends places numbers
     → IsQueue new (record { first = ends.first; last = place }) (places ++ place ∷ []) (numbers ++ number ∷ [])
 IsQueue_push old new ends [] numbers place number more within placed before same once some queue = absurd (some queue.last)
 IsQueue_push old new ends (head ∷ places) numbers place number more within placed before same once some queue = record {
@@ -166,7 +167,7 @@ IsQueue_push old new ends (head ∷ places) numbers place number more within pla
 
 -- a cown without its first ticket
 IsQueue-rest : (table : List Ticket) (ends : Ends) (head : ℕ) (places numbers : List ℕ) (next last : ℕ)
-    → IsQueue table ends (head ∷ places) numbers → ((place : ℕ) → 0 < times place (head ∷ places) → place < NONE)
+    → IsQueue table ends (head ∷ places) numbers → ((place : ℕ) → 0 < occurrences place (head ∷ places) → place < NONE)
     → next ≡ (ticket_at table ends.first).next → (next ≡ NONE → last ≡ NONE) → (next ≢ NONE → last ≡ ends.last)
     → IsQueue table (record { first = next; last = last }) places (drop 1 numbers)
 IsQueue-rest table ends head places [] next last queue below seen none some = absurd queue.chain
@@ -177,7 +178,7 @@ IsQueue-rest table ends head [] (number ∷ second ∷ numbers) next last queue 
 IsQueue-rest table ends head (second ∷ places) (number ∷ []) next last queue below seen none some = absurd queue.chain.3
 IsQueue-rest table ends head (second ∷ places) (number ∷ more ∷ numbers) next last queue below seen none some =
     let same : next ≡ second = seen ∙ ap (λ place. (ticket_at table place).next) queue.chain.0 ∙ queue.chain.3.0 in
-    let here = below second (omega (arith, times-cons second head (second ∷ places), times-first second places)) in
+    let here = below second (omega (arith, occurrences-cons second head (second ∷ places), occurrences-first second places)) in
     record {
       chain = (same, queue.chain.3.1, queue.chain.3.2, queue.chain.3.3);
       last = some (λ e. omega (arith, here, same, e)) ∙ queue.last;
@@ -185,7 +186,7 @@ IsQueue-rest table ends head (second ∷ places) (number ∷ more ∷ numbers) n
 
 -- a cown with numbers has a first ticket, and then the others
 pub IsQueue-parts : (table : List Ticket) (ends : Ends) (places numbers : List ℕ) (next last : ℕ) → IsQueue table ends places numbers
-    → 0 < length numbers → ((place : ℕ) → 0 < times place places → place < NONE) → next ≡ (ticket_at table ends.first).next
+    → 0 < length numbers → ((place : ℕ) → 0 < occurrences place places → place < NONE) → next ≡ (ticket_at table ends.first).next
     → (next ≡ NONE → last ≡ NONE) → (next ≢ NONE → last ≡ ends.last)
     → (rest : List ℕ) × ((places ≡ ends.first ∷ rest) × IsQueue table (record { first = next; last = last }) rest (drop 1 numbers))
 IsQueue-parts table ends [] [] next last queue held below seen none some = absurd (omega arith)

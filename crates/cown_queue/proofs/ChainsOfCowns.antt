@@ -5,12 +5,13 @@ use Rattle.std.proofs.lemmas.Grind.{get_or-set_at}
 use Rattle.std.proofs.lemmas.List.{get_or-map, get_or-replicate, get_or-set_other, get_or-set_same, get_or_append_left, get_or_default, get_or_past, length-map, length-replicate, length_push, same_lists}
 use Rattle.std.proofs.lemmas.List.Folds.{sum_by-replicate}
 use Rattle.std.proofs.lemmas.List.Sums.{get_or-le-sum_by, sum-map, sum_by-set}
-use Rattle.cown_queue.specs.inner.Chains.{ticket_at, ends_at, numbers_from, lists_of, times, IsQueue, AreChains, AreTickets}
+use Rattle.cown_queue.specs.inner.Chains.{ticket_at, ends_at, numbers_from, lists_of, IsQueue, AreChains, AreTickets}
+use Rattle.cown_queue.specs.inner.Occurrences.{occurrences}
 use Rattle.cown_queue.specs.Queues.{list_of, queued_in}
 use Rattle.cown_queue.specs.declared.tickets.Ends.{Ends}
 use Rattle.cown_queue.specs.declared.tickets.TheConstants.{NONE}
 use Rattle.cown_queue.specs.declared.tickets.Ticket.{Ticket}
-use Rattle.cown_queue.proofs.Chains.{one_if, one_if-same, one_if-other, times-cons, times_push, IsChain-length, IsChain-stays, numbers_from-chain, IsQueue-same, IsQueue-none, IsQueue-last, IsQueue-first, IsQueue-parts, IsQueue_push}
+use Rattle.cown_queue.proofs.Chains.{one_if, one_if-same, one_if-other, occurrences-cons, occurrences_push, IsChain-length, IsChain-stays, numbers_from-chain, IsQueue-same, IsQueue-none, IsQueue-last, IsQueue-first, IsQueue-parts, IsQueue_push}
 
 -- ---- counts of all chains
 
@@ -49,27 +50,27 @@ one_below-more place bound = elim (cases_lt place bound) [
     ]
 
 -- a place occurs in one chain at most as often as in all
-times-chain : (place : ℕ) (chains : List (List ℕ)) (cown : ℕ) → times place (list_of chains cown) ≤ sum_by (times place) chains
-times-chain place chains cown = elim (cases_lt cown (length chains)) [
-  | inl l ↦ get_or-le-sum_by (times place) chains cown [] l
-  | inr l ↦ let none = ap (times place) (get_or_past chains cown [] l) in omega (arith, none)
+occurrences-chain : (place : ℕ) (chains : List (List ℕ)) (cown : ℕ) → occurrences place (list_of chains cown) ≤ sum_by (occurrences place) chains
+occurrences-chain place chains cown = elim (cases_lt cown (length chains)) [
+  | inl l ↦ get_or-le-sum_by (occurrences place) chains cown [] l
+  | inr l ↦ let none = ap (occurrences place) (get_or_past chains cown [] l) in omega (arith, none)
 ]
 
 -- and the same for two chains
-times-two : (place : ℕ) (chains : List (List ℕ)) (cown other : ℕ) → other ≢ cown
-    → times place (list_of chains cown) + times place (list_of chains other) ≤ sum_by (times place) chains
-times-two place chains cown other ne = elim (cases_lt cown (length chains)) [ inl l ↦ within l | inr l ↦ past l ]
+occurrences-two : (place : ℕ) (chains : List (List ℕ)) (cown other : ℕ) → other ≢ cown
+    → occurrences place (list_of chains cown) + occurrences place (list_of chains other) ≤ sum_by (occurrences place) chains
+occurrences-two place chains cown other ne = elim (cases_lt cown (length chains)) [ inl l ↦ within l | inr l ↦ past l ]
   where
-    within : cown < length chains → times place (list_of chains cown) + times place (list_of chains other) ≤ sum_by (times place) chains
+    within : cown < length chains → occurrences place (list_of chains cown) + occurrences place (list_of chains other) ≤ sum_by (occurrences place) chains
     within l =
-        let without = sum_by-set (times place) chains cown [] [] l in
-        let same = ap (times place) (get_or-set_other chains cown other [] [] ne) in
-        omega (arith, without, same, times-chain place (set chains cown []) other)
+        let without = sum_by-set (occurrences place) chains cown [] [] l in
+        let same = ap (occurrences place) (get_or-set_other chains cown other [] [] ne) in
+        omega (arith, without, same, occurrences-chain place (set chains cown []) other)
 
-    past : length chains ≤ cown → times place (list_of chains cown) + times place (list_of chains other) ≤ sum_by (times place) chains
+    past : length chains ≤ cown → occurrences place (list_of chains cown) + occurrences place (list_of chains other) ≤ sum_by (occurrences place) chains
     past l =
-        let none = ap (times place) (get_or_past chains cown [] l) in
-        omega (arith, none, times-chain place chains other)
+        let none = ap (occurrences place) (get_or_past chains cown [] l) in
+        omega (arith, none, occurrences-chain place chains other)
 
 -- one list has at most as many numbers as all lists together
 length-list_of : (lists : List (List ℕ)) (cown : ℕ) → length (list_of lists cown) ≤ queued_in lists
@@ -82,20 +83,20 @@ length-list_of lists cown = elim (cases_lt cown (length lists)) [
 
 module _ {table : List Ticket} {ends : List Ends} {free : List ℕ} {lists : List (List ℕ)} (linked : AreChains table ends free lists) where
   -- a place in a chain, or a free one, is within the table
-  within_table : (place : ℕ) → 0 < sum_by (times place) linked.chains + times place free → place < length table
+  within_table : (place : ℕ) → 0 < sum_by (occurrences place) linked.chains + occurrences place free → place < length table
   within_table place some = elim (cases_lt place (length table)) [
     | inl l ↦ l
     | inr l ↦ absurd (omega (arith, linked.once place, one_below-no place (length table) l))
   ]
 
-  in_chain : (cown place : ℕ) → 0 < times place (list_of linked.chains cown) → place < length table
-  in_chain cown place among = within_table place (omega (arith, among, times-chain place linked.chains cown))
+  in_chain : (cown place : ℕ) → 0 < occurrences place (list_of linked.chains cown) → place < length table
+  in_chain cown place among = within_table place (omega (arith, among, occurrences-chain place linked.chains cown))
 
   -- the place that is taken next is within the table
   pub free_within : (rest : List ℕ) (place : ℕ) → free ≡ rest ++ place ∷ [] → place < length table
   free_within rest place e =
-      let here = ap (times place) e in
-      within_table place (omega (arith, here, times_push place place rest, one_if-same place place refl))
+      let here = ap (occurrences place) e in
+      within_table place (omega (arith, here, occurrences_push place place rest, one_if-same place place refl))
 
   -- the chain of a cown, from the ends that were read there
   pub queue_at : (cown : ℕ) (e : Ends) → e ≡ ends_at ends cown → IsQueue table e (list_of linked.chains cown) (list_of lists cown)
@@ -151,8 +152,8 @@ module _ {table : List Ticket} {ends : List Ends} {free : List ℕ} {lists : Lis
 -- only tickets there changed, all other chains stay.
 linked_change : (old new : List Ticket) (ends : List Ends) (free freed : List ℕ) (lists : List (List ℕ)) (linked : AreChains old ends free lists)
     (cown : ℕ) (e : Ends) (places numbers : List ℕ) → cown < length ends → length new ≡ length old → IsQueue new e places numbers
-    → ((place : ℕ) → times place places + times place freed ≡ times place (list_of linked.chains cown) + times place free)
-    → ((place : ℕ) → times place (list_of linked.chains cown) ≡ 0 → times place free ≡ 0 → ticket_at new place ≡ ticket_at old place)
+    → ((place : ℕ) → occurrences place places + occurrences place freed ≡ occurrences place (list_of linked.chains cown) + occurrences place free)
+    → ((place : ℕ) → occurrences place (list_of linked.chains cown) ≡ 0 → occurrences place free ≡ 0 → ticket_at new place ≡ ticket_at old place)
     → length numbers + length freed ≡ length (list_of lists cown) + length free
     → AreChains new (set ends cown e) freed (set lists cown numbers)
 linked_change old new ends free freed lists linked cown e places numbers within same queue counts stays many = record {
@@ -183,8 +184,8 @@ linked_change old new ends free freed lists linked cown e places numbers within 
         let kept : IsQueue new (ends_at ends other) (list_of linked.chains other) (list_of lists other) = record {
           chain = IsChain-stays old new (ends_at ends other).first (list_of linked.chains other) (list_of lists other) (omega (arith, same))
               (λ place among.
-              let counted : times place (list_of linked.chains cown) + times place free ≡ 0 =
-              omega (arith, among, times-two place linked.chains cown other ne, linked.once place, one_below-le place (length old)) in
+              let counted : occurrences place (list_of linked.chains cown) + occurrences place free ≡ 0 =
+              omega (arith, among, occurrences-two place linked.chains cown other ne, linked.once place, one_below-le place (length old)) in
               stays place (omega (arith, counted)) (omega (arith, counted)))
               old_queue.chain;
           last = old_queue.last;
@@ -192,10 +193,11 @@ linked_change old new ends free freed lists linked cown e places numbers within 
         IsQueue-same new _ (ends_at ends other) _ (list_of linked.chains other) _ (list_of lists other) (get_or-set_other ends cown other e _ ne)
         (get_or-set_other linked.chains cown other places [] ne) (get_or-set_other lists cown other numbers [] ne) kept
 
-    once : (place : ℕ) → sum_by (times place) (set linked.chains cown places) + times place freed ≡ one_below place (length new)
+    once : (place : ℕ) → sum_by (occurrences place) (set linked.chains cown places) + occurrences place freed ≡ one_below place (length new)
     once place =
-        let moved : sum_by (times place) (set linked.chains cown places) + times place freed ≡ sum_by (times place) linked.chains + times place free =
-        omega (arith, sum_by-set (times place) linked.chains cown places [] chain_within, counts place) in
+        let moved : sum_by (occurrences place) (set linked.chains cown places) + occurrences place freed
+        ≡ sum_by (occurrences place) linked.chains + occurrences place free =
+        omega (arith, sum_by-set (occurrences place) linked.chains cown places [] chain_within, counts place) in
         moved ∙ linked.once place ∙ ap (one_below place) (sym same)
 
     all : queued_in (set lists cown numbers) + length freed ≡ length new
@@ -227,7 +229,7 @@ linked_none cowns = record {
   each = λ cown.
       IsQueue-same [] _ (record { first = NONE; last = NONE }) _ [] _ [] (get_or-replicate_same cowns cown (record { first = NONE; last = NONE }))
       (get_or-replicate_same cowns cown []) (get_or-replicate_same cowns cown []) (record { chain = refl; last = refl });
-  once = λ place. omega (arith, sum_by-replicate (times place) cowns [], one_below-no place 0 (omega arith));
+  once = λ place. omega (arith, sum_by-replicate (occurrences place) cowns [], one_below-no place 0 (omega arith));
   all = omega (arith, sum-map (length {A = ℕ}) (replicate cowns []), sum_by-replicate (length {A = ℕ}) cowns []);
 }
 
@@ -248,7 +250,7 @@ linked_more table ends free lists ticket place e linked = record {
       let more = one_below-more other (length table) in
       let long = ap (one_below other) (length_push table ticket) in
       let at = ap (λ n. one_if n other) e in
-      omega (arith, times_push other place free, linked.once other, more, long, at);
+      omega (arith, occurrences_push other place free, linked.once other, more, long, at);
   all = omega (arith, linked.all, length_push table ticket, length_push free place);
 }
 
@@ -280,8 +282,8 @@ linked_first table ends free rest lists cown number place e linked fits within r
     written : ticket_at new place ≡ ticket
     written = get_or-set_same table place ticket _ here
 
-    taken : (other : ℕ) → times other free ≡ times other rest + one_if place other
-    taken other = ap (times other) takes ∙ times_push other place rest
+    taken : (other : ℕ) → occurrences other free ≡ occurrences other rest + one_if place other
+    taken other = ap (occurrences other) takes ∙ occurrences_push other place rest
 
     none : (list_of linked.chains cown ≡ []) × (list_of lists cown ≡ [])
     none =
@@ -294,10 +296,10 @@ linked_first table ends free rest lists cown number place e linked fits within r
       last = refl;
     }
 
-    counts : (other : ℕ) → times other (place ∷ []) + times other rest ≡ times other (list_of linked.chains cown) + times other free
-    counts other = let before = ap (times other) none.0 in omega (arith, before, taken other, times-cons other place [])
+    counts : (other : ℕ) → occurrences other (place ∷ []) + occurrences other rest ≡ occurrences other (list_of linked.chains cown) + occurrences other free
+    counts other = let before = ap (occurrences other) none.0 in omega (arith, before, taken other, occurrences-cons other place [])
 
-    stays : (other : ℕ) → times other (list_of linked.chains cown) ≡ 0 → times other free ≡ 0 → ticket_at new other ≡ ticket_at table other
+    stays : (other : ℕ) → occurrences other (list_of linked.chains cown) ≡ 0 → occurrences other free ≡ 0 → ticket_at new other ≡ ticket_at table other
     stays other unlinked unfree =
         get_or-set_other table place other ticket _ (λ same. omega (arith, unfree, taken other, one_if-same place other (sym same)))
 
@@ -338,17 +340,17 @@ linked_behind table ends free rest lists cown number place before e linked withi
     here : place < length table
     here = free_within linked rest place takes
 
-    among : 0 < times e.last chain
+    among : 0 < occurrences e.last chain
     among = IsQueue-last table e chain list (queue_at linked cown e read) some
 
-    taken : (other : ℕ) → times other free ≡ times other rest + one_if place other
-    taken other = ap (times other) takes ∙ times_push other place rest
+    taken : (other : ℕ) → occurrences other free ≡ occurrences other rest + one_if place other
+    taken other = ap (occurrences other) takes ∙ occurrences_push other place rest
 
     -- a free place is in no chain
-    alone : (other : ℕ) → times other chain + times other free ≤ 1
-    alone other = omega (arith, times-chain other linked.chains cown, linked.once other, one_below-le other (length table))
+    alone : (other : ℕ) → occurrences other chain + occurrences other free ≤ 1
+    alone other = omega (arith, occurrences-chain other linked.chains cown, linked.once other, one_below-le other (length table))
 
-    unlinked : (other : ℕ) → 0 < times other chain → other ≢ place
+    unlinked : (other : ℕ) → 0 < occurrences other chain → other ≢ place
     unlinked other in_it same = omega (arith, in_it, alone other, taken other, one_if-same place other (sym same))
 
     placed : ticket_at new place ≡ ticket
@@ -371,13 +373,13 @@ linked_behind table ends free rest lists cown number place before e linked withi
         IsQueue_push table new e chain list place number (omega (arith, long)) (omega (arith, here, long)) placed moved
         (λ other in_it unlast. others other (unlinked other in_it) unlast) (λ other. omega (arith, alone other)) some (queue_at linked cown e read)
 
-    counts : (other : ℕ) → times other (chain ++ place ∷ []) + times other rest ≡ times other chain + times other free
-    counts other = omega (arith, times_push other place chain, taken other)
+    counts : (other : ℕ) → occurrences other (chain ++ place ∷ []) + occurrences other rest ≡ occurrences other chain + occurrences other free
+    counts other = omega (arith, occurrences_push other place chain, taken other)
 
-    stays : (other : ℕ) → times other chain ≡ 0 → times other free ≡ 0 → ticket_at new other ≡ ticket_at table other
+    stays : (other : ℕ) → occurrences other chain ≡ 0 → occurrences other free ≡ 0 → ticket_at new other ≡ ticket_at table other
     stays other apart unfree =
         others other (λ same. omega (arith, unfree, taken other, one_if-same place other (sym same)))
-        (λ same. let at = ap (λ p. times p chain) same in omega (arith, apart, among, at))
+        (λ same. let at = ap (λ p. occurrences p chain) same in omega (arith, apart, among, at))
 
     many : length (list ++ number ∷ []) + length rest ≡ length list + length free
     many = omega (arith, length_push list number, ap length takes, length_push rest place)
@@ -394,5 +396,5 @@ linked_rest table ends free lists cown next last e linked fits read held seen no
     linked_change table table ends free (free ++ e.first ∷ []) lists linked cown (record { first = next; last = last }) parts.0
     (drop 1 (list_of lists cown)) (cown_within linked cown held) refl parts.1.1
     (λ place.
-    let before = ap (times place) parts.1.0 in omega (arith, before, times-cons place e.first parts.0, times_push place e.first free))
+    let before = ap (occurrences place) parts.1.0 in omega (arith, before, occurrences-cons place e.first parts.0, occurrences_push place e.first free))
     (λ place apart unfree. refl) (omega (arith, held, length-drop 1 (list_of lists cown), length_push free e.first))

@@ -3,6 +3,7 @@ use Rattle.std.proofs.Common.{◌≡◌, ◌≢◌, ℕ, zero, suc, ◌+◌, ◌
 use Rattle.std.proofs.lemmas.Bool.{cond-false, eqb-true, eqb-false, false≢true, ne_eqb, or_cases, or_from, or_right}
 use Rattle.std.proofs.lemmas.Grind.{get_or-set_at}
 use Rattle.std.proofs.lemmas.List.{drop_all, drop_more, length-set, take_more}
+use Rattle.std.proofs.lemmas.Option.{slice_get_within}
 use Rattle.sb_calls.specs.Cowns.{AreBelow, IsRising}
 use Rattle.sb_calls.specs.SerialRun.{is_among}
 use Rattle.cown_queue.specs.Queues.{list_of, Appends, IsInFront, Releases}
@@ -112,7 +113,7 @@ pub IsInFront-held : (number : ℕ) (cowns : List ℕ) (lists : List (List ℕ))
     → is_among cown cowns ≡ true → 0 < length (list_of lists cown)
 IsInFront-held number [] lists front cown among = absurd (false≢true among)
 IsInFront-held number (first ∷ cowns) lists front cown among = elim (or_cases (cown == first) (is_among cown cowns) among) [
-  | inl same ↦ let at = ap (list_of lists) (eqb-true cown first same) in omega (arith, ap length at, ap length front.0.1)
+  | inl same ↦ let at = ap (list_of lists) (eqb-true cown first same) in omega (arith, ap length at, slice_get_within (list_of lists first) 0 number front.0)
   | inr more ↦ IsInFront-held number cowns lists front.1 cown more
 ]
 

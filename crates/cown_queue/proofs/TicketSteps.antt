@@ -4,7 +4,7 @@ use Rattle.std.proofs.lemmas.Bool.{cases_lt, cond-true, cond-false}
 use Rattle.std.proofs.lemmas.List.{get_or-map, get_or_read, length-set}
 use Rattle.std.proofs.lemmas.Option.{slice_get-get_or, slice_get_past}
 use Rattle.cown_queue.specs.inner.Chains.{ticket_at, ends_at, numbers_from, lists_of, AreChains, AreTickets}
-use Rattle.cown_queue.specs.Queues.{list_of}
+use Rattle.cown_queue.specs.Queues.{front_of, list_of}
 use Rattle.cown_queue.specs.declared.tickets.Ends.{Ends}
 use Rattle.cown_queue.specs.declared.tickets.TheConstants.{NONE}
 use Rattle.cown_queue.specs.declared.tickets.Ticket.{Ticket}
@@ -41,22 +41,22 @@ numbers_from-front (ticket ∷ tickets) first = elim (cases_lt first (length (ti
         ap (λ (numbers : List ℕ). slice_get numbers 0) (cond-false _ _ [] (le-ltb first (length table) l))
         ∙ ap (option_map (λ (t : Ticket). t.number)) (sym (slice_get_past table first l))
 
-front_of : (table : List Ticket) (ends : List Ends) (cown : ℕ) (e : Ends) → cown < length ends → e ≡ ends_at ends cown
-    → slice_get (list_of (lists_of table ends) cown) 0 ≡ option_map (λ (t : Ticket). t.number) (slice_get table e.first)
-front_of table ends cown e within read =
+front_read : (table : List Ticket) (ends : List Ends) (cown : ℕ) (e : Ends) → cown < length ends → e ≡ ends_at ends cown
+    → front_of (lists_of table ends) cown ≡ option_map (λ (t : Ticket). t.number) (slice_get table e.first)
+front_read table ends cown e within read =
     let idle : Ends = record { first = NONE; last = NONE } in
     let numbers : Ends → List ℕ = λ e. numbers_from table (length table) e.first in
     ap (λ (list : List ℕ). slice_get list 0) (get_or-map numbers ends cown idle [] within ∙ ap numbers (sym read)) ∙ numbers_from-front table e.first
 
 pub front_none : (table : List Ticket) (ends : List Ends) (cown : ℕ) (e : Ends) → cown < length ends → e ≡ ends_at ends cown → length table ≤ e.first
-    → slice_get (list_of (lists_of table ends) cown) 0 ≡ None
+    → front_of (lists_of table ends) cown ≡ None
 front_none table ends cown e within read past =
-    front_of table ends cown e within read ∙ ap (option_map (λ (t : Ticket). t.number)) (slice_get_past table e.first past)
+    front_read table ends cown e within read ∙ ap (option_map (λ (t : Ticket). t.number)) (slice_get_past table e.first past)
 
 pub front_some : (table : List Ticket) (ends : List Ends) (cown : ℕ) (e : Ends) (ticket : Ticket) → cown < length ends → e ≡ ends_at ends cown
-    → e.first < length table → ticket ≡ ticket_at table e.first → slice_get (list_of (lists_of table ends) cown) 0 ≡ Some ticket.number
+    → e.first < length table → ticket ≡ ticket_at table e.first → front_of (lists_of table ends) cown ≡ Some ticket.number
 front_some table ends cown e ticket within read here seen =
-    front_of table ends cown e within read
+    front_read table ends cown e within read
     ∙ ap (option_map (λ (t : Ticket). t.number))
     (slice_get-get_or table e.first (record { number = 0; next = NONE }) here ∙ ap (λ (t : Ticket). Some t) (sym seen))
 

@@ -1,5 +1,5 @@
 -- The numbers that wait at each cown.
-use Rattle.std.specs.Prelude.{◌≡◌, ℕ, ◌<◌, if◌then◌else◌, List, [], ◌∷◌, ◌++◌, length, map, sum, get_or, drop, slice_get, filter_map}
+use Rattle.std.specs.Prelude.{◌≡◌, ℕ, ◌<◌, if◌then◌else◌, Option, Some, List, [], ◌∷◌, ◌++◌, length, map, sum, get_or, drop, slice_get, filter_map}
 use Rattle.sb_calls.specs.SerialRun.{is_among}
 
 -- the queues as callers see them: a list of numbers for each cown, in order; the cowns with room
@@ -17,6 +17,10 @@ queued_in lists = sum (map length lists)
 abbrev pub list_of : List (List ℕ) → ℕ → List ℕ
 list_of lists cown = get_or lists cown []
 
+-- the first number of a cown's list, if any
+abbrev pub front_of : List (List ℕ) → ℕ → Option ℕ
+front_of lists cown = slice_get (list_of lists cown) 0
+
 -- the number is appended to the lists of these cowns; all other lists stay
 pub record Appends (number : ℕ) (cowns : List ℕ) (old new : List (List ℕ)) : Type 0 where
   pub cown_count : length new ≡ length old
@@ -26,8 +30,7 @@ pub record Appends (number : ℕ) (cowns : List ℕ) (old new : List (List ℕ))
 -- the lists of these cowns begin with the number
 abbrev pub IsInFront : ℕ → List ℕ → List (List ℕ) → Type 0
 IsInFront number [] lists = Unit {0}
-IsInFront number (cown ∷ cowns) lists =
-    ((rest : List ℕ) × (list_of lists cown ≡ number ∷ rest)) × IsInFront number cowns lists
+IsInFront number (cown ∷ cowns) lists = (front_of lists cown ≡ Some number) × IsInFront number cowns lists
 
 -- the first number is removed from the lists of these cowns; all other lists stay
 pub record Releases (cowns : List ℕ) (old new : List (List ℕ)) : Type 0 where
@@ -37,4 +40,4 @@ pub record Releases (cowns : List ℕ) (old new : List (List ℕ)) : Type 0 wher
 
 -- the first numbers of these cowns, in the order of the cowns; a cown without one is skipped
 abbrev pub fronts_of : List (List ℕ) → List ℕ → List ℕ
-fronts_of lists cowns = filter_map (λ cown. slice_get (list_of lists cown) 0) cowns
+fronts_of lists cowns = filter_map (front_of lists) cowns

@@ -1,8 +1,8 @@
 //! A queue for each cown.
-ghost use Rattle.std.specs.Prelude.{◌≡◌, ◌≤◌, ◌<◌, ◌+◌, ℕ, [], max, length, replicate, slice_get, vec_capacity, IsTrue, IfOk, OnOk, OnErr};
+ghost use Rattle.std.specs.Prelude.{◌≡◌, ◌≤◌, ◌<◌, ◌+◌, ℕ, [], max, length, replicate, vec_capacity, IsTrue, IfOk, OnOk, OnErr};
 ghost use Rattle.sb_calls.specs.Cowns.{AreBelow, IsRising};
 ghost use Rattle.sb_calls.specs.SerialRun.{is_among};
-ghost use Rattle.cown_queue.specs.Queues.{CownQueues, queued_in, list_of, fronts_of, Appends, IsInFront, Releases};
+ghost use Rattle.cown_queue.specs.Queues.{CownQueues, queued_in, list_of, front_of, fronts_of, Appends, IsInFront, Releases};
 
 use crate::tickets::Tickets;
 use arrayvec::ArrayVec;
@@ -16,7 +16,7 @@ use std::marker::Model;
 pub struct Queues {
     tickets: Tickets,
     // The cowns that have room for one more number, if they exist. At least this many places are
-    // free.
+    // free. Only contracts read them: `append` requires that its cowns are these.
     reserved: Vec<Cown>,
 }
 
@@ -54,8 +54,8 @@ impl Queues {
         self.tickets.cowns()
     }
 
-    /// The number of tickets that there are places for: at least one for each queued number and
-    /// each reserved cown.
+    /// The number of tickets that there are places for: at least one for each number in each queue,
+    /// and for each reserved cown.
     pub fn places(&self) -> usize
         ensures value { result ≡ self.now.places }
         ensures enough { queued_in self.now.lists + length self.now.reserved ≤ self.now.places }
@@ -80,8 +80,9 @@ impl Queues {
         Ok(())
     }
 
-    /// Makes places for this many numbers beyond those that all lists hold. If memory is refused,
-    /// or a place would no longer fit a `u32`, nothing changes.
+    /// Makes places for this many tickets beyond those in all queues. A number that is `put` takes
+    /// one at each of its cowns. If memory is refused, or a place would no longer fit a `u32`,
+    /// nothing changes.
     ///
     /// It allocates only if the tickets outgrow the memory that they have.
     pub fn reserve_places(&mut self, count: usize) -> Result<(), AllocError>
@@ -141,14 +142,14 @@ impl Queues {
 
     /// The first number at a cown, if it holds one. A cown that doesn't exist holds none.
     pub fn front(&self, cown: Cown) -> Option<u64>
-        ensures { result ≡ slice_get (list_of self.now.lists cown) 0 }
+        ensures { result ≡ front_of self.now.lists cown }
     {
         self.tickets.front(cown)
     }
 }
 
-// Writes exactly these cowns, into the memory that there is. They are written one by one in place:
-// after a copy in one piece they would be read back before the queues' first accesses end.
+// Writes exactly these cowns, into the memory that there is. One by one: a copy in one piece would
+// load, in wider pieces, cowns that were only just stored, and wait for them.
 fn write_reserved(written: &mut Vec<Cown>, cowns: &[Cown])
     requires { length cowns.now ≤ vec_capacity written.old }
     ensures { written.new.items ≡ cowns.now }

@@ -1,6 +1,6 @@
 //! Tickets for the numbers that wait, in one table for all cowns.
-ghost use Rattle.std.specs.Prelude.{◌≡◌, ◌+◌, ◌<◌, ◌≤◌, [], ◌∷◌, ◌++◌, max, drop, length, replicate, slice_get, slice_set, vec_capacity, IfOk, OnOk, OnErr};
-ghost use Rattle.cown_queue.specs.Queues.{list_of, queued_in};
+ghost use Rattle.std.specs.Prelude.{◌≡◌, ◌+◌, ◌<◌, ◌≤◌, [], ◌∷◌, ◌++◌, max, drop, length, replicate, slice_set, vec_capacity, IfOk, OnOk, OnErr};
+ghost use Rattle.cown_queue.specs.Queues.{front_of, list_of, queued_in};
 ghost use Rattle.cown_queue.specs.inner.Chains.{KeepsChains};
 ghost use Rattle.cown_queue.specs.declared.tickets.TheConstants.{NONE};
 
@@ -171,7 +171,7 @@ impl Tickets {
 
     /// The first number at a cown. A cown that doesn't exist has none.
     pub(crate) fn front(&self, cown: Cown) -> Option<u64>
-        ensures { result ≡ slice_get (list_of self.now.lists cown) 0 }
+        ensures { result ≡ front_of self.now.lists cown }
     {
         let first = self.ends.get(cown.id())?.first;
         Some(self.table.get(first as usize)?.number)

@@ -1,12 +1,7 @@
 -- Numbers in front of queues.
-use Rattle.std.specs.Prelude.{◌≡◌, ℕ, ◌==◌, Bool, false, not, Some, List, [], ◌∷◌, slice_get, is_some, count_by}
-use Rattle.cown_queue.specs.Queues.{list_of}
+use Rattle.std.specs.Prelude.{ℕ, ◌==◌, Bool, false, not, List, [], ◌∷◌, slice_get, is_some, count_by}
+use Rattle.cown_queue.specs.Queues.{front_of, list_of}
 use Rattle.cown_board.specs.Readiness.{touched_by}
-
--- the number is the first at each of these cowns
-abbrev pub AreFronts : ℕ → List (List ℕ) → List ℕ → Type 0
-AreFronts number lists [] = Unit {0}
-AreFronts number lists (cown ∷ cowns) = (slice_get (list_of lists cown) 0 ≡ Some number) × AreFronts number lists cowns
 
 -- the number is the first of a list
 abbrev pub is_first : ℕ → List ℕ → Bool
@@ -23,4 +18,4 @@ behind_of touches log lists position = behind_at position lists (touched_by touc
 
 -- a cown's queue isn't empty
 abbrev pub is_occupied : List (List ℕ) → ℕ → Bool
-is_occupied lists cown = is_some (slice_get (list_of lists cown) 0)
+is_occupied lists cown = is_some (front_of lists cown)

@@ -2,7 +2,8 @@
 use Rattle.std.specs.Prelude.{◌≡◌, ℕ, ◌+◌, ◌-◌, ◌*◌, ◌<◌, ◌≤◌, ◌==◌, Bool, true, false, if◌then◌else◌, List, [], ◌∷◌, ◌++◌, All, length, get_or, replicate, count_by, vec_capacity}
 use Rattle.std.specs.VecDeque.{deque_capacity}
 use Rattle.cown_queue.specs.Queues.{Appends}
-use Rattle.cown_board.specs.inner.DuePositions.{AreDue, occurrences}
+use Rattle.cown_queue.specs.inner.Occurrences.{occurrences}
+use Rattle.cown_board.specs.inner.DuePositions.{AreDue}
 use Rattle.cown_board.specs.inner.Fronts.{is_occupied}
 use Rattle.cown_board.specs.inner.StateTests.{waiting_at}
 use Rattle.cown_board.specs.State.{unfinished_at}

@@ -1,7 +1,8 @@
 -- Tickets in one table: the tickets of a cown are a chain, in which each names the place of the
 -- next.
-use Rattle.std.specs.Prelude.{◌≡◌, ℕ, zero, suc, ◌+◌, ◌<◌, ◌≤◌, ◌==◌, nat_lt, if◌then◌else◌, List, [], ◌∷◌, length, map, get_or, sum_by, count_by}
+use Rattle.std.specs.Prelude.{◌≡◌, ℕ, zero, suc, ◌+◌, ◌<◌, ◌≤◌, nat_lt, if◌then◌else◌, List, [], ◌∷◌, length, map, get_or, sum_by}
 use Rattle.cown_queue.specs.Queues.{list_of, queued_in}
+use Rattle.cown_queue.specs.inner.Occurrences.{occurrences}
 use Rattle.cown_queue.specs.declared.tickets.Ends.{Ends}
 use Rattle.cown_queue.specs.declared.tickets.TheConstants.{NONE}
 use Rattle.cown_queue.specs.declared.tickets.Ticket.{Ticket}
@@ -50,10 +51,6 @@ abbrev pub last_or : ℕ → List ℕ → ℕ
 last_or other [] = other
 last_or other (place ∷ places) = last_or place places
 
--- how often a place occurs among these
-abbrev pub times : ℕ → List ℕ → ℕ
-times place places = count_by (λ other. other == place) places
-
 -- a cown's queue: its first and its last ticket are those of this chain
 pub record IsQueue (table : List Ticket) (ends : Ends) (places numbers : List ℕ) : Type 0 where
   pub chain : IsChain table ends.first places numbers
@@ -68,7 +65,7 @@ pub record AreChains (table : List Ticket) (ends : List Ends) (free : List ℕ) 
   pub each : (cown : ℕ) → IsQueue table (ends_at ends cown) (list_of chains cown) (list_of lists cown)
   -- each place is either in one chain, once, or free
   pub once : (place : ℕ)
-      → sum_by (times place) chains + times place free ≡ (if nat_lt place (length table) then 1 else 0)
+      → sum_by (occurrences place) chains + occurrences place free ≡ (if nat_lt place (length table) then 1 else 0)
   pub all : queued_in lists + length free ≡ length table
 
 -- whatever the tickets are linked to stays so after these changes of the table and the free places

@@ -11,17 +11,18 @@ use Rattle.cown_board.proofs.acceptance.is_out_at.Goals.{After-index, then-not-i
 
 -- what was read is what stands at the position
 behaviour_at : (g : Over) (c : After-index g) → slice_get c.args.log.now.items c.args.position ≡ Some c.index-behaviour.result.now
-behaviour_at g c = slice_get_read c.args.log.now.items _ c.args.position c.index-behaviour.result.now refl c.requires.place c.index-behaviour.ensures
+behaviour_at g c = slice_get_read c.args.log.now.items _ c.args.position c.index-behaviour.result.now refl c.requires.position c.index-behaviour.ensures
 
 state_at : (g : Over) (c : After-index g) → slice_get c.args.states.now.items c.args.position ≡ Some c.index.result.now
 state_at g c =
-    slice_get_read c.args.states.now.items (length c.args.log.now.items) c.args.position c.index.result.now c.requires.beside c.requires.place c.index.ensures
+    slice_get_read c.args.states.now.items (length c.args.log.now.items) c.args.position c.index.result.now c.requires.beside c.requires.position
+    c.index.ensures
 
 pub index-requires : goal.index-requires
-index-requires g c = omega (arith, c.requires.place, c.requires.beside, c.args.states.now.ok)
+index-requires g c = omega (arith, c.requires.position, c.requires.beside, c.args.states.now.ok)
 
 pub index-behaviour-requires : goal.index-behaviour-requires
-index-behaviour-requires g c = omega (arith, c.requires.place, c.args.log.now.ok)
+index-behaviour-requires g c = omega (arith, c.requires.position, c.args.log.now.ok)
 
 pub read_cowns-inputs-requires-clause-cowns : goal.read_cowns-inputs-requires-clause-cowns
 read_cowns-inputs-requires-clause-cowns g c =

@@ -1,17 +1,12 @@
-use Rattle.std.proofs.Common.{◌≡◌, ℕ, ◌<◌, Some, slice_get, List, [], ◌∷◌, ◌++◌, length, take, sym, ap, ◌∙◌, arith}
-use Rattle.cown_queue.specs.Queues.{list_of, IsInFront}
+use Rattle.std.proofs.Common.{◌≡◌, ℕ, ◌<◌, Some, List, [], ◌∷◌, ◌++◌, length, take, sym, ap, ◌∙◌, arith}
+use Rattle.cown_queue.specs.Queues.{front_of, IsInFront}
 use Rattle.cown_queue.proofs.ListChanges.{take-cown}
 use Rattle.cown_queue.proofs.tests.is_in_front.Goals as goal
 
--- a list begins with the number that it has in front
-front-is : (list : List ℕ) (number : ℕ) → slice_get list 0 ≡ Some number → (rest : List ℕ) × (list ≡ number ∷ rest)
-front-is [] number e = cc
-front-is (first ∷ rest) number e = let same : first ≡ number = cc in (rest, ap (λ n. n ∷ rest) same)
-
 -- one more cown at which the number is in front
 IsInFront-push : (number : ℕ) (cowns : List ℕ) (cown : ℕ) (lists : List (List ℕ)) → IsInFront number cowns lists
-    → slice_get (list_of lists cown) 0 ≡ Some number → IsInFront number (cowns ++ cown ∷ []) lists
-IsInFront-push number [] cown lists front e = (front-is (list_of lists cown) number e, tt)
+    → front_of lists cown ≡ Some number → IsInFront number (cowns ++ cown ∷ []) lists
+IsInFront-push number [] cown lists front e = (e, tt)
 IsInFront-push number (first ∷ cowns) cown lists front e = (front.0, IsInFront-push number cowns cown lists front.1 e)
 
 pub loop-cown-preserved : goal.loop-cown-preserved

@@ -35,8 +35,8 @@ returns-in_default-clause-accepted g c =
 pub returns-in_default-clause-outcome : goal.returns-in_default-clause-outcome
 returns-in_default-clause-outcome g c = (refl, refl)
 
-pub is_out_at-requires-clause-place : goal.is_out_at-requires-clause-place
-is_out_at-requires-clause-place g c = omega (arith, c.in-Some.ensures.0, c.len.ensures, c.self.inside.log.ok)
+pub is_out_at-requires-clause-position : goal.is_out_at-requires-clause-position
+is_out_at-requires-clause-position g c = omega (arith, c.in-Some.ensures.0, c.len.ensures, c.self.inside.log.ok)
 
 pub is_out_at-requires-clause-cowns : goal.is_out_at-requires-clause-cowns
 is_out_at-requires-clause-cowns g c k b here = declared_in_held g.B.Behaviour.touches g.B.Behaviour.effect c.self.invariant k b here

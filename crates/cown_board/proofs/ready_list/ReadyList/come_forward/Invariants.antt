@@ -1,7 +1,8 @@
 use Rattle.std.proofs.Common.{◌≡◌, ◌+◌, ◌<◌, ◌≤◌, ℕ, Bool, true, length, get_or, take}
 use Rattle.std.specs.Prelude.{All}
 use Rattle.std.specs.VecDeque.{deque_len, deque_capacity}
-use Rattle.cown_board.specs.inner.DuePositions.{AreDue, occurrences}
+use Rattle.cown_queue.specs.inner.Occurrences.{occurrences}
+use Rattle.cown_board.specs.inner.DuePositions.{AreDue}
 use Rattle.cown_board.proofs.ready_list.ReadyList.come_forward.Given as goal
 
 -- the places so far have stepped forward
