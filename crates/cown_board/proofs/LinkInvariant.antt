@@ -2,8 +2,8 @@
 use Rattle.std.proofs.Common.{◌≡◌, ◌≢◌, inl, inr, ℕ, zero, suc, ◌+◌, ◌-◌, ◌<◌, ◌≤◌, ℤ, true, false, ◌&&◌, Some, List, [], ◌∷◌, ◌++◌, length, length-append, get_or, replicate, take, refl, sym, ap, ◌∙◌, subst, arith}
 use Rattle.std.specs.Prelude.{◌==◌, if◌then◌else◌, count_by, slice_get, slice_set, remove}
 use Rattle.std.proofs.lemmas.Bool.{cases_eq, cases_lt, and_left, true≢false}
-use Rattle.std.proofs.lemmas.List.{get_or-replicate, length-replicate, length-take-le, append_assoc, replicate_more, take_all, take_more}
-use Rattle.std.proofs.lemmas.Option.{get_or_from_slice_get, slice_get-get_or, slice_get_within}
+use Rattle.std.proofs.lemmas.List.{get_or-replicate, length-replicate, length-take-le, append_assoc, replicate_more, take_all}
+use Rattle.std.proofs.lemmas.Option.{slice_get-get_or, slice_get_within}
 use Rattle.sb_calls.specs.Cowns.{AreBelow}
 use Rattle.sb_calls.specs.SerialRun.{is_among}
 use Rattle.sb_calls.specs.declared.reply.Reply.{Reply}
@@ -11,6 +11,7 @@ use Rattle.cown_queue.specs.Queues.{Appends, queued_in, list_of}
 use Rattle.cown_board.proofs.BehindCounts.{counts_submitted, counts_taken}
 use Rattle.cown_board.proofs.CownLists.{below_from}
 use Rattle.cown_board.proofs.CutInvariant.{slice_get-take}
+use Rattle.cown_board.proofs.LogLaws.{take_one_more}
 use Rattle.cown_board.proofs.ReadyInputs.{touched_within}
 use Rattle.cown_board.proofs.ReadyListLaws.{due_are_ready}
 use Rattle.cown_board.proofs.PositionLaws.{positions-agree, positions-none, none_below_from, slice_get-left, slice_get-right}
@@ -68,10 +69,6 @@ closed_up_to states first k le before = elim (cases_lt k first) [
   | inl lt ↦ ap (state_is is_unfinished) (as_before states first 0 k le lt) ∙ before k lt
   | inr ge ↦ state_past is_unfinished (as_waiting states first 0) k (let long = length-as_waiting states first 0 le in omega (arith, long, ge))
 ]
-
--- one more element of a list
-take_next : {A : Type 0} (xs : List A) (k : ℕ) (x : A) → slice_get xs k ≡ Some x → take (k + 1) xs ≡ take k xs ++ x ∷ []
-take_next xs k x h = take_more xs k x (slice_get_within xs k x h) ∙ ap (λ y. take k xs ++ y ∷ []) (get_or_from_slice_get xs k x x h)
 
 module _ {B : Type 0} (touches : B → List ℕ) (effect : B → List ℤ → Reply × List ℤ) where
   -- states that agree at each place have the same queues and counts
@@ -141,7 +138,7 @@ module _ {B : Type 0} (touches : B → List ℕ) (effect : B → List ℤ → Re
       as_long = let l = length-as_waiting states first (position - first) (omega (arith, within, same_length)) in omega (arith, l, long, from)
 
       next_log : take position log ++ b ∷ [] ≡ take (position + 1) log
-      next_log = sym (take_next log position b here)
+      next_log = let more : position + 1 ≡ suc position = omega arith in sym (ap (λ n. take n log) more ∙ take_one_more log position b here)
 
       next_states : so_far ++ Waiting ∷ [] ≡ as_waiting states first (position + 1 - first)
       next_states = as_waiting-more states first (position - first) (position + 1 - first) (omega (arith, from))

@@ -21,6 +21,12 @@ some_at [] j lt = absurd (omega (arith, lt))
 some_at (x ∷ xs) zero lt = (x, refl)
 some_at (x ∷ xs) (suc j) lt = some_at xs j (omega (arith, lt))
 
+-- one more element of a list
+pub take_one_more : {A : Type 0} (xs : List A) (k : ℕ) (x : A) → slice_get xs k ≡ Some x → take (suc k) xs ≡ take k xs ++ x ∷ []
+take_one_more [] k x h = absurd (no_some h)
+take_one_more (y ∷ xs) zero x h = ap (λ z. z ∷ []) (injective h)
+take_one_more (y ∷ xs) (suc k) x h = ap (λ t. y ∷ t) (take_one_more xs k x h)
+
 take_none : {A : Type 0} (xs : List A) (k : ℕ) → slice_get xs k ≡ None → take (suc k) xs ≡ take k xs
 take_none [] zero h = refl
 take_none [] (suc k) h = refl
