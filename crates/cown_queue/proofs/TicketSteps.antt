@@ -81,11 +81,16 @@ module _ (table : List Ticket) (ends : List Ends) (free : List ℕ) (capacity : 
   linked : AreChains table ends free lists
   linked = subst (AreChains table ends free) seen tickets.linked
 
-  there : cown < length lists → cown < length ends
+  pub there : cown < length lists → cown < length ends
   there within = omega (arith, within, linked.list_count)
 
   ends_are : cown < length ends → e ≡ ends_at ends cown
   ends_are within = ends_read ends cown e within (rw same at read)
+
+  -- the same first ticket is read again
+  pub first_again : (again : Ends) (at' : ℕ) → at' ≡ cown → cown < length lists → again ≡ get_or ends at' again → again.first ≡ e.first
+  first_again again at' is within found =
+      ap (λ (e : Ends). e.first) (ends_read ends cown again (there within) (rw is at found) ∙ sym (ends_are (there within)))
 
   pub first_below : 0 < length (list_of lists cown) → e.first < length table
   first_below held = first_within linked cown e (ends_are (cown_within linked cown held)) held

@@ -137,21 +137,11 @@ impl Tickets {
         let place = self.free.take_last();
         self.table[place as usize] = Ticket { number, next: NONE };
         if ends.last == NONE {
-            self.ends[cown.id()] = Ends {
-                first: place,
-                last: place,
-            };
+            self.ends[cown.id()].first = place;
         } else {
-            let before = self.table[ends.last as usize].number;
-            self.table[ends.last as usize] = Ticket {
-                number: before,
-                next: place,
-            };
-            self.ends[cown.id()] = Ends {
-                first: ends.first,
-                last: place,
-            };
+            self.table[ends.last as usize].next = place;
         }
+        self.ends[cown.id()].last = place;
     }
 
     /// Removes the first number of a cown. The place of its ticket becomes free.
