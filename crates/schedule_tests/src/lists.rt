@@ -3,7 +3,7 @@ use crate::event_lists::events_of;
 use crate::worlds::{event_of, stands_at, world_of};
 use sb_calls::Reply;
 use schedule_player::{AuditNote, Event, Events, Note, World, play, play_lines};
-use schedule_text::push_notes;
+use schedule_text::push_note;
 use std::alloc::Global;
 use std::process::Abort;
 
@@ -48,7 +48,9 @@ fn the_lines_of_all_notes_in_order(rt: HostRuntime) {
     let mut world = world_of(&rt, rt.alloc(), 1, 1);
     let events = events_of(&rt, rt.alloc(), &LINES);
     let mut wanted = Vec::from_slice(rt.alloc(), b"before\n").expect(&rt, "memory");
-    push_notes(&NOTES, &mut wanted).expect(&rt, "memory");
+    for note in NOTES {
+        push_note(note, &mut wanted).expect(&rt, "memory");
+    }
     let mut out = Vec::from_slice(rt.alloc(), b"before\n").expect(&rt, "memory");
     assert!(rt; play_lines(&mut world, &events, &mut out) == Ok(()));
     assert!(rt; out.as_slice() == wanted.as_slice());

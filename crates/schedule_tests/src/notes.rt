@@ -1,6 +1,6 @@
 //! Notes as text.
 use sb_calls::Reply;
-use schedule_text::{AuditNote, Column, Note, push_note, push_notes};
+use schedule_text::{AuditNote, Column, Note, push_note};
 use std::alloc::Global;
 use std::process::Abort;
 
@@ -134,9 +134,8 @@ fn notes_of_an_audit(rt: HostRuntime) {
 #[test]
 fn notes_stand_in_order_behind_what_was_written(rt: HostRuntime) {
     let mut out = Vec::from_slice(rt.alloc(), b"before\n").expect(&rt, "memory");
-    push_notes(&[], &mut out).expect(&rt, "memory");
-    assert!(rt; out.as_slice() == b"before\n".as_slice());
-    let notes = [Note::New(1), Note::Nothing, Note::Sent(2)];
-    push_notes(&notes, &mut out).expect(&rt, "memory");
+    for note in [Note::New(1), Note::Nothing, Note::Sent(2)] {
+        push_note(note, &mut out).expect(&rt, "memory");
+    }
     assert!(rt; out.as_slice() == b"before\nnew 1\nnothing\nsent 2\n".as_slice());
 }

@@ -17,6 +17,6 @@ pub use event_text::read_event;
 pub use events::{EventWalk, Events};
 pub use fault::{EventFault, ScheduleLineFault, TextFault};
 pub use note::{AuditNote, Column, Note};
-pub use note_text::{push_note, push_notes, push_numbered};
+pub use note_text::{push_note, push_numbered};
 pub use reading::read_schedule;
 pub use schedule::Schedule;

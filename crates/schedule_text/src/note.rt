@@ -46,7 +46,7 @@ pub enum Note {
     Stranger(u64),
     /// The checkpoint of this length is kept.
     Marked(u64),
-    /// Something is unfinished, so no checkpoint was put.
+    /// An entry that the mark covers is unfinished, so no checkpoint was put.
     Unfinished,
     /// The put failed.
     StoreFault,

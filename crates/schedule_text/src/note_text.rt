@@ -1,5 +1,5 @@
 //! Notes as text, one line each.
-ghost use Rattle.std.specs.Prelude.{◌≡◌, ◌∷◌, [], ◌++◌, map, codes, decimal, OnOk};
+ghost use Rattle.std.specs.Prelude.{◌≡◌, ◌∷◌, [], ◌++◌, codes, decimal, OnOk};
 ghost use Rattle.sb_amount.specs.Money.{money};
 ghost use Rattle.sb_calls.specs.ReplyText.{reply_text};
 ghost use Rattle.sb_rows.specs.Text.{unlines};
@@ -11,17 +11,9 @@ use sb_amount::print_total;
 use sb_calls::{Reply, print_reply};
 use std::alloc::AllocError;
 
-/// Writes a line for each note.
-pub fn push_notes(notes: &[Note], out: &mut Vec<u8>) -> Result<(), AllocError>
-    ensures { OnOk result (out.new.items ≡ out.old.items ++ unlines (map note_line notes.now)) }
-{
-    for note in notes {
-        push_note(*note, out)?;
-    }
-    Ok(())
-}
-
 /// Writes the line of a note.
+///
+/// Fails if memory is refused; `out` may then end in a part of the line.
 pub fn push_note(note: Note, out: &mut Vec<u8>) -> Result<(), AllocError>
     ensures { OnOk result (out.new.items ≡ out.old.items ++ unlines (note_line note ∷ [])) }
 {
@@ -105,6 +97,8 @@ fn push_finished(number: u64, reply: Reply, out: &mut Vec<u8>) -> Result<(), All
 }
 
 /// Writes some words and a number.
+///
+/// Fails if memory is refused; `out` may then end in the words alone.
 pub fn push_numbered(words: &[u8], number: u64, out: &mut Vec<u8>) -> Result<(), AllocError>
     ensures { OnOk result (out.new.items ≡ out.old.items ++ (words.now ++ decimal number)) }
 {

@@ -14,7 +14,7 @@ use std::alloc::Global;
 
 /// Reads a whole schedule: the line `nodes N workers W`, an opening, then one event on each line.
 ///
-/// Fails with the first line at fault and its first fault.
+/// Fails with the first line at fault and its first fault, or if memory is refused.
 pub fn read_schedule(alloc: Global, text: &[u8]) -> Result<Schedule, TextFault>
     ensures { ReadsSchedule result (schedule_of text.now) }
 {
