@@ -1,5 +1,5 @@
 -- A replica puts its checkpoint, and goes back to it.
-use Rattle.std.proofs.Common.{◌≡◌, ◌⊎◌, inl, inr, true, ℕ, ◌+ℤ◌, Option, Some, None, Result, Ok, Err, List, length, map, refl, sym, ap, subst, ◌∙◌, arith}
+use Rattle.std.proofs.Common.{◌≡◌, ◌⊎◌, inl, inr, true, ℕ, ◌+ℤ◌, Option, Some, None, Result, Ok, Err, List, length, map, replicate, refl, sym, ap, subst, ◌∙◌, arith}
 use Rattle.std.specs.Prelude.{◌≢◌, is_some, if◌then◌else◌}
 use Rattle.std.proofs.lemmas.Bool.{eq-eqb, ne_eqb}
 use Rattle.cown_board.proofs.PositionLaws.{append_nothing}
@@ -33,7 +33,6 @@ use Rattle.sb_replica_log.specs.Log.{none_held as empty_held}
 use Rattle.schedule_player.specs.inner.ReplicaOfLog.{IsBoardOfLog, AreHeldOfLog}
 use Rattle.schedule_player.specs.Bank.{BankOf, opening_total}
 use Rattle.schedule_player.specs.inner.NodeInvariant.{machine_node, IsStoredBytes, IsStoredOfLog, IsNodeAt, IsUnchanged, MovesTo}
-use Rattle.schedule_player.specs.OneBased.{copies}
 use Rattle.schedule_player.specs.ReplicaMoves.{NodeOf, cut_unless_pending, cut_move, put_move, mark_move, restart_at, restart_move}
 use Rattle.schedule_player.specs.inner.MachineView.{stages_of, slot_length, ops_of}
 use Rattle.schedule_player.specs.Stage.{IsDone}
@@ -289,8 +288,8 @@ begins_on bank r old new slot size noted moved is consistent on size_is beside h
     let board : new.board ≡ board_at_opening made.columns made.replies = on.board_is ∙ ap (λ c. board_at_opening c.columns c.replies) (sym same) in
     let stored : slot_length slot ≡ length made.replies = kept_of bank slot made consistent.stored in
     let length_is : size ≡ length made.replies = let e = size_is ∙ ap length_of board in omega (arith, e) in
-    let stages : copies (slot_length slot) IsDone ≡ stages_of new.board =
-    ap (λ n. copies n IsDone) stored ∙ sym (append_nothing (copies (length made.replies) IsDone)) ∙ ap stages_of (sym board) in
+    let stages : replicate (slot_length slot) IsDone ≡ stages_of new.board =
+    ap (λ n. replicate n IsDone) stored ∙ sym (append_nothing (replicate (length made.replies) IsDone)) ∙ ap stages_of (sym board) in
     record {
       consistent = node_stored bank r old new is beside
           (subst (IsBoardOfLog (contents_of bank.opening) (ops_of bank)) (sym board)

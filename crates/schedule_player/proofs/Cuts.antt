@@ -1,8 +1,8 @@
 -- A board with a cut, and what a mark of it covers.
-use Rattle.std.proofs.Common.{◌≡◌, ℕ, ◌+◌, ◌-◌, ◌≤◌, ℤ, Option, Some, None, List, ◌++◌, length, map, take, drop, refl, sym, ap, ◌∙◌, arith}
+use Rattle.std.proofs.Common.{◌≡◌, ℕ, ◌+◌, ◌-◌, ◌≤◌, ℤ, Option, Some, None, List, ◌++◌, length, map, take, drop, replicate, refl, sym, ap, ◌∙◌, arith}
 use Rattle.std.specs.Prelude.{slice_get, count_by, if◌then◌else◌, ◌==◌}
 use Rattle.std.proofs.Math.Seq.{take-append-add}
-use Rattle.std.proofs.lemmas.List.{take-append-drop, take-map, length-take-le}
+use Rattle.std.proofs.lemmas.List.{length-replicate, length-take-le, take-append-drop, take-map}
 use Rattle.std.proofs.lemmas.Option.{slice_get_within}
 use Rattle.cown_board.proofs.CutInvariant.{slice_get-take}
 use Rattle.cown_board.specs.Board.{BoardOf, length_of, unfinished_of}
@@ -14,7 +14,6 @@ use Rattle.sb_replica.specs.Marking.{up_to, up_to_cut}
 use Rattle.schedule_player.specs.inner.ReplicaOfLog.{IsBoardOfLog}
 use Rattle.schedule_player.specs.Bank.{BankOf}
 use Rattle.schedule_player.specs.inner.NodeInvariant.{machine_node, IsNodeAt}
-use Rattle.schedule_player.specs.OneBased.{copies}
 use Rattle.schedule_player.specs.ReplicaMoves.{NodeOf, put_move, mark_up_to, mark_move}
 use Rattle.schedule_player.specs.inner.MachineView.{stage_of, stages_of}
 use Rattle.schedule_player.specs.Stage.{IsDone, is_undone}
@@ -24,7 +23,7 @@ use Rattle.schedule_text.specs.declared.note.Note.TheVariants as note
 use Rattle.schedule_player.proofs.BoardOfLog.{append_assoc}
 use Rattle.cown_board.proofs.LogLaws.{no_some as none_some}
 use Rattle.cown_board.proofs.LogLaws.{injective as some_is}
-use Rattle.schedule_player.proofs.Stages.{length-copies, length_stages, undone_in_stages}
+use Rattle.schedule_player.proofs.Stages.{length_stages, undone_in_stages}
 
 -- an item in the first part of a list is at the same place in the list
 in_beginning : {A : Type 0} (xs : List A) (n k : ℕ) (x : A) → n ≤ length xs → slice_get (take n xs) k ≡ Some x → slice_get xs k ≡ Some x
@@ -106,8 +105,8 @@ stages_up_to : (board : BoardOf Op) (number : ℕ) → length board.base_replies
     → take number (stages_of board) ≡ stages_of (up_to board (Some number))
 stages_up_to board number low =
     let places = number - length board.base_replies in
-    let done = copies (length board.base_replies) IsDone in
-    let size = length-copies (length board.base_replies) IsDone in
+    let done = replicate (length board.base_replies) IsDone in
+    let size = length-replicate (length board.base_replies) IsDone in
     let split : number ≡ length done + places = omega (arith, low, size) in
     ap (λ n. take n (stages_of board)) split
     ∙ take-append-add done (map stage_of board.states) places

@@ -1,12 +1,12 @@
 -- Every hand is emptied.
-use Rattle.std.proofs.Common.{◌≡◌, inl, inr, ℕ, zero, suc, ◌<◌, ◌≤◌, Option, Some, None, List, [], ◌∷◌, length, refl, sym, ap, ◌∙◌, arith}
+use Rattle.std.proofs.Common.{◌≡◌, inl, inr, ℕ, zero, suc, ◌<◌, ◌≤◌, Option, Some, None, List, [], ◌∷◌, length, replicate, refl, sym, ap, ◌∙◌, arith}
 use Rattle.std.specs.Prelude.{slice_get, slice_set}
 use Rattle.std.proofs.lemmas.Bool.{cases_eq}
 use Rattle.std.proofs.lemmas.List.{length-set}
 use Rattle.cown_board.proofs.StateChanges.{slice_get-set_same, slice_get-set_other}
 use Rattle.sb_sequencer.specs.Sequencer.{SequencerOf}
 use Rattle.schedule_player.specs.Bank.{BankOf}
-use Rattle.schedule_player.specs.OneBased.{nth_item, with_nth, copies}
+use Rattle.schedule_player.specs.OneBased.{nth_item, with_nth}
 use Rattle.schedule_player.specs.ReplicaMoves.{NodeOf, undone_in, with_empty_hand, finish_by_stage, finish_by_hand, finish_move}
 use Rattle.schedule_player.specs.inner.OutInHands.{OutIsInHands}
 use Rattle.schedule_player.specs.Stage.{Stage, Waits, IsOut, IsDone}
@@ -124,7 +124,7 @@ emptied_so bank s node (suc k) is =
           ];
     }
 
-all_empty : (hands : List (Option ℕ)) → ((j : ℕ) → j < length hands → slice_get hands j ≡ Some None) → hands ≡ copies (length hands) None
+all_empty : (hands : List (Option ℕ)) → ((j : ℕ) → j < length hands → slice_get hands j ≡ Some None) → hands ≡ replicate (length hands) None
 all_empty [] empty = refl
 all_empty (hand ∷ hands) empty =
     λ i. some_hand (empty 0 (omega arith)) i ∷ all_empty hands (λ j lt. empty (suc j) (omega (arith, lt))) i
@@ -136,7 +136,7 @@ all_empty (hand ∷ hands) empty =
 pub record AllEmpty (node new : NodeOf) : Type 0 where
   pub work : WorksOn node new
   pub out_in_hands : OutIsInHands new
-  pub empty : new.hands ≡ copies (length new.hands) None
+  pub empty : new.hands ≡ replicate (length new.hands) None
 
 pub all_finished : (bank : BankOf) (s : SequencerOf) (node : NodeOf) → OutIsInHands node → AllEmpty node (finishes bank node (length node.hands))
 all_finished bank s node is =

@@ -1,11 +1,10 @@
 -- What is undone, and the first of it.
-use Rattle.std.proofs.Common.{◌≡◌, ◌⊎◌, inl, inr, Bool, true, false, not, ◌&&◌, ℕ, zero, suc, ◌<◌, Option, Some, None, List, [], ◌∷◌, length, refl, sym, ap, ◌∙◌, arith}
+use Rattle.std.proofs.Common.{◌≡◌, ◌⊎◌, inl, inr, Bool, true, false, not, ◌&&◌, ℕ, zero, suc, ◌<◌, Option, Some, None, List, [], ◌∷◌, length, replicate, refl, sym, ap, ◌∙◌, arith}
 use Rattle.std.specs.Prelude.{slice_get, slice_set, count_by, if◌then◌else◌}
 use Rattle.std.proofs.lemmas.Bool.{true≢false, cases_Bool, and_from, and_left, not_from_false}
 use Rattle.cown_board.proofs.PositionLaws.{none_below_at, none_below_from, place_first}
 use Rattle.cown_board.specs.Positions.{none_below}
 use Rattle.schedule_player.specs.Bank.{BankOf}
-use Rattle.schedule_player.specs.OneBased.{copies}
 use Rattle.schedule_player.specs.Readiness.{stage_is, conflict_between, may_run, runnable_entries}
 use Rattle.schedule_player.specs.Stage.{Stage, Waits, IsOut, IsDone, waits, is_undone}
 use Rattle.cown_board.proofs.LogLaws.{no_some as none_some}
@@ -28,7 +27,7 @@ undone-set (x ∷ xs) (suc k) stage here undone =
     omega (arith, all, left, rest)
 
 -- if none is undone all are done
-pub all_done : (stages : List Stage) → count_by is_undone stages ≡ 0 → stages ≡ copies (length stages) IsDone
+pub all_done : (stages : List Stage) → count_by is_undone stages ≡ 0 → stages ≡ replicate (length stages) IsDone
 all_done [] none = refl
 all_done (Waits ∷ stages) none = absurd (let all = count_more is_undone Waits stages in omega (arith, all, none))
 all_done (IsOut ∷ stages) none = absurd (let all = count_more is_undone IsOut stages in omega (arith, all, none))

@@ -10,7 +10,6 @@ use Rattle.sb_calls.specs.declared.op.Op.{Op}
 use Rattle.sb_replica_log.specs.Log.{none_held as empty_held}
 use Rattle.sb_replica_log.specs.declared.replica_log.TheConstants.{HELD_ENTRIES}
 use Rattle.schedule_player.specs.inner.ReplicaOfLog.{AreHeldOfLog}
-use Rattle.schedule_player.specs.OneBased.{copies}
 use Rattle.schedule_player.specs.ReplicaMoves.{empty_buffer}
 use Rattle.schedule_player.proofs.Lists.{pushed_cases}
 use Rattle.cown_board.proofs.LogLaws.{no_some as none_some}
@@ -70,7 +69,7 @@ module _ (log : List Op) where
 pub none_seen : (held : List (Option Op)) → held ≡ empty_held → map is_some held ≡ empty_buffer
 none_seen held is = ap (map is_some) (nothing_held held is) ∙ each HELD_ENTRIES
   where
-    each : (n : ℕ) → map is_some (replicate {A = Option Op} n None) ≡ copies n false
+    each : (n : ℕ) → map is_some (replicate {A = Option Op} n None) ≡ replicate n false
     each zero = refl
     each (suc n) = ap (λ t. false ∷ t) (each n)
 

@@ -1,8 +1,8 @@
 -- No replica of the machine is ahead of the log.
-use Rattle.std.proofs.Common.{◌≡◌, inl, inr, Bool, true, false, ℕ, zero, suc, ◌+◌, ◌-◌, ◌<◌, ◌≤◌, Option, Some, None, List, [], ◌∷◌, ◌++◌, length, drop, refl, sym, subst, ◌∙◌, arith}
+use Rattle.std.proofs.Common.{◌≡◌, inl, inr, Bool, true, false, ℕ, zero, suc, ◌+◌, ◌-◌, ◌<◌, ◌≤◌, Option, Some, None, List, [], ◌∷◌, ◌++◌, length, drop, replicate, refl, sym, subst, ◌∙◌, arith}
 use Rattle.std.specs.Prelude.{slice_get, slice_set, nat_le, nat_lt, ◌==◌}
 use Rattle.std.proofs.lemmas.Bool.{true≢false, cases_eq, leb-false, ltb-true}
-use Rattle.std.proofs.lemmas.List.{length-append, length-set}
+use Rattle.std.proofs.lemmas.List.{length-append, length-replicate, length-set}
 use Rattle.cown_board.proofs.StateChanges.{slice_get-set_other}
 use Rattle.sb_calls.specs.declared.ask.Key.{Key}
 use Rattle.sb_calls.specs.declared.call.Call.{Call}
@@ -15,7 +15,7 @@ use Rattle.sb_sequencer.specs.Entries.{entry_of, entries_to_resend}
 use Rattle.sb_sequencer.specs.Notes.{answer_slot}
 use Rattle.schedule_player.specs.Bank.{BankOf}
 use Rattle.schedule_player.specs.FramesOfLog.{IsEntryOf}
-use Rattle.schedule_player.specs.OneBased.{nth_item, with_nth, copies, Every}
+use Rattle.schedule_player.specs.OneBased.{nth_item, with_nth, Every}
 use Rattle.schedule_player.specs.EventLists.{IsWorldAfter}
 use Rattle.schedule_player.specs.Readiness.{runnable_entries}
 use Rattle.schedule_player.specs.ReplicaEvents.{node_move}
@@ -29,11 +29,11 @@ use Rattle.schedule_text.specs.declared.note.Note.{Note}
 use Rattle.schedule_text.specs.declared.note.Note.TheVariants as note
 use Rattle.schedule_player.proofs.HeldEntries.{after_first}
 use Rattle.schedule_player.proofs.EventInduction.{all_keep}
-use Rattle.schedule_player.proofs.Lists.{every_nil, every_append, every_copies, every_numbered, every_push, every_set, pushed_cases}
+use Rattle.schedule_player.proofs.Lists.{every_nil, every_append, every_replicate, every_numbered, every_push, every_set, pushed_cases}
 use Rattle.cown_board.proofs.LogLaws.{no_some as none_some}
 use Rattle.cown_board.proofs.LogLaws.{injective as some_is}
 use Rattle.schedule_player.proofs.SentEntries.{entry_is, resent_are}
-use Rattle.schedule_player.proofs.Stages.{length-copies, length-map}
+use Rattle.schedule_player.proofs.Stages.{length-map}
 use Rattle.schedule_player.proofs.FrameSteps.{number_within}
 use Rattle.schedule_player.proofs.MemoryRefusals.{next_by, entry_by, mark_by, state_by, give_by}
 
@@ -204,7 +204,7 @@ module _ (size : ℕ) where
   marks node end (Some n) here is = puts node n end (undone_up_to node n == 0) (is.cut_in n here) is
   marks node end None here is = puts node (length_in node) end (undone_in node == 0) is.count_in is
 
-  none_of : (n k : ℕ) → slice_get (copies n false) k ≡ Some true → ⊥
+  none_of : (n k : ℕ) → slice_get (replicate n false) k ≡ Some true → ⊥
   none_of zero k here = none_some here
   none_of (suc n) zero here = true≢false (sym (some_is here))
   none_of (suc n) (suc k) here = none_of n k here
@@ -212,7 +212,7 @@ module _ (size : ℕ) where
   -- it begins at a length within the log
   begins : (node : NodeOf) (n : ℕ) → n ≤ size → IsWithin size node → IsWithin size (restart_at node n)
   begins node n le is = record {
-    count_in = let same = length-copies n IsDone in omega (arith, same, le);
+    count_in = let same = length-replicate n IsDone in omega (arith, same, le);
     kept_in = is.kept_in;
     cut_in = λ n here. absurd (none_some here);
     held_in = λ k here. absurd (none_of 64 k here);
@@ -371,5 +371,5 @@ pub played_within : (schedule : ScheduleOf) (world : WorldOf) → IsWorldAfter s
     → length_in node ≤ length world.sequencer.log
 played_within schedule world played r node here =
     let all = all_keep AllWithin within_replica within_from within_given within_asked (opened_world schedule) schedule.events played.notes world played.plays
-    (every_copies (IsWithin 0) schedule.nodes (opened_node schedule.workers) (opens 0 schedule.workers)) in
+    (every_replicate (IsWithin 0) schedule.nodes (opened_node schedule.workers) (opens 0 schedule.workers)) in
     (all r node here).count_in

@@ -1,10 +1,10 @@
 -- Items of lists, by place.
-use Rattle.std.proofs.Common.{◌≡◌, ◌⊎◌, inl, inr, false, get_or, ℕ, zero, suc, ◌+◌, ◌<◌, ◌≤◌, Option, Some, None, List, [], ◌∷◌, ◌++◌, length, drop, refl, sym, ap, subst, ◌∙◌, arith}
+use Rattle.std.proofs.Common.{◌≡◌, ◌⊎◌, inl, inr, false, get_or, ℕ, zero, suc, ◌+◌, ◌<◌, ◌≤◌, Option, Some, None, List, [], ◌∷◌, ◌++◌, length, drop, replicate, refl, sym, ap, subst, ◌∙◌, arith}
 use Rattle.std.specs.List.{slice_get, slice_set, slice_index_or}
 use Rattle.std.specs.Option.{is_some}
 use Rattle.std.proofs.lemmas.Bool.{true≢false}
 use Rattle.std.proofs.lemmas.Option.{slice_get_cases}
-use Rattle.schedule_player.specs.OneBased.{nth_item, copies, Every}
+use Rattle.schedule_player.specs.OneBased.{nth_item, Every}
 use Rattle.cown_board.proofs.LogLaws.{injective as some_is}
 use Rattle.cown_board.proofs.LogLaws.{no_some as none_some}
 
@@ -53,14 +53,6 @@ pub no_hand : {A : Type 0} (x : Option A) → ((y : A) → x ≡ Some y → ⊥)
 no_hand None not_some = refl
 no_hand (Some y) not_some = absurd (not_some y refl)
 
--- one more of the same item
-pub copies_push : {A : Type 0} (n : ℕ) (x : A) → copies (n + 1) x ≡ copies n x ++ x ∷ []
-copies_push {A} n x = let e : n + 1 ≡ suc n = omega arith in ap (λ m. copies m x) e ∙ at_end n
-  where
-    at_end : (n : ℕ) → copies (suc n) x ≡ copies n x ++ x ∷ []
-    at_end zero = refl
-    at_end (suc n) = ap (λ t. x ∷ t) (at_end n)
-
 -- the item at a place, put there again
 pub set_here : {A : Type 0} (xs : List A) (k : ℕ) (x : A) → slice_get xs k ≡ Some x → slice_set xs k x ≡ xs
 set_here [] k x here = refl
@@ -76,9 +68,9 @@ drop_one {A = A} xs k x here = let e : k + 1 ≡ suc k = omega arith in by xs k 
     by (y ∷ ys) zero first = ap (λ z. z ∷ ys) (some_is first)
     by (y ∷ ys) (suc n) later = by ys n later
 
-pub every_copies : {A : Type 0} (P : A → Type 0) (n : ℕ) (x : A) → P x → Every P (copies n x)
-every_copies P zero x is = every_nil P
-every_copies P (suc n) x is = every_cons P x (copies n x) is (every_copies P n x is)
+pub every_replicate : {A : Type 0} (P : A → Type 0) (n : ℕ) (x : A) → P x → Every P (replicate n x)
+every_replicate P zero x is = every_nil P
+every_replicate P (suc n) x is = every_cons P x (replicate n x) is (every_replicate P n x is)
 
 pub every_numbered : {A : Type 0} (P : A → Type 0) (xs : List A) (n : ℕ) (x : A) → Every P xs → nth_item xs n ≡ Some x → P x
 every_numbered P xs zero x all here = absurd (none_some here)

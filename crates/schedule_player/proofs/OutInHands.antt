@@ -1,8 +1,8 @@
 -- What is out stays in a hand.
-use Rattle.std.proofs.Common.{◌≡◌, ◌≢◌, ◌≤◌, ◌+◌, inl, inr, Bool, true, false, ℕ, zero, suc, Option, Some, None, List, [], ◌∷◌, ◌++◌, length, refl, sym, ap, ◌∙◌, arith}
+use Rattle.std.proofs.Common.{◌≡◌, ◌≢◌, ◌≤◌, ◌+◌, inl, inr, Bool, true, false, ℕ, zero, suc, Option, Some, None, List, [], ◌∷◌, ◌++◌, length, replicate, refl, sym, ap, ◌∙◌, arith}
 use Rattle.std.specs.Prelude.{slice_get, nat_le, nat_lt, ◌==◌}
 use Rattle.std.proofs.lemmas.Bool.{cases_eq}
-use Rattle.std.proofs.lemmas.List.{length-set}
+use Rattle.std.proofs.lemmas.List.{length-replicate, length-set}
 use Rattle.std.proofs.lemmas.Option.{slice_get_within}
 use Rattle.cown_board.proofs.StateChanges.{slice_get-set_same, slice_get-set_other}
 use Rattle.sb_calls.specs.declared.reply.Reply.{Reply}
@@ -13,7 +13,7 @@ use Rattle.sb_frames.specs.declared.frame.Frame.TheVariants as frame
 use Rattle.sb_sequencer.specs.Entries.{entry_of}
 use Rattle.sb_sequencer.specs.Sequencer.{SequencerOf}
 use Rattle.schedule_player.specs.Bank.{BankOf}
-use Rattle.schedule_player.specs.OneBased.{nth_item, with_nth, copies}
+use Rattle.schedule_player.specs.OneBased.{nth_item, with_nth}
 use Rattle.schedule_player.specs.Readiness.{runnable_entries}
 use Rattle.schedule_player.specs.ReplicaEvents.{node_move}
 use Rattle.schedule_player.specs.ReplicaMoves.{NodeOf, opened_node, length_in, undone_in, send_reply, reply_in_node, send_move, with_accepted, frame_move, held_move, take_entry, take_by_hand, with_empty_hand, finish_by_stage, finish_by_hand, cut_unless_pending, undone_up_to, mark_up_to, restart_at, state_move}
@@ -21,10 +21,9 @@ use Rattle.schedule_player.specs.inner.OutInHands.{AreInHands, OutIsInHands}
 use Rattle.schedule_player.specs.Stage.{Stage, Waits, IsOut, IsDone}
 use Rattle.schedule_text.specs.declared.event.Event.{Event}
 use Rattle.schedule_text.specs.declared.event.Event.TheVariants as event
-use Rattle.schedule_player.proofs.Lists.{every_copies, pushed_cases}
+use Rattle.schedule_player.proofs.Lists.{every_replicate, pushed_cases}
 use Rattle.cown_board.proofs.LogLaws.{no_some as none_some}
 use Rattle.cown_board.proofs.LogLaws.{injective as some_is}
-use Rattle.schedule_player.proofs.Stages.{length-copies}
 use Rattle.schedule_player.proofs.MemoryRefusals.{next_by, entry_by, mark_by, state_by}
 
 -- ---- items that are counted from 1
@@ -169,9 +168,9 @@ marks node end None is = puts node (length_in node) end (undone_in node == 0) is
 begins : (node : NodeOf) (size : ℕ) → OutIsInHands node → OutIsInHands (restart_at node size)
 begins node size is = record { some = is.some; few = is.few; out = found }
   where
-    found : (n : ℕ) → nth_item (copies size IsDone) n ≡ Some IsOut → (worker : ℕ) × (nth_item node.hands worker ≡ Some (Some n))
+    found : (n : ℕ) → nth_item (replicate size IsDone) n ≡ Some IsOut → (worker : ℕ) × (nth_item node.hands worker ≡ Some (Some n))
     found zero here = absurd (none_some here)
-    found (suc k) here = absurd (every_copies (λ stage. stage ≡ IsOut → ⊥) size IsDone done_or_out k IsOut here refl)
+    found (suc k) here = absurd (every_replicate (λ stage. stage ≡ IsOut → ⊥) size IsDone done_or_out k IsOut here refl)
 
 adopts_by : (node : NodeOf) (size : ℕ) (behind : Bool) → OutIsInHands node → OutIsInHands (state_by node size behind).0
 adopts_by node size true is = is
@@ -210,11 +209,11 @@ stays_staffed bank s node other is = is
 -- at the opening nothing is out
 pub opens_staffed : (workers : ℕ) → 1 ≤ workers → workers ≤ 16 → OutIsInHands (opened_node workers)
 opens_staffed workers some few = record {
-  some = let l = length-copies {A = Option ℕ} workers None in omega (arith, l, some);
-  few = let l = length-copies {A = Option ℕ} workers None in omega (arith, l, few);
+  some = let l = length-replicate {A = Option ℕ} workers None in omega (arith, l, some);
+  few = let l = length-replicate {A = Option ℕ} workers None in omega (arith, l, few);
   out = nothing;
 }
   where
-    nothing : (n : ℕ) → nth_item [] n ≡ Some IsOut → (worker : ℕ) × (nth_item (copies workers None) worker ≡ Some (Some n))
+    nothing : (n : ℕ) → nth_item [] n ≡ Some IsOut → (worker : ℕ) × (nth_item (replicate workers None) worker ≡ Some (Some n))
     nothing zero here = absurd (none_some here)
     nothing (suc k) here = absurd (none_some here)

@@ -1,11 +1,10 @@
 -- A world in which a replica is settled.
-use Rattle.std.proofs.Common.{◌≡◌, ◌⊎◌, inl, inr, get_or, true, false, ℕ, zero, suc, ◌+◌, ◌*◌, ◌<◌, ◌≤◌, Option, Some, None, List, [], ◌∷◌, ◌++◌, length, length-append, refl, sym, ap, subst, ◌∙◌, arith}
+use Rattle.std.proofs.Common.{◌≡◌, ◌⊎◌, inl, inr, get_or, true, false, ℕ, zero, suc, ◌+◌, ◌*◌, ◌<◌, ◌≤◌, Option, Some, None, List, [], ◌∷◌, ◌++◌, length, length-append, replicate, refl, sym, ap, subst, ◌∙◌, arith}
 use Rattle.std.specs.Prelude.{slice_get, slice_set, count_by}
 use Rattle.std.proofs.lemmas.Bool.{cases_eq, eq-eqb, ne_eqb, eqb-true}
 use Rattle.std.proofs.lemmas.List.{length-set}
 use Rattle.std.proofs.lemmas.Option.{slice_get_within, slice_get_cases}
 use Rattle.cown_board.proofs.StateChanges.{slice_get-set_same}
-use Rattle.schedule_player.specs.OneBased.{copies}
 use Rattle.schedule_player.specs.Observers.{idle_if, idle_at}
 use Rattle.schedule_player.specs.EventLists.{PlaysEvents}
 use Rattle.schedule_player.specs.ReplicaMoves.{NodeOf, undone_in, take_move, finish_move}
@@ -197,12 +196,12 @@ module _ (world : WorldOf) (r : ℕ) (node : NodeOf) (here : slice_get world.nod
   settles_to able =
       let bank = bank_of world in
       let all = (all_finished bank world.sequencer node able.out_in_hands).work in
-      let stages : copies (length empty_one.stages) IsDone ≡ copies (length node.stages) IsDone = ap (λ n. copies n IsDone) all.stages in
-      let hands : empty_one.hands ≡ copies (length node.hands) None =
-      (rests able).empty ∙ ap (λ n. copies n None) all.hands in
+      let stages : replicate (length empty_one.stages) IsDone ≡ replicate (length node.stages) IsDone = ap (λ n. replicate n IsDone) all.stages in
+      let hands : empty_one.hands ≡ replicate (length node.hands) None =
+      (rests able).empty ∙ ap (λ n. replicate n None) all.hands in
       let same : works bank empty_one (undone_in empty_one) ≡ settled_node node =
       all_worked bank world.sequencer empty_one (rests able)
-      ∙ ap (λ (n : NodeOf). record n { stages = copies (length empty_one.stages) IsDone }) all.same
+      ∙ ap (λ (n : NodeOf). record n { stages = replicate (length empty_one.stages) IsDone }) all.same
       ∙ (λ j. record node { stages = stages j; hands = hands j }) in
       ap (λ w. after_events w (work_events r (remaining_undone world r))) emptied_so
       ∙ ap (λ n. after_events (put world r empty_one) (work_events r n)) left
@@ -293,7 +292,7 @@ settled_idle world r lt =
     ∙ ap idle_if (slice_get-set_same world.nodes r (settled_node node.0) lt)
     ∙ eq-eqb (undone_in (settled_node node.0)) 0 (none_of (length node.0.stages))
   where
-    none_of : (n : ℕ) → count_by is_undone (copies n IsDone) ≡ 0
+    none_of : (n : ℕ) → count_by is_undone (replicate n IsDone) ≡ 0
     none_of zero = refl
     none_of (suc n) = none_of n
 

@@ -1,7 +1,7 @@
 -- The stages of a board's entries.
-use Rattle.std.proofs.Common.{◌≡◌, ℕ, zero, suc, ◌+◌, ◌<◌, Bool, Option, Some, None, List, [], ◌∷◌, ◌++◌, length, map, refl, sym, ap, subst, ◌∙◌, arith}
+use Rattle.std.proofs.Common.{◌≡◌, ℕ, zero, suc, ◌+◌, ◌<◌, Bool, Option, Some, None, List, [], ◌∷◌, ◌++◌, length, map, replicate, refl, sym, ap, subst, ◌∙◌, arith}
 use Rattle.std.specs.Prelude.{slice_get, slice_set, count_by, option_map, if◌then◌else◌}
-use Rattle.std.proofs.lemmas.List.{length-append, map-append}
+use Rattle.std.proofs.lemmas.List.{length-append, length-replicate, map-append}
 use Rattle.std.proofs.lemmas.List.Sums.{sum_by-cons}
 use Rattle.std.proofs.lemmas.Option.{slice_get-map}
 use Rattle.cown_board.proofs.PositionLaws.{slice_get-left, slice_get-right}
@@ -11,14 +11,9 @@ use Rattle.cown_board.specs.declared.state.State.{State}
 use Rattle.cown_board.specs.declared.state.State.TheVariants.{Waiting, Out, Finished}
 use Rattle.sb_calls.specs.declared.op.Op.{Op}
 use Rattle.sb_replica_log.specs.Offers.{board_with_entry}
-use Rattle.schedule_player.specs.OneBased.{copies}
 use Rattle.schedule_player.specs.Readiness.{stage_is}
 use Rattle.schedule_player.specs.inner.MachineView.{stage_of, stages_of}
 use Rattle.schedule_player.specs.Stage.{Stage, Waits, IsOut, IsDone, waits, is_undone}
-
-pub length-copies : {A : Type 0} (n : ℕ) (x : A) → length (copies n x) ≡ n
-length-copies zero x = refl
-length-copies (suc n) x = ap suc (length-copies n x)
 
 pub length-map : {A B : Type 0} (f : A → B) (xs : List A) → length (map f xs) ≡ length xs
 length-map f [] = refl
@@ -29,15 +24,15 @@ set-map f [] k x = refl
 set-map f (y ∷ xs) zero x = refl
 set-map f (y ∷ xs) (suc k) x = ap (λ t. f y ∷ t) (set-map f xs k x)
 
-set-copies : {A : Type 0} (n : ℕ) (x : A) (xs : List A) (k : ℕ) (y : A) → copies n x ++ slice_set xs k y ≡ slice_set (copies n x ++ xs) (n + k) y
-set-copies zero x xs k y = let e : k ≡ 0 + k = omega arith in ap (λ j. slice_set xs j y) e
-set-copies (suc n) x xs k y = ap (λ t. x ∷ t) (set-copies n x xs k y) ∙ (let e : suc (n + k) ≡ suc n + k = omega arith in ap (λ j. slice_set (copies
+set-replicate : {A : Type 0} (n : ℕ) (x : A) (xs : List A) (k : ℕ) (y : A) → replicate n x ++ slice_set xs k y ≡ slice_set (replicate n x ++ xs) (n + k) y
+set-replicate zero x xs k y = let e : k ≡ 0 + k = omega arith in ap (λ j. slice_set xs j y) e
+set-replicate (suc n) x xs k y = ap (λ t. x ∷ t) (set-replicate n x xs k y) ∙ (let e : suc (n + k) ≡ suc n + k = omega arith in ap (λ j. slice_set (replicate
     (suc n) x ++ xs) j y) e)
 
-pub get-copies : {A : Type 0} (n : ℕ) (x : A) (k : ℕ) → k < n → slice_get (copies n x) k ≡ Some x
-get-copies zero x k lt = absurd (omega (arith, lt))
-get-copies (suc n) x zero lt = refl
-get-copies (suc n) x (suc k) lt = get-copies n x k (omega (arith, lt))
+pub get-replicate : {A : Type 0} (n : ℕ) (x : A) (k : ℕ) → k < n → slice_get (replicate n x) k ≡ Some x
+get-replicate zero x k lt = absurd (omega (arith, lt))
+get-replicate (suc n) x zero lt = refl
+get-replicate (suc n) x (suc k) lt = get-replicate n x k (omega (arith, lt))
 
 append-nil : {A : Type 0} (xs ys zs : List A) → (xs ++ ys) ++ zs ≡ xs ++ (ys ++ zs)
 append-nil [] ys zs = refl
@@ -64,7 +59,7 @@ undone_states (Out ∷ states) = count_more is_undone IsOut (map stage_of states
     ∙ sym (count_more is_unfinished Out states)
 undone_states (Finished reply ∷ states) = undone_states states
 
-undone_after : (n : ℕ) (stages : List Stage) → count_by is_undone (copies n IsDone ++ stages) ≡ count_by is_undone stages
+undone_after : (n : ℕ) (stages : List Stage) → count_by is_undone (replicate n IsDone ++ stages) ≡ count_by is_undone stages
 undone_after zero stages = refl
 undone_after (suc n) stages = undone_after n stages
 
@@ -74,34 +69,34 @@ undone_in_stages board = undone_after (length board.base_replies) (map stage_of 
 
 pub length_stages : (board : BoardOf Op) → length board.log ≡ length board.states → length (stages_of board) ≡ length_of board
 length_stages board states =
-    length-append (copies (length board.base_replies) IsDone) (map stage_of board.states)
-    ∙ ap (λ n. n + length (map stage_of board.states)) (length-copies (length board.base_replies) IsDone)
+    length-append (replicate (length board.base_replies) IsDone) (map stage_of board.states)
+    ∙ ap (λ n. n + length (map stage_of board.states)) (length-replicate (length board.base_replies) IsDone)
     ∙ ap (λ n. length board.base_replies + n) (length-map stage_of board.states ∙ sym states)
 
 pub stages_accepted : (board : BoardOf Op) (op : Op) → stages_of (board_with_entry board op) ≡ stages_of board ++ Waits ∷ []
 stages_accepted board op =
-    ap (λ s. copies (length board.base_replies) IsDone ++ s) (map-append stage_of board.states (Waiting ∷ []))
-    ∙ sym (append-nil (copies (length board.base_replies) IsDone) (map stage_of board.states) (Waits ∷ []))
+    ap (λ s. replicate (length board.base_replies) IsDone ++ s) (map-append stage_of board.states (Waiting ∷ []))
+    ∙ sym (append-nil (replicate (length board.base_replies) IsDone) (map stage_of board.states) (Waits ∷ []))
 
 pub stages_set : (board : BoardOf Op) (place : ℕ) (state : State)
     → stages_of (record board { states = slice_set board.states place state })
     ≡ slice_set (stages_of board) (length board.base_replies + place) (stage_of state)
 stages_set board place state =
-    ap (λ s. copies (length board.base_replies) IsDone ++ s) (set-map stage_of board.states place state)
-    ∙ set-copies (length board.base_replies) IsDone (map stage_of board.states) place (stage_of state)
+    ap (λ s. replicate (length board.base_replies) IsDone ++ s) (set-map stage_of board.states place state)
+    ∙ set-replicate (length board.base_replies) IsDone (map stage_of board.states) place (stage_of state)
 
 -- entries before the board's opening are done
 pub stage_before : (board : BoardOf Op) (k : ℕ) → k < length board.base_replies → slice_get (stages_of board) k ≡ Some IsDone
 stage_before board k lt =
-    slice_get-left (copies (length board.base_replies) IsDone) (map stage_of board.states) k (subst (λ n. k < n) (sym (length-copies
+    slice_get-left (replicate (length board.base_replies) IsDone) (map stage_of board.states) k (subst (λ n. k < n) (sym (length-replicate
     (length board.base_replies) IsDone)) lt)
-    ∙ get-copies (length board.base_replies) IsDone k lt
+    ∙ get-replicate (length board.base_replies) IsDone k lt
 
 -- the others are in the board's states
 pub stage_at : (board : BoardOf Op) (k : ℕ) → slice_get (stages_of board) (length board.base_replies + k) ≡ option_map stage_of (slice_get board.states k)
 stage_at board k =
-    slice_get-right (copies (length board.base_replies) IsDone) (map stage_of board.states) (length board.base_replies + k) k
-    (ap (λ n. n + k) (sym (length-copies (length board.base_replies) IsDone)))
+    slice_get-right (replicate (length board.base_replies) IsDone) (map stage_of board.states) (length board.base_replies + k) k
+    (ap (λ n. n + k) (sym (length-replicate (length board.base_replies) IsDone)))
     ∙ slice_get-map stage_of board.states k
 
 stage_state : (test : Stage → Bool) (check : State → Bool) (same : (state : State) → test (stage_of state) ≡ check state)

@@ -1,22 +1,22 @@
 -- One worker does what is left undone.
-use Rattle.std.proofs.Common.{◌≡◌, ℕ, zero, suc, ◌+◌, ◌<◌, ◌≤◌, Some, None, List, [], ◌∷◌, length, refl, sym, ap, subst, ◌∙◌, arith}
+use Rattle.std.proofs.Common.{◌≡◌, ℕ, zero, suc, ◌+◌, ◌<◌, ◌≤◌, Some, None, List, [], ◌∷◌, length, replicate, refl, sym, ap, subst, ◌∙◌, arith}
 use Rattle.std.specs.Prelude.{slice_get, slice_set}
 use Rattle.std.proofs.lemmas.List.{length-set}
 use Rattle.std.proofs.lemmas.Option.{slice_get_within}
 use Rattle.cown_board.proofs.StateChanges.{slice_get-set_same}
 use Rattle.sb_sequencer.specs.Sequencer.{SequencerOf}
 use Rattle.schedule_player.specs.Bank.{BankOf}
-use Rattle.schedule_player.specs.OneBased.{nth_item, copies}
+use Rattle.schedule_player.specs.OneBased.{nth_item}
 use Rattle.schedule_player.specs.Readiness.{runnable_entries}
 use Rattle.schedule_player.specs.ReplicaMoves.{NodeOf, undone_in, take_entry, take_by_hand, take_move, with_empty_hand, finish_by_stage, finish_by_hand, finish_move}
 use Rattle.schedule_player.specs.inner.SettlingSteps.{IsAtRest}
 use Rattle.schedule_player.specs.inner.OutInHands.{OutIsInHands}
 use Rattle.schedule_player.specs.Stage.{Waits, IsOut, IsDone}
 use Rattle.schedule_text.specs.declared.event.Event.TheVariants as event
-use Rattle.schedule_player.proofs.Lists.{every_copies, every_numbered, set_here}
+use Rattle.schedule_player.proofs.Lists.{every_replicate, every_numbered, set_here}
 use Rattle.cown_board.proofs.LogLaws.{no_some as none_some}
 use Rattle.schedule_player.proofs.OutInHands.{stays_staffed}
-use Rattle.schedule_player.proofs.Stages.{get-copies}
+use Rattle.schedule_player.proofs.Stages.{get-replicate}
 use Rattle.schedule_player.proofs.FirstUndone.{undone-set, all_done, first_runs}
 
 pub set_twice : {A : Type 0} (xs : List A) (k : ℕ) (x y : A) → slice_set (slice_set xs k x) k y ≡ slice_set xs k y
@@ -28,15 +28,15 @@ set_twice (z ∷ xs) (suc k) x y = ap (λ t. z ∷ t) (set_twice xs k x y)
 none_out : (node : NodeOf) → IsAtRest node → (k : ℕ) → slice_get node.stages k ≡ Some IsOut → ⊥
 none_out node rest k here =
     let found = rest.able.out_in_hands.out (suc k) here in
-    every_numbered (λ hand. (n : ℕ) → hand ≡ Some n → ⊥) (copies (length node.hands) None) found.0 (Some (suc k))
-    (every_copies (λ hand. (n : ℕ) → hand ≡ Some n → ⊥) (length node.hands) None (λ n e. none_some e))
+    every_numbered (λ hand. (n : ℕ) → hand ≡ Some n → ⊥) (replicate (length node.hands) None) found.0 (Some (suc k))
+    (every_replicate (λ hand. (n : ℕ) → hand ≡ Some n → ⊥) (length node.hands) None (λ n e. none_some e))
     (ap (λ hands. nth_item hands found.0) (sym rest.empty) ∙ found.1) (suc k) refl
 
 -- the first worker's hand is empty
 first_empty : (node : NodeOf) → IsAtRest node → slice_get node.hands 0 ≡ Some None
 first_empty node rest =
     ap (λ hands. slice_get hands 0) rest.empty
-    ∙ get-copies (length node.hands) None 0 (let some = rest.able.out_in_hands.some in omega (arith, some))
+    ∙ get-replicate (length node.hands) None 0 (let some = rest.able.out_in_hands.some in omega (arith, some))
 
 -- ---- one entry
 
@@ -114,11 +114,11 @@ does_so_many bank s node (suc n) rest le =
 
 -- once no entry is undone
 pub all_worked : (bank : BankOf) (s : SequencerOf) (node : NodeOf) → IsAtRest node
-    → works bank node (undone_in node) ≡ record node { stages = copies (length node.stages) IsDone }
+    → works bank node (undone_in node) ≡ record node { stages = replicate (length node.stages) IsDone }
 all_worked bank s node rest =
     let new = works bank node (undone_in node) in
     let all = does_so_many bank s node (undone_in node) rest (omega arith) in
     let left = all.undone in
-    let stages : new.stages ≡ copies (length node.stages) IsDone =
-    all_done new.stages (omega (arith, left)) ∙ ap (λ n. copies n IsDone) all.stages in
+    let stages : new.stages ≡ replicate (length node.stages) IsDone =
+    all_done new.stages (omega (arith, left)) ∙ ap (λ n. replicate n IsDone) all.stages in
     all.same ∙ ap (λ s. record node { stages = s }) stages

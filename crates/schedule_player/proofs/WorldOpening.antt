@@ -15,7 +15,7 @@ use Rattle.sb_sequencer.specs.declared.sequencer.TheConstants.{REPLICAS}
 use Rattle.schedule_player.specs.Bank.{BankOf}
 use Rattle.schedule_player.specs.FramesOfLog.{IsEntryOf, IsSentBy}
 use Rattle.schedule_player.specs.inner.NodeInvariant.{IsNodeAt, machine_node}
-use Rattle.schedule_player.specs.OneBased.{copies, Every}
+use Rattle.schedule_player.specs.OneBased.{Every}
 use Rattle.schedule_player.specs.ReplicaMoves.{NodeOf, length_in, opened_node}
 use Rattle.schedule_player.specs.inner.MachineView.{ops_of}
 use Rattle.schedule_player.specs.inner.OutInHands.{OutIsInHands}
@@ -23,7 +23,7 @@ use Rattle.schedule_player.specs.LogAgreement.{WorldAgreesWithLog}
 use Rattle.schedule_player.specs.World.{bank_with}
 use Rattle.schedule_player.specs.inner.WorldInvariant.{IsWorld}
 use Rattle.schedule_player.specs.declared.node.Node.{Node}
-use Rattle.schedule_player.proofs.Lists.{every_copies}
+use Rattle.schedule_player.proofs.Lists.{every_replicate}
 use Rattle.cown_board.proofs.LogLaws.{no_some as none_some}
 use Rattle.cown_board.proofs.LogLaws.{injective as some_is}
 use Rattle.schedule_player.proofs.WorldStep.{world_of}
@@ -32,20 +32,16 @@ use Rattle.schedule_player.proofs.OutInHands.{opens_staffed}
 use Rattle.schedule_player.proofs.Stages.{length-map, length_stages}
 use Rattle.schedule_player.proofs.StatesOfLog.{states_within}
 
-length-copies : {A : Type 0} (n : ℕ) (x : A) → length (copies n x) ≡ n
-length-copies zero x = refl
-length-copies (suc n) x = let e = length-copies n x in omega (arith, e)
-
 all_zeros : (n most : ℕ) → All (λ size. size ≤ most) (replicate n 0)
 all_zeros n most = All-replicate (λ size. size ≤ most) n 0 (omega arith)
 
 pub opened_so : (names : List (List ℕ)) (opening : Balances) (nodes workers : ℕ) (all : List Node) (s : SequencerOf) → SameCustomers names opening
-    → nodes ≤ REPLICAS → 1 ≤ workers → workers ≤ 16 → s ≡ empty_sequencer nodes → map machine_node all ≡ copies nodes (opened_node workers)
+    → nodes ≤ REPLICAS → 1 ≤ workers → workers ≤ 16 → s ≡ empty_sequencer nodes → map machine_node all ≡ replicate nodes (opened_node workers)
     → ((bank : BankOf) → bank.names ≡ names → bank.opening ≡ opening → SameCustomers bank.names bank.opening → length bank.calls ≤ LOG_CALLS
     → (r : ℕ) (node : Node) → slice_get all r ≡ Some node → IsNodeAt bank r node)
     → IsWorld names opening s all
 opened_so names opening nodes workers all s same few has_worker worker_limit is seen consistent =
-    let size : length all ≡ nodes = sym (length-map machine_node all) ∙ ap length seen ∙ length-copies nodes (opened_node workers) in
+    let size : length all ≡ nodes = sym (length-map machine_node all) ∙ ap length seen ∙ length-replicate nodes (opened_node workers) in
     let zeros : length (replicate {A = ℕ} nodes 0) ≡ nodes = length-replicate {A = ℕ} nodes 0 in
     subst (λ x. IsWorld names opening x all) (sym is)
     (record {
@@ -61,7 +57,7 @@ opened_so names opening nodes workers all s same few has_worker worker_limit is 
       few = omega (arith, few, size);
       each = λ r node here. consistent (bank_with names opening []) refl refl same (omega arith) r node here;
       out_in_hands = λ r node here.
-          every_copies OutIsInHands nodes (opened_node workers) (opens_staffed workers has_worker worker_limit) r (machine_node node)
+          every_replicate OutIsInHands nodes (opened_node workers) (opens_staffed workers has_worker worker_limit) r (machine_node node)
           (ap (λ ns. slice_get ns r) (sym seen) ∙ slice_get-map machine_node all r ∙ ap (option_map machine_node) here);
       answers = λ k reply here. absurd (none_some here);
     })

@@ -26,7 +26,7 @@ pub record ReplicasAgree (schedule : ScheduleOf) (world : WorldOf) : Type 0 wher
   -- it has at most as many entries as the log
   pub within : (r size : ℕ) → length_at world r ≡ Some size → size ≤ length (log_of_events schedule.events)
 
--- it holds after every schedule: an opening, a number of replicas, a number of workers for each,
--- and events in order
+-- after every schedule, that is an opening, numbers of replicas and of workers, and events, the
+-- replicas agree
 abbrev pub Replication : Type 0
 Replication = (schedule : ScheduleOf) (world : WorldOf) → IsWorldAfter schedule world → ReplicasAgree schedule world

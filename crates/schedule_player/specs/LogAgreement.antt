@@ -41,6 +41,6 @@ abbrev pub RecordsWereSent : WorldOf → Type 0
 RecordsWereSent world = WereSent frame.Ack world.nodes world.sequencer.recorded
     × WereSent frame.Have world.nodes world.sequencer.checkpoints
 
--- it holds after every schedule
+-- after every schedule each recorded length is 0 or was sent by its replica
 abbrev pub RecordedLengths : Type 0
 RecordedLengths = (schedule : ScheduleOf) (world : WorldOf) → IsWorldAfter schedule world → RecordsWereSent world

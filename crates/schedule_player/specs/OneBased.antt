@@ -1,5 +1,5 @@
 -- Lists whose items are counted from 1.
-use Rattle.std.specs.Prelude.{◌≡◌, ℕ, zero, suc, Option, Some, None, List, [], ◌∷◌, slice_get, slice_set}
+use Rattle.std.specs.Prelude.{◌≡◌, ℕ, zero, suc, Option, Some, None, List, slice_get, slice_set}
 
 -- the item with this number, counted from 1
 abbrev pub nth_item : {A : Type 0} → List A → ℕ → Option A
@@ -9,11 +9,6 @@ nth_item items (suc k) = slice_get items k
 abbrev pub with_nth : {A : Type 0} → List A → ℕ → A → List A
 with_nth items zero item = items
 with_nth items (suc k) item = slice_set items k item
-
--- a list of this many copies of one item
-abbrev pub copies : {A : Type 0} → ℕ → A → List A
-copies zero item = []
-copies (suc n) item = item ∷ copies n item
 
 -- it holds of every item
 abbrev pub Every : {A : Type 0} → (A → Type 0) → List A → Type 0

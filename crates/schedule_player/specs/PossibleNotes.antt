@@ -13,7 +13,8 @@ audit_may_occur (audit.Busy replica) = true
 audit_may_occur (audit.Apart first second) = true
 audit_may_occur (audit.Same total overdrawn) = true
 
--- no length or reply is odd, and each reply is to a number of the log
+-- whether a note may come: not that a length or reply is odd, a number unknown, or an audit
+-- different or off the books
 abbrev pub may_occur : Note → Bool
 may_occur note.Odd = false
 may_occur (note.OddAnswer number) = false

@@ -1,5 +1,5 @@
 -- The reference machine at one replica: what each event does to its numbers, and the note on it.
-use Rattle.std.specs.Prelude.{ℕ, suc, ◌+◌, ◌-◌, nat_le, nat_lt, ◌==◌, if◌then◌else◌, Bool, true, false, Option, Some, None, List, [], ◌∷◌, ◌++◌, length, take, drop, count_by, slice_get, slice_set}
+use Rattle.std.specs.Prelude.{ℕ, suc, ◌+◌, ◌-◌, nat_le, nat_lt, ◌==◌, if◌then◌else◌, Bool, true, false, Option, Some, None, List, [], ◌∷◌, ◌++◌, length, take, drop, count_by, replicate, slice_get, slice_set}
 use Rattle.sb_calls.specs.declared.reply.Reply.{Reply}
 use Rattle.sb_checkpoint.specs.declared.memory_store.How.{How}
 use Rattle.sb_checkpoint.specs.declared.memory_store.How.TheVariants as how
@@ -8,7 +8,7 @@ use Rattle.sb_frames.specs.declared.frame.Frame.TheVariants as frame
 use Rattle.cown_board.specs.declared.board.TheConstants.{OPEN_BEHAVIOURS}
 use Rattle.sb_replica_log.specs.declared.replica_log.TheConstants.{HELD_ENTRIES}
 use Rattle.schedule_player.specs.Bank.{BankOf, log_reply}
-use Rattle.schedule_player.specs.OneBased.{nth_item, with_nth, copies}
+use Rattle.schedule_player.specs.OneBased.{nth_item, with_nth}
 use Rattle.schedule_player.specs.Readiness.{runnable_entries}
 use Rattle.schedule_player.specs.Stage.{Stage, Waits, IsOut, IsDone, is_undone}
 use Rattle.schedule_text.specs.declared.note.Note.{Note}
@@ -30,13 +30,13 @@ pub record NodeOf : Type 0 where
 
 -- no entry is held
 abbrev pub empty_buffer : List Bool
-empty_buffer = copies HELD_ENTRIES false
+empty_buffer = replicate HELD_ENTRIES false
 
 -- a replica with this many workers at the opening
 abbrev pub opened_node : ℕ → NodeOf
 opened_node workers = record {
   stages = [];
-  hands = copies workers None;
+  hands = replicate workers None;
   stored = 0;
   cut = None;
   held = empty_buffer;
@@ -179,7 +179,7 @@ mark_move node how = mark_up_to node how node.cut
 -- it begins at a length, with all entries done: the cut and what was held are gone; hands and
 -- frames stay
 abbrev pub restart_at : NodeOf → ℕ → NodeOf
-restart_at node size = record node { stages = copies size IsDone; cut = None; held = empty_buffer }
+restart_at node size = record node { stages = replicate size IsDone; cut = None; held = empty_buffer }
 
 -- it begins anew at the length of its stored checkpoint
 abbrev pub restart_move : NodeOf → NodeOf × Note

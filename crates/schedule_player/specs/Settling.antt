@@ -1,6 +1,5 @@
 -- The events that settle a replica, and their result.
-use Rattle.std.specs.Prelude.{◌≡◌, ℕ, zero, suc, ◌<◌, false, Option, Some, None, List, [], ◌∷◌, ◌++◌, length, slice_get, slice_set}
-use Rattle.schedule_player.specs.OneBased.{copies}
+use Rattle.std.specs.Prelude.{◌≡◌, ℕ, zero, suc, ◌<◌, false, Option, Some, None, List, [], ◌∷◌, ◌++◌, length, replicate, slice_get, slice_set}
 use Rattle.schedule_player.specs.Observers.{idle_at}
 use Rattle.schedule_player.specs.ReplicaMoves.{NodeOf, undone_in}
 use Rattle.schedule_player.specs.Stage.{IsDone}
@@ -51,7 +50,7 @@ remaining_undone world r = undone_at (after_events world (emptying_events world 
 abbrev pub settle_events : WorldOf → ℕ → List Event
 settle_events world r = emptying_events world r ++ work_events r (remaining_undone world r)
 
--- and for no longer than it takes: before each of these entries the replica isn't idle
+-- settling takes no entry too many: before each one the replica isn't idle
 abbrev pub IsBusyBefore : WorldOf → ℕ → Type 0
 IsBusyBefore world r = (n : ℕ) → n < remaining_undone world r
     → idle_at (after_events world (emptying_events world r ++ work_events r n)) r ≡ false
@@ -59,8 +58,8 @@ IsBusyBefore world r = (n : ℕ) → n < remaining_undone world r
 -- every accepted entry is done, and no worker has anything in hand; the rest stays
 abbrev pub settled_node : NodeOf → NodeOf
 settled_node node = record node {
-  stages = copies (length node.stages) IsDone;
-  hands = copies (length node.hands) None;
+  stages = replicate (length node.stages) IsDone;
+  hands = replicate (length node.hands) None;
 }
 
 abbrev pub settled_world_if : WorldOf → ℕ → Option NodeOf → WorldOf

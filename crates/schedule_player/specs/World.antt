@@ -1,5 +1,5 @@
 -- The reference machine: a sequencer, its replicas, and the frames between them.
-use Rattle.std.specs.Prelude.{◌≡◌, ℕ, ◌-◌, ◌<◌, nat_lt, pos, int_lt, ◌==◌, if◌then◌else◌, Bool, true, false, IsTrue, Option, Some, None, Ok, Err, List, length, map, count_by, slice_get, slice_set}
+use Rattle.std.specs.Prelude.{◌≡◌, ℕ, ◌-◌, ◌<◌, nat_lt, pos, int_lt, ◌==◌, if◌then◌else◌, Bool, true, false, IsTrue, Option, Some, None, Ok, Err, List, length, map, count_by, replicate, slice_get, slice_set}
 use Rattle.sb_rows.specs.Balances.{Balances}
 use Rattle.sb_rows.specs.Listing.{rows_in_order, total_of}
 use Rattle.sb_calls.specs.declared.ask.Key.{Key}
@@ -14,7 +14,7 @@ use Rattle.sb_sequencer.specs.Sequencer.{SequencerOf, empty_sequencer, state_aft
 use Rattle.sb_sequencer.specs.declared.answer.AskFault.TheVariants.{Mismatch, LogFull, OutOfMemory}
 use Rattle.sb_sequencer.specs.declared.answer.Numbered.TheVariants.{New, Repeat}
 use Rattle.schedule_player.specs.Bank.{BankOf, log_rows}
-use Rattle.schedule_player.specs.OneBased.{nth_item, copies}
+use Rattle.schedule_player.specs.OneBased.{nth_item}
 use Rattle.schedule_player.specs.ReplicaEvents.{replica_of, node_move}
 use Rattle.schedule_player.specs.ReplicaMoves.{NodeOf, opened_node, length_in, undone_in, receive_move}
 use Rattle.schedule_text.specs.ScheduleText.{ScheduleOf}
@@ -46,7 +46,7 @@ opened_world schedule = record {
   names = schedule.names;
   opening = schedule.balances;
   sequencer = empty_sequencer schedule.nodes;
-  nodes = copies schedule.nodes (opened_node schedule.workers);
+  nodes = replicate schedule.nodes (opened_node schedule.workers);
 }
 
 -- ---- what an event does

@@ -1,5 +1,5 @@
 //! A replica with its workers' hands, and everything that was ever sent to it and from it.
-ghost use Rattle.std.specs.Prelude.{◌≡◌, ℕ, suc, ◌<◌, ◌≤◌, None, List, [], length, MatchOption, IfOk};
+ghost use Rattle.std.specs.Prelude.{◌≡◌, ℕ, suc, ◌<◌, ◌≤◌, None, List, [], length, replicate, MatchOption, IfOk};
 ghost use Rattle.sb_rows.specs.Balances.{Balances};
 ghost use Rattle.sb_rows.specs.Rows.{SameCustomers};
 ghost use Rattle.cown_board.specs.BoardCalls.{board_at_opening};
@@ -7,7 +7,7 @@ ghost use Rattle.sb_replica_log.specs.Log.{none_held};
 ghost use Rattle.sb_sequencer.specs.Entries.{entry_of, entries_to_resend};
 ghost use Rattle.schedule_player.specs.Bank.{BankOf};
 ghost use Rattle.schedule_player.specs.inner.NodeInvariant.{MovesTo, IsNodeAt, Steps, machine_node};
-ghost use Rattle.schedule_player.specs.OneBased.{copies, nth_item};
+ghost use Rattle.schedule_player.specs.OneBased.{nth_item};
 ghost use Rattle.schedule_player.specs.ReplicaMoves.{ack_move, next_move, answer_move, cut_move, deliver_move, finish_move, mark_move, opened_node, restart_move, send_move, resend_move, take_move};
 ghost use Rattle.schedule_player.specs.inner.HeardNotes.{note_of_heard};
 ghost use Rattle.schedule_player.specs.World.{bank_with};
@@ -51,7 +51,7 @@ fn heard_note(heard: Heard) -> Note
 
 // The hands of this many workers, all empty.
 fn empty_hands(alloc: Global, workers: usize) -> Result<Vec<Option<Job<Op>>>, AllocError>
-    ensures { IfOk result (λ hands. hands.items ≡ copies workers None) }
+    ensures { IfOk result (λ hands. hands.items ≡ replicate workers None) }
 {
     let mut hands = Vec::new(alloc);
     for _ in 0..workers {
@@ -108,14 +108,14 @@ impl Node {
         })
     }
 
-    // The position of a worker's hand.
-    fn hand(&self, worker: u32) -> Option<usize>
+    // The index of a worker's hand.
+    fn hand_index(&self, worker: u32) -> Option<usize>
         ensures { MatchOption result (nth_item self.now.hands.items worker ≡ None)
-            (λ position. (worker ≡ suc position) × (position < length self.now.hands.items)) }
+            (λ index. (worker ≡ suc index) × (index < length self.now.hands.items)) }
     {
-        let position = worker.checked_sub(1)? as usize;
-        if position < self.hands.len() {
-            Some(position)
+        let index = worker.checked_sub(1)? as usize;
+        if index < self.hands.len() {
+            Some(index)
         } else {
             None
         }
@@ -126,17 +126,17 @@ impl Node {
         ensures { (bank : BankOf) (r : ℕ) → IsNodeAt bank r self.old
             → MovesTo bank r self.new result (take_move bank (machine_node self.old) worker index) }
     {
-        let Some(position) = self.hand(worker) else {
+        let Some(hand) = self.hand_index(worker) else {
             return Note::Nothing;
         };
-        if self.hands[position].is_some() {
+        if self.hands[hand].is_some() {
             return Note::HandFull;
         }
         let Some(job) = self.replica.take_at(index as usize) else {
             return Note::Nothing;
         };
         let number = job.number();
-        self.hands[position] = Some(job);
+        self.hands[hand] = Some(job);
         Note::Took(number)
     }
 
@@ -145,10 +145,10 @@ impl Node {
         ensures { (bank : BankOf) (r : ℕ) → IsNodeAt bank r self.old
             → MovesTo bank r self.new result (finish_move bank (machine_node self.old) worker) }
     {
-        let Some(position) = self.hand(worker) else {
+        let Some(hand) = self.hand_index(worker) else {
             return Note::Nothing;
         };
-        let Some(job) = self.hands[position].take() else {
+        let Some(job) = self.hands[hand].take() else {
             return Note::Nothing;
         };
         let number = job.number();

@@ -107,7 +107,7 @@ impl World {
     pub fn answer_of(&self, client: u32, request: u32) -> Option<Reply>
         ensures value { result ≡ answer_of self.now.sequencer (record { client = client; request = request }) }
         // It is the log's reply to the number of the request.
-        ensures by_log { IfSome result (λ reply. (index : ℕ)
+        ensures log_reply { IfSome result (λ reply. (index : ℕ)
             → index_of_key self.now.sequencer.log (record { client = client; request = request }) ≡ Some index
             → log_reply (bank_of self.now) (index + 1) ≡ Some reply) }
     {

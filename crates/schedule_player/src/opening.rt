@@ -1,10 +1,9 @@
 //! A world at its opening.
-ghost use Rattle.std.specs.Prelude.{◌≡◌, ℕ, ◌≤◌, Some, length, map, slice_get, IfOk};
+ghost use Rattle.std.specs.Prelude.{◌≡◌, ℕ, ◌≤◌, Some, length, map, replicate, slice_get, IfOk};
 ghost use Rattle.sb_rows.specs.Rows.{SameCustomers};
 ghost use Rattle.sb_calls.specs.declared.call.TheConstants.{LOG_CALLS as MOST_CALLS};
 ghost use Rattle.schedule_player.specs.Bank.{BankOf};
 ghost use Rattle.schedule_player.specs.inner.NodeInvariant.{IsNodeAt, machine_node};
-ghost use Rattle.schedule_player.specs.OneBased.{copies};
 ghost use Rattle.schedule_player.specs.EventLists.{IsWorldAfter, no_events};
 ghost use Rattle.schedule_player.specs.ReplicaMoves.{opened_node};
 ghost use Rattle.schedule_player.specs.World.{opened_world};
@@ -26,7 +25,7 @@ fn open_nodes(
     workers: u8,
 ) -> Result<Vec<Node>, AllocError>
     requires { length opening.now.savings ≡ length directory.now }
-    ensures node { IfOk result (λ all. map machine_node all.items ≡ copies nodes (opened_node workers)) }
+    ensures node { IfOk result (λ all. map machine_node all.items ≡ replicate nodes (opened_node workers)) }
     ensures consistent { (bank : BankOf) → (bank.names ≡ directory.now) → (bank.opening ≡ opening.now)
         → SameCustomers bank.names bank.opening → length bank.calls ≤ MOST_CALLS
         → IfOk result (λ all. (r : ℕ) (node : AnyNode) → slice_get all.items r ≡ Some node → IsNodeAt bank r node) }

@@ -116,7 +116,8 @@ pub fn play(alloc: Global, world: &mut World, events: &[Event]) -> Result<Vec<No
 /// Plays events one after another, and writes a line for each note.
 ///
 /// Fails at the first event for which memory is refused, or after the first event whose line is
-/// refused memory. The fault has the number of events that happened.
+/// refused memory. The fault has the number of events that happened. `out` then has the lines of
+/// the notes up to there, the last of them perhaps in part.
 pub fn play_lines(world: &mut World, events: &Events, out: &mut Vec<u8>) -> Result<(), PlayFault>
     // All events happened, and the lines are those of their notes.
     ensures plays { OnOk result ((notes : List AnyNote)

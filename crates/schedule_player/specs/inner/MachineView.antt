@@ -1,5 +1,5 @@
 -- What the machine sees of what the code holds.
-use Rattle.std.specs.Prelude.{ℕ, Option, Some, None, Result, Ok, Err, List, ◌++◌, length, map}
+use Rattle.std.specs.Prelude.{ℕ, Option, Some, None, Result, Ok, Err, List, ◌++◌, length, map, replicate}
 use Rattle.sb_calls.specs.Op.{op_of}
 use Rattle.sb_calls.specs.declared.op.Op.{Op}
 use Rattle.cown_board.specs.Board.{BoardOf}
@@ -12,7 +12,6 @@ use Rattle.sb_frames.specs.declared.fault.FrameFault.{FrameFault}
 use Rattle.sb_frames.specs.declared.frame.Frame.{Frame}
 use Rattle.sb_frames.specs.declared.frame.Frame.TheVariants as frame
 use Rattle.schedule_player.specs.Bank.{BankOf}
-use Rattle.schedule_player.specs.OneBased.{copies}
 use Rattle.schedule_player.specs.Stage.{Stage, Waits, IsOut, IsDone}
 
 -- the frame that the bytes begin with, or a frame that says nothing if they begin with none
@@ -37,7 +36,7 @@ stage_of (Finished reply) = IsDone
 
 -- entries before the board's opening are done; the others are in the board's states
 abbrev pub stages_of : BoardOf Op → List Stage
-stages_of board = copies (length board.base_replies) IsDone ++ map stage_of board.states
+stages_of board = replicate (length board.base_replies) IsDone ++ map stage_of board.states
 
 -- ---- what is stored
 

@@ -1,7 +1,6 @@
 -- What holds of a replica while it settles.
-use Rattle.std.specs.Prelude.{◌≡◌, ℕ, ◌≤◌, Some, None, length, slice_get}
+use Rattle.std.specs.Prelude.{◌≡◌, ℕ, ◌≤◌, Some, None, length, replicate, slice_get}
 use Rattle.sb_calls.specs.declared.call.TheConstants.{LOG_CALLS}
-use Rattle.schedule_player.specs.OneBased.{copies}
 use Rattle.schedule_player.specs.ReplicaMoves.{NodeOf, length_in}
 use Rattle.schedule_player.specs.inner.OutInHands.{OutIsInHands}
 use Rattle.schedule_player.specs.World.{WorldOf}
@@ -18,4 +17,4 @@ pub record IsAbleToSettle (node : NodeOf) : Type 0 where
 -- the replica is able to settle, and every hand is empty
 pub record IsAtRest (node : NodeOf) : Type 0 where
   pub able : IsAbleToSettle node
-  pub empty : node.hands ≡ copies (length node.hands) None
+  pub empty : node.hands ≡ replicate (length node.hands) None

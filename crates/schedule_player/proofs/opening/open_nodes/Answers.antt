@@ -1,15 +1,14 @@
-use Rattle.std.proofs.Common.{slice_get, ◌≡◌, inl, inr, ◌∷◌, [], ◌++◌, length, map, sym, ap, subst, ◌∙◌, arith}
-use Rattle.std.proofs.lemmas.List.{length-append, map-append}
+use Rattle.std.proofs.Common.{replicate, slice_get, ◌≡◌, inl, inr, ◌∷◌, [], ◌++◌, length, map, sym, ap, subst, ◌∙◌, arith}
+use Rattle.std.proofs.lemmas.List.{length-append, map-append, replicate_more}
 use Rattle.schedule_player.specs.inner.NodeInvariant.{IsNodeAt, machine_node}
-use Rattle.schedule_player.specs.OneBased.{copies}
 use Rattle.schedule_player.specs.ReplicaMoves.{opened_node}
-use Rattle.schedule_player.proofs.Lists.{copies_push, pushed_cases}
+use Rattle.schedule_player.proofs.Lists.{pushed_cases}
 use Rattle.schedule_player.proofs.opening.open_nodes.Goals as goal
 
 pub returns-clause-node : goal.returns-clause-node
 returns-clause-node c =
     let all : c.loop-id.id ≡ c.args.nodes = omega (arith, c.loop-id-test.false, c.loop-id.auto.id-end) in
-    c.loop-id.invariant.seen ∙ ap (λ n. copies n (opened_node c.args.workers)) all
+    c.loop-id.invariant.seen ∙ ap (λ n. replicate n (opened_node c.args.workers)) all
 
 pub returns-clause-consistent : goal.returns-clause-consistent
 returns-clause-consistent c = c.loop-id.invariant.consistent
@@ -24,7 +23,7 @@ loop-id-preserved c =
       seen =
           ap (map machine_node) items ∙ map-append machine_node before (node ∷ [])
           ∙ (λ j. so_far.seen j ++ c.in_ok-node.ensures.node j ∷ [])
-          ∙ sym (copies_push c.loop-id.id (opened_node c.args.workers));
+          ∙ replicate_more c.loop-id.id (opened_node c.args.workers);
       consistent = λ bank names opening same few r other here. elim (pushed_cases before node r other (ap (λ xs. slice_get xs r) (sym items) ∙ here)) [
         | inl there ↦ so_far.consistent bank names opening same few r other there
         | inr last ↦
