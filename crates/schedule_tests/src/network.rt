@@ -97,7 +97,7 @@ fn shows_one_deposit(rt: &impl Abort, world: &World) {
     assert!(rt; world.directory().len() == 3);
 }
 
-// In no world of the tests is there a replica, frame, number or worker that these events name.
+// Each names something that isn't there, or finds nothing to do.
 const NAMELESS: [&str; 36] = [
     "send 9 1",
     "resend 9",

@@ -45,7 +45,7 @@ fn ends_with(rt: &impl Abort, world: &World, savings: [i64; 3], checking: [i64; 
 }
 
 #[test]
-fn two_hands_out_of_order(rt: HostRuntime) {
+fn two_workers_out_of_order(rt: HostRuntime) {
     let mut world = world_of(&rt, rt.alloc(), 1, 2);
     all_happen(&rt, &mut world, &ASKED);
     stands_at(&rt, &world, 0, 4, false);
