@@ -1,9 +1,11 @@
 //! A stream of bytes, read as frames.
-ghost use Rattle.std.specs.Prelude.{◌≡◌, ◌↔◌, [], Err, IsTrue, false, true, IfNone, IfOk, IfSome, OnErr, length};
+ghost use Rattle.std.specs.Prelude.{◌≡◌, ◌↔◌, [], Ok, Err, Some, IsTrue, false, true, IfNone, IfOk, IfSome, OnErr, length};
 ghost use Rattle.sb_frames.specs.Streaming.{StreamState, empty_stream, Feeds, next_of, Step, Feed, Next, HandsOut, IsShort, FailsBy};
 ghost use Rattle.sb_calls.specs.Op.{IsOpWithin};
+ghost use Rattle.sb_calls.specs.declared.call.Call.{Call as AnyCall};
 ghost use Rattle.sb_frames.specs.Entries.{HasEntry, TakesEntry};
 ghost use Rattle.sb_frames.specs.declared.fault.StreamFault.{StreamFault as AnyStreamFault};
+ghost use Rattle.sb_frames.specs.declared.frame.Frame.TheVariants.{Entry};
 
 use crate::decoding::decode;
 use crate::entry_op::{EntryOp, first_entry};
@@ -101,6 +103,9 @@ impl Stream {
     #[inline]
     pub fn next_entry(&mut self, directory: &Directory) -> Option<EntryOp>
         ensures entry { IfSome result (λ entry. TakesEntry directory.now self.old entry self.new) }
+        // It counts as the frame that `next` would hand out.
+        ensures step { IfSome result (λ entry. (call : AnyCall)
+            × Step self.old (Next (Ok (Some (Entry entry.number call)))) self.new) }
         ensures none { IfNone result ((¬ HasEntry self.old) × (self.new ≡ self.old)) }
         ensures within { IfSome result (λ entry. IsOpWithin (length directory.now) entry.op) }
     {

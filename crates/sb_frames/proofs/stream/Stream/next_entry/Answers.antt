@@ -26,6 +26,9 @@ returns-clause-entry c =
     taken c.args.directory.now c.args.self.now c.deref.result.now c.advance.new.self.items c.self.inside.broken c.in_ok-entry.entry c.in_ok-entry.size
     c.first_entry.ensures.bytes seen fine read left c.if-self.false
 
+pub returns-clause-step : goal.returns-clause-step
+returns-clause-step c = let taken = returns-clause-entry c in (taken.call, sym taken.next)
+
 pub returns-clause-within : goal.returns-clause-within
 returns-clause-within c =
     let read = ok_of c.args.directory.now c.deref.result.now c.in_ok-entry.entry c.in_ok-entry.size (sym c.first_entry.ensures.entry ∙ c.in_ok-entry.was) in
