@@ -1,5 +1,5 @@
 -- Entries that are read with their names looked up are those that are decoded.
-use Rattle.std.proofs.Common.{◌≡◌, ℕ, ◌+◌, ℤ, Bool, true, false, cond, eqb, ltb, ◌||◌, List, length, take, drop, Option, Result, Ok, Err, refl, sym, ap, subst, ◌∙◌}
+use Rattle.std.proofs.Common.{◌≡◌, ℕ, ◌-◌, ℤ, Bool, true, cond, eqb, List, length, take, drop, Option, Result, Ok, Err, refl, sym, ap, subst, ◌∙◌}
 use Rattle.std.specs.Int.{w32, w64}
 use Rattle.sb_calls.specs.Op.{at_place, at_two_places, op_of}
 use Rattle.sb_calls.specs.declared.call.Call.{Call}
@@ -8,18 +8,17 @@ use Rattle.sb_calls.specs.declared.op.Op.{Op}
 use Rattle.sb_calls.specs.declared.op.Op.TheVariants as ops
 use Rattle.sb_rows.specs.Directory.{place_of}
 use Rattle.sb_frames.specs.Calls.{call_of_kind, call_at}
-use Rattle.sb_frames.specs.Decoding.{ask_at, entry_at, replica_and_length_at, answer_at, outcome_frame_at, frame_of_tag, tagged_at, frame_of, stated_length, with_length, decode_result}
+use Rattle.sb_frames.specs.Decoding.{ask_at, entry_at, replica_and_length_at, answer_at, outcome_frame_at, frame_of_tag, tagged_at, frame_of, frame_size, decode_result}
 use Rattle.sb_frames.specs.Outcomes.{reply_at, outcome_at}
 use Rattle.sb_frames.specs.Reading.{◌>>=◌, byte_at, name_at, amount_at, unsigned_at}
 use Rattle.sb_frames.specs.declared.entry_op.EntryOp.{EntryOp}
 use Rattle.sb_frames.specs.declared.fault.FrameFault.{FrameFault}
-use Rattle.sb_frames.specs.declared.fault.FrameFault.TheVariants.{Short, BadLength, UnknownTag}
+use Rattle.sb_frames.specs.declared.fault.FrameFault.TheVariants.{BadLength, UnknownTag}
 use Rattle.sb_frames.specs.declared.frame.Frame.{Frame}
 use Rattle.sb_frames.specs.declared.frame.Frame.TheVariants.{Ask, Entry, Ack, Answer, Outcome, Flush, Have}
-use Rattle.sb_frames.specs.declared.frame.TheConstants.{MAX_BODY}
-use Rattle.sb_frames.specs.inner.EntryReading.{place_at, op_of_kind, op_at, entry_op_at, body_entry, entry_with_length, first_entry}
+use Rattle.sb_frames.specs.inner.EntryReading.{place_at, op_of_kind, op_at, entry_op_at, body_entry, first_entry}
 use Rattle.sb_frames.proofs.FieldSequences.{made}
-use Rattle.sb_frames.proofs.ReadingSteps.{first_step, refused_not, accepted, done, same_value, tagged}
+use Rattle.sb_frames.proofs.ReadingSteps.{first_step, accepted, done, same_value, tagged}
 
 -- ---- readings, step by step
 
@@ -27,11 +26,6 @@ use Rattle.sb_frames.proofs.ReadingSteps.{first_step, refused_not, accepted, don
 then_read : {A B : Type 0} (read : Result A FrameFault) (next : A → Result B FrameFault) (value : A) (last : B) → read ≡ Ok value → next value ≡ Ok last
     → (read >>= next) ≡ Ok last
 then_read read next value last is e = rw is e
-
--- a test that doesn't fail
-not_refused : {A : Type 0} (test : Bool) (fault : FrameFault) (others : Result A FrameFault) (last : A) → test ≡ false → others ≡ Ok last
-    → cond test (Err fault) others ≡ Ok last
-not_refused test fault others last is e = rw is e
 
 -- a test that passes
 passed : {A : Type 0} (test : Bool) (fault : FrameFault) (value last : A) → test ≡ true → value ≡ last → cond test (Ok value) (Err fault) ≡ Ok last
@@ -357,54 +351,32 @@ frame_has_entry names bytes number call e =
 abbrev sized : {A : Type 0} → A → ℕ → Result (A × ℕ) FrameFault
 sized value size = Ok (value, size)
 
-with_length_is_frames : (names : List (List ℕ)) (size : ℕ) (bytes : List ℕ) (entry : EntryOp) (k : ℕ) → entry_with_length names size bytes ≡ Ok (entry, k)
-    → (call : Call) × (with_length size bytes ≡ Ok (Entry entry.number call, k)) × (entry.op ≡ op_of names call)
-unfolding entry_with_length with_length
-with_length_is_frames names size bytes entry k e =
-    let inner = take size (drop 2 bytes) in
-    let rest : Result (EntryOp × ℕ) FrameFault = body_entry names inner >>= λ x. sized x (2 + size) in
-    let fits = refused_not (eqb size 0 || ltb MAX_BODY size) BadLength (cond (ltb (length bytes) (2 + size)) (Err Short) rest) (entry, k) e in
-    let long = refused_not (ltb (length bytes) (2 + size)) Short rest (entry, k) fits.1 in
-    let step = first_step (body_entry names inner) (λ x. sized x (2 + size)) (entry, k) long.1 in
-    let same = same_value (step.0, 2 + size) (entry, k) step.2 in
-    let found = body_entry_is_frames names inner step.0 step.1 in
-    let framed : Result (Frame × ℕ) FrameFault = frame_of inner >>= λ f. sized f (2 + size) in (
-      found.0,
-      not_refused (eqb size 0 || ltb MAX_BODY size) BadLength (cond (ltb (length bytes) (2 + size)) (Err Short) framed) (Entry entry.number found.0, k) fits.0
-          (not_refused (ltb (length bytes) (2 + size)) Short framed (Entry entry.number found.0, k) long.0
-          (then_read (frame_of inner) (λ f. sized f (2 + size)) (Entry step.0.number found.0) (Entry entry.number found.0, k) found.1
-          (ap (λ (p : EntryOp × ℕ). sized (Entry p.0.number found.0) p.1) same))),
-      sym (ap (λ (p : EntryOp × ℕ). p.0.op) same) ∙ found.2,
-    )
-
-with_length_has_entry : (names : List (List ℕ)) (size : ℕ) (bytes : List ℕ) (number : ℕ) (call : Call) (k : ℕ)
-    → with_length size bytes ≡ Ok (Entry number call, k) → entry_with_length names size bytes ≡ Ok (entry_with number (op_of names call), k)
-unfolding entry_with_length with_length
-with_length_has_entry names size bytes number call k e =
-    let inner = take size (drop 2 bytes) in
-    let frame = Entry number call in
-    let rest : Result (Frame × ℕ) FrameFault = frame_of inner >>= λ f. sized f (2 + size) in
-    let fits = refused_not (eqb size 0 || ltb MAX_BODY size) BadLength (cond (ltb (length bytes) (2 + size)) (Err Short) rest) (frame, k) e in
-    let long = refused_not (ltb (length bytes) (2 + size)) Short rest (frame, k) fits.1 in
-    let step = first_step (frame_of inner) (λ f. sized f (2 + size)) (frame, k) long.1 in
-    let same = same_value (step.0, 2 + size) (frame, k) step.2 in
-    let is : frame_of inner ≡ Ok frame = step.1 ∙ ap (λ (p : Frame × ℕ). done p.0) same in
-    rw (fits.0, long.0, frame_has_entry names inner number call is)
-    (ap (λ (p : Frame × ℕ). sized (entry_with number (op_of names call)) p.1) same)
-
 -- the entry that is read first is the frame that is decoded
 pub first_entry_is_frame : (names : List (List ℕ)) (bytes : List ℕ) (entry : EntryOp) (k : ℕ) → first_entry names bytes ≡ Ok (entry, k)
     → (call : Call) × (decode_result bytes ≡ Ok (Entry entry.number call, k)) × (entry.op ≡ op_of names call)
 unfolding first_entry decode_result
 first_entry_is_frame names bytes entry k e =
-    let two = refused_not (ltb (length bytes) 2) Short (entry_with_length names (stated_length bytes) bytes) (entry, k) e in
-    let found = with_length_is_frames names (stated_length bytes) bytes entry k two.1 in
-    let size = stated_length bytes in
-    (found.0, not_refused (ltb (length bytes) 2) Short (with_length size bytes) (Entry entry.number found.0, k) two.0 found.1, found.2)
+    let inner : ℕ → List ℕ = λ size. take (size - 2) (drop 2 bytes) in
+    let size = first_step (frame_size bytes) (λ n. body_entry names (inner n) >>= λ x. sized x n) (entry, k) e in
+    let read = first_step (body_entry names (inner size.0)) (λ x. sized x size.0) (entry, k) size.2 in
+    let same = same_value (read.0, size.0) (entry, k) read.2 in
+    let found = body_entry_is_frames names (inner size.0) read.0 read.1 in (
+      found.0,
+      then_read (frame_size bytes) (λ n. frame_of (inner n) >>= λ f. sized f n) size.0 (Entry entry.number found.0, k) size.1
+          (then_read (frame_of (inner size.0)) (λ f. sized f size.0) (Entry read.0.number found.0) (Entry entry.number found.0, k) found.1
+          (ap (λ (p : EntryOp × ℕ). sized (Entry p.0.number found.0) p.1) same)),
+      sym (ap (λ (p : EntryOp × ℕ). p.0.op) same) ∙ found.2,
+    )
 
 pub frame_has_first_entry : (names : List (List ℕ)) (bytes : List ℕ) (number : ℕ) (call : Call) (k : ℕ) → decode_result bytes ≡ Ok (Entry number call, k)
     → first_entry names bytes ≡ Ok (entry_with number (op_of names call), k)
 unfolding first_entry decode_result
 frame_has_first_entry names bytes number call k e =
-    let two = refused_not (ltb (length bytes) 2) Short (with_length (stated_length bytes) bytes) (Entry number call, k) e in
-    rw two.0 (with_length_has_entry names (stated_length bytes) bytes number call k two.1)
+    let inner : ℕ → List ℕ = λ size. take (size - 2) (drop 2 bytes) in
+    let frame = Entry number call in
+    let size = first_step (frame_size bytes) (λ n. frame_of (inner n) >>= λ f. sized f n) (frame, k) e in
+    let read = first_step (frame_of (inner size.0)) (λ f. sized f size.0) (frame, k) size.2 in
+    let same = same_value (read.0, size.0) (frame, k) read.2 in
+    let is : frame_of (inner size.0) ≡ Ok frame = read.1 ∙ ap (λ (p : Frame × ℕ). done p.0) same in
+    rw (size.1, frame_has_entry names (inner size.0) number call is)
+    (ap (λ (p : Frame × ℕ). sized (entry_with number (op_of names call)) p.1) same)

@@ -1,5 +1,5 @@
 -- What is decoded spells a frame, and what spells a frame is decoded as it, whatever follows.
-use Rattle.std.proofs.Common.{◌≡◌, ℕ, ◌+◌, ◌<◌, ◌≤◌, Bool, true, false, cond, eqb, ltb, ◌||◌, List, ◌++◌, length, take, drop, Result, Ok, Err, refl, sym, ap, subst, ◌∙◌, append_assoc, arith}
+use Rattle.std.proofs.Common.{◌≡◌, ℕ, ◌+◌, ◌-◌, ◌<◌, ◌≤◌, Bool, true, false, cond, eqb, ltb, ◌||◌, List, ◌++◌, length, take, drop, Result, Ok, Err, refl, sym, ap, subst, ◌∙◌, append_assoc, arith}
 use Rattle.std.specs.Int.{w16, to_be_bytes, from_be_bytes}
 use Rattle.std.specs.Prelude.{IfOk}
 use Rattle.std.proofs.Math.Seq.{take-add}
@@ -8,7 +8,7 @@ use Rattle.std.proofs.lemmas.Bool.Decides.{nat_tests}
 use Rattle.std.proofs.lemmas.List.{take_at, take-append-drop, take-append-le, drop-append-le, length-append, length-take-le, length-drop}
 use Rattle.std.proofs.lemmas.List.Elements.{All-take, All-drop}
 use Rattle.std.proofs.lemmas.Nat.{be_bytes_2, from_be_bytes-to_be_bytes_2}
-use Rattle.sb_frames.specs.Decoding.{frame_of, stated_length, with_length, decode_result}
+use Rattle.sb_frames.specs.Decoding.{frame_of, stated_length, frame_size, decode_result}
 use Rattle.sb_frames.specs.Grammar.{IsFrame, body, spelling, Spells}
 use Rattle.sb_frames.specs.Reading.{◌>>=◌}
 use Rattle.sb_frames.specs.Streaming.{AreBytes}
@@ -27,40 +27,44 @@ unfolding stated_length
 front_spells bytes are long =
     be_bytes_2 (take 2 bytes) _ (length-take-le 2 bytes long) (each_byte (take 2 bytes) (All-take (λ byte. byte < 256) 2 bytes are)) refl
 
--- a frame whose body has a given length
-with_length_takes : (size : ℕ) (bytes : List ℕ) (frame : Frame) (k : ℕ) → AreBytes bytes → with_length size bytes ≡ Ok (frame, k)
-    → (k ≡ 2 + size) × (2 + size ≤ length bytes) × IsFrame frame × (take size (drop 2 bytes) ≡ body frame)
-unfolding with_length
-with_length_takes size bytes frame k are e =
-    let rest : Result (Frame × ℕ) FrameFault = frame_of (take size (drop 2 bytes)) >>= λ f. Ok (f, 2 + size) in
-    let sized = refused_not (eqb size 0 || ltb MAX_BODY size) BadLength (cond (ltb (length bytes) (2 + size)) (Err Short) rest) (frame, k) e in
-    let long = refused_not (ltb (length bytes) (2 + size)) Short rest (frame, k) sized.1 in
-    let step = first_step (frame_of (take size (drop 2 bytes))) (λ f. Ok (f, 2 + size)) (frame, k) long.1 in
-    let same = same_value (step.0, 2 + size) (frame, k) step.2 in
-    let read = frame_takes (take size (drop 2 bytes)) step.0
-    (All-take (λ byte. byte < 256) size (drop 2 bytes) (All-drop (λ byte. byte < 256) 2 bytes are)) step.1 in (
-      ap (λ (p : Frame × ℕ). p.1) (sym same),
-      ltb-false (length bytes) (2 + size) long.0,
-      subst IsFrame (ap (λ (p : Frame × ℕ). p.0) same) read.0,
-      read.1 ∙ ap (λ (p : Frame × ℕ). body p.0) same,
-    )
+-- the body of a frame of this size
+abbrev body_bytes : List ℕ → ℕ → List ℕ
+body_bytes bytes size = take (size - 2) (drop 2 bytes)
+
+-- a frame's size is that of its body and of the two bytes that state it
+sized_so : (bytes : List ℕ) (k : ℕ) → frame_size bytes ≡ Ok k → (2 ≤ length bytes) × (k ≡ 2 + stated_length bytes) × (k ≤ length bytes)
+unfolding frame_size
+sized_so bytes k e =
+    let size = stated_length bytes in
+    let two = refused_not (ltb (length bytes) 2) Short _ k e in
+    let fits = refused_not (eqb size 0 || ltb MAX_BODY size) BadLength _ k two.1 in
+    let long = refused_not (ltb (length bytes) (2 + size)) Short (Ok (2 + size)) k fits.1 in
+    let same = same_value (2 + size) k long.1 in
+    (ltb-false (length bytes) 2 two.0, sym same, subst (λ n. n ≤ length bytes) same (ltb-false (length bytes) (2 + size) long.0))
 
 pub decoded_takes : (bytes : List ℕ) (frame : Frame) (k : ℕ) → AreBytes bytes → decode_result bytes ≡ Ok (frame, k)
     → (k ≤ length bytes) × Spells frame (take k bytes)
-unfolding decode_result
+unfolding decode_result spelling
 decoded_takes bytes frame k are e =
-    let two = refused_not (ltb (length bytes) 2) Short (with_length (stated_length bytes) bytes) (frame, k) e in
+    let step = first_step (frame_size bytes) (λ n. frame_of (body_bytes bytes n) >>= λ f. Ok (f, n)) (frame, k) e in
+    let read = first_step (frame_of (body_bytes bytes step.0)) (λ f. Ok (f, step.0)) (frame, k) step.2 in
+    let same = same_value (read.0, step.0) (frame, k) read.2 in
+    let k_is : step.0 ≡ k = ap (λ (p : Frame × ℕ). p.1) same in
+    let sized = sized_so bytes step.0 step.1 in
     let size = stated_length bytes in
-    let read = with_length_takes size bytes frame k are two.1 in
-    let two_long : 2 ≤ length bytes = ltb-false (length bytes) 2 two.0 in
-    let behind : size ≤ length (drop 2 bytes) = omega (arith, read.1, length-drop 2 bytes) in
-    let size_is : size ≡ length (body frame) = sym (length-take-le size (drop 2 bytes) behind) ∙ ap length read.3 in
-    let front : take 2 bytes ≡ to_be_bytes w16 (length (body frame)) = sym (front_spells bytes are two_long) ∙ ap (to_be_bytes w16) size_is in
+    let inner : body_bytes bytes step.0 ≡ take size (drop 2 bytes) =
+    ap (λ n. take n (drop 2 bytes)) (let is = sized.1 in omega (arith, is)) in
+    let found = frame_takes (take size (drop 2 bytes)) read.0
+    (All-take (λ byte. byte < 256) size (drop 2 bytes) (All-drop (λ byte. byte < 256) 2 bytes are)) (sym (ap frame_of inner) ∙ read.1) in
+    let body_is : take size (drop 2 bytes) ≡ body frame = found.1 ∙ ap (λ (p : Frame × ℕ). body p.0) same in
+    let behind : size ≤ length (drop 2 bytes) = omega (arith, sized.1, sized.2, length-drop 2 bytes) in
+    let size_is : size ≡ length (body frame) = sym (length-take-le size (drop 2 bytes) behind) ∙ ap length body_is in
+    let front : take 2 bytes ≡ to_be_bytes w16 (length (body frame)) = sym (front_spells bytes are sized.0) ∙ ap (to_be_bytes w16) size_is in
     let whole : take k bytes ≡ to_be_bytes w16 (length (body frame)) ++ body frame =
-    ap (λ n. take n bytes) read.0 ∙ take-add 2 size bytes ∙ ap (λ (xs : List ℕ). xs ++ take size (drop 2 bytes)) front
-    ∙ ap (λ (xs : List ℕ). to_be_bytes w16 (length (body frame)) ++ xs) read.3 in
-    let short : k ≤ length bytes = omega (arith, read.0, read.1) in
-    (short, record { valid = read.2; spelled = whole })
+    ap (λ n. take n bytes) (sym k_is ∙ sized.1) ∙ take-add 2 size bytes ∙ ap (λ (xs : List ℕ). xs ++ take size (drop 2 bytes)) front
+    ∙ ap (λ (xs : List ℕ). to_be_bytes w16 (length (body frame)) ++ xs) body_is in
+    let short : k ≤ length bytes = subst (λ n. n ≤ length bytes) k_is sized.2 in
+    (short, record { valid = subst IsFrame (ap (λ (p : Frame × ℕ). p.0) same) found.0; spelled = whole })
 
 -- the length of a spelling
 pub spelling_size : (frame : Frame) → length (spelling frame) ≡ 2 + length (body frame)
@@ -68,7 +72,7 @@ unfolding spelling
 spelling_size frame = omega arith
 
 pub decoded_again : (frame : Frame) (rest : List ℕ) → IsFrame frame → decode_result (spelling frame ++ rest) ≡ Ok (frame, length (spelling frame))
-unfolding decode_result with_length stated_length spelling
+unfolding decode_result frame_size stated_length spelling
 decoded_again frame rest valid =
     let size = length (body frame) in
     let sizes = body_size frame valid in
@@ -81,27 +85,23 @@ decoded_again frame rest valid =
     ∙ from_be_bytes-to_be_bytes_2 size (omega (arith, sizes.1)) in
     let sized : (eqb size 0 || ltb MAX_BODY size) ≡ false = grind (arith, nat_tests, sizes.0, sizes.1) in
     let long : ltb (length bytes) (2 + size) ≡ false = le-ltb _ _ (omega (arith, length-append (body frame) rest)) in
-    let behind : take size (drop 2 bytes) ≡ body frame = take_at (body frame) rest size refl in
+    let behind : body_bytes bytes (2 + size) ≡ body frame =
+    (let back : 2 + size - 2 ≡ size = omega arith in ap (λ n. take n (drop 2 bytes)) back) ∙ take_at (body frame) rest size refl in
     let found : ℕ → Result (Frame × ℕ) FrameFault = λ n. Ok (frame, n) in
     rw (two, stated, sized, long, behind, frame_again frame valid) (ap found (sym (spelling_size frame)))
 
 -- ---- spellings
 
-pub spelling_is : (frame : Frame) (bytes : List ℕ) → Spells frame bytes → bytes ≡ spelling frame
-unfolding spelling
-spelling_is frame bytes h = h.spelled
-
 -- bytes that begin with a spelling are decoded as its frame
 pub begins_so : (frame : Frame) (front rest : List ℕ) → Spells frame front → decode_result (front ++ rest) ≡ Ok (frame, length front)
 begins_so frame front rest h =
-    let is = spelling_is frame front h in
-    subst (λ (xs : List ℕ). decode_result (xs ++ rest) ≡ Ok (frame, length xs)) (sym is) (decoded_again frame rest h.valid)
+    subst (λ (xs : List ℕ). decode_result (xs ++ rest) ≡ Ok (frame, length xs)) (sym h.spelled) (decoded_again frame rest h.valid)
 
 pub one_frame : (f g : Frame) (a b x y : List ℕ) → Spells f a → Spells g b → a ++ x ≡ b ++ y → (f ≡ g) × (a ≡ b)
 one_frame f g a b x y h k e =
     let same = same_value (f, length a) (g, length b) (sym (begins_so f a x h) ∙ ap decode_result e ∙ begins_so g b y k) in
     let frames : f ≡ g = ap (λ (p : Frame × ℕ). p.0) same in
-    (frames, spelling_is f a h ∙ ap spelling frames ∙ sym (spelling_is g b k))
+    (frames, h.spelled ∙ ap spelling frames ∙ sym k.spelled)
 
 -- ---- what decode answers
 
@@ -132,28 +132,35 @@ unless_bad : {A : Type 0} (bad : Bool) (read more : Result A FrameFault) → (co
 unless_bad true read more whole k = refl
 unless_bad false read more whole k = k whole
 
-with_length_settled : (size : ℕ) (bytes more : List ℕ) → 2 ≤ length bytes → (with_length size bytes ≡ Err Short → ⊥)
-    → with_length size (bytes ++ more) ≡ with_length size bytes
-unfolding with_length
-with_length_settled size bytes more two whole =
-    let out : Frame → Result (Frame × ℕ) FrameFault = λ frame. Ok (frame, 2 + size) in
-    let found : List ℕ → Result (Frame × ℕ) FrameFault = λ xs. frame_of (take size (drop 2 xs)) >>= out in
-    let same : ltb (length bytes) (2 + size) ≡ false → take size (drop 2 (bytes ++ more)) ≡ take size (drop 2 bytes) = λ h.
-    let long : size ≤ length (drop 2 bytes) = omega (arith, ltb-false (length bytes) (2 + size) h, length-drop 2 bytes) in
-    ap (take size) (drop-append-le 2 bytes more two) ∙ take-append-le size (drop 2 bytes) more long in
-    unless_bad (eqb size 0 || ltb MAX_BODY size) (cond (ltb (length bytes) (2 + size)) (Err Short) (found bytes))
-    (cond (ltb (length (bytes ++ more)) (2 + size)) (Err Short) (found (bytes ++ more))) whole
-    (λ enough. settled (ltb (length bytes) (2 + size)) (ltb (length (bytes ++ more)) (2 + size)) (found bytes) (found (bytes ++ more)) enough
-    (still_enough bytes more (2 + size))
-    (λ h read. ap (λ (xs : List ℕ). frame_of xs >>= out) (same h)))
+-- a frame's size stays the same when more bytes follow, unless they are short
+size_settled : (bytes more : List ℕ) → (frame_size bytes ≡ Err Short → ⊥) → frame_size (bytes ++ more) ≡ frame_size bytes
+unfolding frame_size stated_length
+size_settled bytes more whole =
+    let if_whole : ℕ → List ℕ → Result ℕ FrameFault = λ n xs. cond (ltb (length xs) (2 + n)) (Err Short) (Ok (2 + n)) in
+    let by_length : ℕ → List ℕ → Result ℕ FrameFault = λ n xs. cond (eqb n 0 || ltb MAX_BODY n) (Err BadLength) (if_whole n xs) in
+    let size = from_be_bytes w16 (take 2 bytes) in
+    settled (ltb (length bytes) 2) (ltb (length (bytes ++ more)) 2) (by_length size bytes)
+    (by_length (from_be_bytes w16 (take 2 (bytes ++ more))) (bytes ++ more)) whole (still_enough bytes more 2)
+    (λ two read.
+    ap (λ n. by_length (from_be_bytes w16 n) (bytes ++ more)) (take-append-le 2 bytes more (ltb-false (length bytes) 2 two))
+    ∙ unless_bad (eqb size 0 || ltb MAX_BODY size) (if_whole size bytes) (if_whole size (bytes ++ more)) read
+    (λ enough. settled (ltb (length bytes) (2 + size)) (ltb (length (bytes ++ more)) (2 + size)) (Ok (2 + size)) (Ok (2 + size)) enough
+    (still_enough bytes more (2 + size)) (λ h same. refl)))
 
--- the decoding of bytes stays the same when more bytes follow, unless they are short
+-- so does their decoding
 pub decoded_settled : (bytes more : List ℕ) → (decode_result bytes ≡ Err Short → ⊥) → decode_result (bytes ++ more) ≡ decode_result bytes
-unfolding decode_result stated_length
+unfolding decode_result
 decoded_settled bytes more whole =
-    settled (ltb (length bytes) 2) (ltb (length (bytes ++ more)) 2) (with_length (stated_length bytes) bytes)
-    (with_length (stated_length (bytes ++ more)) (bytes ++ more)) whole (still_enough bytes more 2)
-    (λ h read.
-    let two = ltb-false (length bytes) 2 h in
-    let stated : stated_length (bytes ++ more) ≡ stated_length bytes = ap (from_be_bytes w16) (take-append-le 2 bytes more two) in
-    ap (λ n. with_length n (bytes ++ more)) stated ∙ with_length_settled (stated_length bytes) bytes more two read)
+    ap (λ size. size >>= next (bytes ++ more)) (size_settled bytes more (λ short. whole (ap (λ size. size >>= next bytes) short)))
+    ∙ same (frame_size bytes) refl
+  where
+    next : List ℕ → ℕ → Result (Frame × ℕ) FrameFault
+    next xs size = frame_of (body_bytes xs size) >>= λ frame. Ok (frame, size)
+
+    same : (size : Result ℕ FrameFault) → frame_size bytes ≡ size → (size >>= next (bytes ++ more)) ≡ (size >>= next bytes)
+    same (Err fault) e = refl
+    same (Ok size) e =
+        let sized = sized_so bytes size e in
+        let within : size - 2 ≤ length (drop 2 bytes) = omega (arith, sized.2, length-drop 2 bytes) in
+        ap (λ xs. frame_of xs >>= λ frame. Ok (frame, size))
+        (ap (take (size - 2)) (drop-append-le 2 bytes more sized.0) ∙ take-append-le (size - 2) (drop 2 bytes) more within)

@@ -1,5 +1,5 @@
 -- The frames of a stream are those of its bytes, whatever the calls were.
-use Rattle.std.proofs.Common.{◌≡◌, ℕ, ◌<◌, Bool, true, false, Option, List, [], ◌∷◌, ◌++◌, take, drop, Result, Ok, Err, refl, sym, ap, subst, ◌∙◌, append_assoc}
+use Rattle.std.proofs.Common.{◌≡◌, ℕ, ◌<◌, Bool, true, false, Option, List, [], ◌∷◌, ◌++◌, drop, Result, Ok, Err, refl, sym, ap, subst, ◌∙◌, append_assoc}
 use Rattle.std.specs.List.{AllByRecursion, flat_map}
 use Rattle.std.proofs.lemmas.List.{append-nil, take-append-drop}
 use Rattle.std.proofs.lemmas.List.Concat.{flat_map-append}
@@ -12,7 +12,7 @@ use Rattle.sb_frames.specs.declared.fault.FrameFault.TheVariants.{Short, BadLeng
 use Rattle.sb_frames.specs.declared.fault.StreamFault.{StreamFault}
 use Rattle.sb_frames.specs.declared.fault.StreamFault.TheVariants.{Bad, Failed, OutOfMemory}
 use Rattle.sb_frames.specs.declared.frame.Frame.{Frame}
-use Rattle.sb_frames.proofs.Frames.{decoded_takes, spelling_is}
+use Rattle.sb_frames.proofs.Frames.{decoded_takes}
 
 -- what a call put in comes after the unread bytes, and what it handed out came before those that
 -- remain
@@ -46,11 +46,10 @@ by_keeps : (unread : List ℕ) (read : Result (Frame × ℕ) FrameFault) → Are
     → Keeps unread [] (frames_given (Next (next_by read unread).0)) (next_by read unread).1.unread
 by_keeps unread (Ok found) are e =
     let spelled = (decoded_takes unread found.0 found.1 are e).1 in
-    let front = spelling_is found.0 (take found.1 unread) spelled in
     record {
       valid = (spelled.valid, tt);
       whole = append-nil unread ∙ sym (take-append-drop found.1 unread)
-          ∙ ap (λ (xs : List ℕ). xs ++ drop found.1 unread) (front ∙ sym (append-nil (spelling found.0)));
+          ∙ ap (λ (xs : List ℕ). xs ++ drop found.1 unread) (spelled.spelled ∙ sym (append-nil (spelling found.0)));
       are = All-drop (λ byte. byte < 256) found.1 unread are;
     }
 by_keeps unread (Err Short) are e = nothing unread unread are refl

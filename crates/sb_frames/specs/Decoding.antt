@@ -1,5 +1,5 @@
 -- How bytes are decoded: the first frame and the number of bytes it takes, or the fault.
-use Rattle.std.specs.Prelude.{ℕ, ◌+◌, nat_lt, ◌==◌, ◌||◌, if◌then◌else◌, Result, Ok, Err, List, length, take, drop}
+use Rattle.std.specs.Prelude.{ℕ, ◌+◌, ◌-◌, nat_lt, ◌==◌, ◌||◌, if◌then◌else◌, Result, Ok, Err, List, length, take, drop}
 use Rattle.std.specs.Int.{w16, w32, w64, from_be_bytes}
 use Rattle.sb_frames.specs.Calls.{call_at}
 use Rattle.sb_frames.specs.Outcomes.{reply_at, outcome_at}
@@ -75,13 +75,17 @@ frame_of bytes = do
 unfoldable pub stated_length : List ℕ → ℕ
 stated_length bytes = from_be_bytes w16 (take 2 bytes)
 
--- the frame whose body has this length
-unfoldable pub with_length : ℕ → List ℕ → Result (Frame × ℕ) FrameFault
-with_length size bytes =
-    if (size == 0) || nat_lt MAX_BODY size then Err BadLength
-    else if nat_lt (length bytes) (2 + size) then Err Short
-    else frame_of (take size (drop 2 bytes)) >>= λ frame. Ok (frame, 2 + size)
+-- the number of bytes of the frame at the front, by the body length that they state
+unfoldable pub frame_size : List ℕ → Result ℕ FrameFault
+frame_size bytes =
+    if nat_lt (length bytes) 2 then Err Short
+    else if (stated_length bytes == 0) || nat_lt MAX_BODY (stated_length bytes) then Err BadLength
+    else if nat_lt (length bytes) (2 + stated_length bytes) then Err Short
+    else Ok (2 + stated_length bytes)
 
 -- the frame at the front of the bytes, and the number of bytes it takes, or the first fault
 unfoldable pub decode_result : List ℕ → Result (Frame × ℕ) FrameFault
-decode_result bytes = if nat_lt (length bytes) 2 then Err Short else with_length (stated_length bytes) bytes
+decode_result bytes = do
+  size ← frame_size bytes
+  frame ← frame_of (take (size - 2) (drop 2 bytes))
+  Ok (frame, size)

@@ -43,4 +43,4 @@ spelling frame = to_be_bytes w16 (length (body frame)) ++ body frame
 -- the frame is valid, and the bytes are its one spelling
 pub record Spells (frame : Frame) (bytes : List ℕ) : Type 0 where
   pub valid : IsFrame frame
-  pub spelled : bytes ≡ to_be_bytes w16 (length (body frame)) ++ body frame
+  pub spelled : bytes ≡ spelling frame

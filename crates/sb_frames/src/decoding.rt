@@ -97,8 +97,8 @@ fn read_outcome_frame(fields: &mut Fields) -> Result<Frame, FrameFault>
     })
 }
 
-// The frame, by its tag. This function and those it calls are inlined: otherwise each would copy
-// the frame that it hands on.
+// The frame, by its tag. This function is inlined, and so is the reader of an entry: otherwise each
+// would copy the frame that it hands on.
 #[inline]
 #[tactic(auto, unfolding(crate::specs::Decoding::tagged_at))]
 fn read_tagged(fields: &mut Fields) -> Result<Frame, FrameFault>
@@ -134,20 +134,24 @@ fn frame_of(body: &[u8]) -> Result<Frame, FrameFault>
 }
 
 // The body length that the first two bytes state.
-pub(crate) fn stated_length(bytes: &[u8]) -> usize
+fn stated_length(bytes: &[u8]) -> usize
     requires { LENGTH_BYTES ≤ length bytes.now }
     ensures { result ≡ spec.stated_length bytes.now }
 {
     usize::from(BigEndian::read_u16(bytes))
 }
 
-// The frame whose body has this length, after the two bytes that state it.
+// The number of bytes of the frame at the front, by the body length that they state.
 #[inline]
-#[tactic(auto, unfolding(crate::specs::Decoding::with_length))]
-fn with_length(size: usize, bytes: &[u8]) -> Result<(Frame, usize), FrameFault>
-    requires { LENGTH_BYTES ≤ length bytes.now }
-    ensures { result ≡ spec.with_length size bytes.now }
+#[tactic(auto, unfolding(crate::specs::Decoding::frame_size))]
+pub(crate) fn frame_size(bytes: &[u8]) -> Result<usize, FrameFault>
+    ensures exact { result ≡ spec.frame_size bytes.now }
+    ensures within { IfOk result (λ size. (LENGTH_BYTES ≤ size) × (size ≤ length bytes.now)) }
 {
+    if bytes.len() < LENGTH_BYTES {
+        return Err(FrameFault::Short);
+    }
+    let size = stated_length(bytes);
     if size == 0 || MAX_BODY < size {
         return Err(FrameFault::BadLength);
     }
@@ -155,8 +159,7 @@ fn with_length(size: usize, bytes: &[u8]) -> Result<(Frame, usize), FrameFault>
     if bytes.len() < end {
         return Err(FrameFault::Short);
     }
-    let frame = frame_of(&bytes[LENGTH_BYTES..end])?;
-    Ok((frame, end))
+    Ok(end)
 }
 
 // The frame, with the faults tested in order.
@@ -165,10 +168,9 @@ fn with_length(size: usize, bytes: &[u8]) -> Result<(Frame, usize), FrameFault>
 fn first_frame(bytes: &[u8]) -> Result<(Frame, usize), FrameFault>
     ensures { result ≡ decode_result bytes.now }
 {
-    if bytes.len() < LENGTH_BYTES {
-        return Err(FrameFault::Short);
-    }
-    with_length(stated_length(bytes), bytes)
+    let size = frame_size(bytes)?;
+    let frame = frame_of(&bytes[LENGTH_BYTES..size])?;
+    Ok((frame, size))
 }
 
 /// The frame at the front of the bytes, and the number of bytes it takes. Bytes after it aren't

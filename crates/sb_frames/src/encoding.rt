@@ -17,6 +17,7 @@ use byteorder::{BigEndian, ByteOrder};
 use sb_calls::{Call, WireReply};
 
 /// The bytes of a frame: the length of its body, its tag and its fields. It allocates nothing.
+#[tactic(auto, unfolding(crate::specs::Grammar::spelling))]
 pub fn encode(frame: &Frame) -> ArrayVec<u8, MAX_FRAME>
     ensures { Spells frame.now result.items }
 {
@@ -29,6 +30,7 @@ pub fn encode(frame: &Frame) -> ArrayVec<u8, MAX_FRAME>
 
 /// The bytes of the frame of a call of the log, as [`encode`] gives them.
 #[inline]
+#[tactic(auto, unfolding(crate::specs::Grammar::spelling))]
 pub fn encode_entry(number: u64, call: &Call) -> ArrayVec<u8, MAX_FRAME>
     ensures { Spells (Entry number call.now) result.items }
 {

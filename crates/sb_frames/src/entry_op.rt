@@ -1,5 +1,5 @@
 //! Entries of the log, read with their names looked up.
-ghost use Rattle.std.specs.Prelude.{◌≡◌, ◌≤◌, ℕ, List, length, IfOk, IfErr};
+ghost use Rattle.std.specs.Prelude.{◌≡◌, ℕ, List, length, IfOk, IfErr};
 ghost use Rattle.std.specs.Result.{result_ok};
 ghost use Rattle.sb_calls.specs.Op.{at_two_places};
 ghost use Rattle.sb_calls.specs.declared.op.Op.{Op as AnyOp};
@@ -11,9 +11,9 @@ ghost use Rattle.sb_frames.specs.inner.FieldReading.{TakesIfRead};
 use crate::call::{
     AMALGAMATE, BALANCE, DEPOSIT_CHECKING, SEND_PAYMENT, TRANSACT_SAVINGS, WRITE_CHECK,
 };
-use crate::decoding::{ENTRY, stated_length};
+use crate::decoding::{ENTRY, frame_size};
 use crate::fields::Fields;
-use crate::frame::{LENGTH_BYTES, MAX_BODY};
+use crate::frame::LENGTH_BYTES;
 use sb_calls::{Op, TwoPlaces};
 use sb_rows::Directory;
 
@@ -146,24 +146,6 @@ fn entry_of(body: &[u8], directory: &Directory) -> Option<EntryOp>
     }
 }
 
-// The entry whose body has this length, after the two bytes that state it.
-#[inline]
-#[tactic(auto, unfolding(crate::specs::inner::EntryReading::entry_with_length))]
-fn with_length(size: usize, bytes: &[u8], directory: &Directory) -> Option<(EntryOp, usize)>
-    requires { LENGTH_BYTES ≤ length bytes.now }
-    ensures { result ≡ result_ok (spec.entry_with_length directory.now size bytes.now) }
-{
-    if size == 0 || MAX_BODY < size {
-        return None;
-    }
-    let end = LENGTH_BYTES + size;
-    if bytes.len() < end {
-        return None;
-    }
-    let entry = entry_of(&bytes[LENGTH_BYTES..end], directory)?;
-    Some((entry, end))
-}
-
 /// The entry at the front of the bytes, and the number of bytes that it takes, or `None` if no whole
 /// entry is there.
 #[inline]
@@ -172,8 +154,9 @@ pub(crate) fn first_entry(bytes: &[u8], directory: &Directory) -> Option<(EntryO
     ensures entry { result ≡ result_ok (spec.first_entry directory.now bytes.now) }
     ensures bytes { AreBytes bytes.now }
 {
-    if bytes.len() < LENGTH_BYTES {
+    let Ok(size) = frame_size(bytes) else {
         return None;
-    }
-    with_length(stated_length(bytes), bytes, directory)
+    };
+    let entry = entry_of(&bytes[LENGTH_BYTES..size], directory)?;
+    Some((entry, size))
 }

@@ -53,7 +53,8 @@ pub enum Frame {
         /// The result.
         outcome: AskOutcome,
     },
-    /// Everything sent before must be handled now. It has no fields.
+    /// Everything sent before must be handled now. It has no fields. It is the default, which fills
+    /// an unused place of a list of frames.
     #[default]
     Flush,
     /// A replica reports the checkpoint that it keeps.

@@ -13,10 +13,11 @@ pub fn limits()
     ensures frame { MAX_FRAME ≡ 66 }
 {}
 
-/// No spelling is the beginning of another, and each is of one frame: bytes that begin with one
+/// A frame has one spelling, and no spelling is the beginning of another: bytes that begin with one
 /// spelling begin with no other, and spell one frame.
 pub fn one_spelling()
-    ensures { (f g : AnyFrame) (a b x y : List ℕ) → Spells f a → Spells g b
+    ensures frame { (f : AnyFrame) (a b : List ℕ) → Spells f a → Spells f b → a ≡ b }
+    ensures front { (f g : AnyFrame) (a b x y : List ℕ) → Spells f a → Spells g b
         → a ++ x ≡ b ++ y → (f ≡ g) × (a ≡ b) }
 {}
 

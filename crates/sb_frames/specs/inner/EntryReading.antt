@@ -1,16 +1,15 @@
 -- Entries read from the left, with the names of their calls looked up.
-use Rattle.std.specs.Prelude.{ℕ, ℤ, ◌+◌, nat_lt, ◌==◌, ◌||◌, if◌then◌else◌, Option, Result, Ok, Err, List, length, take, drop}
+use Rattle.std.specs.Prelude.{ℕ, ℤ, ◌-◌, ◌==◌, if◌then◌else◌, Option, Result, Ok, Err, List, length, take, drop}
 use Rattle.std.specs.Int.{w64}
 use Rattle.sb_calls.specs.Op.{at_place, at_two_places}
 use Rattle.sb_calls.specs.declared.op.Op.{Op}
 use Rattle.sb_calls.specs.declared.op.Op.TheVariants.{Balance, DepositChecking, TransactSavings, Amalgamate, WriteCheck, SendPayment}
 use Rattle.sb_rows.specs.Directory.{place_of}
-use Rattle.sb_frames.specs.Decoding.{stated_length}
+use Rattle.sb_frames.specs.Decoding.{frame_size}
 use Rattle.sb_frames.specs.Reading.{◌>>=◌, byte_at, amount_at, name_at, unsigned_at}
 use Rattle.sb_frames.specs.declared.entry_op.EntryOp.{EntryOp}
 use Rattle.sb_frames.specs.declared.fault.FrameFault.{FrameFault}
-use Rattle.sb_frames.specs.declared.fault.FrameFault.TheVariants.{Short, BadLength, UnknownTag}
-use Rattle.sb_frames.specs.declared.frame.TheConstants.{MAX_BODY}
+use Rattle.sb_frames.specs.declared.fault.FrameFault.TheVariants.{BadLength, UnknownTag}
 
 -- the place of the customer with a name
 unfoldable pub place_at : List (List ℕ) → List ℕ → Result (Option ℕ × List ℕ) FrameFault
@@ -67,14 +66,9 @@ body_entry names bytes = do
   entry ← if tag.0 == 2 then entry_op_at names tag.1 else Err UnknownTag
   if length entry.1 == 0 then Ok entry.0 else Err BadLength
 
--- the entry whose body has this length
-unfoldable pub entry_with_length : List (List ℕ) → ℕ → List ℕ → Result (EntryOp × ℕ) FrameFault
-entry_with_length names size bytes =
-    if (size == 0) || nat_lt MAX_BODY size then Err BadLength
-    else if nat_lt (length bytes) (2 + size) then Err Short
-    else body_entry names (take size (drop 2 bytes)) >>= λ entry. Ok (entry, 2 + size)
-
 -- the entry at the front of the bytes, and the number of bytes that it takes, or a fault if none is
 unfoldable pub first_entry : List (List ℕ) → List ℕ → Result (EntryOp × ℕ) FrameFault
-first_entry names bytes =
-    if nat_lt (length bytes) 2 then Err Short else entry_with_length names (stated_length bytes) bytes
+first_entry names bytes = do
+  size ← frame_size bytes
+  entry ← body_entry names (take (size - 2) (drop 2 bytes))
+  Ok (entry, size)
