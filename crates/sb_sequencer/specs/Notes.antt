@@ -12,15 +12,15 @@ use Rattle.sb_sequencer.specs.declared.note.HaveNote.TheVariants as haves
 use Rattle.sb_sequencer.specs.declared.note.AnswerNote.{AnswerNote}
 use Rattle.sb_sequencer.specs.declared.note.AnswerNote.TheVariants as answers
 
--- a length is accepted if the replica exists and the log is at least as long
-abbrev pub accepts_length : SequencerOf → ℕ → ℕ → Bool
-accepts_length s replica size = nat_lt replica (length s.recorded) && nat_le size (length s.log)
+-- a length is recorded if the replica exists and the log is at least as long
+abbrev pub records_length : SequencerOf → ℕ → ℕ → Bool
+records_length s replica size = nat_lt replica (length s.recorded) && nat_le size (length s.log)
 
 -- ---- how much of the log a replica has
 
 -- the note on an acknowledgement
 abbrev pub note_of_ack : SequencerOf → ℕ → ℕ → AckNote
-note_of_ack s replica size = if accepts_length s replica size then acks.Recorded else acks.Odd
+note_of_ack s replica size = if records_length s replica size then acks.Recorded else acks.Odd
 
 -- a recorded length replaces the old one
 abbrev pub after_ack_note : SequencerOf → ℕ → ℕ → AckNote → SequencerOf
@@ -35,7 +35,7 @@ after_ack s replica size = after_ack_note s replica size (note_of_ack s replica 
 
 -- the note on a checkpoint's length
 abbrev pub note_of_have : SequencerOf → ℕ → ℕ → HaveNote
-note_of_have s replica size = if accepts_length s replica size then haves.Recorded else haves.Odd
+note_of_have s replica size = if records_length s replica size then haves.Recorded else haves.Odd
 
 -- a recorded length replaces the old one
 abbrev pub after_have_note : SequencerOf → ℕ → ℕ → HaveNote → SequencerOf

@@ -13,7 +13,7 @@ pub enum Numbered {
     Repeat(u64),
 }
 
-/// Why a request gets no number. The log stays as it was.
+/// Why an ask is refused. The log stays as it was.
 #[derive(Clone, Copy, Debug, PartialEq, Eq, Error)]
 pub enum AskFault {
     /// The key already has this number, with another call.

@@ -34,9 +34,9 @@ impl Sequencer {
         let checkpoints = self.checkpoints.as_slice();
         let mut donor = None;
         let mut most = length;
-        for position in 0..checkpoints.len() {
-            let other = position as u8;
-            let size = checkpoints[position];
+        for index in 0..checkpoints.len() {
+            let other = index as u8;
+            let size = checkpoints[index];
             // Of several with the same length, the first stays.
             if other != replica && size > most {
                 most = size;

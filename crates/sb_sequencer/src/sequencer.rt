@@ -220,7 +220,8 @@ impl Sequencer {
         entries
     }
 
-    /// Notes that a replica has the log up to a length. A length may be below the one before.
+    /// Notes that a replica has this much of the log. The last length received counts, even if it is
+    /// below the one before. An `Odd` one changes nothing. It allocates nothing.
     pub fn on_ack(&mut self, replica: u8, length: u64) -> AckNote
         ensures note { result ≡ note_of_ack self.old replica length }
         ensures state { self.new ≡ after_ack self.old replica length }

@@ -1,5 +1,5 @@
 use Rattle.sb_sequencer.proofs.DonorChoice.{IsDonorBefore}
 use Rattle.sb_sequencer.proofs.sequencer.Sequencer.donor_above.Given as goal
 
-abbrev pub invariant-loop-position : goal.invariant-loop-position
-invariant-loop-position l = IsDonorBefore l.checkpoints l.replica l.length l.position l.most l.donor
+abbrev pub invariant-loop-index : goal.invariant-loop-index
+invariant-loop-index l = IsDonorBefore l.checkpoints l.replica l.length l.index l.most l.donor
