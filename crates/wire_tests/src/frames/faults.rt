@@ -125,7 +125,7 @@ fn names_at_fault(rt: HostRuntime) {
         &rt,
         FrameFault::BadLength,
         &[
-            // The bytes are checked once all of them are there, and before the amount.
+            // The bytes are checked once all of them are there.
             "02 0000000000000001 01 05 41",
         ],
     );
@@ -133,6 +133,7 @@ fn names_at_fault(rt: HostRuntime) {
         &rt,
         FrameFault::BadName,
         &[
+            // They are checked before the amount.
             "02 0000000000000001 02 03 422f62 00",
             "02 0000000000000001 03 03 62ff62 0000000000000000",
             "02 0000000000000001 05 01 7b 0000000000000000",

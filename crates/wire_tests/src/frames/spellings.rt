@@ -58,7 +58,7 @@ fn an_ack_and_a_have_by_hand(rt: HostRuntime) {
     }
 }
 
-// Every kind of call, every reply and every outcome, each after the same fields.
+// Every kind of call, each after the same number.
 #[test]
 fn every_call_both_ways(rt: HostRuntime) {
     let alice = name(&rt, "alice");

@@ -88,6 +88,10 @@ fn room_for_more_calls_than_a_log_takes(rt: HostRuntime) {
 #[test]
 fn takes_more_calls_than_it_was_opened_for(rt: HostRuntime) {
     play_steps_with_room(&rt, 2, &[Step::AskMany(40, "alice"), Step::Length(40)]);
+}
+
+#[test]
+fn room_that_no_machine_has(rt: HostRuntime) {
     assert!(rt; Sequencer::with_capacity(rt.alloc(), 1, usize::MAX).is_err());
 }
 
