@@ -53,9 +53,9 @@ fn heard_note(heard: Heard) -> Note
 fn empty_hands(alloc: Global, workers: usize) -> Result<Vec<Option<Job<Op>>>, AllocError>
     ensures { IfOk result (λ hands. hands.items ≡ replicate workers None) }
 {
-    let mut hands = Vec::new(alloc);
+    let mut hands = Vec::with_capacity(alloc, workers)?;
     for _ in 0..workers {
-        hands.push(None)?;
+        hands.push_reserved(None);
     }
     Ok(hands)
 }
