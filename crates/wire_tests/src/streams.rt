@@ -235,6 +235,7 @@ fn a_long_stream_in_one_piece(rt: HostRuntime) {
 }
 
 // The rest of this entry comes, and then the first byte of the next one.
+#[tactic(auto, unfolding(sb_frames::specs::Grammar::spelling))]
 fn feed_with_next(rt: &impl Abort, stream: &mut Stream, entry: Frame) {
     for byte in &encode(&entry)[1..] {
         takes(rt, stream, &[*byte]);
