@@ -26,10 +26,10 @@ IsTextFaultOf (Input line fault) read = read ≡ Err (line, fault)
 IsTextFaultOf OutOfMemory read = Unit {0}
 IsTextFaultOf other read = ⊥
 
--- after a fault of the input nothing was written
+-- unless a device failed, nothing was written
 abbrev pub LeavesOutput : RunFault → Option (List ℕ) → Option (List ℕ) → Type 0
-LeavesOutput (Input line fault) old new = Keeps old new
-LeavesOutput other old new = Unit {0}
+LeavesOutput Device old new = Unit {0}
+LeavesOutput other old new = Keeps old new
 
 -- a fault's number
 abbrev pub run_fault_number : RunFault → ℕ
@@ -44,23 +44,27 @@ abbrev pub IsExecutionFault : Bool → BoardOf Op → CrewFault → Type 0
 IsExecutionFault keeps board crew.CrewGone = keeps ≡ false → ¬ HasNoneOut board
 IsExecutionFault keeps board crew.OutOfMemory = Unit {0}
 
+-- a follower among this many nodes: each node but node 0
+abbrev pub IsFollower : ℕ → ℕ → Type 0
+IsFollower nodes node = (1 ≤ node) × (node < nodes)
+
 -- memory was refused, or a follower among this many nodes strayed
 abbrev pub IsFollowersFault : ℕ → RunFault → Type 0
-IsFollowersFault nodes (Strayed node) = (1 ≤ node) × (node < nodes)
+IsFollowersFault nodes (Strayed node) = IsFollower nodes node
 IsFollowersFault nodes OutOfMemory = Unit {0}
 IsFollowersFault nodes other = ⊥
 
 -- what ends a run of this many nodes and workers once its input was read: a follower strayed, or
 -- there are workers and the crew is gone, or memory was refused
 abbrev pub IsNodesFault : ℕ → ℕ → RunFault → Type 0
-IsNodesFault nodes workers (Strayed node) = (1 ≤ node) × (node < nodes)
+IsNodesFault nodes workers (Strayed node) = IsFollower nodes node
 IsNodesFault nodes workers CrewGone = 0 < workers
 IsNodesFault nodes workers OutOfMemory = Unit {0}
 IsNodesFault nodes workers other = ⊥
 
 -- only a follower among this many nodes strays
 abbrev pub StraysAmong : ℕ → RunFault → Type 0
-StraysAmong nodes (Strayed node) = (1 ≤ node) × (node < nodes)
+StraysAmong nodes (Strayed node) = IsFollower nodes node
 StraysAmong nodes other = Unit {0}
 
 -- the crew is gone only if there are workers

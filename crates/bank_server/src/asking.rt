@@ -64,7 +64,7 @@ pub fn ask_lines<S: CheckpointStore>(
         (λ fault. IsTextFaultOf fault (in_call (asks_from first_line [] (lines text.now)))) }
     ensures node { primary.new.node ≡ primary.old.node }
 {
-    let mut batch = Vec::with_capacity(alloc, BATCH_LINES)?;
+    let mut batch = Vec::new(alloc);
     let mut standings = Vec::with_capacity(alloc, usual_lines(text.len()))?;
     ask_all(text, first_line, primary, &mut batch, &mut standings)?;
     Ok(standings)

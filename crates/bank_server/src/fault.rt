@@ -42,7 +42,7 @@ pub enum RunFault {
     /// A read or a write failed. Part of the output may be written.
     #[error("device")]
     Device,
-    /// Memory was refused.
+    /// Memory was refused. Nothing was written.
     #[error("out of memory")]
     OutOfMemory,
 }

@@ -52,9 +52,10 @@ impl<'a, R: Wait> FollowerChannels<'a, R> {
 
     /// Has the followers execute what was sent.
     pub(crate) fn flush(&self) -> Result<(), AllocError> {
-        let mut bytes = Vec::new(self.alloc);
-        bytes.extend_from_slice(&encode(&Frame::Flush))?;
-        self.send(bytes)
+        if self.senders.is_empty() {
+            return Ok(());
+        }
+        self.send(Vec::from_slice(self.alloc, &encode(&Frame::Flush))?)
     }
 
     /// Sends nothing more.

@@ -1,4 +1,5 @@
-//! What the programs do for a bank: they run an input, and the output is a stated function of it.
+//! What the programs do for a bank: runs and sessions, whose outputs are stated functions of their
+//! inputs.
 #![tactic(auto)]
 
 mod agreement;

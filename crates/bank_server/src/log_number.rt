@@ -24,7 +24,7 @@ impl Model for LogNumber {
 }
 
 impl LogNumber {
-    /// The number, if it is one of a log.
+    /// This number, which is one of a log.
     pub fn new(number: u64) -> LogNumber
         requires { IsLogNumber number }
         ensures { result ≡ number }

@@ -23,19 +23,20 @@ use std::time::Clock;
 ///
 /// The whole input is read and checked before anything is written. Node 0 executes the log, and so
 /// does each of the other nodes, the followers, in a thread of its own. Node 0 is compared with
-/// them before anything is written. With workers, one of them executes each of node 0's calls,
-/// between two calls of the gate; without any, calls are executed in place. The output is the same
-/// for every number of nodes and of workers.
+/// them before anything is written. With workers, each of node 0's calls is executed between two
+/// calls of the gate, by a worker or, if the gate admits it, by the thread that waits for them.
+/// Without any, calls are executed in place. The output is the same for every number of nodes and
+/// of workers.
 ///
 /// Fails with
-/// - [`RunFault::Input`] at the first line at fault; nothing was written then,
-/// - [`RunFault::Strayed`] if a follower can't be started, or differs from node 0; nothing was
-///   written then,
-/// - [`RunFault::CrewGone`] if a worker can't be started, or the workers left something unfinished;
-///   nothing was written then,
+/// - [`RunFault::Input`] at the first line at fault,
+/// - [`RunFault::Strayed`] if a follower can't be started, or differs from node 0,
+/// - [`RunFault::CrewGone`] if a worker can't be started, or the workers left something unfinished,
+/// - [`RunFault::OutOfMemory`] if memory is refused,
 /// - [`RunFault::Device`] if a read or a write fails, or the input takes more than
-///   [`sb_text::READS`] reads; part of the output may be written then,
-/// - [`RunFault::OutOfMemory`] if memory is refused.
+///   [`sb_text::READS`] reads.
+///
+/// After [`RunFault::Device`] part of the output may be written, after all others nothing.
 pub fn run_text<H: Threads + Wait + Clock + Sync, R: Read, W: Write, G: Gate + Sync>(
     rt: &H,
     alloc: Global,
@@ -53,7 +54,7 @@ pub fn run_text<H: Threads + Wait + Clock + Sync, R: Read, W: Write, G: Gate + S
     // A fault of the input is its first one.
     ensures first { IfErr result (λ fault. IfSome (R.remaining reader.old) (λ input.
         IsFirstInputFault fault (output_of input))) }
-    // Nothing was written after a fault of the input.
+    // Nothing was written, unless a device failed.
     ensures unwritten { IfErr result (λ fault.
         LeavesOutput fault (W.contents writer.old) (W.contents writer.new)) }
     // Only a follower strays.

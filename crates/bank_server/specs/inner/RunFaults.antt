@@ -1,11 +1,12 @@
 -- Where a run's faults come from: its input, its followers and its crew.
-use Rattle.std.specs.Prelude.{◌≢◌, ◌<◌, ◌≤◌, ℕ, Bool, false}
+use Rattle.std.specs.Prelude.{◌≢◌, ◌<◌, ℕ, Bool, false}
 use Rattle.sb_rows.specs.declared.fault.OpeningFault.{OpeningFault}
 use Rattle.sb_rows.specs.declared.fault.OpeningFault.TheVariants as openings
 use Rattle.sb_text.specs.declared.input.ReadFault.{ReadFault}
 use Rattle.sb_text.specs.declared.input.ReadFault.TheVariants as reading
 use Rattle.cown_workers.specs.declared.crew_fault.CrewFault.{CrewFault}
 use Rattle.cown_workers.specs.declared.crew_fault.CrewFault.TheVariants as crew
+use Rattle.bank_server.specs.Faults.{IsFollower}
 use Rattle.bank_server.specs.declared.fault.InputFault.TheVariants.{Opening}
 use Rattle.bank_server.specs.declared.fault.RunFault.{RunFault}
 use Rattle.bank_server.specs.declared.fault.RunFault.TheVariants.{Input, Strayed, CrewGone, Device, OutOfMemory}
@@ -23,7 +24,7 @@ run_of_opening_fault openings.OutOfMemory = OutOfMemory
 -- memory was refused, or a follower among this many nodes strayed, or the crew is gone; a crew that
 -- keeps no job is never gone
 abbrev pub IsTeamFault : ℕ → Bool → RunFault → Type 0
-IsTeamFault nodes keeps (Strayed node) = (1 ≤ node) × (node < nodes)
+IsTeamFault nodes keeps (Strayed node) = IsFollower nodes node
 IsTeamFault nodes keeps CrewGone = keeps ≢ false
 IsTeamFault nodes keeps OutOfMemory = Unit {0}
 IsTeamFault nodes keeps other = ⊥
