@@ -1,5 +1,5 @@
 -- What is handled, frame after frame.
-use Rattle.std.proofs.Common.{◌≡◌, ℕ, Bool, Result, Err, List, [], ◌∷◌, ◌++◌, refl, sym, ap, ◌∙◌, append_assoc, append-nil}
+use Rattle.std.proofs.Common.{◌≡◌, ℕ, Bool, false, Result, Err, List, [], ◌∷◌, ◌++◌, refl, sym, ap, ◌∙◌, append_assoc, append-nil}
 use Rattle.std.specs.Prelude.{◌≢◌}
 use Rattle.std.specs.List.{flat_map}
 use Rattle.std.proofs.lemmas.Grind.{flat_map-append}
@@ -43,11 +43,11 @@ hears_frame opening old mid new unread left behind frame bytes heard spells is l
 pub keeps_on : {S : Type 0} (old mid new : PrimaryOf S) → PreservesBank old mid → PreservesBank mid new → PreservesBank old new
 keeps_on old mid new first second = record { rest = second.rest ∙ first.rest; opening = second.opening ∙ first.opening }
 
-pub loses_behind : (keeps : Bool) (old mid : BoardOf Op) (fault : SessionFault) → (HasNoneOut old → HasNoneOut mid) → LosesCrew keeps mid fault
+pub loses_behind : (keeps : Bool) (old mid : BoardOf Op) (fault : SessionFault) → (keeps ≡ false → HasNoneOut old → HasNoneOut mid) → LosesCrew keeps mid fault
     → LosesCrew keeps old fault
 loses_behind keeps old mid (Frame f) none is = tt
 loses_behind keeps old mid Unexpected none is = tt
-loses_behind keeps old mid CrewGone none is = λ e out. is e (none out)
+loses_behind keeps old mid CrewGone none is = λ e out. is e (none e out)
 loses_behind keeps old mid Device none is = tt
 loses_behind keeps old mid OutOfMemory none is = tt
 

@@ -1,5 +1,5 @@
 -- The ops of a log while a node executes them.
-use Rattle.std.proofs.Common.{◌≡◌, ℕ, zero, suc, Bool, Option, Some, None, List, [], ◌∷◌, ◌++◌, length, map, sym, ap, ◌∙◌, append_assoc}
+use Rattle.std.proofs.Common.{◌≡◌, ℕ, zero, suc, Bool, false, Option, Some, None, List, [], ◌∷◌, ◌++◌, length, map, sym, ap, ◌∙◌, append_assoc}
 use Rattle.std.specs.Prelude.{slice_get}
 use Rattle.std.proofs.lemmas.List.{length-map}
 use Rattle.sb_calls.specs.declared.ask.Key.{Key}
@@ -21,9 +21,9 @@ none_is_some : {A : Type 0} {x : A} → ◌≡◌ {A = Option A} None (Some x) �
 none_is_some h = cc
 
 -- a fault after steps that ended well is a fault of all of them
-pub fault_behind : (keeps : Bool) (old mid : BoardOf Op) (fault : CrewFault) → (HasNoneOut old → HasNoneOut mid)
+pub fault_behind : (keeps : Bool) (old mid : BoardOf Op) (fault : CrewFault) → (keeps ≡ false → HasNoneOut old → HasNoneOut mid)
     → IsExecutionFault keeps mid fault → IsExecutionFault keeps old fault
-fault_behind keeps old mid crew.CrewGone none is = λ e out. is e (none out)
+fault_behind keeps old mid crew.CrewGone none is = λ e out. is e (none e out)
 fault_behind keeps old mid crew.OutOfMemory none is = tt
 
 -- and so it ends a session

@@ -14,4 +14,5 @@ pub mod Session
 pub mod SessionFaults
 pub mod SessionResults
 pub mod Standing
+pub mod Team
 pub mod inner

@@ -68,7 +68,7 @@ pub(crate) fn handle_bytes<W: Write, S: CheckpointStore, C: Crew>(
         (session_state_of primary.old.log buffers.old (W.contents writer.old)) (buffers.old.stream.unread ++ bytes.now)
         fault (session_state_of primary.new.log buffers.new (W.contents writer.new))) }
     ensures bank { PreservesBank primary.old primary.new }
-    ensures none_out { OnOk result (HasNoneOut primary.old.node.board → HasNoneOut primary.new.node.board) }
+    ensures none_out { C.keeps ≡ false → HasNoneOut primary.old.node.board → HasNoneOut primary.new.node.board }
     ensures crew_lost { IfErr result (LosesCrew C.keeps primary.old.node.board) }
 {
     if buffers.stream.feed(bytes).is_err() {
@@ -97,7 +97,7 @@ fn handle_frames<W: Write, S: CheckpointStore, C: Crew>(
         (session_state_of primary.old.log buffers.old (W.contents writer.old)) buffers.old.stream.unread
         fault (session_state_of primary.new.log buffers.new (W.contents writer.new))) }
     ensures bank { PreservesBank primary.old primary.new }
-    ensures none_out { OnOk result (HasNoneOut primary.old.node.board → HasNoneOut primary.new.node.board) }
+    ensures none_out { C.keeps ≡ false → HasNoneOut primary.old.node.board → HasNoneOut primary.new.node.board }
     ensures crew_lost { IfErr result (LosesCrew C.keeps primary.old.node.board) }
 {
     loop {
@@ -130,7 +130,7 @@ fn handle_frame<W: Write, S: CheckpointStore, C: Crew>(
         (session_state_of primary.new.log buffers.new (W.contents writer.new))) }
     ensures stream { buffers.new.stream ≡ buffers.old.stream }
     ensures bank { PreservesBank primary.old primary.new }
-    ensures none_out { OnOk result (HasNoneOut primary.old.node.board → HasNoneOut primary.new.node.board) }
+    ensures none_out { C.keeps ≡ false → HasNoneOut primary.old.node.board → HasNoneOut primary.new.node.board }
     ensures crew_lost { IfErr result (LosesCrew C.keeps primary.old.node.board) }
 {
     match frame {
@@ -190,7 +190,7 @@ fn send_outcomes<W: Write, S: CheckpointStore, C: Crew>(
     ensures fault { IfErr result IsFlushFault }
     ensures stream { buffers.new.stream ≡ buffers.old.stream }
     ensures bank { PreservesBank primary.old primary.new }
-    ensures none_out { OnOk result (HasNoneOut primary.new.node.board) }
+    ensures none_out { C.keeps ≡ false → HasNoneOut primary.old.node.board → HasNoneOut primary.new.node.board }
     ensures crew_lost { IfErr result (LosesCrew C.keeps primary.old.node.board) }
 {
     primary.settle(crew)?;

@@ -31,7 +31,7 @@ pub(crate) fn catch_up<S: CheckpointStore, C: Crew>(
     ensures whole { OnOk result (node.new.board.log ≡ log_ops node.old.names log.now.log) }
     ensures opening { node.new.board.opening ≡ node.old.board.opening }
     ensures rest { rest_of node.new ≡ rest_of node.old }
-    ensures none_out { OnOk result (HasNoneOut node.old.board → HasNoneOut node.new.board) }
+    ensures none_out { C.keeps ≡ false → HasNoneOut node.old.board → HasNoneOut node.new.board }
     ensures fault { IfErr result IsSettleFault }
     ensures crew_lost { IfErr result (LosesCrew C.keeps node.old.board) }
 {
@@ -59,6 +59,7 @@ pub(crate) fn execute_rest<S: CheckpointStore, C: Crew>(
     ensures whole { OnOk result (IsWholeLog (log_ops node.old.names log.now.log) node.new.board) }
     ensures opening { node.new.board.opening ≡ node.old.board.opening }
     ensures rest { rest_of node.new ≡ rest_of node.old }
+    ensures none_out { C.keeps ≡ false → HasNoneOut node.old.board → HasNoneOut node.new.board }
     ensures fault { IfErr result IsSettleFault }
     ensures crew_lost { IfErr result (LosesCrew C.keeps node.old.board) }
 {

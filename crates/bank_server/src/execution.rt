@@ -126,6 +126,7 @@ pub(crate) fn submit<S: CheckpointStore, C: Crew>(
     ensures put { OnOk result (AppendsOps (op.now ∷ []) replica.old.board replica.new.board) }
     // After a fault the log is as it was.
     ensures err { OnErr result (PreservesLog replica.old.board replica.new.board) }
+    ensures none_out { C.keeps ≡ false → HasNoneOut replica.old.board → HasNoneOut replica.new.board }
     ensures rest { rest_of replica.new ≡ rest_of replica.old }
     ensures fault { IfErr result (IsExecutionFault C.keeps replica.old.board) }
 {
@@ -150,6 +151,7 @@ pub(crate) fn settle<S: CheckpointStore, C: Crew>(
     crew: &mut C,
 ) -> Result<(), CrewFault>
     ensures idle { OnOk result (unfinished_of replica.new.board ≡ 0) }
+    ensures none_out { C.keeps ≡ false → HasNoneOut replica.old.board → HasNoneOut replica.new.board }
     ensures log { PreservesLog replica.old.board replica.new.board }
     ensures rest { rest_of replica.new ≡ rest_of replica.old }
     ensures fault { IfErr result (IsExecutionFault C.keeps replica.old.board) }

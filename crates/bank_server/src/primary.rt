@@ -35,7 +35,7 @@ use std::alloc::{AllocError, Global};
 use std::marker::Model;
 use std::sync::Wait;
 
-/// The log, and node 0, which has executed a beginning of it.
+/// The log, and node 0, whose own log is a beginning of it.
 #[derive(Drop)]
 pub struct Primary<S: CheckpointStore> {
     alloc: Global,
@@ -122,7 +122,7 @@ impl<S: CheckpointStore> Primary<S> {
     pub(crate) fn offer_rest<C: Crew>(&mut self, crew: &mut C) -> Result<(), SessionFault>
         ensures log { self.new.log ≡ self.old.log }
         ensures bank { PreservesBank self.old self.new }
-        ensures none_out { OnOk result (HasNoneOut self.old.node.board → HasNoneOut self.new.node.board) }
+        ensures none_out { C.keeps ≡ false → HasNoneOut self.old.node.board → HasNoneOut self.new.node.board }
         ensures fault { IfErr result IsSettleFault }
         ensures crew_lost { IfErr result (LosesCrew C.keeps self.old.node.board) }
     {
@@ -143,6 +143,8 @@ impl<S: CheckpointStore> Primary<S> {
         // It has one number for each key.
         ensures one_each { IsLog self.new.log }
         ensures bank { PreservesBank self.old self.new }
+        // A crew that keeps no job leaves none out, after a fault too.
+        ensures none_out { C.keeps ≡ false → HasNoneOut self.old.node.board → HasNoneOut self.new.node.board }
         ensures fault { IfErr result IsSettleFault }
         ensures crew_lost { IfErr result (LosesCrew C.keeps self.old.node.board) }
     {

@@ -1,5 +1,6 @@
 //! A client's session.
 ghost use Rattle.std.specs.Prelude.{◌≡◌, [], false, IfErr, IfSome, OnOk};
+ghost use Rattle.cown_workers.specs.Draining.{HasNoneOut};
 ghost use Rattle.bank_server.specs.Primary.{HasWholeLog, PreservesBank, opening_rows_of};
 ghost use Rattle.bank_server.specs.inner.FlushFaults.{IsEndFault};
 ghost use Rattle.bank_server.specs.SessionFaults.{LosesCrew};
@@ -53,6 +54,8 @@ pub fn serve_session<R: Read, W: Write, S: CheckpointStore, C: Crew>(
         ServesUntilFault (opening_rows_of primary.old) primary.old.log primary.new.log (W.contents writer.old)
         (W.contents writer.new) input fault)) }
     ensures bank { PreservesBank primary.old primary.new }
+    // A crew that keeps no job leaves none out, after a fault too.
+    ensures none_out { C.keeps ≡ false → HasNoneOut primary.old.node.board → HasNoneOut primary.new.node.board }
     ensures crew_lost { IfErr result (LosesCrew C.keeps primary.old.node.board) }
 {
     primary.settle(crew)?;
@@ -83,6 +86,7 @@ fn end<S: CheckpointStore, C: Crew>(
     ensures log { primary.new.log ≡ primary.old.log }
     ensures fault { IfErr result (IsEndFault buffers.now.stream) }
     ensures bank { PreservesBank primary.old primary.new }
+    ensures none_out { C.keeps ≡ false → HasNoneOut primary.old.node.board → HasNoneOut primary.new.node.board }
     ensures crew_lost { IfErr result (LosesCrew C.keeps primary.old.node.board) }
 {
     if !buffers.stream.ended() {

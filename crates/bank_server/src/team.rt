@@ -3,6 +3,7 @@ ghost use Rattle.std.specs.Prelude.{◌≡◌, ℕ, ◌≤◌, ◌<◌, Bool, tr
 ghost use Rattle.std.specs.Fn.{FnOnceReturnsAtMut};
 ghost use Rattle.bank_server.specs.Faults.{IsNodesFault};
 ghost use Rattle.bank_server.specs.inner.RunFaults.{IsWorkersFault};
+ghost use Rattle.bank_server.specs.Team.{IsDoneBy};
 
 use crate::fault::RunFault;
 use crate::followers::{Followers, with_followers};
@@ -74,8 +75,7 @@ where
     requires ready { D.ready duty }
     // The crew that does it has as many workers as the caller wants; one that may keep a job has
     // some.
-    ensures answer { IfOk result (λ answer. (keeps : Bool) × ((keeps ≡ true → 0 < workers)
-        × D.does duty followers.nodes workers keeps answer)) }
+    ensures answer { IfOk result (IsDoneBy workers (D.does duty followers.nodes)) }
     ensures fault { IfErr result (IsNodesFault followers.nodes workers) }
 {
     with_followers(
@@ -85,8 +85,7 @@ where
         move |followers: &mut Followers<'_, H>| -> Result<D::Answer, RunFault>
             requires workers { workers ≤ WORKERS }
             requires ready { D.ready duty }
-            ensures answer { IfOk result (λ answer. (keeps : Bool) × ((keeps ≡ true → 0 < workers)
-                × D.does duty followers.old.nodes workers keeps answer)) }
+            ensures answer { IfOk result (IsDoneBy workers (D.does duty followers.old.nodes)) }
             ensures fault { IfErr result (IsWorkersFault workers) }
         { by_workers(rt, alloc, followers, workers, gate, duty) },
     )?
@@ -107,8 +106,7 @@ where
     D: Duty + Drop,
     requires workers { workers ≤ WORKERS }
     requires ready { D.ready duty }
-    ensures answer { IfOk result (λ answer. (keeps : Bool) × ((keeps ≡ true → 0 < workers)
-        × D.does duty followers.old.nodes workers keeps answer)) }
+    ensures answer { IfOk result (IsDoneBy workers (D.does duty followers.old.nodes)) }
     ensures fault { IfErr result (IsWorkersFault workers) }
 {
     if workers == 0 {

@@ -1,5 +1,5 @@
 use Rattle.std.proofs.Common.{◌++◌, refl}
-use Rattle.std.proofs.lemmas.Result.{err_from_is_err_and, on_ok_weaker}
+use Rattle.std.proofs.lemmas.Result.{err_from_is_err_and}
 use Rattle.bank_server.specs.inner.SessionSteps.{session_state_of}
 use Rattle.bank_server.specs.Primary.{opening_rows_of}
 use Rattle.bank_server.proofs.FrameSteps.{hears_nothing, loses_behind}
@@ -19,10 +19,10 @@ returns-in_err-handle_frames-clause-crew_lost g c =
 
 pub returns-clause-none_out : goal.returns-clause-none_out
 returns-clause-none_out g c =
-    on_ok_weaker c.offer_rest.result (λ later none. later (c.in_ok-handle_frames.ensures.none_out none)) c.offer_rest.ensures.none_out
+    λ e none. c.offer_rest.ensures.none_out e (c.handle_frames.ensures.none_out e none)
 
 pub returns-clause-crew_lost : goal.returns-clause-crew_lost
 returns-clause-crew_lost g c =
     if_err c.offer_rest.result (λ fault. loses_behind g.C.Crew.keeps
     c.args.primary.now.node.board c.handle_frames.new.primary.node.board fault
-    c.in_ok-handle_frames.ensures.none_out) c.offer_rest.ensures.crew_lost
+    c.handle_frames.ensures.none_out) c.offer_rest.ensures.crew_lost

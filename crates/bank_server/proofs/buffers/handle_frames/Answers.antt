@@ -31,7 +31,7 @@ loop-frame-preserved g c =
       among = step.among;
       going = ap (λ (s : StreamState). s.failed) step.stream ∙ handed.not_failed;
       bank = keeps_on c.args.primary.now loop.primary c.handle_frame.new.primary kept.bank step.bank;
-      none_out = λ none. step.none_out (kept.none_out none);
+      none_out = λ e none. c.handle_frame.ensures.none_out e (kept.none_out e none);
     }
 
 pub returns-in_err-handle_frame-in-Ok-Some-clause-stops : goal.returns-in_err-handle_frame-in-Ok-Some-clause-stops
@@ -64,3 +64,6 @@ returns-in-Err-Bad-clause-stops g c =
     bad_stops (opening_rows_of c.args.primary.now) old at at c.args.buffers.now.stream.unread
     loop.buffers.stream.unread c.in-Err-Bad.fault loop.invariant.handles
     why.1 why.2 refl
+
+pub returns-in_err-handle_frame-in-Ok-Some-clause-none_out : goal.returns-in_err-handle_frame-in-Ok-Some-clause-none_out
+returns-in_err-handle_frame-in-Ok-Some-clause-none_out g c = λ e none. c.handle_frame.ensures.none_out e (c.loop-frame.invariant.none_out e none)

@@ -13,7 +13,7 @@ invariant-loop-frame g l = record {
   among : ArePendingWithin (length l.primary.log) l.buffers.pending.items;
   going : l.buffers.stream.failed ≡ false;
   bank : PreservesBank l.fn.primary l.primary;
-  none_out : HasNoneOut l.fn.primary.node.board → HasNoneOut l.primary.node.board;
+  none_out : g.C.Crew.keeps ≡ false → HasNoneOut l.fn.primary.node.board → HasNoneOut l.primary.node.board;
 }
 
 abbrev pub decreases-loop-frame : goal.decreases-loop-frame

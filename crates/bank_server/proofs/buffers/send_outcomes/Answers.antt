@@ -10,7 +10,6 @@ use Rattle.sb_sequencer.specs.Numbering.{calls_of}
 use Rattle.bank_server.specs.Primary.{opening_rows_of}
 use Rattle.bank_server.specs.Session.{outcome_by}
 use Rattle.bank_server.specs.declared.pending.PendingAsk.{PendingAsk}
-use Rattle.bank_server.proofs.Boards.{idle_none_out}
 use Rattle.bank_server.proofs.SessionSteps.{flush_leads, flush_of_settle}
 use Rattle.bank_server.proofs.WholeReplies.{after_ok, tells_all}
 use Rattle.bank_server.proofs.buffers.send_outcomes.Goals as goal
@@ -24,9 +23,6 @@ pub returns-in_err-settle-clause-crew_lost : goal.returns-in_err-settle-clause-c
 returns-in_err-settle-clause-crew_lost g c =
     let p = err_from_is_err_and c.from_residual.result c.from_residual.ensures.1 in
     rw (p.1, p.2) c.in_err-settle.ensures.crew_lost
-
-pub returns-clause-none_out : goal.returns-clause-none_out
-returns-clause-none_out g c = idle_none_out c.settle.new.self.node.board c.in_ok-settle.ensures.whole_log.idle
 
 pub returns-clause-leads : goal.returns-clause-leads
 returns-clause-leads g c =

@@ -17,6 +17,9 @@ returns-in_err-submit-clause-crew_lost g c =
     rw (p.1, p.2) (loses_crew g.C.Crew.keeps c.args.node.now.board fault
     (fault_behind g.C.Crew.keeps c.args.node.now.board c.loop-number.node.board fault c.loop-number.invariant.none_out c.in_err-submit.ensures.fault))
 
+pub returns-in_err-submit-clause-none_out : goal.returns-in_err-submit-clause-none_out
+returns-in_err-submit-clause-none_out g c = λ e none. c.submit.ensures.none_out e (c.loop-number.invariant.none_out e none)
+
 pub loop-number-preserved : goal.loop-number-preserved
 loop-number-preserved g c =
     let kept = c.loop-number.invariant in
@@ -42,5 +45,5 @@ loop-number-preserved g c =
       count = omega (arith, ap {B = ℕ} length put.log, length-append so_far (op ∷ []), kept.count);
       opening = put.opening ∙ kept.opening;
       beside = c.submit.ensures.rest ∙ kept.beside;
-      none_out = λ none. put.none_out (kept.none_out none);
+      none_out = λ e none. put.none_out (kept.none_out e none);
     }

@@ -1,4 +1,4 @@
-use Rattle.std.proofs.Common.{◌≡◌, ◌+◌, length}
+use Rattle.std.proofs.Common.{◌≡◌, ◌+◌, false, length}
 use Rattle.cown_workers.specs.Draining.{HasNoneOut}
 use Rattle.sb_replica.specs.Replica.{rest_of}
 use Rattle.bank_server.specs.Primary.{HasPrefixOf, log_ops}
@@ -11,5 +11,5 @@ invariant-loop-number g l = record {
   count : length l.node.board.log + 1 ≡ l.number;
   opening : l.node.board.opening ≡ l.fn.node.board.opening;
   beside : rest_of l.node ≡ rest_of l.fn.node;
-  none_out : HasNoneOut l.fn.node.board → HasNoneOut l.node.board;
+  none_out : g.C.Crew.keeps ≡ false → HasNoneOut l.fn.node.board → HasNoneOut l.node.board;
 }

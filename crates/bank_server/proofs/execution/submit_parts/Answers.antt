@@ -45,4 +45,4 @@ returns-in_err-submit_all-clause-fault g c =
     let p = err_from_is_err_and c.from_residual-in_err-submit_all.result c.from_residual-in_err-submit_all.ensures.1 in
     let kept = c.loop-done.invariant in
     rw (p.1, p.2) (fault_behind g.C.Crew.keeps c.args.replica.now.board c.loop-done.replica.board
-    c.in_err-submit_all.field-0.0 kept.none_out c.in_err-submit_all.ensures.fault)
+    c.in_err-submit_all.field-0.0 (λ e. kept.none_out) c.in_err-submit_all.ensures.fault)

@@ -55,7 +55,7 @@ loop-init g c =
       among = All-same (λ (ask : PendingAsk). IsStandingWithin (length c.settle.new.self.log) ask.standing) buffers.pending.items []
           c.new-buffers.ensures.pending (All-nil (λ (ask : PendingAsk). IsStandingWithin (length c.settle.new.self.log) ask.standing));
       bank = settled.bank;
-      none_out = λ none. idle_none_out c.settle.new.self.node.board settled.whole_log.idle;
+      none_out = λ e none. idle_none_out c.settle.new.self.node.board settled.whole_log.idle;
     }
 
 pub returns-in-Ok-eq0-clause-served : goal.returns-in-Ok-eq0-clause-served
@@ -102,6 +102,12 @@ returns-in-Ok-eq0-clause-crew_lost g c =
     let kept = c.loop.invariant in
     if_err c.end.result (λ fault. loses_behind g.C.Crew.keeps c.args.primary.now.node.board
     c.loop.primary.node.board fault kept.none_out) c.end.ensures.crew_lost
+
+pub returns-in-Ok-eq0-clause-none_out : goal.returns-in-Ok-eq0-clause-none_out
+returns-in-Ok-eq0-clause-none_out g c = λ e none. c.end.ensures.none_out e (c.loop.invariant.none_out e none)
+
+pub returns-in_err-handle_bytes-in-Ok-clause-none_out : goal.returns-in_err-handle_bytes-in-Ok-clause-none_out
+returns-in_err-handle_bytes-in-Ok-clause-none_out g c = λ e none. c.handle_bytes.ensures.none_out e (c.loop.invariant.none_out e none)
 
 pub returns-in_err-handle_bytes-in-Ok-clause-cut_short : goal.returns-in_err-handle_bytes-in-Ok-clause-cut_short
 returns-in_err-handle_bytes-in-Ok-clause-cut_short g c =
@@ -178,7 +184,7 @@ loop-preserved g c =
             short = heard.short;
             among = heard.among;
             bank = keeps_on old c.loop.primary w.handle_bytes.new.primary kept.bank heard.bank;
-            none_out = λ none. heard.none_out (kept.none_out none);
+            none_out = λ e none. w.handle_bytes.ensures.none_out e (kept.none_out e none);
           })
       | in-Err+else-ne w ↦
           rw (w.writer-is, w.primary-is, w.buffers-is) (record {

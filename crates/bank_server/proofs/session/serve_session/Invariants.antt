@@ -1,4 +1,4 @@
-use Rattle.std.proofs.Common.{ℕ, List, length}
+use Rattle.std.proofs.Common.{◌≡◌, ℕ, List, false, length}
 use Rattle.std.specs.Io.KnownBytes.{Consumes}
 use Rattle.sb_frames.specs.Streaming.{IsShort}
 use Rattle.cown_workers.specs.Draining.{HasNoneOut}
@@ -17,5 +17,5 @@ invariant-loop g l = record {
   short : IsShort l.buffers.stream;
   among : ArePendingWithin (length l.primary.log) l.buffers.pending.items;
   bank : PreservesBank l.fn.primary l.primary;
-  none_out : HasNoneOut l.fn.primary.node.board → HasNoneOut l.primary.node.board;
+  none_out : g.C.Crew.keeps ≡ false → HasNoneOut l.fn.primary.node.board → HasNoneOut l.primary.node.board;
 }

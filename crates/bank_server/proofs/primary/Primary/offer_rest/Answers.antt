@@ -1,5 +1,5 @@
 use Rattle.std.proofs.Common.{◌≡◌, ap, subst, ◌∙◌}
-use Rattle.std.specs.Prelude.{IfErr, OnOk}
+use Rattle.std.specs.Prelude.{IfErr}
 use Rattle.cown_workers.specs.Draining.{HasNoneOut}
 use Rattle.sb_replica.specs.Replica.{ReplicaOf}
 use Rattle.bank_server.specs.Primary.{PrimaryOf}
@@ -14,4 +14,4 @@ returns-clause-crew_lost g c =
 pub returns-clause-none_out : goal.returns-clause-none_out
 returns-clause-none_out g c =
     let node : c.deref_mut.result.now ≡ c.args.self.now.node = c.deref_mut.ensures.value ∙ ap (λ (p : PrimaryOf g.row.S.Denot). p.node) c.self.view_is in
-    subst (λ (r : ReplicaOf g.row.S.Denot). OnOk c.catch_up.result (HasNoneOut r.board → HasNoneOut c.catch_up.new.node.board)) node c.catch_up.ensures.none_out
+    λ e. subst (λ (r : ReplicaOf g.row.S.Denot). HasNoneOut r.board → HasNoneOut c.catch_up.new.node.board) node (c.catch_up.ensures.none_out e)

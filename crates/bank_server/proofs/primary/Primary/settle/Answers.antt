@@ -1,5 +1,6 @@
 use Rattle.std.proofs.Common.{◌≡◌, ap, subst, ◌∙◌}
 use Rattle.std.specs.Prelude.{IfErr}
+use Rattle.cown_workers.specs.Draining.{HasNoneOut}
 use Rattle.sb_replica.specs.Replica.{ReplicaOf}
 use Rattle.bank_server.specs.Primary.{PrimaryOf}
 use Rattle.bank_server.specs.SessionFaults.{LosesCrew}
@@ -9,3 +10,8 @@ pub returns-clause-crew_lost : goal.returns-clause-crew_lost
 returns-clause-crew_lost g c =
     let node : c.deref_mut.result.now ≡ c.args.self.now.node = c.deref_mut.ensures.value ∙ ap (λ (p : PrimaryOf g.row.S.Denot). p.node) c.self.view_is in
     subst (λ (r : ReplicaOf g.row.S.Denot). IfErr c.execute_rest.result (LosesCrew g.C.Crew.keeps r.board)) node c.execute_rest.ensures.crew_lost
+
+pub returns-clause-none_out : goal.returns-clause-none_out
+returns-clause-none_out g c =
+    let node : c.deref_mut.result.now ≡ c.args.self.now.node = c.deref_mut.ensures.value ∙ ap (λ (p : PrimaryOf g.row.S.Denot). p.node) c.self.view_is in
+    λ e. subst (λ (r : ReplicaOf g.row.S.Denot). HasNoneOut r.board → HasNoneOut c.execute_rest.new.node.board) node (c.execute_rest.ensures.none_out e)
