@@ -1,5 +1,6 @@
 pub mod BankAfter
 pub mod EndRows
+pub mod GoneCrews
 pub mod OptionSearch
 pub mod OptionValues
 pub mod PrintedLines

@@ -13,17 +13,17 @@ use Rattle.bank_server.specs.Primary.{PrimaryOf}
 use Rattle.bank_program.proofs.SessionsInOrder.{more_came, nobody, one_came}
 use Rattle.bank_program.specs.Sessions.{End, ServesFirst, IsSession, AcceptsNext}
 use Rattle.bank_program.specs.ServedBank.{IsSameBank}
-use Rattle.bank_program.specs.ServeOutput.{ServerContinues, PrintsLines, ServesBank, end_lines, port_line, session_line, session_lines}
+use Rattle.bank_program.specs.ServeOutput.{IsPortOf, ServerContinues, PrintsLines, ServesBank, end_lines, port_line, session_line, session_lines}
 use Rattle.bank_program.specs.inner.ServeSteps.{PrintsPort, PrintsRows, ServesAll, ServesNext}
 
 abbrev Log : Type 0
 Log = List (Key × Call)
 
 -- a line with a port
-pub port_printed : {E : Type 0} (port : ℕ) (done : Result (Unit {0}) E) (line : List ℕ) (a b : Option (List ℕ)) → line ≡ port_line port
-    → OnOk done (PrintsLines (line ∷ []) a b) → OnOk done (PrintsPort a b)
-port_printed port (Ok done) line a b is said = (port, subst (λ (l : List ℕ). PrintsLines (l ∷ []) a b) is said)
-port_printed port (Err fault) line a b is said = tt
+pub port_printed : {E : Type 0} (at : Option ℕ) (port : ℕ) (done : Result (Unit {0}) E) (line : List ℕ) (a b : Option (List ℕ)) → IsPortOf at port
+    → line ≡ port_line port → OnOk done (PrintsLines (line ∷ []) a b) → OnOk done (PrintsPort at a b)
+port_printed at port (Ok done) line a b listens is said = (port, listens, subst (λ (l : List ℕ). PrintsLines (l ∷ []) a b) is said)
+port_printed at port (Err fault) line a b listens is said = tt
 
 -- lines, and then more lines
 pub PrintsLines-trans : (a b c : Option (List ℕ)) (xs ys : List (List ℕ)) → PrintsLines xs a b → PrintsLines ys b c → PrintsLines (xs ++ ys) a c
@@ -83,16 +83,17 @@ module _ {T : Type 0} (sends : T → Option (List ℕ)) where
       }
 
   -- the port, the sessions, and the rows of the bank that is left
-  pub serves_bank : {S : Type 0} (first last : PrimaryOf S) (count : ℕ) (coming left : Option (List T)) (a b c d : Option (List ℕ))
-      → IsSameBank first last → first.log ≡ [] → PrintsPort a b → ServesAll sends count coming left first.log last.log b c → PrintsRows last c d
-      → ServesBank sends first.node.names first.node.board.opening count coming last.log a d
-  serves_bank first last count coming left a b c d same none (port, start) served rows =
+  pub serves_bank : {S : Type 0} (first last : PrimaryOf S) (count : ℕ) (at : Option ℕ) (coming left : Option (List T)) (a b c d : Option (List ℕ))
+      → IsSameBank first last → first.log ≡ [] → PrintsPort at a b → ServesAll sends count coming left first.log last.log b c → PrintsRows last c d
+      → ServesBank sends first.node.names first.node.board.opening count at coming last.log a d
+  serves_bank first last count at coming left a b c d same none (port, listens, start) served rows =
       let same_lines : end_lines last.node.names last.node.board.opening last.log ≡ end_lines first.node.names first.node.board.opening last.log =
       ap (λ (names : List (List ℕ)). end_lines names last.node.board.opening last.log) same.names
       ∙ ap (λ (opening : Balances). end_lines first.node.names opening last.log) same.opening in
       let ended = end_lines first.node.names first.node.board.opening last.log in
       record {
         port = port;
+        listens = listens;
         ends = served.ends;
         all = served.all;
         go_on = served.go_on;

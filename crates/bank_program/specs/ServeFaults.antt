@@ -1,9 +1,11 @@
 -- What a fault of serving a bank means.
-use Rattle.std.specs.Prelude.{◌≡◌, ◌<◌, ◌≤◌, ℕ, Bool, true}
+use Rattle.std.specs.Prelude.{◌≡◌, ℕ, Bool, true}
+use Rattle.bank_server.specs.Faults.{IsFollower, LosesWorkers, StraysAmong}
 use Rattle.bank_server.specs.declared.fault.RunFault.{RunFault}
-use Rattle.bank_server.specs.declared.fault.RunFault.TheVariants.{Input, Strayed, Device}
+use Rattle.bank_server.specs.declared.fault.RunFault.TheVariants.{Input, Strayed, CrewGone, Device}
 use Rattle.bank_program.specs.declared.serve_fault.ServeFault.{ServeFault}
 use Rattle.bank_program.specs.declared.serve_fault.ServeFault.TheVariants.{Run, ReadBack, Store, PortTaken}
+use Rattle.bank_program.specs.declared.serving.Plan.{Plan}
 
 -- a device failed
 abbrev pub IsDeviceFault : RunFault → Type 0
@@ -16,37 +18,34 @@ IsPortFault port (Run fault) = IsDeviceFault fault
 IsPortFault port (PortTaken taken) = taken ≡ port
 IsPortFault port other = ⊥
 
--- the crew is gone, a device failed, or memory was refused
-abbrev pub IsFinishRunFault : RunFault → Type 0
-IsFinishRunFault (Input line fault) = ⊥
-IsFinishRunFault (Strayed node) = ⊥
-IsFinishRunFault other = Unit {0}
+-- a device failed, memory was refused, or the crew is gone, as it may be
+abbrev pub IsFinishRunFault : Type 0 → RunFault → Type 0
+IsFinishRunFault MayBeGone (Input line fault) = ⊥
+IsFinishRunFault MayBeGone (Strayed node) = ⊥
+IsFinishRunFault MayBeGone CrewGone = MayBeGone
+IsFinishRunFault MayBeGone other = Unit {0}
 
 -- the same; or the bank saves, and its store gives back something else
-abbrev pub IsFinishFault : Bool → ServeFault → Type 0
-IsFinishFault saves (Run fault) = IsFinishRunFault fault
-IsFinishFault saves ReadBack = saves ≡ true
-IsFinishFault saves other = ⊥
+abbrev pub IsFinishFault : Type 0 → Bool → ServeFault → Type 0
+IsFinishFault MayBeGone saves (Run fault) = IsFinishRunFault MayBeGone fault
+IsFinishFault MayBeGone saves ReadBack = saves ≡ true
+IsFinishFault MayBeGone saves other = ⊥
 
--- the same, or a follower strayed, which is one of this many nodes and not node 0
-abbrev pub IsServingRunFault : ℕ → RunFault → Type 0
-IsServingRunFault nodes (Strayed node) = (1 ≤ node) × (node < nodes)
-IsServingRunFault nodes other = IsFinishRunFault other
+-- the same, or a follower among this many nodes strayed
+abbrev pub IsServingRunFault : ℕ → Type 0 → RunFault → Type 0
+IsServingRunFault nodes MayBeGone (Strayed node) = IsFollower nodes node
+IsServingRunFault nodes MayBeGone other = IsFinishRunFault MayBeGone other
 
--- serving a bank of this many nodes, which saves or doesn't, may end with this fault
-abbrev pub IsServingFault : ℕ → Bool → ServeFault → Type 0
-IsServingFault nodes saves (Run fault) = IsServingRunFault nodes fault
-IsServingFault nodes saves other = IsFinishFault saves other
+-- serving a bank of this many nodes, whose crew may be gone, and which saves or doesn't, may end
+-- with this fault
+abbrev pub IsServingFault : ℕ → Type 0 → Bool → ServeFault → Type 0
+IsServingFault nodes MayBeGone saves (Run fault) = IsServingRunFault nodes MayBeGone fault
+IsServingFault nodes MayBeGone saves other = IsFinishFault MayBeGone saves other
 
--- the same, or a line of the opening is at fault
-abbrev pub IsProgramRunFault : ℕ → RunFault → Type 0
-IsProgramRunFault nodes (Strayed node) = (1 ≤ node) × (node < nodes)
-IsProgramRunFault nodes other = Unit {0}
-
--- the same; or the bank saves, and its store gives back something else; or there is a store, and it
--- takes nothing; or this port is taken
-abbrev pub IsProgramFault : ℕ → ℕ → Bool → Bool → ServeFault → Type 0
-IsProgramFault port nodes saves stores (Run fault) = IsProgramRunFault nodes fault
-IsProgramFault port nodes saves stores ReadBack = saves ≡ true
-IsProgramFault port nodes saves stores Store = stores ≡ true
-IsProgramFault port nodes saves stores (PortTaken taken) = taken ≡ port
+-- what may end the program that serves by this plan: what may end serving the bank, or a line of the
+-- opening is at fault, or there is a store, and it takes nothing, or this port is taken
+abbrev pub IsProgramFault : ℕ → Plan → Bool → ServeFault → Type 0
+IsProgramFault port plan stores (Run fault) = StraysAmong plan.nodes fault × LosesWorkers plan.workers fault
+IsProgramFault port plan stores ReadBack = plan.saves ≡ true
+IsProgramFault port plan stores Store = stores ≡ true
+IsProgramFault port plan stores (PortTaken taken) = taken ≡ port

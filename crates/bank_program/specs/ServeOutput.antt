@@ -1,5 +1,5 @@
 -- What a served bank prints.
-use Rattle.std.specs.Prelude.{◌≡◌, ℕ, ◌+◌, Option, Ok, Err, List, [], ◌∷◌, ◌++◌, length, decimal, codes}
+use Rattle.std.specs.Prelude.{◌≡◌, ℕ, ◌+◌, Option, IfSome, Ok, Err, List, [], ◌∷◌, ◌++◌, length, decimal, codes}
 use Rattle.std.specs.List.{All}
 use Rattle.std.specs.Io.KnownBytes.{Appends}
 use Rattle.sb_rows.specs.Balances.{Balances}
@@ -37,6 +37,10 @@ unfoldable pub session_lines : ℕ → List End → List (List ℕ)
 session_lines first [] = []
 session_lines first (end ∷ ends) = session_line first end ∷ session_lines (first + 1) ends
 
+-- this is the port of a listener, if the listener says where it listens
+abbrev pub IsPortOf : Option ℕ → ℕ → Type 0
+IsPortOf at port = IfSome at (λ known. port ≡ known)
+
 -- `listening 127.0.0.1:PORT`
 abbrev pub port_line : ℕ → List ℕ
 port_line port = codes "listening 127.0.0.1:" ++ decimal port
@@ -49,11 +53,14 @@ PrintsLines lines old new = Appends old new (unlines lines)
 abbrev pub end_lines : List (List ℕ) → Balances → List (Key × Call) → List (List ℕ)
 end_lines names opening log = row_lines names (rows_after (calls_of log) (rows_of names opening))
 
--- a bank with this opening is served to this many of those who are coming, and has this log then.
--- It prints its port, how each session ended, and the rows after the log, executed one by one
+-- a bank with this opening is served at a port to this many of those who are coming, and has this
+-- log then. It prints the port, how each session ended, and the rows after the log, executed one by
+-- one
 pub record ServesBank {T : Type 0} (sends : T → Option (List ℕ)) (names : List (List ℕ)) (opening : Balances)
-    (count : ℕ) (coming : Option (List T)) (log : List (Key × Call)) (old new : Option (List ℕ)) : Type 0 where
+    (count : ℕ) (at : Option ℕ) (coming : Option (List T)) (log : List (Key × Call))
+    (old new : Option (List ℕ)) : Type 0 where
   pub port : ℕ
+  pub listens : IsPortOf at port
   pub ends : List End
   pub all : length ends ≡ count
   pub go_on : All ServerContinues ends

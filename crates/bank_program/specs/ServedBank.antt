@@ -24,7 +24,7 @@ pub record IsBankAfter {S : Type 0} (model : StoreModel S) (saves : Bool) (sessi
 -- a bank with an empty log is served by this plan: its output and its log are as `ServesBank` says,
 -- and what is left of it is as `IsBankAfter` says
 pub record ServesByPlan {T S : Type 0} (sends : T → Option (List ℕ))
-    (model : StoreModel S) (plan : Plan) (coming : Option (List T)) (before after : PrimaryOf S)
+    (model : StoreModel S) (plan : Plan) (at : Option ℕ) (coming : Option (List T)) (before after : PrimaryOf S)
     (old new : Option (List ℕ)) : Type 0 where
-  pub bank : ServesBank sends before.node.names before.node.board.opening plan.sessions coming after.log old new
+  pub bank : ServesBank sends before.node.names before.node.board.opening plan.sessions at coming after.log old new
   pub left : IsBankAfter model plan.saves plan.sessions before after

@@ -36,8 +36,8 @@ module _ {T : Type 0} where
       IfSome coming (λ clients. (rest : List T) × (clients ≡ client ∷ rest) × (left ≡ Some rest))
 
   module _ (sends : T → Option (List ℕ)) where
-    -- the sessions of these clients ended so, and led from one log to the other; each client is
-    -- served if it says what it sends
+    -- the sessions of these clients ended so, and led from one log to the other; of a client that
+    -- says what it sends, the session is that of these bytes
     abbrev pub AreSessions : List (Key × Call) → List T → List End → List (Key × Call) → Type 0
     AreSessions before [] [] after = after ≡ before
     AreSessions before [] (end ∷ ends) after = ⊥

@@ -1,11 +1,11 @@
 //! One client.
 ghost use Rattle.std.specs.Prelude.{◌≡◌, false, IfErr, IfSome};
+ghost use Rattle.cown_workers.specs.Draining.{HasNoneOut};
 ghost use Rattle.bank_server.specs.Primary.{PreservesBank};
 ghost use Rattle.bank_server.specs.SessionFaults.{LosesCrew};
 ghost use Rattle.sb_sequencer.specs.Numbering.{IsLog};
 ghost use Rattle.bank_program.specs.Sessions.{IsSession};
 
-use crate::hanging_up::hang_up;
 use bank_server::{Primary, SessionFault, serve_session};
 use cown_workers::Crew;
 use sb_checkpoint::CheckpointStore;
@@ -13,16 +13,14 @@ use std::alloc::Global;
 use std::io;
 use std::io::{Read, Write};
 use std::net::OpenStream;
-use std::time::{Clock, Duration};
+use std::time::Duration;
 
 /// Serves a client, as [`serve_session`] does. Its stream stays open: the client sees the end once
 /// the caller drops it.
 ///
-/// A client at fault is notified at once that nothing more comes, and still gets all that was sent
-/// to it. A stream that can't be set up counts as one that fails at once. A read or a write that
-/// exceeds the patience, in seconds, counts as one that fails.
-pub(crate) fn serve_client<R, T, S, C>(
-    rt: &R,
+/// A stream that can't be set up counts as one that fails at once. A read or a write that exceeds
+/// the patience, in seconds, counts as one that fails.
+pub(crate) fn serve_client<T, S, C>(
     alloc: Global,
     patience: Option<usize>,
     stream: &mut T,
@@ -30,7 +28,6 @@ pub(crate) fn serve_client<R, T, S, C>(
     crew: &mut C,
 ) -> Result<(), SessionFault>
 where
-    R: Clock,
     T: Read + Write + OpenStream + Drop,
     S: CheckpointStore,
     C: Crew,
@@ -39,16 +36,13 @@ where
     ensures session { IfSome (T.remaining stream.old) (λ sent.
         IsSession primary.old.log sent result primary.new.log) }
     ensures bank { PreservesBank primary.old primary.new }
+    ensures none_out { C.keeps ≡ false → HasNoneOut primary.old.node.board → HasNoneOut primary.new.node.board }
     ensures crew_lost { IfErr result (LosesCrew C.keeps primary.old.node.board) }
 {
     let Ok(mut writer) = set_up(&*stream, patience) else {
         return Err(SessionFault::Device);
     };
-    let served = serve_session(alloc, stream, &mut writer, primary, crew);
-    if let Err(SessionFault::Frame(_) | SessionFault::Unexpected) = served {
-        hang_up(rt, stream);
-    }
-    served
+    serve_session(alloc, stream, &mut writer, primary, crew)
 }
 
 // The writing end of the stream. What is written is sent at once, and each write waits this many

@@ -5,7 +5,7 @@
 mod client;
 mod command;
 mod fault;
-mod hanging_up;
+mod leaving;
 mod listener;
 mod listening;
 mod opening;

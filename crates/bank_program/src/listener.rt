@@ -1,5 +1,6 @@
 //! Where clients are accepted.
-ghost use Rattle.std.specs.Prelude.{◌≡◌, List, Option, None, IfOk};
+ghost use Rattle.std.specs.Prelude.{◌≡◌, ℕ, List, Option, None, IfOk};
+ghost use Rattle.bank_program.specs.ServeOutput.{IsPortOf};
 ghost use Rattle.bank_program.specs.Sessions.{AcceptsNext};
 
 use std::io;
@@ -9,7 +10,8 @@ use std::sync::Wait;
 
 /// Accepts clients, one after another.
 ///
-/// A listener that says who is coming accepts them in that order.
+/// A listener that says who is coming accepts them in that order, and one that says where it
+/// listens answers that port.
 pub trait ClientListener {
     /// The server's end of a client's stream.
     type Stream: Drop;
@@ -17,15 +19,19 @@ pub trait ClientListener {
     /// Those who are coming, in order, if the listener says so.
     ghost coming: { Self → Option (List Self.Stream) };
 
+    /// The port at which it listens, if the listener says so.
+    ghost listens_at: { Self → Option ℕ };
+
     /// Waits for the next client.
     fn accept_client(&mut self) -> io::Result<Self::Stream>
         ensures next { IfOk result (λ client. AcceptsNext client (coming self.old) (coming self.new)) };
 
     /// The port at which it listens.
-    fn port(&self) -> io::Result<u16>;
+    fn port(&self) -> io::Result<u16>
+        ensures port { IfOk result (λ port. IsPortOf (listens_at self.now) port) };
 }
 
-/// The clients of a socket. It doesn't say who is coming.
+/// The clients of a socket. It says neither who is coming nor where it listens.
 #[derive(Drop)]
 pub struct SocketListener<'a, R: Wait, L: OpenListener> {
     rt: &'a R,
@@ -45,6 +51,8 @@ impl<'a, R: Wait, L: OpenListener> ClientListener for SocketListener<'a, R, L> {
     type Stream = L::Stream;
 
     ghost coming = { λ listener. None };
+
+    ghost listens_at = { λ listener. None };
 
     // It skips a client that is gone before it is accepted.
     fn accept_client(&mut self) -> io::Result<L::Stream> {

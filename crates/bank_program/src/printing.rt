@@ -22,7 +22,8 @@ pub(crate) fn print_port<D: ClientListener, W: Write>(
     listener: &D,
     writer: &mut W,
 ) -> Result<(), ServeFault>
-    ensures printed { OnOk result (PrintsPort (W.contents writer.old) (W.contents writer.new)) }
+    ensures printed { OnOk result (PrintsPort (D.listens_at listener.now)
+        (W.contents writer.old) (W.contents writer.new)) }
     ensures fault { IfErr result IsPrintFault }
 {
     let port = listener.port()?;

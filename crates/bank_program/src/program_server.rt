@@ -37,7 +37,7 @@ where
     H: Threads + Wait + Clock + Sync + Net,
     requires nodes { plan.nodes ≤ REPLICAS }
     requires workers { plan.workers ≤ WORKERS }
-    ensures fault { IfErr result (IsProgramFault port plan.nodes plan.saves (is_some folder.entry)) }
+    ensures fault { IfErr result (IsProgramFault port plan (is_some folder.entry)) }
 {
     let opening = read_opening(rt)?;
     let store = store_of(rt, folder)?;
@@ -100,7 +100,7 @@ where
     S: CheckpointStore,
     requires nodes { plan.nodes ≤ REPLICAS }
     requires workers { plan.workers ≤ WORKERS }
-    ensures fault { IfErr result (IsProgramFault port plan.nodes plan.saves false) }
+    ensures fault { IfErr result (IsProgramFault port plan false) }
 {
     let listener = SocketListener::new(threads, listen(threads, port)?);
     serve(

@@ -1,6 +1,8 @@
 //! The server of a bank's clients.
-ghost use Rattle.std.specs.Prelude.{◌≡◌, [], IfErr, IfOk, MatchOption, OnOk};
+ghost use Rattle.std.specs.Prelude.{◌≡◌, [], Err, false, true, IfErr, IfOk, MatchOption, OnOk};
+ghost use Rattle.cown_workers.specs.Draining.{HasNoneOut};
 ghost use Rattle.bank_server.specs.Primary.{HasWholeLog};
+ghost use Rattle.bank_server.specs.declared.session_fault.SessionFault.TheVariants.{CrewGone};
 ghost use Rattle.sb_sequencer.specs.Numbering.{IsLog};
 ghost use Rattle.bank_program.specs.ServeFaults.{IsFinishFault, IsFinishRunFault, IsServingFault};
 ghost use Rattle.bank_program.specs.ServeOutput.{ServerContinues};
@@ -8,6 +10,7 @@ ghost use Rattle.bank_program.specs.ServedBank.{IsBankAfter, ServesByPlan};
 ghost use Rattle.bank_program.specs.inner.ServeSteps.{ServesAll, ServesNext};
 
 use crate::client::serve_client;
+use crate::leaving::leave;
 use crate::listener::ClientListener;
 use crate::printing::{print_port, print_rows, print_session};
 use crate::serve_fault::ServeFault;
@@ -50,9 +53,9 @@ where
     ghost ready = { λ server. HasWholeLog server.primary × (server.primary.log ≡ []) };
 
     ghost does = { λ server nodes workers keeps answer. IfOk answer (λ bank. ServesByPlan D.Stream.remaining S.model
-        server.plan (D.coming server.listener) server.primary bank.primary
+        server.plan (D.listens_at server.listener) (D.coming server.listener) server.primary bank.primary
         (W.contents server.writer) (W.contents bank.writer))
-        × IfErr answer (IsServingFault nodes server.plan.saves) };
+        × IfErr answer (IsServingFault nodes (keeps ≡ true) server.plan.saves) };
 
     // Serves the bank, and prints its whole output.
     fn carry_out<R, C>(
@@ -96,9 +99,9 @@ where
         requires whole_log { HasWholeLog self.old.primary }
         requires empty_log { self.old.primary.log ≡ [] }
         ensures served { OnOk result (ServesByPlan D.Stream.remaining S.model self.old.plan
-            (D.coming self.old.listener) self.old.primary self.new.primary
+            (D.listens_at self.old.listener) (D.coming self.old.listener) self.old.primary self.new.primary
             (W.contents self.old.writer) (W.contents self.new.writer)) }
-        ensures fault { IfErr result (IsServingFault followers.old.nodes self.old.plan.saves) }
+        ensures fault { IfErr result (IsServingFault followers.old.nodes (C.keeps ≡ true) self.old.plan.saves) }
     {
         print_port(self.alloc, &self.listener, &mut self.writer)?;
         self.serve_all(rt, followers, crew)?;
@@ -125,7 +128,7 @@ where
             self.old.primary self.new.primary) }
         ensures nodes { followers.new.nodes ≡ followers.old.nodes }
         ensures plan { self.new.plan ≡ self.old.plan }
-        ensures fault { IfErr result (IsFinishFault self.old.plan.saves) }
+        ensures fault { IfErr result (IsFinishFault (C.keeps ≡ true) self.old.plan.saves) }
     {
         for before in 0..self.plan.sessions {
             self.serve_next(before + 1, rt, followers, crew)?;
@@ -152,25 +155,29 @@ where
             self.old.primary self.new.primary) }
         ensures nodes { followers.new.nodes ≡ followers.old.nodes }
         ensures plan { self.new.plan ≡ self.old.plan }
-        ensures fault { IfErr result (IsFinishFault self.old.plan.saves) }
+        ensures fault { IfErr result (IsFinishFault (C.keeps ≡ false → ¬ HasNoneOut self.old.primary.node.board)
+            self.old.plan.saves) }
     {
-        // The stream is dropped when this function ends. So a client whose stream ends while the
-        // server goes on knows that its asks are saved.
+        // The stream stays open until the session is finished, and ends as the client is left. So a
+        // client whose stream ends while the server goes on knows that its asks are saved.
         let mut stream = self.listener.accept_client()?;
         let (alloc, patience) = (self.alloc, self.plan.patience);
-        let served = serve_client(rt, alloc, patience, &mut stream, &mut self.primary, crew);
+        let served = serve_client(alloc, patience, &mut stream, &mut self.primary, crew);
         if let Some(fault) = ending(served) {
-            let printed = print_session(alloc, number, served, &mut self.writer);
-            return printed.and(Err(ServeFault::Run(fault)));
+            return print_session(alloc, number, served, &mut self.writer).and(Err(ServeFault::Run(
+                fault,
+            )));
         }
         finish_session(&mut self.primary, followers, self.plan.saves, crew)?;
-        print_session(alloc, number, served, &mut self.writer)
+        let printed = print_session(alloc, number, served, &mut self.writer);
+        leave(rt, &mut stream, served);
+        printed
     }
 }
 
 // The fault with which the program ends after such a session, if it does.
 fn ending(served: Result<(), SessionFault>) -> Option<RunFault>
-    ensures { MatchOption result (ServerContinues served) IsFinishRunFault }
+    ensures { MatchOption result (ServerContinues served) (IsFinishRunFault (served ≡ Err CrewGone)) }
 {
     match served {
         Err(SessionFault::CrewGone) => Some(RunFault::CrewGone),

@@ -1,5 +1,5 @@
 //! A served bank: its clients, one after another, and its rows at the end.
-ghost use Rattle.std.specs.Prelude.{◌≡◌, ◌≤◌, [], IfErr, IfOk};
+ghost use Rattle.std.specs.Prelude.{◌≡◌, ◌≤◌, ◌<◌, [], IfErr, IfOk};
 ghost use Rattle.bank_server.specs.Primary.{HasWholeLog};
 ghost use Rattle.sb_sequencer.specs.Numbering.{IsLog};
 ghost use Rattle.bank_program.specs.StoreAfter.{IsStoreAfter};
@@ -81,7 +81,7 @@ where
     requires workers { plan.workers ≤ WORKERS }
     // The log is that of the clients' sessions, and the printed rows are those after it.
     ensures served { IfOk result (λ bank. ServesBank D.Stream.remaining opening.directory
-        opening.columns plan.sessions (D.coming listener) bank.primary.log
+        opening.columns plan.sessions (D.listens_at listener) (D.coming listener) bank.primary.log
         (W.contents writer) (W.contents bank.writer)) }
     ensures one_each { IfOk result (λ bank. IsLog bank.primary.log) }
     ensures whole_log { IfOk result (λ bank. HasWholeLog bank.primary) }
@@ -90,8 +90,8 @@ where
     // A bank that saves has the checkpoint of all of that log.
     ensures store { IfOk result (λ bank. IsStoreAfter S.model plan.saves plan.sessions store
         bank.primary.node) }
-    // Node 0 never strays, and `ReadBack` comes only if the plan saves.
-    ensures fault { IfErr result (IsServingFault plan.nodes plan.saves) }
+    // Node 0 never strays, `CrewGone` comes only with workers, and `ReadBack` only if the plan saves.
+    ensures fault { IfErr result (IsServingFault plan.nodes (0 < plan.workers) plan.saves) }
 {
     let primary = Primary::open(alloc, opening, store)?;
     let followers = ReadyFollowers::open(alloc, primary.node(), plan.nodes, 0)?;
@@ -123,8 +123,9 @@ where
     requires whole_log { HasWholeLog server.primary }
     requires empty_log { server.primary.log ≡ [] }
     ensures served { IfOk result (λ bank. ServesByPlan D.Stream.remaining S.model server.plan
-        (D.coming server.listener) server.primary bank.primary (W.contents server.writer) (W.contents bank.writer)) }
-    ensures fault { IfErr result (IsServingFault followers.nodes server.plan.saves) }
+        (D.listens_at server.listener) (D.coming server.listener) server.primary bank.primary
+        (W.contents server.writer) (W.contents bank.writer)) }
+    ensures fault { IfErr result (IsServingFault followers.nodes (0 < server.plan.workers) server.plan.saves) }
 {
     let (alloc, workers) = (server.alloc, server.plan.workers);
     with_team(rt, alloc, followers, workers, &OpenGate, server)?

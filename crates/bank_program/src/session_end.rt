@@ -1,5 +1,6 @@
 //! What a bank does after a session.
 ghost use Rattle.std.specs.Prelude.{◌≡◌, ◌≤◌, false, length, true, IfErr, OnOk};
+ghost use Rattle.cown_workers.specs.Draining.{HasNoneOut};
 ghost use Rattle.bank_server.specs.Primary.{HasWholeLog, PreservesBank};
 ghost use Rattle.sb_sequencer.specs.Numbering.{IsLog};
 ghost use Rattle.bank_program.specs.ServedBank.{IsBankAfter};
@@ -28,7 +29,7 @@ pub(crate) fn finish_session<R: Wait, S: CheckpointStore, C: Crew>(
     // The whole log was sent to the followers.
     ensures sent { OnOk result (length primary.new.log ≤ followers.new.sent) }
     ensures nodes { followers.new.nodes ≡ followers.old.nodes }
-    ensures fault { IfErr result (IsFinishFault saves) }
+    ensures fault { IfErr result (IsFinishFault (C.keeps ≡ false → ¬ HasNoneOut primary.old.node.board) saves) }
 {
     settle(primary, crew)?;
     followers.feed(primary.log())?;
@@ -44,7 +45,7 @@ fn settle<S: CheckpointStore, C: Crew>(
     ensures log { primary.new.log ≡ primary.old.log }
     ensures one_each { IsLog primary.new.log }
     ensures whole_log { OnOk result (HasWholeLog primary.new) }
-    ensures fault { IfErr result (IsFinishFault false) }
+    ensures fault { IfErr result (IsFinishFault (C.keeps ≡ false → ¬ HasNoneOut primary.old.node.board) false) }
 {
     match primary.settle(crew) {
         Ok(()) => Ok(()),
@@ -61,7 +62,7 @@ fn save<S: CheckpointStore>(primary: &mut Primary<S>) -> Result<(), ServeFault>
     requires whole_log { HasWholeLog primary.old }
     ensures log { primary.new.log ≡ primary.old.log }
     ensures bank_after { OnOk result (IsBankAfter S.model true 1 primary.old primary.new) }
-    ensures fault { IfErr result (IsFinishFault true) }
+    ensures fault { IfErr result (IsFinishFault ⊥ true) }
 {
     match primary.save() {
         Ok(_) => Ok(()),

@@ -176,6 +176,8 @@ impl<'c, 't> ClientListener for TestListener<'c, 't> {
 
     ghost coming = { λ listener. Some listener.coming.items };
 
+    ghost listens_at = { λ listener. Some 4000 };
+
     fn accept_client(&mut self) -> io::Result<End<'c, 't>> {
         match self.coming.pop_front() {
             Some(client) => Ok(client),

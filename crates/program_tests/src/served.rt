@@ -189,6 +189,12 @@ fn stores_that_fail(rt: HostRuntime) {
     let printed = "listening 127.0.0.1:4000\n";
     let ends = Err(ServeFault::ReadBack);
     expect(&rt, alloc, &clients, Forgetful, plan, ends, printed, TOLD);
+    // Nobody is notified of the end before the session's asks are saved.
+    let mut sent = Vec::from_slice(alloc, ASKED).expect(&rt, "memory");
+    sent.extend_from_slice(GARBAGE).expect(&rt, "memory");
+    let clients = [plain(&sent), plain(b"")];
+    let hung_up = expect(&rt, alloc, &clients, Forgetful, plan, ends, printed, TOLD);
+    assert!(&rt; hung_up == 0);
     let mut store = MemoryStore::new(alloc);
     store.tell(How::New);
     let ends = Err(ServeFault::Run(RunFault::Device));

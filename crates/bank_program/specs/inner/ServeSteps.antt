@@ -5,11 +5,11 @@ use Rattle.sb_calls.specs.declared.ask.Key.{Key}
 use Rattle.sb_calls.specs.declared.call.Call.{Call}
 use Rattle.bank_server.specs.Primary.{PrimaryOf}
 use Rattle.bank_program.specs.Sessions.{End, ServesFirst}
-use Rattle.bank_program.specs.ServeOutput.{session_line, ServerContinues, PrintsLines, session_lines, end_lines, port_line}
+use Rattle.bank_program.specs.ServeOutput.{IsPortOf, session_line, ServerContinues, PrintsLines, session_lines, end_lines, port_line}
 
--- some port is printed
-abbrev pub PrintsPort : Option (List ℕ) → Option (List ℕ) → Type 0
-PrintsPort old new = (port : ℕ) × PrintsLines (port_line port ∷ []) old new
+-- the port of a listener is printed
+abbrev pub PrintsPort : Option ℕ → Option (List ℕ) → Option (List ℕ) → Type 0
+PrintsPort at old new = (port : ℕ) × IsPortOf at port × PrintsLines (port_line port ∷ []) old new
 
 module _ {T : Type 0} (sends : T → Option (List ℕ)) where
   -- the next client is served, its session is printed, and the server can go on

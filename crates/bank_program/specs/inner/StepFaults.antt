@@ -1,7 +1,7 @@
 -- The faults of the single steps of serving a bank.
 use Rattle.std.specs.Prelude.{◌≡◌, Bool, true}
 use Rattle.bank_server.specs.declared.fault.RunFault.{RunFault}
-use Rattle.bank_server.specs.declared.fault.RunFault.TheVariants.{Device, OutOfMemory, Strayed}
+use Rattle.bank_server.specs.declared.fault.RunFault.TheVariants.{CrewGone, Device, OutOfMemory, Strayed}
 use Rattle.bank_program.specs.declared.serve_fault.ServeFault.{ServeFault}
 use Rattle.bank_program.specs.declared.serve_fault.ServeFault.TheVariants.{Run, Store}
 
@@ -24,6 +24,7 @@ IsStoreFault stores other = ⊥
 -- a line of the opening is at fault, a device failed, or memory was refused
 abbrev pub IsOpeningRunFault : RunFault → Type 0
 IsOpeningRunFault (Strayed node) = ⊥
+IsOpeningRunFault CrewGone = ⊥
 IsOpeningRunFault other = Unit {0}
 
 abbrev pub IsOpeningFault : ServeFault → Type 0

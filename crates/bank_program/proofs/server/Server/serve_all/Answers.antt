@@ -1,7 +1,11 @@
-use Rattle.std.proofs.Common.{refl, subst, ◌∙◌, arith}
+use Rattle.std.proofs.Common.{◌≡◌, true, refl, subst, ◌∙◌, arith}
+use Rattle.std.proofs.lemmas.Result.{err_from_is_err_and}
+use Rattle.bank_server.proofs.Boards.{idle_none_out}
+use Rattle.bank_program.specs.ServeFaults.{IsFinishFault}
 use Rattle.bank_program.specs.ServedBank.{IsBankAfter}
 use Rattle.bank_program.specs.declared.serving.Plan.{Plan}
 use Rattle.bank_program.proofs.BankAfter.{left_after_next, left_at_first}
+use Rattle.bank_program.proofs.GoneCrews.{finish_fault_if, keeps_if}
 use Rattle.bank_program.proofs.PrintedLines.{no_sessions, next_session}
 use Rattle.bank_program.proofs.server.Server.serve_all.Goals as goal
 
@@ -34,3 +38,13 @@ loop-before-preserved g c =
       plan = c.serve_next.ensures.plan ∙ kept.plan;
       nodes = c.serve_next.ensures.nodes ∙ kept.nodes;
     }
+
+pub returns-in_err-serve_next-clause-fault : goal.returns-in_err-serve_next-clause-fault
+returns-in_err-serve_next-clause-fault g c =
+    let p = err_from_is_err_and c.from_residual.result c.from_residual.ensures.1 in
+    let kept = c.loop-before.invariant in
+    let board = c.loop-before.self.primary.node.board in
+    let fault = c.in_err-serve_next.field-0.0 in
+    rw (p.1, p.2) (subst (λ (plan : Plan). IsFinishFault (g.C.Crew.keeps ≡ true) plan.saves fault) kept.plan
+    (finish_fault_if c.loop-before.self.plan.saves fault (keeps_if g.C.Crew.keeps board (idle_none_out board kept.left.all.idle))
+    c.in_err-serve_next.ensures.fault))

@@ -1,4 +1,6 @@
 use Rattle.std.proofs.Common.{rules}
+use Rattle.std.proofs.lemmas.Result.{err_from_is_err_and}
+use Rattle.bank_program.proofs.GoneCrews.{finish_fault_if}
 use Rattle.bank_program.proofs.PrintedLines.{one_session}
 use Rattle.bank_program.specs.ServeOutput.{ServerContinues}
 use Rattle.bank_program.proofs.server.Server.serve_next.Goals as goal
@@ -10,5 +12,11 @@ returns-clause-served g c =
     (g.D.ClientListener.coming c.accept_client.new.self)
     c.args.self.now.primary.log c.serve_client-served.new.primary.log c.finish_session.new.primary.log c.serve_client-served.result
     (g.W.Write.contents c.args.self.now.writer)
-    (g.W.Write.contents c.print_session.new.writer) c.print_session.result c.in_ok-stream.ensures.next c.serve_client-served.ensures.session
-    c.finish_session.ensures.log goes c.print_session.ensures.printed
+    (g.W.Write.contents c.print_session-printed.new.writer) c.print_session-printed.result c.in_ok-stream.ensures.next c.serve_client-served.ensures.session
+    c.finish_session.ensures.log goes c.print_session-printed.ensures.printed
+
+pub returns-in_err-finish_session-clause-fault : goal.returns-in_err-finish_session-clause-fault
+returns-in_err-finish_session-clause-fault g c =
+    let p = err_from_is_err_and c.from_residual-in_err-finish_session.result c.from_residual-in_err-finish_session.ensures.1 in
+    rw (p.1, p.2) (finish_fault_if c.args.self.now.plan.saves c.in_err-finish_session.field-0.0
+    (λ gone e none. gone e (c.serve_client-served.ensures.none_out e none)) c.in_err-finish_session.ensures.fault)

@@ -1,4 +1,5 @@
-//! Leaving a client at fault.
+//! Leaving a client.
+use bank_server::SessionFault;
 use std::io::{ErrorKind, Read};
 use std::net::{OpenStream, Shutdown};
 use std::time::{Clock, Duration, Instant};
@@ -16,10 +17,22 @@ const PATIENCE: u64 = 3;
 
 const LONGEST: u64 = 10;
 
-/// Notifies a client that nothing more comes, and skips what it still sends: left unread, that
-/// could make the network lose what was sent to the client. It leaves a client that is silent, or
-/// that goes on sending.
-pub(crate) fn hang_up<R: Clock, S: Read + OpenStream>(rt: &R, stream: &mut S) {
+/// Leaves a client whose session is over and whose asks are saved. One that sent what it may not is
+/// notified that nothing more comes, and what it still sends is skipped: left unread, that could
+/// make the network lose what was sent to the client. One that is silent, or goes on sending, is
+/// left sooner.
+pub(crate) fn leave<R: Clock, S: Read + OpenStream>(
+    rt: &R,
+    stream: &mut S,
+    served: Result<(), SessionFault>,
+) {
+    if let Err(SessionFault::Frame(_) | SessionFault::Unexpected) = served {
+        hang_up(rt, stream);
+    }
+}
+
+// Notifies a client that nothing more comes, and skips what it still sends.
+fn hang_up<R: Clock, S: Read + OpenStream>(rt: &R, stream: &mut S) {
     let patience = Duration::from_secs(PATIENCE);
     if stream.set_read_timeout(Some(patience)).is_ok() && stream.shutdown(Shutdown::Write).is_ok() {
         pass_over(rt, stream);
