@@ -92,7 +92,7 @@ fn calls_that_come_to_the_same(rt: HostRuntime) {
         DEPOSIT,
         OTHER_DEPOSIT,
         false,
-        "two payments",
+        "two deposits",
     );
     // The same columns, but another reply.
     expect_after(

@@ -9,7 +9,7 @@ use std::sync::Wait;
 use std::thread::Threads;
 
 // What two clients send.
-const PAYMENT: &[&[u8]] = &[DEPOSIT, FLUSH];
+const ONE_DEPOSIT: &[&[u8]] = &[DEPOSIT, FLUSH];
 
 const QUESTION: &[&[u8]] = &[BALANCE, FLUSH];
 
@@ -48,7 +48,7 @@ fn compared<R: Abort + Threads + Wait + Sync>(
     sent_log: SentLog,
 ) -> Result<(), RunFault> {
     let mut primary = opened(rt, alloc);
-    serve(rt, alloc, &mut *primary, PAYMENT, &[DONE]);
+    serve(rt, alloc, &mut *primary, ONE_DEPOSIT, &[DONE]);
     match sent_log {
         SentLog::Other => feed_other(rt, alloc, followers),
         SentLog::All | SentLog::First => feed(rt, followers, &primary),

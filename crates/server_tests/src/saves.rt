@@ -79,7 +79,7 @@ fn a_file_has_what_was_put(rt: HostRuntime) {
 }
 
 // A client's connection breaks after its deposit, which no flush follows.
-fn break_after_payment(rt: &impl Abort, alloc: Global, primary: &mut Primary<MemoryStore>) {
+fn break_after_deposit(rt: &impl Abort, alloc: Global, primary: &mut Primary<MemoryStore>) {
     // Its 24 bytes take two reads each.
     let mut reader = BytewiseReader {
         left: DEPOSIT,
@@ -98,19 +98,19 @@ fn break_after_payment(rt: &impl Abort, alloc: Global, primary: &mut Primary<Mem
 #[test]
 fn something_unfinished(rt: HostRuntime) {
     let mut primary = opened(&rt, rt.alloc());
-    break_after_payment(&rt, rt.alloc(), &mut primary);
+    break_after_deposit(&rt, rt.alloc(), &mut primary);
     expect_saved(
         &rt,
         &mut *primary,
         Err(SaveFault::Busy),
-        "a payment that is not finished",
+        "a deposit that is not finished",
     );
     expect(
         &rt,
         primary.settle(&mut InlineCrew) == Ok(()),
         "all carried out",
     );
-    expect_saved(&rt, &mut *primary, Ok(1), "a payment");
+    expect_saved(&rt, &mut *primary, Ok(1), "a deposit");
 }
 
 // Checks how a save ends after a deposit, over a store with this habit. The log stays.
