@@ -7,7 +7,7 @@ use Rattle.sb_rows.specs.Rows.{Rows}
 use Rattle.sb_calls.specs.declared.op.Op.{Op}
 use Rattle.cown_board.specs.Board.{BoardOf}
 use Rattle.cown_workers.specs.Draining.{HasNoneOut}
-use Rattle.sb_frames.proofs.Frames.{decoded_settled, spelling_is}
+use Rattle.sb_frames.proofs.Frames.{decoded_settled}
 use Rattle.sb_frames.specs.Decoding.{decode_result}
 use Rattle.sb_frames.specs.Grammar.{Spells, spelling}
 use Rattle.sb_frames.specs.declared.fault.FrameFault.{FrameFault}
@@ -32,7 +32,7 @@ pub hears_frame : (opening : Rows) (old mid new : SessionState) (unread left beh
 hears_frame opening old mid new unread left behind frame bytes heard spells is leads =
     let before = flat_map spelling heard.more in record {
       more = heard.more ++ frame ∷ [];
-      read = heard.read ∙ ap (λ l. before ++ l) (is ∙ ap (λ b. b ++ behind) (spelling_is frame bytes spells))
+      read = heard.read ∙ ap (λ l. before ++ l) (is ∙ ap (λ b. b ++ behind) spells.spelled)
           ∙ sym (append_assoc before (spelling frame) behind)
           ∙ ap (λ l. l ++ behind) (ap (λ s. before ++ s) (sym (append-nil (spelling frame))) ∙ sym (flat_map-append spelling heard.more (frame ∷ [])));
       leads = leads_on opening old mid new heard.more (frame ∷ []) heard.leads leads;
@@ -65,7 +65,7 @@ refused_stops opening old mid new unread left behind frame bytes Unexpected hear
     behind ++ more,
     spells.valid,
     refused.0,
-    ap (λ l. l ++ more) (is ∙ ap (λ b. b ++ behind) (spelling_is frame bytes spells)) ∙ append_assoc (spelling frame) behind more,
+    ap (λ l. l ++ more) (is ∙ ap (λ b. b ++ behind) spells.spelled) ∙ append_assoc (spelling frame) behind more,
   );
   left = refused.1;
 }

@@ -5,7 +5,7 @@ use crate::fault::CaseFault;
 use crate::report::Report;
 use crate::schedule::plan;
 use schedule_player::{Event, StepFault, World};
-use schedule_text::push_notes;
+use schedule_text::push_note;
 use std::alloc::Global;
 
 /// Two workers of one replica finish jobs out of order.
@@ -102,7 +102,7 @@ fn play_event(world: &mut World, event: Event, report: &mut Report) -> Result<()
             world.step(event)?
         }
     };
-    Ok(push_notes(&[note], &mut report.text)?)
+    Ok(push_note(note, &mut report.text)?)
 }
 
 fn report_columns(world: &World, report: &mut Report) -> Result<(), CaseFault> {

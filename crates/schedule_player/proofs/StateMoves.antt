@@ -43,11 +43,11 @@ keeps_same old new state keeps = let acts = keeps.got.by_model in keeps.stays �
 gives_length : (origin : Origin) (held : Option (List ℕ)) (state : Option (ℕ × List ℕ)) → Gives origin held state → state_length state ≡ slot_length held
 gives_length origin held (Some (size, bytes)) gives =
     let is = gives.1 in
-    let back = read_back is.spelled.0 origin.opening_total is.checkpoint bytes is.spelled.1 in
+    let back = read_back is.spelled.0.0 origin.opening_total is.checkpoint bytes is.spelled.0.1 in
     sym is.size_is ∙ sym back.count ∙ ap slot_length (sym gives.0)
 gives_length origin held None (inl none) = ap slot_length (sym none)
 gives_length origin held None (inr (bytes, here, is)) =
-    let back = read_back is.spelled.0 origin.opening_total is.checkpoint bytes is.spelled.1 in
+    let back = read_back is.spelled.0.0 origin.opening_total is.checkpoint bytes is.spelled.0.1 in
     sym is.size_is ∙ sym back.count ∙ ap slot_length (sym here)
 
 -- the length of the state is that of what is stored
@@ -170,7 +170,7 @@ stays_ahead bank r old new place bytes own is here adopts =
     let own_is = adopts.0 in
     let state = adopts.1 in
     let same = adopts.2 in
-    let back = read_back state.1.spelled.0 (origin_of old.replica).opening_total state.1.checkpoint bytes state.1.spelled.1 in
+    let back = read_back state.1.spelled.0.0 (origin_of old.replica).opening_total state.1.checkpoint bytes state.1.spelled.0.1 in
     let count = back.count in
     let size_is = state.1.size_is in
     let fits = state.2 in

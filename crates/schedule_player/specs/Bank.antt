@@ -1,11 +1,11 @@
 -- The bank that a schedule is about: its opening, and the calls of the log.
-use Rattle.std.specs.Prelude.{ℕ, ℤ, ◌+ℤ◌, Option, List}
+use Rattle.std.specs.Prelude.{ℕ, ℤ, Option, List}
 use Rattle.sb_rows.specs.Balances.{Balances}
 use Rattle.sb_rows.specs.Rows.{Rows, rows_of}
 use Rattle.sb_calls.specs.Log.{rows_after_calls, reply_to}
 use Rattle.sb_calls.specs.declared.call.Call.{Call}
 use Rattle.sb_calls.specs.declared.reply.Reply.{Reply}
-use Rattle.lane_audit.specs.Columns.{total}
+use Rattle.lane_audit.specs.Audit.{balances_total}
 
 -- the customers' names, their balances at the opening, and the calls, numbered from 1
 pub record BankOf : Type 0 where
@@ -18,7 +18,7 @@ opening_rows bank = rows_of bank.names bank.opening
 
 -- the total of all customers' balances at the opening
 abbrev pub opening_total : BankOf → ℤ
-opening_total bank = total bank.opening.savings +ℤ total bank.opening.checking
+opening_total bank = balances_total bank.opening
 
 -- the reply to a number, with the calls run one by one
 abbrev pub log_reply : BankOf → ℕ → Option Reply

@@ -10,10 +10,10 @@ ghost use Rattle.schedule_text.specs.ScheduleText.{events_from, in_events};
 use crate::event::Event;
 use crate::events::Events;
 use crate::fault::{EventFault, ScheduleLineFault, TextFault};
-use crate::parsing::{is, parse_one, parse_three, parse_two};
+use crate::parsing::{parse_one, parse_three, parse_two};
 use sb_calls::{Call, read_call_words, read_number};
 use sb_checkpoint::How;
-use sb_rows::{Words, next_line};
+use sb_rows::{Words, next_line, word_is};
 use std::alloc::Global;
 
 // The usual length of an event's line, in bytes. Room is made by that. If lines are shorter, the
@@ -36,18 +36,18 @@ fn event_of(mut words: Words) -> Result<Event, EventFault>
     let Some(verb) = words.next() else {
         return Err(EventFault::UnknownEvent);
     };
-    if is(verb, b"ask") {
+    if word_is(verb, b"ask") {
         return ask_event(words);
     }
-    if is(verb, b"send") {
+    if word_is(verb, b"send") {
         let (replica, number) = parse_two(words)?;
         return Ok(Event::Send { replica, number });
     }
-    if is(verb, b"resend") {
+    if word_is(verb, b"resend") {
         let replica = parse_one(words)?;
         return Ok(Event::Resend { replica });
     }
-    if is(verb, b"to") {
+    if word_is(verb, b"to") {
         let (replica, position) = parse_two(words)?;
         return Ok(Event::To { replica, position });
     }
@@ -59,19 +59,19 @@ fn event_of(mut words: Words) -> Result<Event, EventFault>
 fn report_event(verb: &[u8], words: Words) -> Result<Event, EventFault>
     ensures { result ≡ spec.report_event verb.now words.entry }
 {
-    if is(verb, b"ack") {
+    if word_is(verb, b"ack") {
         let replica = parse_one(words)?;
         return Ok(Event::Ack { replica });
     }
-    if is(verb, b"answer") {
+    if word_is(verb, b"answer") {
         let (replica, number) = parse_two(words)?;
         return Ok(Event::Answer { replica, number });
     }
-    if is(verb, b"have") {
+    if word_is(verb, b"have") {
         let replica = parse_one(words)?;
         return Ok(Event::Have { replica });
     }
-    if is(verb, b"from") {
+    if word_is(verb, b"from") {
         let (replica, position) = parse_two(words)?;
         return Ok(Event::From { replica, position });
     }
@@ -83,7 +83,7 @@ fn report_event(verb: &[u8], words: Words) -> Result<Event, EventFault>
 fn replica_event(verb: &[u8], words: Words) -> Result<Event, EventFault>
     ensures { result ≡ spec.replica_event verb.now words.entry }
 {
-    if is(verb, b"take") {
+    if word_is(verb, b"take") {
         let (replica, worker, index) = parse_three(words)?;
         return Ok(Event::Take {
             replica,
@@ -91,15 +91,15 @@ fn replica_event(verb: &[u8], words: Words) -> Result<Event, EventFault>
             index,
         });
     }
-    if is(verb, b"finish") {
+    if word_is(verb, b"finish") {
         let (replica, worker) = parse_two(words)?;
         return Ok(Event::Finish { replica, worker });
     }
-    if is(verb, b"next") {
+    if word_is(verb, b"next") {
         let replica = parse_one(words)?;
         return Ok(Event::Next { replica });
     }
-    if is(verb, b"audit") {
+    if word_is(verb, b"audit") {
         let (first, second) = parse_two(words)?;
         return Ok(Event::Audit { first, second });
     }
@@ -110,26 +110,26 @@ fn replica_event(verb: &[u8], words: Words) -> Result<Event, EventFault>
 fn state_event(verb: &[u8], words: Words) -> Result<Event, EventFault>
     ensures { result ≡ spec.state_event verb.now words.entry }
 {
-    if is(verb, b"mark") {
+    if word_is(verb, b"mark") {
         return mark_event(words);
     }
-    if is(verb, b"restart") {
+    if word_is(verb, b"restart") {
         let replica = parse_one(words)?;
         return Ok(Event::Restart { replica });
     }
-    if is(verb, b"cut") {
+    if word_is(verb, b"cut") {
         let replica = parse_one(words)?;
         return Ok(Event::Cut { replica });
     }
-    if is(verb, b"donor") {
+    if word_is(verb, b"donor") {
         let replica = parse_one(words)?;
         return Ok(Event::Donor { replica });
     }
-    if is(verb, b"give") {
+    if word_is(verb, b"give") {
         let (donor, replica) = parse_two(words)?;
         return Ok(Event::Give { donor, replica });
     }
-    if is(verb, b"adopt") {
+    if word_is(verb, b"adopt") {
         let (replica, position) = parse_two(words)?;
         return Ok(Event::Adopt { replica, position });
     }
@@ -171,13 +171,13 @@ fn mark_event(mut words: Words) -> Result<Event, EventFault>
 fn how_of(word: &[u8]) -> Option<How>
     ensures { result ≡ spec.how_of word.now }
 {
-    if is(word, b"ok") {
+    if word_is(word, b"ok") {
         return Some(How::Ok);
     }
-    if is(word, b"old") {
+    if word_is(word, b"old") {
         return Some(How::Old);
     }
-    if is(word, b"new") {
+    if word_is(word, b"new") {
         return Some(How::New);
     }
     None

@@ -1,6 +1,5 @@
-//! The words of a line, and the numbers that are left on it.
+//! The numbers that are left on a line.
 ghost use Rattle.std.specs.Prelude.{◌≡◌, ℕ};
-ghost use Rattle.std.specs.Str.{bytes_eq};
 ghost use Rattle.std.specs.Result.{result_map_both};
 ghost use Rattle.schedule_text.specs.EventText.{event_of_one, event_of_two, event_of_three};
 ghost use Rattle.schedule_text.specs.declared.event.Event.{Event as AnyEvent};
@@ -8,14 +7,6 @@ ghost use Rattle.schedule_text.specs.declared.event.Event.{Event as AnyEvent};
 use crate::fault::EventFault;
 use sb_calls::read_number;
 use sb_rows::Words;
-
-// Whether a word is spelled so.
-#[inline(always)]
-pub(crate) fn is(word: &[u8], text: &[u8]) -> bool
-    ensures { result ≡ bytes_eq word.now text.now }
-{
-    word == text
-}
 
 // The one number that is left, whatever event it is for.
 pub(crate) fn parse_one(words: Words) -> Result<u32, EventFault>

@@ -4,7 +4,7 @@ use bank_server::agree;
 use cown_workers::{InlineCrew, drain};
 use sb_calls::read_call;
 use sb_checkpoint::MemoryStore;
-use sb_frames::Frame;
+use sb_frames::{Frame, encode};
 use sb_replica::{Heard, Replica};
 use sb_rows::read_opening;
 use std::alloc::Global;
@@ -24,7 +24,8 @@ fn opened(rt: &impl Abort, alloc: Global) -> Box<Replica<MemoryStore>> {
 // A call comes to a replica.
 fn hear(rt: &impl Abort, replica: &mut Replica<MemoryStore>, number: u64, line: &str) {
     let call = read_call(line.as_bytes()).expect(rt, "a call");
-    let heard = replica.receive_decoded(&Frame::Entry { number, call });
+    let bytes = encode(&Frame::Entry { number, call });
+    let heard = replica.on_frame(&bytes);
     expect(rt, heard == Ok(Heard::Accepted(number)), line);
 }
 

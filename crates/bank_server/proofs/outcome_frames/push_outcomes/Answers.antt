@@ -1,7 +1,6 @@
 use Rattle.std.proofs.Common.{◌≡◌, ℕ, ◌+◌, ◌<◌, List, [], ◌++◌, length, drop, sym, ap, ◌∙◌, arith, append_assoc, append-nil}
 use Rattle.std.specs.List.{flat_map}
 use Rattle.std.proofs.lemmas.List.{drop_all}
-use Rattle.sb_frames.proofs.Frames.{spelling_is}
 use Rattle.sb_frames.specs.Grammar.{spelling}
 use Rattle.sb_frames.specs.declared.frame.Frame.TheVariants.{Outcome}
 use Rattle.bank_server.specs.Session.{outcome_by}
@@ -16,7 +15,7 @@ loop-ask-preserved g c replies tells =
     let spelled = λ (a : PendingAsk). flat_map spelling (outcome_by replies a.key a.standing) in
     let outcome = Outcome ask.key.client ask.key.request c.outcome_of-outcome.result in
     let told : c.encode.result.items ≡ spelled ask =
-    spelling_is outcome c.encode.result.items c.encode.ensures ∙ sym (append-nil (spelling outcome))
+    c.encode.ensures.spelled ∙ sym (append-nil (spelling outcome))
     ∙ ap (flat_map spelling) (sym (c.outcome_of-outcome.ensures replies tells ask.key)) in
     let left : List ℕ = flat_map spelled (drop (loop.ask-index + 1) c.args.pending.now) in
     let within : loop.ask-index < length c.args.pending.now = omega arith in
