@@ -7,9 +7,7 @@ use Rattle.sb_calls.specs.declared.call.Call.{Call}
 use Rattle.sb_calls.specs.declared.op.Op.{Op}
 use Rattle.sb_rows.specs.declared.opening.Opening.{Opening}
 use Rattle.cown_board.specs.Board.{BoardOf}
-use Rattle.cown_board.specs.BoardCalls.{board_at_opening}
-use Rattle.sb_replica_log.specs.Log.{none_held}
-use Rattle.sb_replica.specs.Replica.{ReplicaOf, rest_of}
+use Rattle.sb_replica.specs.Replica.{ReplicaOf, replica_at_opening, rest_of}
 use Rattle.sb_sequencer.specs.Numbering.{IsLog, calls_of}
 use Rattle.bank_server.specs.Execution.{IsWholeLog, IsOneByOne}
 
@@ -30,14 +28,7 @@ pub record PrimaryOf (S : Type 0) : Type 0 where
 
 -- node 0 at an opening, with nothing of the log
 abbrev pub node_at_opening : {S : Type 0} → Opening → S → ReplicaOf S
-node_at_opening opening store = record {
-  id = 0;
-  names = opening.directory;
-  opening = opening.columns;
-  board = board_at_opening opening.columns [];
-  held = none_held;
-  store = store;
-}
+node_at_opening opening store = replica_at_opening 0 opening.directory opening.columns store
 
 -- the rows on which the log is executed
 abbrev pub opening_rows_of : {S : Type 0} → PrimaryOf S → Rows

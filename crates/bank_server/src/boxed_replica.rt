@@ -1,7 +1,6 @@
 //! A replica in a box.
-ghost use Rattle.std.specs.Prelude.{◌≡◌, [], length, IfOk};
-ghost use Rattle.cown_board.specs.BoardCalls.{board_at_opening};
-ghost use Rattle.sb_replica_log.specs.Log.{none_held};
+ghost use Rattle.std.specs.Prelude.{◌≡◌, length, IfOk};
+ghost use Rattle.sb_replica.specs.Replica.{replica_at_opening};
 
 use sb_checkpoint::CheckpointStore;
 use sb_replica::Replica;
@@ -17,14 +16,7 @@ pub(crate) fn open_boxed<S: CheckpointStore>(
     store: S,
 ) -> Result<Box<Replica<S>>, AllocError>
     requires { length opening.savings ≡ length directory }
-    ensures { IfOk result (λ replica. replica.value ≡ record {
-      id = id;
-      names = directory;
-      opening = opening;
-      board = board_at_opening opening [];
-      held = none_held;
-      store = store;
-    }) }
+    ensures { IfOk result (λ replica. replica.value ≡ replica_at_opening id directory opening store) }
 {
     let replica = Replica::open(alloc, id, directory, opening, store)?;
     Ok(Box::new(alloc, replica)?)

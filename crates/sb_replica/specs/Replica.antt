@@ -1,14 +1,15 @@
 -- A replica as its callers see it.
-use Rattle.std.specs.Prelude.{ℕ, Option, List, length, ◌++◌}
+use Rattle.std.specs.Prelude.{ℕ, Option, List, [], length, ◌++◌}
 use Rattle.std.specs.List.{filter_map}
 use Rattle.sb_rows.specs.Balances.{Balances}
 use Rattle.sb_calls.specs.declared.op.Op.{Op}
 use Rattle.sb_calls.specs.declared.reply.Reply.{Reply}
 use Rattle.lane_audit.specs.Audit.{balances_total}
 use Rattle.cown_board.specs.Board.{BoardOf}
+use Rattle.cown_board.specs.BoardCalls.{board_at_opening}
 use Rattle.cown_board.specs.State.{finished_reply}
 use Rattle.sb_checkpoint.specs.Checkpoint.{Origin}
-use Rattle.sb_replica_log.specs.Log.{LogOf}
+use Rattle.sb_replica_log.specs.Log.{LogOf, none_held}
 
 -- its number, the customers' names by place, the balances at the opening, its board, the ops held
 -- for later numbers, and its store
@@ -19,6 +20,17 @@ pub record ReplicaOf (S : Type 0) : Type 0 where
   pub board : BoardOf Op
   pub held : List (Option Op)
   pub store : S
+
+-- a replica at an opening, with nothing of the log
+abbrev pub replica_at_opening : {S : Type 0} → ℕ → List (List ℕ) → Balances → S → ReplicaOf S
+replica_at_opening id names opening store = record {
+  id = id;
+  names = names;
+  opening = opening;
+  board = board_at_opening opening [];
+  held = none_held;
+  store = store;
+}
 
 -- what ties a checkpoint to its bank: the number of customers and their opening total
 abbrev pub origin_of : {S : Type 0} → ReplicaOf S → Origin

@@ -1,5 +1,5 @@
 //! A replica, and what can be read from it.
-ghost use Rattle.std.specs.Prelude.{◌≡◌, ◌≢◌, ◌↔◌, ◌<◌, ◌≤◌, ◌-◌, suc, Ok, [], length, IsTrue, IfOk, IfSome, OnErr, Some, MatchOption, MatchResult, option_map};
+ghost use Rattle.std.specs.Prelude.{◌≡◌, ◌≢◌, ◌↔◌, ◌<◌, ◌≤◌, ◌-◌, suc, Ok, length, IsTrue, IfOk, IfSome, OnErr, Some, MatchOption, MatchResult, option_map};
 ghost use Rattle.sb_rows.specs.Balances.{IsBalances};
 ghost use Rattle.sb_calls.specs.Behaviour.{declared_cowns, effect_of};
 ghost use Rattle.sb_calls.specs.Cowns.{contents_of};
@@ -7,12 +7,11 @@ ghost use Rattle.sb_calls.specs.SerialRun.{reply_by_log};
 ghost use Rattle.sb_calls.specs.Op.{IsOpWithin};
 ghost use Rattle.sb_calls.specs.Replies.{IsReply};
 ghost use Rattle.cown_board.specs.Board.{length_of, unfinished_of, reply_in, IsAfterAll};
-ghost use Rattle.cown_board.specs.BoardCalls.{board_at_opening, StaysTrueToLog, Submitted};
+ghost use Rattle.cown_board.specs.BoardCalls.{StaysTrueToLog, Submitted};
 ghost use Rattle.sb_checkpoint.specs.Stores.{Compares, StoreDoes, Get, GetFault};
 ghost use Rattle.sb_frames.specs.declared.frame.Frame.TheVariants as frames;
-ghost use Rattle.sb_replica_log.specs.Log.{none_held};
 ghost use Rattle.sb_replica_log.specs.Offers.{offer_answer, after_offer};
-ghost use Rattle.sb_replica.specs.Replica.{log_of, origin_of, with_log};
+ghost use Rattle.sb_replica.specs.Replica.{log_of, origin_of, replica_at_opening, with_log};
 
 use crate::restarting::log_at_opening;
 use cown_board::{Board, Runs};
@@ -72,14 +71,7 @@ impl<S: CheckpointStore> Replica<S> {
         store: S,
     ) -> Result<Replica<S>, AllocError>
         requires { length opening.savings ≡ length directory }
-        ensures { IfOk result (λ replica. replica ≡ record {
-          id = id;
-          names = directory;
-          opening = opening;
-          board = board_at_opening opening [];
-          held = none_held;
-          store = store;
-        }) }
+        ensures { IfOk result (λ replica. replica ≡ replica_at_opening id directory opening store) }
     {
         let log = log_at_opening(alloc, &opening)?;
         Ok(Replica {

@@ -1,9 +1,8 @@
 //! A replica with its workers' hands, and everything that was ever sent to it and from it.
-ghost use Rattle.std.specs.Prelude.{◌≡◌, ℕ, suc, ◌<◌, ◌≤◌, None, List, [], length, replicate, MatchOption, IfOk};
+ghost use Rattle.std.specs.Prelude.{◌≡◌, ℕ, suc, ◌<◌, ◌≤◌, None, List, length, replicate, MatchOption, IfOk};
 ghost use Rattle.sb_rows.specs.Balances.{Balances};
 ghost use Rattle.sb_rows.specs.Rows.{SameCustomers};
-ghost use Rattle.cown_board.specs.BoardCalls.{board_at_opening};
-ghost use Rattle.sb_replica_log.specs.Log.{none_held};
+ghost use Rattle.sb_replica.specs.Replica.{replica_at_opening};
 ghost use Rattle.sb_sequencer.specs.Entries.{entry_of, entries_to_resend};
 ghost use Rattle.schedule_player.specs.Bank.{BankOf};
 ghost use Rattle.schedule_player.specs.inner.NodeInvariant.{MovesTo, IsNodeAt, Steps, machine_node};
@@ -69,14 +68,8 @@ fn open_replica(
     opening: &Columns,
 ) -> Result<Replica<MemoryStore>, AllocError>
     requires { length opening.now.savings ≡ length directory.now }
-    ensures { IfOk result (λ replica. replica ≡ record {
-      id = id;
-      names = directory.now;
-      opening = opening.now;
-      board = board_at_opening opening.now [];
-      held = none_held;
-      store = record { slot = None; next = How.Ok; failures = 0 };
-    }) }
+    ensures { IfOk result (λ replica. replica ≡ replica_at_opening id directory.now opening.now
+        (record { slot = None; next = How.Ok; failures = 0 })) }
 {
     let names = directory.copy()?;
     let columns = opening.copy()?;
