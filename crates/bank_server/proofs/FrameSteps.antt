@@ -8,7 +8,7 @@ use Rattle.sb_calls.specs.declared.op.Op.{Op}
 use Rattle.cown_board.specs.Board.{BoardOf}
 use Rattle.cown_workers.specs.Draining.{HasNoneOut}
 use Rattle.sb_frames.proofs.Frames.{decoded_settled}
-use Rattle.sb_frames.specs.Decoding.{decode_result}
+use Rattle.sb_frames.specs.Decoding.{decode_result, frame_size}
 use Rattle.sb_frames.specs.Grammar.{Spells, spelling}
 use Rattle.sb_frames.specs.declared.fault.FrameFault.{FrameFault}
 use Rattle.sb_frames.specs.declared.fault.FrameFault.TheVariants.{Short}
@@ -80,7 +80,7 @@ err_is : {T : Type 0} {x y : FrameFault} → ◌≡◌ {A = Result T FrameFault}
 err_is h = cc
 
 pub nothing_short : decode_result [] ≡ Err Short
-unfolding decode_result
+unfolding decode_result frame_size
 nothing_short = refl
 
 -- bytes that no frame begins with stay so, whatever bytes follow

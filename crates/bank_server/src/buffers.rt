@@ -80,6 +80,7 @@ pub(crate) fn handle_bytes<W: Write, S: CheckpointStore, C: Crew>(
 }
 
 // Handles each frame that is whole.
+#[tactic(auto, unfolding(sb_frames::specs::Grammar::spelling))]
 fn handle_frames<W: Write, S: CheckpointStore, C: Crew>(
     buffers: &mut SessionBuffers,
     writer: &mut W,

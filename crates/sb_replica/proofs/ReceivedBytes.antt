@@ -21,7 +21,6 @@ whole_is frame bytes h =
     ∙ ap (λ b. if b then Ok frame else Err BadLength) (eqb-refl (length bytes))
 
 pub spells : (frame : Frame) → IsFrame frame → Spells frame (spelling frame)
-unfolding spelling
 spells frame valid = record { valid = valid; spelled = refl }
 
 pub hears_frame : {S : Type 0} (old : ReplicaOf S) (frame : Frame) → IsFrame frame

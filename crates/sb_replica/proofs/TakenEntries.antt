@@ -1,12 +1,12 @@
 -- Entries that a stream handed out, with their names looked up.
-use Rattle.std.proofs.Common.{◌≡◌, ℕ, suc, ◌≤◌, arith, Some, Ok, List, [], ◌∷◌, ◌++◌, length, map, refl, sym, ap, subst, ◌∙◌}
-use Rattle.std.specs.Int.{w16, to_be_bytes}
+use Rattle.std.proofs.Common.{◌≡◌, ℕ, suc, ◌+◌, ◌≤◌, arith, Some, Ok, List, [], ◌∷◌, ◌++◌, length, map, refl, sym, ap, subst, ◌∙◌}
 use Rattle.std.specs.List.{All}
 use Rattle.std.proofs.lemmas.List.{length-append, map-append}
 use Rattle.std.proofs.lemmas.List.Elements.{All-push}
 use Rattle.sb_calls.specs.Op.{op_of}
 use Rattle.sb_calls.specs.declared.call.Call.{Call}
 use Rattle.sb_calls.specs.declared.op.Op.{Op}
+use Rattle.sb_frames.proofs.Frames.{spelling_size}
 use Rattle.sb_frames.proofs.Sizes.{body_size}
 use Rattle.sb_frames.specs.Grammar.{IsFrame, body}
 use Rattle.sb_frames.specs.Streaming.{HandsOut, Next, Step, StreamState}
@@ -40,9 +40,8 @@ take_one names a b c batch number call op h step valid is =
 pub takes_bytes : (old : StreamState) (frame : Frame) (new : StreamState) → HandsOut old frame new → suc (length new.unread) ≤ length old.unread
 takes_bytes old frame new h =
     let bytes = h.spelled.0 in
-    let size : length bytes ≡ length (to_be_bytes w16 (length (body frame)) ++ body frame) = ap length h.spelled.1.spelled in
+    let size : length bytes ≡ 2 + length (body frame) = ap length h.spelled.1.spelled ∙ spelling_size frame in
     let whole : length old.unread ≡ length (bytes ++ new.unread) = ap length h.spelled.2 in
-    let front = length-append (to_be_bytes w16 (length (body frame))) (body frame) in
     let parts = length-append bytes new.unread in
     let some = (body_size frame h.valid).0 in
-    omega (arith, size, whole, front, parts, some)
+    omega (arith, size, whole, parts, some)
