@@ -180,6 +180,7 @@ module _ {B : Type 0} (touches : B → List ℕ) (effect : B → List ℤ → Re
 
   pub played_by : (old new : BoardOf B) (call : BoardCall B) → HasCallEffect touches effect old call new → StaysTrueToLog touches effect old call new
   played_by old new call made = record {
+    made = made;
     law = λ columns base_replies calls before. board_law columns base_replies (calls ++ call ∷ []) new
         (plays_more (board_at_opening columns base_replies) old new calls call before made);
   }

@@ -1,7 +1,6 @@
 mod BehindCounts
 mod BoardCallLaws
 mod BoardSteps
-mod CallContracts
 mod CallEffects
 mod CownCounts
 mod CownLists

@@ -90,8 +90,10 @@ module _ {B : Type 0} (touches : B → List ℕ) (effect : B → List ℤ → Re
   BoardLaw = (columns : Balances) (base_replies : List Reply) (calls : List (BoardCall B)) (board : BoardOf B)
       → Plays (board_at_opening columns base_replies) calls board → IsTrueToLog columns base_replies calls board
 
-  -- if the board is true to its log after some calls, it is after this one too
+  -- the call has its effect; and if the board is true to its log after some calls, it is after this
+  -- one too
   pub record StaysTrueToLog (old : BoardOf B) (call : BoardCall B) (new : BoardOf B) : Type 0 where
+    pub made : HasCallEffect old call new
     pub law : (columns : Balances) (base_replies : List Reply) (calls : List (BoardCall B))
         → Plays (board_at_opening columns base_replies) calls old
         → IsTrueToLog columns base_replies (calls ++ call ∷ []) new

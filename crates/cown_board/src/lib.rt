@@ -11,7 +11,6 @@ mod links;
 mod ready_list;
 mod runs;
 mod state;
-mod turn;
 
 pub use board::{Board, OPEN_BEHAVIOURS, SubmitFault};
 pub use cut::CutFault;
@@ -19,4 +18,3 @@ pub use job::{Done, Job};
 pub use laws::{limits, true_to_the_log};
 pub use runs::Runs;
 pub use state::State;
-pub use turn::{Turn, take_turn};

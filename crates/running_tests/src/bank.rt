@@ -2,7 +2,7 @@
 ghost use Rattle.std.specs.Prelude.{◌≡◌, ◌<◌, ◌*◌, length, IfSome};
 ghost use Rattle.sb_calls.specs.Cowns.{contents_of};
 
-use cown_board::{Board, CutFault, Done, Job, OPEN_BEHAVIOURS, SubmitFault, Turn, take_turn};
+use cown_board::{Board, CutFault, Done, Job, OPEN_BEHAVIOURS, SubmitFault};
 use cown_workers::Crew;
 use sb_calls::{Behaviour, Call, LOG_CALLS, Op, Reply, read_call, resolve};
 use sb_rows::{Columns, Directory, Opening, read_opening};
@@ -243,13 +243,6 @@ impl Bank {
         let cut = self.board.cut_columns().expect(rt, "a cut");
         let columns = other.board.final_columns().expect(rt, "columns");
         assert!(rt; are_same(cut, columns));
-    }
-
-    // One turn: a call is submitted, the first ready behaviour is handed out, and a result is taken
-    // back.
-    pub(crate) fn takes_a_turn(&mut self, rt: &impl Abort, line: &str, done: Done<Op>) -> Turn<Op> {
-        let call = read_call(line.as_bytes()).expect(rt, "a call");
-        take_turn(&mut self.board, resolve(&self.directory, &call), done)
     }
 }
 

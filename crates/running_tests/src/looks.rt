@@ -2,10 +2,10 @@
 ghost use Rattle.std.specs.Prelude.{◌≡◌, ◌+◌, ◌<◌, length};
 ghost use Rattle.sb_calls.specs.Cowns.{contents_of};
 
-use crate::bank::{OPENING, has_no_columns, open_board};
+use crate::bank::{OPENING, board_of, has_no_columns, open_board};
 use arrayvec::ArrayVec;
-use cown_board::Board;
-use sb_calls::{Behaviour, Cown};
+use cown_board::{Board, Done};
+use sb_calls::{Behaviour, Cown, Reply};
 use std::alloc::Global;
 use std::marker::Model;
 use std::process::Abort;
@@ -94,4 +94,18 @@ fn what_a_board_cannot_run_it_hands_out_in_order(rt: HostRuntime) {
     assert!(rt; board.length() == 4);
     assert!(rt; board.reply(1).is_none());
     has_no_columns(&rt, &board);
+}
+
+// Compiles only while a board needn't be able to run what it hands out.
+fn gives_back<B: Behaviour>(board: &mut Board<B>, done: Done<B>) -> Result<Reply, Done<B>> {
+    board.finish(done)
+}
+
+// Only what can be executed comes back, so this is an op.
+#[test]
+fn a_board_takes_back_what_it_need_not_run(rt: HostRuntime) {
+    let mut board = board_of(&rt, rt.alloc(), &["deposit bob 1.00"]);
+    let job = board.take_at(0).expect(&rt, "a ready one");
+    assert!(rt; gives_back(&mut board, job.run()).ok() == Some(Reply::Done));
+    assert!(rt; board.idle());
 }

@@ -158,30 +158,6 @@ fn there_are_no_columns_while_something_is_unfinished(rt: HostRuntime) {
     bank.ends_with(&rt, [10_000, 0, 1_000], [5_000, 2_000, 0]);
 }
 
-// The second waits for nothing, and is ready before the first is given back.
-#[test]
-fn a_turn_submits_takes_and_gives_back(rt: HostRuntime) {
-    let mut bank = Bank::open(&rt, rt.alloc());
-    bank.plays(
-        &rt,
-        &[Step::Submit(1, "deposit alice 1.00"), Step::Take(0, 1)],
-    );
-    takes_a_turn(&rt, &mut bank);
-    assert!(rt; bank.reply(1) == Some(Reply::Done));
-    assert!(rt; bank.reply(2).is_none());
-    assert!(rt; !bank.idle());
-}
-
-// A balance is submitted as the second, and handed out, and the first is taken back.
-fn takes_a_turn(rt: &impl Abort, bank: &mut Bank) {
-    let done = bank.carry_out(rt, 1);
-    let turn = bank.takes_a_turn(rt, "balance bob", done);
-    assert!(rt; turn.submitted == Ok(2));
-    assert!(rt; turn.finished.ok() == Some(Reply::Done));
-    let job = turn.job.expect(rt, "a ready one");
-    assert!(rt; job.number() == 2);
-}
-
 // The number of ops that are run one by one until none is ready.
 fn run_all<R: Runs>(runs: &mut R) -> Result<u64, &'static str> {
     for finished in 0..OPEN_BEHAVIOURS as u64 {
