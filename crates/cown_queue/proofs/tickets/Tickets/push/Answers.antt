@@ -70,8 +70,8 @@ pushes c =
           (Becomes-same _ (set ends cown now) _ c.take_last-place.new.self.items _ (vec_capacity inside.free) _ _
           (rw (c.id-2.ensures, first) refl) refl c.take_last-place.ensures.capacity
           (pushed_behind table ends inside.free.items (vec_capacity inside.free) c.self.invariant c.args.self.now.lists lists cown c.id.result e c.id.ensures
-          c.index-ends.ensures c.take_last-place.new.self.items c.args.number place before.number c.requires.cown c.take_last-place.ensures.items w.if-ends.false
-          (ap (λ (t : Ticket). t.number) read)))
+          c.index-ends.ensures c.take_last-place.new.self.items c.args.number place before.number c.requires.cown c.take_last-place.ensures.items
+          w.if-ends.false (ap (λ (t : Ticket). t.number) read)))
     ]
 
 pub invariant_of-self : goal.invariant_of-self
