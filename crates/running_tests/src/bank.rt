@@ -34,6 +34,13 @@ pub(crate) fn open_board<B: Behaviour>(
     (Box::new(alloc, board).expect(rt, "memory"), directory)
 }
 
+// The replies to this many numbers before those of a board.
+pub(crate) fn earlier_replies(rt: &impl Abort, alloc: Global, count: usize) -> Vec<Reply> {
+    let mut replies = Vec::new(alloc);
+    replies.resize(count, Reply::Done).expect(rt, "memory");
+    replies
+}
+
 // A board over the three, with the calls that these lines spell.
 pub(crate) fn board_of(rt: &impl Abort, alloc: Global, lines: &[&str]) -> Box<Board<Op>> {
     let (mut board, directory) = open_board(rt, alloc, OPENING, Vec::new(alloc));

@@ -1,5 +1,5 @@
 //! How much a board takes, and its answers at the limit.
-use crate::bank::{Bank, OPENING, Step};
+use crate::bank::{Bank, OPENING, Step, earlier_replies};
 use cown_board::SubmitFault;
 use sb_calls::{Reply, read_call};
 use std::alloc::Global;
@@ -65,8 +65,7 @@ fn replies_are(rt: &impl Abort, bank: &Bank, third: Option<Reply>) {
 
 // A board with this many earlier replies.
 fn open_after_many(rt: &impl Abort, alloc: Global, numbers: usize) -> Box<Bank> {
-    let mut replies = Vec::new(alloc);
-    replies.resize(numbers, Reply::Done).expect(rt, "memory");
+    let replies = earlier_replies(rt, alloc, numbers);
     Bank::open_with(rt, alloc, OPENING, replies)
 }
 

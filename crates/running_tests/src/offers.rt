@@ -1,5 +1,5 @@
 //! What a board takes back, and what it gives back.
-use crate::bank::{Bank, OPENING, Step};
+use crate::bank::{Bank, OPENING, Step, earlier_replies};
 use cown_board::Done;
 use sb_calls::{Op, Reply};
 use std::alloc::Global;
@@ -32,10 +32,7 @@ fn done_elsewhere(rt: &impl Abort, alloc: Global, opening: &str, number: u64) ->
 
 // The result of the first op on a board where it has this number.
 fn done_with_number(rt: &impl Abort, alloc: Global, number: u64) -> Done<Op> {
-    let mut replies = Vec::new(alloc);
-    for _ in 1..number {
-        replies.push(Reply::Done).expect(rt, "memory");
-    }
+    let replies = earlier_replies(rt, alloc, number.saturating_sub(1) as usize);
     let mut bank = Bank::open_with(rt, alloc, OPENING, replies);
     bank.plays(
         rt,

@@ -2,10 +2,10 @@
 //! tests.
 ghost use Rattle.std.specs.Prelude.{◌≡◌};
 
-use crate::bank::{OPENING, open_board};
+use crate::bank::{OPENING, earlier_replies, open_board};
 use cown_bench::{Bench, OwnerPass, Work, WorkerPass};
 use cown_board::Job;
-use sb_calls::{Op, Reply};
+use sb_calls::Op;
 use std::alloc::Global;
 use std::marker::Model;
 use std::process::Abort;
@@ -119,8 +119,7 @@ pub(crate) fn jobs_after(
     number: usize,
     count: usize,
 ) -> Vec<Job<Op>> {
-    let mut replies = Vec::new(alloc);
-    replies.resize(number, Reply::Done).expect(rt, "memory");
+    let replies = earlier_replies(rt, alloc, number);
     let (mut board, _) = open_board(rt, alloc, OPENING, replies);
     let mut jobs = Vec::new(alloc);
     for _ in 0..count {

@@ -2,8 +2,8 @@
 ghost use Rattle.std.specs.Prelude.{◌≤◌};
 
 use crate::bank::{board_of, give_all, has_balances};
-use crate::gates::{CallOrder, OwnerAdmittingGate};
-use cown_workers::{Crew, OpenGate, drain, with_crew};
+use crate::gates::{CallOrder, Counter, OwnerAdmittingGate};
+use cown_workers::{Crew, drain, with_crew};
 use std::alloc::Global;
 use std::process::Abort;
 use std::sync::Wait;
@@ -12,20 +12,23 @@ use std::thread::Threads;
 use std::time::{Clock, Duration};
 
 #[test]
-fn workers_that_sleep_are_woken(rt: HostRuntime) {
+fn calls_that_come_while_all_sleep_are_executed_by_workers(rt: HostRuntime) {
     wakes(&rt, rt.alloc(), 1);
     wakes(&rt, rt.alloc(), 16);
 }
 
-// A crew of this many executes calls that come while all workers sleep.
+// This many workers execute calls that come while all of them sleep. The gate doesn't admit the
+// owner, and counts what its crew executes.
 fn wakes<R: Threads + Wait + Clock + Sync + Abort>(rt: &R, alloc: Global, workers: usize)
     requires at_least_one { 1 ≤ workers }
     requires limit { workers ≤ 16 }
 {
-    let ended = with_crew(rt, alloc, workers, &OpenGate, move |crew| {
+    let gate = Counter::default();
+    let ended = with_crew(rt, alloc, workers, &gate, move |crew| {
         carries_out_late_calls(rt, alloc, crew)
     });
     assert!(rt; ended.is_ok());
+    assert!(rt; gate.carried_out() == 10, "{workers}");
 }
 
 // Ten boards, each of which comes after the crew had nothing to do for a while, are executed.

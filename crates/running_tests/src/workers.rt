@@ -87,9 +87,10 @@ fn hands_over(rt: &impl Abort, crew: &mut impl Crew, number: u64) {
     assert!(rt; done.number() == number, "{number}");
 }
 
-// One more than the inbox holds, and many that nobody picks before the owner takes some in.
+// More jobs than the inbox holds. Two boards spawn half of them each.
 const MANY: usize = 1_100;
 
+// One job more than the inbox holds.
 const FULL: u64 = 1_041;
 
 #[test]
