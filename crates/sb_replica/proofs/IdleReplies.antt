@@ -1,5 +1,5 @@
 -- The replies of an idle board, by number.
-use Rattle.std.proofs.Common.{◌≡◌, ℕ, zero, suc, ◌+◌, ◌-◌, ◌<◌, false, Option, Some, None, List, [], ◌∷◌, ◌++◌, length, take, refl, sym, ap, subst, ◌∙◌, arith, inl, inr}
+use Rattle.std.proofs.Common.{◌≡◌, ℕ, zero, suc, ◌+◌, ◌-◌, ◌<◌, false, Option, Some, None, List, [], ◌∷◌, ◌++◌, length, refl, sym, ap, subst, ◌∙◌, arith, inl, inr}
 use Rattle.std.specs.Prelude.{if◌then◌else◌, nat_le, ◌==◌, option_and_then, IsSome}
 use Rattle.std.specs.List.{slice_get, filter_map}
 use Rattle.std.proofs.lemmas.Bool.{true≢false, cases_lt, lt-leb, le-leb, ne_eqb}
@@ -63,12 +63,6 @@ pub length_held : (board : BoardOf Op) → unfinished_of board ≡ 0 → length 
 length_held board idle beside =
     length-append board.base_replies (filter_map finished_reply board.states)
     ∙ ap (λ n. length board.base_replies + n) (length_finished board.states (λ k. all_finished board.states k idle) ∙ sym beside)
-
--- one reply more
-pub take_one_more : {A : Type 0} (xs : List A) (k : ℕ) (x : A) → slice_get xs k ≡ Some x → take (suc k) xs ≡ take k xs ++ x ∷ []
-take_one_more [] k x h = absurd cc
-take_one_more (y ∷ xs) zero x h = ap (λ z. z ∷ []) cc
-take_one_more (y ∷ xs) (suc k) x h = ap (λ t. y ∷ t) (take_one_more xs k x h)
 
 -- none is missing
 pub is_there : (board : BoardOf Op) (place : ℕ) (reply : Option Reply) → unfinished_of board ≡ 0 → length board.log ≡ length board.states

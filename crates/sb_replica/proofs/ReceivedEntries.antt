@@ -21,7 +21,7 @@ use Rattle.sb_replica_log.specs.declared.offered.Offered.{Offered}
 use Rattle.sb_replica_log.specs.declared.offered.Offered.TheVariants.{Next, Repeat, Gap, Held, Busy}
 use Rattle.sb_replica_log.specs.declared.replica_log.TheConstants.{HELD_ENTRIES}
 use Rattle.sb_replica.proofs.ReceivedBytes.{hears_frame}
-use Rattle.sb_replica.proofs.IdleReplies.{take_one_more}
+use Rattle.cown_board.proofs.LogLaws.{take_one_more}
 use Rattle.sb_replica.specs.inner.Batches.{after_batch, entry_frame, entry_op}
 use Rattle.sb_replica.specs.Frames.{frame_answer, entry_answer}
 use Rattle.sb_replica.specs.Replica.{ReplicaOf, log_of, with_log}

@@ -1,6 +1,6 @@
 use Rattle.std.proofs.Common.{◌≡◌, ℕ, ◌<◌, ◌≤◌, ◌+◌, suc, List, [], ◌∷◌, ◌++◌, inr, length, take, sym, ap, subst, ◌∙◌, arith}
 use Rattle.std.proofs.lemmas.List.{length-append, take_all}
-use Rattle.sb_replica.proofs.IdleReplies.{take_one_more}
+use Rattle.cown_board.proofs.LogLaws.{take_one_more}
 use Rattle.schedule_player.specs.EventLists.{PlaysEvents}
 use Rattle.schedule_player.specs.World.{WorldOf, MayWantMemory, NextMayWantMemory}
 use Rattle.schedule_text.specs.declared.event.Event.{Event}

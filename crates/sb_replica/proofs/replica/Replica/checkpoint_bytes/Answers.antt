@@ -12,7 +12,8 @@ use Rattle.sb_checkpoint.specs.Checkpoint.{Second, SpellsInLayout}
 use Rattle.cown_board.specs.Board.{length_of}
 use Rattle.sb_replica.specs.Marking.{up_to_cut}
 use Rattle.sb_replica.specs.Replica.{origin_of, board_replies}
-use Rattle.sb_replica.proofs.IdleReplies.{reply_at, length_held, is_there, take_one_more}
+use Rattle.cown_board.proofs.LogLaws.{take_one_more}
+use Rattle.sb_replica.proofs.IdleReplies.{reply_at, length_held, is_there}
 use Rattle.sb_replica.proofs.MarkedReplies.{marked_beside, marked_reply}
 use Rattle.sb_replica.proofs.replica.Replica.checkpoint_bytes.Goals as goal
 

@@ -8,7 +8,8 @@ use Rattle.std.proofs.lemmas.Result.{err_from_is_err_and}
 use Rattle.cown_board.specs.Board.{length_of}
 use Rattle.sb_calls.specs.Replies.{IsReply}
 use Rattle.sb_replica.specs.Replica.{board_replies}
-use Rattle.sb_replica.proofs.IdleReplies.{reply_at, length_held, is_there, take_one_more}
+use Rattle.cown_board.proofs.LogLaws.{take_one_more}
+use Rattle.sb_replica.proofs.IdleReplies.{reply_at, length_held, is_there}
 use Rattle.sb_replica.proofs.replica.Replica.replies.Goals as goal
 
 pub loop-place-init : goal.loop-place-init
