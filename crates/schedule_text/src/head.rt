@@ -7,10 +7,9 @@ ghost use Rattle.schedule_text.specs.inner.LineFaults.{BlamesLine};
 ghost use Rattle.schedule_text.specs.ScheduleText.{head_of_lines, head_of_words, head_with};
 
 use crate::fault::{ScheduleLineFault, TextFault};
-use crate::parsing::is;
 use cown_bench::WORKERS;
 use sb_calls::read_number;
-use sb_rows::{Words, next_line};
+use sb_rows::{Words, next_line, word_is};
 use sb_sequencer::REPLICAS;
 
 // The greatest number of replicas.
@@ -66,7 +65,7 @@ fn number_words(line: &[u8]) -> Option<(&[u8], &[u8])>
     ) else {
         return None;
     };
-    if !is(first, b"nodes") || !is(third, b"workers") {
+    if !word_is(first, b"nodes") || !word_is(third, b"workers") {
         return None;
     }
     Some((nodes, workers))
