@@ -1,9 +1,12 @@
 -- A log as its keys and its calls, side by side.
-use Rattle.std.proofs.Common.{◌≡◌, false, ◌||◌, None, is_some, List, [], ◌∷◌, ◌++◌, length, map, refl, sym, ap, ◌∙◌, arith}
+use Rattle.std.proofs.Common.{◌≡◌, ℕ, ◌<◌, false, ◌||◌, Option, Some, None, is_some, List, [], ◌∷◌, ◌++◌, length, map, slice_get, refl, sym, ap, ◌∙◌, arith, rules}
 use Rattle.std.specs.List.{list_any, zip}
 use Rattle.std.specs.Map.{keys_of}
+use Rattle.std.specs.Option.{option_map}
 use Rattle.std.proofs.lemmas.Bool.{cond-false}
+use Rattle.std.proofs.lemmas.Option.{same_Some, slice_get-map, slice_get_within}
 use Rattle.std.proofs.lemmas.Map.Made.{keys_of-zip}
+use Rattle.std.proofs.lemmas.List.{length-map}
 use Rattle.std.proofs.lemmas.Slice.Zip.{length-zip, seconds-zip}
 use Rattle.indexmap.specs.IndexSet.{insert_key}
 use Rattle.sb_calls.specs.declared.ask.Key.{Key}
@@ -46,3 +49,22 @@ zip-push [] [] key call even = refl
 zip-push [] (other ∷ calls) key call even = absurd (omega (arith, even))
 zip-push (first ∷ keys) [] key call even = absurd (omega (arith, even))
 zip-push (first ∷ keys) (other ∷ calls) key call even = ap (λ rest. (first, other) ∷ rest) (zip-push keys calls key call (omega (arith, even)))
+
+-- an entry, by what is at its place in each column
+pub none_at : (entry : Option (Key × Call)) → None ≡ option_map (λ entry. entry.1) entry → None ≡ entry
+none_at None e = refl
+none_at (Some entry) e = absurd (search (rules, e))
+
+pub some_at : (entry : Option (Key × Call)) (key : Key) (call : Call) → Some key ≡ option_map (λ entry. entry.0) entry
+    → Some call ≡ option_map (λ entry. entry.1) entry → Some (key, call) ≡ entry
+some_at None key call k c = absurd (search (rules, k))
+some_at (Some entry) key call k c =
+    let keys : key ≡ entry.0 = same_Some key entry.0 k in
+    let calls : call ≡ entry.1 = same_Some call entry.1 c in
+    λ i. Some (keys i, calls i)
+
+-- there is a key where there is a call
+pub key_within : (log : List (Key × Call)) (index : ℕ) (call : Call) → Some call ≡ option_map (λ entry. entry.1) (slice_get log index) → index < length log
+key_within log index call e =
+    let within = slice_get_within (map (λ (entry : Key × Call). entry.1) log) index call (slice_get-map (λ (entry : Key × Call). entry.1) log index ∙ sym e) in
+    omega (arith, within, length-map log (λ (entry : Key × Call). entry.1))

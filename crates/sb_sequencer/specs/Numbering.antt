@@ -41,6 +41,11 @@ abbrev pub call_of_number : List (Key × Call) → ℕ → Option Call
 call_of_number log zero = None
 call_of_number log (suc k) = option_map (λ entry. entry.1) (slice_get log k)
 
+-- the key and the call with a number, counted from 1
+abbrev pub ask_of_number : List (Key × Call) → ℕ → Option (Key × Call)
+ask_of_number log zero = None
+ask_of_number log (suc k) = slice_get log k
+
 -- a log is valid: its keys are all different, and it has at most as many calls as a log takes
 pub record IsLog (log : List (Key × Call)) : Type 0 where
   pub limit : length log ≤ LOG_CALLS

@@ -57,6 +57,17 @@ impl Log {
         self.calls.as_slice().get(index)
     }
 
+    // The key and the call at an index, if there are any.
+    pub(crate) fn entry(&self, index: usize) -> Option<(Key, Call)>
+        ensures { result ≡ slice_get self.now index }
+    {
+        let Some(call) = self.get(index) else {
+            return None;
+        };
+        let key = self.keys.get_index(index).unwrap();
+        Some((*key, *call))
+    }
+
     // The index of a key, if a call has it.
     #[inline]
     pub(crate) fn index_of(&self, key: &Key) -> Option<usize>

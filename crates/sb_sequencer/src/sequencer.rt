@@ -7,7 +7,7 @@ ghost use Rattle.sb_sequencer.specs.Answer.{AnswersAsk, LogAfter, ExtendsFirstAs
 ghost use Rattle.sb_sequencer.specs.Entries.{entries_after, entry_of, entries_to_resend};
 ghost use Rattle.sb_sequencer.specs.Log.{log_with};
 ghost use Rattle.sb_sequencer.specs.Notes.{IsAnswerNote, after_ack, after_answer, answer_of, note_of_ack};
-ghost use Rattle.sb_sequencer.specs.Numbering.{IsLog, call_of_number, calls_of, number_of_key};
+ghost use Rattle.sb_sequencer.specs.Numbering.{IsLog, ask_of_number, call_of_number, calls_of, number_of_key};
 ghost use Rattle.sb_sequencer.specs.Sequencer.{IsSequencer, state_after_ask, empty_sequencer};
 
 use crate::answer::{AskFault, Numbered};
@@ -110,6 +110,14 @@ impl Sequencer {
     {
         let index = number.checked_sub(1)?;
         self.log.get(index as usize)
+    }
+
+    /// The key and the call with this number, counted from 1, or `None` if there are none.
+    pub fn ask_of(&self, number: u64) -> Option<(Key, Call)>
+        ensures { result ≡ ask_of_number self.now.log number }
+    {
+        let index = number.checked_sub(1)?;
+        self.log.entry(index as usize)
     }
 
     /// The calls of the log, in order.

@@ -1,0 +1,6 @@
+//! The asks of a sequencer's log, kept in a file.
+#![tactic(auto)]
+
+mod keeper;
+
+pub use keeper::{Keeper, NoKeeper};

@@ -1,0 +1,65 @@
+//! Why a log failed.
+ghost use Rattle.std.specs.Prelude.{◌≡◌};
+ghost use Rattle.sb_log.specs.Faults.{log_fault_number, log_fault_of};
+ghost use Rattle.sb_log.specs.declared.log_fault.LogFault.TheVariants.{OutOfMemory};
+
+use sb_text::ReadFault;
+use std::alloc::AllocError;
+use thiserror::Error;
+
+/// Why a log failed.
+#[derive(Clone, Copy, Debug, PartialEq, Eq, Error)]
+pub enum LogFault {
+    /// The device failed, at this call or at an earlier one. What was appended since the last sync
+    /// may be lost, and the log has to be recovered.
+    #[error("device")]
+    Device,
+    /// What stands at this byte of the file is neither a record of the log nor a beginning of one.
+    /// Nothing is changed.
+    #[error("damaged at byte {byte}")]
+    Damaged {
+        /// Where the damage begins: the size of the whole records before it.
+        byte: u64,
+        /// How many bytes the file has from there on.
+        behind: u64,
+    },
+    /// Memory was refused.
+    #[error("out of memory")]
+    OutOfMemory,
+    /// Another process has the log open.
+    #[error("in use")]
+    InUse,
+}
+
+impl LogFault {
+    /// The number of the fault, from 1 to 4 in the order of the variants.
+    pub fn number(&self) -> u8
+        ensures { result ≡ log_fault_number self.now }
+    {
+        match self {
+            LogFault::Device => 1,
+            LogFault::Damaged { .. } => 2,
+            LogFault::OutOfMemory => 3,
+            LogFault::InUse => 4,
+        }
+    }
+}
+
+impl From<AllocError> for LogFault {
+    ghost from_gives = { λ _ fault. fault ≡ OutOfMemory };
+
+    fn from(_: AllocError) -> LogFault {
+        LogFault::OutOfMemory
+    }
+}
+
+impl From<ReadFault> for LogFault {
+    ghost from_gives = { λ read fault. fault ≡ log_fault_of read };
+
+    fn from(read: ReadFault) -> LogFault {
+        match read {
+            ReadFault::Device => LogFault::Device,
+            ReadFault::OutOfMemory => LogFault::OutOfMemory,
+        }
+    }
+}
