@@ -214,7 +214,7 @@ one_by_one directory b calls ops board same opening carried is = record {
 -- so a node that executed the calls of a log ran it
 pub runs_log : {S : Type 0} (old new : ReplicaOf S) (log : List (Key × Call)) (calls : List Call) → calls_of log ≡ calls
     → SameCustomers old.names old.board.opening → new.names ≡ old.names → new.board.opening ≡ old.board.opening
-    → IsWholeLog (map (op_of old.names) calls) new.board → RunsLog (record { log = log; node = old }) new
+    → IsWholeLog (map (op_of old.names) calls) new.board → RunsLog log old new
 runs_log old new log calls same customers names opening carried = record {
   names_are = names;
   opening_is = opening;

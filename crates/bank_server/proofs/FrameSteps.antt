@@ -4,6 +4,8 @@ use Rattle.std.specs.Prelude.{◌≢◌}
 use Rattle.std.specs.List.{flat_map}
 use Rattle.std.proofs.lemmas.Grind.{flat_map-append}
 use Rattle.sb_rows.specs.Rows.{Rows}
+use Rattle.sb_calls.specs.declared.ask.Key.{Key}
+use Rattle.sb_calls.specs.declared.call.Call.{Call}
 use Rattle.sb_calls.specs.declared.op.Op.{Op}
 use Rattle.cown_board.specs.Board.{BoardOf}
 use Rattle.cown_workers.specs.Draining.{HasNoneOut}
@@ -18,7 +20,8 @@ use Rattle.bank_server.specs.Primary.{PreservesBank, PrimaryOf}
 use Rattle.bank_server.specs.SessionResults.{IsFaultAt}
 use Rattle.bank_server.specs.SessionFaults.{LosesCrew}
 use Rattle.bank_server.specs.declared.session_fault.SessionFault.{SessionFault}
-use Rattle.bank_server.specs.declared.session_fault.SessionFault.TheVariants.{Frame, Unexpected, CrewGone, Device, OutOfMemory}
+use Rattle.bank_server.specs.declared.session_fault.SessionFault.TheVariants.{Frame, Unexpected, CrewGone, Device, OutOfMemory, Log}
+use Rattle.bank_server.proofs.Keeping.{keeps_after}
 use Rattle.bank_server.proofs.SessionSteps.{leads_nowhere, leads_on}
 
 -- before the first frame
@@ -40,8 +43,13 @@ hears_frame opening old mid new unread left behind frame bytes heard spells is l
 
 -- ---- faults
 
-pub keeps_on : {S : Type 0} (old mid new : PrimaryOf S) → PreservesBank old mid → PreservesBank mid new → PreservesBank old new
-keeps_on old mid new first second = record { rest = second.rest ∙ first.rest; opening = second.opening ∙ first.opening }
+pub keeps_on : {S K : Type 0} {keeps : K → List (Key × Call) → Type 0} (old mid new : PrimaryOf S K)
+    → PreservesBank keeps old mid → PreservesBank keeps mid new → PreservesBank keeps old new
+keeps_on {S} {K} {keeps} old mid new first second = record {
+  rest = second.rest ∙ first.rest;
+  opening = second.opening ∙ first.opening;
+  kept = keeps_after keeps old.keeper mid.keeper new.keeper old.log mid.log new.log first.kept second.kept;
+}
 
 pub loses_behind : (keeps : Bool) (old mid : BoardOf Op) (fault : SessionFault) → (keeps ≡ false → HasNoneOut old → HasNoneOut mid) → LosesCrew keeps mid fault
     → LosesCrew keeps old fault
@@ -50,6 +58,7 @@ loses_behind keeps old mid Unexpected none is = tt
 loses_behind keeps old mid CrewGone none is = λ e out. is e (none e out)
 loses_behind keeps old mid Device none is = tt
 loses_behind keeps old mid OutOfMemory none is = tt
+loses_behind keeps old mid (Log f) none is = tt
 
 -- a frame that is refused stops a session
 pub refused_stops : (opening : Rows) (old mid new : SessionState) (unread left behind : List ℕ) (frame : frames.Frame) (bytes : List ℕ) (fault : SessionFault)
@@ -74,6 +83,8 @@ refused_stops opening old mid new unread left behind frame bytes CrewGone heard 
 refused_stops opening old mid new unread left behind frame bytes Device heard spells is refused =
     record { there = mid; rest = left; handles = heard; at = λ more. tt; left = refused }
 refused_stops opening old mid new unread left behind frame bytes OutOfMemory heard spells is refused =
+    record { there = mid; rest = left; handles = heard; at = λ more. tt; left = refused }
+refused_stops opening old mid new unread left behind frame bytes (Log fault) heard spells is refused =
     record { there = mid; rest = left; handles = heard; at = λ more. tt; left = refused }
 
 err_is : {T : Type 0} {x y : FrameFault} → ◌≡◌ {A = Result T FrameFault} (Err x) (Err y) → x ≡ y

@@ -7,6 +7,7 @@ pub mod FlatLists
 pub mod Flushes
 pub mod FollowerTurns
 pub mod FrameSteps
+pub mod Keeping
 pub mod LineKeys
 pub mod LogOps
 pub mod Openings

@@ -16,7 +16,7 @@ use Rattle.bank_server.proofs.LogOps.{length-ops}
 use Rattle.sb_calls.specs.Op.{op_of}
 
 module _ (text : List ℕ) (prepared : PreparedInput) (replica : ReplicaOf MemoryStore) (ready : IsPreparedInputOf text prepared)
-    (run : RunsLog prepared.primary replica) where
+    (run : RunsLog prepared.primary.log prepared.primary.node replica) where
   -- the standing of each ask is among its calls
   pub among : All (IsStandingWithin (length replica.board.log)) prepared.standings.items
   among =

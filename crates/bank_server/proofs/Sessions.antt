@@ -18,9 +18,9 @@ use Rattle.bank_server.specs.inner.SessionSteps.{Reaches, HandlesBytes, IsStateA
 use Rattle.bank_server.specs.SessionResults.{IsFaultAt, ServesUntilFault, ServesSession, WritesOutcomes, WritesOutcomesBefore}
 use Rattle.bank_server.specs.Session.{IsFromClient, log_of_session, outcomes_of}
 use Rattle.bank_server.specs.inner.FlushFaults.{IsEndFault}
-use Rattle.bank_server.specs.SessionFaults.{IsSettleFault}
+use Rattle.bank_server.specs.SessionFaults.{IsLogFault, IsSettleFault}
 use Rattle.bank_server.specs.declared.session_fault.SessionFault.{SessionFault}
-use Rattle.bank_server.specs.declared.session_fault.SessionFault.TheVariants.{Frame, Unexpected, CrewGone, Device, OutOfMemory}
+use Rattle.bank_server.specs.declared.session_fault.SessionFault.TheVariants.{Frame, Unexpected, CrewGone, Device, OutOfMemory, Log}
 use Rattle.bank_server.proofs.OwnLog.{own_log}
 
 -- these bytes were frames that led from a log to here, and then what is unread
@@ -98,6 +98,7 @@ told_before Unexpected opening before start frames there new came left =
 told_before CrewGone opening before start frames there new came left = left ∙ came.log_is
 told_before Device opening before start frames there new came left = left ∙ came.log_is
 told_before OutOfMemory opening before start frames there new came left = left ∙ came.log_is
+told_before (Log fault) opening before start frames there new came left = left ∙ came.log_is
 
 -- a fault within a read
 pub stopped : (opening : Rows) (before : List (Key × Call)) (start : Option (List ℕ)) (bytes chunk behind input : List ℕ) (mid : SessionState)
@@ -142,6 +143,7 @@ end_at Unexpected stream short is = absurd is
 end_at CrewGone stream short is = tt
 end_at Device stream short is = absurd is
 end_at OutOfMemory stream short is = tt
+end_at (Log fault) stream short is = tt
 
 -- at the end nothing was written, and the log stays
 pub end_left : (fault : SessionFault) (stream : StreamState) (at new : SessionState) → IsEndFault stream fault → new ≡ at → IsStateAfterFault fault at new
@@ -150,6 +152,7 @@ end_left Unexpected stream at new is same = same
 end_left CrewGone stream at new is same = ap (λ (p : SessionState). p.log) same
 end_left Device stream at new is same = ap (λ (p : SessionState). p.log) same
 end_left OutOfMemory stream at new is same = ap (λ (p : SessionState). p.log) same
+end_left (Log fault) stream at new is same = ap (λ (p : SessionState). p.log) same
 
 -- a log that can't be executed at first
 pub settle_at : (fault : SessionFault) (rest : List ℕ) → IsSettleFault fault → IsFaultAt fault rest
@@ -158,6 +161,7 @@ settle_at Unexpected rest is = absurd is
 settle_at CrewGone rest is = tt
 settle_at Device rest is = absurd is
 settle_at OutOfMemory rest is = tt
+settle_at (Log fault) rest is = tt
 
 pub settle_left : (fault : SessionFault) (at new : SessionState) → IsSettleFault fault → new.log ≡ at.log → IsStateAfterFault fault at new
 settle_left (Frame fault) at new is same = absurd is
@@ -165,6 +169,52 @@ settle_left Unexpected at new is same = absurd is
 settle_left CrewGone at new is same = same
 settle_left Device at new is same = same
 settle_left OutOfMemory at new is same = same
+settle_left (Log fault) at new is same = same
+
+-- ---- a log that can't be kept, once the session ended
+
+log_before : (fault : SessionFault) (opening : Rows) (before : List (Key × Call)) (frames : List frames.Frame) (log : List (Key × Call))
+    (old new : Option (List ℕ)) → WritesOutcomesBefore fault opening before frames log old new → log ≡ log_of_session before frames
+log_before (Frame fault) opening before frames log old new told = told.log_is
+log_before Unexpected opening before frames log old new told = told.log_is
+log_before CrewGone opening before frames log old new told = told
+log_before Device opening before frames log old new told = told
+log_before OutOfMemory opening before frames log old new told = told
+log_before (Log fault) opening before frames log old new told = told
+
+-- after its end the session is as one that the log's fault cut short
+pub unkept_session : (fault : SessionFault) (opening : Rows) (before log : List (Key × Call)) (old new : Option (List ℕ)) (input : List ℕ)
+    → IsLogFault fault → ServesSession opening before log old new input → ServesUntilFault opening before log old new input fault
+unkept_session (Frame fault) opening before log old new input is served = absurd is
+unkept_session Unexpected opening before log old new input is served = absurd is
+unkept_session CrewGone opening before log old new input is served = absurd is
+unkept_session Device opening before log old new input is served = absurd is
+unkept_session OutOfMemory opening before log old new input is served = absurd is
+unkept_session (Log fault) opening before log old new input is served = record {
+  frames = served.frames;
+  clients = served.clients;
+  rest = [];
+  input_is = served.input_is ∙ sym (append-nil (flat_map spelling served.frames));
+  at = tt;
+  outcomes = served.outcomes.log_is;
+}
+
+-- and after another fault too
+pub unkept_fault : (fault other : SessionFault) (opening : Rows) (before log : List (Key × Call)) (old new : Option (List ℕ)) (input : List ℕ)
+    → IsLogFault fault → ServesUntilFault opening before log old new input other → ServesUntilFault opening before log old new input fault
+unkept_fault (Frame fault) other opening before log old new input is served = absurd is
+unkept_fault Unexpected other opening before log old new input is served = absurd is
+unkept_fault CrewGone other opening before log old new input is served = absurd is
+unkept_fault Device other opening before log old new input is served = absurd is
+unkept_fault OutOfMemory other opening before log old new input is served = absurd is
+unkept_fault (Log fault) other opening before log old new input is served = record {
+  frames = served.frames;
+  clients = served.clients;
+  rest = served.rest;
+  input_is = served.input_is;
+  at = tt;
+  outcomes = log_before other opening before served.frames log old new served.outcomes;
+}
 
 -- ---- what a reader had
 

@@ -12,13 +12,15 @@ use Rattle.bank_server.specs.Primary.{HasWholeLog, PreservesBank, PrimaryOf, ope
 use Rattle.bank_server.proofs.Boards.{all_replies}
 
 -- the rows on which the log is executed stay
-pub same_opening : {S : Type 0} (old new : PrimaryOf S) → PreservesBank old new → opening_rows_of new ≡ opening_rows_of old
+pub same_opening : {S K : Type 0} {keeps : K → List (Key × Call) → Type 0} (old new : PrimaryOf S K) → PreservesBank keeps old new
+    → opening_rows_of new ≡ opening_rows_of old
 same_opening old new bank =
     ap (λ (names : List (List ℕ)). rows_of names new.node.board.opening) (ap (λ b. b.names) bank.rest) ∙ ap (rows_of old.node.names) bank.opening
 
 -- its replies are those of the log run one by one
-pub tells_all : {S : Type 0} (old new : PrimaryOf S) → SameCustomers new.node.names new.node.board.opening → HasWholeLog new → new.log ≡ old.log
-    → PreservesBank old new → HasReplies new.node.board (replies_to (opening_rows_of old) (calls_of old.log))
+pub tells_all : {S K : Type 0} {keeps : K → List (Key × Call) → Type 0} (old new : PrimaryOf S K)
+    → SameCustomers new.node.names new.node.board.opening → HasWholeLog new → new.log ≡ old.log
+    → PreservesBank keeps old new → HasReplies new.node.board (replies_to (opening_rows_of old) (calls_of old.log))
 tells_all old new same all log bank =
     subst (λ (l : List (Key × Call)). HasReplies new.node.board (replies_to (opening_rows_of old) (calls_of l))) log
     (subst (λ (rows : Rows). HasReplies new.node.board (replies_to rows (calls_of new.log))) (same_opening old new bank)

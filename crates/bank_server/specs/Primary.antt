@@ -1,4 +1,4 @@
--- The log, and node 0, which executes it.
+-- The log, node 0, which executes it, and who keeps it.
 use Rattle.std.specs.Prelude.{◌≡◌, ℕ, None, List, [], ◌++◌, map}
 use Rattle.sb_rows.specs.Rows.{Rows, SameCustomers, rows_of}
 use Rattle.sb_calls.specs.Op.{op_of}
@@ -9,6 +9,7 @@ use Rattle.sb_rows.specs.declared.opening.Opening.{Opening}
 use Rattle.cown_board.specs.Board.{BoardOf}
 use Rattle.sb_replica.specs.Replica.{ReplicaOf, replica_at_opening, rest_of}
 use Rattle.sb_sequencer.specs.Numbering.{IsLog, calls_of}
+use Rattle.sb_ask_log.specs.Keeping.{KeepsBeginning, KeepsOn}
 use Rattle.bank_server.specs.Execution.{IsWholeLog, IsOneByOne}
 
 -- the ops of a log's calls, by these names
@@ -21,38 +22,46 @@ pub record HasPrefixOf (ops : List Op) (board : BoardOf Op) : Type 0 where
   pub uncut : board.cut ≡ None
   pub begins : (rest : List Op) × (ops ≡ board.log ++ rest)
 
--- the log, and the replica that is node 0
-pub record PrimaryOf (S : Type 0) : Type 0 where
+-- the log, the replica that is node 0, and the keeper of the log
+pub record PrimaryOf (S K : Type 0) : Type 0 where
   pub log : List (Key × Call)
   pub node : ReplicaOf S
+  pub keeper : K
 
 -- node 0 at an opening, with nothing of the log
 abbrev pub node_at_opening : {S : Type 0} → Opening → S → ReplicaOf S
 node_at_opening opening store = replica_at_opening 0 opening.directory opening.columns store
 
 -- the rows on which the log is executed
-abbrev pub opening_rows_of : {S : Type 0} → PrimaryOf S → Rows
+abbrev pub opening_rows_of : {S K : Type 0} → PrimaryOf S K → Rows
 opening_rows_of primary = rows_of primary.node.names primary.node.board.opening
 
 -- what always holds of the log and node 0
-pub record IsPrimary {S : Type 0} (primary : PrimaryOf S) : Type 0 where
+pub record IsPrimary {S K : Type 0} (primary : PrimaryOf S K) : Type 0 where
   pub log : IsLog primary.log
   pub customers : SameCustomers primary.node.names primary.node.board.opening
   pub behind : HasPrefixOf (log_ops primary.node.names primary.log) primary.node.board
 
+-- and its keeper keeps a beginning of the log
+pub record IsKeptPrimary {S K : Type 0} (keeps : K → List (Key × Call) → Type 0) (primary : PrimaryOf S K) : Type 0 where
+  pub valid : IsPrimary primary
+  pub begins : KeepsBeginning keeps primary.keeper primary.log
+
 -- node 0 has executed the whole log
-abbrev pub HasWholeLog : {S : Type 0} → PrimaryOf S → Type 0
+abbrev pub HasWholeLog : {S K : Type 0} → PrimaryOf S K → Type 0
 HasWholeLog primary = IsWholeLog (log_ops primary.node.names primary.log) primary.node.board
 
--- node 0 keeps its identity, its names and its store, over the same opening
-pub record PreservesBank {S : Type 0} (old new : PrimaryOf S) : Type 0 where
+-- node 0 keeps its identity, its names and its store, over the same opening, and what was kept of
+-- the log stays kept
+pub record PreservesBank {S K : Type 0} (keeps : K → List (Key × Call) → Type 0) (old new : PrimaryOf S K) : Type 0 where
   pub rest : rest_of new.node ≡ rest_of old.node
   pub opening : new.node.board.opening ≡ old.node.board.opening
+  pub kept : KeepsOn keeps old.keeper old.log new.keeper new.log
 
--- a node with the names and the opening of node 0 executed this bank's log, as if its calls were
--- run one by one
-pub record RunsLog {S : Type 0} (primary : PrimaryOf S) (node : ReplicaOf S) : Type 0 where
-  pub names_are : node.names ≡ primary.node.names
-  pub opening_is : node.board.opening ≡ primary.node.board.opening
-  pub log_is : node.board.log ≡ log_ops primary.node.names primary.log
-  pub one_by_one : IsOneByOne node.names (calls_of primary.log) node.board.opening node.board
+-- a node that had nothing of this log executed it, over its names and its opening, as if the calls
+-- were run one by one
+pub record RunsLog {S : Type 0} (log : List (Key × Call)) (old new : ReplicaOf S) : Type 0 where
+  pub names_are : new.names ≡ old.names
+  pub opening_is : new.board.opening ≡ old.board.opening
+  pub log_is : new.board.log ≡ log_ops old.names log
+  pub one_by_one : IsOneByOne new.names (calls_of log) new.board.opening new.board

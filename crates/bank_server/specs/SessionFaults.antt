@@ -2,9 +2,10 @@
 use Rattle.std.specs.Prelude.{◌≡◌, ℕ, Bool, false}
 use Rattle.cown_board.specs.Board.{BoardOf}
 use Rattle.cown_workers.specs.Draining.{HasNoneOut}
+use Rattle.sb_ask_log.specs.Keeping.{IsKeepFault}
 use Rattle.sb_calls.specs.declared.op.Op.{Op}
 use Rattle.bank_server.specs.declared.session_fault.SessionFault.{SessionFault}
-use Rattle.bank_server.specs.declared.session_fault.SessionFault.TheVariants.{Frame, Unexpected, CrewGone, Device, OutOfMemory}
+use Rattle.bank_server.specs.declared.session_fault.SessionFault.TheVariants.{Frame, Unexpected, CrewGone, Device, OutOfMemory, Log}
 
 -- a fault's number
 abbrev pub session_fault_number : SessionFault → ℕ
@@ -13,12 +14,25 @@ session_fault_number Unexpected = 2
 session_fault_number CrewGone = 3
 session_fault_number Device = 4
 session_fault_number OutOfMemory = 5
+session_fault_number (Log fault) = 6
 
 -- memory was refused, or the crew is gone
 abbrev pub IsSettleFault : SessionFault → Type 0
 IsSettleFault CrewGone = Unit {0}
 IsSettleFault OutOfMemory = Unit {0}
 IsSettleFault other = ⊥
+
+-- the client or its connection is at fault, and the next session can be served
+abbrev pub IsClientFault : SessionFault → Type 0
+IsClientFault (Frame fault) = Unit {0}
+IsClientFault Unexpected = Unit {0}
+IsClientFault Device = Unit {0}
+IsClientFault other = ⊥
+
+-- the log can't be kept
+abbrev pub IsLogFault : SessionFault → Type 0
+IsLogFault (Log fault) = IsKeepFault fault
+IsLogFault other = ⊥
 
 -- a crew that keeps no job is never gone if no op was out
 abbrev pub LosesCrew : Bool → BoardOf Op → SessionFault → Type 0

@@ -14,11 +14,12 @@ use crate::outcome_frames::push_outcomes;
 use crate::pending::PendingAsk;
 use crate::primary::Primary;
 use crate::session_fault::SessionFault;
+use crate::telling::tell;
 use cown_workers::Crew;
+use sb_ask_log::Keeper;
 use sb_calls::{Call, Key};
 use sb_checkpoint::CheckpointStore;
 use sb_frames::{Frame, Stream, StreamFault};
-use sb_text::write_whole;
 use std::alloc::Global;
 use std::io::Write;
 
@@ -50,11 +51,11 @@ impl SessionBuffers {
 /// Takes the bytes of one read, and handles each frame that is whole by then.
 ///
 /// Fails as [`crate::serve_session`] does, except for reads and the end.
-pub(crate) fn handle_bytes<W: Write, S: CheckpointStore, C: Crew>(
+pub(crate) fn handle_bytes<W: Write, S: CheckpointStore, K: Keeper, C: Crew>(
     bytes: &[u8],
     buffers: &mut SessionBuffers,
     writer: &mut W,
-    primary: &mut Primary<S>,
+    primary: &mut Primary<S, K>,
     crew: &mut C,
 ) -> Result<(), SessionFault>
     requires among { ArePendingWithin (length primary.old.log) buffers.old.pending.items }
@@ -67,7 +68,7 @@ pub(crate) fn handle_bytes<W: Write, S: CheckpointStore, C: Crew>(
     ensures stops { IfErr result (λ fault. Stops (opening_rows_of primary.old)
         (session_state_of primary.old.log buffers.old (W.contents writer.old)) (buffers.old.stream.unread ++ bytes.now)
         fault (session_state_of primary.new.log buffers.new (W.contents writer.new))) }
-    ensures bank { PreservesBank primary.old primary.new }
+    ensures bank { PreservesBank K.Keeps primary.old primary.new }
     ensures none_out { C.keeps ≡ false → HasNoneOut primary.old.node.board → HasNoneOut primary.new.node.board }
     ensures crew_lost { IfErr result (LosesCrew C.keeps primary.old.node.board) }
 {
@@ -81,10 +82,10 @@ pub(crate) fn handle_bytes<W: Write, S: CheckpointStore, C: Crew>(
 
 // Handles each frame that is whole.
 #[tactic(auto, unfolding(sb_frames::specs::Grammar::spelling))]
-fn handle_frames<W: Write, S: CheckpointStore, C: Crew>(
+fn handle_frames<W: Write, S: CheckpointStore, K: Keeper, C: Crew>(
     buffers: &mut SessionBuffers,
     writer: &mut W,
-    primary: &mut Primary<S>,
+    primary: &mut Primary<S, K>,
     crew: &mut C,
 ) -> Result<(), SessionFault>
     requires among { ArePendingWithin (length primary.old.log) buffers.old.pending.items }
@@ -97,7 +98,7 @@ fn handle_frames<W: Write, S: CheckpointStore, C: Crew>(
     ensures stops { IfErr result (λ fault. Stops (opening_rows_of primary.old)
         (session_state_of primary.old.log buffers.old (W.contents writer.old)) buffers.old.stream.unread
         fault (session_state_of primary.new.log buffers.new (W.contents writer.new))) }
-    ensures bank { PreservesBank primary.old primary.new }
+    ensures bank { PreservesBank K.Keeps primary.old primary.new }
     ensures none_out { C.keeps ≡ false → HasNoneOut primary.old.node.board → HasNoneOut primary.new.node.board }
     ensures crew_lost { IfErr result (LosesCrew C.keeps primary.old.node.board) }
 {
@@ -114,11 +115,11 @@ fn handle_frames<W: Write, S: CheckpointStore, C: Crew>(
 
 // Handles a frame: an ask is numbered, and waits; at a flush the outcomes of all that wait are
 // sent.
-fn handle_frame<W: Write, S: CheckpointStore, C: Crew>(
+fn handle_frame<W: Write, S: CheckpointStore, K: Keeper, C: Crew>(
     frame: &Frame,
     buffers: &mut SessionBuffers,
     writer: &mut W,
-    primary: &mut Primary<S>,
+    primary: &mut Primary<S, K>,
     crew: &mut C,
 ) -> Result<(), SessionFault>
     requires among { ArePendingWithin (length primary.old.log) buffers.old.pending.items }
@@ -130,7 +131,7 @@ fn handle_frame<W: Write, S: CheckpointStore, C: Crew>(
         (session_state_of primary.old.log buffers.old (W.contents writer.old))
         (session_state_of primary.new.log buffers.new (W.contents writer.new))) }
     ensures stream { buffers.new.stream ≡ buffers.old.stream }
-    ensures bank { PreservesBank primary.old primary.new }
+    ensures bank { PreservesBank K.Keeps primary.old primary.new }
     ensures none_out { C.keeps ≡ false → HasNoneOut primary.old.node.board → HasNoneOut primary.new.node.board }
     ensures crew_lost { IfErr result (LosesCrew C.keeps primary.old.node.board) }
 {
@@ -152,11 +153,11 @@ fn handle_frame<W: Write, S: CheckpointStore, C: Crew>(
 }
 
 // Numbers an ask, which then waits for a flush.
-fn assign_number<S: CheckpointStore>(
+fn assign_number<S: CheckpointStore, K: Keeper>(
     key: Key,
     call: &Call,
     pending: &mut Vec<PendingAsk>,
-    primary: &mut Primary<S>,
+    primary: &mut Primary<S, K>,
 ) -> Result<(), SessionFault>
     requires among { ArePendingWithin (length primary.old.log) pending.old.items }
     ensures among { OnOk result (ArePendingWithin (length primary.new.log) pending.new.items) }
@@ -165,6 +166,7 @@ fn assign_number<S: CheckpointStore>(
         (frames.Ask key.client key.request call.now ∷ [])
         (record { log = primary.new.log; pending = pending.new.items; written = written })) }
     ensures node { primary.new.node ≡ primary.old.node }
+    ensures bank { PreservesBank K.Keeps primary.old primary.new }
     ensures err { OnErr result (primary.new.log ≡ primary.old.log) }
     ensures fault { IfErr result (λ fault. fault ≡ faults.OutOfMemory) }
 {
@@ -175,11 +177,11 @@ fn assign_number<S: CheckpointStore>(
     Ok(())
 }
 
-// Has the whole log executed, and sends the client the outcomes of the asks that wait.
-fn send_outcomes<W: Write, S: CheckpointStore, C: Crew>(
+// Has the whole log executed and kept, and sends the client the outcomes of the asks that wait.
+fn send_outcomes<W: Write, S: CheckpointStore, K: Keeper, C: Crew>(
     buffers: &mut SessionBuffers,
     writer: &mut W,
-    primary: &mut Primary<S>,
+    primary: &mut Primary<S, K>,
     crew: &mut C,
 ) -> Result<(), SessionFault>
     requires among { ArePendingWithin (length primary.old.log) buffers.old.pending.items }
@@ -190,14 +192,15 @@ fn send_outcomes<W: Write, S: CheckpointStore, C: Crew>(
     ensures log { primary.new.log ≡ primary.old.log }
     ensures fault { IfErr result IsFlushFault }
     ensures stream { buffers.new.stream ≡ buffers.old.stream }
-    ensures bank { PreservesBank primary.old primary.new }
+    ensures bank { PreservesBank K.Keeps primary.old primary.new }
     ensures none_out { C.keeps ≡ false → HasNoneOut primary.old.node.board → HasNoneOut primary.new.node.board }
     ensures crew_lost { IfErr result (LosesCrew C.keeps primary.old.node.board) }
 {
     primary.settle(crew)?;
+    primary.keep()?;
     buffers.outcomes.clear();
     push_outcomes(&buffers.pending, primary.node(), &mut buffers.outcomes)?;
-    if write_whole(writer, &buffers.outcomes).is_err() {
+    if tell(writer, &buffers.outcomes, primary).is_err() {
         return Err(SessionFault::Device);
     }
     buffers.pending.clear();

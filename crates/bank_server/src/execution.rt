@@ -51,7 +51,7 @@ pub(crate) fn carry_out<S: CheckpointStore, C: Crew, R: Wait>(
     requires log_given { IfNone log (followers.old.listening ≡ 0) }
     // The result is as if the calls were executed one by one.
     ensures run { (log : List (Key × AnyCall)) → calls_of log ≡ calls.now
-        → OnOk result (RunsLog (record { log = log; node = replica.old }) replica.new) }
+        → OnOk result (RunsLog log replica.old replica.new) }
     ensures sent { OnOk result (length calls.now ≤ followers.new.sent) }
     ensures unchanged { followers.new ≡ record followers.old { sent = followers.new.sent } }
     ensures fault { IfErr result (IsExecutionFault C.keeps replica.old.board) }

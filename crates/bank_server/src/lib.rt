@@ -28,6 +28,7 @@ mod saving;
 mod session;
 mod session_fault;
 mod team;
+mod telling;
 mod whole_log;
 
 pub use agreement::agree;

@@ -1,4 +1,4 @@
-//! The log, and node 0, which executes it.
+//! The log, node 0, which executes it, and who keeps it.
 ghost use Rattle.std.specs.Prelude.{◌≡◌, ◌≢◌, ◌≤◌, ◌↔◌, [], List, length, false, IfOk, IfErr, IsErrOf, MatchOption, OnOk, OnErr};
 ghost use Rattle.sb_calls.specs.declared.ask.Key.{Key as AnyKey};
 ghost use Rattle.sb_calls.specs.declared.call.Call.{Call as AnyCall};
@@ -9,12 +9,13 @@ ghost use Rattle.sb_checkpoint.specs.Stores.{StoreDoes};
 ghost use Rattle.sb_replica.specs.Replica.{rest_of};
 ghost use Rattle.sb_sequencer.specs.Numbering.{IsLog, calls_of, first_asks};
 ghost use Rattle.sb_sequencer.specs.Sequencer.{empty_sequencer};
+ghost use Rattle.sb_ask_log.specs.Keeping.{KeepsBeginning};
 ghost use Rattle.bank_server.specs.inner.AskSteps.{AddsAsk};
 ghost use Rattle.bank_server.specs.Execution.{HasNoEntries};
 ghost use Rattle.bank_server.specs.Faults.{IsExecutionFault};
 ghost use Rattle.bank_server.specs.Primary.{HasWholeLog, IsPrimary, PreservesBank, RunsLog, node_at_opening};
 ghost use Rattle.bank_server.specs.Saving.{StoresCheckpoint, IsSaveFaultOf, Saves};
-ghost use Rattle.bank_server.specs.SessionFaults.{IsSettleFault, LosesCrew};
+ghost use Rattle.bank_server.specs.SessionFaults.{IsLogFault, IsSettleFault, LosesCrew};
 ghost use Rattle.bank_server.specs.Standing.{IsStandingWithin};
 
 use crate::asking::{Standing, ask_key};
@@ -26,6 +27,7 @@ use crate::save_fault::SaveFault;
 use crate::saving::save_node;
 use crate::session_fault::SessionFault;
 use cown_workers::{Crew, CrewFault};
+use sb_ask_log::{Keeper, NoKeeper};
 use sb_calls::{Call, Key, LOG_CALLS};
 use sb_checkpoint::CheckpointStore;
 use sb_replica::Replica;
@@ -35,22 +37,28 @@ use std::alloc::{AllocError, Global};
 use std::marker::Model;
 use std::sync::Wait;
 
-/// The log, and node 0, whose own log is a beginning of it.
+/// The log, node 0, whose own log is a beginning of it, and the log's keeper, which keeps a
+/// beginning of it too.
 #[derive(Drop)]
-pub struct Primary<S: CheckpointStore> {
+pub struct Primary<S: CheckpointStore, K: Keeper = NoKeeper> {
     alloc: Global,
     log: Box<Sequencer>,
     node: Box<Replica<S>>,
+    keeper: K,
 }
 
-impl<S: CheckpointStore> Model for Primary<S> {
-    ghost use Rattle.bank_server.specs.Primary.{PrimaryOf, IsPrimary};
+impl<S: CheckpointStore, K: Keeper> Model for Primary<S, K> {
+    ghost use Rattle.bank_server.specs.Primary.{PrimaryOf, IsKeptPrimary};
 
-    ghost Value = { PrimaryOf S };
+    ghost Value = { PrimaryOf S K };
 
-    ghost view = { λ p. record { log = p.log.value.log; node = p.node.value } };
+    ghost view = { λ p. record { log = p.log.value.log; node = p.node.value; keeper = p.keeper } };
 
-    ghost invariant = { λ p. IsPrimary (record { log = p.log.value.log; node = p.node.value }) };
+    ghost invariant = { λ p. IsKeptPrimary K.Keeps (record {
+      log = p.log.value.log;
+      node = p.node.value;
+      keeper = p.keeper;
+    }) };
 }
 
 impl<S: CheckpointStore> Primary<S> {
@@ -74,7 +82,39 @@ impl<S: CheckpointStore> Primary<S> {
     {
         let node = open_boxed(alloc, 0, opening.directory, opening.columns, store)?;
         let log = boxed_log(alloc, entries.min(LOG_CALLS))?;
-        Ok(Primary { alloc, log, node })
+        Ok(Primary {
+            alloc,
+            log,
+            node,
+            keeper: NoKeeper,
+        })
+    }
+}
+
+impl<S: CheckpointStore, K: Keeper> Primary<S, K> {
+    /// This log, of which the keeper keeps a beginning, and node 0 at this opening, with nothing of
+    /// the log. The store and the keeper aren't touched.
+    pub fn on_log(
+        alloc: Global,
+        opening: Opening,
+        store: S,
+        log: Box<Sequencer>,
+        keeper: K,
+    ) -> Result<Primary<S, K>, AllocError>
+        requires { KeepsBeginning K.Keeps keeper log.value.log }
+        ensures log { IfOk result (λ primary. primary.log ≡ log.value.log) }
+        ensures node { IfOk result (λ primary. primary.node ≡ node_at_opening opening store) }
+        ensures keeper { IfOk result (λ primary. primary.keeper ≡ keeper) }
+    {
+        // It has one number for each key.
+        let _length = log.length();
+        let node = open_boxed(alloc, 0, opening.directory, opening.columns, store)?;
+        Ok(Primary {
+            alloc,
+            log,
+            node,
+            keeper,
+        })
     }
 
     /// The log.
@@ -82,6 +122,13 @@ impl<S: CheckpointStore> Primary<S> {
         ensures { result.now.log ≡ self.now.log }
     {
         &self.log
+    }
+
+    /// The log's keeper.
+    pub fn keeper(&self) -> &K
+        ensures { result.now ≡ self.now.keeper }
+    {
+        &self.keeper
     }
 
     /// Node 0.
@@ -111,6 +158,7 @@ impl<S: CheckpointStore> Primary<S> {
         ensures among { IfOk result (IsStandingWithin (length self.new.log)) }
         ensures grows { length self.old.log ≤ length self.new.log }
         ensures node { self.new.node ≡ self.old.node }
+        ensures bank { PreservesBank K.Keeps self.old self.new }
         ensures err { OnErr result (self.new ≡ self.old) }
     {
         ask_key(&mut self.log, key, call)
@@ -121,7 +169,7 @@ impl<S: CheckpointStore> Primary<S> {
     /// Fails as [`Primary::settle`] does.
     pub(crate) fn offer_rest<C: Crew>(&mut self, crew: &mut C) -> Result<(), SessionFault>
         ensures log { self.new.log ≡ self.old.log }
-        ensures bank { PreservesBank self.old self.new }
+        ensures bank { PreservesBank K.Keeps self.old self.new }
         ensures none_out { C.keeps ≡ false → HasNoneOut self.old.node.board → HasNoneOut self.new.node.board }
         ensures fault { IfErr result IsSettleFault }
         ensures crew_lost { IfErr result (LosesCrew C.keeps self.old.node.board) }
@@ -142,13 +190,26 @@ impl<S: CheckpointStore> Primary<S> {
         ensures log { self.new.log ≡ self.old.log }
         // It has one number for each key.
         ensures one_each { IsLog self.new.log }
-        ensures bank { PreservesBank self.old self.new }
+        ensures bank { PreservesBank K.Keeps self.old self.new }
         // A crew that keeps no job leaves none out, after a fault too.
         ensures none_out { C.keeps ≡ false → HasNoneOut self.old.node.board → HasNoneOut self.new.node.board }
         ensures fault { IfErr result IsSettleFault }
         ensures crew_lost { IfErr result (LosesCrew C.keeps self.old.node.board) }
     {
         execute_rest(&self.log, &mut self.node, crew)
+    }
+
+    /// Has the whole log kept.
+    ///
+    /// Fails with [`SessionFault::Log`] if the keeper fails.
+    pub fn keep(&mut self) -> Result<(), SessionFault>
+        ensures kept { OnOk result (K.Keeps self.new.keeper self.new.log) }
+        ensures unchanged { self.new ≡ record self.old { keeper = self.new.keeper } }
+        // What was kept stays kept, after a fault too.
+        ensures bank { PreservesBank K.Keeps self.old self.new }
+        ensures fault { IfErr result IsLogFault }
+    {
+        Ok(self.keeper.keep(&self.log)?)
     }
 
     /// Has node 0 execute the whole log, of which it has nothing yet, together with its followers,
@@ -166,13 +227,18 @@ impl<S: CheckpointStore> Primary<S> {
         followers: &mut Followers<'_, R>,
     ) -> Result<Box<Replica<S>>, CrewFault>
         requires no_entries { HasNoEntries self.node.board }
-        ensures run { IfOk result (λ node. RunsLog self node.value) }
+        ensures run { IfOk result (λ node. RunsLog self.log self.node node.value) }
         // The whole log was sent to the followers.
         ensures sent { OnOk result (length self.log ≤ followers.new.sent) }
         ensures unchanged { followers.new ≡ record followers.old { sent = followers.new.sent } }
         ensures fault { IfErr result (IsExecutionFault C.keeps self.node.board) }
     {
-        let Primary { alloc, log, node } = self;
+        let Primary {
+            alloc,
+            log,
+            node,
+            ..
+        } = self;
         let mut node = node;
         execute_log(alloc, log, &mut node, crew, followers)?;
         Ok(node)
@@ -226,7 +292,7 @@ fn execute_log<S: CheckpointStore, R: Wait, C: Crew>(
     requires valid { IsLog log.value.log }
     requires opened { HasNoEntries node.old.board }
     requires customers { SameCustomers node.old.names node.old.board.opening }
-    ensures run { OnOk result (RunsLog (record { log = log.value.log; node = node.old }) node.new) }
+    ensures run { OnOk result (RunsLog log.value.log node.old node.new) }
     ensures sent { OnOk result (length log.value.log ≤ followers.new.sent) }
     ensures unchanged { followers.new ≡ record followers.old { sent = followers.new.sent } }
     ensures fault { IfErr result (IsExecutionFault C.keeps node.old.board) }

@@ -2,10 +2,11 @@
 ghost use Rattle.std.specs.Prelude.{◌≡◌};
 ghost use Rattle.bank_server.specs.SessionFaults.{session_fault_number};
 ghost use Rattle.bank_server.specs.inner.FlushFaults.{session_of_crew_fault};
-ghost use Rattle.bank_server.specs.declared.session_fault.SessionFault.TheVariants.{OutOfMemory};
+ghost use Rattle.bank_server.specs.declared.session_fault.SessionFault.TheVariants.{OutOfMemory, Log};
 
 use cown_workers::CrewFault;
 use sb_frames::FrameFault;
+use sb_log::LogFault;
 use std::alloc::AllocError;
 use thiserror::Error;
 
@@ -29,10 +30,14 @@ pub enum SessionFault {
     /// Memory was refused.
     #[error("out of memory")]
     OutOfMemory,
+    /// The log can't be kept, so no more outcomes are told and the server ends. What it told is
+    /// kept.
+    #[error("the log can't be kept: {0}")]
+    Log(LogFault),
 }
 
 impl SessionFault {
-    /// The number of the fault, from 1 to 5 in the order of the variants.
+    /// The number of the fault, from 1 to 6 in the order of the variants.
     pub fn number(&self) -> u8
         ensures { result ≡ session_fault_number self.now }
     {
@@ -42,6 +47,7 @@ impl SessionFault {
             SessionFault::CrewGone => 3,
             SessionFault::Device => 4,
             SessionFault::OutOfMemory => 5,
+            SessionFault::Log(_) => 6,
         }
     }
 }
@@ -54,6 +60,14 @@ impl From<CrewFault> for SessionFault {
             CrewFault::CrewGone => SessionFault::CrewGone,
             CrewFault::OutOfMemory => SessionFault::OutOfMemory,
         }
+    }
+}
+
+impl From<LogFault> for SessionFault {
+    ghost from_gives = { λ log fault. fault ≡ Log log };
+
+    fn from(log: LogFault) -> SessionFault {
+        SessionFault::Log(log)
     }
 }
 

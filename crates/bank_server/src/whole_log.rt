@@ -32,7 +32,7 @@ impl<S: CheckpointStore> Duty for WholeLog<S> {
 
     ghost ready = { λ duty. HasNoEntries duty.primary.node.board };
 
-    ghost does = { λ duty nodes workers keeps answer. IfOk answer (λ node. RunsLog duty.primary node.value)
+    ghost does = { λ duty nodes workers keeps answer. IfOk answer (λ node. RunsLog duty.primary.log duty.primary.node node.value)
         × IfErr answer (IsTeamFault nodes keeps) };
 
     fn carry_out<R, C>(
@@ -76,7 +76,7 @@ where
     requires workers { workers ≤ WORKERS }
     requires opened { HasNoEntries primary.node.board }
     // It began as this node 0 and executed the ops of the log, as if its calls were run one by one.
-    ensures run { IfOk result (λ node. RunsLog primary node.value) }
+    ensures run { IfOk result (λ node. RunsLog primary.log primary.node node.value) }
     ensures fault { IfErr result (IsNodesFault followers.nodes workers) }
 {
     with_team(rt, alloc, followers, workers, gate, WholeLog { primary })?

@@ -13,7 +13,7 @@ use Rattle.bank_server.specs.Standing.{IsStandingWithin, standing_of}
 use Rattle.bank_server.specs.declared.buffers.SessionBuffers.{SessionBuffers}
 use Rattle.bank_server.specs.declared.pending.PendingAsk.{PendingAsk}
 use Rattle.bank_server.specs.declared.session_fault.SessionFault.{SessionFault}
-use Rattle.bank_server.specs.declared.session_fault.SessionFault.TheVariants.{Frame, Unexpected, CrewGone, Device, OutOfMemory}
+use Rattle.bank_server.specs.declared.session_fault.SessionFault.TheVariants.{Frame, Unexpected, CrewGone, Device, OutOfMemory, Log}
 
 -- the log so far, the asks that wait for a flush, and what the writer has
 pub record SessionState : Type 0 where
@@ -67,6 +67,7 @@ IsStateAfterFault Unexpected there now = now ≡ there
 IsStateAfterFault CrewGone there now = now.log ≡ there.log
 IsStateAfterFault Device there now = now.log ≡ there.log
 IsStateAfterFault OutOfMemory there now = now.log ≡ there.log
+IsStateAfterFault (Log fault) there now = now.log ≡ there.log
 
 -- some of the unread bytes spell frames that led somewhere, and the fault came there, whatever
 -- bytes follow
@@ -85,3 +86,4 @@ RefusesFrame frame Unexpected old new = (¬ IsFromClient frame) × (new ≡ old)
 RefusesFrame frame CrewGone old new = new.log ≡ old.log
 RefusesFrame frame Device old new = new.log ≡ old.log
 RefusesFrame frame OutOfMemory old new = new.log ≡ old.log
+RefusesFrame frame (Log fault) old new = new.log ≡ old.log

@@ -39,5 +39,5 @@ returns-clause-leads g c =
     ∙ ap (λ (l : List ℕ). l ++ flat_map (λ (w : PendingAsk). flat_map spelling (outcome_by replies w.key w.standing)) c.deref.result.now) c.clear.ensures.items
     ∙ ap (flat_map (λ (w : PendingAsk). flat_map spelling (outcome_by replies w.key w.standing))) c.deref.ensures.value in
     flush_leads (opening_rows_of old) _ _ settled.log c.clear-2.ensures.items
-    (subst (λ (bytes : List ℕ). Appends (g.W.Write.contents c.args.writer.now) (g.W.Write.contents c.write_whole.new.writer) bytes)
-    (c.deref-2.ensures.value ∙ out) (after_ok c.write_whole.result c.if-is_err.ensures.value c.write_whole.ensures))
+    (subst (λ (bytes : List ℕ). Appends (g.W.Write.contents c.args.writer.now) (g.W.Write.contents c.tell.new.writer) bytes)
+    (c.deref-2.ensures.value ∙ out) (after_ok c.tell.result c.if-is_err.ensures.value c.tell.ensures))

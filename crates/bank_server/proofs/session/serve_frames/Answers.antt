@@ -18,8 +18,8 @@ use Rattle.bank_server.proofs.Boards.{idle_none_out}
 use Rattle.bank_server.proofs.FrameSteps.{keeps_on, loses_behind, nothing_short}
 use Rattle.bank_server.proofs.Sessions.{ReadsTo, consumes_empty, consumes_nothing, end_at, end_left, ended, heard_more, heard_nothing, of_front, of_whole, served, settle_at, settle_left, stopped}
 use Rattle.bank_server.proofs.WholeReplies.{if_err, same_opening}
-use Rattle.bank_server.proofs.session.serve_session.Goals as goal
-use Rattle.bank_server.proofs.session.serve_session.Goals.{in-Ok+in_ok-handle_bytes-in-Ok, in-Err+else-ne}
+use Rattle.bank_server.proofs.session.serve_frames.Goals as goal
+use Rattle.bank_server.proofs.session.serve_frames.Goals.{in-Ok+in_ok-handle_bytes-in-Ok, in-Err+else-ne}
 
 pub returns-in_err-settle-clause-cut_short : goal.returns-in_err-settle-clause-cut_short
 returns-in_err-settle-clause-cut_short g c =

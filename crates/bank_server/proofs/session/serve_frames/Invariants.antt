@@ -5,7 +5,7 @@ use Rattle.cown_workers.specs.Draining.{HasNoneOut}
 use Rattle.bank_server.specs.inner.SessionSteps.{ArePendingWithin, session_state_of}
 use Rattle.bank_server.specs.Primary.{PreservesBank, opening_rows_of}
 use Rattle.bank_server.proofs.Sessions.{ReadsTo}
-use Rattle.bank_server.proofs.session.serve_session.Given as goal
+use Rattle.bank_server.proofs.session.serve_frames.Given as goal
 
 -- the bytes so far led here
 abbrev pub invariant-loop : goal.invariant-loop
@@ -16,6 +16,6 @@ invariant-loop g l = record {
       (session_state_of l.primary.log l.buffers (g.W.Write.contents l.writer)) l.buffers.stream.unread;
   short : IsShort l.buffers.stream;
   among : ArePendingWithin (length l.primary.log) l.buffers.pending.items;
-  bank : PreservesBank l.fn.primary l.primary;
+  bank : PreservesBank g.K.Keeper.Keeps l.fn.primary l.primary;
   none_out : g.C.Crew.keeps ≡ false → HasNoneOut l.fn.primary.node.board → HasNoneOut l.primary.node.board;
 }

@@ -1,0 +1,46 @@
+-- What is kept of a log stays kept while the log grows.
+use Rattle.std.proofs.Common.{◌≡◌, List, [], ◌++◌, sym, ap, subst, ◌∙◌, append_assoc, append-nil}
+use Rattle.sb_calls.specs.declared.ask.Key.{Key}
+use Rattle.sb_calls.specs.declared.call.Call.{Call}
+use Rattle.sb_replica.specs.Replica.{ReplicaOf, rest_of}
+use Rattle.sb_ask_log.specs.Keeping.{KeepsBeginning, KeepsOn}
+use Rattle.bank_server.specs.inner.AskSteps.{ExtendsLog}
+use Rattle.bank_server.specs.Primary.{PreservesBank, PrimaryOf}
+
+module _ {K : Type 0} (keeps : K → List (Key × Call) → Type 0) where
+  -- a beginning of the log is a beginning of a longer one
+  keeps_extended : (keeper : K) (old more : List (Key × Call)) → KeepsOn keeps keeper old keeper (old ++ more)
+  keeps_extended keeper old more kept rest is begins = (
+    [],
+    subst (keeps keeper) (sym (append-nil kept)) is,
+    rest ++ more,
+    ap (λ (l : List (Key × Call)). l ++ more) begins ∙ append_assoc kept rest more
+        ∙ ap (λ (l : List (Key × Call)). l ++ (rest ++ more)) (sym (append-nil kept)),
+  )
+
+  pub keeps_after : (old mid new : K) (old_log mid_log new_log : List (Key × Call)) → KeepsOn keeps old old_log mid mid_log
+      → KeepsOn keeps mid mid_log new new_log → KeepsOn keeps old old_log new new_log
+  keeps_after old mid new old_log mid_log new_log first second kept rest is begins =
+      let one = first kept rest is begins in
+      let two = second (kept ++ one.0) one.2 one.1 one.3 in (
+        one.0 ++ two.0,
+        subst (keeps new) (append_assoc kept one.0 two.0) two.1,
+        two.2,
+        two.3 ∙ ap (λ (l : List (Key × Call)). l ++ two.2) (append_assoc kept one.0 two.0),
+      )
+
+  -- so a beginning is kept
+  pub still_begins : (old new : K) (old_log new_log : List (Key × Call)) → KeepsBeginning keeps old old_log
+      → KeepsOn keeps old old_log new new_log → KeepsBeginning keeps new new_log
+  still_begins old new old_log new_log begins on =
+      let more = on begins.0 begins.2 begins.1 begins.3 in (begins.0 ++ more.0, more.1, more.2, more.3)
+
+  -- where the keeper stays and the log is the same or longer
+  pub grown_on : (old new : K) (old_log new_log : List (Key × Call)) → new ≡ old → ExtendsLog old_log new_log
+      → KeepsOn keeps old old_log new new_log
+  grown_on old new old_log new_log same extends =
+      subst (λ (k : K). KeepsOn keeps old old_log k new_log) (sym same)
+      (subst (λ (l : List (Key × Call)). KeepsOn keeps old old_log old l) (sym extends.1) (keeps_extended old old_log extends.0))
+
+  pub same_on : (old new : K) (old_log new_log : List (Key × Call)) → new ≡ old → new_log ≡ old_log → KeepsOn keeps old old_log new new_log
+  same_on old new old_log new_log same log = grown_on old new old_log new_log same ([], log ∙ sym (append-nil old_log))
