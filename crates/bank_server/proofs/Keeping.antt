@@ -1,8 +1,9 @@
 -- What is kept of a log stays kept while the log grows.
-use Rattle.std.proofs.Common.{◌≡◌, List, [], ◌++◌, sym, ap, subst, ◌∙◌, append_assoc, append-nil}
+use Rattle.std.proofs.Common.{◌≡◌, Result, Ok, Err, List, [], ◌++◌, refl, sym, ap, subst, ◌∙◌, append_assoc, append-nil}
+use Rattle.std.specs.Prelude.{IfOk, OnErr}
 use Rattle.sb_calls.specs.declared.ask.Key.{Key}
 use Rattle.sb_calls.specs.declared.call.Call.{Call}
-use Rattle.sb_replica.specs.Replica.{ReplicaOf, rest_of}
+use Rattle.sb_sequencer.specs.Sequencer.{SequencerOf}
 use Rattle.sb_ask_log.specs.Keeping.{KeepsBeginning, KeepsOn}
 use Rattle.bank_server.specs.inner.AskSteps.{ExtendsLog}
 use Rattle.bank_server.specs.Primary.{PreservesBank, PrimaryOf}
@@ -44,3 +45,13 @@ module _ {K : Type 0} (keeps : K → List (Key × Call) → Type 0) where
 
   pub same_on : (old new : K) (old_log new_log : List (Key × Call)) → new ≡ old → new_log ≡ old_log → KeepsOn keeps old old_log new new_log
   same_on old new old_log new_log same log = grown_on old new old_log new_log same ([], log ∙ sym (append-nil old_log))
+
+-- an ask extends the log, also if it fails
+pub extends_always : {T E : Type 0} (r : Result T E) (old new : SequencerOf) → IfOk r (λ t. ExtendsLog old.log new.log) → OnErr r (new ≡ old)
+    → ExtendsLog old.log new.log
+extends_always (Ok t) old new extends same = extends
+extends_always (Err e) old new extends same = ([], ap (λ (s : SequencerOf). s.log) same ∙ sym (append-nil old.log))
+
+-- a bank that stays is preserved
+pub stays_bank : {S K : Type 0} (keeps : K → List (Key × Call) → Type 0) (bank : PrimaryOf S K) → PreservesBank keeps bank bank
+stays_bank keeps bank = record { rest = refl; opening = refl; kept = same_on keeps bank.keeper bank.keeper bank.log bank.log refl refl }

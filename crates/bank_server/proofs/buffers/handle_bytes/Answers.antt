@@ -2,7 +2,8 @@ use Rattle.std.proofs.Common.{◌++◌, refl}
 use Rattle.std.proofs.lemmas.Result.{err_from_is_err_and}
 use Rattle.bank_server.specs.inner.SessionSteps.{session_state_of}
 use Rattle.bank_server.specs.Primary.{opening_rows_of}
-use Rattle.bank_server.proofs.FrameSteps.{hears_nothing, loses_behind}
+use Rattle.bank_server.proofs.FrameSteps.{hears_nothing, keeps_on, loses_behind}
+use Rattle.bank_server.proofs.Keeping.{stays_bank}
 use Rattle.bank_server.proofs.WholeReplies.{if_err}
 use Rattle.bank_server.proofs.buffers.handle_bytes.Goals as goal
 
@@ -26,3 +27,10 @@ returns-clause-crew_lost g c =
     if_err c.offer_rest.result (λ fault. loses_behind g.C.Crew.keeps
     c.args.primary.now.node.board c.handle_frames.new.primary.node.board fault
     c.handle_frames.ensures.none_out) c.offer_rest.ensures.crew_lost
+
+pub returns-then-is_err-clause-bank : goal.returns-then-is_err-clause-bank
+returns-then-is_err-clause-bank g c = stays_bank g.K.Keeper.Keeps c.args.primary.now
+
+pub returns-clause-bank : goal.returns-clause-bank
+returns-clause-bank g c =
+    keeps_on c.args.primary.now c.handle_frames.new.primary c.offer_rest.new.self c.handle_frames.ensures.bank c.offer_rest.ensures.bank

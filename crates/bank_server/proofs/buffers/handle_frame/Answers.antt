@@ -4,6 +4,7 @@ use Rattle.sb_frames.specs.declared.frame.Frame.{Frame}
 use Rattle.bank_server.specs.inner.SessionSteps.{Leads, session_state_of}
 use Rattle.bank_server.specs.Primary.{opening_rows_of}
 use Rattle.bank_server.specs.SessionFaults.{LosesCrew}
+use Rattle.bank_server.proofs.Keeping.{stays_bank}
 use Rattle.bank_server.proofs.WholeReplies.{if_err}
 use Rattle.bank_server.proofs.buffers.handle_frame.Goals as goal
 
@@ -25,3 +26,6 @@ returns-in-Flush-clause-leads g c =
 pub returns-in-Ask-clause-crew_lost : goal.returns-in-Ask-clause-crew_lost
 returns-in-Ask-clause-crew_lost g c =
     if_err c.assign_number.result (λ fault is. subst (LosesCrew g.C.Crew.keeps c.args.primary.now.node.board) (sym is) tt) c.assign_number.ensures.fault
+
+pub returns-in_default-clause-bank : goal.returns-in_default-clause-bank
+returns-in_default-clause-bank g c = stays_bank g.K.Keeper.Keeps c.args.primary.now

@@ -7,9 +7,20 @@ use Rattle.sb_frames.specs.declared.fault.StreamFault.TheVariants.{Bad}
 use Rattle.sb_frames.specs.declared.frame.Frame.{Frame}
 use Rattle.bank_server.specs.inner.SessionSteps.{Leads, session_state_of}
 use Rattle.bank_server.specs.Primary.{opening_rows_of}
-use Rattle.bank_server.proofs.FrameSteps.{bad_stops, hears_frame, keeps_on, loses_behind, refused_stops}
+use Rattle.bank_server.proofs.FrameSteps.{bad_stops, hears_frame, hears_nothing, keeps_on, loses_behind, refused_stops}
+use Rattle.bank_server.proofs.Keeping.{stays_bank}
 use Rattle.bank_server.proofs.WholeReplies.{same_opening}
 use Rattle.bank_server.proofs.buffers.handle_frames.Goals as goal
+
+pub loop-frame-init : goal.loop-frame-init
+loop-frame-init g c = record {
+  handles = hears_nothing (opening_rows_of c.args.primary.now)
+      (session_state_of c.args.primary.now.log c.args.buffers.now (g.W.Write.contents c.args.writer.now)) c.args.buffers.now.stream.unread;
+  among = c.requires.among;
+  going = c.requires.healthy;
+  bank = stays_bank g.K.Keeper.Keeps c.args.primary.now;
+  none_out = λ e none. none;
+}
 
 pub loop-frame-preserved : goal.loop-frame-preserved
 loop-frame-preserved g c =

@@ -1,5 +1,6 @@
 use Rattle.std.proofs.Common.{◌≡◌, ℕ, Bool, true, false, true≢false, List, [], refl, sym, ◌∙◌, inl, inr}
 use Rattle.std.specs.Prelude.{◌≢◌, ◌⊎◌}
+use Rattle.bank_server.proofs.Keeping.{stays_bank}
 use Rattle.bank_server.proofs.session.end.Goals as goal
 
 -- what isn't whole has unread bytes, or failed
@@ -13,3 +14,6 @@ returns-then-not-ended-clause-fault g c = (
   not_whole c.args.buffers.now.stream.unread c.args.buffers.now.stream.failed
       (λ whole. true≢false (sym (c.ended.ensures.1 whole) ∙ c.if-not-ended.true)),
 )
+
+pub returns-then-not-ended-clause-bank : goal.returns-then-not-ended-clause-bank
+returns-then-not-ended-clause-bank g c = stays_bank g.K.Keeper.Keeps c.args.primary.now

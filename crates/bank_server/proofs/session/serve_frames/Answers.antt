@@ -197,3 +197,10 @@ loop-preserved g c =
             none_out = kept.none_out;
           })
     ]
+
+pub returns-in-Ok-eq0-clause-bank : goal.returns-in-Ok-eq0-clause-bank
+returns-in-Ok-eq0-clause-bank g c = keeps_on c.args.primary.now c.loop.primary c.end.new.primary c.loop.invariant.bank c.end.ensures.bank
+
+pub returns-in_err-handle_bytes-in-Ok-clause-bank : goal.returns-in_err-handle_bytes-in-Ok-clause-bank
+returns-in_err-handle_bytes-in-Ok-clause-bank g c =
+    keeps_on c.args.primary.now c.loop.primary c.handle_bytes.new.primary c.loop.invariant.bank c.handle_bytes.ensures.bank
