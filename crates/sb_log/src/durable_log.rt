@@ -62,6 +62,13 @@ impl<F: LogFile> DurableLog<F> {
         file
     }
 
+    /// The hasher of all bodies, joined.
+    pub fn hasher(&self) -> &Sha256
+        ensures { result.now ≡ self.now.hasher }
+    {
+        &self.hasher
+    }
+
     /// The digest of all bodies, joined.
     pub fn digest(&self) -> [u8; 32]
         ensures { (bodies : List ℕ) → Holds256 self.now.hasher bodies → result ≡ sha256 bodies }
