@@ -1,5 +1,5 @@
 -- What is kept of a log.
-use Rattle.std.specs.Prelude.{◌≡◌, Option, Some, None, List, ◌++◌}
+use Rattle.std.specs.Prelude.{◌≡◌, ℕ, Option, Some, None, List, ◌++◌}
 use Rattle.sb_calls.specs.declared.ask.Key.{Key}
 use Rattle.sb_calls.specs.declared.call.Call.{Call}
 use Rattle.sb_log.specs.declared.log_fault.LogFault.{LogFault}
@@ -28,3 +28,8 @@ module _ {K : Type 0} (keeps : K → List (Key × Call) → Type 0) where
   abbrev pub kept_by : Option K → List (Key × Call) → Type 0
   kept_by None asks = Unit {0}
   kept_by (Some keeper) asks = keeps keeper asks
+
+-- the opening of a keeper that there may be
+abbrev pub opening_by : {K : Type 0} → (K → Option (List ℕ)) → Option K → Option (List ℕ)
+opening_by opening None = None
+opening_by opening (Some keeper) = opening keeper

@@ -1,8 +1,10 @@
 //! Who keeps a log.
-ghost use Rattle.std.specs.Prelude.{◌≡◌, List, OnOk, IfErr};
+ghost use Rattle.std.specs.Prelude.{◌≡◌, List, ℕ, Option, None, OnOk, IfErr};
+ghost use Rattle.std.specs.Option.{option_map};
 ghost use Rattle.sb_calls.specs.declared.ask.Key.{Key as AnyKey};
 ghost use Rattle.sb_calls.specs.declared.call.Call.{Call as AnyCall};
-ghost use Rattle.sb_ask_log.specs.Keeping.{IsKeepFault, KeepsBeginning, KeepsOn, kept_by};
+ghost use Rattle.sb_ask_log.specs.Keeping.{IsKeepFault, KeepsBeginning, KeepsOn, kept_by, opening_by};
+ghost use Rattle.sb_ask_log.specs.LogFile.{log_digest};
 
 use sb_log::LogFault;
 use sb_sequencer::Sequencer;
@@ -11,6 +13,9 @@ use sb_sequencer::Sequencer;
 pub trait Keeper: Drop {
     /// These asks are kept: a log that is opened again, after any stop, begins with them.
     ghost Keeps: { Self → List (AnyKey × AnyCall) → Type 0 };
+
+    /// The opening text of the file in which it keeps them, if there is one.
+    ghost opening: { Self → Option (List ℕ) };
 
     /// Keeps a whole log, of which it keeps a beginning.
     ///
@@ -22,7 +27,13 @@ pub trait Keeper: Drop {
         ensures kept { OnOk result (Keeps self.new log.now.log) }
         // What was kept stays kept, after a fault too.
         ensures stays { KeepsOn Keeps self.old log.now.log self.new log.now.log }
+        ensures opening { opening self.new ≡ opening self.old }
         ensures fault { IfErr result IsKeepFault };
+
+    /// The digest of the log that it keeps, if it keeps one in a file.
+    fn digest(&self) -> Option<[u8; 32]>
+        ensures { (asks : List (AnyKey × AnyCall)) → Keeps self.now asks
+            → result ≡ option_map (λ text. log_digest text asks) (opening self.now) };
 }
 
 /// Keeps nothing, and promises nothing.
@@ -32,8 +43,14 @@ pub struct NoKeeper;
 impl Keeper for NoKeeper {
     ghost Keeps = { λ keeper asks. Unit {0} };
 
+    ghost opening = { λ keeper. None };
+
     fn keep(&mut self, _log: &Sequencer) -> Result<(), LogFault> {
         Ok(())
+    }
+
+    fn digest(&self) -> Option<[u8; 32]> {
+        None
     }
 }
 
@@ -41,10 +58,19 @@ impl Keeper for NoKeeper {
 impl<K: Keeper> Keeper for Option<K> {
     ghost Keeps = { λ keeper asks. kept_by K.Keeps keeper asks };
 
+    ghost opening = { λ keeper. opening_by K.opening keeper };
+
     fn keep(&mut self, log: &Sequencer) -> Result<(), LogFault> {
         match self {
             Some(keeper) => keeper.keep(log),
             None => Ok(()),
+        }
+    }
+
+    fn digest(&self) -> Option<[u8; 32]> {
+        match self {
+            Some(keeper) => keeper.digest(),
+            None => None,
         }
     }
 }

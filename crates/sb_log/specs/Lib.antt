@@ -1,1 +1,10 @@
+pub mod FaultyFile
 pub mod Faults
+pub mod Front
+pub mod Lives
+pub mod LogCalls
+pub mod LogFiles
+pub mod MemoryFile
+pub mod Reading
+pub mod Records
+pub mod Replaying

@@ -1,0 +1,48 @@
+-- What is read of a log's file.
+use Rattle.std.specs.Prelude.{◌≡◌, ◌⊎◌, ℕ, Result, Ok, Err, List, [], ◌∷◌, ◌++◌, length}
+use Rattle.sb_calls.specs.declared.ask.Key.{Key}
+use Rattle.sb_calls.specs.declared.call.Call.{Call}
+use Rattle.sb_log.specs.Reading.{IsTorn, Reads}
+use Rattle.sb_log.specs.Records.{IsBody, joined, record_after, records}
+use Rattle.sb_log.specs.declared.log_fault.LogFault.{LogFault}
+use Rattle.sb_log.specs.declared.log_fault.LogFault.TheVariants.{Damaged, InUse}
+use Rattle.sb_ask_log.specs.LogFile.{AreBodiesOf}
+
+-- bodies that are read: none, and then there is no opening and no ask, or those of a log
+abbrev pub AreRead : List (List ℕ) → List ℕ → List (Key × Call) → Type 0
+AreRead [] text log = (text ≡ []) × (log ≡ [])
+AreRead (body ∷ bodies) text log = AreBodiesOf (body ∷ bodies) text log
+
+-- the longest log that these bytes begin with: its opening, its asks, and a rest that is torn; without
+-- a whole first record there is no log, and the opening is empty
+pub record ReadsAskLog (content : List ℕ) (text : List ℕ) (log : List (Key × Call)) (rest : List ℕ) : Type 0 where
+  pub bodies : List (List ℕ)
+  pub reads : Reads content bodies rest
+  pub torn : IsTorn rest
+  pub are : AreRead bodies text log
+
+-- at this byte the longest log ends, and what stands there up to the file's end isn't torn: no whole
+-- record, or the record of a body that no log has there
+pub record IsDamagedAskLog (content : List ℕ) (byte behind : ℕ) : Type 0 where
+  pub bodies : List (List ℕ)
+  pub rest : List ℕ
+  pub text : List ℕ
+  pub log : List (Key × Call)
+  pub whole : content ≡ records bodies ++ rest
+  pub are : AreRead bodies text log
+  pub byte_is : byte ≡ length (records bodies)
+  pub behind_is : behind ≡ length rest
+  pub why : (Reads content bodies rest × (IsTorn rest → ⊥))
+      ⊎ ((body more : List ℕ) × IsBody body × (rest ≡ record_after (joined bodies) body ++ more)
+      × ((longer_text : List ℕ) (longer : List (Key × Call)) → AreRead (bodies ++ body ∷ []) longer_text longer → ⊥))
+
+-- the log is damaged, or the device failed, or memory was refused
+abbrev pub IsReadFault : List ℕ → LogFault → Type 0
+IsReadFault content (Damaged byte behind) = IsDamagedAskLog content byte behind
+IsReadFault content InUse = ⊥
+IsReadFault content other = Unit {0}
+
+-- a file that is damaged stays as it is
+abbrev pub IsUnchangedIfDamaged : LogFault → List ℕ → ℕ → List ℕ → ℕ → Type 0
+IsUnchangedIfDamaged (Damaged byte behind) old synced new synced_new = (new ≡ old) × (synced_new ≡ synced)
+IsUnchangedIfDamaged other old synced new synced_new = Unit {0}

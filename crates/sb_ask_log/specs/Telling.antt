@@ -1,0 +1,49 @@
+-- The asks that a log's file was told.
+use Rattle.std.specs.Prelude.{◌≡◌, ℕ, max, Bool, false, List, length, take}
+use Rattle.sha2.specs.declared.Sha256.{Sha256}
+use Rattle.sha2.specs.Hashers.{Holds256}
+use Rattle.sb_calls.specs.declared.ask.Key.{Key}
+use Rattle.sb_calls.specs.declared.call.Call.{Call}
+use Rattle.sb_log.specs.Lives.{Event, HappensAll, Life, newborn}
+use Rattle.sb_log.specs.LogCalls.{DurableLogOf, IsLogOf}
+use Rattle.sb_log.specs.Reading.{Begins}
+use Rattle.sb_ask_log.specs.LogFile.{AreBodiesOf, log_bytes}
+use Rattle.sb_ask_log.specs.Recovery.{ReadsAskLog}
+
+-- a log of asks: the log of its file, its opening text, the hasher of what was told, and how many asks
+-- were told
+pub record AskLogOf (F : Type 0) : Type 0 where
+  pub log : DurableLogOf F
+  pub text : List ℕ
+  pub hasher : Sha256
+  pub saved : ℕ
+
+-- after some life the file has these bytes, of which so many are synced: the log of these asks was told,
+-- and unless a call failed no more was given to it
+pub record Tells (content : List ℕ) (synced : ℕ) (failed : Bool) (hasher : Sha256) (text : List ℕ)
+    (told : List (Key × Call)) : Type 0 where
+  pub l : Life
+  pub events : List Event
+  pub lived : HappensAll newborn events l
+  pub file : IsLogOf content synced failed hasher l
+  pub told_are : AreBodiesOf l.told text told
+  pub given : List (Key × Call)
+  pub given_are : AreBodiesOf l.given text given
+  pub only : failed ≡ false → given ≡ told
+
+-- wherever the machine stops, with so many bytes left: what is read of the file then is a log of the
+-- same opening, which begins with all asks that were told, at their places
+abbrev pub RecoversWhatItTold : Type 0
+RecoversWhatItTold = (content : List ℕ) (synced : ℕ) (failed : Bool) (hasher : Sha256) (text : List ℕ)
+    (told : List (Key × Call)) → Tells content synced failed hasher text told
+    → (kept : ℕ) (read_text : List ℕ) (read : List (Key × Call)) (rest : List ℕ)
+    → ReadsAskLog (take (max synced kept) content) read_text read rest
+    → (read_text ≡ text) × Begins told read
+
+module _ {F : Type 0} (IsHonest : F → Type 0) (content : F → List ℕ) (synced : F → ℕ) where
+  -- it keeps these asks: its hasher and its count are theirs, and an honest file was told them
+  pub record KeepsAsks (log : AskLogOf F) (asks : List (Key × Call)) : Type 0 where
+    pub saved_is : log.saved ≡ length asks
+    pub holds : Holds256 log.hasher (log_bytes log.text asks)
+    pub told : IsHonest log.log.file
+        → Tells (content log.log.file) (synced log.log.file) log.log.failed log.log.hasher log.text asks

@@ -1,0 +1,173 @@
+//! The asks of a sequencer's log, in a file.
+ghost use Rattle.std.specs.Prelude.{◌≡◌, ◌≢◌, ◌↔◌, ◌++◌, ◌+◌, ◌<◌, ◌≤◌, ◌^◌, [], Some, List, ℕ, length, drop, take, false, true, IfErr, IfOk, OnErr, OnOk};
+ghost use Rattle.std.specs.List.{All};
+ghost use Rattle.sha2.specs.Hashers.{Holds256};
+ghost use Rattle.sha2.specs.Sha256.{sha256};
+ghost use Rattle.sb_calls.specs.declared.ask.Key.{Key as AnyKey};
+ghost use Rattle.sb_calls.specs.declared.call.Call.{Call as AnyCall};
+ghost use Rattle.sb_ask_log.specs.Asks.{IsAsk, asks_field};
+ghost use Rattle.sb_ask_log.specs.Keeping.{IsKeepFault};
+ghost use Rattle.sb_ask_log.specs.LogFile.{IsOpeningText, log_bytes};
+ghost use Rattle.sb_ask_log.specs.Telling.{KeepsAsks, Tells};
+
+use crate::ask_replay::MAGIC;
+use crate::keeper::Keeper;
+use crate::recovered_log::RecoveredLog;
+use sb_frames::{Frame, encode};
+use sb_log::{DurableLog, HEAD, LogFault, LogFile};
+use sb_sequencer::Sequencer;
+use sha2::{Digest, Sha256};
+use std::alloc::{AllocError, Global};
+use std::marker::Model;
+
+/// The asks of a sequencer's log, up to a length, in a file.
+///
+/// Contracts see the log of the file, its opening text, the hasher of what is on the disk, and how
+/// many asks are.
+#[derive(Drop)]
+pub struct AskLog<F: LogFile> {
+    log: DurableLog<F>,
+    text: Vec<u8>,
+    hasher: Sha256,
+    saved: u64,
+    // The record of a batch, while it is appended.
+    batch: Vec<u8>,
+}
+
+impl<F: LogFile> Model for AskLog<F> {
+    ghost use Rattle.sb_ask_log.specs.Telling.{AskLogOf};
+
+    ghost Value = { AskLogOf F };
+
+    ghost view = { λ a. record {
+      log = a.log;
+      text = a.text.items;
+      hasher = a.hasher;
+      saved = a.saved;
+    } };
+}
+
+impl<F: LogFile> AskLog<F> {
+    /// Makes a log with this opening in an empty file, and has it on the disk.
+    ///
+    /// Fails with [`LogFault::Device`] if the device fails, and with [`LogFault::OutOfMemory`] if
+    /// memory is refused.
+    pub fn create(alloc: Global, file: F, text: &[u8]) -> Result<AskLog<F>, LogFault>
+        requires opening { IsOpeningText text.now }
+        requires size { length text.now + 8 < 2 ^ 32 }
+        requires empty { F.IsHonest file → (F.content file ≡ []) × (F.synced file ≡ 0) }
+        ensures keeps { IfOk result (λ log. KeepsAsks F.IsHonest F.content F.synced log []) }
+        ensures text { IfOk result (λ log. log.text ≡ text.now) }
+        ensures honest { IfOk result (λ log. F.IsHonest file ↔ F.IsHonest log.log.file) }
+        ensures fault { IfErr result IsKeepFault }
+    {
+        let text = Vec::from_slice(alloc, text)?;
+        let mut batch = Vec::from_slice(alloc, &[0; HEAD])?;
+        batch.extend_from_slice(MAGIC)?;
+        batch.extend_from_slice(&text)?;
+        let mut log = DurableLog::new(file, Sha256::new());
+        log.append(&mut batch)?;
+        log.sync()?;
+        let hasher = log.hasher().clone().unwrap();
+        Ok(AskLog {
+            log,
+            text,
+            hasher,
+            saved: 0,
+            batch,
+        })
+    }
+
+    /// Goes on with the log of a file that was recovered, and answers the sequencer's log beside it.
+    pub fn resume(alloc: Global, file: F, found: RecoveredLog) -> (AskLog<F>, Box<Sequencer>)
+        requires some { found.text.items ≢ [] }
+        requires holds { Holds256 found.end.hasher (log_bytes found.text.items found.log.value.log) }
+        requires told { F.IsHonest file → Tells (F.content file) (F.synced file) false found.end.hasher
+            found.text.items found.log.value.log }
+        ensures log { result.1 ≡ found.log }
+        ensures keeps { KeepsAsks F.IsHonest F.content F.synced result.0 found.log.value.log }
+        ensures text { result.0.text ≡ found.text.items }
+        ensures file { result.0.log.file ≡ file }
+    {
+        let RecoveredLog { text, log, end } = found;
+        let hasher = end.hasher.clone().unwrap();
+        let saved = log.length();
+        let kept = AskLog {
+            log: DurableLog::new(file, end.hasher),
+            text,
+            hasher,
+            saved,
+            batch: Vec::new(alloc),
+        };
+        (kept, log)
+    }
+
+    /// The opening text.
+    pub fn text(&self) -> &[u8]
+        ensures { result.now ≡ self.now.text }
+    {
+        &self.text
+    }
+
+    /// Appends the rest of a sequencer's log, as one batch, and has it on the disk. If there is none,
+    /// nothing is written.
+    ///
+    /// Fails with
+    /// - [`LogFault::Device`] if the device fails, or failed before: then the file has to be recovered,
+    /// - [`LogFault::OutOfMemory`] if memory is refused; nothing changes then.
+    pub fn save_rest(&mut self, log: &Sequencer) -> Result<(), LogFault>
+        requires { self.old.saved ≤ length log.now.log }
+        ensures honest { F.IsHonest self.old.log.file ↔ F.IsHonest self.new.log.file }
+        ensures saved { KeepsAsks F.IsHonest F.content F.synced self.old (take self.old.saved log.now.log)
+            → OnOk result (KeepsAsks F.IsHonest F.content F.synced self.new log.now.log) }
+        // After a failure what was told stays so.
+        ensures stays { (asks : List (AnyKey × AnyCall)) → KeepsAsks F.IsHonest F.content F.synced self.old asks
+            → OnErr result (KeepsAsks F.IsHonest F.content F.synced self.new asks) }
+        ensures text { self.new.text ≡ self.old.text }
+        ensures fault { IfErr result IsKeepFault }
+    {
+        let length = log.length();
+        if self.saved == length {
+            return Ok(());
+        }
+        self.batch.clear();
+        self.batch.extend_from_slice(&[0; HEAD])?;
+        push_asks(log, self.saved, &mut self.batch)?;
+        self.log.append(&mut self.batch)?;
+        self.log.sync()?;
+        self.hasher = self.log.hasher().clone().unwrap();
+        self.saved = length;
+        Ok(())
+    }
+}
+
+// Appends the bytes of the asks behind the first so many.
+fn push_asks(log: &Sequencer, from: u64, out: &mut Vec<u8>) -> Result<(), AllocError>
+    requires { from ≤ length log.now.log }
+    ensures spelled { OnOk result (out.new.items ≡ out.old.items ++ asks_field (drop from log.now.log)) }
+    ensures valid { OnOk result (All IsAsk (drop from log.now.log)) }
+{
+    for before in from..log.length() {
+        let (key, call) = log.ask_of(before + 1).unwrap();
+        out.extend_from_slice(&encode(&Frame::Ask {
+            client: key.client,
+            request: key.request,
+            call,
+        }))?;
+    }
+    Ok(())
+}
+
+impl<F: LogFile> Keeper for AskLog<F> {
+    ghost Keeps = { KeepsAsks F.IsHonest F.content F.synced };
+
+    ghost opening = { λ log. Some log.text };
+
+    fn keep(&mut self, log: &Sequencer) -> Result<(), LogFault> {
+        self.save_rest(log)
+    }
+
+    fn digest(&self) -> Option<[u8; 32]> {
+        Some(self.hasher.clone().unwrap().finalize())
+    }
+}

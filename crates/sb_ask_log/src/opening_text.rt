@@ -1,0 +1,18 @@
+//! The opening text of a log's file.
+ghost use Rattle.std.specs.Prelude.{◌≡◌, ◌↔◌, IsTrue, IfOk};
+ghost use Rattle.sb_ask_log.specs.LogFile.{IsOpeningText};
+
+use sb_rows::{OpeningFault, read_opening};
+use std::alloc::{AllocError, Global};
+
+/// Whether a text is an opening up to and with its line `begin` and the end of that line. Fails if
+/// memory is refused.
+pub fn is_opening_text(alloc: Global, text: &[u8]) -> Result<bool, AllocError>
+    ensures { IfOk result (λ is. IsTrue is ↔ IsOpeningText text.now) }
+{
+    match read_opening(alloc, text) {
+        Ok(opening) => Ok(opening.consumed == text.len() && text.ends_with(b"\n")),
+        Err(OpeningFault::Line { .. }) => Ok(false),
+        Err(OpeningFault::OutOfMemory) => Err(AllocError),
+    }
+}

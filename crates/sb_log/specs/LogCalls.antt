@@ -1,0 +1,90 @@
+-- What the calls of a log do, as events of its file's life.
+use Rattle.std.specs.Prelude.{◌≡◌, ◌⊎◌, ℕ, ◌+◌, Bool, true, false, not, Result, Ok, Err, List, ◌++◌, drop, length}
+use Rattle.sha2.specs.declared.Sha256.{Sha256}
+use Rattle.sha2.specs.Hashers.{Holds256}
+use Rattle.sb_log.specs.Lives.{Append, AppendFails, Cut, Happens, Life, ReadBack, Sync, SyncFails}
+use Rattle.sb_log.specs.Reading.{IsTorn, Reads}
+use Rattle.sb_log.specs.Records.{IsBody, joined, record_after, records}
+use Rattle.sb_log.specs.Replaying.{ReplaysAll}
+use Rattle.sb_log.specs.declared.log_end.LogEnd.{LogEnd}
+use Rattle.sb_log.specs.declared.log_fault.LogFault.{LogFault}
+use Rattle.sb_log.specs.declared.log_fault.LogFault.TheVariants.{Damaged, Device, InUse, OutOfMemory}
+
+-- a log: its file, the hasher of its bodies, and whether a call failed
+pub record DurableLogOf (F : Type 0) : Type 0 where
+  pub file : F
+  pub hasher : Sha256
+  pub failed : Bool
+
+-- a life so far: the file has these bytes, of which so many are synced
+pub record IsFileOf (content : List ℕ) (synced : ℕ) (l : Life) : Type 0 where
+  pub content_is : l.content ≡ content
+  pub synced_is : l.synced ≡ synced
+
+-- the same of a log: it is healthy unless a call failed, and then its hasher holds all that was given
+pub record IsLogOf (content : List ℕ) (synced : ℕ) (failed : Bool) (hasher : Sha256) (l : Life) : Type 0 where
+  pub file : IsFileOf content synced l
+  pub healthy_is : l.healthy ≡ not failed
+  pub holds : failed ≡ false → Holds256 hasher (joined l.given)
+
+-- what an append of a body does, by its answer
+abbrev pub Appends : Life → List ℕ → Result (Unit {0}) LogFault → Life → Type 0
+Appends l body (Ok done) m = Happens l (Append body) m
+-- the device failed now, or a call failed before
+Appends l body (Err Device) m = ((kept : ℕ) × Happens l (AppendFails body kept) m) ⊎ ((l.healthy ≡ false) × (m ≡ l))
+Appends l body (Err other) m = ⊥
+
+-- what a sync does, by its answer
+abbrev pub Syncs : Life → Result (Unit {0}) LogFault → Life → Type 0
+Syncs l (Ok done) m = Happens l Sync m
+Syncs l (Err Device) m = Happens l SyncFails m ⊎ ((l.healthy ≡ false) × (m ≡ l))
+Syncs l (Err other) m = ⊥
+
+module _ {T : Type 0} (replays : T → List ℕ → T → Type 0) (refuses : T → List ℕ → Type 0) where
+  -- these records were replayed, and this rest, which is torn, ends the log
+  pub record ReadsTo (content : List ℕ) (old : T) (bodies : List (List ℕ)) (rest : List ℕ) (end : LogEnd) (new : T)
+      : Type 0 where
+    pub reads : Reads content bodies rest
+    pub torn : IsTorn rest
+    pub replayed : ReplaysAll replays old bodies new
+    pub records_is : end.records ≡ length (records bodies)
+    pub torn_is : end.torn ≡ length rest
+    pub holds : Holds256 end.hasher (joined bodies)
+
+  -- behind these records, which were replayed, stands something else: a rest that isn't torn, or the
+  -- record of a body that is refused
+  pub record IsDamagedAt (content : List ℕ) (old : T) (byte behind : ℕ) : Type 0 where
+    pub bodies : List (List ℕ)
+    pub rest : List ℕ
+    pub whole : content ≡ records bodies ++ rest
+    pub byte_is : byte ≡ length (records bodies)
+    pub behind_is : behind ≡ length rest
+    pub mid : T
+    pub replayed : ReplaysAll replays old bodies mid
+    pub why : (Reads content bodies rest × (IsTorn rest → ⊥))
+        ⊎ ((body more : List ℕ) × IsBody body × (rest ≡ record_after (joined bodies) body ++ more) × refuses mid body)
+
+  -- what reading a log answers
+  abbrev pub ReadsLog : List ℕ → T → Result LogEnd LogFault → T → Type 0
+  ReadsLog content old (Ok end) new = (bodies : List (List ℕ)) × (rest : List ℕ) × ReadsTo content old bodies rest end new
+  ReadsLog content old (Err (Damaged byte behind)) new = IsDamagedAt content old byte behind
+  ReadsLog content old (Err Device) new = Unit {0}
+  ReadsLog content old (Err OutOfMemory) new = Unit {0}
+  ReadsLog content old (Err InUse) new = ⊥
+
+  -- what recovering a log does, by its answer
+  abbrev pub Recovers : Life → T → Result LogEnd LogFault → T → Life → Type 0
+  Recovers l old (Ok end) new m = (bodies : List (List ℕ)) × (rest : List ℕ)
+      × ReadsTo l.content old bodies rest end new × Happens l (ReadBack bodies rest) m
+  Recovers l old (Err (Damaged byte behind)) new m = IsDamagedAt l.content old byte behind × (m ≡ l)
+  Recovers l old (Err InUse) new m = ⊥
+  -- what follows the records may have been cut off
+  Recovers l old (Err other) new m = (m ≡ l)
+      ⊎ ((bodies : List (List ℕ)) × (rest : List ℕ) × Happens l (Cut bodies rest) m)
+
+-- a body is refused, whose record stands at this place of an honest file, or no more is known
+abbrev pub IsRefusalAt : Type 0 → List ℕ → ℕ → Type 0 → LogFault → Type 0
+IsRefusalAt Honest content at Refusal (Damaged byte behind) =
+    Refusal × (byte ≡ at) × (Honest → behind ≡ length (drop at content))
+IsRefusalAt Honest content at Refusal InUse = ⊥
+IsRefusalAt Honest content at Refusal other = Unit {0}

@@ -1,0 +1,14 @@
+-- How the bodies of a log are replayed, one after another.
+use Rattle.std.specs.Prelude.{◌≡◌, ℕ, List, [], ◌∷◌}
+use Rattle.sb_log.specs.declared.replay.ReplayFault.{ReplayFault}
+use Rattle.sb_log.specs.declared.replay.ReplayFault.TheVariants.{Refused, OutOfMemory}
+
+-- these bodies were replayed, in order
+abbrev pub ReplaysAll : {T : Type 0} → (T → List ℕ → T → Type 0) → T → List (List ℕ) → T → Type 0
+ReplaysAll replays old [] new = new ≡ old
+ReplaysAll {T} replays old (body ∷ bodies) new = (mid : T) × replays old body mid × ReplaysAll replays mid bodies new
+
+-- a body is refused for this reason, or memory is
+abbrev pub IsReplayFault : Type 0 → ReplayFault → Type 0
+IsReplayFault Reason Refused = Reason
+IsReplayFault Reason OutOfMemory = Unit {0}
