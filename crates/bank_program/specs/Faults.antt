@@ -29,6 +29,8 @@ serve_status (serve.Run fault) = run_status fault
 serve_status serve.ReadBack = 3
 serve_status serve.Store = 3
 serve_status (serve.PortTaken port) = 3
+serve_status (serve.Log fault) = 3
+serve_status serve.AnotherOpening = 3
 
 -- the exit status
 abbrev pub exit_status : ProgramFault → ℕ

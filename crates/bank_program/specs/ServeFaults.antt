@@ -4,7 +4,7 @@ use Rattle.bank_server.specs.Faults.{IsFollower, LosesWorkers, StraysAmong}
 use Rattle.bank_server.specs.declared.fault.RunFault.{RunFault}
 use Rattle.bank_server.specs.declared.fault.RunFault.TheVariants.{Input, Strayed, CrewGone, Device}
 use Rattle.bank_program.specs.declared.serve_fault.ServeFault.{ServeFault}
-use Rattle.bank_program.specs.declared.serve_fault.ServeFault.TheVariants.{Run, ReadBack, Store, PortTaken}
+use Rattle.bank_program.specs.declared.serve_fault.ServeFault.TheVariants.{Run, ReadBack, Store, PortTaken, Log, AnotherOpening}
 use Rattle.bank_program.specs.declared.serving.Plan.{Plan}
 
 -- a device failed
@@ -25,27 +25,32 @@ IsFinishRunFault MayBeGone (Strayed node) = ⊥
 IsFinishRunFault MayBeGone CrewGone = MayBeGone
 IsFinishRunFault MayBeGone other = Unit {0}
 
--- the same; or the bank saves, and its store gives back something else
-abbrev pub IsFinishFault : Type 0 → Bool → ServeFault → Type 0
-IsFinishFault MayBeGone saves (Run fault) = IsFinishRunFault MayBeGone fault
-IsFinishFault MayBeGone saves ReadBack = saves ≡ true
-IsFinishFault MayBeGone saves other = ⊥
+-- the same; or the bank saves, and its store gives back something else; or keeping the log may fail,
+-- and did
+abbrev pub IsFinishFault : Type 0 → Bool → Bool → ServeFault → Type 0
+IsFinishFault MayBeGone saves fails (Run fault) = IsFinishRunFault MayBeGone fault
+IsFinishFault MayBeGone saves fails ReadBack = saves ≡ true
+IsFinishFault MayBeGone saves fails (Log fault) = fails ≡ true
+IsFinishFault MayBeGone saves fails other = ⊥
 
 -- the same, or a follower among this many nodes strayed
 abbrev pub IsServingRunFault : ℕ → Type 0 → RunFault → Type 0
 IsServingRunFault nodes MayBeGone (Strayed node) = IsFollower nodes node
 IsServingRunFault nodes MayBeGone other = IsFinishRunFault MayBeGone other
 
--- serving a bank of this many nodes, whose crew may be gone, and which saves or doesn't, may end
--- with this fault
-abbrev pub IsServingFault : ℕ → Type 0 → Bool → ServeFault → Type 0
-IsServingFault nodes MayBeGone saves (Run fault) = IsServingRunFault nodes MayBeGone fault
-IsServingFault nodes MayBeGone saves other = IsFinishFault MayBeGone saves other
+-- serving a bank of this many nodes, whose crew may be gone, which saves or doesn't, and whose log's
+-- keeper may fail or not, may end with this fault
+abbrev pub IsServingFault : ℕ → Type 0 → Bool → Bool → ServeFault → Type 0
+IsServingFault nodes MayBeGone saves fails (Run fault) = IsServingRunFault nodes MayBeGone fault
+IsServingFault nodes MayBeGone saves fails other = IsFinishFault MayBeGone saves fails other
 
 -- what may end the program that serves by this plan: what may end serving the bank, or a line of the
--- opening is at fault, or there is a store, and it takes nothing, or this port is taken
-abbrev pub IsProgramFault : ℕ → Plan → Bool → ServeFault → Type 0
-IsProgramFault port plan stores (Run fault) = StraysAmong plan.nodes fault × LosesWorkers plan.workers fault
-IsProgramFault port plan stores ReadBack = plan.saves ≡ true
-IsProgramFault port plan stores Store = stores ≡ true
-IsProgramFault port plan stores (PortTaken taken) = taken ≡ port
+-- opening is at fault, or there is a store, and it takes nothing, or this port is taken, or there is a
+-- log, and it has another opening
+abbrev pub IsProgramFault : ℕ → Plan → Bool → Bool → ServeFault → Type 0
+IsProgramFault port plan stores logs (Run fault) = StraysAmong plan.nodes fault × LosesWorkers plan.workers fault
+IsProgramFault port plan stores logs ReadBack = plan.saves ≡ true
+IsProgramFault port plan stores logs Store = stores ≡ true
+IsProgramFault port plan stores logs (PortTaken taken) = taken ≡ port
+IsProgramFault port plan stores logs (Log fault) = logs ≡ true
+IsProgramFault port plan stores logs AnotherOpening = logs ≡ true

@@ -1,5 +1,5 @@
 -- What a served bank prints.
-use Rattle.std.specs.Prelude.{◌≡◌, ℕ, ◌+◌, Option, IfSome, Ok, Err, List, [], ◌∷◌, ◌++◌, length, decimal, codes}
+use Rattle.std.specs.Prelude.{◌≡◌, ℕ, ◌+◌, Option, Some, None, IfSome, Ok, Err, List, [], ◌∷◌, ◌++◌, length, decimal, codes}
 use Rattle.std.specs.List.{All}
 use Rattle.std.specs.Io.KnownBytes.{Appends}
 use Rattle.sb_rows.specs.Balances.{Balances}
@@ -9,9 +9,11 @@ use Rattle.sb_calls.specs.Log.{rows_after}
 use Rattle.sb_calls.specs.declared.ask.Key.{Key}
 use Rattle.sb_calls.specs.declared.call.Call.{Call}
 use Rattle.sb_text.specs.Listing.{row_lines}
+use Rattle.hex.specs.Hex.{encode_lower}
+use Rattle.sb_ask_log.specs.LogFile.{log_digest}
 use Rattle.sb_sequencer.specs.Numbering.{calls_of}
 use Rattle.bank_server.specs.SessionFaults.{session_fault_number}
-use Rattle.bank_server.specs.declared.session_fault.SessionFault.TheVariants.{Frame, Unexpected, CrewGone, Device, OutOfMemory}
+use Rattle.bank_server.specs.declared.session_fault.SessionFault.TheVariants.{Frame, Unexpected, CrewGone, Device, OutOfMemory, Log}
 use Rattle.bank_program.specs.Sessions.{End, ServesFirst}
 
 -- a session that ended so lets the server go on
@@ -22,6 +24,7 @@ ServerContinues (Err Unexpected) = Unit {0}
 ServerContinues (Err CrewGone) = ⊥
 ServerContinues (Err Device) = Unit {0}
 ServerContinues (Err OutOfMemory) = ⊥
+ServerContinues (Err (Log fault)) = ⊥
 
 -- `ok`, or `fault` and its number
 abbrev pub end_text : End → List ℕ
@@ -45,6 +48,13 @@ IsPortOf at port = IfSome at (λ known. port ≡ known)
 abbrev pub port_line : ℕ → List ℕ
 port_line port = codes "listening 127.0.0.1:" ++ decimal port
 
+-- `log`, the number of its calls, and its digest in 64 digits; a bank without a log in a file has no such
+-- line
+abbrev pub log_lines : Option (List ℕ) → List (Key × Call) → List (List ℕ)
+log_lines None log = []
+log_lines (Some opening) log =
+    (codes "log " ++ decimal (length log) ++ (32 ∷ encode_lower (log_digest opening log))) ∷ []
+
 -- these lines are printed
 abbrev pub PrintsLines : List (List ℕ) → Option (List ℕ) → Option (List ℕ) → Type 0
 PrintsLines lines old new = Appends old new (unlines lines)
@@ -53,17 +63,18 @@ PrintsLines lines old new = Appends old new (unlines lines)
 abbrev pub end_lines : List (List ℕ) → Balances → List (Key × Call) → List (List ℕ)
 end_lines names opening log = row_lines names (rows_after (calls_of log) (rows_of names opening))
 
--- a bank with this opening is served at a port to this many of those who are coming, and has this
--- log then. It prints the port, how each session ended, and the rows after the log, executed one by
--- one
+-- a bank with this opening and this log before is served at a port to this many of those who are coming,
+-- and has this log then. It prints the log's line, if it has one, the port, how each session ended, the
+-- log's line again, and the rows after the log, executed one by one
 pub record ServesBank {T : Type 0} (sends : T → Option (List ℕ)) (names : List (List ℕ)) (opening : Balances)
-    (count : ℕ) (at : Option ℕ) (coming : Option (List T)) (log : List (Key × Call))
-    (old new : Option (List ℕ)) : Type 0 where
+    (count : ℕ) (at : Option ℕ) (coming : Option (List T)) (before log : List (Key × Call))
+    (text text_then : Option (List ℕ)) (old new : Option (List ℕ)) : Type 0 where
   pub port : ℕ
   pub listens : IsPortOf at port
   pub ends : List End
   pub all : length ends ≡ count
   pub go_on : All ServerContinues ends
   pub left : Option (List T)
-  pub heard : ServesFirst sends coming left [] ends log
-  pub printed : PrintsLines (port_line port ∷ session_lines 1 ends ++ end_lines names opening log) old new
+  pub heard : ServesFirst sends coming left before ends log
+  pub printed : PrintsLines (log_lines text before ++ (port_line port ∷ session_lines 1 ends
+      ++ log_lines text_then log ++ end_lines names opening log)) old new

@@ -1,14 +1,16 @@
 //! What a served bank prints.
-ghost use Rattle.std.specs.Prelude.{◌≡◌, [], ◌∷◌, ◌++◌, decimal, IfErr, IfOk, OnOk};
+ghost use Rattle.std.specs.Prelude.{◌≡◌, [], ◌∷◌, ◌++◌, codes, decimal, IfErr, IfOk, OnOk};
+ghost use Rattle.hex.specs.Hex.{encode_lower};
 ghost use Rattle.bank_server.specs.Primary.{HasWholeLog};
 ghost use Rattle.bank_program.specs.inner.StepFaults.{IsPrintFault};
 ghost use Rattle.bank_program.specs.ServeOutput.{PrintsLines, end_text, session_line};
-ghost use Rattle.bank_program.specs.inner.ServeSteps.{PrintsPort, PrintsRows};
+ghost use Rattle.bank_program.specs.inner.ServeSteps.{PrintsLog, PrintsPort, PrintsRows};
 
 use crate::listener::ClientListener;
 use crate::serve_fault::ServeFault;
 use bank_server::{Primary, SessionFault};
 use itoa::Buffer;
+use sb_ask_log::Keeper;
 use sb_checkpoint::CheckpointStore;
 use sb_text::{list_rows, write_whole};
 use std::alloc::{AllocError, Global};
@@ -83,12 +85,44 @@ fn push_ending(served: Result<(), SessionFault>, out: &mut Vec<u8>) -> Result<()
     }
 }
 
+/// Prints the line of a bank's log, if that is kept in a file.
+///
+/// Fails if a write fails, or if memory is refused.
+pub(crate) fn print_log<S: CheckpointStore, K: Keeper, W: Write>(
+    alloc: Global,
+    primary: &Primary<S, K>,
+    writer: &mut W,
+) -> Result<(), ServeFault>
+    requires { K.Keeps primary.now.keeper primary.now.log }
+    ensures printed { OnOk result (PrintsLog K.opening primary.now (W.contents writer.old) (W.contents writer.new)) }
+    ensures fault { IfErr result IsPrintFault }
+{
+    match primary.keeper().digest() {
+        Some(digest) => {
+            let mut line = log_line(alloc, primary.log().length(), digest)?;
+            print_line(&mut line, writer)
+        }
+        None => Ok(()),
+    }
+}
+
+/// `log`, this number of calls, and this digest.
+pub(crate) fn log_line(alloc: Global, calls: u64, digest: [u8; 32]) -> Result<Vec<u8>, AllocError>
+    ensures { IfOk result (λ line. line.items ≡ codes "log " ++ decimal calls ++ (32 ∷ encode_lower digest)) }
+{
+    let mut line = numbered(alloc, b"log ", calls as usize)?;
+    let digits = hex::encode(alloc, digest)?;
+    line.push(b' ')?;
+    line.extend_from_slice(digits.as_bytes())?;
+    Ok(line)
+}
+
 /// Prints the rows of a bank and their total.
 ///
 /// Fails if a write fails, or if memory is refused.
-pub(crate) fn print_rows<S: CheckpointStore, W: Write>(
+pub(crate) fn print_rows<S: CheckpointStore, K: Keeper, W: Write>(
     alloc: Global,
-    primary: &Primary<S>,
+    primary: &Primary<S, K>,
     writer: &mut W,
 ) -> Result<(), ServeFault>
     requires whole_log { HasWholeLog primary.now }

@@ -28,7 +28,11 @@ pub fn told(fault: ProgramFault) -> Report
         ProgramFault::Play(ScheduleFault::Input { .. }) => 1,
         ProgramFault::Play(ScheduleFault::Device | ScheduleFault::OutOfMemory)
         | ProgramFault::Serve(
-            ServeFault::ReadBack | ServeFault::Store | ServeFault::PortTaken(_),
+            ServeFault::ReadBack
+            | ServeFault::Store
+            | ServeFault::PortTaken(_)
+            | ServeFault::Log(_)
+            | ServeFault::AnotherOpening,
         ) => 3,
     };
     Report { status, fault }

@@ -2,10 +2,11 @@
 ghost use Rattle.std.specs.Prelude.{◌≡◌};
 ghost use Rattle.bank_server.specs.inner.RunFaults.{run_of_crew_fault, run_of_read_fault};
 ghost use Rattle.bank_server.specs.declared.fault.RunFault.TheVariants.{Device, OutOfMemory};
-ghost use Rattle.bank_program.specs.declared.serve_fault.ServeFault.TheVariants.{Run};
+ghost use Rattle.bank_program.specs.declared.serve_fault.ServeFault.TheVariants.{Log, Run};
 
 use bank_server::RunFault;
 use cown_workers::CrewFault;
+use sb_log::LogFault;
 use sb_text::ReadFault;
 use std::alloc::{AllocError, AllocFailed};
 use std::io;
@@ -27,6 +28,12 @@ pub enum ServeFault {
     /// Another program listens at this port.
     #[error("port {0} is taken")]
     PortTaken(u16),
+    /// The log can't be read or kept. What clients were told is in its file.
+    #[error("log: {0}")]
+    Log(LogFault),
+    /// The input is another opening than the log's. Nothing is changed.
+    #[error("log: another opening")]
+    AnotherOpening,
 }
 
 impl From<RunFault> for ServeFault {
@@ -50,6 +57,14 @@ impl From<CrewFault> for ServeFault {
 
     fn from(crew: CrewFault) -> ServeFault {
         ServeFault::Run(RunFault::from(crew))
+    }
+}
+
+impl From<LogFault> for ServeFault {
+    ghost from_gives = { λ log fault. fault ≡ Log log };
+
+    fn from(log: LogFault) -> ServeFault {
+        ServeFault::Log(log)
     }
 }
 

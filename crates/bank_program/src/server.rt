@@ -1,23 +1,24 @@
 //! The server of a bank's clients.
-ghost use Rattle.std.specs.Prelude.{◌≡◌, [], Err, false, true, IfErr, IfOk, MatchOption, OnOk};
+ghost use Rattle.std.specs.Prelude.{◌≡◌, false, true, IfErr, IfOk, MatchOption, OnOk};
 ghost use Rattle.cown_workers.specs.Draining.{HasNoneOut};
 ghost use Rattle.bank_server.specs.Primary.{HasWholeLog};
-ghost use Rattle.bank_server.specs.declared.session_fault.SessionFault.TheVariants.{CrewGone};
 ghost use Rattle.sb_sequencer.specs.Numbering.{IsLog};
-ghost use Rattle.bank_program.specs.ServeFaults.{IsFinishFault, IsFinishRunFault, IsServingFault};
+ghost use Rattle.bank_program.specs.ServeFaults.{IsFinishFault, IsServingFault};
 ghost use Rattle.bank_program.specs.ServeOutput.{ServerContinues};
 ghost use Rattle.bank_program.specs.ServedBank.{IsBankAfter, ServesByPlan};
 ghost use Rattle.bank_program.specs.inner.ServeSteps.{ServesAll, ServesNext};
+ghost use Rattle.bank_program.specs.inner.StepFaults.{IsEnding};
 
 use crate::client::serve_client;
 use crate::leaving::leave;
 use crate::listener::ClientListener;
-use crate::printing::{print_port, print_rows, print_session};
+use crate::printing::{print_log, print_port, print_rows, print_session};
 use crate::serve_fault::ServeFault;
 use crate::serving::{Plan, ServedBank};
 use crate::session_end::finish_session;
 use bank_server::{Duty, Followers, Primary, RunFault, SessionFault, WorkerCount};
 use cown_workers::Crew;
+use sb_ask_log::{Keeper, NoKeeper};
 use sb_checkpoint::CheckpointStore;
 use std::alloc::Global;
 use std::io::{Read, Write};
@@ -28,7 +29,7 @@ use std::time::Clock;
 
 /// A bank, the listener that accepts its clients, and the writer where it prints.
 #[derive(Drop)]
-pub struct Server<D, S: CheckpointStore, W> {
+pub struct Server<D, S: CheckpointStore, W, K: Keeper = NoKeeper> {
     /// The allocator.
     pub alloc: Global,
     /// How the bank is served.
@@ -36,26 +37,27 @@ pub struct Server<D, S: CheckpointStore, W> {
     /// Where its clients are accepted.
     pub listener: D,
     /// The bank.
-    pub primary: Primary<S>,
+    pub primary: Primary<S, K>,
     /// Where the server prints.
     pub writer: W,
 }
 
-impl<D, S, W> Duty for Server<D, S, W>
+impl<D, S, W, K> Duty for Server<D, S, W, K>
 where
     D: ClientListener + Drop,
     D::Stream: Read + Write + OpenStream,
     S: CheckpointStore,
     W: Write + Drop,
+    K: Keeper,
 {
-    type Answer = Result<ServedBank<S, W>, ServeFault>;
+    type Answer = Result<ServedBank<S, W, K>, ServeFault>;
 
-    ghost ready = { λ server. HasWholeLog server.primary × (server.primary.log ≡ []) };
+    ghost ready = { λ server. HasNoneOut server.primary.node.board };
 
     ghost does = { λ server nodes workers keeps answer. IfOk answer (λ bank. ServesByPlan D.Stream.remaining S.model
-        server.plan (D.listens_at server.listener) (D.coming server.listener) server.primary bank.primary
-        (W.contents server.writer) (W.contents bank.writer))
-        × IfErr answer (IsServingFault nodes (keeps ≡ true) server.plan.saves) };
+        K.Keeps K.opening server.plan (D.listens_at server.listener) (D.coming server.listener) server.primary
+        bank.primary (W.contents server.writer) (W.contents bank.writer))
+        × IfErr answer (IsServingFault nodes (keeps ≡ true) server.plan.saves K.fails) };
 
     // Serves the bank, and prints its whole output.
     fn carry_out<R, C>(
@@ -63,7 +65,7 @@ where
         rt: &R,
         followers: &mut Followers<'_, R>,
         crew: &mut C,
-    ) -> Result<ServedBank<S, W>, ServeFault>
+    ) -> Result<ServedBank<S, W, K>, ServeFault>
     where
         R: Threads + Wait + Clock,
         C: Crew + WorkerCount,
@@ -79,12 +81,13 @@ where
     }
 }
 
-impl<D, S, W> Server<D, S, W>
+impl<D, S, W, K> Server<D, S, W, K>
 where
     D: ClientListener,
     D::Stream: Read + Write + OpenStream,
     S: CheckpointStore,
     W: Write,
+    K: Keeper,
 {
     // Serves the bank, and prints its whole output.
     fn serve_whole<R, C>(
@@ -96,16 +99,20 @@ where
     where
         R: Threads + Wait + Clock,
         C: Crew,
-        requires whole_log { HasWholeLog self.old.primary }
-        requires empty_log { self.old.primary.log ≡ [] }
-        ensures served { OnOk result (ServesByPlan D.Stream.remaining S.model self.old.plan
+        requires none_out { HasNoneOut self.old.primary.node.board }
+        ensures served { OnOk result (ServesByPlan D.Stream.remaining S.model K.Keeps K.opening self.old.plan
             (D.listens_at self.old.listener) (D.coming self.old.listener) self.old.primary self.new.primary
             (W.contents self.old.writer) (W.contents self.new.writer)) }
-        ensures fault { IfErr result (IsServingFault followers.old.nodes (C.keeps ≡ true) self.old.plan.saves) }
+        ensures fault { IfErr result (IsServingFault followers.old.nodes (C.keeps ≡ true) self.old.plan.saves
+            K.fails) }
     {
+        // The log that the bank opens with is executed, and sent to the followers.
+        finish_session(&mut self.primary, followers, false, crew)?;
+        print_log(self.alloc, &self.primary, &mut self.writer)?;
         print_port(self.alloc, &self.listener, &mut self.writer)?;
         self.serve_all(rt, followers, crew)?;
         followers.compare(rt, self.primary.node())?;
+        print_log(self.alloc, &self.primary, &mut self.writer)?;
         print_rows(self.alloc, &self.primary, &mut self.writer)
     }
 
@@ -121,14 +128,15 @@ where
         C: Crew,
         requires one_each { IsLog self.old.primary.log }
         requires whole_log { HasWholeLog self.old.primary }
+        requires kept { K.Keeps self.old.primary.keeper self.old.primary.log }
         ensures served { OnOk result (ServesAll D.Stream.remaining self.old.plan.sessions
             (D.coming self.old.listener) (D.coming self.new.listener) self.old.primary.log self.new.primary.log
             (W.contents self.old.writer) (W.contents self.new.writer)) }
-        ensures bank_after { OnOk result (IsBankAfter S.model self.old.plan.saves self.old.plan.sessions
+        ensures bank_after { OnOk result (IsBankAfter S.model K.Keeps self.old.plan.saves self.old.plan.sessions
             self.old.primary self.new.primary) }
         ensures nodes { followers.new.nodes ≡ followers.old.nodes }
         ensures plan { self.new.plan ≡ self.old.plan }
-        ensures fault { IfErr result (IsFinishFault (C.keeps ≡ true) self.old.plan.saves) }
+        ensures fault { IfErr result (IsFinishFault (C.keeps ≡ true) self.old.plan.saves K.fails) }
     {
         for before in 0..self.plan.sessions {
             self.serve_next(before + 1, rt, followers, crew)?;
@@ -151,12 +159,12 @@ where
         ensures served { OnOk result (ServesNext D.Stream.remaining number
             (D.coming self.old.listener) (D.coming self.new.listener) self.old.primary.log self.new.primary.log
             (W.contents self.old.writer) (W.contents self.new.writer)) }
-        ensures bank_after { OnOk result (IsBankAfter S.model self.old.plan.saves 1
+        ensures bank_after { OnOk result (IsBankAfter S.model K.Keeps self.old.plan.saves 1
             self.old.primary self.new.primary) }
         ensures nodes { followers.new.nodes ≡ followers.old.nodes }
         ensures plan { self.new.plan ≡ self.old.plan }
         ensures fault { IfErr result (IsFinishFault (C.keeps ≡ false → ¬ HasNoneOut self.old.primary.node.board)
-            self.old.plan.saves) }
+            self.old.plan.saves K.fails) }
     {
         // The stream stays open until the session is finished, and ends as the client is left. So a
         // client whose stream ends while the server goes on knows that its asks are saved.
@@ -164,9 +172,7 @@ where
         let (alloc, patience) = (self.alloc, self.plan.patience);
         let served = serve_client(alloc, patience, &mut stream, &mut self.primary, crew);
         if let Some(fault) = ending(served) {
-            return print_session(alloc, number, served, &mut self.writer).and(Err(ServeFault::Run(
-                fault,
-            )));
+            return print_session(alloc, number, served, &mut self.writer).and(Err(fault));
         }
         finish_session(&mut self.primary, followers, self.plan.saves, crew)?;
         let printed = print_session(alloc, number, served, &mut self.writer);
@@ -176,12 +182,13 @@ where
 }
 
 // The fault with which the program ends after such a session, if it does.
-fn ending(served: Result<(), SessionFault>) -> Option<RunFault>
-    ensures { MatchOption result (ServerContinues served) (IsFinishRunFault (served ≡ Err CrewGone)) }
+fn ending(served: Result<(), SessionFault>) -> Option<ServeFault>
+    ensures { MatchOption result (ServerContinues served) (IsEnding served) }
 {
     match served {
-        Err(SessionFault::CrewGone) => Some(RunFault::CrewGone),
-        Err(SessionFault::OutOfMemory) => Some(RunFault::OutOfMemory),
+        Err(SessionFault::CrewGone) => Some(ServeFault::Run(RunFault::CrewGone)),
+        Err(SessionFault::OutOfMemory) => Some(ServeFault::Run(RunFault::OutOfMemory)),
+        Err(SessionFault::Log(fault)) => Some(ServeFault::Log(fault)),
         Ok(()) | Err(SessionFault::Frame(_) | SessionFault::Unexpected | SessionFault::Device) =>
             None,
     }

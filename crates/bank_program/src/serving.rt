@@ -1,5 +1,7 @@
 //! A served bank: its clients, one after another, and its rows at the end.
-ghost use Rattle.std.specs.Prelude.{◌≡◌, ◌≤◌, ◌<◌, [], IfErr, IfOk};
+ghost use Rattle.std.specs.Prelude.{◌≡◌, ◌≤◌, ◌<◌, [], None, false, IfErr, IfOk};
+ghost use Rattle.cown_workers.specs.Draining.{HasNoneOut};
+ghost use Rattle.bank_server.specs.Execution.{HasNoEntries};
 ghost use Rattle.bank_server.specs.Primary.{HasWholeLog};
 ghost use Rattle.sb_sequencer.specs.Numbering.{IsLog};
 ghost use Rattle.bank_program.specs.StoreAfter.{IsStoreAfter};
@@ -13,6 +15,7 @@ use crate::server::Server;
 use bank_server::{Primary, ReadyFollowers, with_team};
 use cown_bench::WORKERS;
 use cown_workers::OpenGate;
+use sb_ask_log::{Keeper, NoKeeper};
 use sb_checkpoint::CheckpointStore;
 use sb_rows::Opening;
 use sb_sequencer::REPLICAS;
@@ -40,9 +43,9 @@ pub struct Plan {
 
 /// A bank that was served.
 #[derive(Drop)]
-pub struct ServedBank<S: CheckpointStore, W> {
+pub struct ServedBank<S: CheckpointStore, W, K: Keeper = NoKeeper> {
     /// Its log and node 0, which has executed all of it.
-    pub primary: Primary<S>,
+    pub primary: Primary<S, K>,
     /// The writer where it printed.
     pub writer: W,
 }
@@ -81,7 +84,7 @@ where
     requires workers { plan.workers ≤ WORKERS }
     // The log is that of the clients' sessions, and the printed rows are those after it.
     ensures served { IfOk result (λ bank. ServesBank D.Stream.remaining opening.directory
-        opening.columns plan.sessions (D.listens_at listener) (D.coming listener) bank.primary.log
+        opening.columns plan.sessions (D.listens_at listener) (D.coming listener) [] bank.primary.log None None
         (W.contents writer) (W.contents bank.writer)) }
     ensures one_each { IfOk result (λ bank. IsLog bank.primary.log) }
     ensures whole_log { IfOk result (λ bank. HasWholeLog bank.primary) }
@@ -91,41 +94,77 @@ where
     ensures store { IfOk result (λ bank. IsStoreAfter S.model plan.saves plan.sessions store
         bank.primary.node) }
     // Node 0 never strays, `CrewGone` comes only with workers, and `ReadBack` only if the plan saves.
-    ensures fault { IfErr result (IsServingFault plan.nodes (0 < plan.workers) plan.saves) }
+    ensures fault { IfErr result (IsServingFault plan.nodes (0 < plan.workers) plan.saves false) }
 {
     let primary = Primary::open(alloc, opening, store)?;
-    let followers = ReadyFollowers::open(alloc, primary.node(), plan.nodes, 0)?;
-    let server = Server {
-        alloc,
-        plan,
-        listener,
-        primary,
-        writer,
-    };
-    serve_beside(rt, followers, server)
+    serve_bank(
+        rt,
+        Server {
+            alloc,
+            plan,
+            listener,
+            primary,
+            writer,
+        },
+    )
 }
 
-/// Serves a bank as [`serve`] does, and fails as it does, beside these followers. The plan's number
-/// of nodes isn't read. A follower that began otherwise than the bank strays.
-pub fn serve_beside<H, D, S, W>(
+/// Serves a bank as [`serve`] does, whose node 0 has nothing of its log yet. First the log is
+/// executed, and if it is kept in a file, its line is printed, and once more before the rows.
+///
+/// Before an outcome is written to a client, the whole log is kept. Fails as [`serve`] does, and with
+/// [`ServeFault::Log`] if the log can't be kept; what was told is kept then.
+pub fn serve_bank<H, D, S, W, K>(
     rt: &H,
-    followers: ReadyFollowers,
-    server: Server<D, S, W>,
-) -> Result<ServedBank<S, W>, ServeFault>
+    server: Server<D, S, W, K>,
+) -> Result<ServedBank<S, W, K>, ServeFault>
 where
     H: Threads + Wait + Clock + Sync,
     D: ClientListener + Drop,
     D::Stream: Read + Write + OpenStream,
     S: CheckpointStore,
     W: Write + Drop,
-    requires nodes { followers.nodes ≤ REPLICAS }
+    K: Keeper,
+    requires nodes { server.plan.nodes ≤ REPLICAS }
     requires workers { server.plan.workers ≤ WORKERS }
-    requires whole_log { HasWholeLog server.primary }
-    requires empty_log { server.primary.log ≡ [] }
-    ensures served { IfOk result (λ bank. ServesByPlan D.Stream.remaining S.model server.plan
+    requires opened { HasNoEntries server.primary.node.board }
+    ensures served { IfOk result (λ bank. ServesByPlan D.Stream.remaining S.model K.Keeps K.opening server.plan
         (D.listens_at server.listener) (D.coming server.listener) server.primary bank.primary
         (W.contents server.writer) (W.contents bank.writer)) }
-    ensures fault { IfErr result (IsServingFault followers.nodes (0 < server.plan.workers) server.plan.saves) }
+    ensures fault { IfErr result (IsServingFault server.plan.nodes (0 < server.plan.workers) server.plan.saves
+        K.fails) }
+{
+    let followers = ReadyFollowers::open(
+        server.alloc,
+        server.primary.node(),
+        server.plan.nodes,
+        0,
+    )?;
+    serve_beside(rt, followers, server)
+}
+
+/// Serves a bank as [`serve`] does, and fails as it does, beside these followers. The plan's number
+/// of nodes isn't read. A follower that began otherwise than the bank strays.
+pub fn serve_beside<H, D, S, W, K>(
+    rt: &H,
+    followers: ReadyFollowers,
+    server: Server<D, S, W, K>,
+) -> Result<ServedBank<S, W, K>, ServeFault>
+where
+    H: Threads + Wait + Clock + Sync,
+    D: ClientListener + Drop,
+    D::Stream: Read + Write + OpenStream,
+    S: CheckpointStore,
+    W: Write + Drop,
+    K: Keeper,
+    requires nodes { followers.nodes ≤ REPLICAS }
+    requires workers { server.plan.workers ≤ WORKERS }
+    requires none_out { HasNoneOut server.primary.node.board }
+    ensures served { IfOk result (λ bank. ServesByPlan D.Stream.remaining S.model K.Keeps K.opening server.plan
+        (D.listens_at server.listener) (D.coming server.listener) server.primary bank.primary
+        (W.contents server.writer) (W.contents bank.writer)) }
+    ensures fault { IfErr result (IsServingFault followers.nodes (0 < server.plan.workers) server.plan.saves
+        K.fails) }
 {
     let (alloc, workers) = (server.alloc, server.plan.workers);
     with_team(rt, alloc, followers, workers, &OpenGate, server)?

@@ -5,7 +5,7 @@ use Rattle.sb_calls.specs.declared.ask.Key.{Key}
 use Rattle.sb_calls.specs.declared.call.Call.{Call}
 use Rattle.bank_server.specs.Primary.{PrimaryOf}
 use Rattle.bank_program.specs.Sessions.{End, ServesFirst}
-use Rattle.bank_program.specs.ServeOutput.{IsPortOf, session_line, ServerContinues, PrintsLines, session_lines, end_lines, port_line}
+use Rattle.bank_program.specs.ServeOutput.{IsPortOf, log_lines, session_line, ServerContinues, PrintsLines, session_lines, end_lines, port_line}
 
 -- the port of a listener is printed
 abbrev pub PrintsPort : Option ℕ → Option (List ℕ) → Option (List ℕ) → Type 0
@@ -29,6 +29,10 @@ module _ {T : Type 0} (sends : T → Option (List ℕ)) where
     pub heard : ServesFirst sends coming left before ends after
     pub printed : PrintsLines (session_lines 1 ends) old new
 
+-- the line of the bank's log is printed, if its keeper has a file
+abbrev pub PrintsLog : {S K : Type 0} → (K → Option (List ℕ)) → PrimaryOf S K → Option (List ℕ) → Option (List ℕ) → Type 0
+PrintsLog opening primary old new = PrintsLines (log_lines (opening primary.keeper) primary.log) old new
+
 -- these lines are printed, for the log and the opening of the bank
-abbrev pub PrintsRows : {S : Type 0} → PrimaryOf S → Option (List ℕ) → Option (List ℕ) → Type 0
+abbrev pub PrintsRows : {S K : Type 0} → PrimaryOf S K → Option (List ℕ) → Option (List ℕ) → Type 0
 PrintsRows primary old new = PrintsLines (end_lines primary.node.names primary.node.board.opening primary.log) old new

@@ -1,9 +1,11 @@
 -- The faults of the single steps of serving a bank.
-use Rattle.std.specs.Prelude.{◌≡◌, Bool, true}
+use Rattle.std.specs.Prelude.{◌≡◌, Bool, true, Err}
 use Rattle.bank_server.specs.declared.fault.RunFault.{RunFault}
 use Rattle.bank_server.specs.declared.fault.RunFault.TheVariants.{CrewGone, Device, OutOfMemory, Strayed}
 use Rattle.bank_program.specs.declared.serve_fault.ServeFault.{ServeFault}
-use Rattle.bank_program.specs.declared.serve_fault.ServeFault.TheVariants.{Run, Store}
+use Rattle.bank_program.specs.declared.serve_fault.ServeFault.TheVariants.{Log, Run, Store}
+use Rattle.bank_server.specs.declared.session_fault.SessionFault.TheVariants as session
+use Rattle.bank_program.specs.Sessions.{End}
 
 -- a device failed, or memory was refused
 abbrev pub IsPrintRunFault : RunFault → Type 0
@@ -14,6 +16,13 @@ IsPrintRunFault other = ⊥
 abbrev pub IsPrintFault : ServeFault → Type 0
 IsPrintFault (Run fault) = IsPrintRunFault fault
 IsPrintFault other = ⊥
+
+-- a session that ended so ends the server with this fault
+abbrev pub IsEnding : End → ServeFault → Type 0
+IsEnding end (Run CrewGone) = end ≡ Err session.CrewGone
+IsEnding end (Run OutOfMemory) = end ≡ Err session.OutOfMemory
+IsEnding end (Log fault) = end ≡ Err (session.Log fault)
+IsEnding end other = ⊥
 
 -- memory was refused; or there is a store, and it takes nothing
 abbrev pub IsStoreFault : Bool → ServeFault → Type 0
