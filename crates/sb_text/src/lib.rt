@@ -11,5 +11,5 @@ mod tests;
 
 pub use input::{READS, ReadFault, read_all, read_with_room};
 pub use laws::limits;
-pub use listing::list_rows;
+pub use listing::{list_customers, list_rows};
 pub use output::write_whole;

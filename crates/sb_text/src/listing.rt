@@ -29,8 +29,11 @@ pub fn list_rows(
     push_total(out, bank_total(columns))
 }
 
-// Writes a line for each customer.
-fn list_customers(
+/// Appends to `out` a line `NAME SAVINGS CHECKING` for each customer, in opening order. With a line
+/// `begin` behind them these are an opening.
+///
+/// Fails if memory is refused; a part of the lines may stand behind the old bytes then.
+pub fn list_customers(
     directory: &Directory,
     columns: &Columns,
     out: &mut Vec<u8>,
