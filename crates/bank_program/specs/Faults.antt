@@ -5,7 +5,9 @@ use Rattle.bank_server.specs.declared.fault.RunFault.TheVariants.{Input, Strayed
 use Rattle.schedule_player.specs.declared.fault.ScheduleFault.{ScheduleFault}
 use Rattle.schedule_player.specs.declared.fault.ScheduleFault.TheVariants as schedule
 use Rattle.bank_program.specs.declared.fault.ProgramFault.{ProgramFault}
-use Rattle.bank_program.specs.declared.fault.ProgramFault.TheVariants.{Run, Play, Serve}
+use Rattle.bank_program.specs.declared.fault.ProgramFault.TheVariants.{Run, Play, Serve, Log}
+use Rattle.bank_program.specs.ListFaults.{list_status}
+use Rattle.bank_program.specs.declared.list_fault.ListFault.TheVariants as list
 use Rattle.bank_program.specs.declared.serve_fault.ServeFault.{ServeFault}
 use Rattle.bank_program.specs.declared.serve_fault.ServeFault.TheVariants as serve
 
@@ -37,3 +39,11 @@ abbrev pub exit_status : ProgramFault → ℕ
 exit_status (Run fault) = run_status fault
 exit_status (Play fault) = play_status fault
 exit_status (Serve fault) = serve_status fault
+exit_status (Log fault) = list_status fault
+
+-- a fault of a log's file is told with the file's path
+abbrev pub IsTold : ProgramFault → Type 0
+IsTold (Serve (serve.Log fault)) = Unit {0}
+IsTold (Log (list.Log fault)) = Unit {0}
+IsTold (Log list.Rest) = Unit {0}
+IsTold other = ⊥

@@ -1,4 +1,7 @@
 pub mod Faults
+pub mod ListFaults
+pub mod LogListing
+pub mod OpenedBank
 pub mod Opening
 pub mod ServeFaults
 pub mod ServeOutput

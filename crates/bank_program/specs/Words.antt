@@ -1,5 +1,5 @@
 -- The program's words; the first is its name.
-use Rattle.std.specs.Prelude.{◌≡◌, ◌≤◌, ◌⊎◌, ℕ, Option, Some, None, List, [], ◌∷◌, ◌++◌, String, codes, map, string_bytes, is_some, IfSome}
+use Rattle.std.specs.Prelude.{◌≡◌, ◌≤◌, ◌⊎◌, ◌-◌, ◌^◌, if◌then◌else◌, Bool, false, ℕ, Option, Some, None, List, [], ◌∷◌, ◌++◌, String, codes, map, string_bytes, is_some, IfSome}
 use Rattle.std.specs.Borrow.{Bor}
 use Rattle.std.specs.Str.Parse.{IsNumeral, digits_value, without_leading_plus}
 use Rattle.clap.specs.declared.error.kind.ErrorKind.{ErrorKind}
@@ -8,7 +8,10 @@ use Rattle.cown_bench.specs.declared.bench.TheConstants.{WORKERS}
 use Rattle.sb_sequencer.specs.declared.sequencer.TheConstants.{REPLICAS}
 use Rattle.bank_program.specs.declared.serving.Plan.{Plan}
 use Rattle.bank_program.specs.declared.words.Words.{Words}
-use Rattle.bank_program.specs.declared.words.Words.TheVariants.{Run, Play, Serve}
+use Rattle.bank_program.specs.declared.log_listing.Listing.TheVariants.{Asks, Rows, Check}
+use Rattle.bank_program.specs.declared.words.LogAction.{LogAction}
+use Rattle.bank_program.specs.declared.words.LogAction.TheVariants as action
+use Rattle.bank_program.specs.declared.words.Words.TheVariants.{Run, Play, Serve, Log}
 
 module _ {A : Type 0} where
   -- the word after the name says which program, and without one it is `run`
@@ -19,14 +22,23 @@ module _ {A : Type 0} where
   NamesProgram Play [] = ⊥
   NamesProgram Play (name ∷ []) = ⊥
   NamesProgram Play (name ∷ program ∷ options) = string_bytes program ≡ codes "play"
-  NamesProgram (Serve port plan store) [] = ⊥
-  NamesProgram (Serve port plan store) (name ∷ []) = ⊥
-  NamesProgram (Serve port plan store) (name ∷ program ∷ options) = string_bytes program ≡ codes "serve"
+  NamesProgram (Serve port plan store log) [] = ⊥
+  NamesProgram (Serve port plan store log) (name ∷ []) = ⊥
+  NamesProgram (Serve port plan store log) (name ∷ program ∷ options) = string_bytes program ≡ codes "serve"
+  NamesProgram (Log folder action) [] = ⊥
+  NamesProgram (Log folder action) (name ∷ []) = ⊥
+  NamesProgram (Log folder action) (name ∷ program ∷ options) = string_bytes program ≡ codes "log"
 
--- a plan has 1 to 1,000 sessions, 1 to REPLICAS nodes, 0 to WORKERS workers, and its patience, if
--- it has one, is 1 second to a day
-abbrev pub IsPlanInRange : Plan → Type 0
-IsPlanInRange plan = (1 ≤ plan.sessions) × (plan.sessions ≤ 1000) × (1 ≤ plan.nodes) × (plan.nodes ≤ REPLICAS)
+-- the sessions of a bank that isn't told their number: without a log one, and with one as many as a
+-- machine counts
+abbrev pub usual_sessions : Bool → ℕ
+usual_sessions logs = if logs then 2 ^ 64 - 1 else 1
+
+-- a plan has at least one session, and without a log at most 1,000; it has 1 to REPLICAS nodes, 0 to
+-- WORKERS workers, and its patience, if it has one, is 1 second to a day
+abbrev pub IsPlanInRange : Bool → Plan → Type 0
+IsPlanInRange logs plan = (1 ≤ plan.sessions) × (logs ≡ false → plan.sessions ≤ 1000) × (1 ≤ plan.nodes)
+    × (plan.nodes ≤ REPLICAS)
     × (plan.workers ≤ WORKERS) × IfSome plan.patience (λ seconds. (1 ≤ seconds) × (seconds ≤ 86400))
 
 -- a run has 1 to REPLICAS nodes and 0 to WORKERS workers; a port is below 2^16; a served bank has a
@@ -34,7 +46,9 @@ IsPlanInRange plan = (1 ≤ plan.sessions) × (plan.sessions ≤ 1000) × (1 ≤
 abbrev pub InRange : Words → Type 0
 InRange (Run nodes workers) = (1 ≤ nodes) × (nodes ≤ REPLICAS) × (workers ≤ WORKERS)
 InRange Play = Unit {0}
-InRange (Serve port plan store) = (port ≤ 65535) × IsPlanInRange plan × (plan.saves ≡ is_some store)
+InRange (Serve port plan store log) =
+    (port ≤ 65535) × IsPlanInRange (is_some log) plan × (plan.saves ≡ is_some store)
+InRange (Log folder action) = Unit {0}
 
 -- the words are wrong, or memory was refused
 abbrev pub IsRefusal : ErrorKind → Type 0
@@ -71,23 +85,44 @@ abbrev pub HasIntegerOrDefault : List ℕ → ℕ → ℕ → List (List ℕ) �
 HasIntegerOrDefault option standard number words = HasInteger option number words
     ⊎ ((number ≡ standard) × ((text : List ℕ) → ¬ (HasValue option text words)))
 
+-- the flag that has this done with a log
+abbrev pub IsFlagOf : List ℕ → LogAction → Type 0
+IsFlagOf flag (action.List Asks) = ⊥
+IsFlagOf flag (action.List Rows) = flag ≡ codes "--rows"
+IsFlagOf flag (action.List Check) = flag ≡ codes "--check"
+IsFlagOf flag action.Cut = flag ≡ codes "--cut"
+
+-- the words have this done with the log of this folder
+abbrev pub SaysLog : Words → List ℕ → LogAction → Type 0
+SaysLog (Run nodes workers) folder action = ⊥
+SaysLog Play folder action = ⊥
+SaysLog (Serve port plan store log) folder action = ⊥
+SaysLog (Log there done) folder action = (there.now ≡ folder) × (done ≡ action)
+
+-- a folder alone has its log's asks listed; with a flag before or behind it, that is done
+abbrev pub GivesLog : List ℕ → LogAction → List (List ℕ) → Type 0
+GivesLog folder done words = ((words ≡ folder ∷ []) × (done ≡ action.List Asks))
+    ⊎ ((flag : List ℕ) × IsFlagOf flag done × ((words ≡ folder ∷ flag ∷ []) ⊎ (words ≡ flag ∷ folder ∷ [])))
+
 module _ {A : Type 0} where
   -- the numbers of nodes and workers that these words give, or the defaults 1 and 0
   abbrev pub GivesCounts : ℕ → ℕ → List (String A) → Type 0
   GivesCounts nodes workers words = HasIntegerOrDefault (codes "--nodes") 1 nodes (map string_bytes words)
       × HasIntegerOrDefault (codes "--workers") 0 workers (map string_bytes words)
 
-  -- the numbers of sessions, nodes and workers that these words give, or the defaults 1, 1 and 0;
-  -- and the seconds of patience, if they give any
-  abbrev pub GivesPlan : Plan → List (String A) → Type 0
-  GivesPlan plan words = HasIntegerOrDefault (codes "--sessions") 1 plan.sessions (map string_bytes words)
+  -- the numbers of sessions, nodes and workers that these words give, or the defaults; and the seconds of
+  -- patience, if they give any
+  abbrev pub GivesPlan : Bool → Plan → List (String A) → Type 0
+  GivesPlan logs plan words =
+      HasIntegerOrDefault (codes "--sessions") (usual_sessions logs) plan.sessions (map string_bytes words)
       × GivesCounts plan.nodes plan.workers words
       × MayHaveInteger (codes "--patience") plan.patience (map string_bytes words)
 
-  -- the words give this port, this plan and this folder, if any
-  abbrev pub GivesServe : ℕ → Plan → Option (Bor (List ℕ)) → List (String A) → Type 0
-  GivesServe port plan store words = HasInteger (codes "--port") port (map string_bytes words)
-      × GivesPlan plan words × MayHaveText (codes "--store") store (map string_bytes words)
+  -- the words give this port, this plan and these folders, if any
+  abbrev pub GivesServe : ℕ → Plan → Option (Bor (List ℕ)) → Option (Bor (List ℕ)) → List (String A) → Type 0
+  GivesServe port plan store log words = HasInteger (codes "--port") port (map string_bytes words)
+      × GivesPlan (is_some log) plan words × MayHaveText (codes "--store") store (map string_bytes words)
+      × MayHaveText (codes "--log") log (map string_bytes words)
 
   -- the words after `run` or `serve` give these values
   abbrev pub GivesValues : Words → List (String A) → Type 0
@@ -95,7 +130,10 @@ module _ {A : Type 0} where
   GivesValues (Run nodes workers) (name ∷ []) = (nodes ≡ 1) × (workers ≡ 0)
   GivesValues (Run nodes workers) (name ∷ program ∷ options) = GivesCounts nodes workers options
   GivesValues Play words = Unit {0}
-  GivesValues (Serve port plan store) [] = ⊥
-  GivesValues (Serve port plan store) (name ∷ []) = ⊥
-  GivesValues (Serve port plan store) (name ∷ program ∷ options) =
-      GivesServe port plan store options
+  GivesValues (Serve port plan store log) [] = ⊥
+  GivesValues (Serve port plan store log) (name ∷ []) = ⊥
+  GivesValues (Serve port plan store log) (name ∷ program ∷ options) =
+      GivesServe port plan store log options
+  GivesValues (Log folder action) [] = ⊥
+  GivesValues (Log folder action) (name ∷ []) = ⊥
+  GivesValues (Log folder action) (name ∷ program ∷ options) = GivesLog folder.now action (map string_bytes options)

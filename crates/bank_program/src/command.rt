@@ -1,5 +1,5 @@
 //! The program's words, as they are described to clap.
-use clap::{Arg, Command, value_parser};
+use clap::{Arg, ArgAction, Command, value_parser};
 use std::alloc::{AllocError, Global};
 
 /// The program's version, which stands here alone.
@@ -24,7 +24,11 @@ const SERVE: &str = "Serves clients over TCP, one after the other, on this machi
 Reads an opening from standard input, as `run` does, with nothing behind its line `begin`. Prints where
 it listens, a line as each session ends, and at the end the rows of all customers and the total. A
 client at fault ends its own session, which is told by the number of the fault: 1 is a bad frame, 2 a
-frame that is no request, and 4 a connection that broke, or was waited for longer than --patience says.";
+frame that is no request, and 4 a connection that broke, or was waited for longer than --patience says.
+
+With --log each request is in FOLDER/log, and on the disk, before its client is told the outcome. A
+server that starts on such a log goes on with it. It prints a line `log CALLS DIGEST` first, and again
+before the rows. Fault 6 is one of the log: the server ends, and what it told is kept.";
 
 const SERVE_EXAMPLE: &str = "Example:
   printf 'alice 100.00 50.00\\nbegin\\n' | smallbank serve --port 4000
@@ -34,6 +38,13 @@ prints, once a client has deposited 1.00 for alice
   alice 100.00 51.00
   total 151.00";
 
+const LOG: &str = "Lists the log that a server keeps in FOLDER/log.
+
+Prints the opening, `begin`, and a line `ask CLIENT REQUEST CALL` for each ask, which are an input of
+`run`. The file isn't locked, and stays as it is; a record at its end that isn't whole is left out.
+After damage, of which nothing is printed but the byte, `--cut` is a way on: it moves what follows the
+last whole record to FOLDER/log.rest, unless that is there, and prints the line of the log that is left.";
+
 /// The command whose grammar the program's words follow.
 pub(crate) fn command<'a>(alloc: Global) -> Result<Command<'a>, AllocError> {
     let run = run(alloc)?;
@@ -42,7 +53,7 @@ pub(crate) fn command<'a>(alloc: Global) -> Result<Command<'a>, AllocError> {
         .about("A SmallBank store, proved")
         .subcommand(run)?
         .subcommand(play(alloc))?;
-    bank.subcommand(serve(alloc)?)
+    bank.subcommand(serve(alloc)?)?.subcommand(log(alloc)?)
 }
 
 // The subcommand that runs calls.
@@ -68,6 +79,7 @@ fn serve<'a>(alloc: Global) -> Result<Command<'a>, AllocError> {
         nodes(alloc),
         workers(alloc),
         store(alloc),
+        log_folder(alloc),
         patience(alloc),
     ];
     let args = Vec::from_array(alloc, args)?;
@@ -97,9 +109,9 @@ fn port<'a>(alloc: Global) -> Arg<'a> {
 }
 
 fn sessions<'a>(alloc: Global) -> Arg<'a> {
-    number(alloc, "sessions", "1..1000", 1, 1_000)
-        .default_value("1")
-        .help("How many clients are served before the program ends")
+    number(alloc, "sessions", "1..1000", 1, i64::MAX).help(
+        "How many clients are served before the program ends: without --log 1 to 1000, and 1 if not given",
+    )
 }
 
 fn patience<'a>(alloc: Global) -> Arg<'a> {
@@ -114,6 +126,36 @@ fn number<'a>(alloc: Global, name: &'a str, shown: &'a str, first: i64, last: i6
         .long(name)
         .value_name(shown)
         .value_parser(value_parser!(usize).range(first..=last))
+}
+
+// The subcommand that lists a log.
+fn log<'a>(alloc: Global) -> Result<Command<'a>, AllocError> {
+    let flags = [
+        flag(alloc, "rows").help("Prints the rows after the log instead, as an opening"),
+        flag(alloc, "check").help("Prints its line alone: the number of its calls, and its digest"),
+        flag(alloc, "cut").help("Moves what follows the last whole record to log.rest"),
+    ];
+    let folder = Arg::new(alloc, "folder")
+        .value_name("FOLDER")
+        .required(true)
+        .help("Where the log is kept");
+    Command::new(alloc, "log")
+        .about("Lists a log, or cuts off what follows its last whole record")
+        .long_about(LOG)
+        .arg(folder)?
+        .args(Vec::from_array(alloc, flags)?)
+}
+
+// An option without a value.
+fn flag<'a>(alloc: Global, name: &'a str) -> Arg<'a> {
+    Arg::new(alloc, name).long(name).action(ArgAction::SetTrue)
+}
+
+// The folder of the log.
+fn log_folder<'a>(alloc: Global) -> Arg<'a> {
+    Arg::new(alloc, "log").long("log").value_name("FOLDER").help(
+        "Where the log is kept, as log, before anyone is told an outcome; without --sessions there is no end",
+    )
 }
 
 // The folder of node 0's checkpoint.

@@ -1,4 +1,8 @@
 //! Why the program ends without its output.
+ghost use Rattle.std.specs.Prelude.{◌↔◌, IsTrue};
+ghost use Rattle.bank_program.specs.Faults.{IsTold};
+
+use crate::list_fault::ListFault;
 use crate::serve_fault::ServeFault;
 use bank_server::RunFault;
 use schedule_player::ScheduleFault;
@@ -17,6 +21,22 @@ pub enum ProgramFault {
     /// Serving a bank failed.
     #[error(transparent)]
     Serve(ServeFault),
+    /// Listing a log, or cutting it, failed.
+    #[error(transparent)]
+    Log(ListFault),
+}
+
+impl ProgramFault {
+    /// Whether the fault was told where its file is known.
+    pub fn is_told(&self) -> bool
+        ensures { IsTrue result ↔ IsTold self.now }
+    {
+        matches!(
+            self,
+            ProgramFault::Serve(ServeFault::Log(_))
+                | ProgramFault::Log(ListFault::Log(_) | ListFault::Rest)
+        )
+    }
 }
 
 impl From<RunFault> for ProgramFault {
@@ -34,6 +54,12 @@ impl From<ScheduleFault> for ProgramFault {
 impl From<ServeFault> for ProgramFault {
     fn from(fault: ServeFault) -> ProgramFault {
         ProgramFault::Serve(fault)
+    }
+}
+
+impl From<ListFault> for ProgramFault {
+    fn from(fault: ListFault) -> ProgramFault {
+        ProgramFault::Log(fault)
     }
 }
 

@@ -1,15 +1,21 @@
 //! The program that serves.
-ghost use Rattle.std.specs.Prelude.{◌≡◌, ◌≤◌, None, false, is_some, IfErr, IfOk};
+ghost use Rattle.std.specs.Prelude.{◌≡◌, ◌≤◌, None, false, true, is_some, IfErr, IfOk};
+ghost use Rattle.bank_server.specs.Execution.{HasNoEntries};
 ghost use Rattle.bank_program.specs.ServeFaults.{IsProgramFault};
-ghost use Rattle.bank_program.specs.inner.StepFaults.{IsOpeningFault, IsStoreFault};
+ghost use Rattle.bank_program.specs.inner.StepFaults.{IsOpenFault, IsOpeningFault, IsStoreFault};
 
 use crate::listener::SocketListener;
 use crate::listening::listen;
+use crate::log_program::LOG;
+use crate::log_report::{CutReport, LogReport};
+use crate::opened_bank::{OpenedBank, open_on_file};
 use crate::opening::whole_opening;
 use crate::serve_fault::ServeFault;
-use crate::serving::{Plan, serve};
+use crate::server::Server;
+use crate::serving::{Plan, serve, serve_bank};
 use cown_bench::WORKERS;
 use sb_checkpoint::{CheckpointStore, FileStore, FileWithSpare, FolderFile};
+use sb_log::{Reason, SystemFile};
 use sb_rows::Opening;
 use sb_sequencer::REPLICAS;
 use sb_text::read_all;
@@ -19,32 +25,126 @@ use std::sync::Wait;
 use std::thread::Threads;
 use std::time::Clock;
 
+// A bank on a log's file of the system.
+type SystemBank<'a> = OpenedBank<FileStore<FolderFile<HostRuntime>>, SystemFile<'a>>;
+
 // The file name of node 0's checkpoint.
 const CHECKPOINT: &str = "node0.ckpt";
 
-/// Serves the bank of the opening in standard input at a port. Node 0 keeps its checkpoint in this
-/// folder, if there is one.
+/// Serves the bank of the opening in standard input at a port. Node 0 keeps its checkpoint in the first
+/// folder, if there is one. The log is kept in the second one, if there is one: then standard input may
+/// be empty where the log goes on. A fault of the log's file is told on standard error.
 ///
-/// The server listens only after the whole input was read and checked, and the folder tried.
+/// The server listens only after the whole input was read and checked, the log's folder read, and the
+/// store's folder tried.
 pub fn serve_program<H>(
     rt: &HostRuntime,
     threads: &H,
     port: u16,
     folder: Option<&str>,
+    log: Option<&str>,
     plan: Plan,
 ) -> Result<(), ServeFault>
 where
     H: Threads + Wait + Clock + Sync + Net,
     requires nodes { plan.nodes ≤ REPLICAS }
     requires workers { plan.workers ≤ WORKERS }
-    ensures fault { IfErr result (IsProgramFault port plan (is_some folder.entry)) }
+    ensures fault { IfErr result (IsProgramFault port plan (is_some folder.entry) (is_some log.entry)) }
 {
-    let opening = read_opening(rt)?;
-    let store = store_of(rt, folder)?;
     // Without a folder nothing is saved.
     let mut plan = plan;
     plan.saves = plan.saves && folder.is_some();
+    if let Some(log) = log {
+        return serve_with_log(rt, threads, port, folder, log, plan);
+    }
+    let opening = read_opening(rt)?;
+    let store = store_of(rt, folder)?;
     serve_at(rt, threads, port, opening, store, plan)
+}
+
+// Serves a bank whose log is kept in this folder.
+fn serve_with_log<H>(
+    rt: &HostRuntime,
+    threads: &H,
+    port: u16,
+    folder: Option<&str>,
+    log: &str,
+    plan: Plan,
+) -> Result<(), ServeFault>
+where
+    H: Threads + Wait + Clock + Sync + Net,
+    requires nodes { plan.nodes ≤ REPLICAS }
+    requires workers { plan.workers ≤ WORKERS }
+    ensures fault { IfErr result (IsProgramFault port plan (is_some folder.entry) true) }
+{
+    let reason = Reason::new();
+    let served = match open_on_log(rt, folder, log, &reason) {
+        Ok(opened) => serve_opened(rt, threads, port, opened, plan),
+        Err(fault) => Err(fault),
+    };
+    if let Err(ServeFault::Log(fault)) = served {
+        let report = LogReport {
+            folder: log,
+            name: LOG,
+            fault,
+            error: reason.error(),
+        };
+        // If standard error fails too, the status still says the fault.
+        let _ = eprintln!(rt; "{report}");
+    }
+    served
+}
+
+// Opens a bank on the log in this folder.
+fn open_on_log<'a>(
+    rt: &HostRuntime,
+    folder: Option<&str>,
+    log: &str,
+    reason: &'a Reason,
+) -> Result<Box<SystemBank<'a>>, ServeFault>
+    ensures no_entries { IfOk result (λ opened. HasNoEntries opened.value.primary.node.board) }
+    ensures fault { IfErr result (IsOpenFault (is_some folder.entry)) }
+{
+    let alloc = rt.alloc();
+    let file = SystemFile::open(rt, log, LOG, reason)?;
+    let input = read_all(alloc, &mut rt.stdin())?;
+    let store = store_of(rt, folder)?;
+    let opened = open_on_file(alloc, file, &input, store)?;
+    if opened.cut > 0 {
+        let report = CutReport { bytes: opened.cut };
+        let _ = eprintln!(rt; "{report}");
+    }
+    Ok(Box::new(alloc, opened)?)
+}
+
+// Serves a bank that was opened, at a port.
+fn serve_opened<H>(
+    rt: &HostRuntime,
+    threads: &H,
+    port: u16,
+    opened: Box<SystemBank<'_>>,
+    plan: Plan,
+) -> Result<(), ServeFault>
+where
+    H: Threads + Wait + Clock + Sync + Net,
+    requires nodes { plan.nodes ≤ REPLICAS }
+    requires workers { plan.workers ≤ WORKERS }
+    requires no_entries { HasNoEntries opened.value.primary.node.board }
+    ensures fault { IfErr result (IsProgramFault port plan false true) }
+{
+    let listener = SocketListener::new(threads, listen(threads, port)?);
+    let OpenedBank { primary, .. } = Box::into_inner(opened);
+    serve_bank(
+        threads,
+        Server {
+            alloc: rt.alloc(),
+            plan,
+            listener,
+            primary,
+            writer: rt.stdout(),
+        },
+    )?;
+    Ok(())
 }
 
 // The opening in standard input, read as `whole_opening` reads it.
@@ -100,7 +200,7 @@ where
     S: CheckpointStore,
     requires nodes { plan.nodes ≤ REPLICAS }
     requires workers { plan.workers ≤ WORKERS }
-    ensures fault { IfErr result (IsProgramFault port plan false) }
+    ensures fault { IfErr result (IsProgramFault port plan false false) }
 {
     let listener = SocketListener::new(threads, listen(threads, port)?);
     serve(

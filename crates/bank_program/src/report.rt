@@ -2,10 +2,13 @@
 ghost use Rattle.std.specs.Prelude.{◌≡◌};
 ghost use Rattle.bank_program.specs.Faults as spec;
 ghost use Rattle.bank_program.specs.Faults.{exit_status};
+ghost use Rattle.bank_program.specs.ListFaults as lists;
 
 use crate::fault::ProgramFault;
+use crate::list_fault::ListFault;
 use crate::serve_fault::ServeFault;
 use bank_server::RunFault;
+use sb_log::LogFault;
 use schedule_player::ScheduleFault;
 use std::fmt;
 
@@ -25,6 +28,7 @@ pub fn told(fault: ProgramFault) -> Report
 {
     let status = match fault {
         ProgramFault::Run(fault) | ProgramFault::Serve(ServeFault::Run(fault)) => run_status(fault),
+        ProgramFault::Log(fault) => list_status(fault),
         ProgramFault::Play(ScheduleFault::Input { .. }) => 1,
         ProgramFault::Play(ScheduleFault::Device | ScheduleFault::OutOfMemory)
         | ProgramFault::Serve(
@@ -36,6 +40,19 @@ pub fn told(fault: ProgramFault) -> Report
         ) => 3,
     };
     Report { status, fault }
+}
+
+// The status of a log that isn't listed.
+fn list_status(fault: ListFault) -> u8
+    ensures { result ≡ lists.list_status fault }
+{
+    match fault {
+        ListFault::NoLog | ListFault::Log(LogFault::Damaged { .. }) => 1,
+        ListFault::Log(LogFault::Device | LogFault::OutOfMemory | LogFault::InUse)
+        | ListFault::Rest
+        | ListFault::Device
+        | ListFault::OutOfMemory => 3,
+    }
 }
 
 // The status of a run's fault, which ends the serving of a bank too.

@@ -1,10 +1,11 @@
 //! The program's words.
-ghost use Rattle.std.specs.Prelude.{◌≡◌, IfErr, IfOk, IfSome, true};
+ghost use Rattle.std.specs.Prelude.{◌≡◌, IfErr, IfOk, IfSome, true, string_bytes};
 ghost use Rattle.clap.specs.Values.{kind_of};
-ghost use Rattle.bank_program.specs.Words.{InRange, IsPlanInRange, IsRefusal, NamesProgram, GivesValues};
-ghost use Rattle.bank_program.specs.inner.WordValues.{IsPlanOf, IsReadOf, IsRunOf, IsServeOf};
+ghost use Rattle.bank_program.specs.Words.{InRange, IsFlagOf, IsPlanInRange, IsRefusal, NamesProgram, GivesValues, SaysLog, usual_sessions};
+ghost use Rattle.bank_program.specs.inner.WordValues.{IsLogWordsOf, IsPlanOf, IsReadOf, IsRunOf, IsServeOf};
 
 use crate::command::command;
+use crate::log_listing::Listing;
 use crate::options::{parse_count, parse_number, parse_optional, value};
 use crate::serving::Plan;
 use clap::error::ErrorKind;
@@ -15,8 +16,8 @@ use std::alloc::{AllocError, Global};
 
 // The text for words that clap takes and `parse_words` doesn't. None are known.
 const UNREAD: &str =
-    "these take 1 to 16 nodes, 0 to 16 workers, 1 to 1000 sessions, 1 to 86400 seconds and a port, \
-    as plain numbers";
+    "these take 1 to 16 nodes, 0 to 16 workers, 1 to 1000 sessions without a log, 1 to 86400 seconds \
+    and a port, as plain numbers, and a log's folder with one flag at most";
 
 const NO_TEXT: &str = "a word isn't UTF-8";
 
@@ -40,8 +41,29 @@ pub enum Words<'a> {
         plan: Plan,
         /// The folder where node 0 keeps its checkpoint, if it keeps one.
         store: Option<&'a str>,
+        /// The folder where the log is kept, if it is.
+        log: Option<&'a str>,
+    },
+    /// List a log, or cut it.
+    Log {
+        /// The folder where the log is kept.
+        folder: &'a str,
+        /// What is done with it.
+        action: LogAction,
     },
 }
+
+/// What is done with a log.
+#[derive(Clone, Copy, Debug, PartialEq, Eq)]
+pub enum LogAction {
+    /// It is listed.
+    List(Listing),
+    /// What follows its last whole record is moved to a file beside it.
+    Cut,
+}
+
+// How many sessions a bank with a log serves, unless it is told: more than any machine can.
+const ENDLESS: usize = usize::MAX;
 
 /// Reads the program's words; the first is its name. Without further words it is `run`.
 ///
@@ -115,6 +137,9 @@ fn parse_words<'a>(words: &'a [String]) -> Option<Words<'a>>
     if program.as_str() == "serve" {
         return serve(&words[2..]);
     }
+    if program.as_str() == "log" {
+        return log(&words[2..]);
+    }
     None
 }
 
@@ -142,17 +167,60 @@ fn serve<'a>(options: &'a [String]) -> Option<Words<'a>>
     let Ok(port) = u16::try_from(parse_number(options, "--port")?) else {
         return None;
     };
-    let store = value(options, "--store");
-    let plan = plan_of(options, store.is_some())?;
-    Some(Words::Serve { port, plan, store })
+    let (store, log) = (value(options, "--store"), value(options, "--log"));
+    let plan = plan_of(options, store.is_some(), log.is_some())?;
+    Some(Words::Serve {
+        port,
+        plan,
+        store,
+        log,
+    })
 }
 
-// The plan that these words give, for a bank that saves or doesn't.
-fn plan_of(options: &[String], saves: bool) -> Option<Plan>
-    ensures { IfSome result (λ plan. IsPlanOf options.now saves plan) }
+// What is done with a log, by the words after `log`: its folder, and a flag before or behind it, or
+// none.
+fn log<'a>(options: &'a [String]) -> Option<Words<'a>>
+    ensures { IfSome result (λ read. IsLogWordsOf options.entry.now read) }
+{
+    match options {
+        [folder] => Some(log_words(folder, LogAction::List(Listing::Asks))),
+        [first, second] => match (action_of(first), action_of(second)) {
+            (None, Some(action)) => Some(log_words(first, action)),
+            (Some(action), None) => Some(log_words(second, action)),
+            _ => None,
+        },
+        _ => None,
+    }
+}
+
+// These words.
+fn log_words<'a>(folder: &'a String, action: LogAction) -> Words<'a>
+    ensures { SaysLog result (string_bytes folder.entry.now) action }
+{
+    Words::Log {
+        folder: folder.as_str(),
+        action,
+    }
+}
+
+// What a flag has done with a log, if it is one.
+fn action_of(word: &String) -> Option<LogAction>
+    ensures { IfSome result (IsFlagOf (string_bytes word.now)) }
+{
+    match word.as_str() {
+        "--rows" => Some(LogAction::List(Listing::Rows)),
+        "--check" => Some(LogAction::List(Listing::Check)),
+        "--cut" => Some(LogAction::Cut),
+        _ => None,
+    }
+}
+
+// The plan that these words give, for a bank that saves or doesn't, and that keeps a log or doesn't.
+fn plan_of(options: &[String], saves: bool, logs: bool) -> Option<Plan>
+    ensures { IfSome result (λ plan. IsPlanOf options.now saves logs plan) }
 {
     let (Some(sessions), Some(nodes), Some(workers), Some(patience)) = (
-        parse_count(options, "--sessions", 1),
+        parse_count(options, "--sessions", usual_sessions(logs)),
         parse_count(options, "--nodes", 1),
         parse_count(options, "--workers", 0),
         parse_optional(options, "--patience"),
@@ -166,19 +234,31 @@ fn plan_of(options: &[String], saves: bool) -> Option<Plan>
         saves,
         patience,
     };
-    if is_in_range(&plan) { Some(plan) } else { None }
+    if is_in_range(&plan, logs) {
+        Some(plan)
+    } else {
+        None
+    }
 }
 
-// Whether a plan's numbers are within their limits.
-fn is_in_range(plan: &Plan) -> bool
-    ensures { result ≡ true → IsPlanInRange plan.now }
+// How many sessions there are, unless the words say it.
+fn usual_sessions(logs: bool) -> usize
+    ensures { result ≡ usual_sessions logs }
+{
+    if logs { ENDLESS } else { 1 }
+}
+
+// Whether a plan's numbers are within their limits. With a log there may be any number of sessions.
+fn is_in_range(plan: &Plan, logs: bool) -> bool
+    ensures { result ≡ true → IsPlanInRange logs plan.now }
 {
     let is_patient = match plan.patience {
         Some(seconds) => (1..=86_400).contains(&seconds),
         None => true,
     };
     is_patient
-        && (1..=1_000).contains(&plan.sessions)
+        && 1 <= plan.sessions
+        && (logs || plan.sessions <= 1_000)
         && (1..=REPLICAS).contains(&plan.nodes)
         && plan.workers <= WORKERS
 }

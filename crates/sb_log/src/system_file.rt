@@ -30,8 +30,8 @@ impl Reason {
         self.code.get().map(io::Error::from_raw_os_error)
     }
 
-    // Notes why a call was refused.
-    fn note(&self, error: &io::Error) {
+    /// Notes why a call was refused.
+    pub fn note(&self, error: &io::Error) {
         self.code.set(error.raw_os_error());
     }
 }

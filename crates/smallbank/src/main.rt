@@ -3,7 +3,9 @@
 
 ghost use Rattle.bank_program.specs.Words.{InRange};
 
-use bank_program::{ProgramFault, Words, read_words, refuse_bytes, serve_program, told};
+use bank_program::{
+    ProgramFault, Words, log_program, read_words, refuse_bytes, serve_program, told,
+};
 use bank_server::{RunFault, run_text};
 use clap::error::ErrorKind;
 use cown_workers::OpenGate;
@@ -20,8 +22,10 @@ fn main(rt: HostRuntime) -> ExitCode {
         Ok(status) => status,
         Err(fault) => {
             let report = told(fault);
-            // If standard error fails too, the status still says the fault.
-            let _ = eprintln!(rt; "{report}");
+            if !fault.is_told() {
+                // If standard error fails too, the status still says the fault.
+                let _ = eprintln!(rt; "{report}");
+            }
             report.status
         }
     };
@@ -69,7 +73,13 @@ fn obey<H: Threads + Wait + Clock + Sync + Net>(
             )?;
         }
         Words::Play => run_schedule(rt.alloc(), &mut rt.stdin(), &mut rt.stdout())?,
-        Words::Serve { port, plan, store } => serve_program(rt, threads, port, store, plan)?,
+        Words::Serve {
+            port,
+            plan,
+            store,
+            log,
+        } => serve_program(rt, threads, port, store, log, plan)?,
+        Words::Log { folder, action } => log_program(rt, folder, action)?,
     }
     Ok(0)
 }

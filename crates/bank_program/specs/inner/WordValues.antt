@@ -1,25 +1,35 @@
 -- The values that the words after the program's name give.
-use Rattle.std.specs.Prelude.{◌≡◌, Bool, List, String}
+use Rattle.std.specs.Prelude.{◌≡◌, Bool, List, String, map, string_bytes}
 use Rattle.bank_program.specs.declared.serving.Plan.{Plan}
 use Rattle.bank_program.specs.declared.words.Words.{Words}
-use Rattle.bank_program.specs.declared.words.Words.TheVariants.{Run, Play, Serve}
-use Rattle.bank_program.specs.Words.{InRange, IsPlanInRange, GivesCounts, GivesServe, GivesPlan, GivesValues, NamesProgram}
+use Rattle.bank_program.specs.declared.words.Words.TheVariants.{Run, Play, Serve, Log}
+use Rattle.bank_program.specs.Words.{InRange, IsPlanInRange, GivesCounts, GivesLog, GivesServe, GivesPlan, GivesValues, NamesProgram}
 
--- the words give this plan, for a bank that saves or doesn't
-abbrev pub IsPlanOf : {A : Type 0} → List (String A) → Bool → Plan → Type 0
-IsPlanOf words saves plan = IsPlanInRange plan × GivesPlan plan words × (plan.saves ≡ saves)
+-- the words give this plan, for a bank that saves or doesn't, and that keeps a log or doesn't
+abbrev pub IsPlanOf : {A : Type 0} → List (String A) → Bool → Bool → Plan → Type 0
+IsPlanOf words saves logs plan = IsPlanInRange logs plan × GivesPlan logs plan words × (plan.saves ≡ saves)
 
 -- these words give this run
 abbrev pub IsRunOf : {A : Type 0} → List (String A) → Words → Type 0
 IsRunOf words (Run nodes workers) = InRange (Run nodes workers) × GivesCounts nodes workers words
 IsRunOf words Play = ⊥
-IsRunOf words (Serve port plan store) = ⊥
+IsRunOf words (Serve port plan store log) = ⊥
+IsRunOf words (Log folder action) = ⊥
 
 -- these words say how this bank is served
 abbrev pub IsServeOf : {A : Type 0} → List (String A) → Words → Type 0
 IsServeOf words (Run nodes workers) = ⊥
 IsServeOf words Play = ⊥
-IsServeOf words (Serve port plan store) = InRange (Serve port plan store) × GivesServe port plan store words
+IsServeOf words (Serve port plan store log) =
+    InRange (Serve port plan store log) × GivesServe port plan store log words
+IsServeOf words (Log folder action) = ⊥
+
+-- these words say what is done with a log
+abbrev pub IsLogWordsOf : {A : Type 0} → List (String A) → Words → Type 0
+IsLogWordsOf words (Run nodes workers) = ⊥
+IsLogWordsOf words Play = ⊥
+IsLogWordsOf words (Serve port plan store log) = ⊥
+IsLogWordsOf words (Log folder action) = GivesLog folder.now action (map string_bytes words)
 
 -- the words say this
 abbrev pub IsReadOf : {A : Type 0} → List (String A) → Words → Type 0

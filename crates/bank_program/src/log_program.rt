@@ -1,0 +1,127 @@
+//! The program that lists a log, or cuts it.
+ghost use Rattle.std.specs.Prelude.{◌≡◌, ◌≤◌, length, IfErr, IfOk};
+
+use crate::list_fault::ListFault;
+use crate::log_listing::{Listing, list_log};
+use crate::log_report::LogReport;
+use crate::words::LogAction;
+use sb_ask_log::read_asks;
+use sb_log::{LogFault, LogFile, Reason, SystemFile};
+use std::alloc::Global;
+use std::fs::{File, OpenFile, OpenOptions};
+use std::io::Write;
+use std::path::PathBuf;
+use std::{fs, io};
+
+/// The file name of a log.
+pub(crate) const LOG: &str = "log";
+
+// The file name of what was cut off.
+const REST: &str = "log.rest";
+
+// How many bytes are moved at once.
+const PIECE: usize = 65_536;
+
+/// Lists the log in a folder, or cuts it. A fault of a file is told on standard error.
+pub fn log_program(rt: &HostRuntime, folder: &str, action: LogAction) -> Result<(), ListFault> {
+    let reason = Reason::new();
+    let done = match action {
+        LogAction::List(listing) => list(rt, folder, listing, &reason),
+        LogAction::Cut => cut(rt, folder, &reason),
+    };
+    let name = match done {
+        Err(ListFault::Rest) => REST,
+        _ => LOG,
+    };
+    if let Err(ListFault::Log(_) | ListFault::Rest) = done {
+        let fault = match done {
+            Err(ListFault::Log(fault)) => fault,
+            _ => LogFault::Device,
+        };
+        let report = LogReport {
+            folder,
+            name,
+            fault,
+            error: reason.error(),
+        };
+        // If standard error fails too, the status still says the fault.
+        let _ = eprintln!(rt; "{report}");
+    }
+    done
+}
+
+// Lists the log in a folder.
+fn list(
+    rt: &HostRuntime,
+    folder: &str,
+    listing: Listing,
+    reason: &Reason,
+) -> Result<(), ListFault> {
+    let mut file = SystemFile::open_to_read(rt, folder, LOG, reason)?;
+    list_log(rt.alloc(), &mut file, listing, &mut rt.stdout())
+}
+
+// Moves what follows the last whole record of a log to a file beside it, and prints the log's line.
+fn cut(rt: &HostRuntime, folder: &str, reason: &Reason) -> Result<(), ListFault> {
+    // A log that isn't there isn't made.
+    drop(SystemFile::open_to_read(rt, folder, LOG, reason)?);
+    let mut file = SystemFile::open(rt, folder, LOG, reason)?;
+    let end = end_of_records(rt.alloc(), &mut file)?;
+    if let Err(error) = move_rest(rt, folder, &mut file, end) {
+        reason.note(&error);
+        return Err(ListFault::Rest);
+    }
+    if file.cut(end).is_err() || file.sync().is_err() {
+        return Err(ListFault::Log(LogFault::Device));
+    }
+    list_log(rt.alloc(), &mut file, Listing::Check, &mut rt.stdout())
+}
+
+// Where the whole records of a log end, of which there is one at least.
+fn end_of_records<F: LogFile>(alloc: Global, file: &mut F) -> Result<usize, ListFault> {
+    match read_asks(alloc, file) {
+        Ok(found) if found.text.is_empty() => Err(ListFault::NoLog),
+        Ok(found) => Ok(found.end.records),
+        Err(LogFault::Damaged { byte, .. }) if byte > 0 => Ok(byte as usize),
+        Err(fault) => Err(ListFault::Log(fault)),
+    }
+}
+
+// Has what a file has from a place on in a new file beside it, on the disk. If there is nothing, no file
+// is made.
+fn move_rest(
+    rt: &HostRuntime,
+    folder: &str,
+    file: &mut SystemFile<'_>,
+    from: usize,
+) -> io::Result<()> {
+    let alloc = rt.alloc();
+    let mut piece = Vec::new(alloc);
+    if !read_piece(file, from, &mut piece)? {
+        return Ok(());
+    }
+    let folder = PathBuf::from_str(alloc, folder)?;
+    let path = folder.join(alloc, REST)?;
+    let mut options = OpenOptions::new();
+    options.write(true).create_new(true);
+    let mut rest = options.open(rt, &path)?;
+    let mut at = from;
+    for _ in 0..u64::MAX {
+        rest.write_all(&piece)?;
+        at = at.saturating_add(piece.len());
+        if !read_piece(file, at, &mut piece)? {
+            break;
+        }
+    }
+    rest.sync_all()?;
+    fs::open(rt, &folder)?.sync_all()
+}
+
+// Reads the piece of a file at a place, and answers whether there is one.
+fn read_piece(file: &mut SystemFile<'_>, at: usize, piece: &mut Vec<u8>) -> io::Result<bool> {
+    piece.clear();
+    match file.read_at(at, PIECE, piece) {
+        Ok(()) => Ok(!piece.is_empty()),
+        Err(_) => Err(io::Error::from(io::ErrorKind::Other)),
+    }
+}
