@@ -22,6 +22,7 @@ mod serve_fault;
 mod server;
 mod serving;
 mod session_end;
+mod standard_streams;
 mod words;
 
 pub use fault::ProgramFault;

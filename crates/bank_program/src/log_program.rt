@@ -4,6 +4,7 @@ ghost use Rattle.std.specs.Prelude.{◌≡◌, ◌≤◌, length, IfErr, IfOk};
 use crate::list_fault::ListFault;
 use crate::log_listing::{Listing, list_log};
 use crate::log_report::LogReport;
+use crate::standard_streams::are_open;
 use crate::words::LogAction;
 use sb_ask_log::read_asks;
 use sb_log::{LogFault, LogFile, Reason, SystemFile};
@@ -63,6 +64,9 @@ fn list(
 
 // Moves what follows the last whole record of a log to a file beside it, and prints the log's line.
 fn cut(rt: &HostRuntime, folder: &str, reason: &Reason) -> Result<(), ListFault> {
+    if !are_open(rt) {
+        return Err(ListFault::Device);
+    }
     // A log that isn't there isn't made.
     drop(SystemFile::open_to_read(rt, folder, LOG, reason)?);
     let mut file = SystemFile::open(rt, folder, LOG, reason)?;

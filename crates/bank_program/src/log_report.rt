@@ -3,6 +3,7 @@ use sb_log::LogFault;
 use std::{fmt, io};
 
 /// A fault of a file in a log's folder, with the system's words for it, if it has some.
+#[derive(Drop)]
 pub(crate) struct LogReport<'a> {
     /// The folder, as it was given.
     pub(crate) folder: &'a str,
@@ -33,6 +34,7 @@ impl fmt::Display for LogReport<'_> {
 }
 
 /// What is told of a log's end that was cut off.
+#[derive(Drop)]
 pub(crate) struct CutReport {
     /// How many bytes.
     pub(crate) bytes: usize,

@@ -13,6 +13,8 @@ use crate::opening::whole_opening;
 use crate::serve_fault::ServeFault;
 use crate::server::Server;
 use crate::serving::{Plan, serve, serve_bank};
+use crate::standard_streams::are_open;
+use bank_server::RunFault;
 use cown_bench::WORKERS;
 use sb_checkpoint::{CheckpointStore, FileStore, FileWithSpare, FolderFile};
 use sb_log::{Reason, SystemFile};
@@ -106,6 +108,9 @@ fn open_on_log<'a>(
     ensures fault { IfErr result (IsOpenFault (is_some folder.entry)) }
 {
     let alloc = rt.alloc();
+    if !are_open(rt) {
+        return Err(ServeFault::Run(RunFault::Device));
+    }
     let file = SystemFile::open(rt, log, LOG, reason)?;
     let input = read_all(alloc, &mut rt.stdin())?;
     let store = store_of(rt, folder)?;

@@ -13,6 +13,7 @@ use std::path::PathBuf;
 use std::{fs, io};
 
 /// Why the system refused a call, so that an operator can be told after the file is given up.
+#[derive(Drop)]
 pub struct Reason {
     code: Cell<Option<i32>>,
 }
