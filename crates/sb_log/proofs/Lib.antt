@@ -1,3 +1,4 @@
+mod Fields
 mod Lives
 mod Readings
 mod Records
