@@ -1,4 +1,6 @@
+mod Counts
 mod Fields
+mod Fronts
 mod Lives
 mod Readings
 mod Records

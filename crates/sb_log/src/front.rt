@@ -8,7 +8,7 @@ ghost use Rattle.sb_log.specs.declared.log_fault.LogFault.TheVariants.{Device};
 
 use crate::log_fault::LogFault;
 use crate::log_file::LogFile;
-use crate::record::{HEAD, SIZE_FIELD, digest_of, stated_size, with_body};
+use crate::record::{HEAD, SIZE_FIELD, are_same, digest_of, stated_size, with_body};
 use sb_text::READS;
 use sha2::Sha256;
 
@@ -64,7 +64,7 @@ pub(crate) fn read_front<F: LogFile>(
     }
     let longer = with_body(hasher, &buffer[HEAD..]);
     let digest = digest_of(&longer);
-    if buffer[SIZE_FIELD..HEAD] != digest[..] {
+    if !are_same(&buffer[SIZE_FIELD..HEAD], &digest) {
         let (size, _) = count_rest(file, at, buffer)?;
         return Ok(Front::Damaged(size));
     }
@@ -96,8 +96,15 @@ pub(crate) fn count_rest<F: LogFile>(
         if piece.is_empty() {
             return Ok((size, blank));
         }
-        blank = blank && piece.iter().all(|byte| *byte == 0);
+        blank = blank && is_blank(piece);
         size += piece.len();
     }
     Err(LogFault::Device)
+}
+
+// Whether all of these bytes are 0.
+fn is_blank(bytes: &[u8]) -> bool
+    ensures { IsTrue result ↔ All (λ byte. byte ≡ 0) bytes.now }
+{
+    bytes.iter().all(|byte| *byte == 0)
 }
