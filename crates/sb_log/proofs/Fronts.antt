@@ -2,6 +2,7 @@
 use Rattle.std.proofs.Common.{◌≡◌, ◌≢◌, ℕ, ◌+◌, ◌-◌, ◌<◌, ◌≤◌, ◌^◌, List, [], ◌∷◌, ◌++◌, length, get_or, take, drop, refl, sym, ap, subst, ◌∙◌, arith, append_assoc, length-append, length-drop, length-take, inl, inr}
 use Rattle.std.specs.Int.{w32, from_be_bytes, to_be_bytes}
 use Rattle.std.specs.List.{All}
+use Rattle.std.proofs.Math.Seq.{take-add}
 use Rattle.std.proofs.lemmas.List.{append-nil, drop_at, drop-drop, nil_from_length, take_all, take_at, take-append-drop, take-append-le, take-take, length-take-le}
 use Rattle.std.proofs.lemmas.List.Elements.{All-drop, All-get_or, All-take}
 use Rattle.std.proofs.lemmas.Nat.{from_be_bytes-to_be_bytes_4}
@@ -135,3 +136,23 @@ whole before rest bytes size is long fits begins same =
           ∙ ap (λ (l : List ℕ). size_field (length body) ++ (l ++ body)) same ∙ sym (record_parts before body),
       sym (take-append-drop (40 + size) rest) ∙ ap (λ (l : List ℕ). l ++ drop (40 + size) rest) (sym is),
     )
+
+-- what the first read gives, and the second
+pub first_read : (content cleared items read : List ℕ) (at : ℕ) → cleared ≡ [] → items ≡ cleared ++ take 40 (drop at content) → read ≡ items
+    → read ≡ take 40 (drop at content)
+first_read content cleared items read at empty is same =
+    same ∙ is ∙ ap (λ (l : List ℕ). l ++ take 40 (drop at content)) empty
+
+pub second_read : (content now first items read : List ℕ) (at size : ℕ) → now ≡ content → first ≡ take 40 (drop at content)
+    → items ≡ first ++ take size (drop (at + 40) now) → read ≡ items → read ≡ take (40 + size) (drop at content)
+second_read content now first items read at size unchanged first_is is same =
+    same ∙ is ∙ ap (λ (l : List ℕ). l ++ take size (drop (at + 40) now)) first_is
+    ∙ ap (λ (l : List ℕ). take 40 (drop at content) ++ take size l) (ap (λ (l : List ℕ). drop (at + 40) l) unchanged ∙ sym (drop-drop 40 at content))
+    ∙ sym (take-add 40 size (drop at content))
+
+-- what was read, if fewer bytes came than were asked for
+pub all_read : (rest read : List ℕ) (n : ℕ) → read ≡ take n rest → length read < n → length read ≡ length rest
+all_read rest read n is few = omega (arith, ap length is, length-take n rest, few)
+
+pub all_there : (rest read : List ℕ) (n : ℕ) → read ≡ take n rest → n ≤ length read → n ≤ length rest
+all_there rest read n is many = omega (arith, ap length is, length-take n rest, many)

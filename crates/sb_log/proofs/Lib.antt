@@ -1,4 +1,5 @@
 mod Counts
+mod Failures
 mod Fields
 mod Fronts
 mod Lives

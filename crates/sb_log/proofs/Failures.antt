@@ -1,0 +1,12 @@
+-- Why a call answers that the device failed.
+use Rattle.std.proofs.Common.{◌≡◌, ◌≤◌, ℕ, Bool, List, length, sym, ap, ◌∙◌, arith, subst, inl, inr}
+use Rattle.sb_text.specs.declared.input.TheConstants.{READS}
+use Rattle.sb_log.specs.LogFiles.{HasFailed}
+
+-- the same file at an earlier time
+pub failed_before : {Now Before : Type 0} (failed : Bool) (now before : List ℕ) → (Before → Now) → (Before → now ≡ before)
+    → HasFailed failed Now now → HasFailed failed Before before
+failed_before failed now before honest same h = elim h [
+  | inl failed ↦ inl failed
+  | inr long ↦ inr (λ there. subst (λ (l : List ℕ). READS ≤ length l) (same there) (long (honest there)))
+]
