@@ -5,3 +5,4 @@ mod Fronts
 mod Lives
 mod Readings
 mod Records
+mod SoFar

@@ -1,10 +1,11 @@
 //! What stands at a place of a log's file.
-ghost use Rattle.std.specs.Prelude.{◌≡◌, ◌<◌, ◌^◌, ◌↔◌, ℕ, List, drop, length, IfOk, IsErrOf, IsTrue, IfErr};
+ghost use Rattle.std.specs.Prelude.{◌≡◌, ◌⊎◌, ◌+◌, ◌<◌, ◌≤◌, ◌^◌, ◌↔◌, ℕ, List, drop, length, IfOk, IsErrOf, IsTrue, IfErr};
 ghost use Rattle.std.specs.List.{All};
 ghost use Rattle.sha2.specs.Hashers.{Holds256};
 ghost use Rattle.sb_log.specs.Front.{IsFront};
 ghost use Rattle.sb_log.specs.LogFiles.{HasFailed};
-ghost use Rattle.sb_log.specs.declared.log_fault.LogFault.TheVariants.{Device};
+ghost use Rattle.sb_log.specs.declared.front.Front.TheVariants.{Record};
+ghost use Rattle.sb_log.specs.declared.log_fault.LogFault.TheVariants.{Device, OutOfMemory};
 
 use crate::log_fault::LogFault;
 use crate::log_file::LogFile;
@@ -42,6 +43,9 @@ pub(crate) fn read_front<F: LogFile>(
     ensures synced { F.IsHonest file.old → F.synced file.new ≡ F.synced file.old }
     ensures front { F.IsHonest file.old → (before : List ℕ) → Holds256 hasher.old before
         → IfOk result (λ front. IsFront before (drop at (F.content file.old)) front buffer.new.items hasher.new) }
+    ensures size { IfOk result (λ front. front ≡ Record
+        → (HEAD ≤ length buffer.new.items) × (length buffer.new.items < HEAD + 2 ^ 32)) }
+    ensures fault { IfErr result (λ fault. (fault ≡ Device) ⊎ (fault ≡ OutOfMemory)) }
     ensures device { IsErrOf result Device
         → HasFailed (F.has_failed file.new) (F.IsHonest file.old) (F.content file.old) }
 {
@@ -85,6 +89,7 @@ pub(crate) fn count_rest<F: LogFile>(
     ensures size { F.IsHonest file.old → IfOk result (λ rest. rest.0 ≡ length (drop at (F.content file.old))) }
     ensures blank { F.IsHonest file.old →
         IfOk result (λ rest. IsTrue rest.1 ↔ All (λ byte. byte ≡ 0) (drop at (F.content file.old))) }
+    ensures fault { IfErr result (λ fault. (fault ≡ Device) ⊎ (fault ≡ OutOfMemory)) }
     ensures device { IsErrOf result Device
         → HasFailed (F.has_failed file.new) (F.IsHonest file.old) (F.content file.old) }
 {
