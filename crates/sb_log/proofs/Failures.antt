@@ -1,5 +1,6 @@
 -- Why a call answers that the device failed.
-use Rattle.std.proofs.Common.{◌≡◌, ◌≤◌, ℕ, Bool, List, length, sym, ap, ◌∙◌, arith, subst, inl, inr}
+use Rattle.std.proofs.Common.{◌≡◌, ◌≤◌, ℕ, Bool, List, length, sym, ap, ◌∙◌, arith, subst, inl, inr, Result, Ok, Err}
+use Rattle.std.specs.Result.{IsErr, IsErrAnd}
 use Rattle.sb_text.specs.declared.input.TheConstants.{READS}
 use Rattle.sb_log.specs.LogFiles.{HasFailed}
 
@@ -10,3 +11,8 @@ failed_before failed now before honest same h = elim h [
   | inl failed ↦ inl failed
   | inr long ↦ inr (λ there. subst (λ (l : List ℕ). READS ≤ length l) (same there) (long (honest there)))
 ]
+
+-- a result that is a fault
+pub err_is : {A E : Type 0} (result : Result A E) (fault : E) → IsErr result → IsErrAnd result (λ other. other ≡ fault) → result ≡ Err fault
+err_is (Ok done) fault is same = absurd (cc)
+err_is (Err other) fault is same = ap Err same

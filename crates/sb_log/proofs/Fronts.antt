@@ -100,7 +100,7 @@ digest_in before body =
     ∙ ap (λ (l : List ℕ). take 32 l) (drop_at (size_field (length body)) (sha256 (before ++ body) ++ body) 8 (length-size_field (length body)))
     ∙ take_at (sha256 (before ++ body)) body 32 (length-sha256 (before ++ body))
 
-body_in : (before body : List ℕ) → drop 40 (record_after before body) ≡ body
+pub body_in : (before body : List ℕ) → drop 40 (record_after before body) ≡ body
 body_in before body = ap (λ (l : List ℕ). drop 40 l) (sym (append-nil (record_after before body))) ∙ behind_head before body [] ∙ append-nil body
 
 -- as many bytes as a record has, but with another digest

@@ -107,3 +107,7 @@ written before bytes field digest long field_is digest_is =
     ∙ sym (append_assoc field digest (drop 40 bytes))
     ∙ ap (λ (l : List ℕ). (l ++ digest) ++ drop 40 bytes) field_is
     ∙ ap (λ (l : List ℕ). (size_field (length (drop 40 bytes)) ++ l) ++ drop 40 bytes) digest_is
+
+-- what stands behind a head in a buffer
+pub behind_is : (buffer items : List ℕ) → buffer ≡ items → take (length buffer - 40) (drop 40 buffer) ≡ drop 40 items
+behind_is buffer items same = take_rest buffer 40 ∙ ap (λ (l : List ℕ). drop 40 l) same
