@@ -1,16 +1,15 @@
 -- What stands at the front of some bytes, by the size that they state.
-use Rattle.std.proofs.Common.{◌≡◌, ◌≢◌, ℕ, ◌+◌, ◌-◌, ◌<◌, ◌≤◌, ◌^◌, List, [], ◌∷◌, ◌++◌, length, get_or, take, drop, refl, sym, ap, subst, ◌∙◌, arith, append_assoc, length-append, length-drop, length-take, inl, inr}
+use Rattle.std.proofs.Common.{◌≡◌, ◌≢◌, ℕ, ◌+◌, ◌-◌, ◌<◌, ◌≤◌, ◌^◌, List, [], ◌++◌, length, take, drop, refl, sym, ap, subst, ◌∙◌, arith, length-append, length-drop, length-take, inl, inr}
 use Rattle.std.specs.Int.{w32, from_be_bytes, to_be_bytes}
-use Rattle.std.specs.List.{All}
 use Rattle.std.proofs.Math.Seq.{take-add}
-use Rattle.std.proofs.lemmas.List.{append-nil, drop_at, drop-drop, nil_from_length, take_all, take_at, take-append-drop, take-append-le, take-take, length-take-le}
+use Rattle.std.proofs.lemmas.List.{append-nil, drop_at, drop-drop, nil_from_length, take_at, take-append-drop, take-take, length-take-le}
 use Rattle.std.proofs.lemmas.List.Elements.{All-drop, All-get_or, All-take}
 use Rattle.std.proofs.lemmas.Nat.{from_be_bytes-to_be_bytes_4}
 use Rattle.sha2.specs.Sha256.{sha256}
 use Rattle.sha2.proofs.Facts256.{length-sha256}
 use Rattle.sb_log.specs.Front.{HasNoRecord}
 use Rattle.sb_log.specs.Reading.{Begins, IsTorn}
-use Rattle.sb_log.specs.Records.{IsBody, head, record_after, size_field}
+use Rattle.sb_log.specs.Records.{IsBody, record_after, size_field}
 use Rattle.sb_log.proofs.Counts.{IsBlank}
 use Rattle.sb_log.proofs.Records.{behind_head, first_eight, length-record, length-size_field, one_size, record_parts}
 

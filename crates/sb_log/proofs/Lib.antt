@@ -5,4 +5,5 @@ mod Fronts
 mod Lives
 mod Readings
 mod Records
+mod Recoveries
 mod SoFar

@@ -1,18 +1,18 @@
 -- What reading a log keeps.
-use Rattle.std.proofs.Common.{◌≡◌, ◌≢◌, ◌⊎◌, ℕ, ◌+◌, ◌≤◌, List, [], ◌∷◌, ◌++◌, length, drop, refl, sym, ap, subst, ◌∙◌, arith, append_assoc, length-append, length-drop, inl, inr, Err}
+use Rattle.std.proofs.Common.{◌≡◌, ◌⊎◌, ℕ, ◌+◌, ◌≤◌, List, [], ◌∷◌, ◌++◌, length, drop, refl, sym, ap, subst, ◌∙◌, arith, append_assoc, length-append, inl, inr, Err}
 use Rattle.std.specs.List.{All}
-use Rattle.std.proofs.lemmas.List.{append-nil, drop_at}
+use Rattle.std.proofs.lemmas.List.{drop_at}
 use Rattle.std.proofs.lemmas.List.Elements.{All-nil, All-push}
 use Rattle.sha2.specs.declared.Sha256.{Sha256}
 use Rattle.sha2.specs.Hashers.{Holds256}
-use Rattle.sb_log.specs.LogCalls.{IsDamagedAt, IsRefusalAt, ReadsLog, ReadsTo}
-use Rattle.sb_log.specs.Reading.{IsTorn, Reads}
+use Rattle.sb_log.specs.LogCalls.{IsRefusalAt, ReadsLog}
+use Rattle.sb_log.specs.Reading.{Reads}
 use Rattle.sb_log.specs.Front.{HasNoRecord}
 use Rattle.sb_log.specs.Records.{IsBody, joined, record_after, records}
 use Rattle.sb_log.specs.Replaying.{ReplaysAll}
 use Rattle.sb_log.specs.declared.log_fault.LogFault.{LogFault}
 use Rattle.sb_log.specs.declared.log_fault.LogFault.TheVariants.{Damaged, Device, InUse, OutOfMemory}
-use Rattle.sb_log.proofs.Records.{joined_push, length-record, records_push}
+use Rattle.sb_log.proofs.Records.{joined_push, records_push}
 
 -- so many bytes of records are read, and replayed
 pub record ReadSoFar {T : Type 0} (replays : T → List ℕ → T → Type 0) (content : List ℕ) (old : T) (size : ℕ) (hasher : Sha256) (new : T)

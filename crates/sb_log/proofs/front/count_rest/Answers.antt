@@ -1,4 +1,4 @@
-use Rattle.std.proofs.Common.{◌≡◌, ◌≤◌, ◌<◌, ◌+◌, ◌*◌, ◌↔◌, ◌++◌, ℕ, List, [], Bool, IsTrue, true, false, true≢false, length, take, drop, refl, sym, ap, subst, ◌∙◌, arith, rules, length-append, inl, inr}
+use Rattle.std.proofs.Common.{◌≡◌, ◌≤◌, ◌<◌, ◌+◌, ◌↔◌, ℕ, IsTrue, true≢false, length, drop, sym, ap, subst, ◌∙◌, arith, length-append, inl, inr}
 use Rattle.std.proofs.lemmas.Bool.{cases_lt, eqb-true, eqb-false}
 use Rattle.sb_log.proofs.Counts.{Counted, IsBlank, all_counted, one_more, piece_is}
 use Rattle.sb_log.proofs.front.count_rest.Goals as goal

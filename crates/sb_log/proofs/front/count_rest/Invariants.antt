@@ -1,4 +1,4 @@
-use Rattle.std.proofs.Common.{◌≡◌, ◌≤◌, ◌*◌, ◌↔◌, ℕ, length, drop}
+use Rattle.std.proofs.Common.{◌≡◌, ◌≤◌, ◌*◌, ◌↔◌, drop}
 use Rattle.sb_log.proofs.Counts.{Counted}
 use Rattle.sb_log.proofs.front.count_rest.Given as goal
 

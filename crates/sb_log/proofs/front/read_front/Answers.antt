@@ -1,8 +1,6 @@
-use Rattle.std.proofs.Common.{◌≡◌, ◌≢◌, ◌≤◌, ◌<◌, ◌+◌, ◌-◌, ◌^◌, ◌↔◌, ◌++◌, ℕ, List, [], Bool, IsTrue, true, false, true≢false, length, take, drop, refl, sym, ap, subst, ◌∙◌, arith, rules, length-append, length-take, length-drop, inl, inr}
+use Rattle.std.proofs.Common.{◌≡◌, ◌≤◌, ◌<◌, ◌+◌, ◌++◌, ℕ, List, true≢false, length, take, drop, refl, sym, ap, subst, ◌∙◌, arith, rules, length-take, inr}
 use Rattle.sha2.specs.Hashers.{Holds256}
 use Rattle.sha2.specs.Sha256.{sha256}
-use Rattle.sb_log.specs.Reading.{Begins}
-use Rattle.sb_log.specs.Records.{size_field}
 use Rattle.sb_log.proofs.Counts.{IsBlank}
 use Rattle.sb_log.proofs.Failures.{failed_before}
 use Rattle.sb_log.proofs.Fronts.{StatesNone, all_read, all_there, bad_digest, first_read, no_record_stated, none_stated, not_torn_stated, second_read, stated, too_few, whole}

@@ -1,6 +1,4 @@
-use Rattle.std.proofs.Common.{◌≡◌, ◌++◌, ◌+◌, ℕ, List, drop, length, refl, sym, inl, ap, subst, ◌∙◌, arith, rules, Result, Ok, Err}
-use Rattle.sha2.specs.declared.Sha256.{Sha256}
-use Rattle.sha2.specs.Hashers.{Holds256}
+use Rattle.std.proofs.Common.{◌≡◌, ◌+◌, ℕ, List, drop, length, sym, inl, ap, subst, ◌∙◌, arith, rules, Result, Err}
 use Rattle.sb_log.specs.Front.{HasNoRecord, IsFront}
 use Rattle.sb_log.specs.Reading.{IsTorn}
 use Rattle.sb_log.specs.LogCalls.{IsRefusalAt, ReadsLog}

@@ -1,4 +1,4 @@
-use Rattle.std.proofs.Common.{◌≡◌, ◌≤◌, ◌*◌, ◌↔◌, ℕ, List}
+use Rattle.std.proofs.Common.{◌≡◌, ◌≤◌, ◌*◌, ◌↔◌}
 use Rattle.sb_log.proofs.SoFar.{ReadSoFar}
 use Rattle.sb_log.proofs.reading.read_log.Given as goal
 

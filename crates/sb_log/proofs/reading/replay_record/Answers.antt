@@ -1,4 +1,4 @@
-use Rattle.std.proofs.Common.{◌≡◌, ℕ, List, ◌-◌, take, drop, length, refl, sym, ap, subst, ◌∙◌, rules}
+use Rattle.std.proofs.Common.{ℕ, List, ◌-◌, take, drop, length, refl, sym, subst, rules}
 use Rattle.sb_log.specs.LogCalls.{IsRefusalAt}
 use Rattle.sb_log.specs.declared.log_fault.LogFault.{LogFault}
 use Rattle.sb_log.specs.Replaying.{IsReplayFault}

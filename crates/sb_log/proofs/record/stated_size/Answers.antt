@@ -1,4 +1,4 @@
-use Rattle.std.proofs.Common.{◌≡◌, ℕ, length, take, ap, sym, ◌∙◌, arith, true, false, true≢false}
+use Rattle.std.proofs.Common.{take, ap, sym, ◌∙◌, arith, true≢false}
 use Rattle.sb_log.specs.Records.{size_field}
 use Rattle.sb_log.proofs.Fields.{bytes_of_first, states, states_none}
 use Rattle.sb_log.proofs.record.stated_size.Goals as goal

@@ -1,4 +1,4 @@
-use Rattle.std.proofs.Common.{◌≡◌, ◌++◌, ◌+◌, ◌-◌, ◌<◌, length, List, ℕ, take, drop, arith, ap, sym, ◌∙◌, refl, length-append, length-drop, length-take}
+use Rattle.std.proofs.Common.{◌≡◌, ◌++◌, ◌-◌, length, drop, arith, ap, sym, ◌∙◌, length-append, length-drop, length-take}
 use Rattle.std.proofs.lemmas.Slice.{drop-put_mid}
 use Rattle.sb_log.specs.Records.{size_field}
 use Rattle.sb_log.proofs.Records.{behind_field, length-size_field, written}

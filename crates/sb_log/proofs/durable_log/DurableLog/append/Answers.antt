@@ -1,6 +1,5 @@
-use Rattle.std.proofs.Common.{◌≡◌, ◌++◌, ◌∷◌, [], false, true, not, refl, sym, ap, subst, ◌∙◌, inl, rules, List, ℕ, take, drop}
+use Rattle.std.proofs.Common.{◌≡◌, ◌++◌, ◌∷◌, [], false, not, refl, sym, ap, subst, ◌∙◌, inl, rules, List, ℕ, take, drop}
 use Rattle.sha2.specs.Hashers.{Holds256}
-use Rattle.sb_log.specs.Lives.{Life}
 use Rattle.sb_log.specs.Records.{joined, record_after}
 use Rattle.sb_log.proofs.Records.{joined_push, longer_holds}
 use Rattle.sb_log.proofs.durable_log.DurableLog.append.Goals as goal

@@ -1,5 +1,4 @@
-use Rattle.std.proofs.Common.{◌≡◌, false, true, not, refl, sym, ap, ◌∙◌, inl, rules}
-use Rattle.sb_log.specs.Lives.{Life}
+use Rattle.std.proofs.Common.{false, not, refl, sym, ap, ◌∙◌, inl, rules}
 use Rattle.sb_log.proofs.durable_log.DurableLog.sync.Goals as goal
 
 pub returns-in-Err-clause-life : goal.returns-in-Err-clause-life

@@ -1,4 +1,4 @@
-use Rattle.std.proofs.Common.{◌≡◌, ◌≤◌, ◌-◌, length}
+use Rattle.std.proofs.Common.{◌≡◌, ◌≤◌, ◌-◌}
 use Rattle.sb_log.specs.LogFiles.{AppendsUpTo}
 use Rattle.sb_log.proofs.system_file.SystemFileLogFile.read_at.Given as goal
 
