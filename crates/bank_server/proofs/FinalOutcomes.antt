@@ -5,7 +5,7 @@ use Rattle.sb_rows.specs.Rows.{Rows}
 use Rattle.sb_calls.specs.declared.ask.Key.{Key}
 use Rattle.sb_calls.specs.declared.call.Call.{Call}
 use Rattle.sb_calls.specs.declared.call.TheConstants.{LOG_CALLS}
-use Rattle.sb_sequencer.specs.Numbering.{IsLog, index_of_key}
+use Rattle.sb_sequencer.specs.Numbering.{index_of_key}
 use Rattle.bank_server.specs.Session.{ToldOutcomesStand, outcome_of}
 use Rattle.bank_server.proofs.Outcomes.{ended_so}
 use Rattle.bank_server.proofs.Standings.{place_kept, standing_kept}
