@@ -1,8 +1,8 @@
 //! Who keeps a log.
-ghost use Rattle.std.specs.Prelude.{◌≡◌, List, OnOk, IfErr};
+ghost use Rattle.std.specs.Prelude.{◌≡◌, Bool, List, false, OnOk, IfErr};
 ghost use Rattle.sb_calls.specs.declared.ask.Key.{Key as AnyKey};
 ghost use Rattle.sb_calls.specs.declared.call.Call.{Call as AnyCall};
-ghost use Rattle.sb_ask_log.specs.Keeping.{IsKeepFault, KeepsBeginning, KeepsOn, kept_by};
+ghost use Rattle.sb_ask_log.specs.Keeping.{IsKeepFault, KeepsBeginning, KeepsOn};
 
 use sb_log::LogFault;
 use sb_sequencer::Sequencer;
@@ -11,6 +11,9 @@ use sb_sequencer::Sequencer;
 pub trait Keeper: Drop {
     /// These asks are kept: a log that is opened again, after any stop, begins with them.
     ghost Keeps: { Self → List (AnyKey × AnyCall) → Type 0 };
+
+    /// Whether keeping may fail.
+    ghost fails: { Bool };
 
     /// Keeps a whole log, of which it keeps a beginning.
     ///
@@ -22,7 +25,7 @@ pub trait Keeper: Drop {
         ensures kept { OnOk result (Keeps self.new log.now.log) }
         // What was kept stays kept, after a fault too.
         ensures stays { KeepsOn Keeps self.old log.now.log self.new log.now.log }
-        ensures fault { IfErr result IsKeepFault };
+        ensures fault { IfErr result (IsKeepFault fails) };
 }
 
 /// Keeps nothing, and promises nothing.
@@ -32,19 +35,9 @@ pub struct NoKeeper;
 impl Keeper for NoKeeper {
     ghost Keeps = { λ keeper asks. Unit {0} };
 
+    ghost fails = { false };
+
     fn keep(&mut self, _log: &Sequencer) -> Result<(), LogFault> {
         Ok(())
-    }
-}
-
-// Without a keeper nothing is kept, and nothing promised.
-impl<K: Keeper> Keeper for Option<K> {
-    ghost Keeps = { λ keeper asks. kept_by K.Keeps keeper asks };
-
-    fn keep(&mut self, log: &Sequencer) -> Result<(), LogFault> {
-        match self {
-            Some(keeper) => keeper.keep(log),
-            None => Ok(()),
-        }
     }
 }
