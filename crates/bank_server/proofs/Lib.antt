@@ -3,6 +3,7 @@ pub mod AnswerStandings
 pub mod AskedLines
 pub mod Boards
 pub mod FinalAnswers
+pub mod FinalOutcomes
 pub mod FlatLists
 pub mod Flushes
 pub mod FollowerTurns

@@ -87,7 +87,7 @@ told_so opening log entry key (Mismatch n) among = refl
 told_so opening log entry key LogFull among = refl
 
 -- with one more entry, an ask with the same standing has the same outcome
-ended_so : (opening : Rows) (log : List (Key × Call)) (entry ask : Key × Call) → standing_of (log ++ entry ∷ []) ask ≡ standing_of log ask
+pub ended_so : (opening : Rows) (log : List (Key × Call)) (entry ask : Key × Call) → standing_of (log ++ entry ∷ []) ask ≡ standing_of log ask
     → outcome_of opening (log ++ entry ∷ []) ask ≡ outcome_of opening log ask
 ended_so opening log entry ask same =
     ap (outcome_by (replies_to opening (calls_of (log ++ entry ∷ []))) ask.0) same

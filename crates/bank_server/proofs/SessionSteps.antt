@@ -15,7 +15,7 @@ use Rattle.sb_sequencer.specs.Numbering.{first_asks, calls_of}
 use Rattle.bank_server.specs.inner.AskSteps.{AddsAsk}
 use Rattle.bank_server.specs.inner.SessionSteps.{Reaches, Leads, SessionState, unflushed_asks, pending_ask}
 use Rattle.bank_server.specs.inner.FlushFaults.{IsFlushFault}
-use Rattle.bank_server.specs.SessionFaults.{IsLogFault, IsSettleFault}
+use Rattle.bank_server.specs.SessionFaults.{IsSettleFault}
 use Rattle.bank_server.specs.Session.{IsFromClient, asks_in, outcome_by, outcome_of, outcomes_of, flushed_asks}
 use Rattle.bank_server.specs.Standing.{standing_of}
 use Rattle.bank_server.specs.declared.asking.Standing.{Standing}
@@ -144,12 +144,3 @@ flush_of_settle faults.CrewGone is = tt
 flush_of_settle faults.Device is = absurd is
 flush_of_settle faults.OutOfMemory is = tt
 flush_of_settle (faults.Log fault) is = tt
-
--- and so may a log that can't be kept
-pub flush_of_log : (fault : SessionFault) → IsLogFault fault → IsFlushFault fault
-flush_of_log (faults.Frame fault) is = absurd is
-flush_of_log faults.Unexpected is = absurd is
-flush_of_log faults.CrewGone is = absurd is
-flush_of_log faults.Device is = tt
-flush_of_log faults.OutOfMemory is = absurd is
-flush_of_log (faults.Log fault) is = tt

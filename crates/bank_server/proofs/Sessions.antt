@@ -18,7 +18,7 @@ use Rattle.bank_server.specs.inner.SessionSteps.{Reaches, HandlesBytes, IsStateA
 use Rattle.bank_server.specs.SessionResults.{IsFaultAt, ServesUntilFault, ServesSession, WritesOutcomes, WritesOutcomesBefore}
 use Rattle.bank_server.specs.Session.{IsFromClient, log_of_session, outcomes_of}
 use Rattle.bank_server.specs.inner.FlushFaults.{IsEndFault}
-use Rattle.bank_server.specs.SessionFaults.{IsLogFault, IsSettleFault}
+use Rattle.bank_server.specs.SessionFaults.{IsSettleFault}
 use Rattle.bank_server.specs.declared.session_fault.SessionFault.{SessionFault}
 use Rattle.bank_server.specs.declared.session_fault.SessionFault.TheVariants.{Frame, Unexpected, CrewGone, Device, OutOfMemory, Log}
 use Rattle.bank_server.proofs.OwnLog.{own_log}
@@ -170,51 +170,6 @@ settle_left CrewGone at new is same = same
 settle_left Device at new is same = same
 settle_left OutOfMemory at new is same = same
 settle_left (Log fault) at new is same = same
-
--- ---- a log that can't be kept, once the session ended
-
-log_before : (fault : SessionFault) (opening : Rows) (before : List (Key × Call)) (frames : List frames.Frame) (log : List (Key × Call))
-    (old new : Option (List ℕ)) → WritesOutcomesBefore fault opening before frames log old new → log ≡ log_of_session before frames
-log_before (Frame fault) opening before frames log old new told = told.log_is
-log_before Unexpected opening before frames log old new told = told.log_is
-log_before CrewGone opening before frames log old new told = told
-log_before Device opening before frames log old new told = told
-log_before OutOfMemory opening before frames log old new told = told
-log_before (Log fault) opening before frames log old new told = told
-
--- after its end the session is as one that the log's fault cut short
-pub unkept_session : (fault : SessionFault) (opening : Rows) (before log : List (Key × Call)) (old new : Option (List ℕ)) (input : List ℕ)
-    → IsLogFault fault → ServesSession opening before log old new input → ServesUntilFault opening before log old new input fault
-unkept_session (Frame fault) opening before log old new input is served = absurd is
-unkept_session Unexpected opening before log old new input is served = absurd is
-unkept_session CrewGone opening before log old new input is served = absurd is
-unkept_session Device opening before log old new input is served = absurd is
-unkept_session OutOfMemory opening before log old new input is served = absurd is
-unkept_session (Log fault) opening before log old new input is served = record {
-  frames = served.frames;
-  clients = served.clients;
-  rest = [];
-  input_is = served.input_is ∙ sym (append-nil (flat_map spelling served.frames));
-  at = tt;
-  outcomes = served.outcomes.log_is;
-}
-
--- and after another fault too
-pub unkept_fault : (fault other : SessionFault) (opening : Rows) (before log : List (Key × Call)) (old new : Option (List ℕ)) (input : List ℕ)
-    → IsLogFault fault → ServesUntilFault opening before log old new input other → ServesUntilFault opening before log old new input fault
-unkept_fault (Frame fault) other opening before log old new input is served = absurd is
-unkept_fault Unexpected other opening before log old new input is served = absurd is
-unkept_fault CrewGone other opening before log old new input is served = absurd is
-unkept_fault Device other opening before log old new input is served = absurd is
-unkept_fault OutOfMemory other opening before log old new input is served = absurd is
-unkept_fault (Log fault) other opening before log old new input is served = record {
-  frames = served.frames;
-  clients = served.clients;
-  rest = served.rest;
-  input_is = served.input_is;
-  at = tt;
-  outcomes = log_before other opening before served.frames log old new served.outcomes;
-}
 
 -- ---- what a reader had
 

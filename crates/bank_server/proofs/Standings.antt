@@ -75,7 +75,7 @@ standing_other n call entry other =
 -- ---- places in a log that grows
 
 -- a key keeps its place
-place_kept : (log : List (Key × Call)) (entry : Key × Call) (key : Key) (k : ℕ) → index_of_key log key ≡ Some k → index_of_key (log ++ entry ∷ []) key ≡ Some k
+pub place_kept : (log : List (Key × Call)) (entry : Key × Call) (key : Key) (k : ℕ) → index_of_key log key ≡ Some k → index_of_key (log ++ entry ∷ []) key ≡ Some k
 place_kept log entry key k e =
     let test = λ (ask : Key × Call). same_key key ask.0 in
     let at = position-Some test log k entry e in
@@ -111,7 +111,7 @@ entry_new log entry = slice_get-get_or (log ++ entry ∷ []) (length log) entry 
 -- ---- standings in a log that grows
 
 -- an ask whose key has a number keeps its standing
-standing_kept : (log : List (Key × Call)) (entry ask : Key × Call) (k : ℕ) → index_of_key log ask.0 ≡ Some k
+pub standing_kept : (log : List (Key × Call)) (entry ask : Key × Call) (k : ℕ) → index_of_key log ask.0 ≡ Some k
     → standing_of (log ++ entry ∷ []) ask ≡ standing_of log ask
 standing_kept log entry ask k e =
     let within = (position-Some (λ (other : Key × Call). same_key ask.0 other.0) log k entry e).0 in

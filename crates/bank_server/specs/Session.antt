@@ -1,15 +1,16 @@
 -- What a client's session does.
-use Rattle.std.specs.Prelude.{◌-◌, Bool, true, false, if◌then◌else◌, Option, Some, None, List, [], ◌∷◌, ◌++◌, slice_get}
+use Rattle.std.specs.Prelude.{◌≡◌, ◌⊎◌, ◌-◌, Bool, true, false, if◌then◌else◌, Option, Some, None, IsSome, List, [], ◌∷◌, ◌++◌, length, slice_get}
 use Rattle.std.specs.List.{flat_map, list_any}
 use Rattle.sb_rows.specs.Rows.{Rows}
 use Rattle.sb_calls.specs.Log.{replies_to}
 use Rattle.sb_calls.specs.declared.ask.Key.{Key}
 use Rattle.sb_calls.specs.declared.call.Call.{Call}
+use Rattle.sb_calls.specs.declared.call.TheConstants.{LOG_CALLS}
 use Rattle.sb_calls.specs.declared.reply.Reply.{Reply}
 use Rattle.sb_frames.specs.declared.frame.AskOutcome.TheVariants as ended
 use Rattle.sb_frames.specs.declared.frame.Frame.{Frame}
 use Rattle.sb_frames.specs.declared.frame.Frame.TheVariants.{Ask, Entry, Ack, Answer, Outcome, Flush, Have}
-use Rattle.sb_sequencer.specs.Numbering.{first_asks, calls_of}
+use Rattle.sb_sequencer.specs.Numbering.{IsLog, first_asks, calls_of, index_of_key}
 use Rattle.bank_server.specs.Standing.{standing_of}
 use Rattle.bank_server.specs.declared.asking.Standing.{Standing}
 use Rattle.bank_server.specs.declared.asking.Standing.TheVariants.{Number, Mismatch, LogFull}
@@ -74,3 +75,10 @@ outcome_of opening log ask = outcome_by (replies_to opening (calls_of log)) ask.
 -- what a client gets in a session: the outcome of each ask that a flush follows, in order
 abbrev pub outcomes_of : Rows → List (Key × Call) → List Frame → List Frame
 outcomes_of opening log frames = flat_map (outcome_of opening log) (flushed_asks frames)
+
+-- an outcome that was told stands, whatever is asked after it: that of an ask whose key has a number
+-- in the log, and once the log is full that of every ask
+abbrev pub ToldOutcomesStand : Type 0
+ToldOutcomesStand = (opening : Rows) (log more : List (Key × Call)) (ask : Key × Call) → IsLog (log ++ more)
+    → IsSome (index_of_key log ask.0) ⊎ (length log ≡ LOG_CALLS)
+    → outcome_of opening (log ++ more) ask ≡ outcome_of opening log ask

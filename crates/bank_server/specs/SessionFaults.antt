@@ -29,10 +29,15 @@ IsClientFault Unexpected = Unit {0}
 IsClientFault Device = Unit {0}
 IsClientFault other = ⊥
 
--- the log can't be kept
-abbrev pub IsLogFault : SessionFault → Type 0
-IsLogFault (Log fault) = IsKeepFault fault
-IsLogFault other = ⊥
+-- the log can't be kept, which may fail
+abbrev pub IsLogFault : Bool → SessionFault → Type 0
+IsLogFault fails (Log fault) = IsKeepFault fails fault
+IsLogFault fails other = ⊥
+
+-- the log is lost only if keeping it may fail
+abbrev pub LosesLog : Bool → SessionFault → Type 0
+LosesLog fails (Log fault) = IsKeepFault fails fault
+LosesLog fails other = Unit {0}
 
 -- a crew that keeps no job is never gone if no op was out
 abbrev pub LosesCrew : Bool → BoardOf Op → SessionFault → Type 0

@@ -7,7 +7,7 @@ ghost use Rattle.cown_workers.specs.Draining.{HasNoneOut};
 ghost use Rattle.bank_server.specs.inner.SessionSteps.{ArePendingWithin, HandlesBytes, RefusesFrame, Leads, Stops, session_state_of};
 ghost use Rattle.bank_server.specs.Primary.{PreservesBank, opening_rows_of};
 ghost use Rattle.bank_server.specs.inner.FlushFaults.{IsFlushFault};
-ghost use Rattle.bank_server.specs.SessionFaults.{LosesCrew};
+ghost use Rattle.bank_server.specs.SessionFaults.{LosesCrew, LosesLog};
 ghost use Rattle.bank_server.specs.declared.session_fault.SessionFault.TheVariants as faults;
 
 use crate::outcome_frames::push_outcomes;
@@ -71,6 +71,7 @@ pub(crate) fn handle_bytes<W: Write, S: CheckpointStore, K: Keeper, C: Crew>(
     ensures bank { PreservesBank K.Keeps primary.old primary.new }
     ensures none_out { C.keeps ≡ false → HasNoneOut primary.old.node.board → HasNoneOut primary.new.node.board }
     ensures crew_lost { IfErr result (LosesCrew C.keeps primary.old.node.board) }
+    ensures log_lost { IfErr result (LosesLog K.fails) }
 {
     if buffers.stream.feed(bytes).is_err() {
         // It hadn't failed.
@@ -101,6 +102,7 @@ fn handle_frames<W: Write, S: CheckpointStore, K: Keeper, C: Crew>(
     ensures bank { PreservesBank K.Keeps primary.old primary.new }
     ensures none_out { C.keeps ≡ false → HasNoneOut primary.old.node.board → HasNoneOut primary.new.node.board }
     ensures crew_lost { IfErr result (LosesCrew C.keeps primary.old.node.board) }
+    ensures log_lost { IfErr result (LosesLog K.fails) }
 {
     loop {
         match buffers.stream.next() {
@@ -134,6 +136,7 @@ fn handle_frame<W: Write, S: CheckpointStore, K: Keeper, C: Crew>(
     ensures bank { PreservesBank K.Keeps primary.old primary.new }
     ensures none_out { C.keeps ≡ false → HasNoneOut primary.old.node.board → HasNoneOut primary.new.node.board }
     ensures crew_lost { IfErr result (LosesCrew C.keeps primary.old.node.board) }
+    ensures log_lost { IfErr result (LosesLog K.fails) }
 {
     match frame {
         Frame::Ask {
@@ -195,6 +198,7 @@ fn send_outcomes<W: Write, S: CheckpointStore, K: Keeper, C: Crew>(
     ensures bank { PreservesBank K.Keeps primary.old primary.new }
     ensures none_out { C.keeps ≡ false → HasNoneOut primary.old.node.board → HasNoneOut primary.new.node.board }
     ensures crew_lost { IfErr result (LosesCrew C.keeps primary.old.node.board) }
+    ensures log_lost { IfErr result (LosesLog K.fails) }
 {
     primary.settle(crew)?;
     primary.keep()?;

@@ -1,8 +1,15 @@
-//! The law that ties the output to the sequencer's answers.
+//! The laws that tie the output to the sequencer's answers.
 ghost use Rattle.bank_server.specs.AskResults.{AnswersAreFinal};
+ghost use Rattle.bank_server.specs.Session.{ToldOutcomesStand};
 
 /// The sequencer's answer to an ask (a new number, a repeat, a mismatch or a full log) is its
 /// standing in the log for good, and so in the output, whatever is asked after it.
 pub fn answers_are_final()
     ensures { AnswersAreFinal }
+{}
+
+/// The outcome of an ask, once told, is its outcome over every longer log too: the reply to a
+/// number depends on the calls up to it alone.
+pub fn told_outcomes_stand()
+    ensures { ToldOutcomesStand }
 {}

@@ -36,7 +36,7 @@ pub use answers::{push_answers, push_output};
 pub use asking::{Standing, ask_lines};
 pub use fault::{InputFault, RunFault};
 pub use followers::{Followers, with_followers};
-pub use laws::answers_are_final;
+pub use laws::{answers_are_final, told_outcomes_stand};
 pub use log_number::LogNumber;
 pub use pending::PendingAsk;
 pub use prepared_input::{PreparedInput, prepare};

@@ -207,7 +207,7 @@ impl<S: CheckpointStore, K: Keeper> Primary<S, K> {
         ensures unchanged { self.new ≡ record self.old { keeper = self.new.keeper } }
         // What was kept stays kept, after a fault too.
         ensures bank { PreservesBank K.Keeps self.old self.new }
-        ensures fault { IfErr result IsLogFault }
+        ensures fault { IfErr result (IsLogFault K.fails) }
     {
         Ok(self.keeper.keep(&self.log)?)
     }

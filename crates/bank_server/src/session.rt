@@ -3,7 +3,7 @@ ghost use Rattle.std.specs.Prelude.{◌≡◌, [], false, IfErr, IfSome, OnOk};
 ghost use Rattle.cown_workers.specs.Draining.{HasNoneOut};
 ghost use Rattle.bank_server.specs.Primary.{HasWholeLog, PreservesBank, opening_rows_of};
 ghost use Rattle.bank_server.specs.inner.FlushFaults.{IsEndFault};
-ghost use Rattle.bank_server.specs.SessionFaults.{IsClientFault, LosesCrew};
+ghost use Rattle.bank_server.specs.SessionFaults.{IsClientFault, LosesCrew, LosesLog};
 ghost use Rattle.bank_server.specs.SessionResults.{ServesSession, ServesUntilFault};
 
 use crate::buffers::{SessionBuffers, handle_bytes};
@@ -64,6 +64,7 @@ pub fn serve_session<R: Read, W: Write, S: CheckpointStore, K: Keeper, C: Crew>(
     // A crew that keeps no job leaves none out, after a fault too.
     ensures none_out { C.keeps ≡ false → HasNoneOut primary.old.node.board → HasNoneOut primary.new.node.board }
     ensures crew_lost { IfErr result (LosesCrew C.keeps primary.old.node.board) }
+    ensures log_lost { IfErr result (LosesLog K.fails) }
 {
     let served = serve_frames(alloc, reader, writer, primary, crew);
     // What was numbered is kept, whatever ended the session.
@@ -88,6 +89,7 @@ fn serve_frames<R: Read, W: Write, S: CheckpointStore, K: Keeper, C: Crew>(
     ensures bank { PreservesBank K.Keeps primary.old primary.new }
     ensures none_out { C.keeps ≡ false → HasNoneOut primary.old.node.board → HasNoneOut primary.new.node.board }
     ensures crew_lost { IfErr result (LosesCrew C.keeps primary.old.node.board) }
+    ensures log_lost { IfErr result (LosesLog K.fails) }
 {
     primary.settle(crew)?;
     let mut buffers = SessionBuffers::new(alloc);
@@ -119,6 +121,7 @@ fn end<S: CheckpointStore, K: Keeper, C: Crew>(
     ensures bank { PreservesBank K.Keeps primary.old primary.new }
     ensures none_out { C.keeps ≡ false → HasNoneOut primary.old.node.board → HasNoneOut primary.new.node.board }
     ensures crew_lost { IfErr result (LosesCrew C.keeps primary.old.node.board) }
+    ensures log_lost { IfErr result (LosesLog K.fails) }
 {
     if !buffers.stream.ended() {
         return Err(SessionFault::Frame(FrameFault::Short));

@@ -1,15 +1,15 @@
 -- What is kept of a log.
-use Rattle.std.specs.Prelude.{◌≡◌, ℕ, Option, Some, None, List, ◌++◌}
+use Rattle.std.specs.Prelude.{◌≡◌, Bool, true, List, ◌++◌}
 use Rattle.sb_calls.specs.declared.ask.Key.{Key}
 use Rattle.sb_calls.specs.declared.call.Call.{Call}
 use Rattle.sb_log.specs.declared.log_fault.LogFault.{LogFault}
 use Rattle.sb_log.specs.declared.log_fault.LogFault.TheVariants.{Device, OutOfMemory}
 
--- the device failed, or memory was refused
-abbrev pub IsKeepFault : LogFault → Type 0
-IsKeepFault Device = Unit {0}
-IsKeepFault OutOfMemory = Unit {0}
-IsKeepFault other = ⊥
+-- keeping may fail, and the device failed, or memory was refused
+abbrev pub IsKeepFault : Bool → LogFault → Type 0
+IsKeepFault fails Device = fails ≡ true
+IsKeepFault fails OutOfMemory = fails ≡ true
+IsKeepFault fails other = ⊥
 
 module _ {K : Type 0} (keeps : K → List (Key × Call) → Type 0) where
   -- a beginning of the log is kept
@@ -23,13 +23,3 @@ module _ {K : Type 0} (keeps : K → List (Key × Call) → Type 0) where
   KeepsOn old old_log new new_log = (kept rest : List (Key × Call)) → keeps old kept → old_log ≡ kept ++ rest
       → (more : List (Key × Call)) × keeps new (kept ++ more) × (behind : List (Key × Call))
       × (new_log ≡ (kept ++ more) ++ behind)
-
-  -- a keeper that there may be keeps these asks; without one nothing is promised
-  abbrev pub kept_by : Option K → List (Key × Call) → Type 0
-  kept_by None asks = Unit {0}
-  kept_by (Some keeper) asks = keeps keeper asks
-
--- the opening of a keeper that there may be
-abbrev pub opening_by : {K : Type 0} → (K → Option (List ℕ)) → Option K → Option (List ℕ)
-opening_by opening None = None
-opening_by opening (Some keeper) = opening keeper

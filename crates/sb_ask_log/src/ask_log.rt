@@ -59,7 +59,7 @@ impl<F: LogFile> AskLog<F> {
         ensures keeps { IfOk result (λ log. KeepsAsks F.IsHonest F.content F.synced log []) }
         ensures text { IfOk result (λ log. log.text ≡ text.now) }
         ensures honest { IfOk result (λ log. F.IsHonest file ↔ F.IsHonest log.log.file) }
-        ensures fault { IfErr result IsKeepFault }
+        ensures fault { IfErr result (IsKeepFault true) }
     {
         let text = Vec::from_slice(alloc, text)?;
         let mut batch = Vec::from_slice(alloc, &[0; HEAD])?;
@@ -124,7 +124,7 @@ impl<F: LogFile> AskLog<F> {
         ensures stays { (asks : List (AnyKey × AnyCall)) → KeepsAsks F.IsHonest F.content F.synced self.old asks
             → OnErr result (KeepsAsks F.IsHonest F.content F.synced self.new asks) }
         ensures text { self.new.text ≡ self.old.text }
-        ensures fault { IfErr result IsKeepFault }
+        ensures fault { IfErr result (IsKeepFault true) }
     {
         let length = log.length();
         if self.saved == length {
@@ -162,6 +162,8 @@ impl<F: LogFile> Keeper for AskLog<F> {
     ghost Keeps = { KeepsAsks F.IsHonest F.content F.synced };
 
     ghost opening = { λ log. Some log.text };
+
+    ghost fails = { true };
 
     fn keep(&mut self, log: &Sequencer) -> Result<(), LogFault> {
         self.save_rest(log)

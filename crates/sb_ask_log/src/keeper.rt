@@ -1,9 +1,9 @@
 //! Who keeps a log.
-ghost use Rattle.std.specs.Prelude.{◌≡◌, List, ℕ, Option, None, OnOk, IfErr};
+ghost use Rattle.std.specs.Prelude.{◌≡◌, Bool, List, ℕ, Option, None, false, OnOk, IfErr};
 ghost use Rattle.std.specs.Option.{option_map};
 ghost use Rattle.sb_calls.specs.declared.ask.Key.{Key as AnyKey};
 ghost use Rattle.sb_calls.specs.declared.call.Call.{Call as AnyCall};
-ghost use Rattle.sb_ask_log.specs.Keeping.{IsKeepFault, KeepsBeginning, KeepsOn, kept_by, opening_by};
+ghost use Rattle.sb_ask_log.specs.Keeping.{IsKeepFault, KeepsBeginning, KeepsOn};
 ghost use Rattle.sb_ask_log.specs.LogFile.{log_digest};
 
 use sb_log::LogFault;
@@ -17,6 +17,9 @@ pub trait Keeper: Drop {
     /// The opening text of the file in which it keeps them, if there is one.
     ghost opening: { Self → Option (List ℕ) };
 
+    /// Whether keeping may fail.
+    ghost fails: { Bool };
+
     /// Keeps a whole log, of which it keeps a beginning.
     ///
     /// Fails with
@@ -28,7 +31,7 @@ pub trait Keeper: Drop {
         // What was kept stays kept, after a fault too.
         ensures stays { KeepsOn Keeps self.old log.now.log self.new log.now.log }
         ensures opening { opening self.new ≡ opening self.old }
-        ensures fault { IfErr result IsKeepFault };
+        ensures fault { IfErr result (IsKeepFault fails) };
 
     /// The digest of the log that it keeps, if it keeps one in a file.
     fn digest(&self) -> Option<[u8; 32]>
@@ -45,32 +48,13 @@ impl Keeper for NoKeeper {
 
     ghost opening = { λ keeper. None };
 
+    ghost fails = { false };
+
     fn keep(&mut self, _log: &Sequencer) -> Result<(), LogFault> {
         Ok(())
     }
 
     fn digest(&self) -> Option<[u8; 32]> {
         None
-    }
-}
-
-// Without a keeper nothing is kept, and nothing promised.
-impl<K: Keeper> Keeper for Option<K> {
-    ghost Keeps = { λ keeper asks. kept_by K.Keeps keeper asks };
-
-    ghost opening = { λ keeper. opening_by K.opening keeper };
-
-    fn keep(&mut self, log: &Sequencer) -> Result<(), LogFault> {
-        match self {
-            Some(keeper) => keeper.keep(log),
-            None => Ok(()),
-        }
-    }
-
-    fn digest(&self) -> Option<[u8; 32]> {
-        match self {
-            Some(keeper) => keeper.digest(),
-            None => None,
-        }
     }
 }

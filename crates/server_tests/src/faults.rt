@@ -3,6 +3,7 @@ use crate::bank::{expect, expect_bytes};
 use bank_server::{InputFault, RunFault, SaveFault, SessionFault};
 use sb_calls::CallFault;
 use sb_frames::FrameFault;
+use sb_log::LogFault;
 use std::alloc::Global;
 use std::fmt;
 use std::process::Abort;
@@ -36,6 +37,13 @@ const OF_SESSIONS: &[(SessionFault, &str)] = &[
     (SessionFault::CrewGone, "crew gone"),
     (SessionFault::Device, "device"),
     (SessionFault::OutOfMemory, "out of memory"),
+    (
+        SessionFault::Log(LogFault::Damaged {
+            byte: 105,
+            behind: 82,
+        }),
+        "the log can't be kept: damaged at byte 105",
+    ),
 ];
 
 #[test]
@@ -47,7 +55,7 @@ fn faults_of_sessions(rt: HostRuntime) {
     expect(&rt, first.number() == 1, "the first number");
     expect(
         &rt,
-        SessionFault::OutOfMemory.number() == 5,
+        SessionFault::Log(LogFault::Device).number() == 6,
         "the last number",
     );
 }

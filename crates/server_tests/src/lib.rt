@@ -15,6 +15,8 @@ mod followers;
 #[cfg(test)]
 mod gates;
 #[cfg(test)]
+mod keepers;
+#[cfg(test)]
 mod limits;
 #[cfg(test)]
 mod nodes;

@@ -1,4 +1,4 @@
-use Rattle.std.proofs.Common.{◌≡◌, List, refl, sym, subst}
+use Rattle.std.proofs.Common.{refl, sym, subst}
 use Rattle.sb_replica.specs.Replica.{ReplicaOf}
 use Rattle.sb_sequencer.specs.Sequencer.{SequencerOf}
 use Rattle.sb_sequencer.specs.Numbering.{IsLog}

@@ -1,0 +1,141 @@
+//! Sessions whose log is kept, and keepers that fail.
+use crate::bank::{OPENING, expect, expect_bytes, joined};
+use crate::wire::{BALANCE, DEPOSIT, DONE, ENTRY, FLUSH, SHOWN};
+use bank_server::{Primary, SessionFault, serve_session};
+use cown_workers::InlineCrew;
+use sb_ask_log::Keeper;
+use sb_calls::read_call;
+use sb_checkpoint::MemoryStore;
+use sb_log::LogFault;
+use sb_rows::read_opening;
+use sb_sequencer::Sequencer;
+use std::alloc::Global;
+use std::process::Abort;
+
+// A keeper that fails once it has kept this many logs. It promises nothing, and knows how long the
+// last log was.
+#[derive(Drop)]
+struct CountingKeeper {
+    left: u32,
+    kept: u64,
+}
+
+impl Keeper for CountingKeeper {
+    ghost Keeps = { λ keeper asks. Unit {0} };
+
+    fn keep(&mut self, log: &Sequencer) -> Result<(), LogFault> {
+        if self.left == 0 {
+            return Err(LogFault::Device);
+        }
+        self.left -= 1;
+        self.kept = log.length();
+        Ok(())
+    }
+}
+
+// The bank on a log of these asks, with a keeper that fails once it has kept this many logs.
+fn kept_bank(
+    rt: &impl Abort,
+    alloc: Global,
+    calls: &[&str],
+    left: u32,
+) -> Primary<MemoryStore, CountingKeeper> {
+    let mut log = Box::new(alloc, Sequencer::open(alloc, 1)).expect(rt, "memory for a log");
+    let mut request = 0u32;
+    for line in calls {
+        request = request.saturating_add(1);
+        let call = read_call(line.as_bytes()).expect(rt, "a call");
+        log.ask(7, request, &call).expect(rt, "a number");
+    }
+    let opening = read_opening(alloc, OPENING).expect(rt, "an opening");
+    let keeper = CountingKeeper { left, kept: 0 };
+    Primary::on_log(alloc, opening, MemoryStore::new(alloc), log, keeper).expect(rt, "a bank")
+}
+
+// A session over a log that is kept so many times: what is sent, how it ends, what is told, and how
+// much of the log was kept last.
+#[derive(Clone, Copy)]
+struct KeptSession<'a> {
+    left: u32,
+    sent: &'a [&'a [u8]],
+    ends: Result<(), SessionFault>,
+    told: &'a [&'a [u8]],
+    kept: u64,
+}
+
+fn expect_kept(rt: &impl Abort, alloc: Global, session: &KeptSession) {
+    let mut primary = kept_bank(rt, alloc, &[], session.left);
+    let sent = joined(rt, alloc, session.sent);
+    let told = joined(rt, alloc, session.told);
+    let mut reader = sent.as_slice();
+    let mut written: Vec<u8> = Vec::new(alloc);
+    let ended = serve_session(
+        alloc,
+        &mut reader,
+        &mut written,
+        &mut primary,
+        &mut InlineCrew,
+    );
+    expect(rt, ended == session.ends, "how the session ends");
+    expect_bytes(rt, &written, &told, "what the client is told");
+    expect(rt, primary.keeper().kept == session.kept, "what is kept");
+}
+
+const UNKEPT: Result<(), SessionFault> = Err(SessionFault::Log(LogFault::Device));
+
+#[test]
+fn a_log_is_kept_before_its_outcomes_are_told(rt: HostRuntime) {
+    let sent: &[&[u8]] = &[BALANCE, FLUSH, DEPOSIT, FLUSH];
+    for (left, ends, told, kept) in [
+        (9, Ok(()), [SHOWN, DONE], 2),
+        (2, UNKEPT, [SHOWN, DONE], 2),
+        (1, UNKEPT, [SHOWN, b"".as_slice()], 1),
+        (0, UNKEPT, [b"".as_slice(), b"".as_slice()], 0),
+    ] {
+        let told = told.as_slice();
+        let session = KeptSession {
+            left,
+            sent,
+            ends,
+            told,
+            kept,
+        };
+        expect_kept(&rt, rt.alloc(), &session);
+    }
+}
+
+#[test]
+fn asks_before_a_fault_of_the_client_are_kept(rt: HostRuntime) {
+    for (left, ends, kept) in [(1, Err(SessionFault::Unexpected), 2), (0, UNKEPT, 0)] {
+        let sent: &[&[u8]] = &[BALANCE, DEPOSIT, ENTRY];
+        let session = KeptSession {
+            left,
+            sent,
+            ends,
+            told: &[],
+            kept,
+        };
+        expect_kept(&rt, rt.alloc(), &session);
+    }
+}
+
+#[test]
+fn a_bank_goes_on_from_its_log(rt: HostRuntime) {
+    let alloc = rt.alloc();
+    let calls = &["balance alice", "deposit bob 5.00"];
+    let mut primary = kept_bank(&rt, alloc, calls, 9);
+    let sent = joined(&rt, alloc, &[BALANCE, DEPOSIT, FLUSH]);
+    let told = joined(&rt, alloc, &[SHOWN, DONE]);
+    let mut reader = sent.as_slice();
+    let mut written: Vec<u8> = Vec::new(alloc);
+    let ended = serve_session(
+        alloc,
+        &mut reader,
+        &mut written,
+        &mut primary,
+        &mut InlineCrew,
+    );
+    expect(&rt, ended == Ok(()), "how the session ends");
+    expect_bytes(&rt, &written, &told, "what the client is told");
+    expect(&rt, primary.log().length() == 2, "the log");
+}
