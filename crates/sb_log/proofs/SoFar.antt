@@ -9,7 +9,7 @@ use Rattle.sb_log.specs.LogCalls.{IsRefusalAt, ReadsLog}
 use Rattle.sb_log.specs.Reading.{Reads}
 use Rattle.sb_log.specs.Front.{HasNoRecord}
 use Rattle.sb_log.specs.Records.{IsBody, joined, record_after, records}
-use Rattle.sb_log.specs.Replaying.{ReplaysAll}
+use Rattle.sb_log.specs.Replaying.{HoldsReplayed, ReplaysAll}
 use Rattle.sb_log.specs.declared.log_fault.LogFault.{LogFault}
 use Rattle.sb_log.specs.declared.log_fault.LogFault.TheVariants.{Damaged, Device, InUse, OutOfMemory}
 use Rattle.sb_log.proofs.Records.{joined_push, records_push}
@@ -35,7 +35,7 @@ none_read replays content old hasher holds = record {
   replayed = refl;
 }
 
-replays_push : {T : Type 0} (replays : T → List ℕ → T → Type 0) (old mid new : T) (bodies : List (List ℕ)) (body : List ℕ)
+pub replays_push : {T : Type 0} (replays : T → List ℕ → T → Type 0) (old mid new : T) (bodies : List (List ℕ)) (body : List ℕ)
     → ReplaysAll replays old bodies mid → replays mid body new → ReplaysAll replays old (bodies ++ body ∷ []) new
 replays_push replays old mid new [] body all last = (new, subst (λ m. replays m body new) all last, refl)
 replays_push replays old mid new (first ∷ bodies) body all last =
@@ -101,3 +101,13 @@ told_nothing replays refuses content old new Device known = tt
 told_nothing replays refuses content old new OutOfMemory known = tt
 told_nothing replays refuses content old new (Damaged byte behind) known = elim known [ inl e ↦ absurd (cc) | inr e ↦ absurd (cc) ]
 told_nothing replays refuses content old new InUse known = elim known [ inl e ↦ absurd (cc) | inr e ↦ absurd (cc) ]
+
+-- whatever the file holds: one more body is replayed
+pub holds_one_more : {T : Type 0} (replays : T → List ℕ → T → Type 0) (old mid new : T) (before after : Sha256) (body : List ℕ)
+    → (held : HoldsReplayed replays old before mid) → Holds256 after (joined held.bodies ++ body) → replays mid body new
+    → HoldsReplayed replays old after new
+holds_one_more replays old mid new before after body held holds last = record {
+  bodies = held.bodies ++ body ∷ [];
+  replayed = replays_push replays old mid new held.bodies body held.replayed last;
+  holds = subst (λ (l : List ℕ). Holds256 after l) (sym (joined_push held.bodies body)) holds;
+}

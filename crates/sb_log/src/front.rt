@@ -2,7 +2,7 @@
 ghost use Rattle.std.specs.Prelude.{◌≡◌, ◌⊎◌, ◌+◌, ◌<◌, ◌≤◌, ◌^◌, ◌↔◌, ℕ, List, drop, length, IfOk, IsErrOf, IsTrue, IfErr};
 ghost use Rattle.std.specs.List.{All};
 ghost use Rattle.sha2.specs.Hashers.{Holds256};
-ghost use Rattle.sb_log.specs.Front.{IsFront};
+ghost use Rattle.sb_log.specs.Front.{HashesFront, IsFront};
 ghost use Rattle.sb_log.specs.LogFiles.{HasFailed};
 ghost use Rattle.sb_log.specs.declared.front.Front.TheVariants.{Record};
 ghost use Rattle.sb_log.specs.declared.log_fault.LogFault.TheVariants.{Device, OutOfMemory};
@@ -43,6 +43,9 @@ pub(crate) fn read_front<F: LogFile>(
     ensures synced { F.IsHonest file.old → F.synced file.new ≡ F.synced file.old }
     ensures front { F.IsHonest file.old → (before : List ℕ) → Holds256 hasher.old before
         → IfOk result (λ front. IsFront before (drop at (F.content file.old)) front buffer.new.items hasher.new) }
+    // Whatever the file holds, the digest goes on by what was read of it.
+    ensures hasher { (before : List ℕ) → Holds256 hasher.old before
+        → IfOk result (λ front. HashesFront before front buffer.new.items hasher.new) }
     ensures size { IfOk result (λ front. front ≡ Record
         → (HEAD ≤ length buffer.new.items) × (length buffer.new.items < HEAD + 2 ^ 32)) }
     ensures fault { IfErr result (λ fault. (fault ≡ Device) ⊎ (fault ≡ OutOfMemory)) }

@@ -1,7 +1,8 @@
 //! Reading a log.
-ghost use Rattle.std.specs.Prelude.{◌≡◌, ◌<◌, ◌≤◌, ◌^◌, ◌↔◌, drop, length, IfErr, IsErrOf, OnOk};
+ghost use Rattle.std.specs.Prelude.{◌≡◌, ◌<◌, ◌≤◌, ◌^◌, ◌↔◌, drop, length, IfErr, IfOk, IsErrOf, OnOk};
 ghost use Rattle.sb_log.specs.LogCalls.{IsRefusalAt, ReadsLog};
 ghost use Rattle.sb_log.specs.LogFiles.{HasFailed};
+ghost use Rattle.sb_log.specs.Replaying.{HoldsReplayed};
 ghost use Rattle.sb_log.specs.declared.log_fault.LogFault.TheVariants.{Device};
 
 use crate::front::{Front, count_rest, read_front};
@@ -36,6 +37,8 @@ pub fn read_log<F: LogFile, T: Replay>(
     ensures synced { F.IsHonest file.old → F.synced file.new ≡ F.synced file.old }
     ensures read { F.IsHonest file.old
         → ReadsLog T.Replays T.Refuses (F.content file.old) replay.old result replay.new }
+    // Whatever the file holds, the hasher holds what was replayed.
+    ensures replayed { IfOk result (λ end. HoldsReplayed T.Replays replay.old end.hasher replay.new) }
     ensures device { IsErrOf result Device
         → HasFailed (F.has_failed file.new) (F.IsHonest file.old) (F.content file.old) }
 {

@@ -1,7 +1,8 @@
 //! Recovering a log.
-ghost use Rattle.std.specs.Prelude.{◌≡◌, ◌⊎◌, ◌≤◌, ◌↔◌, ℕ, List, length, OnOk, OnErr, IfErr, IsErrOf};
+ghost use Rattle.std.specs.Prelude.{◌≡◌, ◌⊎◌, ◌≤◌, ◌↔◌, ℕ, List, length, OnOk, OnErr, IfErr, IfOk, IsErrOf};
 ghost use Rattle.sb_log.specs.Lives.{Life};
 ghost use Rattle.sb_log.specs.LogCalls.{IsFileOf, Recovers};
+ghost use Rattle.sb_log.specs.Replaying.{HoldsReplayed};
 ghost use Rattle.sb_log.specs.LogFiles.{HasFailed, IsCut};
 ghost use Rattle.sb_log.specs.declared.log_fault.LogFault.TheVariants.{Device, OutOfMemory};
 
@@ -35,6 +36,8 @@ pub fn recover<F: LogFile, T: Replay>(
     ensures life { F.IsHonest file.old → (l : Life) → IsFileOf (F.content file.old) (F.synced file.old) l
         → (m : Life) × Recovers T.Replays T.Refuses l replay.old result replay.new m
         × IsFileOf (F.content file.new) (F.synced file.new) m }
+    // Whatever the file holds, the hasher holds what was replayed.
+    ensures replayed { IfOk result (λ end. HoldsReplayed T.Replays replay.old end.hasher replay.new) }
     ensures device { IsErrOf result Device
         → HasFailed (F.has_failed file.new) (F.IsHonest file.old) (F.content file.old) }
 {

@@ -107,7 +107,7 @@ returns-then-not-are_same-clause-front g c honest before holds =
     c.digest_of-digest.ensures (before ++ drop 40 c.deref-2.result.now) longer ∙ ap (λ (l : List ℕ). sha256 (before ++ drop 40 l)) c.deref-2.ensures.value in
     let bad = bad_digest before rest read size bytes long (omega arith) begins
     (λ same.
-        true≢false (sym (c.are_same.ensures.1 (ap (λ (l : List ℕ). take 32 (drop 8 l)) c.deref-3.ensures.value ∙ same ∙ sym digest)) ∙ c.if-not-are_same.true)) in
+    true≢false (sym (c.are_same.ensures.1 (ap (λ (l : List ℕ). take 32 (drop 8 l)) c.deref-3.ensures.value ∙ same ∙ sym digest)) ∙ c.if-not-are_same.true)) in
     let same : drop c.args.at (g.F.LogFile.content c.read_at-2.new.self) ≡ rest =
     ap (drop c.args.at) (c.read_at-2.ensures.content (c.read_at.ensures.honest.0 honest) ∙ c.read_at.ensures.content honest) in
     let there = c.read_at-2.ensures.honest.0 (c.read_at.ensures.honest.0 honest) in
@@ -137,3 +137,8 @@ returns-clause-front g c honest before holds =
     let found = whole before rest read size bytes long (omega arith) begins
     (ap (λ (l : List ℕ). take 32 (drop 8 l)) (sym c.deref-3.ensures.value) ∙ c.are_same.ensures.0 c.if-not-are_same.false ∙ digest) in
     (drop 40 read, drop (40 + size) rest, found.0, found.1, found.2, subst (λ (l : List ℕ). Holds256 c.with_body-longer.result (before ++ drop 40 l)) c.deref-2.ensures.value longer)
+
+pub returns-clause-hasher : goal.returns-clause-hasher
+returns-clause-hasher g c before holds =
+    let longer = longer_holds c.deref-2.result.now c.with_body-longer.result before (c.with_body-longer.ensures before holds) in
+    subst (λ (l : List ℕ). Holds256 c.with_body-longer.result (before ++ drop 40 l)) c.deref-2.ensures.value longer

@@ -1,5 +1,5 @@
 use Rattle.std.proofs.Common.{◌≡◌, ◌+◌, ℕ, List, drop, length, sym, inl, ap, subst, ◌∙◌, arith, rules, Result, Err}
-use Rattle.sb_log.specs.Front.{HasNoRecord, IsFront}
+use Rattle.sb_log.specs.Front.{HashesFront, HasNoRecord, IsFront}
 use Rattle.sb_log.specs.Reading.{IsTorn}
 use Rattle.sb_log.specs.LogCalls.{IsRefusalAt, ReadsLog}
 use Rattle.sb_log.specs.declared.front.Front.{Front}
@@ -8,7 +8,7 @@ use Rattle.sb_log.specs.declared.log_fault.LogFault.{LogFault}
 use Rattle.sb_log.specs.Records.{joined}
 use Rattle.sb_log.proofs.Failures.{err_is, failed_before}
 use Rattle.sb_log.proofs.Fronts.{body_in}
-use Rattle.sb_log.proofs.SoFar.{ReadSoFar, one_read, reads_all, refused}
+use Rattle.sb_log.proofs.SoFar.{ReadSoFar, holds_one_more, one_read, reads_all, refused}
 use Rattle.sb_log.proofs.reading.read_log.Goals as goal
 
 pub returns-in_err-read_front-clause-device : goal.returns-in_err-read_front-clause-device
@@ -85,6 +85,11 @@ loop-preserved g c =
           c.replay_record.ensures.synced (c.read_front.ensures.honest.0 here) ∙ c.read_front.ensures.synced here ∙ c.loop.invariant.synced h;
       counter = omega (arith, size.0, len, c.loop.invariant.counter);
       bound = omega (arith, size.1, len, c.loop.invariant.bound);
+      replays = holds_one_more g.T.Replay.Replays c.args.replay.now c.loop.replay c.replay_record.new.replay c.loop.hasher c.read_front.new.hasher
+          (drop 40 c.read_front.new.buffer.items) c.loop.invariant.replays
+          (subst (λ (f : Front). HashesFront (joined c.loop.invariant.replays.bodies) f c.read_front.new.buffer.items c.read_front.new.hasher) c.in-Record.is
+          (c.in_ok-read_front.ensures.hasher (joined c.loop.invariant.replays.bodies) c.loop.invariant.replays.holds))
+          c.in_ok-replay_record-in-Record.ensures.replayed;
       so_far = λ honest.
           let content = g.F.LogFile.content c.args.file.now in
           let here = c.loop.invariant.honest.0 honest in

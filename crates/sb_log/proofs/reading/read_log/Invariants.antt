@@ -1,4 +1,5 @@
 use Rattle.std.proofs.Common.{◌≡◌, ◌≤◌, ◌*◌, ◌↔◌}
+use Rattle.sb_log.specs.Replaying.{HoldsReplayed}
 use Rattle.sb_log.proofs.SoFar.{ReadSoFar}
 use Rattle.sb_log.proofs.reading.read_log.Given as goal
 
@@ -9,6 +10,7 @@ invariant-loop g l = record {
   synced : g.F.LogFile.IsHonest l.fn.file → g.F.LogFile.synced l.file ≡ g.F.LogFile.synced l.fn.file;
   counter : l.counter ≤ l.records;
   bound : l.records ≤ l.counter * 4294967336;
+  replays : HoldsReplayed g.T.Replay.Replays l.fn.replay l.hasher l.replay;
   so_far : g.F.LogFile.IsHonest l.fn.file
       → ReadSoFar g.T.Replay.Replays (g.F.LogFile.content l.fn.file) l.fn.replay l.records l.hasher l.replay;
 }
