@@ -1,0 +1,3 @@
+mod Lives
+mod Readings
+mod Records
