@@ -1,1 +1,5 @@
 pub mod Keeping
+pub mod Fields
+pub mod Bodies
+pub mod Numbers
+pub mod Taking
