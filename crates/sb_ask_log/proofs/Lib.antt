@@ -3,3 +3,4 @@ pub mod Fields
 pub mod Bodies
 pub mod Numbers
 pub mod Taking
+pub mod Openings
