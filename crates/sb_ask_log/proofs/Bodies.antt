@@ -68,7 +68,7 @@ batch_more bodies text log more are some valid is = record {
 }
 
 -- the first body says the text
-text_of : (text other : List ℕ) (xs ys : List (List ℕ)) → (magic ++ text) ∷ xs ≡ (magic ++ other) ∷ ys → (text ≡ other) × (xs ≡ ys)
+pub text_of : (text other : List ℕ) (xs ys : List (List ℕ)) → (magic ++ text) ∷ xs ≡ (magic ++ other) ∷ ys → (text ≡ other) × (xs ≡ ys)
 text_of text other xs ys e =
     let first : magic ++ text ≡ magic ++ other = cc in
     (append_cancel_left magic text other first, cc)
@@ -86,3 +86,10 @@ bodies_begin front all text other log longer are these begins =
     ∙ ap (λ (l : List ℕ). l ++ rest) (joined_fields are.batches ∙ ap asks_field (sym are.log_is.log_is)) in
     let more = fields_begin log longer rest are.log_is.valid these.log_is.valid parted in
     (same.0, (more.0, more.1))
+
+-- one more batch of a log's bytes
+pub log_bytes_more : (text : List ℕ) (log more : List (Key × Call)) → log_bytes text (log ++ more) ≡ log_bytes text log ++ asks_field more
+log_bytes_more text log more =
+    ap (λ (l : List ℕ). magic ++ (text ++ l)) (flat_map-append (λ (ask : Key × Call). spelling (frame_of ask)) log more)
+    ∙ ap (λ (l : List ℕ). magic ++ l) (sym (append_assoc text (asks_field log) (asks_field more)))
+    ∙ sym (append_assoc magic (text ++ asks_field log) (asks_field more))

@@ -4,3 +4,5 @@ pub mod Bodies
 pub mod Numbers
 pub mod Taking
 pub mod Openings
+pub mod Saving
+pub mod Replays
