@@ -6,3 +6,4 @@ pub mod Taking
 pub mod Openings
 pub mod Saving
 pub mod Replays
+pub mod Recovering

@@ -1,13 +1,14 @@
 -- How the bodies of a file are taken again.
-use Rattle.std.proofs.Common.{◌≡◌, ◌≢◌, ℕ, List, [], ◌∷◌, ◌++◌, Result, Ok, Err, map, refl, sym, ap, subst, ◌∙◌, inl, inr, ⊎_elim, append_assoc, append-nil}
+use Rattle.std.proofs.Common.{◌≡◌, ◌≢◌, ℕ, List, [], ◌∷◌, ◌++◌, Result, Ok, Err, length, map, refl, sym, ap, subst, ◌∙◌, inl, inr, ⊎_elim, append_assoc, append-nil}
 use Rattle.std.specs.Prelude.{MatchResult}
 use Rattle.std.specs.List.{All, flat_map}
-use Rattle.std.proofs.lemmas.List.{append_cancel_left, map-append}
+use Rattle.std.proofs.lemmas.List.{drop_at, take_at}
 use Rattle.std.proofs.lemmas.List.Concat.{flat_map-append}
-use Rattle.std.proofs.lemmas.List.Elements.{All-head, All-tail}
+use Rattle.std.proofs.lemmas.List.Elements.{All-drop, All-head, All-take}
 use Rattle.sb_calls.specs.declared.ask.Key.{Key}
 use Rattle.sb_calls.specs.declared.call.Call.{Call}
 use Rattle.sb_sequencer.specs.Numbering.{IsLog}
+use Rattle.sb_log.specs.Records.{joined}
 use Rattle.sb_log.specs.Replaying.{IsReplayFault, ReplaysAll}
 use Rattle.sb_log.specs.declared.replay.ReplayFault.{ReplayFault}
 use Rattle.sb_log.specs.declared.replay.ReplayFault.TheVariants.{OutOfMemory, Refused}
@@ -94,3 +95,45 @@ split (body ∷ front) last (batch ∷ batches) e =
       front_is = ap (λ (b : List ℕ). b ∷ map asks_field inner.first) here ∙ ap (λ (l : List (List ℕ)). body ∷ l) inner.front_is;
       last_is = inner.last_is;
     }
+
+-- the parts of asks that are valid
+front_valid : (front behind : List (Key × Call)) → All IsAsk (front ++ behind) → All IsAsk front
+front_valid front behind valid =
+    subst (All IsAsk) (take_at front behind (length front) refl) (All-take IsAsk (length front) (front ++ behind) valid)
+
+behind_valid : (front behind : List (Key × Call)) → All IsAsk (front ++ behind) → All IsAsk behind
+behind_valid front behind valid =
+    subst (All IsAsk) (drop_at front behind (length front) refl) (All-drop IsAsk (length front) (front ++ behind) valid)
+
+-- no log has these bodies and one that is refused
+pub no_longer_log : (bodies : List (List ℕ)) (mid : AskReplayOf) (body : List ℕ) → AreRead bodies mid.text mid.log → RefusesBody mid body
+    → (text : List ℕ) (longer : List (Key × Call)) → AreRead (bodies ++ body ∷ []) text longer → ⊥
+no_longer_log [] mid body read refuses text longer are =
+    let same : body ≡ magic ++ text = cc (are.bodies_are) in
+    refuses (record { text = text; log = mid.log }) (inl (record { first = read.0; body_is = same; opening = are.opening; log_is = refl }))
+no_longer_log (b ∷ bs) mid body read refuses text longer are =
+    let same = text_of text mid.text (map asks_field are.batches) (map asks_field read.batches ++ body ∷ [])
+    (sym are.bodies_are ∙ ap (λ (l : List (List ℕ)). l ++ body ∷ []) read.bodies_are) in
+    let s = split (map asks_field read.batches) body are.batches same.1 in
+    let parts : longer ≡ all_of s.first ++ s.batch =
+    are.log_is.log_is ∙ ap all_of s.batches_are ∙ flat_map-append (λ (batch : List (Key × Call)). batch) s.first (s.batch ∷ [])
+    ∙ ap (λ (l : List (Key × Call)). all_of s.first ++ l) (append-nil s.batch) in
+    let valid : All IsAsk (all_of s.first ++ s.batch) = subst (All IsAsk) parts are.log_is.valid in
+    let field : asks_field (all_of s.first) ≡ asks_field mid.log =
+    sym (joined_fields s.first) ∙ ap joined s.front_is ∙ joined_fields read.batches ∙ ap asks_field (sym read.log_is.log_is) in
+    let front : all_of s.first ≡ mid.log =
+    same_fields mid.log (all_of s.first) read.log_is.valid (front_valid (all_of s.first) s.batch valid) field in
+    let Some : List (Key × Call) → Type 0 = λ batch. batch ≢ [] in
+    let some : All Some (s.batch ∷ []) =
+    subst (All Some) (drop_at s.first (s.batch ∷ []) (length s.first) refl)
+    (All-drop Some (length s.first) (s.first ++ s.batch ∷ []) (subst (All Some) s.batches_are are.log_is.some)) in
+    refuses (record { text = mid.text; log = longer }) (inr (record {
+      opened = opening_filled mid.text read.opening;
+      text_is = refl;
+      batch = s.batch;
+      some = All-head Some s.batch [] some;
+      valid = behind_valid (all_of s.first) s.batch valid;
+      body_is = sym s.last_is;
+      log_is = parts ∙ ap (λ (l : List (Key × Call)). l ++ s.batch) front;
+      one_each = are.log_is.one_each;
+    }))
