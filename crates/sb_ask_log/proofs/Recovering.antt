@@ -159,3 +159,17 @@ recovers_what_it_told content synced failed hasher text told tells kept read_tex
     (subst (λ (c : List ℕ). Reads c reads.bodies rest) left reads.reads) in
     bodies_begin l.told reads.bodies text read_text told read tells.told_are
     (read_behind l.told reads.bodies text read_text told read tells.told_are begins.0 reads.are) begins.0
+
+-- ---- the same, by what the code knows of the values
+
+pub read_at : (content : List ℕ) (old mid new : AskReplayOf) (result : Result LogEnd LogFault) → old ≡ nothing_taken → new ≡ mid
+    → ReadsLog TakesBody RefusesBody content old result mid → ReadsLog TakesBody RefusesBody content nothing_taken result new
+read_at content old mid new result before after r =
+    subst (λ (it : AskReplayOf). ReadsLog TakesBody RefusesBody content nothing_taken result it) (sym after)
+    (subst (λ (it : AskReplayOf). ReadsLog TakesBody RefusesBody content it result mid) before r)
+
+pub recovered_at : (l m : Life) (old mid new : AskReplayOf) (result : Result LogEnd LogFault) → old ≡ nothing_taken → new ≡ mid
+    → Recovers TakesBody RefusesBody l old result mid m → Recovers TakesBody RefusesBody l nothing_taken result new m
+recovered_at l m old mid new result before after r =
+    subst (λ (it : AskReplayOf). Recovers TakesBody RefusesBody l nothing_taken result it m) (sym after)
+    (subst (λ (it : AskReplayOf). Recovers TakesBody RefusesBody l it result mid m) before r)
