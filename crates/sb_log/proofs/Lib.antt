@@ -1,3 +1,9 @@
+mod Counts
+mod Failures
+mod Fields
+mod Fronts
 mod Lives
 mod Readings
 mod Records
+mod Recoveries
+mod SoFar

@@ -1,8 +1,8 @@
 -- What holds in a log's life.
-use Rattle.std.proofs.Common.{◌≡◌, ℕ, ◌+◌, ◌-◌, ◌≤◌, max, min, Bool, true, false, List, [], ◌∷◌, ◌++◌, length, take, drop, refl, sym, ap, subst, ◌∙◌, arith, rules, true≢false, append_assoc, length-append, length-take, inl, inr}
+use Rattle.std.proofs.Common.{◌≡◌, ℕ, ◌-◌, ◌≤◌, max, min, true, false, List, [], ◌∷◌, ◌++◌, length, take, drop, refl, sym, ap, subst, ◌∙◌, arith, rules, append_assoc, length-append}
 use Rattle.std.specs.List.{All}
 use Rattle.std.proofs.Math.Seq.{take-append-add}
-use Rattle.std.proofs.lemmas.List.{append-nil, nil_from_length, take_at, take-append-drop}
+use Rattle.std.proofs.lemmas.List.{append-nil, take_at, take-append-drop}
 use Rattle.std.proofs.lemmas.List.Elements.{All-head, All-nil, All-push, All-take}
 use Rattle.sb_log.specs.Lives.{Event, Append, AppendFails, Sync, SyncFails, Crash, Cut, ReadBack, Life, newborn, Happens, HappensAll, KeepsWhatItTold, TellsForGood}
 use Rattle.sb_log.specs.Reading.{Begins, IsTorn, Reads}

@@ -1,11 +1,11 @@
 -- What is read of a beginning of a log.
-use Rattle.std.proofs.Common.{◌≡◌, ◌≢◌, ℕ, ◌+◌, ◌<◌, ◌≤◌, ◌^◌, List, [], ◌∷◌, ◌++◌, length, zero, suc, take, drop, refl, sym, ap, subst, ◌∙◌, arith, append_assoc, length-append, inl, inr}
+use Rattle.std.proofs.Common.{◌≡◌, ◌≢◌, ℕ, ◌+◌, ◌≤◌, List, [], ◌∷◌, ◌++◌, length, zero, suc, take, drop, refl, sym, ap, subst, ◌∙◌, arith, append_assoc, length-append, inl, inr}
 use Rattle.std.specs.List.{All}
 use Rattle.std.proofs.lemmas.Bool.{cases_lt}
 use Rattle.std.proofs.lemmas.List.{append-nil, nil_from_length, take-append-drop, take-append-le, take_at}
 use Rattle.std.proofs.lemmas.List.Elements.{All-head, All-tail}
-use Rattle.sb_log.specs.Reading.{Begins, IsTorn, Reads}
-use Rattle.sb_log.specs.Records.{IsBody, joined, record_after, records, records_after, size_field}
+use Rattle.sb_log.specs.Reading.{Begins, IsTorn}
+use Rattle.sb_log.specs.Records.{IsBody, joined, record_after, records_after, size_field}
 use Rattle.sb_log.proofs.Records.{first_eight, length-record, one_record}
 
 -- no whole record stands at the front of these bytes

@@ -1,8 +1,12 @@
 -- Records, and what begins with one.
 use Rattle.std.proofs.Common.{◌≡◌, ℕ, ◌+◌, ◌<◌, ◌≤◌, ◌^◌, List, [], ◌∷◌, ◌++◌, length, take, drop, refl, sym, ap, subst, ◌∙◌, arith, append_assoc, length-append}
 use Rattle.std.specs.Int.{w32, from_be_bytes}
-use Rattle.std.proofs.lemmas.List.{append-nil, drop_at, take_at, append_cancel_left}
+use Rattle.std.proofs.lemmas.List.{append-nil, drop-drop, drop_at, take_at, take_rest, append_cancel_left}
 use Rattle.std.proofs.lemmas.List.Concat.{flat_map-append}
+use Rattle.std.specs.Prelude.{◌-◌}
+use borrow.Rule.Slice.PartMut.{put_mid}
+use Rattle.sha2.specs.Hashers.{Holds256}
+use Rattle.sha2.specs.declared.Sha256.{Sha256}
 use Rattle.std.proofs.lemmas.Nat.{from_be_bytes-to_be_bytes_4}
 use Rattle.sha2.specs.Sha256.{sha256}
 use Rattle.sha2.proofs.Facts256.{length-sha256}
@@ -80,3 +84,30 @@ joined_push bodies body = joined_more bodies (body ∷ []) ∙ ap (λ (l : List 
 pub records_push : (bodies : List (List ℕ)) (body : List ℕ) → records (bodies ++ body ∷ []) ≡ records bodies ++ record_after (joined bodies) body
 records_push bodies body =
     records_join [] bodies (body ∷ []) ∙ ap (λ (l : List ℕ). records bodies ++ l) (append-nil (record_after (joined bodies) body))
+
+-- a hasher that holds what stands behind a head
+pub longer_holds : (buffer : List ℕ) (hasher : Sha256) (before : List ℕ) → Holds256 hasher (before ++ take (length buffer - 40) (drop 40 buffer))
+    → Holds256 hasher (before ++ drop 40 buffer)
+longer_holds buffer hasher before h = subst (λ (l : List ℕ). Holds256 hasher (before ++ l)) (take_rest buffer 40) h
+
+pub behind_field : (bytes field : List ℕ) → length field ≡ 8 → drop 40 (field ++ drop 8 bytes) ≡ drop 40 bytes
+behind_field bytes field size =
+    sym (drop-drop 32 8 (field ++ drop 8 bytes)) ∙ ap (λ (l : List ℕ). drop 32 l) (drop_at field (drop 8 bytes) 8 size) ∙ drop-drop 32 8 bytes
+
+-- a head that is written before its body
+pub written : (before bytes field digest : List ℕ) → 40 ≤ length bytes → field ≡ size_field (length (drop 40 bytes))
+    → digest ≡ sha256 (before ++ drop 40 bytes) → put_mid 8 32 (field ++ drop 8 bytes) digest ≡ record_after before (drop 40 bytes)
+unfolding record_after head
+written before bytes field digest long field_is digest_is =
+    let size : length field ≡ 8 = ap length field_is ∙ length-size_field (length (drop 40 bytes)) in
+    let front : take 8 (field ++ drop 8 bytes) ≡ field = take_at field (drop 8 bytes) 8 size in
+    let behind : drop 32 (drop 8 (field ++ drop 8 bytes)) ≡ drop 40 bytes = drop-drop 32 8 (field ++ drop 8 bytes) ∙ behind_field bytes field size in
+    ap (λ (l : List ℕ). l ++ (digest ++ drop 32 (drop 8 (field ++ drop 8 bytes)))) front
+    ∙ ap (λ (l : List ℕ). field ++ (digest ++ l)) behind
+    ∙ sym (append_assoc field digest (drop 40 bytes))
+    ∙ ap (λ (l : List ℕ). (l ++ digest) ++ drop 40 bytes) field_is
+    ∙ ap (λ (l : List ℕ). (size_field (length (drop 40 bytes)) ++ l) ++ drop 40 bytes) digest_is
+
+-- what stands behind a head in a buffer
+pub behind_is : (buffer items : List ℕ) → buffer ≡ items → take (length buffer - 40) (drop 40 buffer) ≡ drop 40 items
+behind_is buffer items same = take_rest buffer 40 ∙ ap (λ (l : List ℕ). drop 40 l) same

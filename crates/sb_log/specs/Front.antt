@@ -1,12 +1,11 @@
 -- What stands at a place of a log's file.
-use Rattle.std.specs.Prelude.{◌≡◌, ◌≢◌, ◌⊎◌, ℕ, ◌≤◌, Bool, true, List, ◌++◌, drop, length}
+use Rattle.std.specs.Prelude.{◌≡◌, ◌≢◌, ℕ, List, ◌++◌, length}
 use Rattle.sha2.specs.declared.Sha256.{Sha256}
 use Rattle.sha2.specs.Hashers.{Holds256}
 use Rattle.sb_log.specs.Reading.{IsTorn}
 use Rattle.sb_log.specs.Records.{IsBody, record_after}
 use Rattle.sb_log.specs.declared.front.Front.{Front}
 use Rattle.sb_log.specs.declared.front.Front.TheVariants.{Record, Torn, Damaged}
-use Rattle.sb_log.specs.declared.record.TheConstants.{HEAD}
 
 -- no whole record stands at the front of these bytes, behind these bodies
 abbrev pub HasNoRecord : List ℕ → List ℕ → Type 0

@@ -9,7 +9,7 @@ ghost use Rattle.sb_log.specs.declared.log_fault.LogFault.TheVariants.{Device};
 
 use crate::log_fault::LogFault;
 use crate::log_file::LogFile;
-use crate::record::{HEAD, SIZE_FIELD, digest_of, size_field, with_body};
+use crate::record::{HEAD, digest_of, with_body, write_head};
 use sha2::Sha256;
 use std::marker::Model;
 
@@ -100,10 +100,8 @@ impl<F: LogFile> DurableLog<F> {
         if self.failed {
             return Err(LogFault::Device);
         }
-        let size = (buffer.len() - HEAD) as u32;
         let longer = with_body(&self.hasher, &buffer[HEAD..]);
-        buffer[..SIZE_FIELD].copy_from_slice(&size_field(size));
-        buffer[SIZE_FIELD..HEAD].copy_from_slice(&digest_of(&longer));
+        write_head(buffer, &longer);
         match self.file.append(buffer) {
             Ok(()) => {
                 self.hasher = longer;

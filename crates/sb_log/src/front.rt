@@ -1,14 +1,15 @@
 //! What stands at a place of a log's file.
-ghost use Rattle.std.specs.Prelude.{◌≡◌, ◌<◌, ◌^◌, ◌↔◌, ℕ, List, drop, length, IfOk, IsErrOf, IsTrue, IfErr};
+ghost use Rattle.std.specs.Prelude.{◌≡◌, ◌⊎◌, ◌+◌, ◌<◌, ◌≤◌, ◌^◌, ◌↔◌, ℕ, List, drop, length, IfOk, IsErrOf, IsTrue, IfErr};
 ghost use Rattle.std.specs.List.{All};
 ghost use Rattle.sha2.specs.Hashers.{Holds256};
 ghost use Rattle.sb_log.specs.Front.{IsFront};
 ghost use Rattle.sb_log.specs.LogFiles.{HasFailed};
-ghost use Rattle.sb_log.specs.declared.log_fault.LogFault.TheVariants.{Device};
+ghost use Rattle.sb_log.specs.declared.front.Front.TheVariants.{Record};
+ghost use Rattle.sb_log.specs.declared.log_fault.LogFault.TheVariants.{Device, OutOfMemory};
 
 use crate::log_fault::LogFault;
 use crate::log_file::LogFile;
-use crate::record::{HEAD, SIZE_FIELD, digest_of, stated_size, with_body};
+use crate::record::{HEAD, SIZE_FIELD, are_same, digest_of, stated_size, with_body};
 use sb_text::READS;
 use sha2::Sha256;
 
@@ -42,6 +43,9 @@ pub(crate) fn read_front<F: LogFile>(
     ensures synced { F.IsHonest file.old → F.synced file.new ≡ F.synced file.old }
     ensures front { F.IsHonest file.old → (before : List ℕ) → Holds256 hasher.old before
         → IfOk result (λ front. IsFront before (drop at (F.content file.old)) front buffer.new.items hasher.new) }
+    ensures size { IfOk result (λ front. front ≡ Record
+        → (HEAD ≤ length buffer.new.items) × (length buffer.new.items < HEAD + 2 ^ 32)) }
+    ensures fault { IfErr result (λ fault. (fault ≡ Device) ⊎ (fault ≡ OutOfMemory)) }
     ensures device { IsErrOf result Device
         → HasFailed (F.has_failed file.new) (F.IsHonest file.old) (F.content file.old) }
 {
@@ -64,7 +68,7 @@ pub(crate) fn read_front<F: LogFile>(
     }
     let longer = with_body(hasher, &buffer[HEAD..]);
     let digest = digest_of(&longer);
-    if buffer[SIZE_FIELD..HEAD] != digest[..] {
+    if !are_same(&buffer[SIZE_FIELD..HEAD], &digest) {
         let (size, _) = count_rest(file, at, buffer)?;
         return Ok(Front::Damaged(size));
     }
@@ -85,6 +89,7 @@ pub(crate) fn count_rest<F: LogFile>(
     ensures size { F.IsHonest file.old → IfOk result (λ rest. rest.0 ≡ length (drop at (F.content file.old))) }
     ensures blank { F.IsHonest file.old →
         IfOk result (λ rest. IsTrue rest.1 ↔ All (λ byte. byte ≡ 0) (drop at (F.content file.old))) }
+    ensures fault { IfErr result (λ fault. (fault ≡ Device) ⊎ (fault ≡ OutOfMemory)) }
     ensures device { IsErrOf result Device
         → HasFailed (F.has_failed file.new) (F.IsHonest file.old) (F.content file.old) }
 {
@@ -96,8 +101,15 @@ pub(crate) fn count_rest<F: LogFile>(
         if piece.is_empty() {
             return Ok((size, blank));
         }
-        blank = blank && piece.iter().all(|byte| *byte == 0);
+        blank = blank && is_blank(piece);
         size += piece.len();
     }
     Err(LogFault::Device)
+}
+
+// Whether all of these bytes are 0.
+fn is_blank(bytes: &[u8]) -> bool
+    ensures { IsTrue result ↔ All (λ byte. byte ≡ 0) bytes.now }
+{
+    bytes.iter().all(|byte| *byte == 0)
 }

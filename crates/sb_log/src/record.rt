@@ -1,5 +1,5 @@
 //! The head of a record.
-ghost use Rattle.std.specs.Prelude.{◌≡◌, ◌++◌, ◌<◌, ◌^◌, ℕ, List, take, drop, length, IsTrue, ◌↔◌, MatchOption};
+ghost use Rattle.std.specs.Prelude.{◌≡◌, ◌++◌, ◌∷◌, [], ◌<◌, ◌≤◌, ◌^◌, ℕ, List, take, drop, length, IsTrue, ◌↔◌, MatchOption};
 ghost use Rattle.std.specs.Int.{w32, from_be_bytes};
 ghost use Rattle.sha2.specs.Hashers.{Holds256};
 ghost use Rattle.sha2.specs.Sha256.{sha256};
@@ -41,6 +41,19 @@ pub(crate) fn with_body(hasher: &Sha256, body: &[u8]) -> Sha256
     longer
 }
 
+/// Writes the head of a record before its body, whose digest is that of what a hasher holds.
+pub(crate) fn write_head(record: &mut [u8], hasher: &Sha256)
+    requires head { HEAD ≤ length record.old }
+    requires body { spec.IsBody (drop HEAD record.old) }
+    ensures record { (before : List ℕ) → Holds256 hasher.now (before ++ drop HEAD record.old)
+        → record.new ≡ spec.record_after before (drop HEAD record.old) }
+    ensures body { drop HEAD record.new ≡ drop HEAD record.old }
+{
+    let size = (record.len() - HEAD) as u32;
+    record[..SIZE_FIELD].copy_from_slice(&size_field(size));
+    record[SIZE_FIELD..HEAD].copy_from_slice(&digest_of(hasher));
+}
+
 /// The body's length that the first bytes of a head state, if its complement fits, as far as they
 /// go. `None` if no head begins so.
 pub(crate) fn stated_size(head: &[u8]) -> Option<u32>
@@ -48,15 +61,29 @@ pub(crate) fn stated_size(head: &[u8]) -> Option<u32>
         ((size : ℕ) → size < 2 ^ 32 → Begins (take 8 head.now) (spec.size_field size) → ⊥)
         (λ size. Begins (take 8 head.now) (spec.size_field size)) }
 {
-    let mut first = [0; 4];
-    let count = head.len().min(4);
-    first[..count].copy_from_slice(&head[..count]);
-    let size = u32::from_be_bytes(first);
+    let size = u32::from_be_bytes(first_four(head));
     let field = size_field(size);
     let count = head.len().min(SIZE_FIELD);
-    if head[..count] == field[..count] {
+    if are_same(&head[..count], &field[..count]) {
         Some(size)
     } else {
         None
     }
+}
+
+// The first four bytes, with zeros in place of those that are missing.
+fn first_four(head: &[u8]) -> [u8; 4]
+    ensures { result ≡ take 4 head.now ++ drop (length head.now) (0 ∷ 0 ∷ 0 ∷ 0 ∷ []) }
+{
+    let mut first = [0; 4];
+    let count = head.len().min(4);
+    first[..count].copy_from_slice(&head[..count]);
+    first
+}
+
+// Whether these bytes are the same.
+pub(crate) fn are_same(left: &[u8], right: &[u8]) -> bool
+    ensures { IsTrue result ↔ (left.now ≡ right.now) }
+{
+    left == right
 }

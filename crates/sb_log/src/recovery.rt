@@ -1,9 +1,9 @@
 //! Recovering a log.
-ghost use Rattle.std.specs.Prelude.{◌≡◌, ◌⊎◌, ◌≤◌, ◌↔◌, ℕ, List, length, OnOk, OnErr, IsErrOf};
+ghost use Rattle.std.specs.Prelude.{◌≡◌, ◌⊎◌, ◌≤◌, ◌↔◌, ℕ, List, length, OnOk, OnErr, IfErr, IsErrOf};
 ghost use Rattle.sb_log.specs.Lives.{Life};
 ghost use Rattle.sb_log.specs.LogCalls.{IsFileOf, Recovers};
 ghost use Rattle.sb_log.specs.LogFiles.{HasFailed, IsCut};
-ghost use Rattle.sb_log.specs.declared.log_fault.LogFault.TheVariants.{Device};
+ghost use Rattle.sb_log.specs.declared.log_fault.LogFault.TheVariants.{Device, OutOfMemory};
 
 use crate::front::PIECE;
 use crate::log_end::LogEnd;
@@ -57,6 +57,7 @@ fn write_again<F: LogFile>(file: &mut F, size: usize, piece: &mut Vec<u8>) -> Re
     ensures honest { F.IsHonest file.old ↔ F.IsHonest file.new }
     ensures content { F.IsHonest file.old → F.content file.new ≡ F.content file.old }
     ensures synced { F.IsHonest file.old → F.synced file.new ≡ F.synced file.old }
+    ensures fault { IfErr result (λ fault. (fault ≡ Device) ⊎ (fault ≡ OutOfMemory)) }
     ensures device { IsErrOf result Device
         → HasFailed (F.has_failed file.new) (F.IsHonest file.old) (F.content file.old) }
 {

@@ -1,5 +1,6 @@
 //! A log's file in a folder of the system.
-ghost use Rattle.std.specs.Prelude.{◌≡◌, ◌≤◌, ◌++◌, [], ◌||◌, ℕ, List, length, is_err, IfOk};
+ghost use Rattle.std.specs.Prelude.{◌≡◌, ◌≤◌, ◌++◌, [], ◌||◌, ℕ, Err, List, length, is_err, IfErr, IfOk, OnOk};
+ghost use Rattle.sb_log.specs.LogFiles.{failed_after_read};
 
 use crate::front::PIECE;
 use crate::log_fault::LogFault;
@@ -139,7 +140,9 @@ fn open_locked(
 
 impl<'a> SystemFile<'a> {
     // Has the bytes from a place on in the piece, as far as one read gives them.
-    fn fill(&mut self, at: usize) -> io::Result<()> {
+    fn fill(&mut self, at: usize) -> io::Result<()>
+        ensures { self.exit.now.failed ≡ self.entry.now.failed }
+    {
         if at >= self.piece_at && at - self.piece_at < self.piece.len() {
             return Ok(());
         }
@@ -156,8 +159,11 @@ impl<'a> SystemFile<'a> {
 
     // Appends what the piece has from a place on, at most so many bytes, and answers how many.
     fn push_piece(&mut self, at: usize, most: usize, out: &mut Vec<u8>) -> Result<usize, ReadFault>
-        ensures { IfOk result (λ count. (bytes : List ℕ) × (length bytes ≡ count) × (count ≤ most)
+        ensures bytes { IfOk result (λ count. (bytes : List ℕ) × (length bytes ≡ count) × (count ≤ most)
             × (out.new.items ≡ out.old.items ++ bytes)) }
+        ensures ok { OnOk result (self.exit.now.failed ≡ self.entry.now.failed) }
+        ensures fault { IfErr result (λ fault.
+            self.exit.now.failed ≡ failed_after_read self.entry.now.failed (Err fault)) }
     {
         let filled = self.fill(at);
         if self.noted(filled).is_err() {
