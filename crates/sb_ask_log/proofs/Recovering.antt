@@ -173,3 +173,7 @@ pub recovered_at : (l m : Life) (old mid new : AskReplayOf) (result : Result Log
 recovered_at l m old mid new result before after r =
     subst (λ (it : AskReplayOf). Recovers TakesBody RefusesBody l nothing_taken result it m) (sym after)
     (subst (λ (it : AskReplayOf). Recovers TakesBody RefusesBody l it result mid m) before r)
+
+-- a fault that is passed on
+pub err_again : {A B E : Type 0} (x y : E) → ◌≡◌ {A = Result A E} (Err x) (Err y) → ◌≡◌ {A = Result B E} (Err x) (Err y)
+err_again x y e = let same : x ≡ y = cc in ap Err same

@@ -1,7 +1,8 @@
 use Rattle.std.proofs.Common.{Ok, Err, refl}
 use Rattle.std.proofs.lemmas.Result.{err_from_is_err_and}
+use Rattle.sb_log.specs.declared.log_fault.LogFault.TheVariants.{Device}
 use Rattle.sb_ask_log.specs.Replaying.{AskReplayOf}
-use Rattle.sb_ask_log.proofs.Recovering.{read_at, read_fault, read_holds, read_is}
+use Rattle.sb_ask_log.proofs.Recovering.{err_again, read_at, read_fault, read_holds, read_is}
 use Rattle.sb_ask_log.proofs.recovered_log.read_asks.Goals as goal
 
 pub returns-in_err-end-clause-fault : goal.returns-in_err-end-clause-fault
@@ -15,7 +16,7 @@ returns-in_err-end-clause-fault g c honest =
 pub returns-in_err-end-clause-device : goal.returns-in_err-end-clause-device
 returns-in_err-end-clause-device g c =
     let p = err_from_is_err_and c.from_residual-in_err-end.result c.from_residual-in_err-end.ensures.1 in
-    rw (p.1, p.2) c.in_err-end.ensures.device
+    rw (p.1, p.2) (λ e. c.in_err-end.ensures.device (err_again c.in_err-end.field-0.0 Device e))
 
 pub returns-clause-read : goal.returns-clause-read
 returns-clause-read g c honest =

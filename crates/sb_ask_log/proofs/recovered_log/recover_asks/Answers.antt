@@ -1,7 +1,8 @@
 use Rattle.std.proofs.Common.{Ok, Err, refl}
 use Rattle.std.proofs.lemmas.Result.{err_from_is_err_and}
+use Rattle.sb_log.specs.declared.log_fault.LogFault.TheVariants.{Device}
 use Rattle.sb_ask_log.specs.Replaying.{AskReplayOf}
-use Rattle.sb_ask_log.proofs.Recovering.{damaged_stays, life_of, read_holds, read_is, recover_fault, recovered_at, recovered_empty, recovered_tells}
+use Rattle.sb_ask_log.proofs.Recovering.{damaged_stays, err_again, life_of, read_holds, read_is, recover_fault, recovered_at, recovered_empty, recovered_tells}
 use Rattle.sb_ask_log.proofs.recovered_log.recover_asks.Goals as goal
 
 pub returns-in_err-end-clause-fault : goal.returns-in_err-end-clause-fault
@@ -29,7 +30,7 @@ returns-in_err-end-clause-damaged g c honest =
 pub returns-in_err-end-clause-device : goal.returns-in_err-end-clause-device
 returns-in_err-end-clause-device g c =
     let p = err_from_is_err_and c.from_residual-in_err-end.result c.from_residual-in_err-end.ensures.1 in
-    rw (p.1, p.2) c.in_err-end.ensures.device
+    rw (p.1, p.2) (λ e. c.in_err-end.ensures.device (err_again c.in_err-end.field-0.0 Device e))
 
 pub returns-clause-read : goal.returns-clause-read
 returns-clause-read g c honest =
