@@ -1,1 +1,9 @@
 pub mod Keeping
+pub mod Fields
+pub mod Bodies
+pub mod Numbers
+pub mod Taking
+pub mod Openings
+pub mod Saving
+pub mod Replays
+pub mod Recovering

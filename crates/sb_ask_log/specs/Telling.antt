@@ -41,9 +41,11 @@ RecoversWhatItTold = (content : List ℕ) (synced : ℕ) (failed : Bool) (hasher
     → (read_text ≡ text) × Begins told read
 
 module _ {F : Type 0} (IsHonest : F → Type 0) (content : F → List ℕ) (synced : F → ℕ) where
-  -- it keeps these asks: its hasher and its count are theirs, and an honest file was told them
+  -- it keeps these asks: its hasher and its count are theirs, its log goes on behind them unless a
+  -- call failed, and an honest file was told them
   pub record KeepsAsks (log : AskLogOf F) (asks : List (Key × Call)) : Type 0 where
     pub saved_is : log.saved ≡ length asks
     pub holds : Holds256 log.hasher (log_bytes log.text asks)
+    pub goes_on : log.log.failed ≡ false → Holds256 log.log.hasher (log_bytes log.text asks)
     pub told : IsHonest log.log.file
         → Tells (content log.log.file) (synced log.log.file) log.log.failed log.log.hasher log.text asks

@@ -121,8 +121,8 @@ impl<F: LogFile> AskLog<F> {
         ensures saved { KeepsAsks F.IsHonest F.content F.synced self.old (take self.old.saved log.now.log)
             → OnOk result (KeepsAsks F.IsHonest F.content F.synced self.new log.now.log) }
         // After a failure what was told stays so.
-        ensures stays { (asks : List (AnyKey × AnyCall)) → KeepsAsks F.IsHonest F.content F.synced self.old asks
-            → OnErr result (KeepsAsks F.IsHonest F.content F.synced self.new asks) }
+        ensures stays { KeepsAsks F.IsHonest F.content F.synced self.old (take self.old.saved log.now.log)
+            → OnErr result (KeepsAsks F.IsHonest F.content F.synced self.new (take self.old.saved log.now.log)) }
         ensures text { self.new.text ≡ self.old.text }
         ensures fault { IfErr result (IsKeepFault true) }
     {

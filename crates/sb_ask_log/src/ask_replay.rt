@@ -113,17 +113,15 @@ fn take_batch(body: &[u8], log: &mut Sequencer) -> Result<(), ReplayFault>
 fn first_ask(bytes: &[u8]) -> Option<(Key, Call, usize)>
     ensures { StartsWithAsk bytes.now result }
 {
-    match decode(bytes) {
-        Ok(
-            (
-                Frame::Ask {
-                    client,
-                    request,
-                    call,
-                },
-                size,
-            ),
-        ) => Some((Key { client, request }, call, size)),
+    let Ok((frame, size)) = decode(bytes) else {
+        return None;
+    };
+    match frame {
+        Frame::Ask {
+            client,
+            request,
+            call,
+        } => Some((Key { client, request }, call, size)),
         _ => None,
     }
 }
@@ -136,7 +134,9 @@ fn number(key: Key, call: &Call, log: &mut Sequencer) -> Result<(), ReplayFault>
 {
     match log.ask(key.client, key.request, call) {
         Ok(Numbered::New(_)) => Ok(()),
+        Ok(Numbered::Repeat(_)) => Err(ReplayFault::Refused),
+        Err(AskFault::Mismatch(_)) => Err(ReplayFault::Refused),
+        Err(AskFault::LogFull) => Err(ReplayFault::Refused),
         Err(AskFault::OutOfMemory) => Err(ReplayFault::OutOfMemory),
-        _ => Err(ReplayFault::Refused),
     }
 }

@@ -2,8 +2,8 @@ mod Counts
 mod Failures
 mod Fields
 mod Fronts
-mod Lives
+pub mod Lives
 mod Readings
-mod Records
+pub mod Records
 mod Recoveries
 mod SoFar

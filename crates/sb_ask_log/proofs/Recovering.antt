@@ -1,0 +1,179 @@
+-- What is read of a log's file.
+use Rattle.std.proofs.Common.{◌≡◌, ◌≢◌, ℕ, max, Bool, false, true, List, [], ◌∷◌, ◌++◌, Result, Ok, Err, length, map, take, refl, sym, ap, subst, ◌∙◌, inl, inr, ⊎_elim, append_assoc, append-nil}
+use Rattle.std.specs.List.{All}
+use Rattle.std.proofs.lemmas.List.Elements.{All-head, All-tail}
+use Rattle.sha2.specs.Hashers.{Holds256}
+use Rattle.sha2.specs.declared.Sha256.{Sha256}
+use Rattle.sb_calls.specs.declared.ask.Key.{Key}
+use Rattle.sb_calls.specs.declared.call.Call.{Call}
+use Rattle.sb_log.specs.Lives.{Append, Crash, Event, Happens, HappensAll, Life, ReadBack, Sync, newborn}
+use Rattle.sb_log.specs.LogCalls.{IsDamagedAt, IsFileOf, ReadsLog, ReadsTo, Recovers}
+use Rattle.sb_log.specs.Reading.{Begins, IsTorn, Reads}
+use Rattle.sb_log.specs.Records.{IsBody, joined, record_after, records}
+use Rattle.sb_log.specs.declared.log_end.LogEnd.{LogEnd}
+use Rattle.sb_log.specs.declared.log_fault.LogFault.{LogFault}
+use Rattle.sb_log.specs.declared.log_fault.LogFault.TheVariants.{Damaged, Device, InUse, OutOfMemory}
+use Rattle.sb_log.proofs.Lives.{keeps_what_it_told}
+use Rattle.sb_log.proofs.Records.{records_push}
+use Rattle.sb_ask_log.specs.LogFile.{AreBodiesOf, log_bytes, magic}
+use Rattle.sb_ask_log.specs.Recovery.{AreRead, IsDamagedAskLog, IsReadFault, IsUnchangedIfDamaged, ReadsAskLog}
+use Rattle.sb_ask_log.specs.Replaying.{AskReplayOf, RefusesBody, TakesBody}
+use Rattle.sb_ask_log.specs.Telling.{RecoversWhatItTold, Tells}
+use Rattle.sb_ask_log.proofs.Bodies.{bodies_begin, joined_log}
+use Rattle.sb_ask_log.proofs.Openings.{opening_filled}
+use Rattle.sb_ask_log.proofs.Replays.{no_longer_log, nothing_taken, taken_are}
+use Rattle.sb_ask_log.proofs.Saving.{happens_more}
+
+-- with an opening the bodies are those of a log
+log_read : (bodies : List (List ℕ)) (text : List ℕ) (log : List (Key × Call)) → AreRead bodies text log → text ≢ [] → AreBodiesOf bodies text log
+log_read [] text log read some = absurd (some read.0)
+log_read (body ∷ bodies) text log read some = read
+
+-- and without one there are none
+none_read : (bodies : List (List ℕ)) (text : List ℕ) (log : List (Key × Call)) → AreRead bodies text log → text ≡ [] → (bodies ≡ []) × (log ≡ [])
+none_read [] text log read none = (refl, read.1)
+none_read (body ∷ bodies) text log read none = absurd (opening_filled text read.opening none)
+
+-- what was replayed
+pub read_is : (content : List ℕ) (bodies : List (List ℕ)) (rest : List ℕ) (end : LogEnd) (new : AskReplayOf)
+    → ReadsTo TakesBody RefusesBody content nothing_taken bodies rest end new
+    → (left : List ℕ) × ReadsAskLog content new.text new.log left × (end.torn ≡ length left)
+read_is content bodies rest end new r =
+    (rest, record { bodies = bodies; reads = r.reads; torn = r.torn; are = taken_are bodies new r.replayed }, r.torn_is)
+
+pub read_holds : (content : List ℕ) (bodies : List (List ℕ)) (rest : List ℕ) (end : LogEnd) (new : AskReplayOf)
+    → ReadsTo TakesBody RefusesBody content nothing_taken bodies rest end new → new.text ≢ [] → Holds256 end.hasher (log_bytes new.text new.log)
+read_holds content bodies rest end new r some =
+    subst (Holds256 end.hasher) (joined_log bodies new.text new.log (log_read bodies new.text new.log (taken_are bodies new r.replayed) some)) r.holds
+
+damage_is : (content : List ℕ) (byte behind : ℕ) → IsDamagedAt TakesBody RefusesBody content nothing_taken byte behind → IsDamagedAskLog content byte behind
+damage_is content byte behind d =
+    let are = taken_are d.bodies d.mid d.replayed in
+    record {
+      bodies = d.bodies;
+      rest = d.rest;
+      text = d.mid.text;
+      log = d.mid.log;
+      whole = d.whole;
+      are = are;
+      byte_is = d.byte_is;
+      behind_is = d.behind_is;
+      why = ⊎_elim
+          (λ (no_record : Reads content d.bodies d.rest × (IsTorn d.rest → ⊥)). inl no_record)
+          (λ (refused : (body more : List ℕ) × IsBody body × (d.rest ≡ record_after (joined d.bodies) body ++ more) × RefusesBody d.mid body).
+          inr (refused.0, refused.1, refused.2, refused.3, no_longer_log d.bodies d.mid refused.0 are refused.4))
+          d.why;
+    }
+
+pub read_fault : (content : List ℕ) (fault : LogFault) (new : AskReplayOf) → ReadsLog TakesBody RefusesBody content nothing_taken (Err fault) new
+    → IsReadFault content fault
+read_fault content (Damaged byte behind) new d = damage_is content byte behind d
+read_fault content Device new d = tt
+read_fault content OutOfMemory new d = tt
+read_fault content InUse new d = absurd d
+
+-- ---- what is recovered
+
+-- the life of a file, of which no more is known
+abbrev pub life_of : List ℕ → ℕ → Life
+life_of content synced = record { content = content; synced = synced; given = []; told = []; healthy = false }
+
+pub recover_fault : (content : List ℕ) (synced : ℕ) (fault : LogFault) (new : AskReplayOf) (m : Life)
+    → Recovers TakesBody RefusesBody (life_of content synced) nothing_taken (Err fault) new m → IsReadFault content fault
+recover_fault content synced (Damaged byte behind) new m d = damage_is content byte behind d.0
+recover_fault content synced Device new m d = tt
+recover_fault content synced OutOfMemory new m d = tt
+recover_fault content synced InUse new m d = absurd d
+
+pub damaged_stays : (content content_new : List ℕ) (synced synced_new : ℕ) (fault : LogFault) (new : AskReplayOf) (m : Life)
+    → Recovers TakesBody RefusesBody (life_of content synced) nothing_taken (Err fault) new m → IsFileOf content_new synced_new m
+    → IsUnchangedIfDamaged fault content synced content_new synced_new
+damaged_stays content content_new synced synced_new (Damaged byte behind) new m d is =
+    (sym is.content_is ∙ ap (λ (k : Life). k.content) d.1, sym is.synced_is ∙ ap (λ (k : Life). k.synced) d.1)
+damaged_stays content content_new synced synced_new Device new m d is = tt
+damaged_stays content content_new synced synced_new OutOfMemory new m d is = tt
+damaged_stays content content_new synced synced_new InUse new m d is = tt
+
+-- a file to which these bodies were appended, and one that was told them
+abbrev appended : List (List ℕ) → Life
+appended done = record { content = records done; synced = 0; given = done; told = []; healthy = true }
+
+abbrev pub all_told : List (List ℕ) → Life
+all_told done = record { content = records done; synced = length (records done); given = done; told = done; healthy = true }
+
+-- a newborn file to which bodies are appended, and that is synced then, was told them
+tells_all : (done bodies : List (List ℕ)) → All IsBody bodies → HappensAll (appended done) (map Append bodies ++ Sync ∷ []) (all_told (done ++ bodies))
+tells_all done [] fit = (all_told done, (refl, refl), ap all_told (append-nil done))
+tells_all done (body ∷ bodies) fit =
+    let longer = done ++ body ∷ [] in
+    let one : appended longer ≡ record (appended done) { content = records done ++ record_after (joined done) body; given = longer } =
+    λ i. record { content = records_push done body i; synced = 0; given = longer; told = []; healthy = true } in (
+      appended longer,
+      (refl, All-head IsBody body bodies fit, one),
+      subst (λ (l : List (List ℕ)). HappensAll (appended longer) (map Append bodies ++ Sync ∷ []) (all_told l)) (append_assoc done (body ∷ []) bodies)
+          (tells_all longer bodies (All-tail IsBody body bodies fit)),
+    )
+
+pub recovered_tells : (content content_new : List ℕ) (synced synced_new : ℕ) (bodies : List (List ℕ)) (rest : List ℕ) (end : LogEnd) (new : AskReplayOf)
+    (l m : Life) → ReadsTo TakesBody RefusesBody content nothing_taken bodies rest end new → Happens l (ReadBack bodies rest) m
+    → IsFileOf content_new synced_new m → new.text ≢ [] → Tells content_new synced_new false end.hasher new.text new.log
+recovered_tells content content_new synced synced_new bodies rest end new l m r back is some =
+    let are = log_read bodies new.text new.log (taken_are bodies new r.replayed) some in
+    record {
+      l = all_told bodies;
+      events = map Append bodies ++ Sync ∷ [];
+      lived = tells_all [] bodies r.reads.fit;
+      file = record { file = subst (IsFileOf content_new synced_new) back.2 is; healthy_is = refl; holds = λ f. r.holds };
+      told_are = are;
+      given = new.log;
+      given_are = are;
+      only = λ f. refl;
+    }
+
+pub recovered_empty : (content content_new : List ℕ) (synced synced_new : ℕ) (bodies : List (List ℕ)) (rest : List ℕ) (end : LogEnd) (new : AskReplayOf)
+    (l m : Life) → ReadsTo TakesBody RefusesBody content nothing_taken bodies rest end new → Happens l (ReadBack bodies rest) m
+    → IsFileOf content_new synced_new m → new.text ≡ [] → (content_new ≡ []) × (synced_new ≡ 0) × (new.log ≡ [])
+recovered_empty content content_new synced synced_new bodies rest end new l m r back is none =
+    let no = none_read bodies new.text new.log (taken_are bodies new r.replayed) none in
+    let m_is : m ≡ all_told [] = back.2 ∙ ap all_told no.0 in
+    (sym is.content_is ∙ ap (λ (k : Life). k.content) m_is, sym is.synced_is ∙ ap (λ (k : Life). k.synced) m_is, no.1)
+
+-- ---- what was told is read
+
+-- bodies that begin with those of a log
+read_behind : (told bodies : List (List ℕ)) (text read_text : List ℕ) (asks read : List (Key × Call)) → AreBodiesOf told text asks → Begins told bodies
+    → AreRead bodies read_text read → AreBodiesOf bodies read_text read
+read_behind told [] text read_text asks read are begins it =
+    let none : [] ≡ (magic ++ text) ∷ _ = begins.1 ∙ ap (λ (l : List (List ℕ)). l ++ begins.0) are.bodies_are in
+    absurd (cc (none))
+read_behind told (body ∷ bodies) text read_text asks read are begins it = it
+
+pub recovers_what_it_told : RecoversWhatItTold
+recovers_what_it_told content synced failed hasher text told tells kept read_text read rest reads =
+    let l = tells.l in
+    let crashed : Life = record l { content = take (max l.synced kept) l.content; healthy = false } in
+    let left : take (max synced kept) content ≡ crashed.content =
+    λ i. take (max (sym tells.file.file.synced_is i) kept) (sym tells.file.file.content_is i) in
+    let begins = keeps_what_it_told (tells.events ++ Crash kept ∷ []) crashed reads.bodies rest
+    (happens_more tells.events newborn l crashed (Crash kept) tells.lived refl)
+    (subst (λ (c : List ℕ). Reads c reads.bodies rest) left reads.reads) in
+    bodies_begin l.told reads.bodies text read_text told read tells.told_are
+    (read_behind l.told reads.bodies text read_text told read tells.told_are begins.0 reads.are) begins.0
+
+-- ---- the same, by what the code knows of the values
+
+pub read_at : (content : List ℕ) (old mid new : AskReplayOf) (result : Result LogEnd LogFault) → old ≡ nothing_taken → new ≡ mid
+    → ReadsLog TakesBody RefusesBody content old result mid → ReadsLog TakesBody RefusesBody content nothing_taken result new
+read_at content old mid new result before after r =
+    subst (λ (it : AskReplayOf). ReadsLog TakesBody RefusesBody content nothing_taken result it) (sym after)
+    (subst (λ (it : AskReplayOf). ReadsLog TakesBody RefusesBody content it result mid) before r)
+
+pub recovered_at : (l m : Life) (old mid new : AskReplayOf) (result : Result LogEnd LogFault) → old ≡ nothing_taken → new ≡ mid
+    → Recovers TakesBody RefusesBody l old result mid m → Recovers TakesBody RefusesBody l nothing_taken result new m
+recovered_at l m old mid new result before after r =
+    subst (λ (it : AskReplayOf). Recovers TakesBody RefusesBody l nothing_taken result it m) (sym after)
+    (subst (λ (it : AskReplayOf). Recovers TakesBody RefusesBody l it result mid m) before r)
+
+-- a fault that is passed on
+pub err_again : {A B E : Type 0} (x y : E) → ◌≡◌ {A = Result A E} (Err x) (Err y) → ◌≡◌ {A = Result B E} (Err x) (Err y)
+err_again x y e = let same : x ≡ y = cc in ap Err same

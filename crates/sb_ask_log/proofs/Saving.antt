@@ -1,0 +1,162 @@
+-- What a log's file was told, after an append and a sync.
+use Rattle.std.proofs.Common.{◌≡◌, ◌≢◌, ◌⊎◌, ℕ, Bool, true, false, not, List, [], ◌∷◌, ◌++◌, take, drop, refl, sym, ap, subst, ◌∙◌, true≢false, ⊎_elim}
+use Rattle.std.specs.Prelude.{Result, Ok, Err, OnErr}
+use Rattle.std.specs.List.{All}
+use Rattle.std.proofs.lemmas.List.{take-append-drop}
+use Rattle.sha2.specs.declared.Sha256.{Sha256}
+use Rattle.sb_calls.specs.declared.ask.Key.{Key}
+use Rattle.sb_calls.specs.declared.call.Call.{Call}
+use Rattle.sb_sequencer.specs.Numbering.{IsLog}
+use Rattle.sb_log.specs.Lives.{Append, AppendFails, Event, Happens, HappensAll, Life, Sync, SyncFails, newborn}
+use Rattle.sb_log.specs.LogCalls.{Appends, IsLogOf, Syncs}
+use Rattle.sb_log.specs.declared.log_fault.LogFault.{LogFault}
+use Rattle.sb_log.specs.declared.log_fault.LogFault.TheVariants.{Damaged, Device, InUse, OutOfMemory}
+use Rattle.sb_ask_log.specs.Asks.{IsAsk, asks_field}
+use Rattle.sb_ask_log.specs.LogFile.{AreBodiesOf, IsOpeningText, magic}
+use Rattle.sb_ask_log.specs.Telling.{Tells}
+use Rattle.sb_ask_log.proofs.Bodies.{batch_more, opened}
+
+pub always : {A E : Type 0} (result : Result A E) (P : Type 0) → P → OnErr result P
+always (Ok done) P p = tt
+always (Err fault) P p = p
+
+same_not : (a b : Bool) → not a ≡ not b → a ≡ b
+same_not true true e = refl
+same_not true false e = absurd (true≢false (sym e))
+same_not false true e = absurd (true≢false e)
+same_not false false e = refl
+
+pub happens_more : (events : List Event) (l m n : Life) (event : Event) → HappensAll l events m → Happens m event n → HappensAll l (events ++ event ∷ []) n
+happens_more [] l m n event all one = (n, subst (λ (k : Life). Happens k event n) all one, refl)
+happens_more (first ∷ events) l m n event all one = (all.0, all.1, happens_more events all.0 m n event all.2 one)
+
+-- the rest of a log, as one batch with this body
+pub record IsRest (log : List (Key × Call)) (saved : ℕ) (body : List ℕ) : Type 0 where
+  pub some : drop saved log ≢ []
+  pub valid : All IsAsk (drop saved log)
+  pub is_log : IsLog log
+  pub body_is : body ≡ asks_field (drop saved log)
+
+-- a healthy log that is given the rest has the whole
+given_all : {content : List ℕ} {synced : ℕ} {failed : Bool} {hasher : Sha256} (text : List ℕ) (log : List (Key × Call)) (saved : ℕ) (body : List ℕ)
+    → IsRest log saved body → (tells : Tells content synced failed hasher text (take saved log)) → tells.l.healthy ≡ true
+    → AreBodiesOf (tells.l.given ++ body ∷ []) text log
+given_all {failed = failed} text log saved body rest tells healthy =
+    let l = tells.l in
+    let only : tells.given ≡ take saved log = tells.only (same_not failed false (sym tells.file.healthy_is ∙ healthy)) in
+    let so_far : AreBodiesOf l.given text (take saved log) = subst (AreBodiesOf l.given text) only tells.given_are in
+    let whole : take saved log ++ drop saved log ≡ log = take-append-drop saved log in
+    let more : AreBodiesOf (l.given ++ asks_field (drop saved log) ∷ []) text (take saved log ++ drop saved log) =
+    batch_more l.given text (take saved log) (drop saved log) so_far rest.some rest.valid (subst IsLog (sym whole) rest.is_log) in
+    subst (λ (b : List ℕ). AreBodiesOf (l.given ++ b ∷ []) text log) (sym rest.body_is)
+    (subst (AreBodiesOf (l.given ++ asks_field (drop saved log) ∷ []) text) whole more)
+
+-- the rest was appended and synced
+pub tells_more : (content content_new : List ℕ) (synced synced_new : ℕ) (failed failed_new : Bool) (hasher hasher_new : Sha256) (text : List ℕ)
+    (log : List (Key × Call)) (saved : ℕ) (body : List ℕ) → IsRest log saved body → (tells : Tells content synced failed hasher text (take saved log))
+    → (m n : Life) → Happens tells.l (Append body) m → Happens m Sync n → IsLogOf content_new synced_new failed_new hasher_new n
+    → Tells content_new synced_new failed_new hasher_new text log
+tells_more content content_new synced synced_new failed failed_new hasher hasher_new text log saved body rest tells m n appended synced_now is =
+    let l = tells.l in
+    let all : AreBodiesOf m.given text log =
+    subst (λ (k : Life). AreBodiesOf k.given text log) (sym appended.2) (given_all text log saved body rest tells appended.0) in
+    record {
+      l = n;
+      events = (tells.events ++ Append body ∷ []) ++ Sync ∷ [];
+      lived = happens_more (tells.events ++ Append body ∷ []) newborn m n Sync (happens_more tells.events newborn l m (Append body) tells.lived appended) synced_now;
+      file = is;
+      told_are = subst (λ (k : Life). AreBodiesOf k.told text log) (sym synced_now.1) all;
+      given = log;
+      given_are = subst (λ (k : Life). AreBodiesOf k.given text log) (sym synced_now.1) all;
+      only = λ f. refl;
+    }
+
+-- the rest was given, and not told
+given_more : (content content_new : List ℕ) (synced synced_new : ℕ) (failed failed_new : Bool) (hasher hasher_new : Sha256) (text : List ℕ)
+    (log : List (Key × Call)) (saved : ℕ) (body : List ℕ) → IsRest log saved body → (tells : Tells content synced failed hasher text (take saved log))
+    → tells.l.healthy ≡ true → (events : List Event) (n : Life) → HappensAll newborn events n → n.told ≡ tells.l.told
+    → n.given ≡ tells.l.given ++ body ∷ [] → IsLogOf content_new synced_new failed_new hasher_new n → failed_new ≡ true
+    → Tells content_new synced_new failed_new hasher_new text (take saved log)
+given_more content content_new synced synced_new failed failed_new hasher hasher_new text log saved body rest tells healthy events n lived told given is ill = record {
+  l = n;
+  events = events;
+  lived = lived;
+  file = is;
+  told_are = subst (λ (b : List (List ℕ)). AreBodiesOf b text (take saved log)) (sym told) tells.told_are;
+  given = log;
+  given_are = subst (λ (b : List (List ℕ)). AreBodiesOf b text log) (sym given) (given_all text log saved body rest tells healthy);
+  only = λ f. absurd (true≢false (sym ill ∙ f));
+}
+
+-- nothing happened, and the log had failed
+unmoved : (content content_new : List ℕ) (synced synced_new : ℕ) (failed failed_new : Bool) (hasher hasher_new : Sha256) (text : List ℕ)
+    (told : List (Key × Call)) → (tells : Tells content synced failed hasher text told) (m : Life) → m ≡ tells.l
+    → IsLogOf content_new synced_new failed_new hasher_new m → failed_new ≡ true → Tells content_new synced_new failed_new hasher_new text told
+unmoved content content_new synced synced_new failed failed_new hasher hasher_new text told tells m same is ill = record {
+  l = tells.l;
+  events = tells.events;
+  lived = tells.lived;
+  file = subst (IsLogOf content_new synced_new failed_new hasher_new) same is;
+  told_are = tells.told_are;
+  given = tells.given;
+  given_are = tells.given_are;
+  only = λ f. absurd (true≢false (sym ill ∙ f));
+}
+
+pub append_failed : (content content_new : List ℕ) (synced synced_new : ℕ) (failed failed_new : Bool) (hasher hasher_new : Sha256) (text : List ℕ)
+    (log : List (Key × Call)) (saved : ℕ) (body : List ℕ) (fault : LogFault) → IsRest log saved body
+    → (tells : Tells content synced failed hasher text (take saved log)) (m : Life) → Appends tells.l body (Err fault) m
+    → IsLogOf content_new synced_new failed_new hasher_new m → failed_new ≡ true → Tells content_new synced_new failed_new hasher_new text (take saved log)
+append_failed content content_new synced synced_new failed failed_new hasher hasher_new text log saved body Device rest tells m how is ill =
+    ⊎_elim
+    (λ (torn : (kept : ℕ) × Happens tells.l (AppendFails body kept) m).
+    given_more content content_new synced synced_new failed failed_new hasher hasher_new text log saved body rest tells torn.1.0
+    (tells.events ++ AppendFails body torn.0 ∷ []) m (happens_more tells.events newborn tells.l m (AppendFails body torn.0) tells.lived torn.1)
+    (ap (λ (k : Life). k.told) torn.1.2) (ap (λ (k : Life). k.given) torn.1.2) is ill)
+    (λ (stays : (tells.l.healthy ≡ false) × (m ≡ tells.l)).
+    unmoved content content_new synced synced_new failed failed_new hasher hasher_new text (take saved log) tells m stays.1 is ill)
+    how
+append_failed content content_new synced synced_new failed failed_new hasher hasher_new text log saved body (Damaged byte behind) rest tells m how is ill = absurd how
+append_failed content content_new synced synced_new failed failed_new hasher hasher_new text log saved body OutOfMemory rest tells m how is ill = absurd how
+append_failed content content_new synced synced_new failed failed_new hasher hasher_new text log saved body InUse rest tells m how is ill = absurd how
+
+pub sync_failed : (content content_new : List ℕ) (synced synced_new : ℕ) (failed failed_new : Bool) (hasher hasher_new : Sha256) (text : List ℕ)
+    (log : List (Key × Call)) (saved : ℕ) (body : List ℕ) (fault : LogFault) → IsRest log saved body
+    → (tells : Tells content synced failed hasher text (take saved log)) (m n : Life) → Happens tells.l (Append body) m → Syncs m (Err fault) n
+    → IsLogOf content_new synced_new failed_new hasher_new n → failed_new ≡ true → Tells content_new synced_new failed_new hasher_new text (take saved log)
+sync_failed content content_new synced synced_new failed failed_new hasher hasher_new text log saved body Device rest tells m n appended how is ill =
+    let given = tells.events ++ Append body ∷ [] in
+    let lived = happens_more tells.events newborn tells.l m (Append body) tells.lived appended in
+    let told_is : m.told ≡ tells.l.told = ap (λ (k : Life). k.told) appended.2 in
+    let given_is : m.given ≡ tells.l.given ++ body ∷ [] = ap (λ (k : Life). k.given) appended.2 in
+    ⊎_elim
+    (λ (fails : Happens m SyncFails n).
+    given_more content content_new synced synced_new failed failed_new hasher hasher_new text log saved body rest tells appended.0
+    (given ++ SyncFails ∷ []) n (happens_more given newborn m n SyncFails lived fails)
+    (ap (λ (k : Life). k.told) fails.1 ∙ told_is) (ap (λ (k : Life). k.given) fails.1 ∙ given_is) is ill)
+    (λ (stays : (m.healthy ≡ false) × (n ≡ m)).
+    given_more content content_new synced synced_new failed failed_new hasher hasher_new text log saved body rest tells appended.0
+    given m lived told_is given_is (subst (IsLogOf content_new synced_new failed_new hasher_new) stays.1 is) ill)
+    how
+sync_failed content content_new synced synced_new failed failed_new hasher hasher_new text log saved body (Damaged byte behind) rest tells m n appended how is ill = absurd how
+sync_failed content content_new synced synced_new failed failed_new hasher hasher_new text log saved body OutOfMemory rest tells m n appended how is ill = absurd how
+sync_failed content content_new synced synced_new failed failed_new hasher hasher_new text log saved body InUse rest tells m n appended how is ill = absurd how
+
+-- an opening was appended and synced
+pub tells_opening : (content : List ℕ) (synced : ℕ) (failed : Bool) (hasher : Sha256) (text body : List ℕ) (m n : Life) → body ≡ magic ++ text
+    → IsOpeningText text → Happens newborn (Append body) m → Happens m Sync n → IsLogOf content synced failed hasher n
+    → Tells content synced failed hasher text []
+tells_opening content synced failed hasher text body m n body_is opening appended synced_now is =
+    let alone : AreBodiesOf (body ∷ []) text [] =
+    subst (λ (b : List ℕ). AreBodiesOf (b ∷ []) text []) (sym body_is) (opened text opening) in
+    let all : AreBodiesOf m.given text [] = subst (λ (k : Life). AreBodiesOf k.given text []) (sym appended.2) alone in
+    record {
+      l = n;
+      events = Append body ∷ Sync ∷ [];
+      lived = (m, appended, (n, synced_now, refl));
+      file = is;
+      told_are = subst (λ (k : Life). AreBodiesOf k.told text []) (sym synced_now.1) all;
+      given = [];
+      given_are = subst (λ (k : Life). AreBodiesOf k.given text []) (sym synced_now.1) all;
+      only = λ f. refl;
+    }
