@@ -47,9 +47,6 @@ opened text is = record {
   };
 }
 
-
-
-
 -- one more batch
 pub batch_more : (bodies : List (List ℕ)) (text : List ℕ) (log more : List (Key × Call)) → AreBodiesOf bodies text log
     → more ≢ [] → All IsAsk more → IsLog (log ++ more) → AreBodiesOf (bodies ++ asks_field more ∷ []) text (log ++ more)

@@ -10,6 +10,7 @@ use Rattle.sb_log.specs.Lives.{Append, Crash, Event, Happens, HappensAll, Life, 
 use Rattle.sb_log.specs.LogCalls.{IsDamagedAt, IsFileOf, ReadsLog, ReadsTo, Recovers}
 use Rattle.sb_log.specs.Reading.{Begins, IsTorn, Reads}
 use Rattle.sb_log.specs.Records.{IsBody, joined, record_after, records}
+use Rattle.sb_log.specs.Replaying.{HoldsReplayed, ReplaysAll}
 use Rattle.sb_log.specs.declared.log_end.LogEnd.{LogEnd}
 use Rattle.sb_log.specs.declared.log_fault.LogFault.{LogFault}
 use Rattle.sb_log.specs.declared.log_fault.LogFault.TheVariants.{Damaged, Device, InUse, OutOfMemory}
@@ -41,10 +42,14 @@ pub read_is : (content : List ℕ) (bodies : List (List ℕ)) (rest : List ℕ) 
 read_is content bodies rest end new r =
     (rest, record { bodies = bodies; reads = r.reads; torn = r.torn; are = taken_are bodies new r.replayed }, r.torn_is)
 
-pub read_holds : (content : List ℕ) (bodies : List (List ℕ)) (rest : List ℕ) (end : LogEnd) (new : AskReplayOf)
-    → ReadsTo TakesBody RefusesBody content nothing_taken bodies rest end new → new.text ≢ [] → Holds256 end.hasher (log_bytes new.text new.log)
-read_holds content bodies rest end new r some =
-    subst (Holds256 end.hasher) (joined_log bodies new.text new.log (log_read bodies new.text new.log (taken_are bodies new r.replayed) some)) r.holds
+-- whatever file was read: the hasher holds the log
+pub read_holds : (old mid new : AskReplayOf) (hasher : Sha256) → old ≡ nothing_taken → new ≡ mid → HoldsReplayed TakesBody old hasher mid
+    → new.text ≢ [] → Holds256 hasher (log_bytes new.text new.log)
+read_holds old mid new hasher before after r some =
+    let replayed : ReplaysAll TakesBody nothing_taken r.bodies new =
+    subst (λ (it : AskReplayOf). ReplaysAll TakesBody nothing_taken r.bodies it) (sym after)
+    (subst (λ (it : AskReplayOf). ReplaysAll TakesBody it r.bodies mid) before r.replayed) in
+    subst (Holds256 hasher) (joined_log r.bodies new.text new.log (log_read r.bodies new.text new.log (taken_are r.bodies new replayed) some)) r.holds
 
 damage_is : (content : List ℕ) (byte behind : ℕ) → IsDamagedAt TakesBody RefusesBody content nothing_taken byte behind → IsDamagedAskLog content byte behind
 damage_is content byte behind d =

@@ -39,7 +39,8 @@ pub fn read_asks<F: LogFile>(alloc: Global, file: &mut F) -> Result<RecoveredLog
     ensures read { F.IsHonest file.old → IfOk result (λ found. (rest : List ℕ)
         × ReadsAskLog (F.content file.old) found.text.items found.log.value.log rest
         × (found.end.torn ≡ length rest)) }
-    ensures holds { F.IsHonest file.old → IfOk result (λ found. found.text.items ≢ []
+    // Whatever the file holds, the hasher holds the log that is answered.
+    ensures holds { IfOk result (λ found. found.text.items ≢ []
         → Holds256 found.end.hasher (log_bytes found.text.items found.log.value.log)) }
     ensures fault { F.IsHonest file.old → IfErr result (IsReadFault (F.content file.old)) }
     ensures device { IsErrOf result Device
@@ -61,7 +62,8 @@ pub fn recover_asks<F: LogFile>(alloc: Global, file: &mut F) -> Result<Recovered
     ensures read { F.IsHonest file.old → IfOk result (λ found. (rest : List ℕ)
         × ReadsAskLog (F.content file.old) found.text.items found.log.value.log rest
         × (found.end.torn ≡ length rest)) }
-    ensures holds { F.IsHonest file.old → IfOk result (λ found. found.text.items ≢ []
+    // Whatever the file holds, the hasher holds the log that is answered.
+    ensures holds { IfOk result (λ found. found.text.items ≢ []
         → Holds256 found.end.hasher (log_bytes found.text.items found.log.value.log)) }
     // All that was read counts as told from now on.
     ensures told { F.IsHonest file.old → IfOk result (λ found. found.text.items ≢ []

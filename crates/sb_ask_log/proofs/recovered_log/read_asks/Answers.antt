@@ -27,9 +27,6 @@ returns-clause-read g c honest =
     read_is content r.0 r.1 c.in_ok-end.end new r.2
 
 pub returns-clause-holds : goal.returns-clause-holds
-returns-clause-holds g c honest =
-    let content = g.F.LogFile.content c.args.file.now in
+returns-clause-holds g c =
     let new : AskReplayOf = record { text = c.replay.inside.text.items; log = c.replay.inside.log.value.log } in
-    let r = read_at content c.in_ok-replay.replay c.read_log.new.replay new (Ok c.in_ok-end.end)
-    c.in_ok-replay.ensures c.replay.view_is (c.in_ok-end.ensures.read honest) in
-    read_holds content r.0 r.1 c.in_ok-end.end new r.2
+    read_holds c.in_ok-replay.replay c.read_log.new.replay new c.in_ok-end.end.hasher c.in_ok-replay.ensures c.replay.view_is c.in_ok-end.ensures.replayed

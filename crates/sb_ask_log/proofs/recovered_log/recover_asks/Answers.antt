@@ -43,14 +43,9 @@ returns-clause-read g c honest =
     read_is content r.0 r.1 c.in_ok-end.end new r.2
 
 pub returns-clause-holds : goal.returns-clause-holds
-returns-clause-holds g c honest =
-    let content = g.F.LogFile.content c.args.file.now in
-    let synced = g.F.LogFile.synced c.args.file.now in
-    let life = c.in_ok-end.ensures.life honest (life_of content synced) (record { content_is = refl; synced_is = refl }) in
+returns-clause-holds g c =
     let new : AskReplayOf = record { text = c.replay.inside.text.items; log = c.replay.inside.log.value.log } in
-    let r = recovered_at (life_of content synced) life.0 c.in_ok-replay.replay c.recover.new.replay new (Ok c.in_ok-end.end)
-    c.in_ok-replay.ensures c.replay.view_is life.1 in
-    read_holds content r.0 r.1 c.in_ok-end.end new r.2
+    read_holds c.in_ok-replay.replay c.recover.new.replay new c.in_ok-end.end.hasher c.in_ok-replay.ensures c.replay.view_is c.in_ok-end.ensures.replayed
 
 pub returns-clause-told : goal.returns-clause-told
 returns-clause-told g c honest =
