@@ -43,10 +43,10 @@ one_more rest piece size most blank both c read both_is =
         (λ yes. let parts = both_is.0 yes in
             subst IsBlank (sym all) (All-append (λ (byte : ℕ). byte ≡ 0) (take size rest) piece (c.blank_is.0 parts.0) parts.1)),
         (λ blank_all. both_is.1 (
-            c.blank_is.1 (subst IsBlank (take-append-le size (take size rest) piece (omega (arith, c.within, length-take size rest)) ∙ take_all size (take size rest) (omega (arith, length-take size rest)))
-                (All-take (λ (byte : ℕ). byte ≡ 0) size (take size rest ++ piece) (subst IsBlank all blank_all))),
-            subst IsBlank (drop_at (take size rest) piece size (omega (arith, c.within, length-take size rest)))
-                (All-drop (λ (byte : ℕ). byte ≡ 0) size (take size rest ++ piece) (subst IsBlank all blank_all)),
+          c.blank_is.1 (subst IsBlank (take-append-le size (take size rest) piece (omega (arith, c.within, length-take size rest)) ∙ take_all size (take size rest) (omega (arith, length-take size rest)))
+              (All-take (λ (byte : ℕ). byte ≡ 0) size (take size rest ++ piece) (subst IsBlank all blank_all))),
+          subst IsBlank (drop_at (take size rest) piece size (omega (arith, c.within, length-take size rest)))
+              (All-drop (λ (byte : ℕ). byte ≡ 0) size (take size rest ++ piece) (subst IsBlank all blank_all)),
         )),
       );
     }

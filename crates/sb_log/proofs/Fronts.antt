@@ -77,7 +77,7 @@ field_marked size fits blank =
       arith,
       fits,
       sym (from_be_bytes-to_be_bytes_4 size fits) ∙ zero_bytes (to_be_bytes w32 size) refl first,
-      sym (from_be_bytes-to_be_bytes_4 (2 ^ 32 - 1 - size) (omega arith)) ∙ zero_bytes (to_be_bytes w32 (2 ^ 32 - 1 - size)) refl second
+      sym (from_be_bytes-to_be_bytes_4 (2 ^ 32 - 1 - size) (omega arith)) ∙ zero_bytes (to_be_bytes w32 (2 ^ 32 - 1 - size)) refl second,
     )
 
 -- as many bytes as a record has

@@ -107,7 +107,7 @@ returns-then-not-are_same-clause-front g c honest before holds =
     c.digest_of-digest.ensures (before ++ drop 40 c.deref-2.result.now) longer ∙ ap (λ (l : List ℕ). sha256 (before ++ drop 40 l)) c.deref-2.ensures.value in
     let bad = bad_digest before rest read size bytes long (omega arith) begins
     (λ same.
-        true≢false (sym (c.are_same.ensures.1 (ap (λ (l : List ℕ). take 32 (drop 8 l)) c.deref-3.ensures.value ∙ same ∙ sym digest)) ∙ c.if-not-are_same.true)) in
+    true≢false (sym (c.are_same.ensures.1 (ap (λ (l : List ℕ). take 32 (drop 8 l)) c.deref-3.ensures.value ∙ same ∙ sym digest)) ∙ c.if-not-are_same.true)) in
     let same : drop c.args.at (g.F.LogFile.content c.read_at-2.new.self) ≡ rest =
     ap (drop c.args.at) (c.read_at-2.ensures.content (c.read_at.ensures.honest.0 honest) ∙ c.read_at.ensures.content honest) in
     let there = c.read_at-2.ensures.honest.0 (c.read_at.ensures.honest.0 honest) in

@@ -6,42 +6,42 @@ use Rattle.sb_log.proofs.durable_log.DurableLog.append.Goals as goal
 
 pub returns-in-Ok-clause-life : goal.returns-in-Ok-clause-life
 returns-in-Ok-clause-life g c = rw (← c.self.view_is) (λ honest l life.
-  let body = drop 40 c.args.buffer.now in
-  let last = record_after (joined l.given) body in
-  let holds = longer_holds c.args.buffer.now c.with_body-longer.result (joined l.given) (c.with_body-longer.ensures (joined l.given) (life.holds c.if-self.false)) in
-  let bytes : c.write_head.new.record ≡ last = c.write_head.ensures.record (joined l.given) holds in (
-    record l { content = l.content ++ last; given = l.given ++ body ∷ [] },
-    (life.healthy_is ∙ ap not c.if-self.false, c.requires.body, refl),
-    record {
-      file = record {
-        content_is = ap (λ (c : List ℕ). c ++ last) life.file.content_is
-            ∙ sym (c.in-Ok.ensures.appended honest ∙ ap (λ (r : List ℕ). g.F.LogFile.content c.self.inside.file ++ r) bytes);
-        synced_is = life.file.synced_is ∙ sym (c.append.ensures.synced honest);
-      };
-      healthy_is = life.healthy_is;
-      holds = λ again. subst (Holds256 c.with_body-longer.result) (sym (joined_push l.given body)) holds;
-    },
-  ))
+    let body = drop 40 c.args.buffer.now in
+    let last = record_after (joined l.given) body in
+    let holds = longer_holds c.args.buffer.now c.with_body-longer.result (joined l.given) (c.with_body-longer.ensures (joined l.given) (life.holds c.if-self.false)) in
+    let bytes : c.write_head.new.bytes ≡ last = c.write_head.ensures.record (joined l.given) holds in (
+      record l { content = l.content ++ last; given = l.given ++ body ∷ [] },
+      (life.healthy_is ∙ ap not c.if-self.false, c.requires.body, refl),
+      record {
+        file = record {
+          content_is = ap (λ (c : List ℕ). c ++ last) life.file.content_is
+              ∙ sym (c.in-Ok.ensures.appended honest ∙ ap (λ (r : List ℕ). g.F.LogFile.content c.self.inside.file ++ r) bytes);
+          synced_is = life.file.synced_is ∙ sym (c.append.ensures.synced honest);
+        };
+        healthy_is = life.healthy_is;
+        holds = λ again. subst (Holds256 c.with_body-longer.result) (sym (joined_push l.given body)) holds;
+      },
+    ))
 
 pub returns-in-Ok-clause-hasher : goal.returns-in-Ok-clause-hasher
 returns-in-Ok-clause-hasher g c = rw (← c.self.view_is) (λ m h. longer_holds c.args.buffer.now c.with_body-longer.result m (c.with_body-longer.ensures m h))
 
 pub returns-in-Err-clause-life : goal.returns-in-Err-clause-life
 returns-in-Err-clause-life g c = rw (← c.self.view_is) (λ honest l life.
-  let body = drop 40 c.args.buffer.now in
-  let last = record_after (joined l.given) body in
-  let holds = longer_holds c.args.buffer.now c.with_body-longer.result (joined l.given) (c.with_body-longer.ensures (joined l.given) (life.holds c.if-self.false)) in
-  let bytes : c.write_head.new.record ≡ last = c.write_head.ensures.record (joined l.given) holds in
-  let torn = c.in-Err.ensures.torn honest in (
-    record l { content = l.content ++ take torn.0 last; given = l.given ++ body ∷ []; healthy = false },
-    inl (torn.0, (life.healthy_is ∙ ap not c.if-self.false, c.requires.body, refl)),
-    record {
-      file = record {
-        content_is = ap (λ (c : List ℕ). c ++ take torn.0 last) life.file.content_is
-            ∙ sym (torn.1 ∙ ap (λ (r : List ℕ). g.F.LogFile.content c.self.inside.file ++ take torn.0 r) bytes);
-        synced_is = life.file.synced_is ∙ sym (c.append.ensures.synced honest);
-      };
-      healthy_is = refl;
-      holds = λ again. absurd (search (rules, again));
-    },
-  ))
+    let body = drop 40 c.args.buffer.now in
+    let last = record_after (joined l.given) body in
+    let holds = longer_holds c.args.buffer.now c.with_body-longer.result (joined l.given) (c.with_body-longer.ensures (joined l.given) (life.holds c.if-self.false)) in
+    let bytes : c.write_head.new.bytes ≡ last = c.write_head.ensures.record (joined l.given) holds in
+    let torn = c.in-Err.ensures.torn honest in (
+      record l { content = l.content ++ take torn.0 last; given = l.given ++ body ∷ []; healthy = false },
+      inl (torn.0, (life.healthy_is ∙ ap not c.if-self.false, c.requires.body, refl)),
+      record {
+        file = record {
+          content_is = ap (λ (c : List ℕ). c ++ take torn.0 last) life.file.content_is
+              ∙ sym (torn.1 ∙ ap (λ (r : List ℕ). g.F.LogFile.content c.self.inside.file ++ take torn.0 r) bytes);
+          synced_is = life.file.synced_is ∙ sym (c.append.ensures.synced honest);
+        };
+        healthy_is = refl;
+        holds = λ again. absurd (search (rules, again));
+      },
+    ))
