@@ -15,6 +15,8 @@ mod record;
 mod recovery;
 mod replay;
 mod system_file;
+#[cfg(test)]
+mod tests;
 
 pub use durable_log::DurableLog;
 pub use faulty_file::FaultyFile;

@@ -42,16 +42,16 @@ pub(crate) fn with_body(hasher: &Sha256, body: &[u8]) -> Sha256
 }
 
 /// Writes the head of a record before its body, whose digest is that of what a hasher holds.
-pub(crate) fn write_head(record: &mut [u8], hasher: &Sha256)
-    requires head { HEAD ≤ length record.old }
-    requires body { spec.IsBody (drop HEAD record.old) }
-    ensures record { (before : List ℕ) → Holds256 hasher.now (before ++ drop HEAD record.old)
-        → record.new ≡ spec.record_after before (drop HEAD record.old) }
-    ensures body { drop HEAD record.new ≡ drop HEAD record.old }
+pub(crate) fn write_head(bytes: &mut [u8], hasher: &Sha256)
+    requires head { HEAD ≤ length bytes.old }
+    requires body { spec.IsBody (drop HEAD bytes.old) }
+    ensures record { (before : List ℕ) → Holds256 hasher.now (before ++ drop HEAD bytes.old)
+        → bytes.new ≡ spec.record_after before (drop HEAD bytes.old) }
+    ensures body { drop HEAD bytes.new ≡ drop HEAD bytes.old }
 {
-    let size = (record.len() - HEAD) as u32;
-    record[..SIZE_FIELD].copy_from_slice(&size_field(size));
-    record[SIZE_FIELD..HEAD].copy_from_slice(&digest_of(hasher));
+    let size = (bytes.len() - HEAD) as u32;
+    bytes[..SIZE_FIELD].copy_from_slice(&size_field(size));
+    bytes[SIZE_FIELD..HEAD].copy_from_slice(&digest_of(hasher));
 }
 
 /// The body's length that the first bytes of a head state, if its complement fits, as far as they

@@ -48,10 +48,23 @@ pub fn recover<F: LogFile, T: Replay>(
         return Err(LogFault::Device);
     }
     write_again(file, end.records, &mut piece)?;
+    sync_all(file)?;
+    Ok(end)
+}
+
+// Waits until all of a file is on the disk.
+fn sync_all<F: LogFile>(file: &mut F) -> Result<(), LogFault>
+    ensures honest { F.IsHonest file.old ↔ F.IsHonest file.new }
+    ensures content { F.IsHonest file.old → F.content file.new ≡ F.content file.old }
+    ensures synced { F.IsHonest file.old → OnOk result (F.synced file.new ≡ length (F.content file.old)) }
+    ensures err { F.IsHonest file.old → OnErr result (F.synced file.new ≡ F.synced file.old) }
+    ensures fault { IfErr result (λ fault. fault ≡ Device) }
+    ensures device { IsErrOf result Device → F.has_failed file.new ≡ true }
+{
     if file.sync().is_err() {
         return Err(LogFault::Device);
     }
-    Ok(end)
+    Ok(())
 }
 
 // Writes so many bytes of a file once more.

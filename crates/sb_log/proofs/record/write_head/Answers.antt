@@ -5,11 +5,11 @@ use Rattle.sb_log.proofs.Records.{behind_field, length-size_field, written}
 use Rattle.sb_log.proofs.record.write_head.Goals as goal
 
 pub overflow_cast-size : goal.overflow_cast-size
-overflow_cast-size c = omega (arith, length-drop 40 c.args.record.now)
+overflow_cast-size c = omega (arith, length-drop 40 c.args.bytes.now)
 
 pub returns-clause-record : goal.returns-clause-record
 returns-clause-record c before holds =
-    let bytes = c.args.record.now in
+    let bytes = c.args.bytes.now in
     let field : c.copy_from_slice.new.self ≡ size_field (length (drop 40 bytes)) =
     c.copy_from_slice.ensures.after ∙ c.size_field.ensures ∙ ap size_field (sym (length-drop 40 bytes)) in
     written before bytes c.copy_from_slice.new.self c.copy_from_slice-2.new.self c.requires.head field
@@ -17,7 +17,7 @@ returns-clause-record c before holds =
 
 pub returns-clause-body : goal.returns-clause-body
 returns-clause-body c =
-    let bytes = c.args.record.now in
+    let bytes = c.args.bytes.now in
     let size : length c.copy_from_slice.new.self ≡ 8 =
     ap length (c.copy_from_slice.ensures.after ∙ c.size_field.ensures) ∙ length-size_field (length bytes - 40) in
     let all = c.copy_from_slice.new.self ++ drop 8 bytes in

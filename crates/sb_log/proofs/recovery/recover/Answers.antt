@@ -65,8 +65,8 @@ returns-in_err-write_again-clause-life g c honest l life =
       },
     )
 
-pub returns-then-is_err-2-clause-life : goal.returns-then-is_err-2-clause-life
-returns-then-is_err-2-clause-life g c honest l life =
+pub returns-in_err-sync_all-clause-life : goal.returns-in_err-sync_all-clause-life
+returns-in_err-sync_all-clause-life g c honest l life =
     let content = g.F.LogFile.content c.args.file.now in
     let there = c.read_log.ensures.honest.0 honest in
     let read = c.in_ok-end.ensures.read honest in
@@ -77,11 +77,16 @@ returns-then-is_err-2-clause-life g c honest l life =
     let file = is_cut l content (g.F.LogFile.content c.read_log.new.file) (g.F.LogFile.content c.cut.new.self) (g.F.LogFile.synced c.args.file.now)
     (g.F.LogFile.synced c.read_log.new.file) (g.F.LogFile.synced c.cut.new.self) c.in_ok-end.end.records read.0 read.1 life
     (c.read_log.ensures.content honest) (c.read_log.ensures.synced honest) to.reads to.records_is cut in
-    let stays = on_err c.sync.result _ (sym c.is_err-2.ensures.value ∙ c.if-is_err-2.true) (c.sync.ensures.err written) in (
+    let stays = c.in_err-sync_all.ensures.err written in
+    let fault = c.in_err-sync_all.field-0.0 in
+    let known : c.from_residual-in_err-sync_all.result ≡ Err fault =
+    err_is _ fault c.from_residual-in_err-sync_all.ensures.0 c.from_residual-in_err-sync_all.ensures.1 in (
       cut_life l read.0,
-      inr (read.0, read.1, (subst (λ (b : List ℕ). Reads b read.0 read.1) (sym life.content_is) to.reads, to.torn, refl)),
+      subst (λ (r : Result LogEnd LogFault). Recovers g.T.Replay.Replays g.T.Replay.Refuses l c.args.replay.now r c.read_log.new.replay (cut_life l read.0)) (sym known)
+          (told_nothing g.T.Replay.Replays g.T.Replay.Refuses l c.args.replay.now c.read_log.new.replay fault (cut_life l read.0) (inl c.in_err-sync_all.ensures.fault)
+          (inr (read.0, read.1, (subst (λ (b : List ℕ). Reads b read.0 read.1) (sym life.content_is) to.reads, to.torn, refl)))),
       record {
-        content_is = file.content_is ∙ sym (c.sync.ensures.content written ∙ c.write_again.ensures.content behind);
+        content_is = file.content_is ∙ sym (c.sync_all.ensures.content written ∙ c.write_again.ensures.content behind);
         synced_is = file.synced_is ∙ sym (stays ∙ c.write_again.ensures.synced behind);
       },
     )
@@ -98,7 +103,7 @@ returns-clause-life g c honest l life =
     let file = is_cut l content (g.F.LogFile.content c.read_log.new.file) (g.F.LogFile.content c.cut.new.self) (g.F.LogFile.synced c.args.file.now)
     (g.F.LogFile.synced c.read_log.new.file) (g.F.LogFile.synced c.cut.new.self) c.in_ok-end.end.records read.0 read.1 life
     (c.read_log.ensures.content honest) (c.read_log.ensures.synced honest) to.reads to.records_is cut in
-    let synced = on_ok c.sync.result _ (sym c.is_err-2.ensures.value ∙ c.if-is_err-2.false) (c.sync.ensures.synced written) in
+    let synced = c.in_ok-sync_all.ensures.synced written in
     let reads = subst (λ (b : List ℕ). Reads b read.0 read.1) (sym life.content_is) to.reads in
     let all : records read.0 ≡ g.F.LogFile.content c.write_again.new.file = file.content_is ∙ sym (c.write_again.ensures.content behind) in (
       record { content = records read.0; synced = length (records read.0); given = read.0; told = read.0; healthy = true },
@@ -109,7 +114,7 @@ returns-clause-life g c honest l life =
         (reads, to.torn, refl),
       ),
       record {
-        content_is = all ∙ sym (c.sync.ensures.content written);
+        content_is = all ∙ sym (c.sync_all.ensures.content written);
         synced_is = ap length all ∙ sym synced;
       },
     )

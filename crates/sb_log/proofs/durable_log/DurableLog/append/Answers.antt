@@ -9,7 +9,7 @@ returns-in-Ok-clause-life g c = rw (← c.self.view_is) (λ honest l life.
     let body = drop 40 c.args.buffer.now in
     let last = record_after (joined l.given) body in
     let holds = longer_holds c.args.buffer.now c.with_body-longer.result (joined l.given) (c.with_body-longer.ensures (joined l.given) (life.holds c.if-self.false)) in
-    let bytes : c.write_head.new.record ≡ last = c.write_head.ensures.record (joined l.given) holds in (
+    let bytes : c.write_head.new.bytes ≡ last = c.write_head.ensures.record (joined l.given) holds in (
       record l { content = l.content ++ last; given = l.given ++ body ∷ [] },
       (life.healthy_is ∙ ap not c.if-self.false, c.requires.body, refl),
       record {
@@ -31,7 +31,7 @@ returns-in-Err-clause-life g c = rw (← c.self.view_is) (λ honest l life.
     let body = drop 40 c.args.buffer.now in
     let last = record_after (joined l.given) body in
     let holds = longer_holds c.args.buffer.now c.with_body-longer.result (joined l.given) (c.with_body-longer.ensures (joined l.given) (life.holds c.if-self.false)) in
-    let bytes : c.write_head.new.record ≡ last = c.write_head.ensures.record (joined l.given) holds in
+    let bytes : c.write_head.new.bytes ≡ last = c.write_head.ensures.record (joined l.given) holds in
     let torn = c.in-Err.ensures.torn honest in (
       record l { content = l.content ++ take torn.0 last; given = l.given ++ body ∷ []; healthy = false },
       inl (torn.0, (life.healthy_is ∙ ap not c.if-self.false, c.requires.body, refl)),
