@@ -1,5 +1,5 @@
 //! Recovering a log.
-ghost use Rattle.std.specs.Prelude.{◌≡◌, ◌⊎◌, ◌≤◌, ◌↔◌, ℕ, List, length, OnOk, OnErr, IfErr, IfOk, IsErrOf};
+ghost use Rattle.std.specs.Prelude.{◌≡◌, ◌⊎◌, ◌≤◌, ◌↔◌, ℕ, List, length, true, OnOk, OnErr, IfErr, IfOk, IsErrOf};
 ghost use Rattle.sb_log.specs.Lives.{Life};
 ghost use Rattle.sb_log.specs.LogCalls.{IsFileOf, Recovers};
 ghost use Rattle.sb_log.specs.Replaying.{HoldsReplayed};
