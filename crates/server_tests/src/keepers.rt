@@ -83,39 +83,71 @@ fn expect_kept(rt: &impl Abort, alloc: Global, session: &KeptSession) {
 
 const UNKEPT: Result<(), SessionFault> = Err(SessionFault::Log(LogFault::Device));
 
+// Two flushes, each after an ask.
+const SENT: &[&[u8]] = &[BALANCE, FLUSH, DEPOSIT, FLUSH];
+
+const FLUSHED: &[KeptSession<'static>] = &[
+    KeptSession {
+        left: 9,
+        sent: SENT,
+        ends: Ok(()),
+        told: &[SHOWN, DONE],
+        kept: 2,
+    },
+    KeptSession {
+        left: 2,
+        sent: SENT,
+        ends: UNKEPT,
+        told: &[SHOWN, DONE],
+        kept: 2,
+    },
+    KeptSession {
+        left: 1,
+        sent: SENT,
+        ends: UNKEPT,
+        told: &[SHOWN],
+        kept: 1,
+    },
+    KeptSession {
+        left: 0,
+        sent: SENT,
+        ends: UNKEPT,
+        told: &[],
+        kept: 0,
+    },
+];
+
 #[test]
 fn a_log_is_kept_before_its_outcomes_are_told(rt: HostRuntime) {
-    let sent: &[&[u8]] = &[BALANCE, FLUSH, DEPOSIT, FLUSH];
-    for (left, ends, told, kept) in [
-        (9, Ok(()), [SHOWN, DONE], 2),
-        (2, UNKEPT, [SHOWN, DONE], 2),
-        (1, UNKEPT, [SHOWN, b"".as_slice()], 1),
-        (0, UNKEPT, [b"".as_slice(), b"".as_slice()], 0),
-    ] {
-        let told = told.as_slice();
-        let session = KeptSession {
-            left,
-            sent,
-            ends,
-            told,
-            kept,
-        };
-        expect_kept(&rt, rt.alloc(), &session);
+    for session in FLUSHED {
+        expect_kept(&rt, rt.alloc(), session);
     }
 }
 
+// Two asks, and then a frame that no client sends.
+const CUT_SHORT: &[&[u8]] = &[BALANCE, DEPOSIT, ENTRY];
+
+const UNFLUSHED: &[KeptSession<'static>] = &[
+    KeptSession {
+        left: 1,
+        sent: CUT_SHORT,
+        ends: Err(SessionFault::Unexpected),
+        told: &[],
+        kept: 2,
+    },
+    KeptSession {
+        left: 0,
+        sent: CUT_SHORT,
+        ends: UNKEPT,
+        told: &[],
+        kept: 0,
+    },
+];
+
 #[test]
 fn asks_before_a_fault_of_the_client_are_kept(rt: HostRuntime) {
-    for (left, ends, kept) in [(1, Err(SessionFault::Unexpected), 2), (0, UNKEPT, 0)] {
-        let sent: &[&[u8]] = &[BALANCE, DEPOSIT, ENTRY];
-        let session = KeptSession {
-            left,
-            sent,
-            ends,
-            told: &[],
-            kept,
-        };
-        expect_kept(&rt, rt.alloc(), &session);
+    for session in UNFLUSHED {
+        expect_kept(&rt, rt.alloc(), session);
     }
 }
 

@@ -1,0 +1,8 @@
+use Rattle.sb_ask_log.proofs.Keeping.{keeps_same}
+use Rattle.server_tests.proofs.keepers.CountingKeeperKeeper.keep.Goals as goal
+
+pub returns-then-self-eq0-clause-stays : goal.returns-then-self-eq0-clause-stays
+returns-then-self-eq0-clause-stays c = keeps_same (λ keeper asks. Unit {0}) c.args.self.now c.args.log.now.log
+
+pub returns-clause-stays : goal.returns-clause-stays
+returns-clause-stays c = keeps_same (λ keeper asks. Unit {0}) c.args.self.now c.args.log.now.log
