@@ -251,7 +251,7 @@ fn what_was_synced_outlives_a_failed_call(rt: HostRuntime) -> Result<(), Fail> {
 fn a_recovery_fails_at_each_call_and_is_tried_again(rt: HostRuntime) -> Result<(), Fail> {
     let alloc = rt.alloc();
     let whole = logged(alloc, 3)?;
-    let mut failures = 0;
+    let mut failures = 0u64;
     for at in 1..20u64 {
         for kept in 0..2usize {
             let mut inner = file_of(alloc, whole.bytes())?;
@@ -260,7 +260,7 @@ fn a_recovery_fails_at_each_call_and_is_tried_again(rt: HostRuntime) -> Result<(
             match recover(alloc, &mut file, &mut none(alloc)) {
                 Ok(end) => assert_eq!(rt; (end.records, end.torn), (227, 9)),
                 Err(fault) => {
-                    failures += 1;
+                    failures = failures.wrapping_add(1);
                     assert_eq!(rt; fault, LogFault::Device);
                 }
             }
