@@ -109,6 +109,21 @@ impl<F: LogFile> AskLog<F> {
         &self.text
     }
 
+    /// The file.
+    pub fn file(&self) -> &F
+        ensures { result.now ≡ self.now.log.file }
+    {
+        self.log.file()
+    }
+
+    /// The file. The log is given up.
+    pub fn into_file(self) -> F
+        ensures { result ≡ self.log.file }
+    {
+        let AskLog { log, .. } = self;
+        log.into_file()
+    }
+
     /// Appends the rest of a sequencer's log, as one batch, and has it on the disk. If there is none,
     /// nothing is written.
     ///
