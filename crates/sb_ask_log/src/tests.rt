@@ -16,6 +16,7 @@ const TEXT: &[u8] = b"alice 100.00 50.00\nbob 0.00 20.00\ncarol 10.00 0.00\nbegi
 const OPENING_HEAD: &[u8; HEAD] = b"\x00\x00\x00\x41\xff\xff\xff\xbe\
     \xed\x61\x63\x31\x4c\x36\xb4\x4c\x24\xd0\x0c\x1a\xd8\xeb\xa3\xbe\
     \x93\xd8\xf2\xf3\xc1\xcd\x4d\xb6\xb6\xfc\x6e\xd0\x05\x45\xd7\x9f";
+
 const BATCH_HEAD: &[u8; HEAD] = b"\x00\x00\x00\x2a\xff\xff\xff\xd5\
     \x54\x65\xdd\x01\xc2\x22\xe1\xce\xf8\xaf\xb0\x9f\xe5\xed\x49\xc2\
     \x95\xc4\x58\x3c\xc3\x9e\xdc\xbb\x82\x6a\xe9\x25\x57\xec\xf1\x86";
@@ -25,6 +26,7 @@ const FIRST_DIGEST: &[u8; 32] = b"\xac\x3d\x3b\x5f\xe8\xb5\x5b\xf3\x36\xa7\xd2\x
     \xed\x15\xc2\x71\xa0\x25\x9b\xab\xa5\x75\xde\xa6\x13\x5a\x24\xbc";
 
 const FIRST: &[u8] = b"\x00\x10\x01\x00\x00\x00\x07\x00\x00\x00\x01\x01\x05alice";
+
 const SECOND: &[u8] =
     b"\x00\x16\x01\x00\x00\x00\x07\x00\x00\x00\x02\x02\x03bob\x00\x00\x00\x00\x00\x00\x01\xf4";
 
@@ -149,7 +151,10 @@ fn a_log_goes_on(rt: HostRuntime) -> Result<(), Fail> {
     number(&rt, &mut asks, FIRST);
     let mut log = made(&rt, alloc, MemoryFile::new(alloc))?;
     log.save_rest(&asks)?;
-    assert!(rt; has_digest(&log, FIRST_DIGEST), "the digest of the first ask");
+    assert!(rt;
+        has_digest(&log, FIRST_DIGEST),
+        "the digest of the first ask"
+    );
     let mut file = log.into_file();
     let found = recover_asks(alloc, &mut file)?;
     assert!(rt; !found.text.is_empty(), "an opening");
@@ -169,7 +174,10 @@ fn each_call_fails_in_turn(rt: HostRuntime) -> Result<(), Fail> {
     number(&rt, &mut asks, SECOND);
     for at in 1..3 {
         let file = FaultyFile::new(MemoryFile::new(alloc), at, 10);
-        assert!(rt; made(&rt, alloc, file).err() == Some(LogFault::Device), "call {at}");
+        assert!(rt;
+            made(&rt, alloc, file).err() == Some(LogFault::Device),
+            "call {at}"
+        );
     }
     for (at, kept, count) in [(3, 115, 0), (4, 0, 0), (4, 186, 0), (4, 187, 2)] {
         let mut log = made(&rt, alloc, FaultyFile::new(MemoryFile::new(alloc), at, 10))?;
@@ -178,7 +186,10 @@ fn each_call_fails_in_turn(rt: HostRuntime) -> Result<(), Fail> {
         let mut file = log.into_file().into_inner();
         file.crash(kept);
         let found = recover_asks(alloc, &mut file)?;
-        assert!(rt; has_first(&found.log, count), "call {at}, {kept} bytes left");
+        assert!(rt;
+            has_first(&found.log, count),
+            "call {at}, {kept} bytes left"
+        );
         assert!(rt; found.text.as_slice() == TEXT, "the text after call {at}");
     }
     Ok(())
@@ -206,8 +217,14 @@ fn each_beginning_is_read(rt: HostRuntime) -> Result<(), Fail> {
         assert_eq!(rt; file.bytes().len(), size.min(bytes.len()));
         let found = recover_asks(alloc, &mut file)?;
         assert!(rt; has_first(&found.log, count), "the asks after {size} bytes");
-        assert!(rt; found.text.as_slice() == text, "the text after {size} bytes");
-        assert!(rt; file.bytes() == &bytes[..left.min(bytes.len())], "what is left of {size} bytes");
+        assert!(rt;
+            found.text.as_slice() == text,
+            "the text after {size} bytes"
+        );
+        assert!(rt;
+            file.bytes() == &bytes[..left.min(bytes.len())],
+            "what is left of {size} bytes"
+        );
     }
     Ok(())
 }
@@ -223,8 +240,14 @@ fn a_flipped_bit_is_damage(rt: HostRuntime) -> Result<(), Fail> {
         let byte = if at < 105 { 0 } else { 105 };
         let fault = recover_asks(alloc, &mut file).err();
         let behind = 187 - byte;
-        assert!(rt; fault == Some(LogFault::Damaged { byte, behind }), "bit {at}");
-        assert!(rt; file.bytes() == bytes.as_slice(), "nothing is changed at {at}");
+        assert!(rt;
+            fault == Some(LogFault::Damaged { byte, behind }),
+            "bit {at}"
+        );
+        assert!(rt;
+            file.bytes() == bytes.as_slice(),
+            "nothing is changed at {at}"
+        );
     }
     Ok(())
 }
@@ -239,18 +262,27 @@ fn bodies_that_no_log_has(rt: HostRuntime) -> Result<(), Fail> {
         byte: 0,
         behind: 58,
     };
-    assert!(rt; recover_asks(alloc, &mut file).err() == Some(damage), "no opening");
+    assert!(rt;
+        recover_asks(alloc, &mut file).err() == Some(damage),
+        "no opening"
+    );
     let mut file = file_with(alloc, &[&opening, b"".as_slice()])?;
     let damage = LogFault::Damaged {
         byte: 105,
         behind: 40,
     };
-    assert!(rt; recover_asks(alloc, &mut file).err() == Some(damage), "an empty batch");
+    assert!(rt;
+        recover_asks(alloc, &mut file).err() == Some(damage),
+        "an empty batch"
+    );
     let mut file = file_with(alloc, &[&opening, FIRST, SECOND, FIRST])?;
     let damage = LogFault::Damaged {
         byte: 227,
         behind: 58,
     };
-    assert!(rt; recover_asks(alloc, &mut file).err() == Some(damage), "a key again");
+    assert!(rt;
+        recover_asks(alloc, &mut file).err() == Some(damage),
+        "a key again"
+    );
     Ok(())
 }

@@ -1,5 +1,4 @@
-use Rattle.std.proofs.Common.{◌≡◌, ◌≢◌, ◌++◌, ◌∙◌, true, false, ℕ, List, [], length, drop, take, refl, ap, sym, subst, arith, ◌≤◌, true≢false, length-append, length-drop}
-use Rattle.std.specs.Prelude.{OnErr}
+use Rattle.std.proofs.Common.{◌≡◌, ◌≢◌, ◌++◌, ◌∙◌, ℕ, List, [], length, drop, take, refl, ap, sym, subst, arith, ◌≤◌, true≢false, length-drop}
 use Rattle.std.proofs.lemmas.List.{drop_at, take-append-drop}
 use Rattle.std.proofs.lemmas.Result.{MatchResult-at_ok}
 use Rattle.sha2.specs.Hashers.{Holds256}
