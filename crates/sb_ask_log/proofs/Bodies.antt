@@ -1,9 +1,9 @@
 -- The bodies of a log's file, by its opening text and its asks.
-use Rattle.std.proofs.Common.{◌≡◌, ◌≢◌, ℕ, List, [], ◌∷◌, ◌++◌, length, map, refl, sym, ap, subst, ◌∙◌, append_assoc, append-nil}
+use Rattle.std.proofs.Common.{◌≡◌, ◌≢◌, ℕ, List, [], ◌∷◌, ◌++◌, map, refl, sym, ap, ◌∙◌, append_assoc}
 use Rattle.std.specs.List.{All, flat_map}
 use Rattle.std.proofs.lemmas.List.{append_cancel_left, flat_map_more, map-append}
 use Rattle.std.proofs.lemmas.List.Concat.{flat_map-append}
-use Rattle.std.proofs.lemmas.List.Elements.{All-append, All-head, All-nil, All-push, All-tail}
+use Rattle.std.proofs.lemmas.List.Elements.{All-append, All-nil, All-push}
 use Rattle.sb_calls.specs.declared.ask.Key.{Key}
 use Rattle.sb_calls.specs.declared.call.Call.{Call}
 use Rattle.sb_frames.specs.Grammar.{spelling}
@@ -11,7 +11,7 @@ use Rattle.sb_sequencer.specs.Numbering.{IsLog}
 use Rattle.sb_log.specs.Reading.{Begins}
 use Rattle.sb_log.specs.Records.{joined}
 use Rattle.sb_ask_log.specs.Asks.{IsAsk, asks_field, frame_of}
-use Rattle.sb_ask_log.specs.LogFile.{AreBatchesOf, AreBodiesOf, IsOpeningText, bodies_of, log_bytes, magic}
+use Rattle.sb_ask_log.specs.LogFile.{AreBodiesOf, IsOpeningText, log_bytes, magic}
 use Rattle.sb_ask_log.proofs.Fields.{fields_begin}
 use Rattle.sb_ask_log.proofs.Numbers.{no_log}
 

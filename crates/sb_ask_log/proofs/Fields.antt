@@ -1,7 +1,7 @@
 -- The bytes of asks.
 use Rattle.std.proofs.Common.{◌≡◌, ℕ, ◌+◌, ◌*◌, ◌^◌, ◌<◌, ◌≤◌, ◌≢◌, Option, Some, None, List, [], ◌∷◌, ◌++◌, length, take, drop, slice_get, refl, sym, ap, subst, ◌∙◌, arith, append_assoc, append-nil, add-one, length-append, length-take}
 use Rattle.std.specs.Int.{w16, to_be_bytes}
-use Rattle.std.specs.List.{All, flat_map}
+use Rattle.std.specs.List.{All}
 use Rattle.std.proofs.lemmas.List.{append_cancel_left, flat_map_more, take_at, take-append-drop, take_more, drop-append-le, length-take-le}
 use Rattle.std.proofs.lemmas.List.Elements.{All-head, All-tail, All-push}
 use Rattle.std.proofs.lemmas.Option.{same_Some, get_or_from_slice_get}
@@ -9,7 +9,7 @@ use Rattle.sb_calls.specs.declared.ask.Key.{Key}
 use Rattle.sb_calls.specs.declared.call.Call.{Call}
 use Rattle.sb_frames.specs.Grammar.{IsFrame, Spells, body, spelling}
 use Rattle.sb_frames.specs.declared.frame.Frame.{Frame}
-use Rattle.sb_frames.specs.declared.frame.Frame.TheVariants.{Ask, Entry, Ack, Answer, Outcome, Flush, Have}
+use Rattle.sb_frames.specs.declared.frame.Frame.TheVariants.{Ask}
 use Rattle.sb_frames.proofs.Frames.{one_frame}
 use Rattle.sb_frames.proofs.Sizes.{body_size}
 use Rattle.sb_sequencer.specs.Numbering.{ask_of_number}

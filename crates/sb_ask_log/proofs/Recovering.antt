@@ -1,12 +1,11 @@
 -- What is read of a log's file.
-use Rattle.std.proofs.Common.{◌≡◌, ◌≢◌, ℕ, max, Bool, false, true, List, [], ◌∷◌, ◌++◌, Result, Ok, Err, length, map, take, refl, sym, ap, subst, ◌∙◌, inl, inr, ⊎_elim, append_assoc, append-nil}
+use Rattle.std.proofs.Common.{◌≡◌, ◌≢◌, ℕ, max, false, true, List, [], ◌∷◌, ◌++◌, Result, Err, length, map, take, refl, sym, ap, subst, ◌∙◌, inl, inr, ⊎_elim, append_assoc, append-nil}
 use Rattle.std.specs.List.{All}
 use Rattle.std.proofs.lemmas.List.Elements.{All-head, All-tail}
 use Rattle.sha2.specs.Hashers.{Holds256}
-use Rattle.sha2.specs.declared.Sha256.{Sha256}
 use Rattle.sb_calls.specs.declared.ask.Key.{Key}
 use Rattle.sb_calls.specs.declared.call.Call.{Call}
-use Rattle.sb_log.specs.Lives.{Append, Crash, Event, Happens, HappensAll, Life, ReadBack, Sync, newborn}
+use Rattle.sb_log.specs.Lives.{Append, Crash, Happens, HappensAll, Life, ReadBack, Sync, newborn}
 use Rattle.sb_log.specs.LogCalls.{IsDamagedAt, IsFileOf, ReadsLog, ReadsTo, Recovers}
 use Rattle.sb_log.specs.Reading.{Begins, IsTorn, Reads}
 use Rattle.sb_log.specs.Records.{IsBody, joined, record_after, records}

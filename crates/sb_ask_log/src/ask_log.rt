@@ -1,10 +1,11 @@
 //! The asks of a sequencer's log, in a file.
-ghost use Rattle.std.specs.Prelude.{◌≡◌, ◌≢◌, ◌↔◌, ◌++◌, ◌+◌, ◌<◌, ◌≤◌, ◌^◌, [], Some, List, ℕ, length, drop, take, false, true, IfErr, IfOk, OnErr, OnOk};
+ghost use Rattle.std.specs.Prelude.{◌≡◌, ◌≢◌, ◌⊎◌, ◌↔◌, ◌++◌, ◌+◌, ◌<◌, ◌≤◌, ◌^◌, [], Some, List, ℕ, length, drop, take, false, true, IfErr, IsErrOf, IfOk, OnErr, OnOk};
 ghost use Rattle.std.specs.List.{All};
 ghost use Rattle.sha2.specs.Hashers.{Holds256};
 ghost use Rattle.sha2.specs.Sha256.{sha256};
 ghost use Rattle.sb_calls.specs.declared.ask.Key.{Key as AnyKey};
 ghost use Rattle.sb_calls.specs.declared.call.Call.{Call as AnyCall};
+ghost use Rattle.sb_log.specs.declared.log_fault.LogFault.TheVariants.{Device};
 ghost use Rattle.sb_ask_log.specs.Asks.{IsAsk, asks_field};
 ghost use Rattle.sb_ask_log.specs.Keeping.{IsKeepFault};
 ghost use Rattle.sb_ask_log.specs.LogFile.{IsOpeningText, log_bytes};
@@ -109,6 +110,21 @@ impl<F: LogFile> AskLog<F> {
         &self.text
     }
 
+    /// The file.
+    pub fn file(&self) -> &F
+        ensures { result.now ≡ self.now.log.file }
+    {
+        self.log.file()
+    }
+
+    /// The file. The log is given up.
+    pub fn into_file(self) -> F
+        ensures { result ≡ self.log.file }
+    {
+        let AskLog { log, .. } = self;
+        log.into_file()
+    }
+
     /// Appends the rest of a sequencer's log, as one batch, and has it on the disk. If there is none,
     /// nothing is written.
     ///
@@ -125,6 +141,8 @@ impl<F: LogFile> AskLog<F> {
             → OnErr result (KeepsAsks F.IsHonest F.content F.synced self.new (take self.old.saved log.now.log)) }
         ensures text { self.new.text ≡ self.old.text }
         ensures fault { IfErr result (IsKeepFault true) }
+        ensures device { IsErrOf result Device
+            → (self.old.log.failed ≡ true) ⊎ (F.has_failed self.new.log.file ≡ true) }
     {
         let length = log.length();
         if self.saved == length {

@@ -13,3 +13,6 @@ pub use keeper::{Keeper, NoKeeper};
 pub use laws::recovers_what_it_told;
 pub use opening_text::is_opening_text;
 pub use recovered_log::{RecoveredLog, read_asks, recover_asks};
+
+#[cfg(test)]
+mod tests;

@@ -1,4 +1,4 @@
-use Rattle.std.proofs.Common.{◌≡◌, ◌++◌, ◌∙◌, List, ℕ, ap, sym, arith}
+use Rattle.std.proofs.Common.{◌++◌, ◌∙◌, List, ℕ, ap, sym, arith}
 use Rattle.sb_ask_log.proofs.Fields.{one_spelled}
 use Rattle.sb_ask_log.proofs.ask_log.push_asks.Goals as goal
 

@@ -1,9 +1,9 @@
-use Rattle.std.proofs.Common.{◌≡◌, ◌≢◌, ℕ, [], length, drop, ap, sym, ◌∙◌, arith, eqb-true, length-drop}
+use Rattle.std.proofs.Common.{length, ap, sym, ◌∙◌, arith, eqb-true, length-drop}
 use Rattle.std.proofs.lemmas.List.{take_rest}
 use Rattle.std.proofs.lemmas.Result.{err_from_is_err_and}
 use Rattle.sb_ask_log.specs.Asks.{frame_of}
 use Rattle.sb_ask_log.proofs.Fields.{field_filled, takes_some}
-use Rattle.sb_ask_log.proofs.Taking.{all_taken, ask_refused, filled_by_test, no_ask_follows, one_taken, refused_so}
+use Rattle.sb_ask_log.proofs.Taking.{ask_refused, filled_by_test, no_ask_follows, one_taken, refused_so}
 use Rattle.sb_ask_log.proofs.ask_replay.take_batch.Goals as goal
 
 pub returns-then-is_empty : goal.returns-then-is_empty

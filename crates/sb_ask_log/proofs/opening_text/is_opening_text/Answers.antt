@@ -1,4 +1,4 @@
-use Rattle.std.proofs.Common.{◌≡◌, ap, eqb-true, sym, ◌∙◌, length}
+use Rattle.std.proofs.Common.{ap, eqb-true, sym, ◌∙◌, length}
 use Rattle.sb_rows.specs.Opening.{OpeningText}
 use Rattle.sb_ask_log.proofs.Openings.{ends_line, line_ends, one_opening}
 use Rattle.sb_ask_log.proofs.opening_text.is_opening_text.Goals as goal

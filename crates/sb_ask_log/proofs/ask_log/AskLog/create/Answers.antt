@@ -1,4 +1,4 @@
-use Rattle.std.proofs.Common.{◌≡◌, ◌++◌, ◌∙◌, true, false, not, ℕ, List, [], ◌∷◌, length, drop, ap, sym, refl, subst, append-nil, append_assoc}
+use Rattle.std.proofs.Common.{◌≡◌, ◌++◌, ◌∙◌, not, ℕ, List, [], length, drop, ap, sym, refl, subst, append-nil, append_assoc}
 use Rattle.std.proofs.lemmas.List.{drop_at}
 use Rattle.std.proofs.lemmas.Result.{MatchResult-at_ok}
 use Rattle.sha2.specs.Hashers.{Holds256}

@@ -1,5 +1,4 @@
-use Rattle.std.proofs.Common.{◌≡◌, ◌≢◌, ◌++◌, ◌∙◌, true, false, ℕ, List, [], length, drop, take, refl, ap, sym, subst, arith, ◌≤◌, true≢false, length-append, length-drop}
-use Rattle.std.specs.Prelude.{OnErr}
+use Rattle.std.proofs.Common.{◌≡◌, ◌⊎◌, ⊎_elim, inr, ◌≢◌, ◌++◌, ◌∙◌, true, ℕ, List, [], length, drop, take, refl, ap, sym, subst, arith, ◌≤◌, true≢false, length-drop}
 use Rattle.std.proofs.lemmas.List.{drop_at, take-append-drop}
 use Rattle.std.proofs.lemmas.Result.{MatchResult-at_ok}
 use Rattle.sha2.specs.Hashers.{Holds256}
@@ -154,3 +153,15 @@ returns-clause-saved g c keeps =
           (g.F.LogFile.synced c.sync.new.self.file) s.log.failed c.sync.new.self.failed s.log.hasher c.sync.new.self.hasher s.text.items
           log s.saved (drop HEAD c.deref_mut.result.now) is_rest tells a.0 b.0 a.1 b.1 b.2;
     }
+
+pub returns-in_err-append-clause-device : goal.returns-in_err-append-clause-device
+returns-in_err-append-clause-device g c e =
+    subst (λ (a : AskLogOf g.row.F.Denot). (a.log.failed ≡ true) ⊎ (g.F.LogFile.has_failed c.append.new.self.file ≡ true)) c.self.view_is
+    c.in_err-append.ensures.failed.1
+
+pub returns-in_err-sync-clause-device : goal.returns-in_err-sync-clause-device
+returns-in_err-sync-clause-device g c e =
+    ⊎_elim
+    (λ (ill : c.append.new.self.failed ≡ true). absurd (true≢false (sym ill ∙ c.in_ok-append.ensures.ok.1)))
+    (λ (fails : g.F.LogFile.has_failed c.sync.new.self.file ≡ true). inr fails)
+    c.in_err-sync.ensures.failed.1

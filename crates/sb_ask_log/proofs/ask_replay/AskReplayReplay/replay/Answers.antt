@@ -1,4 +1,4 @@
-use Rattle.std.proofs.Common.{[], length, ap, sym, ◌∙◌, eqb-true, refl, arith, vec_len}
+use Rattle.std.proofs.Common.{ap, sym, ◌∙◌, eqb-true, arith, vec_len}
 use Rattle.std.proofs.lemmas.List.{nil_from_length}
 use Rattle.sb_ask_log.specs.Replaying.{AskReplayOf}
 use Rattle.sb_ask_log.proofs.Replays.{opening_taken}
