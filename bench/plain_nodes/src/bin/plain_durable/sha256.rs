@@ -1,0 +1,115 @@
+//! SHA-256 (FIPS 180-4) of bytes that come in pieces.
+
+const BLOCK: usize = 64;
+/// How many bytes a digest has.
+pub const DIGEST: usize = 32;
+
+pub type Digest = [u8; DIGEST];
+
+// The first 32 bits of the fractions of the square roots of the first eight primes.
+const START: [u32; 8] = [
+    0x6a09e667, 0xbb67ae85, 0x3c6ef372, 0xa54ff53a, 0x510e527f, 0x9b05688c, 0x1f83d9ab, 0x5be0cd19,
+];
+
+// The same of the cube roots of the first 64 primes.
+const ROUNDS: [u32; 64] = [
+    0x428a2f98, 0x71374491, 0xb5c0fbcf, 0xe9b5dba5, 0x3956c25b, 0x59f111f1, 0x923f82a4, 0xab1c5ed5,
+    0xd807aa98, 0x12835b01, 0x243185be, 0x550c7dc3, 0x72be5d74, 0x80deb1fe, 0x9bdc06a7, 0xc19bf174,
+    0xe49b69c1, 0xefbe4786, 0x0fc19dc6, 0x240ca1cc, 0x2de92c6f, 0x4a7484aa, 0x5cb0a9dc, 0x76f988da,
+    0x983e5152, 0xa831c66d, 0xb00327c8, 0xbf597fc7, 0xc6e00bf3, 0xd5a79147, 0x06ca6351, 0x14292967,
+    0x27b70a85, 0x2e1b2138, 0x4d2c6dfc, 0x53380d13, 0x650a7354, 0x766a0abb, 0x81c2c92e, 0x92722c85,
+    0xa2bfe8a1, 0xa81a664b, 0xc24b8b70, 0xc76c51a3, 0xd192e819, 0xd6990624, 0xf40e3585, 0x106aa070,
+    0x19a4c116, 0x1e376c08, 0x2748774c, 0x34b0bcb5, 0x391c0cb3, 0x4ed8aa4a, 0x5b9cca4f, 0x682e6ff3,
+    0x748f82ee, 0x78a5636f, 0x84c87814, 0x8cc70208, 0x90befffa, 0xa4506ceb, 0xbef9a3f7, 0xc67178f2,
+];
+
+/// The digest of what came so far can be had at any time.
+#[derive(Clone)]
+pub struct Sha256 {
+    state: [u32; 8],
+    // The beginning of a block.
+    rest: [u8; BLOCK],
+    length: u64,
+}
+
+impl Sha256 {
+    pub fn new() -> Self {
+        Sha256 {
+            state: START,
+            rest: [0; BLOCK],
+            length: 0,
+        }
+    }
+
+    fn filled(&self) -> usize {
+        (self.length % BLOCK as u64) as usize
+    }
+
+    pub fn update(&mut self, bytes: &[u8]) {
+        let filled = self.filled();
+        self.length += bytes.len() as u64;
+        let room = BLOCK - filled;
+        if bytes.len() < room {
+            self.rest[filled..filled + bytes.len()].copy_from_slice(bytes);
+            return;
+        }
+        let (first, others) = bytes.split_at(room);
+        self.rest[filled..].copy_from_slice(first);
+        mix(&mut self.state, &self.rest);
+        let (blocks, last) = others.as_chunks();
+        for block in blocks {
+            mix(&mut self.state, block);
+        }
+        self.rest[..last.len()].copy_from_slice(last);
+    }
+
+    pub fn digest(&self) -> Digest {
+        let mut all = self.clone();
+        let zeros = (2 * BLOCK - 9 - self.filled()) % BLOCK;
+        all.update(&[0x80]);
+        all.update(&[0; BLOCK][..zeros]);
+        all.update(&(8 * self.length).to_be_bytes());
+        let mut digest = [0; DIGEST];
+        for (bytes, word) in digest.chunks_exact_mut(4).zip(all.state) {
+            bytes.copy_from_slice(&word.to_be_bytes());
+        }
+        digest
+    }
+}
+
+fn mix(state: &mut [u32; 8], block: &[u8; BLOCK]) {
+    let mut words = [0u32; 64];
+    for (word, bytes) in words.iter_mut().zip(block.as_chunks().0) {
+        *word = u32::from_be_bytes(*bytes);
+    }
+    for at in 16..64 {
+        let (early, late) = (words[at - 15], words[at - 2]);
+        let small = early.rotate_right(7) ^ early.rotate_right(18) ^ (early >> 3);
+        let large = late.rotate_right(17) ^ late.rotate_right(19) ^ (late >> 10);
+        words[at] = words[at - 16]
+            .wrapping_add(small)
+            .wrapping_add(words[at - 7])
+            .wrapping_add(large);
+    }
+    let [mut a, mut b, mut c, mut d, mut e, mut f, mut g, mut h] = *state;
+    for (word, round) in words.into_iter().zip(ROUNDS) {
+        let turned = e.rotate_right(6) ^ e.rotate_right(11) ^ e.rotate_right(25);
+        let chosen = (e & f) ^ (!e & g);
+        let first = h
+            .wrapping_add(turned)
+            .wrapping_add(chosen)
+            .wrapping_add(round)
+            .wrapping_add(word);
+        let turned = a.rotate_right(2) ^ a.rotate_right(13) ^ a.rotate_right(22);
+        let most = (a & b) ^ (a & c) ^ (b & c);
+        let second = turned.wrapping_add(most);
+        (h, g, f, e) = (g, f, e, d.wrapping_add(first));
+        (d, c, b, a) = (c, b, a, first.wrapping_add(second));
+    }
+    for (word, add) in state.iter_mut().zip([a, b, c, d, e, f, g, h]) {
+        *word = word.wrapping_add(add);
+    }
+}
+
+#[cfg(test)]
+mod tests;
