@@ -6,10 +6,10 @@ ghost use Rattle.bank_program.specs.inner.StepFaults.{IsOpenFault, IsOpeningFaul
 
 use crate::listener::SocketListener;
 use crate::listening::listen;
-use crate::log_program::LOG;
 use crate::log_report::{CutReport, LogReport};
 use crate::opened_bank::{OpenedBank, open_on_file};
 use crate::opening::whole_opening;
+use crate::program_log::LOG;
 use crate::serve_fault::ServeFault;
 use crate::server::Server;
 use crate::serving::{Plan, serve, serve_bank};
